@@ -1,0 +1,12 @@
+//! eBPF programs as bytes: the instructions of RFC 9669 that this project runs, and their encoding.
+#![tactic(auto)]
+
+mod insn;
+mod operation;
+mod program;
+mod register;
+
+pub use insn::{Insn, Source};
+pub use operation::{Operation, Relation, SignExtension, SignedSize, Size, Swap, SwapSize, Width};
+pub use program::Program;
+pub use register::Register;
