@@ -13,6 +13,31 @@ impl Status {
         code: 0x00,
     };
 
+    pub const INVALID_COMMAND_OPCODE: Status = Status {
+        kind: 0,
+        code: 0x01,
+    };
+
+    pub const INVALID_FIELD_IN_COMMAND: Status = Status {
+        kind: 0,
+        code: 0x02,
+    };
+
+    pub const INVALID_NAMESPACE_OR_FORMAT: Status = Status {
+        kind: 0,
+        code: 0x0B,
+    };
+
+    pub const LBA_OUT_OF_RANGE: Status = Status {
+        kind: 0,
+        code: 0x80,
+    };
+
+    pub const WANT_OF_MEMORY: Status = Status {
+        kind: 7,
+        code: 0xC7,
+    };
+
     pub const ZONE_BOUNDARY_ERROR: Status = Status {
         kind: 1,
         code: 0xB8,

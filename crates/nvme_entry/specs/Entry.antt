@@ -1,0 +1,60 @@
+-- The fields of a submission queue entry and the command that they name.
+use Rattle.std.specs.Prelude.{ℕ, ◌+◌, ◌*◌, ◌%◌, ◌^◌, ◌==◌, List, [], ◌∷◌, Option, Some, None, Result, if◌then◌else◌, is_some, unwrap_or, drop, slice_index}
+use Rattle.byteorder.specs.Endian.{little_number}
+use Rattle.zone_state.specs.declared.status.Status.{Status}
+use Rattle.zone_state.specs.declared.status.TheConstants.Status.{INVALID_COMMAND_OPCODE, INVALID_FIELD_IN_COMMAND, INVALID_NAMESPACE_OR_FORMAT}
+use Rattle.nvme_entry.specs.Checks.{demand, first_refused, allowed}
+use Rattle.nvme_entry.specs.declared.command.Opcode.{Opcode}
+use Rattle.nvme_entry.specs.declared.command.Opcode.TheVariants as opcode
+use Rattle.nvme_entry.specs.declared.command.Command.{Command}
+use Rattle.nvme_entry.specs.declared.command.Command.TheVariants.{Read, Append}
+
+-- the number that so many bytes from a byte on spell, the lowest first (NVMe Base 2.0, 1.8.2)
+abbrev pub field : List ℕ → ℕ → ℕ → ℕ
+field entry at bytes = little_number bytes (drop at entry)
+
+-- Command Dword 0, bits 9:8: is the command part of a fused one? (NVMe Base 2.0, figure 86)
+abbrev pub fuse_of : List ℕ → ℕ
+fuse_of entry = slice_index entry 1 % 4
+
+-- Command Dword 0, bits 31:16
+abbrev pub identifier_of : List ℕ → ℕ
+identifier_of entry = field entry 2 2
+
+-- the namespace identifier
+abbrev pub namespace_of : List ℕ → ℕ
+namespace_of entry = field entry 4 4
+
+-- Command Dwords 10 and 11: the starting logical block address
+abbrev pub starting_lba : List ℕ → ℕ
+starting_lba entry = field entry 40 4 + field entry 44 4 * 2 ^ 32
+
+-- Command Dword 12, bits 15:0: the number of logical blocks, which is zero-based
+abbrev pub block_count : List ℕ → ℕ
+block_count entry = field entry 48 2 + 1
+
+-- Command Dword 0, bits 7:0 (NVM Command Set 1.0, figure 20; ZNS 1.1, figure 28)
+abbrev pub opcode_of : ℕ → Option Opcode
+opcode_of code =
+    if code == 0x02 then Some opcode.Read else
+    if code == 0x7D then Some opcode.ZoneAppend else None
+
+-- the command that the fields name
+abbrev pub command_of : Opcode → List ℕ → Command
+command_of opcode.Read entry = Read (starting_lba entry) (block_count entry)
+command_of opcode.ZoneAppend entry = Append (starting_lba entry) (block_count entry)
+
+-- the checks of an entry alone, in order (profile); the one namespace is 1 (profile)
+abbrev pub entry_checks : Option Opcode → List ℕ → List (Option Status)
+entry_checks found entry =
+    demand (is_some found) INVALID_COMMAND_OPCODE
+    ∷ demand (fuse_of entry == 0) INVALID_FIELD_IN_COMMAND
+    ∷ demand (namespace_of entry == 1) INVALID_NAMESPACE_OR_FORMAT
+    ∷ []
+
+abbrev pub decoded_by : Option Opcode → List ℕ → Result Command Status
+decoded_by found entry = allowed (first_refused (entry_checks found entry)) (command_of (unwrap_or found opcode.Read) entry)
+
+-- the command of an entry, or the status of the first check that fails
+abbrev pub decoded : List ℕ → Result Command Status
+decoded entry = decoded_by (opcode_of (slice_index entry 0)) entry

@@ -1,0 +1,89 @@
+//! Submission queue entries.
+
+ghost use Rattle.std.specs.Prelude.{◌≡◌, ◌+◌, ◌*◌, ◌^◌, ◌≤◌, length};
+ghost use Rattle.nvme_entry.specs.Entry.{decoded, identifier_of, starting_lba, block_count, field, fuse_of, namespace_of};
+
+use crate::command::{Command, Opcode};
+use byteorder::{ByteOrder, LittleEndian};
+use zone_state::Status;
+
+/// The one namespace's identifier (profile).
+const NAMESPACE: u32 = 1;
+
+/// The reader of submission queue entries (NVMe Base 2.0, 3.3.3.1): 64 bytes, little-endian.
+pub struct Entry;
+
+impl Entry {
+    /// The command of an entry.
+    ///
+    /// # Errors
+    ///
+    /// The first that applies: Invalid Command Opcode for an opcode that isn't supported; Invalid
+    /// Field in Command for a fused command; Invalid Namespace or Format for a namespace other than
+    /// 1.
+    pub fn decode(entry: &[u8; 64]) -> Result<Command, Status>
+        ensures { result ≡ decoded entry.now }
+    {
+        let Some(opcode) = Opcode::from_code(entry[0]) else {
+            return Err(Status::INVALID_COMMAND_OPCODE);
+        };
+        if Entry::fuse(entry) != 0 {
+            return Err(Status::INVALID_FIELD_IN_COMMAND);
+        }
+        if Entry::namespace(entry) != NAMESPACE {
+            return Err(Status::INVALID_NAMESPACE_OR_FORMAT);
+        }
+        let lba = Entry::lba(entry);
+        let blocks = Entry::blocks(entry);
+        Ok(match opcode {
+            Opcode::Read => Command::Read { lba, blocks },
+            Opcode::ZoneAppend => Command::Append { lba, blocks },
+        })
+    }
+
+    /// The command identifier of an entry, which its completion repeats.
+    pub fn cid(entry: &[u8; 64]) -> u16
+        ensures { result ≡ identifier_of entry.now }
+    {
+        LittleEndian::read_u16(&entry[2..])
+    }
+
+    fn fuse(entry: &[u8; 64]) -> u8
+        ensures { result ≡ fuse_of entry.now }
+    {
+        entry[1] % 4
+    }
+
+    fn namespace(entry: &[u8; 64]) -> u32
+        ensures { result ≡ namespace_of entry.now }
+    {
+        dword(entry, 4)
+    }
+
+    fn lba(entry: &[u8; 64]) -> u64
+        ensures { result ≡ starting_lba entry.now }
+    {
+        two_dwords(dword(entry, 40), dword(entry, 44))
+    }
+
+    fn blocks(entry: &[u8; 64]) -> u32
+        ensures { result ≡ block_count entry.now }
+    {
+        u32::from(LittleEndian::read_u16(&entry[48..])) + 1
+    }
+}
+
+/// The dword that begins at a byte.
+fn dword(entry: &[u8], at: usize) -> u32
+    requires { at + 4 ≤ length entry.now }
+    ensures { result ≡ field entry.now at 4 }
+{
+    LittleEndian::read_u32(&entry[at..])
+}
+
+/// The number of two dwords.
+fn two_dwords(low: u32, high: u32) -> u64
+    ensures { result ≡ low + high * 2 ^ 32 }
+{
+    u64::from(low) + (u64::from(high) << 32)
+}

@@ -1,0 +1,12 @@
+//! NVM Express entries: the 64 bytes of a submission, read into a command, and the 16 bytes of a
+//! completion.
+#![tactic(auto)]
+
+mod command;
+mod completion;
+mod entry;
+
+pub use command::{Command, Opcode};
+pub use completion::Completion;
+pub use entry::Entry;
+pub use zone_state::Status;
