@@ -1,5 +1,6 @@
 -- The shape of a namespace.
-use Rattle.std.specs.Prelude.{ℕ, Bool, ◌≡◌, ◌≤◌, ◌*◌, ◌==◌, ◌&&◌, ◌||◌, nat_le, List, [], ◌∷◌, Option, Some, None, Result, Ok, Err, if◌then◌else◌}
+use Rattle.std.specs.Prelude.{ℕ, Bool, ◌≡◌, ◌≤◌, ◌*◌, ◌/◌, ◌%◌, ◌==◌, ◌&&◌, ◌||◌, nat_le, nat_lt, List, [], ◌∷◌, Option, Some, None, Result, Ok, Err, if◌then◌else◌}
+use Rattle.image_store.specs.declared.geometry.Place.{Place}
 use Rattle.image_store.specs.declared.geometry.GeometryFault.{GeometryFault}
 use Rattle.image_store.specs.declared.geometry.GeometryFault.TheVariants.{BlockSize, ZoneCount, ZoneSize, ZoneCapacity, TooLarge}
 
@@ -63,3 +64,7 @@ pub record IsShape (s : Shape) : Type 0 where
   pub capacity_most : s.capacity ≤ s.size
   pub slot : s.capacity * s.block ≤ 268435456
   pub room : s.zones * (s.capacity * s.block) ≤ 268435456
+
+-- the zone that contains a logical block, and the block's place from the zone's lowest one on
+abbrev pub place_of : Shape → ℕ → Option Place
+place_of s lba = if nat_lt lba (s.zones * s.size) then Some (record { zone = lba / s.size; offset = lba % s.size }) else None

@@ -1,7 +1,7 @@
 //! The shape of a namespace.
 
-ghost use Rattle.std.specs.Prelude.{◌≡◌, ◌*◌};
-ghost use Rattle.image_store.specs.Geometry.{tested, shape_of, is_block_size, is_counted, IsShape};
+ghost use Rattle.std.specs.Prelude.{◌≡◌, ◌≤◌, ◌<◌, ◌*◌, ◌^◌, ◌+◌, IfSome, OnSome};
+ghost use Rattle.image_store.specs.Geometry.{tested, shape_of, place_of, is_block_size, is_counted, IsShape};
 
 use std::marker::Model;
 use thiserror::Error;
@@ -22,6 +22,15 @@ pub enum GeometryFault {
     ZoneCapacity,
     #[error("the zones' capacity is more than 268435456 bytes in all")]
     TooLarge,
+}
+
+/// A logical block as a block of a zone.
+#[derive(Clone, Copy, Debug, PartialEq, Eq)]
+pub struct Place {
+    /// The number of the zone.
+    pub zone: u32,
+    /// How many blocks lie between the zone's lowest one and this one.
+    pub offset: u32,
 }
 
 /// The shape of a namespace: bytes of a block, number of zones, and blocks of a zone with how many
@@ -105,6 +114,31 @@ impl Geometry {
         ensures { result ≡ self.capacity }
     {
         self.capacity
+    }
+
+    /// The number of logical blocks of the namespace.
+    pub fn blocks(self) -> u64
+        ensures value { result ≡ self.zones * self.size }
+        ensures most { result ≤ 2 ^ 34 }
+    {
+        u64::from(self.zones) * u64::from(self.size)
+    }
+
+    /// The zone and place of a logical block, or `None` for an address past the namespace's end.
+    pub fn place(self, lba: u64) -> Option<Place>
+        ensures value { result ≡ place_of self lba }
+        ensures inside { IfSome result (λ place. place.zone < self.zones) }
+        ensures lowest { IfSome result (λ place. place.zone * self.size + place.offset ≡ lba) }
+        ensures small { OnSome result (lba < 2 ^ 34) }
+    {
+        if lba >= self.blocks() {
+            return None;
+        }
+        let size = u64::from(self.size);
+        Some(Place {
+            zone: (lba / size) as u32,
+            offset: (lba % size) as u32,
+        })
     }
 
     /// Bytes that the blocks of one zone may take.

@@ -5,6 +5,6 @@ mod geometry;
 mod image;
 mod slots;
 
-pub use geometry::{Geometry, GeometryFault};
+pub use geometry::{Geometry, GeometryFault, Place};
 pub use image::Image;
 pub use zone_state::{Status, Zone, ZoneState};

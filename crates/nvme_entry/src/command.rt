@@ -1,7 +1,9 @@
 //! Commands and their opcodes.
 
-ghost use Rattle.std.specs.Prelude.{◌≡◌};
+ghost use Rattle.std.specs.Prelude.{◌≡◌, ◌+◌, ◌≤◌};
 ghost use Rattle.nvme_entry.specs.Entry.{opcode_of};
+
+use std::marker::Model;
 
 /// The opcode of a command (NVM Command Set 1.0, 3.2; ZNS 1.1, 3.4).
 #[derive(Clone, Copy, Debug, PartialEq, Eq)]
@@ -23,13 +25,50 @@ impl Opcode {
     }
 }
 
-/// A command with its fields. `lba` is a logical block address, `blocks` a number of blocks from 1
-/// to 65536.
+/// A number of logical blocks, from 1 to 65536. A clause sees the number.
+#[derive(Clone, Copy, Debug, PartialEq, Eq)]
+pub struct BlockCount {
+    blocks: u32,
+}
+
+impl Model for BlockCount {
+    ghost use Rattle.std.specs.Prelude.{◌≤◌, ℕ};
+
+    ghost Value = { ℕ };
+
+    ghost view = { λ n. n.blocks };
+
+    ghost invariant = { λ n. (1 ≤ n.blocks) × (n.blocks ≤ 65536) };
+
+    ghost inverse = { λ n. record { blocks = n } };
+}
+
+impl BlockCount {
+    /// The number that a zero-based field spells: one more than the field says.
+    pub fn from_zero_based(field: u16) -> BlockCount
+        ensures { result ≡ field + 1 }
+    {
+        BlockCount {
+            blocks: u32::from(field) + 1,
+        }
+    }
+
+    /// The number of blocks.
+    pub fn get(self) -> u32
+        ensures value { result ≡ self }
+        ensures some { 1 ≤ result }
+        ensures most { result ≤ 65536 }
+    {
+        self.blocks
+    }
+}
+
+/// A command with its fields. `lba` is a logical block address.
 #[derive(Clone, Copy, Debug, PartialEq, Eq)]
 pub enum Command {
     /// Reads blocks from `lba` on (NVM Command Set 1.0, 3.2.4).
-    Read { lba: u64, blocks: u32 },
+    Read { lba: u64, blocks: BlockCount },
     /// Writes blocks at the write pointer of the zone whose lowest address is `lba`
     /// (ZNS 1.1, 3.4.1).
-    Append { lba: u64, blocks: u32 },
+    Append { lba: u64, blocks: BlockCount },
 }

@@ -3,7 +3,7 @@
 ghost use Rattle.std.specs.Prelude.{◌≡◌, ◌+◌, ◌*◌, ◌^◌, ◌≤◌, length};
 ghost use Rattle.nvme_entry.specs.Entry.{decoded, identifier_of, starting_lba, block_count, field, fuse_of, namespace_of};
 
-use crate::command::{Command, Opcode};
+use crate::command::{BlockCount, Command, Opcode};
 use byteorder::{ByteOrder, LittleEndian};
 use zone_state::Status;
 
@@ -66,10 +66,10 @@ impl Entry {
         two_dwords(dword(entry, 40), dword(entry, 44))
     }
 
-    fn blocks(entry: &[u8; 64]) -> u32
+    fn blocks(entry: &[u8; 64]) -> BlockCount
         ensures { result ≡ block_count entry.now }
     {
-        u32::from(LittleEndian::read_u16(&entry[48..])) + 1
+        BlockCount::from_zero_based(LittleEndian::read_u16(&entry[48..]))
     }
 }
 

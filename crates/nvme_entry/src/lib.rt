@@ -6,7 +6,7 @@ mod command;
 mod completion;
 mod entry;
 
-pub use command::{Command, Opcode};
+pub use command::{BlockCount, Command, Opcode};
 pub use completion::Completion;
 pub use entry::Entry;
 pub use zone_state::Status;
