@@ -73,7 +73,8 @@ impl Image {
     pub fn blocks(&self, zone: u32, first: u32, count: u32) -> &[u8]
         requires inside { zone < length self.now.zones }
         requires written { first + count ≤ length (zone_at self.now zone).blocks }
-        ensures { result.now ≡ bytes_of (take count (drop first (zone_at self.now zone).blocks)) }
+        ensures value { result.now ≡ bytes_of (take count (drop first (zone_at self.now zone).blocks)) }
+        ensures size { length result.now ≡ count * self.now.block }
     {
         slots::blocks(
             self.geometry,

@@ -28,7 +28,8 @@ fn splice(bytes: &mut [u8], at: usize, new: &[u8])
 /// The bytes of a part.
 fn part(bytes: &[u8], start: usize, len: usize) -> &[u8]
     requires { start + len ≤ length bytes.now }
-    ensures { result.now ≡ take len (drop start bytes.now) }
+    ensures value { result.now ≡ take len (drop start bytes.now) }
+    ensures size { length result.now ≡ len }
 {
     &bytes[start..start + len]
 }
@@ -61,7 +62,8 @@ pub fn blocks<'a>(
     requires flat { IsFlat geometry zones.now blocks.now }
     requires inside { zone < length zones.now }
     requires written { first + count ≤ (get_or zones.now zone no_record).written }
-    ensures { result.now ≡ bytes_of (take count (drop first (zone_at (namespace_of geometry zones.now blocks.now) zone).blocks)) }
+    ensures size { length result.now ≡ count * geometry.block }
+    ensures value { result.now ≡ bytes_of (take count (drop first (zone_at (namespace_of geometry zones.now blocks.now) zone).blocks)) }
 {
     let block = geometry.block() as usize;
     let start = zone * geometry.slot() + first * block;

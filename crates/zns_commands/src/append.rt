@@ -40,7 +40,8 @@ fn check(image: &Image, lba: u64, blocks: BlockCount, input: &[u8]) -> Result<u3
 /// Writes the data at the write pointer of the zone whose lowest block is `lba`, and answers the
 /// block that the first of them went to. A refused append changes nothing.
 pub fn append(image: &mut Image, lba: u64, blocks: BlockCount, input: &[u8]) -> Answer
-    ensures { (bytes : List ℕ) → outcome result image.new bytes ≡ append_meaning image.old lba blocks input.now }
+    ensures answer { (bytes : List ℕ) → outcome result image.new bytes ≡ append_meaning image.old lba blocks input.now }
+    ensures no_data { result.length ≡ 0 }
 {
     let zone = match check(image, lba, blocks, input) {
         Ok(zone) => zone,

@@ -6,7 +6,8 @@ ghost use Rattle.zns_commands.specs.Transfer.{transfer_checks};
 
 use nvme_entry::Status;
 
-/// The most bytes that one command moves.
+/// The most bytes that one command moves (the Maximum Data Transfer Size of NVMe Base 2.0, figure
+/// 276; its value is profile).
 pub const MOST_TRANSFER: usize = 131_072;
 
 /// Tests a transfer of `bytes`, of which `beside` should stand beside the entry.

@@ -12,7 +12,7 @@ returns-clause-can c =
     let size = ap (λ (s : Shape). s.size) shape in
     let block = ap (λ (s : Shape). s.block) shape in
     let bytes : length c.args.input.now ≡ c.args.blocks * c.args.image.now.block =
-        c.in_ok-check.ensures.whole ∙ rw (c.from.ensures, c.get.ensures.value, c.from-2.ensures, c.block.ensures.value, block) refl in
+    c.in_ok-check.ensures.whole ∙ rw (c.from.ensures, c.get.ensures.value, c.from-2.ensures, c.block.ensures.value, block) refl in
     record {
       inside = omega (arith, c.in-Some.ensures.inside);
       lowest = rw (← size) (omega (arith, c.in-Some.ensures.lowest));
