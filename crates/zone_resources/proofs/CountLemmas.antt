@@ -1,5 +1,5 @@
 -- Counts of zones, as one of them changes.
-use Rattle.std.proofs.Common.{◌≡◌, ℕ, ◌+◌, ◌-◌, ◌<◌, ◌≤◌, ◌^◌, Bool, true, false, List, length, get_or, arith, Some, ap, ◌∙◌}
+use Rattle.std.proofs.Common.{◌≡◌, ℕ, ◌+◌, ◌-◌, ◌<◌, ◌≤◌, ◌^◌, Bool, List, length, get_or, arith, Some}
 use Rattle.std.specs.Prelude.{count_by, slice_get, slice_set}
 use Rattle.std.proofs.lemmas.List.{length-set}
 use Rattle.std.proofs.lemmas.List.Sums.{sum_by-set, sum_by-le-sum_by, get_or-le-sum_by, count_by-le-length}
@@ -8,7 +8,7 @@ use Rattle.zone_state.specs.State.{is_open, is_active}
 use Rattle.zone_state.specs.Zone.{ZoneRecord}
 use Rattle.zone_state.specs.declared.state.ZoneState.{ZoneState}
 use Rattle.zone_state.specs.declared.state.ZoneState.TheVariants.{Empty, ImplicitlyOpened, ExplicitlyOpened, Closed, ReadOnly, Full, Offline}
-use Rattle.zone_resources.specs.Counts.{open_count, active_count, one_if, CountsOne, MovesOne, CountsFollowOne, CountsAreFew}
+use Rattle.zone_resources.specs.Counts.{one_if, CountsOne, MovesOne, CountsFollowOne, CountsAreFew}
 use Rattle.zone_resources.specs.declared.counts.Counts.{Counts}
 
 -- how many zones are of a state that passes a test
@@ -57,10 +57,10 @@ open-le-active Full = omega arith
 open-le-active Offline = omega arith
 
 pub counts_are_few : CountsAreFew
-counts_are_few zones =
-    ( sum_by-le-sum_by (λ z. one_if (is_open z.state)) (λ z. one_if (is_active z.state)) zones (λ z. open-le-active z.state)
-    , count_by-le-length (λ z. is_active z.state) zones
-    )
+counts_are_few zones = (
+  sum_by-le-sum_by (λ z. one_if (is_open z.state)) (λ z. one_if (is_active z.state)) zones (λ z. open-le-active z.state),
+  count_by-le-length (λ z. is_active z.state) zones,
+)
 
 -- a move of one counted zone can be counted
 pub record CanMove (counts : Counts) (from to : ZoneState) : Type 0 where

@@ -1,5 +1,5 @@
 -- Whether a zone may take resources, and which zone gives way to it.
-use Rattle.std.specs.Prelude.{ℕ, Bool, true, false, Option, Some, None, Result, Ok, Err, List, ◌≡◌, ◌+◌, ◌<◌, ◌≤◌, ◌&&◌, not, nat_lt, if◌then◌else◌, position, slice_get, slice_set, length, IfSome, IfNone}
+use Rattle.std.specs.Prelude.{ℕ, Bool, true, false, Option, Some, None, Result, Ok, Err, List, ◌&&◌, not, nat_lt, if◌then◌else◌, position}
 use Rattle.std.specs.List.{enumerate_from}
 use Rattle.zone_resources.specs.Counts.{open_count, active_count}
 use Rattle.zone_resources.specs.Holds.{is_destination}

@@ -4,10 +4,9 @@ ghost use Rattle.std.specs.Prelude.{◌≡◌, ◌<◌, ◌≤◌, ◌^◌, IfSo
 ghost use Rattle.zone_resources.specs.Admission.{admission, zone_to_close, may_close, wanted_of};
 ghost use Rattle.zone_resources.specs.Counts.{counts_of};
 
-use zone_state::{Status, Zone, ZoneState};
-
 use crate::counts::Counts;
 use crate::holds::Holds;
+use zone_state::{Status, Zone, ZoneState};
 
 /// How many zones may hold resources at one time (ZNS Command Set 1.1, Zone Resources).
 #[derive(Clone, Copy, Debug, PartialEq, Eq)]

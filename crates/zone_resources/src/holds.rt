@@ -44,7 +44,9 @@ impl Holds {
     pub fn is_destination(&self, zone: u32) -> bool
         ensures { result ≡ is_destination self.now zone }
     {
-        self.destinations.iter().any(|destination| *destination == Some(zone))
+        self.destinations
+            .iter()
+            .any(|destination| *destination == Some(zone))
     }
 
     /// Does a run use this zone? Then it refuses a fault.

@@ -11,7 +11,6 @@ mod admission;
 mod counts;
 mod holds;
 pub mod laws;
-
 #[cfg(test)]
 mod tests;
 
