@@ -1,5 +1,5 @@
 -- Whether a zone may take resources, and which zone gives way to it.
-use Rattle.std.specs.Prelude.{ℕ, Bool, true, false, Option, Some, None, Result, Ok, Err, List, ◌&&◌, not, nat_lt, if◌then◌else◌, position}
+use Rattle.std.specs.Prelude.{ℕ, Bool, true, false, Option, Some, None, Result, Ok, Err, List, ◌≡◌, ◌<◌, ◌≤◌, ◌&&◌, not, nat_lt, if◌then◌else◌, position, slice_get, slice_set, MatchOption}
 use Rattle.std.specs.List.{enumerate_from}
 use Rattle.zone_resources.specs.Counts.{open_count, active_count}
 use Rattle.zone_resources.specs.Holds.{is_destination}
@@ -7,7 +7,7 @@ use Rattle.zone_resources.specs.declared.admission.Limits.{Limits}
 use Rattle.zone_resources.specs.declared.admission.Wanted.{Wanted}
 use Rattle.zone_resources.specs.declared.admission.Wanted.TheVariants.{OpenOnly, OpenAndActive}
 use Rattle.zone_resources.specs.declared.holds.Holds.{Holds}
-use Rattle.zone_state.specs.Zone.{ZoneRecord}
+use Rattle.zone_state.specs.Zone.{ZoneRecord, in_state}
 use Rattle.zone_state.specs.declared.state.ZoneState.{ZoneState}
 use Rattle.zone_state.specs.declared.state.ZoneState.TheVariants.{Empty, ImplicitlyOpened, Closed}
 use Rattle.zone_state.specs.declared.status.Status.{Status}
@@ -50,3 +50,43 @@ admission zones limits holds OpenAndActive =
     if nat_lt (active_count zones) limits.active_limit
     then open_admission zones limits holds
     else Err TOO_MANY_ACTIVE_ZONES
+
+-- the zone of this number may be closed
+pub record IsClosable (holds : Holds) (zones : List ZoneRecord) (number : ℕ) : Type 0 where
+  pub zone : ZoneRecord
+  pub there : slice_get zones number ≡ Some zone
+  pub implicitly_opened : zone.state ≡ ImplicitlyOpened
+  pub free : is_destination holds number ≡ false
+
+-- the zone that is closed may be, and is the lowest that may; where none is, none may be
+abbrev pub ClosesTheLowest : Type 0
+ClosesTheLowest =
+    (zones : List ZoneRecord) (holds : Holds)
+    → MatchOption (zone_to_close holds zones)
+    ((number : ℕ) → ¬ IsClosable holds zones number)
+    (λ lowest. IsClosable holds zones lowest × ((number : ℕ) → number < lowest → ¬ IsClosable holds zones number))
+
+-- the zones, once the one that gives way, if one has to, is closed
+abbrev pub closed_in : List ZoneRecord → ℕ → Option ZoneRecord → List ZoneRecord
+closed_in zones number None = zones
+closed_in zones number (Some zone) = slice_set zones number (in_state Closed zone)
+
+abbrev pub after_closing : Option ℕ → List ZoneRecord → List ZoneRecord
+after_closing None zones = zones
+after_closing (Some number) zones = closed_in zones number (slice_get zones number)
+
+-- the zones pass neither limit
+pub record IsWithin (zones : List ZoneRecord) (limits : Limits) : Type 0 where
+  pub opened : open_count zones ≤ limits.open_limit
+  pub active : active_count zones ≤ limits.active_limit
+
+-- admission keeps zones within their limits: once the one that gives way is closed, and also once the
+-- one that was admitted is in its new state
+abbrev pub AdmissionKeepsLimits : Type 0
+AdmissionKeepsLimits =
+    (zones : List ZoneRecord) (limits : Limits) (holds : Holds) (wanted : Wanted) (closing : Option ℕ)
+    → IsWithin zones limits → admission zones limits holds wanted ≡ Ok closing
+    → IsWithin (after_closing closing zones) limits
+    × ((number : ℕ) (was is : ZoneRecord)
+    → slice_get zones number ≡ Some was → wanted_of was.state ≡ Some wanted
+    → IsWithin (slice_set (after_closing closing zones) number is) limits)
