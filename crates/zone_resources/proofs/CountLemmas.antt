@@ -62,21 +62,24 @@ counts_are_few zones = (
   count_by-le-length (λ z. is_active z.state) zones,
 )
 
--- a move of one counted zone can be counted
-pub record CanMove (counts : Counts) (from to : ZoneState) : Type 0 where
-  pub opened : one_if (is_open from) ≤ counts.opened
-  pub active : one_if (is_active from) ≤ counts.active
-  pub opened_fits : (counts.opened - one_if (is_open from)) + one_if (is_open to) < 2 ^ 64
-  pub active_fits : (counts.active - one_if (is_active from)) + one_if (is_active to) < 2 ^ 64
+-- a zone that is counted is in the counts, and another state of it fits there
+pub open_counted : (counts : Counts) (from : ZoneState) → CountsOne counts from → one_if (is_open from) ≤ counts.opened
+open_counted counts from h =
+    rw (h.counted, ← h.same_state) (one_if-le-count_in is_open h.zones h.number h.zone h.there)
 
-pub can_move : (counts : Counts) (from to : ZoneState) → CountsOne counts from → CanMove counts from to
-can_move counts from to h =
-    rw (h.counted, ← h.same_state) (record {
-      opened = one_if-le-count_in is_open h.zones h.number h.zone h.there;
-      active = one_if-le-count_in is_active h.zones h.number h.zone h.there;
-      opened_fits = omega (arith, h.few, count_in-fits is_open h.zones h.number h.zone to h.there);
-      active_fits = omega (arith, h.few, count_in-fits is_active h.zones h.number h.zone to h.there);
-    })
+pub active_counted : (counts : Counts) (from : ZoneState) → CountsOne counts from → one_if (is_active from) ≤ counts.active
+active_counted counts from h =
+    rw (h.counted, ← h.same_state) (one_if-le-count_in is_active h.zones h.number h.zone h.there)
+
+pub open_fits : (counts : Counts) (from to : ZoneState)
+    → CountsOne counts from → (counts.opened - one_if (is_open from)) + one_if (is_open to) < 2 ^ 64
+open_fits counts from to h =
+    rw (h.counted, ← h.same_state) (omega (arith, h.few, count_in-fits is_open h.zones h.number h.zone to h.there))
+
+pub active_fits : (counts : Counts) (from to : ZoneState)
+    → CountsOne counts from → (counts.active - one_if (is_active from)) + one_if (is_active to) < 2 ^ 64
+active_fits counts from to h =
+    rw (h.counted, ← h.same_state) (omega (arith, h.few, count_in-fits is_active h.zones h.number h.zone to h.there))
 
 -- the counts, where one zone that they count has come into another state
 abbrev pub moved : Counts → ZoneState → ZoneState → Counts
@@ -95,3 +98,6 @@ moves_one counts from to zones number was is counted there was_from is_to =
     let opened = taken_off _ _ _ _ follow.0 (one_if-le-count_in is_open zones number was there) in
     let active = taken_off _ _ _ _ follow.1 (one_if-le-count_in is_active zones number was there) in
     rw (counted, ← was_from, ← is_to, opened, active)
+
+-- what a move of one counted zone rests on
+pub ruleset moving = (open_counted, active_counted, open_fits, active_fits, moves_one)

@@ -57,6 +57,8 @@ pub fn admit(
     wanted: Wanted,
 ) -> Result<Option<u32>, Status>
     requires counted { counts.now ≡ counts_of zones.now }
+
+    // A zone's number is a u32.
     requires numbered { length zones.now ≤ 2 ^ 32 }
     ensures { result ≡ admission zones.now limits.now holds.now wanted }
 {

@@ -27,6 +27,7 @@ impl Counts {
     }
 
     /// Counts that a zone which was counted in the state `from` has come into the state `to`.
+    #[tactic(auto, using(crate::proofs::CountLemmas::moving))]
     pub fn moved(&mut self, from: ZoneState, to: ZoneState)
         requires { CountsOne self.old from }
         ensures { MovesOne self.old self.new from to }
