@@ -4,21 +4,24 @@ ghost use Rattle.std.specs.Prelude.{◌≡◌, ◌+◌, ◌≤◌};
 ghost use Rattle.nvme_entry.specs.Entry.{opcode_of};
 
 use std::marker::Model;
+use zone_state::Action;
 
 /// The opcode of a command (NVM Command Set 1.0, 3.2; ZNS 1.1, 3.4).
 #[derive(Clone, Copy, Debug, PartialEq, Eq)]
 pub enum Opcode {
     Read,
+    ZoneManagementSend,
     ZoneAppend,
 }
 
 impl Opcode {
-    /// The opcode with this code: 02h Read, 7Dh Zone Append; `None` for any other.
+    /// The opcode with this code; `None` for one that isn't supported.
     pub fn from_code(code: u8) -> Option<Opcode>
         ensures { result ≡ opcode_of code }
     {
         match code {
             0x02 => Some(Opcode::Read),
+            0x79 => Some(Opcode::ZoneManagementSend),
             0x7D => Some(Opcode::ZoneAppend),
             _ => None,
         }
@@ -67,8 +70,21 @@ impl BlockCount {
 #[derive(Clone, Copy, Debug, PartialEq, Eq)]
 pub enum Command {
     /// Reads blocks from `lba` on (NVM Command Set 1.0, 3.2.4).
-    Read { lba: u64, blocks: BlockCount },
+    Read {
+        lba: u64,
+        blocks: BlockCount,
+    },
+    /// Takes an action on the zone whose lowest address is `lba`, or on all zones that the action
+    /// takes (ZNS 1.1, 3.4.3).
+    Send {
+        lba: u64,
+        action: Action,
+        select_all: bool,
+    },
     /// Writes blocks at the write pointer of the zone whose lowest address is `lba`
     /// (ZNS 1.1, 3.4.1).
-    Append { lba: u64, blocks: BlockCount },
+    Append {
+        lba: u64,
+        blocks: BlockCount,
+    },
 }

@@ -5,6 +5,8 @@
 mod command;
 mod completion;
 mod entry;
+#[cfg(test)]
+mod tests;
 
 pub use command::{BlockCount, Command, Opcode};
 pub use completion::Completion;
