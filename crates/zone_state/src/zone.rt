@@ -2,7 +2,7 @@
 
 ghost use Rattle.std.specs.Prelude.{◌≡◌, ◌≤◌, ◌↔◌, IsSome, IfSome, OnOk, OnErr, IfOk};
 ghost use Rattle.zone_state.specs.Transition.{transition};
-ghost use Rattle.zone_state.specs.Zone.{IsZone, refusal, after_write, in_state, fault_refusal, state_of_fault};
+ghost use Rattle.zone_state.specs.Zone.{IsZone, refusal, after_write, in_state, kept, fault_refusal, state_of_fault};
 
 use crate::action::Action;
 use crate::state::{FaultState, ZoneState};
@@ -136,6 +136,7 @@ impl Zone {
     pub fn manage(&mut self, action: Action) -> Result<ZoneState, Status>
         ensures state { result ≡ transition action self.old.state }
         ensures ok { IfOk result (λ to. self.new ≡ in_state to self.old) }
+        ensures fits { IfOk result (λ to. IsZone to (kept to self.old.written) self.old.capacity) }
         ensures err { OnErr result (self.new ≡ self.old) }
     {
         let to = action.transition(self.state)?;
@@ -155,6 +156,7 @@ impl Zone {
     pub fn fault(&mut self, to: FaultState) -> Result<(), FaultRefused>
         ensures answer { result ≡ fault_refusal to self.old.state }
         ensures ok { OnOk result (self.new ≡ in_state (state_of_fault to) self.old) }
+        ensures fits { OnOk result (IsZone (state_of_fault to) (kept (state_of_fault to) self.old.written) self.old.capacity) }
         ensures err { OnErr result (self.new ≡ self.old) }
     {
         match to {
