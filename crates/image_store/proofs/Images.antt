@@ -1,18 +1,30 @@
 -- An image's fields and the namespace that they stand for.
-use Rattle.std.proofs.Common.{◌≡◌, ℕ, ◌+◌, ◌-◌, ◌*◌, ◌<◌, ◌≤◌, zero, suc, List, [], ◌∷◌, ◌++◌, length, get_or, set, map, replicate, take, drop, refl, ap, sym, subst, ◌∙◌, arith, Ok}
+use Rattle.std.proofs.Common.{◌≡◌, ℕ, ◌+◌, ◌*◌, ◌<◌, ◌≤◌, zero, suc, List, [], ◌∷◌, ◌++◌, length, get_or, set, map, replicate, take, drop, refl, ap, sym, subst, ◌∙◌, arith, Ok}
 use Rattle.std.proofs.lemmas.List.{drop-drop, length-replicate, get_or-replicate}
-use Rattle.std.proofs.lemmas.Grind.{common_steps}
 use Rattle.std.proofs.lemmas.Bool.Decides.{nat_tests}
 use Rattle.std.proofs.Math.Nat.{suc-mul, add-mul, mul-le-mul_right}
 use Rattle.zone_state.specs.declared.state.ZoneState.{ZoneState}
 use Rattle.zone_state.specs.declared.state.ZoneState.TheVariants.{Empty, ImplicitlyOpened, ExplicitlyOpened, Closed, ReadOnly, Full, Offline}
-use Rattle.zone_state.specs.Zone.{ZoneRecord, refusal, refusal_in, after_write, written_state}
+use Rattle.zone_state.specs.Zone.{ZoneRecord, IsZone, refusal, refusal_in, after_write}
 use Rattle.image_store.specs.Blocks.{blocks_of, as_blocks, block_count, bytes_of}
 use Rattle.image_store.specs.Flat.{zones_of, zone_seen, spliced, no_record, empty_record, namespace_of, IsFlat}
 use Rattle.image_store.specs.Geometry.{Shape, IsShape}
-use Rattle.image_store.specs.Namespace.{ZoneBlocks, ZonedNamespace, no_zone, zone_at, counted, grown, appended, all_empty, shape}
+use Rattle.image_store.specs.Namespace.{ZoneBlocks, ZonedNamespace, zone_at, counted, grown, appended, all_empty, shape}
 use Rattle.image_store.proofs.Pieces.{length-blocks, bytes-middle}
 use Rattle.image_store.proofs.Zones.{HasRoom, length-zones, zone-at, zones-append, write_end}
+
+-- a zone's written blocks fit its capacity
+pub within_capacity : (state : ZoneState) (written capacity : ℕ) → IsZone state written capacity → written ≤ capacity
+within_capacity Empty written capacity h = omega arith
+within_capacity ImplicitlyOpened written capacity h = omega arith
+within_capacity ExplicitlyOpened written capacity h = omega arith
+within_capacity Closed written capacity h = omega arith
+within_capacity ReadOnly written capacity h = omega arith
+within_capacity Full written capacity h = omega arith
+within_capacity Offline written capacity h = omega arith
+
+pub within : (s : Shape) (zs : List ZoneRecord) (xs : List ℕ) (z : ℕ) → IsFlat s zs xs → z < length zs → (get_or zs z no_record).written ≤ s.capacity
+within s zs xs z flat inside = within_capacity (get_or zs z no_record).state (get_or zs z no_record).written s.capacity (flat.fits z inside)
 
 room_in : (state : ZoneState) (z : ZoneRecord) (at n : ℕ) → refusal_in state z at n ≡ Ok tt → z.written + n ≤ z.capacity
 room_in Empty z at n h = grind (arith, nat_tests)
@@ -79,10 +91,10 @@ append_seen s zs xs z new flat inside whole allowed =
     let r = get_or zs z no_record in
     let n = block_count s.block new in
     let long : length zs * (s.capacity * s.block) ≤ length xs = rw (flat.count, flat.room) (omega arith) in
-    let zones = zones-append s.block s.capacity zs xs z n (after_write r n) new inside long flat.within (has_room s zs xs z new flat inside whole allowed) refl in
+    let zones = zones-append s.block s.capacity zs xs z n (after_write r n) new inside long (λ y in_list. within s zs xs y flat in_list) (has_room s zs xs z new flat inside whole allowed) refl in
     let seen = ap (λ (zone : ZoneBlocks). grown s.capacity zone (as_blocks s.block new)) (zone-at s.block s.capacity zs xs z inside)
     ∙ grown_seen s.block s.capacity r (drop (z * (s.capacity * s.block)) xs) new (flat.capacities z inside) in
-    ap (λ (all : List ZoneBlocks). let ns : ZonedNamespace = record { block = s.block; size = s.size; capacity = s.capacity; zones = all } in ns)
+    ap (λ (all : List ZoneBlocks). let ns : ZonedNamespace = record { block = s.block; size = s.size; capacity = s.capacity; limits = s.limits; zones = all } in ns)
     (zones ∙ ap (set (zones_of s.block s.capacity zs xs) z) (sym seen))
 
 -- a zone of the namespace is one of the image's
@@ -110,7 +122,7 @@ empty_zones b c (suc n) r xs none =
 pub empty_seen : (s : Shape) (xs : List ℕ) → namespace_of s (replicate s.zones (empty_record s.capacity)) xs ≡ all_empty s
 empty_seen s xs =
     let r = empty_record s.capacity in
-    ap (λ (all : List ZoneBlocks). let ns : ZonedNamespace = record { block = s.block; size = s.size; capacity = s.capacity; zones = all } in ns)
+    ap (λ (all : List ZoneBlocks). let ns : ZonedNamespace = record { block = s.block; size = s.size; capacity = s.capacity; limits = s.limits; zones = all } in ns)
     (empty_zones s.block s.capacity s.zones r xs refl)
 
 pub empty_flat : (s : Shape) → IsShape s → IsFlat s (replicate s.zones (empty_record s.capacity)) (replicate (s.zones * (s.capacity * s.block)) 0)
@@ -121,7 +133,7 @@ empty_flat s known =
       count = length-replicate s.zones r;
       room = length-replicate (s.zones * (s.capacity * s.block)) 0;
       capacities = λ z h. let in_list : z < s.zones = omega (arith, length-replicate s.zones r) in ap (λ (x : ZoneRecord). x.capacity) (get_or-replicate s.zones z r no_record in_list);
-      within = λ z h. let in_list : z < s.zones = omega (arith, length-replicate s.zones r) in subst (λ (x : ZoneRecord). x.written ≤ s.capacity) (sym (get_or-replicate s.zones z r no_record in_list)) (omega arith);
+      fits = λ z h. let in_list : z < s.zones = omega (arith, length-replicate s.zones r) in subst (λ (x : ZoneRecord). IsZone x.state x.written s.capacity) (sym (get_or-replicate s.zones z r no_record in_list)) (known.capacity_some, refl);
     }
 
 -- the zones without their blocks are the records
@@ -136,7 +148,7 @@ pub part_fits : (s : Shape) (zs : List ZoneRecord) (xs : List ℕ) (z first coun
     → z * (s.capacity * s.block) + first * s.block + count * s.block ≤ length xs
 part_fits s zs xs z first count flat inside written =
     let end = slot_end s zs xs z flat inside in
-    let within = flat.within z inside in
+    let most = within s zs xs z flat inside in
     let fits : first + count ≤ s.capacity = omega arith in
     let product : (first + count) * s.block ≤ s.capacity * s.block = mul-le-mul_right s.block fits in
     omega (arith, add-mul first count s.block)
@@ -158,4 +170,4 @@ written_seen s zs xs z most ns seen inside h =
 pub shape_seen : (s : Shape) (zs : List ZoneRecord) (xs : List ℕ) (ns : ZonedNamespace) → namespace_of s zs xs ≡ ns → IsFlat s zs xs → s ≡ shape ns
 shape_seen s zs xs ns seen flat =
     let zones : s.zones ≡ length (zones_of s.block s.capacity zs xs) = sym flat.count ∙ sym (length-zones s.block s.capacity zs xs) in
-    ap (λ (n : ℕ). let other : Shape = record { block = s.block; zones = n; size = s.size; capacity = s.capacity } in other) zones ∙ ap shape seen
+    ap (λ (n : ℕ). let other : Shape = record { block = s.block; zones = n; size = s.size; capacity = s.capacity; limits = s.limits } in other) zones ∙ ap shape seen

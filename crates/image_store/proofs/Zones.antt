@@ -1,12 +1,12 @@
 -- Zones in slots of a list of bytes.
-use Rattle.std.proofs.Common.{◌≡◌, ℕ, ◌+◌, ◌-◌, ◌*◌, ◌<◌, ◌≤◌, zero, suc, List, [], ◌∷◌, ◌++◌, length, get_or, set, take, drop, refl, ap, sym, ◌∙◌, arith, length-take, length-drop, length-append}
+use Rattle.std.proofs.Common.{◌≡◌, ℕ, ◌+◌, ◌*◌, ◌<◌, ◌≤◌, zero, suc, List, [], ◌∷◌, ◌++◌, length, get_or, set, take, drop, refl, ap, sym, ◌∙◌, arith, length-drop}
 use Rattle.std.proofs.lemmas.List.{drop-drop, take_at, take_all}
 use Rattle.std.proofs.Math.Nat.{suc-mul, mul-le-mul_right, add-mul}
 use Rattle.zone_state.specs.Zone.{ZoneRecord}
 use Rattle.image_store.specs.Blocks.{blocks_of}
 use Rattle.image_store.specs.Flat.{zones_of, zone_seen, spliced, no_record}
 use Rattle.image_store.specs.Namespace.{ZoneBlocks, no_zone}
-use Rattle.image_store.proofs.Pieces.{length-blocks, blocks-same, blocks-take, blocks-add, take-spliced, drop-spliced, drop-spliced-past, drop-spliced-later}
+use Rattle.image_store.proofs.Pieces.{blocks-same, blocks-add, take-spliced, drop-spliced, drop-spliced-past, drop-spliced-later}
 
 pub length-zones : (b c : ℕ) (zs : List ZoneRecord) (xs : List ℕ) → length (zones_of b c zs xs) ≡ length zs
 length-zones b c [] xs = refl

@@ -1,5 +1,5 @@
 -- Blocks, as pieces of bytes.
-use Rattle.std.specs.Prelude.{ℕ, zero, suc, ◌+◌, ◌/◌, List, [], ◌∷◌, ◌++◌, length, take, drop}
+use Rattle.std.specs.Prelude.{ℕ, zero, suc, ◌/◌, List, [], ◌∷◌, length, take, drop}
 use Rattle.std.specs.List.{flat_map}
 
 -- so many blocks of this many bytes each, from the front of these bytes

@@ -1,7 +1,9 @@
 -- Zones whose blocks lie in one list of bytes, in a slot of one size for each zone.
-use Rattle.std.specs.Prelude.{ℕ, ◌≡◌, ◌≤◌, ◌<◌, ◌+◌, ◌*◌, List, [], ◌∷◌, ◌++◌, length, get_or, take, drop}
+use Rattle.std.specs.Prelude.{ℕ, ◌≡◌, ◌<◌, ◌+◌, ◌*◌, List, [], ◌∷◌, ◌++◌, length, get_or, take, drop}
 use Rattle.zone_state.specs.declared.state.ZoneState.TheVariants.{Empty, Offline}
-use Rattle.zone_state.specs.Zone.{ZoneRecord}
+use Rattle.zone_resources.specs.Counts.{counts_of}
+use Rattle.zone_resources.specs.declared.counts.Counts.{Counts}
+use Rattle.zone_state.specs.Zone.{ZoneRecord, IsZone}
 use Rattle.image_store.specs.Blocks.{blocks_of}
 use Rattle.image_store.specs.Geometry.{Shape, IsShape}
 use Rattle.image_store.specs.Namespace.{ZoneBlocks, ZonedNamespace}
@@ -17,7 +19,7 @@ zones_of block capacity (z ∷ zs) bytes =
     zone_seen block z bytes ∷ zones_of block capacity zs (drop (capacity * block) bytes)
 
 abbrev pub namespace_of : Shape → List ZoneRecord → List ℕ → ZonedNamespace
-namespace_of s zones bytes = record { block = s.block; size = s.size; capacity = s.capacity; zones = zones_of s.block s.capacity zones bytes }
+namespace_of s zones bytes = record { block = s.block; size = s.size; capacity = s.capacity; limits = s.limits; zones = zones_of s.block s.capacity zones bytes }
 
 abbrev pub no_record : ZoneRecord
 no_record = record { state = Offline; written = 0; capacity = 0 }
@@ -26,13 +28,18 @@ no_record = record { state = Offline; written = 0; capacity = 0 }
 abbrev pub empty_record : ℕ → ZoneRecord
 empty_record capacity = record { state = Empty; written = 0; capacity = capacity }
 
--- a slot for each zone, and no zone has more blocks than fit its slot
+-- a slot for each zone, and each zone's state allows its written blocks
 pub record IsFlat (s : Shape) (zones : List ZoneRecord) (bytes : List ℕ) : Type 0 where
   pub shape : IsShape s
   pub count : length zones ≡ s.zones
   pub room : length bytes ≡ s.zones * (s.capacity * s.block)
   pub capacities : (z : ℕ) → z < length zones → (get_or zones z no_record).capacity ≡ s.capacity
-  pub within : (z : ℕ) → z < length zones → (get_or zones z no_record).written ≤ s.capacity
+  pub fits : (z : ℕ) → z < length zones → IsZone (get_or zones z no_record).state (get_or zones z no_record).written s.capacity
+
+-- the parts of an image fit one another: the counts are those of the zones
+pub record IsImage (s : Shape) (zones : List ZoneRecord) (counts : Counts) (bytes : List ℕ) : Type 0 where
+  pub flat : IsFlat s zones bytes
+  pub counted : counts ≡ counts_of zones
 
 -- bytes with others put in their place from one on
 abbrev pub spliced : ℕ → List ℕ → List ℕ → List ℕ

@@ -1,16 +1,18 @@
 -- The shape of a namespace.
-use Rattle.std.specs.Prelude.{ℕ, Bool, ◌≡◌, ◌≤◌, ◌*◌, ◌/◌, ◌%◌, ◌==◌, ◌&&◌, ◌||◌, nat_le, nat_lt, List, [], ◌∷◌, Option, Some, None, Result, Ok, Err, if◌then◌else◌}
+use Rattle.std.specs.Prelude.{ℕ, Bool, ◌≤◌, ◌*◌, ◌/◌, ◌%◌, ◌==◌, ◌&&◌, ◌||◌, nat_le, nat_lt, List, [], ◌∷◌, Option, Some, None, Result, Ok, Err, if◌then◌else◌}
+use Rattle.zone_resources.specs.declared.admission.Limits.{Limits}
 use Rattle.image_store.specs.declared.geometry.Place.{Place}
 use Rattle.image_store.specs.declared.geometry.GeometryFault.{GeometryFault}
-use Rattle.image_store.specs.declared.geometry.GeometryFault.TheVariants.{BlockSize, ZoneCount, ZoneSize, ZoneCapacity, TooLarge}
+use Rattle.image_store.specs.declared.geometry.GeometryFault.TheVariants.{BlockSize, ZoneCount, ZoneSize, ZoneCapacity, ResourceLimits, TooLarge}
 
--- bytes of a block, number of zones, blocks of a zone (zone size), and how many of these can be
--- written (zone capacity; ZNS 1.1, 2.1.1)
+-- bytes of a block, number of zones, blocks of a zone (zone size), how many of these can be written
+-- (zone capacity; ZNS 1.1, 2.1.1), and how many zones may be open and active (ZNS 1.1, Zone Resources)
 pub record Shape : Type 0 where
   pub block : ℕ
   pub zones : ℕ
   pub size : ℕ
   pub capacity : ℕ
+  pub limits : Limits
 
 -- the block sizes (profile)
 abbrev pub is_block_size : ℕ → Bool
@@ -19,6 +21,19 @@ is_block_size block = block == 512 || block == 1024 || block == 2048 || block ==
 -- a number from 1 to a most
 abbrev pub is_counted : ℕ → ℕ → Bool
 is_counted n most = nat_le 1 n && nat_le n most
+
+-- some zone may be open, an open zone is active, and there are no more active zones than zones
+abbrev pub are_limits : Limits → ℕ → Bool
+are_limits limits zones = is_counted limits.open_limit limits.active_limit && nat_le limits.active_limit zones
+
+-- the number by which a user is told of a fault (profile)
+abbrev pub number_of : GeometryFault → ℕ
+number_of BlockSize = 1
+number_of ZoneCount = 2
+number_of ZoneSize = 3
+number_of ZoneCapacity = 4
+number_of ResourceLimits = 5
+number_of TooLarge = 6
 
 abbrev pub or_else : Option GeometryFault → Option GeometryFault → Option GeometryFault
 or_else None next = next
@@ -38,11 +53,12 @@ shape_checks s =
     ∷ demand (is_counted s.zones 1024) ZoneCount
     ∷ demand (is_counted s.size 16777216) ZoneSize
     ∷ demand (is_counted s.capacity s.size) ZoneCapacity
+    ∷ demand (are_limits s.limits s.zones) ResourceLimits
     ∷ demand (nat_le (s.zones * s.capacity * s.block) 268435456) TooLarge
     ∷ []
 
-abbrev pub shape_of : ℕ → ℕ → ℕ → ℕ → Shape
-shape_of block zones size capacity = record { block = block; zones = zones; size = size; capacity = capacity }
+abbrev pub shape_of : ℕ → ℕ → ℕ → ℕ → Limits → Shape
+shape_of block zones size capacity limits = record { block = block; zones = zones; size = size; capacity = capacity; limits = limits }
 
 abbrev pub unless_fault : Option GeometryFault → Shape → Result Shape GeometryFault
 unless_fault None s = Ok s
@@ -62,6 +78,9 @@ pub record IsShape (s : Shape) : Type 0 where
   pub size_most : s.size ≤ 16777216
   pub capacity_some : 1 ≤ s.capacity
   pub capacity_most : s.capacity ≤ s.size
+  pub open_some : 1 ≤ s.limits.open_limit
+  pub open_most : s.limits.open_limit ≤ s.limits.active_limit
+  pub active_most : s.limits.active_limit ≤ s.zones
   pub slot : s.capacity * s.block ≤ 268435456
   pub room : s.zones * (s.capacity * s.block) ≤ 268435456
 

@@ -1,22 +1,24 @@
 -- A zoned namespace: its zones, each with the blocks that are written in it.
-use Rattle.std.specs.Prelude.{ℕ, ◌+◌, ◌*◌, ◌++◌, List, [], length, get_or, set, replicate}
+use Rattle.std.specs.Prelude.{ℕ, ◌≡◌, ◌<◌, ◌/◌, ◌%◌, ◌++◌, List, [], length, get_or, set, replicate}
+use Rattle.zone_resources.specs.declared.admission.Limits.{Limits}
 use Rattle.zone_state.specs.declared.state.ZoneState.{ZoneState}
 use Rattle.zone_state.specs.declared.state.ZoneState.TheVariants.{Empty, Offline}
-use Rattle.zone_state.specs.Zone.{ZoneRecord, after_write}
+use Rattle.zone_state.specs.Zone.{ZoneRecord, after_write, IsZone}
 use Rattle.image_store.specs.Blocks.{as_blocks}
-use Rattle.image_store.specs.Geometry.{Shape}
+use Rattle.image_store.specs.Geometry.{Shape, IsShape}
 
 -- a zone: its state, and its written blocks from its lowest logical block on (ZNS 1.1, 2.1.1)
 pub record ZoneBlocks : Type 0 where
   pub state : ZoneState
   pub blocks : List (List ℕ)
 
--- bytes of a block, blocks of a zone, how many of them can be written, and the zones
--- (ZNS 1.1, 2.1)
+-- bytes of a block, blocks of a zone, how many of them can be written, how many zones may be open
+-- and active, and the zones (ZNS 1.1, 2.1)
 pub record ZonedNamespace : Type 0 where
   pub block : ℕ
   pub size : ℕ
   pub capacity : ℕ
+  pub limits : Limits
   pub zones : List ZoneBlocks
 
 abbrev pub no_zone : ZoneBlocks
@@ -28,7 +30,7 @@ zone_at ns z = get_or ns.zones z no_zone
 
 -- the namespace with another zone in this place
 abbrev pub with_zone : ZonedNamespace → ℕ → ZoneBlocks → ZonedNamespace
-with_zone ns z zone = record { block = ns.block; size = ns.size; capacity = ns.capacity; zones = set ns.zones z zone }
+with_zone ns z zone = record { block = ns.block; size = ns.size; capacity = ns.capacity; limits = ns.limits; zones = set ns.zones z zone }
 
 -- a zone whose blocks are only counted
 abbrev pub counted : ℕ → ZoneBlocks → ZoneRecord
@@ -45,15 +47,39 @@ grown capacity zone more = record {
 abbrev pub appended : ZonedNamespace → ℕ → List ℕ → ZonedNamespace
 appended ns z bytes = with_zone ns z (grown ns.capacity (zone_at ns z) (as_blocks ns.block bytes))
 
+-- the namespace with a zone in another state, its blocks as they were
+abbrev pub in_zone_state : ZonedNamespace → ℕ → ZoneState → ZonedNamespace
+in_zone_state ns z to = with_zone ns z (record { state = to; blocks = (zone_at ns z).blocks })
+
+-- the namespace with a zone in another state, its blocks forgotten
+abbrev pub cleared : ZonedNamespace → ℕ → ZoneState → ZonedNamespace
+cleared ns z to = with_zone ns z (record { state = to; blocks = [] })
+
 -- a namespace of which nothing is written
 abbrev pub all_empty : Shape → ZonedNamespace
 all_empty s = record {
   block = s.block;
   size = s.size;
   capacity = s.capacity;
+  limits = s.limits;
   zones = replicate s.zones (record { state = Empty; blocks = [] });
 }
 
 -- the shape of a namespace
 abbrev pub shape : ZonedNamespace → Shape
-shape ns = record { block = ns.block; zones = length ns.zones; size = ns.size; capacity = ns.capacity }
+shape ns = record { block = ns.block; zones = length ns.zones; size = ns.size; capacity = ns.capacity; limits = ns.limits }
+
+-- is the logical block with this address written? A zone that there is none of has no blocks
+abbrev pub IsWritten : ZonedNamespace → ℕ → Type 0
+IsWritten ns lba = lba % ns.size < length (zone_at ns (lba / ns.size)).blocks
+
+-- a written block, by its address
+abbrev pub block_at : ZonedNamespace → ℕ → List ℕ
+block_at ns lba = get_or (zone_at ns (lba / ns.size)).blocks (lba % ns.size) []
+
+-- what holds of each namespace that an image has: its shape is one that is accepted, each zone's
+-- state allows its written blocks, and each block is whole
+pub record IsNamespace (ns : ZonedNamespace) : Type 0 where
+  pub shape : IsShape (shape ns)
+  pub fits : (z : ℕ) → z < length ns.zones → IsZone (zone_at ns z).state (length (zone_at ns z).blocks) ns.capacity
+  pub whole : (z i : ℕ) → i < length (zone_at ns z).blocks → length (get_or (zone_at ns z).blocks i []) ≡ ns.block

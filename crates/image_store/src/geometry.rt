@@ -1,27 +1,40 @@
 //! The shape of a namespace.
 
 ghost use Rattle.std.specs.Prelude.{◌≡◌, ◌≤◌, ◌<◌, ◌*◌, ◌^◌, ◌+◌, IfSome, OnSome};
-ghost use Rattle.image_store.specs.Geometry.{tested, shape_of, place_of, is_block_size, is_counted, IsShape};
+ghost use Rattle.image_store.specs.Geometry.{tested, shape_of, place_of, number_of, is_block_size, is_counted, are_limits, IsShape};
 
 use std::marker::Model;
 use thiserror::Error;
+use zone_resources::Limits;
 
 /// The most bytes that the blocks of all zones may take.
 const MOST_BYTES: u64 = 268_435_456;
 
-/// Why numbers are no geometry. The variants stand in the order of the tests.
+/// Why numbers are no geometry. The variants stand in the order of the tests, and have the numbers
+/// that a user is told (profile).
 #[derive(Clone, Copy, Debug, PartialEq, Eq, Error)]
 pub enum GeometryFault {
     #[error("the block size is none of 512, 1024, 2048 and 4096")]
-    BlockSize,
+    BlockSize = 1,
     #[error("the number of zones is not from 1 to 1024")]
-    ZoneCount,
+    ZoneCount = 2,
     #[error("the zone size is not from 1 to 16777216 blocks")]
-    ZoneSize,
+    ZoneSize = 3,
     #[error("the zone capacity is not from 1 to the zone size")]
-    ZoneCapacity,
+    ZoneCapacity = 4,
+    #[error("the limits are not 1 open zone or more, as many active ones, and no more than zones")]
+    ResourceLimits = 5,
     #[error("the zones' capacity is more than 268435456 bytes in all")]
-    TooLarge,
+    TooLarge = 6,
+}
+
+impl GeometryFault {
+    /// The fault's number, from 1 to 6.
+    pub fn number(self) -> u8
+        ensures { result ≡ number_of self }
+    {
+        self as u8
+    }
 }
 
 /// A logical block as a block of a zone.
@@ -33,14 +46,15 @@ pub struct Place {
     pub offset: u32,
 }
 
-/// The shape of a namespace: bytes of a block, number of zones, and blocks of a zone with how many
-/// of them can be written (ZNS 1.1, 2.1.1).
+/// The shape of a namespace: bytes of a block, number of zones, blocks of a zone with how many of
+/// them can be written (ZNS 1.1, 2.1.1), and how many zones may hold resources.
 #[derive(Clone, Copy, Debug, PartialEq, Eq)]
 pub struct Geometry {
     block: u32,
     zones: u32,
     size: u32,
     capacity: u32,
+    limits: Limits,
 }
 
 impl Model for Geometry {
@@ -48,11 +62,11 @@ impl Model for Geometry {
 
     ghost Value = { Shape };
 
-    ghost view = { λ g. record { block = g.block; zones = g.zones; size = g.size; capacity = g.capacity } };
+    ghost view = { λ g. record { block = g.block; zones = g.zones; size = g.size; capacity = g.capacity; limits = g.limits } };
 
-    ghost invariant = { λ g. IsShape (record { block = g.block; zones = g.zones; size = g.size; capacity = g.capacity }) };
+    ghost invariant = { λ g. IsShape (record { block = g.block; zones = g.zones; size = g.size; capacity = g.capacity; limits = g.limits }) };
 
-    ghost inverse = { λ s. record { block = s.block; zones = s.zones; size = s.size; capacity = s.capacity } };
+    ghost inverse = { λ s. record { block = s.block; zones = s.zones; size = s.size; capacity = s.capacity; limits = s.limits } };
 }
 
 impl Geometry {
@@ -61,8 +75,14 @@ impl Geometry {
     /// # Errors
     ///
     /// The first of [`GeometryFault`] that applies.
-    pub fn new(block: u32, zones: u32, size: u32, capacity: u32) -> Result<Geometry, GeometryFault>
-        ensures { result ≡ tested (shape_of block zones size capacity) }
+    pub fn new(
+        block: u32,
+        zones: u32,
+        size: u32,
+        capacity: u32,
+        limits: Limits,
+    ) -> Result<Geometry, GeometryFault>
+        ensures { result ≡ tested (shape_of block zones size capacity limits) }
     {
         if !is_block_size(block) {
             return Err(GeometryFault::BlockSize);
@@ -76,6 +96,9 @@ impl Geometry {
         if !is_counted(capacity, size) {
             return Err(GeometryFault::ZoneCapacity);
         }
+        if !are_limits(limits, zones) {
+            return Err(GeometryFault::ResourceLimits);
+        }
         if u64::from(zones) * u64::from(capacity) * u64::from(block) > MOST_BYTES {
             return Err(GeometryFault::TooLarge);
         }
@@ -84,6 +107,7 @@ impl Geometry {
             zones,
             size,
             capacity,
+            limits,
         })
     }
 
@@ -114,6 +138,13 @@ impl Geometry {
         ensures { result ≡ self.capacity }
     {
         self.capacity
+    }
+
+    /// How many zones may be open and active at one time.
+    pub fn limits(self) -> Limits
+        ensures { result ≡ self.limits }
+    {
+        self.limits
     }
 
     /// The number of logical blocks of the namespace.
@@ -166,4 +197,10 @@ fn is_counted(n: u32, most: u32) -> bool
     ensures { result ≡ is_counted n most }
 {
     1 <= n && n <= most
+}
+
+fn are_limits(limits: Limits, zones: u32) -> bool
+    ensures { result ≡ are_limits limits zones }
+{
+    is_counted(limits.open_limit, limits.active_limit) && limits.active_limit <= zones
 }

@@ -1,16 +1,18 @@
 //! The image.
 
 ghost use Rattle.std.specs.Prelude.{◌≡◌, ◌≤◌, ◌<◌, ◌+◌, ◌*◌, length, replicate, IfOk, map, take, drop, Ok};
-ghost use Rattle.zone_state.specs.Zone.{refusal};
+ghost use Rattle.zone_resources.specs.Counts.{counts_of};
+ghost use Rattle.zone_state.specs.Zone.{refusal, IsZone};
 ghost use Rattle.image_store.specs.Geometry.{IsShape};
 ghost use Rattle.image_store.specs.Blocks.{block_count, bytes_of};
-ghost use Rattle.image_store.specs.Namespace.{appended, counted, zone_at, all_empty, shape};
+ghost use Rattle.image_store.specs.Namespace.{appended, in_zone_state, cleared, counted, zone_at, all_empty, shape, block_at, IsWritten, IsNamespace};
 
 use crate::geometry::Geometry;
 use crate::slots;
 use std::alloc::{AllocError, Global};
 use std::marker::Model;
-use zone_state::Zone;
+use zone_resources::Counts;
+use zone_state::{Zone, ZoneState};
 
 /// The zones of a namespace with their written blocks. The room for all blocks is taken when the
 /// image is made, so writing to it wants no memory.
@@ -18,18 +20,19 @@ use zone_state::Zone;
 pub struct Image {
     geometry: Geometry,
     zones: Vec<Zone>,
+    counts: Counts,
     blocks: Vec<u8>,
 }
 
 impl Model for Image {
     ghost use Rattle.image_store.specs.Namespace.{ZonedNamespace};
-    ghost use Rattle.image_store.specs.Flat.{namespace_of, IsFlat};
+    ghost use Rattle.image_store.specs.Flat.{namespace_of, IsImage};
 
     ghost Value = { ZonedNamespace };
 
     ghost view = { λ i. namespace_of i.geometry i.zones.items i.blocks.items };
 
-    ghost invariant = { λ i. IsFlat i.geometry i.zones.items i.blocks.items };
+    ghost invariant = { λ i. IsImage i.geometry i.zones.items i.counts i.blocks.items };
 }
 
 impl Image {
@@ -38,9 +41,12 @@ impl Image {
         ensures { IfOk result (λ image. image ≡ all_empty geometry) }
     {
         let zone = slots::empty_zone(geometry.capacity());
+        let zones = vec![in alloc; zone; geometry.zones() as usize]?;
+        let counts = Counts::of(&zones);
         Ok(Image {
             geometry,
-            zones: vec![in alloc; zone; geometry.zones() as usize]?,
+            zones,
+            counts,
             blocks: vec![in alloc; 0; geometry.room()]?,
         })
     }
@@ -49,6 +55,7 @@ impl Image {
     pub fn geometry(&self) -> Geometry
         ensures value { result ≡ shape self.now }
         ensures known { IsShape result }
+        ensures sound { IsNamespace self.now }
     {
         self.geometry
     }
@@ -58,6 +65,13 @@ impl Image {
         ensures { result.now ≡ map (counted self.now.capacity) self.now.zones }
     {
         &self.zones
+    }
+
+    /// How many zones hold resources.
+    pub fn counts(&self) -> Counts
+        ensures { result ≡ counts_of (map (counted self.now.capacity) self.now.zones) }
+    {
+        self.counts
     }
 
     /// The zone with this number, without its blocks.
@@ -86,6 +100,62 @@ impl Image {
         )
     }
 
+    /// The bytes of a written block, by its address.
+    pub fn block(&self, lba: u64) -> &[u8]
+        requires { IsWritten self.now lba }
+        ensures value { result.now ≡ block_at self.now lba }
+        ensures size { length result.now ≡ self.now.block }
+    {
+        let place = self.geometry().place(lba).unwrap();
+        self.blocks(place.zone, place.offset, 1)
+    }
+
+    /// Puts a zone in another state, one that allows the zone's written blocks. They stay.
+    pub fn set_state(&mut self, zone: u32, to: ZoneState)
+        requires inside { zone < length self.old.zones }
+        requires fits { IsZone to (length (zone_at self.old zone).blocks) self.old.capacity }
+        ensures { self.new ≡ in_zone_state self.old zone to }
+    {
+        slots::set_state(
+            self.geometry,
+            &mut self.zones,
+            &mut self.counts,
+            &self.blocks,
+            zone as usize,
+            to,
+        );
+    }
+
+    /// Forgets the blocks of a zone, which is then Empty.
+    pub fn reset(&mut self, zone: u32)
+        requires { zone < length self.old.zones }
+        ensures { self.new ≡ cleared self.old zone ZoneState.Empty }
+    {
+        slots::clear(
+            self.geometry,
+            &mut self.zones,
+            &mut self.counts,
+            &self.blocks,
+            zone as usize,
+            ZoneState::Empty,
+        );
+    }
+
+    /// Forgets the blocks of a zone, which is then Offline.
+    pub fn forget(&mut self, zone: u32)
+        requires { zone < length self.old.zones }
+        ensures { self.new ≡ cleared self.old zone ZoneState.Offline }
+    {
+        slots::clear(
+            self.geometry,
+            &mut self.zones,
+            &mut self.counts,
+            &self.blocks,
+            zone as usize,
+            ZoneState::Offline,
+        );
+    }
+
     /// Writes whole blocks, one or more, at the write pointer of a zone that takes them.
     pub fn append(&mut self, zone: u32, bytes: &[u8])
         requires inside { zone < length self.old.zones }
@@ -97,6 +167,7 @@ impl Image {
         slots::append(
             self.geometry,
             &mut self.zones,
+            &mut self.counts,
             &mut self.blocks,
             zone as usize,
             bytes,

@@ -7,4 +7,5 @@ mod slots;
 
 pub use geometry::{Geometry, GeometryFault, Place};
 pub use image::Image;
+pub use zone_resources::{Counts, Limits};
 pub use zone_state::{Status, Zone, ZoneState};

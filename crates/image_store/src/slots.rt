@@ -1,12 +1,14 @@
 //! The work on the fields of an image, over slices: its methods only call these.
 
-ghost use Rattle.std.specs.Prelude.{◌≡◌, ◌≤◌, ◌<◌, ◌+◌, ◌*◌, ◌^◌, length, get_or, take, drop, Ok};
-ghost use Rattle.zone_state.specs.Zone.{refusal};
+ghost use Rattle.std.specs.Prelude.{◌≡◌, ◌≤◌, ◌<◌, ◌+◌, ◌*◌, ◌^◌, length, get_or, set, take, drop, Ok};
+ghost use Rattle.zone_resources.specs.Counts.{counts_of};
+ghost use Rattle.zone_state.specs.Zone.{refusal, IsZone};
 ghost use Rattle.image_store.specs.Blocks.{block_count, bytes_of};
-ghost use Rattle.image_store.specs.Flat.{IsFlat, namespace_of, spliced, empty_record, no_record};
-ghost use Rattle.image_store.specs.Namespace.{appended, counted, zone_at};
+ghost use Rattle.image_store.specs.Flat.{IsFlat, IsImage, namespace_of, spliced, empty_record, no_record};
+ghost use Rattle.image_store.specs.Namespace.{appended, in_zone_state, cleared, zone_at};
 
 use crate::geometry::Geometry;
+use zone_resources::Counts;
 use zone_state::{Zone, ZoneState};
 
 /// A zone of which nothing is written.
@@ -34,20 +36,82 @@ fn part(bytes: &[u8], start: usize, len: usize) -> &[u8]
     &bytes[start..start + len]
 }
 
+/// Puts a zone's new record in its place, and counts it.
+fn replace(zones: &mut [Zone], counts: &mut Counts, zone: usize, is: Zone)
+    requires inside { zone < length zones.old }
+    requires counted { counts.old ≡ counts_of zones.old }
+    ensures zones { zones.new ≡ set zones.old zone is }
+    ensures counted { counts.new ≡ counts_of zones.new }
+{
+    counts.moved(zones[zone].state(), is.state());
+    zones[zone] = is;
+}
+
+/// Puts a zone in another state, its written blocks as they were.
+pub fn set_state(
+    geometry: Geometry,
+    zones: &mut [Zone],
+    counts: &mut Counts,
+    blocks: &[u8],
+    zone: usize,
+    to: ZoneState,
+)
+    requires image { IsImage geometry zones.old counts.old blocks.now }
+    requires inside { zone < length zones.old }
+    requires fits { IsZone to (get_or zones.old zone no_record).written geometry.capacity }
+    ensures state { namespace_of geometry zones.new blocks.now ≡ in_zone_state (namespace_of geometry zones.old blocks.now) zone to }
+    ensures image { IsImage geometry zones.new counts.new blocks.now }
+{
+    let written = zones[zone].written();
+    let is = Zone::new(to, written, geometry.capacity()).unwrap();
+    replace(zones, counts, zone, is);
+}
+
+/// Puts a zone in another state, its written blocks forgotten.
+pub fn clear(
+    geometry: Geometry,
+    zones: &mut [Zone],
+    counts: &mut Counts,
+    blocks: &[u8],
+    zone: usize,
+    to: ZoneState,
+)
+    requires image { IsImage geometry zones.old counts.old blocks.now }
+    requires inside { zone < length zones.old }
+    requires fits { IsZone to 0 geometry.capacity }
+    ensures state { namespace_of geometry zones.new blocks.now ≡ cleared (namespace_of geometry zones.old blocks.now) zone to }
+    ensures image { IsImage geometry zones.new counts.new blocks.now }
+{
+    let is = Zone::new(to, 0, geometry.capacity()).unwrap();
+    replace(zones, counts, zone, is);
+}
+
 /// Writes whole blocks at the write pointer of a zone.
-pub fn append(geometry: Geometry, zones: &mut [Zone], blocks: &mut [u8], zone: usize, bytes: &[u8])
-    requires flat { IsFlat geometry zones.old blocks.old }
+pub fn append(
+    geometry: Geometry,
+    zones: &mut [Zone],
+    counts: &mut Counts,
+    blocks: &mut [u8],
+    zone: usize,
+    bytes: &[u8],
+)
+    requires image { IsImage geometry zones.old counts.old blocks.old }
     requires inside { zone < length zones.old }
     requires some { 1 ≤ block_count geometry.block bytes.now }
     requires whole { length bytes.now ≡ block_count geometry.block bytes.now * geometry.block }
     requires allowed { let z = get_or zones.old zone no_record in refusal z z.written (block_count geometry.block bytes.now) ≡ Ok tt }
     ensures state { namespace_of geometry zones.new blocks.new ≡ appended (namespace_of geometry zones.old blocks.old) zone bytes.now }
-    ensures flat { IsFlat geometry zones.new blocks.new }
+    ensures image { IsImage geometry zones.new counts.new blocks.new }
 {
     let block = geometry.block() as usize;
-    let written = zones[zone].written() as usize;
-    splice(blocks, zone * geometry.slot() + written * block, bytes);
-    zones[zone].note_written((bytes.len() / block) as u32);
+    let mut is = zones[zone];
+    splice(
+        blocks,
+        zone * geometry.slot() + is.written() as usize * block,
+        bytes,
+    );
+    is.note_written((bytes.len() / block) as u32);
+    replace(zones, counts, zone, is);
 }
 
 /// The bytes of `count` written blocks of a zone, from its block `first` on.

@@ -1,4 +1,3 @@
-use Rattle.std.proofs.Common.{◌≡◌, ◌+◌, ◌*◌, ◌≤◌, ◌∙◌}
 use Rattle.image_store.proofs.Images.{part_fits, part_seen}
 use Rattle.image_store.proofs.slots.blocks.Goals as goal
 

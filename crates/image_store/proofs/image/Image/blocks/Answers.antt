@@ -1,4 +1,4 @@
-use Rattle.std.proofs.Common.{◌≡◌, ◌<◌, ◌+◌, length}
+use Rattle.std.proofs.Common.{◌+◌}
 use Rattle.image_store.proofs.Images.{inside_seen, written_seen}
 use Rattle.image_store.proofs.image.Image.blocks.Goals as goal
 

@@ -1,5 +1,9 @@
 use Rattle.image_store.proofs.Images.{shape_seen}
+use Rattle.image_store.proofs.Sound.{sound}
 use Rattle.image_store.proofs.image.Image.geometry.Goals as goal
 
 pub returns-clause-value : goal.returns-clause-value
-returns-clause-value c = shape_seen c.self.inside.geometry c.self.inside.zones.items c.self.inside.blocks.items c.args.self.now c.self.view_is c.self.invariant
+returns-clause-value c = shape_seen c.self.inside.geometry c.self.inside.zones.items c.self.inside.blocks.items c.args.self.now c.self.view_is c.self.invariant.flat
+
+pub returns-clause-sound : goal.returns-clause-sound
+returns-clause-sound c = sound c.self.inside.geometry c.self.inside.zones.items c.self.inside.blocks.items c.args.self.now c.self.view_is c.self.invariant.flat
