@@ -37,16 +37,14 @@ impl Holds {
     pub fn is_source(&self, zone: u32) -> bool
         ensures { result ≡ is_source self.now zone }
     {
-        self.sources.iter().any(|source| *source == Some(zone))
+        self.sources.iter().any(|held| *held == Some(zone))
     }
 
     /// Does a run append to this zone? Then it refuses a Write, an Append and a second run.
     pub fn is_destination(&self, zone: u32) -> bool
         ensures { result ≡ is_destination self.now zone }
     {
-        self.destinations
-            .iter()
-            .any(|destination| *destination == Some(zone))
+        self.destinations.iter().any(|held| *held == Some(zone))
     }
 
     /// Does a run use this zone? Then it refuses a fault.

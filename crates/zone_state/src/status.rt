@@ -1,6 +1,6 @@
 //! The status of a completed command.
 
-/// Status code type and status code (NVMe Base 2.0, 3.3.3.2.1, Status Field).
+/// Status code type and status code (NVMe Base 2.0, Status Field Definition).
 #[derive(Clone, Copy, Debug, PartialEq, Eq)]
 pub struct Status {
     /// The status code type, of three bits.
@@ -18,7 +18,8 @@ const COMMAND_SPECIFIC: u8 = 0x1;
 /// Status code type of vendor specific status.
 const VENDOR: u8 = 0x7;
 
-/// Generic command status (NVMe Base 2.0, 3.3.3.2.1; LBA Out of Range: NVM Command Set 1.0).
+/// Generic command status (NVMe Base 2.0, Generic Command Status Values; LBA Out of Range: NVM
+/// Command Set 1.0).
 impl Status {
     /// The command is done.
     pub const SUCCESS: Status = Status {
@@ -51,7 +52,7 @@ impl Status {
     };
 }
 
-/// Command specific status (ZNS Command Set 1.1, 3.2).
+/// Command specific status (ZNS Command Set 1.1, Command Specific Status Values).
 impl Status {
     /// The blocks are not all in one zone, or a write passes the zone's capacity.
     pub const ZONE_BOUNDARY_ERROR: Status = Status {
