@@ -9,7 +9,7 @@ use Rattle.nvme_entry.specs.Checks.{demand, first_refused, allowed}
 use Rattle.nvme_entry.specs.declared.command.Opcode.{Opcode}
 use Rattle.nvme_entry.specs.declared.command.Opcode.TheVariants as opcode
 use Rattle.nvme_entry.specs.declared.command.Command.{Command}
-use Rattle.nvme_entry.specs.declared.command.Command.TheVariants.{Read, Send, Append}
+use Rattle.nvme_entry.specs.declared.command.Command.TheVariants.{Write, Read, Send, Append}
 
 -- the number that so many bytes from a byte on spell, the lowest first (NVMe Base 2.0, 1.8.2)
 abbrev pub field : List ℕ → ℕ → ℕ → ℕ
@@ -38,6 +38,7 @@ block_count entry = field entry 48 2 + 1
 -- Command Dword 0, bits 7:0 (NVM Command Set 1.0, figure 20; ZNS 1.1, figure 28)
 abbrev pub opcode_of : ℕ → Option Opcode
 opcode_of code =
+    if code == 0x01 then Some opcode.Write else
     if code == 0x02 then Some opcode.Read else
     if code == 0x79 then Some opcode.ZoneManagementSend else
     if code == 0x7D then Some opcode.ZoneAppend else None
@@ -57,6 +58,7 @@ selects_all entry = slice_index entry 53 % 2 == 1
 
 -- the command that the fields name
 abbrev pub command_of : Opcode → List ℕ → Command
+command_of opcode.Write entry = Write (starting_lba entry) (block_count entry)
 command_of opcode.Read entry = Read (starting_lba entry) (block_count entry)
 command_of opcode.ZoneManagementSend entry = Send (starting_lba entry) (unwrap_or (action_of (slice_index entry 52)) action.Close) (selects_all entry)
 command_of opcode.ZoneAppend entry = Append (starting_lba entry) (block_count entry)

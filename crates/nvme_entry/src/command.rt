@@ -6,9 +6,14 @@ ghost use Rattle.nvme_entry.specs.Entry.{opcode_of};
 use std::marker::Model;
 use zone_state::Action;
 
+/// The most bytes that one command moves (the Maximum Data Transfer Size of NVMe Base 2.0, figure
+/// 276; its value is profile).
+pub const MOST_TRANSFER: u32 = 131_072;
+
 /// The opcode of a command (NVM Command Set 1.0, 3.2; ZNS 1.1, 3.4).
 #[derive(Clone, Copy, Debug, PartialEq, Eq)]
 pub enum Opcode {
+    Write,
     Read,
     ZoneManagementSend,
     ZoneAppend,
@@ -20,6 +25,7 @@ impl Opcode {
         ensures { result ≡ opcode_of code }
     {
         match code {
+            0x01 => Some(Opcode::Write),
             0x02 => Some(Opcode::Read),
             0x79 => Some(Opcode::ZoneManagementSend),
             0x7D => Some(Opcode::ZoneAppend),
@@ -69,6 +75,12 @@ impl BlockCount {
 /// A command with its fields. `lba` is a logical block address.
 #[derive(Clone, Copy, Debug, PartialEq, Eq)]
 pub enum Command {
+    /// Writes blocks from `lba` on, which is the write pointer of its zone
+    /// (NVM Command Set 1.0, 3.2.6; ZNS 1.1, 3.3.6).
+    Write {
+        lba: u64,
+        blocks: BlockCount,
+    },
     /// Reads blocks from `lba` on (NVM Command Set 1.0, 3.2.4).
     Read {
         lba: u64,

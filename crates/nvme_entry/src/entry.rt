@@ -44,16 +44,10 @@ impl Entry {
         let lba = Entry::lba(entry);
         let blocks = Entry::blocks(entry);
         match opcode {
+            Opcode::Write => Ok(Command::Write { lba, blocks }),
             Opcode::Read => Ok(Command::Read { lba, blocks }),
             Opcode::ZoneAppend => Ok(Command::Append { lba, blocks }),
-            Opcode::ZoneManagementSend => match action(entry[52]) {
-                Some(action) => Ok(Command::Send {
-                    lba,
-                    action,
-                    select_all: entry[53] % 2 == 1,
-                }),
-                None => Err(Status::INVALID_FIELD_IN_COMMAND),
-            },
+            Opcode::ZoneManagementSend => Entry::send(entry),
         }
     }
 
@@ -62,6 +56,21 @@ impl Entry {
         ensures { result ≡ identifier_of entry.now }
     {
         LittleEndian::read_u16(&entry[2..])
+    }
+
+    /// A Zone Management Send.
+    fn send(entry: &[u8; 64]) -> Result<Command, Status>
+        ensures { result ≡ allowed (first_refused (field_checks Opcode.ZoneManagementSend entry.now)) (command_of Opcode.ZoneManagementSend entry.now) }
+    {
+        let lba = Entry::lba(entry);
+        let Some(action) = action(entry[52]) else {
+            return Err(Status::INVALID_FIELD_IN_COMMAND);
+        };
+        Ok(Command::Send {
+            lba,
+            action,
+            select_all: entry[53] % 2 == 1,
+        })
     }
 
     fn fuse(entry: &[u8; 64]) -> u8

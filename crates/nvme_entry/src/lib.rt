@@ -8,7 +8,7 @@ mod entry;
 #[cfg(test)]
 mod tests;
 
-pub use command::{BlockCount, Command, Opcode};
+pub use command::{BlockCount, Command, MOST_TRANSFER, Opcode};
 pub use completion::Completion;
 pub use entry::Entry;
 pub use zone_state::Status;

@@ -1,2 +1,4 @@
 pub mod ReadBytes
+pub mod Rooms
+pub mod Sweeps
 pub mod Transfers

@@ -1,5 +1,10 @@
+pub mod Address
 pub mod Answer
 pub mod Append
+pub mod Fault
 pub mod Meaning
 pub mod Read
+pub mod Resources
+pub mod Send
 pub mod Transfer
+pub mod Write

@@ -1,53 +1,53 @@
 //! Zone Append.
 
-ghost use Rattle.std.specs.Prelude.{◌≡◌, ◌≤◌, ◌<◌, ◌*◌, ◌+◌, ◌^◌, length, List, ℕ, IfOk, OnOk, Ok};
-ghost use Rattle.zone_state.specs.Zone.{refusal};
+ghost use Rattle.std.specs.Prelude.{◌≡◌, ◌≤◌, ◌<◌, ◌^◌, length, List, ℕ, OnOk, OnErr};
 ghost use Rattle.nvme_entry.specs.Checks.{first_refused, allowed};
+ghost use Rattle.zns_commands.specs.Address.{zone_number, write_pointer};
 ghost use Rattle.zns_commands.specs.Answer.{outcome};
-ghost use Rattle.zns_commands.specs.Append.{append_checks, append_meaning, room_refusal, zone_number, CanAppend};
+ghost use Rattle.zns_commands.specs.Append.{append_checks, append_meaning};
+ghost use Rattle.zns_commands.specs.Write.{write_plan, written};
 
+use crate::address::lowest;
 use crate::answer::Answer;
-use crate::transfer;
-use image_store::{Image, Zone};
+use crate::write::{check_data, check_end, put};
+use image_store::Image;
 use nvme_entry::{BlockCount, Status};
-
-/// Tests whether a zone takes so many blocks more.
-fn check_room(zone: Zone, blocks: BlockCount) -> Result<(), Status>
-    ensures value { result ≡ allowed (room_refusal zone blocks) tt }
-    ensures fits { OnOk result (refusal zone zone.written blocks ≡ Ok tt) }
-{
-    zone.check_write(zone.written(), blocks.get())
-}
-
-/// The zone that an append goes to.
-fn check(image: &Image, lba: u64, blocks: BlockCount, input: &[u8]) -> Result<u32, Status>
-    ensures value { result ≡ allowed (first_refused (append_checks image.now lba blocks input.now)) (zone_number image.now lba) }
-    ensures can { IfOk result (λ zone. CanAppend image.now zone lba blocks input.now) }
-{
-    let geometry = image.geometry();
-    let bytes = u64::from(blocks.get()) * u64::from(geometry.block());
-    transfer::check(bytes, bytes, input)?;
-    let Some(place) = geometry.place(lba) else {
-        return Err(Status::LBA_OUT_OF_RANGE);
-    };
-    if place.offset != 0 {
-        return Err(Status::INVALID_FIELD_IN_COMMAND);
-    }
-    check_room(image.zone(place.zone), blocks)?;
-    Ok(place.zone)
-}
+use zone_resources::Holds;
 
 /// Writes the data at the write pointer of the zone whose lowest block is `lba`, and answers the
 /// block that the first of them went to. A refused append changes nothing.
-pub fn append(image: &mut Image, lba: u64, blocks: BlockCount, input: &[u8]) -> Answer
-    ensures answer { (bytes : List ℕ) → outcome result image.new bytes ≡ append_meaning image.old lba blocks input.now }
+pub fn append(
+    image: &mut Image,
+    holds: &Holds,
+    lba: u64,
+    blocks: BlockCount,
+    input: &[u8],
+) -> Answer
+    ensures answer { (bytes : List ℕ) → outcome result image.new bytes ≡ append_meaning image.old holds.now lba blocks input.now }
     ensures no_data { result.length ≡ 0 }
 {
-    let zone = match check(image, lba, blocks, input) {
-        Ok(zone) => zone,
-        Err(status) => return Answer::refused(status),
-    };
-    let written = image.zone(zone).written();
-    image.append(zone, input);
-    Answer::success(lba + u64::from(written), 0)
+    match try_append(image, holds, lba, blocks, input) {
+        Ok(assigned) => Answer::success(assigned, 0),
+        Err(status) => Answer::refused(status),
+    }
+}
+
+/// What [`append`] does: the block that the first one went to, or the status that refuses it.
+fn try_append(
+    image: &mut Image,
+    holds: &Holds,
+    lba: u64,
+    blocks: BlockCount,
+    input: &[u8],
+) -> Result<u64, Status>
+    ensures value { let z = zone_number image.old lba in result ≡ allowed (first_refused (append_checks image.old holds.now lba blocks input.now)) (write_pointer image.old z) }
+    ensures ok { OnOk result (image.new ≡ written image.old (write_plan image.old holds.now (zone_number image.old lba)) input.now) }
+    ensures err { OnErr result (image.new ≡ image.old) }
+{
+    check_data(image, blocks, input)?;
+    let zone = lowest(image, lba)?;
+    let plan = check_end(image, holds, zone, blocks)?;
+    let assigned = lba + u64::from(image.zone(zone).written());
+    put(image, plan, blocks, input);
+    Ok(assigned)
 }

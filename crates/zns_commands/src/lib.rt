@@ -1,14 +1,20 @@
 //! What the commands of the Zoned Namespace Command Set do to a namespace.
 #![tactic(auto)]
 
+mod address;
 mod answer;
 mod append;
+mod fault;
 mod namespace;
 mod read;
+mod resources;
+mod send;
 mod transfer;
+mod write;
 
 pub use answer::Answer;
 pub use image_store::{Geometry, GeometryFault, Image};
 pub use namespace::Namespace;
-pub use nvme_entry::{BlockCount, Command, Status};
-pub use transfer::MOST_TRANSFER;
+pub use nvme_entry::{BlockCount, Command, MOST_TRANSFER, Status};
+pub use zone_resources::{Holds, Limits};
+pub use zone_state::{FaultRefused, FaultState};

@@ -2,15 +2,20 @@
 
 ghost use Rattle.std.specs.Prelude.{◌≡◌, ◌≤◌, length, drop};
 ghost use Rattle.zns_commands.specs.Answer.{outcome};
+ghost use Rattle.zns_commands.specs.Fault.{fault_answer, faulted};
 ghost use Rattle.zns_commands.specs.Meaning.{meaning};
 
 use crate::answer::Answer;
 use crate::append::append;
+use crate::fault::fault;
 use crate::read::read;
-use crate::transfer::MOST_TRANSFER;
+use crate::send::send;
+use crate::write::write;
 use image_store::Image;
-use nvme_entry::Command;
+use nvme_entry::{Command, MOST_TRANSFER};
 use std::marker::Model;
+use zone_resources::Holds;
+use zone_state::{FaultRefused, FaultState};
 
 /// A zoned namespace. A clause sees its zones, each with its state and its written blocks.
 #[derive(Drop)]
@@ -44,15 +49,41 @@ impl Namespace {
     /// Executes a command, with the data that stands beside its entry. The data that the command
     /// gives goes to the front of `output`, which has room for the largest transfer; what lies
     /// behind it stays. A command that is refused changes nothing.
-    pub fn execute(&mut self, command: &Command, input: &[u8], output: &mut [u8]) -> Answer
+    pub fn execute(
+        &mut self,
+        command: &Command,
+        input: &[u8],
+        output: &mut [u8],
+        holds: &Holds,
+    ) -> Answer
         requires { MOST_TRANSFER ≤ length output.old }
-        ensures meaning { outcome result self.new output.new ≡ meaning self.old command.now input.now }
+        ensures meaning { outcome result self.new output.new ≡ meaning self.old holds.now command.now input.now }
         ensures most { result.length ≤ MOST_TRANSFER }
         ensures rest { drop result.length output.new ≡ drop result.length output.old }
     {
         match *command {
+            Command::Write { lba, blocks } => { write(&mut self.image, holds, lba, blocks, input) }
             Command::Read { lba, blocks } => read(&self.image, lba, blocks, input, output),
-            Command::Append { lba, blocks } => append(&mut self.image, lba, blocks, input),
+            Command::Send {
+                lba,
+                action,
+                select_all,
+            } => send(&mut self.image, holds, lba, action, select_all, input),
+            Command::Append { lba, blocks } => append(&mut self.image, holds, lba, blocks, input),
         }
+    }
+
+    /// Takes a zone fault (profile): the zone comes into the fault's state, its resources are
+    /// freed, and Offline forgets its blocks.
+    ///
+    /// # Errors
+    ///
+    /// [`FaultRefused`] for a zone that there isn't, for one that an active run uses, and for Read
+    /// Only where the zone is Offline; nothing has changed then.
+    pub fn fault(&mut self, zone: u32, state: FaultState, holds: &Holds) -> Result<(), FaultRefused>
+        ensures answer { result ≡ fault_answer self.old holds.now zone state }
+        ensures state { self.new ≡ faulted self.old holds.now zone state }
+    {
+        fault(&mut self.image, zone, state, holds)
     }
 }

@@ -4,33 +4,26 @@ ghost use Rattle.std.specs.Prelude.{◌≡◌, ◌≤◌, ◌<◌, ◌*◌, ◌+
 ghost use Rattle.image_store.specs.Blocks.{bytes_of};
 ghost use Rattle.image_store.specs.Namespace.{ZonedNamespace, zone_at};
 ghost use Rattle.nvme_entry.specs.Checks.{first_refused, allowed};
+ghost use Rattle.zns_commands.specs.Address.{place_in};
 ghost use Rattle.zns_commands.specs.Answer.{outcome};
-ghost use Rattle.zns_commands.specs.Read.{read_checks, read_meaning, blocks_read, place_read, CanRead};
+ghost use Rattle.zns_commands.specs.Read.{read_checks, read_meaning, blocks_read};
 
+use crate::address::range;
 use crate::answer::Answer;
 use crate::transfer;
-use crate::transfer::MOST_TRANSFER;
 use image_store::{Image, Place};
-use nvme_entry::{BlockCount, Status};
+use nvme_entry::{BlockCount, MOST_TRANSFER, Status};
 use zone_state::ZoneState;
 
-/// Where a read begins.
+/// The checks of a read: where it begins.
 fn check(image: &Image, lba: u64, blocks: BlockCount, input: &[u8]) -> Result<Place, Status>
-    ensures value { result ≡ allowed (first_refused (read_checks image.now lba blocks input.now)) (place_read image.now lba) }
-    ensures can { IfOk result (λ place. CanRead image.now place blocks) }
+    ensures value { result ≡ allowed (first_refused (read_checks image.now lba blocks input.now)) (place_in image.now lba) }
+    ensures inside { IfOk result (λ place. place.zone < length image.now.zones) }
+    ensures most { OnOk result (blocks * image.now.block ≤ MOST_TRANSFER) }
 {
-    let geometry = image.geometry();
-    let bytes = u64::from(blocks.get()) * u64::from(geometry.block());
+    let bytes = u64::from(blocks.get()) * u64::from(image.geometry().block());
     transfer::check(bytes, 0, input)?;
-    if u64::from(blocks.get()) > geometry.blocks().saturating_sub(lba) {
-        return Err(Status::LBA_OUT_OF_RANGE);
-    }
-    let Some(place) = geometry.place(lba) else {
-        return Err(Status::LBA_OUT_OF_RANGE);
-    };
-    if u64::from(place.offset) + u64::from(blocks.get()) > u64::from(geometry.size()) {
-        return Err(Status::ZONE_BOUNDARY_ERROR);
-    }
+    let place = range(image, lba, blocks)?;
     if image.zone(place.zone).state() == ZoneState::Offline {
         return Err(Status::ZONE_IS_OFFLINE);
     }
@@ -64,8 +57,8 @@ fn give(output: &mut [u8], bytes: &[u8], zeros: usize)
 
 /// Gives the blocks from a place on, and answers how many bytes they are.
 fn give_blocks(image: &Image, place: Place, blocks: BlockCount, output: &mut [u8]) -> usize
-    requires can { CanRead image.now place blocks }
-    requires room { MOST_TRANSFER ≤ length output.old }
+    requires inside { place.zone < length image.now.zones }
+    requires room { blocks * image.now.block ≤ length output.old }
     ensures length { result ≡ blocks * image.now.block }
     ensures front { take result output.new ≡ bytes_of (blocks_read image.now.block (zone_at image.now place.zone).blocks place.offset blocks) }
     ensures rest { drop result output.new ≡ drop result output.old }

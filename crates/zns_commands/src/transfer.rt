@@ -4,11 +4,7 @@ ghost use Rattle.std.specs.Prelude.{◌≡◌, ◌≤◌, ◌*◌, ◌^◌, ◌<
 ghost use Rattle.nvme_entry.specs.Checks.{first_refused, allowed};
 ghost use Rattle.zns_commands.specs.Transfer.{transfer_checks};
 
-use nvme_entry::Status;
-
-/// The most bytes that one command moves (the Maximum Data Transfer Size of NVMe Base 2.0, figure
-/// 276; its value is profile).
-pub const MOST_TRANSFER: usize = 131_072;
+use nvme_entry::{MOST_TRANSFER, Status};
 
 /// Tests a transfer of `bytes`, of which `beside` should stand beside the entry.
 pub fn check(bytes: u64, beside: u64, input: &[u8]) -> Result<(), Status>
@@ -16,7 +12,7 @@ pub fn check(bytes: u64, beside: u64, input: &[u8]) -> Result<(), Status>
     ensures whole { OnOk result (length input.now ≡ beside) }
     ensures most { OnOk result (bytes ≤ MOST_TRANSFER) }
 {
-    if bytes > MOST_TRANSFER as u64 {
+    if bytes > u64::from(MOST_TRANSFER) {
         return Err(Status::INVALID_FIELD_IN_COMMAND);
     }
     if input.len() as u64 != beside {

@@ -1,0 +1,76 @@
+-- Zones that give way, and zones that move.
+use Rattle.std.proofs.Common.{◌≡◌, ℕ, ◌<◌, ◌≤◌, List, [], length, get_or, set, map, Option, Some, None, Ok, Err, refl, ap, sym, subst, ◌∙◌, arith}
+use Rattle.std.specs.Prelude.{◌≢◌, slice_get}
+use Rattle.std.specs.Option.{ForSome}
+use Rattle.std.proofs.lemmas.List.{length-map, get_or-map, get_or-set_other}
+use Rattle.std.proofs.lemmas.Option.{slice_get_within, get_or_from_slice_get}
+use Rattle.zone_state.specs.Transition.{transition}
+use Rattle.zone_state.specs.Zone.{ZoneRecord, FitsState, IsZone, kept}
+use Rattle.zone_state.specs.declared.action.Action.{Action}
+use Rattle.zone_state.specs.declared.action.Action.TheVariants as action
+use Rattle.zone_state.specs.declared.state.ZoneState.{ZoneState}
+use Rattle.zone_state.specs.declared.state.ZoneState.TheVariants.{Empty, ImplicitlyOpened, ExplicitlyOpened, Closed, ReadOnly, Full, Offline}
+use Rattle.zone_resources.specs.Admission.{wanted_of, IsClosable}
+use Rattle.zone_resources.specs.declared.admission.Wanted.{Wanted}
+use Rattle.zone_resources.specs.declared.holds.Holds.{Holds}
+use Rattle.image_store.specs.Namespace.{ZoneBlocks, ZonedNamespace, no_zone, zone_at, counted, IsNamespace}
+use Rattle.zone_state.specs.declared.status.Status.{Status}
+use Rattle.nvme_entry.specs.Checks.{allowed}
+use Rattle.zns_commands.specs.Address.{records}
+use Rattle.zns_commands.specs.Resources.{closed, CanGiveWay}
+
+-- a zone that may be closed is a zone, and implicitly opened
+pub closable_zone : (ns : ZonedNamespace) (holds : Holds) (z : ℕ) → IsClosable holds (records ns) z → z < length ns.zones
+closable_zone ns holds z h =
+    let within = slice_get_within (records ns) z h.zone h.there in
+    omega (arith, length-map ns.zones (counted ns.capacity))
+
+pub closable_state : (ns : ZonedNamespace) (holds : Holds) (z : ℕ) → IsClosable holds (records ns) z → (zone_at ns z).state ≡ ImplicitlyOpened
+closable_state ns holds z h =
+    let inside = closable_zone ns holds z h in
+    let read = get_or_from_slice_get (records ns) z h.zone (counted ns.capacity no_zone) h.there in
+    let mapped = get_or-map (counted ns.capacity) ns.zones z no_zone (counted ns.capacity no_zone) inside in
+    ap (λ (r : ZoneRecord). r.state) (sym mapped ∙ read) ∙ h.implicitly_opened
+
+wants_none : (state : ZoneState) (wanted : Wanted) → wanted_of state ≡ Some wanted → state ≢ ImplicitlyOpened
+wants_none Empty wanted e = λ is. cc
+wants_none ImplicitlyOpened wanted e = cc
+wants_none ExplicitlyOpened wanted e = cc
+wants_none Closed wanted e = λ is. cc
+wants_none ReadOnly wanted e = cc
+wants_none Full wanted e = cc
+wants_none Offline wanted e = cc
+
+-- a zone that wants room isn't the one that gives way, which can be Closed
+other_zone : (ns : ZonedNamespace) (holds : Holds) (zone : ℕ) (wanted : Wanted) (z : ℕ) → wanted_of (zone_at ns zone).state ≡ Some wanted → IsClosable holds (records ns) z → z ≢ zone
+other_zone ns holds zone wanted z wants closable = λ (same : z ≡ zone).
+    wants_none (zone_at ns zone).state wanted wants (subst (λ (k : ℕ). (zone_at ns k).state ≡ ImplicitlyOpened) same (closable_state ns holds z closable))
+
+closed_fits : (state : ZoneState) (w c : ℕ) → state ≡ ImplicitlyOpened → IsZone state w c → IsZone Closed w c
+closed_fits ImplicitlyOpened w c is h = (h.0, h.1.1)
+closed_fits Empty w c is h = cc
+closed_fits ExplicitlyOpened w c is h = cc
+closed_fits Closed w c is h = cc
+closed_fits ReadOnly w c is h = cc
+closed_fits Full w c is h = cc
+closed_fits Offline w c is h = cc
+
+pub can_give_way : (ns : ZonedNamespace) (holds : Holds) (zone : ℕ) (wanted : Wanted) (closing : Option ℕ) → IsNamespace ns → wanted_of (zone_at ns zone).state ≡ Some wanted
+    → ForSome closing (IsClosable holds (records ns)) → CanGiveWay ns zone closing
+can_give_way ns holds zone wanted closing sound wants closable = record {
+  inside = λ z is. closable_zone ns holds z (closable z is);
+  fits = λ z is. closed_fits (zone_at ns z).state (length (zone_at ns z).blocks) ns.capacity (closable_state ns holds z (closable z is)) (sound.fits z (closable_zone ns holds z (closable z is)));
+  other = λ is. other_zone ns holds zone wanted zone wants (closable zone is) refl;
+}
+
+pub no_one_gives_way : (ns : ZonedNamespace) (zone : ℕ) → CanGiveWay ns zone None
+no_one_gives_way ns zone = record {
+  inside = λ z is. cc;
+  fits = λ z is. cc;
+  other = λ is. cc;
+}
+
+-- where checks pass, the value is what was to be given
+pub allowed_ok : {X : Type 0} (refusal : Option Status) (x y : X) → Ok y ≡ allowed refusal x → y ≡ x
+allowed_ok None x y e = cc
+allowed_ok (Some status) x y e = cc

@@ -1,0 +1,10 @@
+use Rattle.zns_commands.proofs.namespace.Namespace.execute.Goals as goal
+
+pub returns-in-Write-clause-meaning : goal.returns-in-Write-clause-meaning
+returns-in-Write-clause-meaning c = rw (c.in-Write.is, ← c.self.view_is) (c.write.ensures.answer c.args.output.now)
+
+pub returns-in-Send-clause-meaning : goal.returns-in-Send-clause-meaning
+returns-in-Send-clause-meaning c = rw (c.in-Send.is, ← c.self.view_is) (c.send.ensures.answer c.args.output.now)
+
+pub returns-in-Append-clause-meaning : goal.returns-in-Append-clause-meaning
+returns-in-Append-clause-meaning c = rw (c.in-Append.is, ← c.self.view_is) (c.append.ensures.answer c.args.output.now)

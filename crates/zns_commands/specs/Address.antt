@@ -1,0 +1,52 @@
+-- Logical blocks and zones.
+use Rattle.std.specs.Prelude.{ℕ, ◌≡◌, ◌<◌, ◌+◌, ◌*◌, ◌/◌, ◌%◌, ◌^◌, ◌==◌, nat_lt, nat_le, List, [], ◌∷◌, length, map, Option}
+use Rattle.zone_state.specs.Zone.{ZoneRecord}
+use Rattle.zone_state.specs.declared.status.Status.{Status}
+use Rattle.zone_state.specs.declared.status.TheConstants.Status.{INVALID_FIELD_IN_COMMAND, LBA_OUT_OF_RANGE, ZONE_BOUNDARY_ERROR}
+use Rattle.nvme_entry.specs.Checks.{demand}
+use Rattle.image_store.specs.declared.geometry.Place.{Place}
+use Rattle.image_store.specs.Namespace.{ZonedNamespace, zone_at, counted}
+
+-- the number of logical blocks
+abbrev pub block_total : ZonedNamespace → ℕ
+block_total ns = length ns.zones * ns.size
+
+-- the number of the zone that contains a logical block
+abbrev pub zone_number : ZonedNamespace → ℕ → ℕ
+zone_number ns lba = lba / ns.size
+
+-- the logical block that a zone's next write goes to (ZNS 1.1, 2.1.1.2)
+abbrev pub write_pointer : ZonedNamespace → ℕ → ℕ
+write_pointer ns z = z * ns.size + length (zone_at ns z).blocks
+
+-- a zone with its blocks only counted
+abbrev pub record_at : ZonedNamespace → ℕ → ZoneRecord
+record_at ns z = counted ns.capacity (zone_at ns z)
+
+-- all zones so
+abbrev pub records : ZonedNamespace → List ZoneRecord
+records ns = map (counted ns.capacity) ns.zones
+
+-- a zone is named by its lowest logical block
+abbrev pub lowest_checks : ZonedNamespace → ℕ → List (Option Status)
+lowest_checks ns lba =
+    demand (nat_lt lba (block_total ns)) LBA_OUT_OF_RANGE
+    ∷ demand (lba % ns.size == 0) INVALID_FIELD_IN_COMMAND
+    ∷ []
+
+-- a range of logical blocks is in the namespace, and in one zone
+abbrev pub range_checks : ZonedNamespace → ℕ → ℕ → List (Option Status)
+range_checks ns lba blocks =
+    demand (nat_le (lba + blocks) (block_total ns)) LBA_OUT_OF_RANGE
+    ∷ demand (nat_le (lba % ns.size + blocks) ns.size) ZONE_BOUNDARY_ERROR
+    ∷ []
+
+-- the zone of a logical block, and the block's place in it
+abbrev pub place_in : ZonedNamespace → ℕ → Place
+place_in ns lba = record { zone = zone_number ns lba; offset = lba % ns.size }
+
+-- what holds of the place of a logical block that the namespace has
+pub record IsPlace (ns : ZonedNamespace) (lba : ℕ) (place : Place) : Type 0 where
+  pub inside : place.zone < length ns.zones
+  pub address : place.zone * ns.size + place.offset ≡ lba
+  pub small : lba < 2 ^ 34

@@ -1,0 +1,54 @@
+-- The open and active resources that a command takes.
+use Rattle.std.specs.Prelude.{ℕ, ◌≢◌, ◌<◌, [], length, Option, Some, None, Result, Ok, Err}
+use Rattle.zone_state.specs.declared.state.ZoneState.{ZoneState}
+use Rattle.std.specs.Option.{ForSome}
+use Rattle.zone_state.specs.declared.state.ZoneState.TheVariants.{Empty, Closed, Offline}
+use Rattle.zone_state.specs.Zone.{IsZone}
+use Rattle.zone_state.specs.declared.status.Status.{Status}
+use Rattle.zone_resources.specs.Admission.{admission, wanted_of}
+use Rattle.zone_resources.specs.declared.admission.Wanted.{Wanted}
+use Rattle.zone_resources.specs.declared.holds.Holds.{Holds}
+use Rattle.image_store.specs.Namespace.{ZoneBlocks, ZonedNamespace, zone_at, with_zone, in_zone_state}
+use Rattle.zns_commands.specs.Address.{records}
+
+abbrev pub room_by : ZonedNamespace → Holds → Option Wanted → Result (Option ℕ) Status
+room_by ns holds None = Ok None
+room_by ns holds (Some wanted) = admission (records ns) ns.limits holds wanted
+
+-- the zone to be closed so that one of this state can be open, if one has to be, or why none can
+abbrev pub room_for : ZonedNamespace → Holds → ZoneState → Result (Option ℕ) Status
+room_for ns holds state = room_by ns holds (wanted_of state)
+
+abbrev pub why_not : {X : Type 0} → Result X Status → Option Status
+why_not (Ok x) = None
+why_not (Err status) = Some status
+
+abbrev pub closing_of : Result (Option ℕ) Status → Option ℕ
+closing_of (Ok closing) = closing
+closing_of (Err status) = None
+
+-- the namespace once the zone that gives way, if one does, is closed
+abbrev pub closed : ZonedNamespace → Option ℕ → ZonedNamespace
+closed ns None = ns
+closed ns (Some z) = in_zone_state ns z Closed
+
+-- what a command that opens a zone does to another one first
+abbrev pub after_room : ZonedNamespace → Result (Option ℕ) Status → ZonedNamespace
+after_room ns room = closed ns (closing_of room)
+
+-- what holds of the zone that gives way, if one does: it is another than the one that wants room, and
+-- can be Closed
+pub record CanGiveWay (ns : ZonedNamespace) (zone : ℕ) (closing : Option ℕ) : Type 0 where
+  pub inside : ForSome closing (λ z. z < length ns.zones)
+  pub fits : ForSome closing (λ z. IsZone Closed (length (zone_at ns z).blocks) ns.capacity)
+  pub other : closing ≢ Some zone
+
+-- a zone that comes into a state: Empty and Offline keep no blocks (ZNS 1.1, 2.1.1.3)
+abbrev pub arrived : ZoneState → ZoneBlocks → ZoneBlocks
+arrived Empty zone = record { state = Empty; blocks = [] }
+arrived Offline zone = record { state = Offline; blocks = [] }
+arrived to zone = record { state = to; blocks = zone.blocks }
+
+-- the namespace with a zone come into a state
+abbrev pub moved_to : ZonedNamespace → ℕ → ZoneState → ZonedNamespace
+moved_to ns z to = with_zone ns z (arrived to (zone_at ns z))

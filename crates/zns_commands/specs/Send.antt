@@ -1,0 +1,124 @@
+-- Zone Management Send (ZNS 1.1, 3.4.3).
+use Rattle.std.specs.Prelude.{ℕ, Bool, true, false, ◌+◌, ◌%◌, ◌<◌, ◌==◌, ◌++◌, ◌&&◌, not, nat_le, nat_lt, List, [], ◌∷◌, length, take, drop, map, count_by, Option, Some, None, Result, Ok, Err, if◌then◌else◌}
+use Rattle.std.specs.List.{enumerate_from, list_any}
+use Rattle.zone_state.specs.State.{is_open, is_active}
+use Rattle.zone_state.specs.Transition.{transition}
+use Rattle.zone_state.specs.Zone.{ZoneRecord, IsZone, kept}
+use Rattle.zone_state.specs.declared.action.Action.{Action}
+use Rattle.zone_state.specs.declared.action.Action.TheVariants as action
+use Rattle.zone_state.specs.declared.state.ZoneState.{ZoneState}
+use Rattle.zone_state.specs.declared.state.ZoneState.TheVariants.{Empty, Closed, ReadOnly, Full, Offline}
+use Rattle.zone_state.specs.declared.status.Status.{Status}
+use Rattle.zone_state.specs.declared.status.TheConstants.Status.{TOO_MANY_OPEN_ZONES, ZONE_HELD}
+use Rattle.zone_resources.specs.Counts.{open_count}
+use Rattle.zone_resources.specs.Holds.{refuses}
+use Rattle.zone_resources.specs.declared.holds.Holds.{Holds}
+use Rattle.nvme_entry.specs.Checks.{demand, first_refused}
+use Rattle.image_store.specs.Namespace.{ZoneBlocks, ZonedNamespace, zone_at}
+use Rattle.zns_commands.specs.Address.{zone_number, records, lowest_checks}
+use Rattle.zns_commands.specs.Answer.{Outcome, success, concluded}
+use Rattle.zns_commands.specs.Resources.{room_for, why_not, closing_of, closed, arrived, moved_to, CanGiveWay}
+use Rattle.zns_commands.specs.declared.send.ZonePlan.{ZonePlan}
+use Rattle.zns_commands.specs.Transfer.{transfer_checks}
+
+-- what an action on a zone of this state needs: only Open takes resources
+abbrev pub room_of : ZonedNamespace → Holds → Action → ZoneState → Result (Option ℕ) Status
+room_of ns holds action.Open state = room_for ns holds state
+room_of ns holds _ state = Ok None
+
+-- the checks of an action on one zone, in order (the order is profile)
+abbrev pub zone_checks : ZonedNamespace → Holds → ℕ → Action → List (Option Status)
+zone_checks ns holds lba action =
+    let z = zone_number ns lba in
+    lowest_checks ns lba
+    ++ demand (not (refuses holds action z)) ZONE_HELD
+    ∷ why_not (transition action (zone_at ns z).state)
+    ∷ why_not (room_of ns holds action (zone_at ns z).state)
+    ∷ []
+
+-- the state that an action leads to
+abbrev pub led_to : Result ZoneState Status → ZoneState → ZoneState
+led_to (Ok to) from = to
+led_to (Err status) from = from
+
+-- an action on one zone that isn't refused
+abbrev pub zone_plan : ZonedNamespace → Holds → ℕ → Action → ZonePlan
+zone_plan ns holds lba action =
+    let z = zone_number ns lba in
+    let from = (zone_at ns z).state in
+    record { zone = z; to = led_to (transition action from) from; closing = closing_of (room_of ns holds action from) }
+
+abbrev pub zone_effect : ZonedNamespace → Holds → ℕ → Action → ZonedNamespace
+zone_effect ns holds lba action =
+    let plan = zone_plan ns holds lba action in moved_to (closed ns plan.closing) plan.zone plan.to
+
+-- does Select All take a zone of this state? (ZNS 1.1, figure 46)
+abbrev pub takes : Action → ZoneState → Bool
+takes action.Close state = is_open state
+takes action.Finish state = is_active state
+takes action.Open Closed = true
+takes action.Open _ = false
+takes action.Reset Full = true
+takes action.Reset state = is_active state
+takes action.Offline ReadOnly = true
+takes action.Offline _ = false
+
+-- is one of these zones, which would be taken, held against the action?
+abbrev pub held_among : List ZoneRecord → Holds → Action → Bool
+held_among zones holds action = list_any (λ p. takes action p.1.state && refuses holds action p.0) (enumerate_from 0 zones)
+
+-- how many of these zones would be taken
+abbrev pub taken_among : List ZoneRecord → Action → ℕ
+taken_among zones action = count_by (λ zone. takes action zone.state) zones
+
+-- has each zone that would be opened an open resource? None is freed for it (profile)
+abbrev pub all_fit : ZonedNamespace → Action → Bool
+all_fit ns action.Open = nat_le (open_count (records ns) + taken_among (records ns) action.Open) ns.limits.open_limit
+all_fit ns _ = true
+
+-- the checks of Select All, which is all or nothing (profile); the address is ignored
+abbrev pub all_checks : ZonedNamespace → Holds → Action → List (Option Status)
+all_checks ns holds action =
+    demand (not (held_among (records ns) holds action)) ZONE_HELD
+    ∷ demand (all_fit ns action) TOO_MANY_OPEN_ZONES
+    ∷ []
+
+-- a zone, once Select All has gone over it
+abbrev pub swept : Action → ZoneBlocks → ZoneBlocks
+swept action zone = if takes action zone.state then arrived (led_to (transition action zone.state) zone.state) zone else zone
+
+abbrev pub all_effect : ZonedNamespace → Action → ZonedNamespace
+all_effect ns action = record {
+  block = ns.block;
+  size = ns.size;
+  capacity = ns.capacity;
+  limits = ns.limits;
+  zones = map (swept action) ns.zones;
+}
+
+abbrev pub send_checks : ZonedNamespace → Holds → ℕ → Action → Bool → List ℕ → List (Option Status)
+send_checks ns holds lba action select_all input =
+    transfer_checks 0 0 input ++ (if select_all then all_checks ns holds action else zone_checks ns holds lba action)
+
+abbrev pub send_effect : ZonedNamespace → Holds → ℕ → Action → Bool → ZonedNamespace
+send_effect ns holds lba action select_all = if select_all then all_effect ns action else zone_effect ns holds lba action
+
+abbrev pub send_meaning : ZonedNamespace → Holds → ℕ → Action → Bool → List ℕ → Outcome
+send_meaning ns holds lba action select_all input =
+    concluded (first_refused (send_checks ns holds lba action select_all input)) ns (success (send_effect ns holds lba action select_all) 0 [])
+
+-- the namespace once Select All has gone over its first zones
+abbrev pub swept_below : ZonedNamespace → Action → ℕ → ZonedNamespace
+swept_below ns action n = record {
+  block = ns.block;
+  size = ns.size;
+  capacity = ns.capacity;
+  limits = ns.limits;
+  zones = map (swept action) (take n ns.zones) ++ drop n ns.zones;
+}
+
+-- what holds where an action on a zone isn't refused
+pub record CanMove (ns : ZonedNamespace) (plan : ZonePlan) : Type 0 where
+  pub inside : plan.zone < length ns.zones
+  pub fits : IsZone plan.to (kept plan.to (length (zone_at ns plan.zone).blocks)) ns.capacity
+  pub room : CanGiveWay ns plan.zone plan.closing

@@ -1,0 +1,59 @@
+-- Writing to a zone, and Write (NVM Command Set 1.0, 3.2.6; ZNS 1.1, 3.3.6).
+use Rattle.std.specs.Prelude.{ℕ, ◌+◌, ◌*◌, ◌%◌, ◌++◌, not, List, [], ◌∷◌, Option, Ok, ◌≡◌, ◌≤◌, ◌<◌, length}
+use Rattle.zone_state.specs.Zone.{refusal}
+use Rattle.zone_state.specs.declared.status.Status.{Status}
+use Rattle.zone_state.specs.declared.status.TheConstants.Status.{ZONE_HELD}
+use Rattle.zone_resources.specs.Holds.{is_destination}
+use Rattle.zone_resources.specs.declared.holds.Holds.{Holds}
+use Rattle.nvme_entry.specs.Checks.{demand, first_refused}
+use Rattle.image_store.specs.Blocks.{block_count}
+use Rattle.image_store.specs.Namespace.{ZonedNamespace, zone_at, appended}
+use Rattle.zns_commands.specs.declared.write.WritePlan.{WritePlan}
+use Rattle.zns_commands.specs.Address.{zone_number, record_at, range_checks}
+use Rattle.zns_commands.specs.Answer.{Outcome, success, concluded}
+use Rattle.zns_commands.specs.Resources.{room_for, why_not, closing_of, closed, CanGiveWay}
+use Rattle.zns_commands.specs.Transfer.{transfer_checks}
+
+-- the checks of a write to a zone, from one of its blocks on, in order (the order is profile): the
+-- holds; the zone's state, its write pointer and its capacity; the limits, which are tested also
+-- where one command fills an Empty zone (profile)
+abbrev pub zone_write_checks : ZonedNamespace → Holds → ℕ → ℕ → ℕ → List (Option Status)
+zone_write_checks ns holds z at blocks =
+    demand (not (is_destination holds z)) ZONE_HELD
+    ∷ why_not (refusal (record_at ns z) at blocks)
+    ∷ why_not (room_for ns holds (zone_at ns z).state)
+    ∷ []
+
+-- a write that isn't refused: the zone, and the one that gives way to it
+abbrev pub write_plan : ZonedNamespace → Holds → ℕ → WritePlan
+write_plan ns holds z = record { zone = z; closing = closing_of (room_for ns holds (zone_at ns z).state) }
+
+-- the bytes go, as blocks, to the zone's write pointer; the zone that gives way is closed first
+abbrev pub written : ZonedNamespace → WritePlan → List ℕ → ZonedNamespace
+written ns plan input = appended (closed ns plan.closing) plan.zone input
+
+-- the checks of a Write, in order: the transfer, the range, the zone
+abbrev pub write_checks : ZonedNamespace → Holds → ℕ → ℕ → List ℕ → List (Option Status)
+write_checks ns holds lba blocks input =
+    transfer_checks (blocks * ns.block) (blocks * ns.block) input
+    ++ range_checks ns lba blocks
+    ++ zone_write_checks ns holds (zone_number ns lba) (lba % ns.size) blocks
+
+abbrev pub write_effect : ZonedNamespace → Holds → ℕ → List ℕ → Outcome
+write_effect ns holds lba input = success (written ns (write_plan ns holds (zone_number ns lba)) input) 0 []
+
+abbrev pub write_meaning : ZonedNamespace → Holds → ℕ → ℕ → List ℕ → Outcome
+write_meaning ns holds lba blocks input =
+    concluded (first_refused (write_checks ns holds lba blocks input)) ns (write_effect ns holds lba input)
+
+-- what holds of a write to a zone that isn't refused
+pub record CanWrite (ns : ZonedNamespace) (at blocks : ℕ) (plan : WritePlan) : Type 0 where
+  pub inside : plan.zone < length ns.zones
+  pub some : 1 ≤ blocks
+  pub fits : refusal (record_at ns plan.zone) at blocks ≡ Ok tt
+  pub room : CanGiveWay ns plan.zone plan.closing
+
+-- the data is whole blocks, as many as the command says
+pub record IsWhole (ns : ZonedNamespace) (blocks : ℕ) (input : List ℕ) : Type 0 where
+  pub count : block_count ns.block input ≡ blocks
+  pub size : length input ≡ blocks * ns.block

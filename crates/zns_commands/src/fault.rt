@@ -1,0 +1,28 @@
+//! Zone faults.
+
+ghost use Rattle.std.specs.Prelude.{◌≡◌};
+ghost use Rattle.zns_commands.specs.Fault.{fault_answer, faulted};
+
+use crate::resources::move_to;
+use image_store::Image;
+use zone_resources::Holds;
+use zone_state::{FaultRefused, FaultState};
+
+/// Brings a zone into the state of a fault. A refused fault changes nothing.
+pub fn fault(
+    image: &mut Image,
+    zone: u32,
+    state: FaultState,
+    holds: &Holds,
+) -> Result<(), FaultRefused>
+    ensures answer { result ≡ fault_answer image.old holds.now zone state }
+    ensures state { image.new ≡ faulted image.old holds.now zone state }
+{
+    if zone >= image.geometry().zones() || holds.is_held(zone) {
+        return Err(FaultRefused);
+    }
+    let mut copy = image.zone(zone);
+    copy.fault(state)?;
+    move_to(image, zone, copy.state());
+    Ok(())
+}

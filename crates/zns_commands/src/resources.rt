@@ -1,0 +1,49 @@
+//! The open and active resources that a command takes.
+
+ghost use Rattle.std.specs.Prelude.{◌≡◌, ◌<◌, IfOk, length};
+ghost use Rattle.zone_state.specs.Zone.{IsZone, kept};
+ghost use Rattle.image_store.specs.Namespace.{zone_at};
+ghost use Rattle.zns_commands.specs.Resources.{room_for, closed, moved_to, CanGiveWay};
+
+use image_store::Image;
+use nvme_entry::Status;
+use zone_resources::{Holds, Wanted, admit};
+use zone_state::ZoneState;
+
+/// The zone to be closed so that this one can be open, if one has to be: never this one.
+pub fn room_for(image: &Image, holds: &Holds, zone: u32) -> Result<Option<u32>, Status>
+    requires { zone < length image.now.zones }
+    ensures value { result ≡ room_for image.now holds.now (zone_at image.now zone).state }
+    ensures closable { IfOk result (CanGiveWay image.now zone) }
+{
+    match Wanted::of(image.zone(zone).state()) {
+        None => Ok(None),
+        Some(wanted) => {
+            let limits = image.geometry().limits();
+            admit(image.zones(), &image.counts(), &limits, holds, wanted)
+        }
+    }
+}
+
+/// Closes the zone that gives way to another, if one does.
+pub fn give_way(image: &mut Image, zone: u32, closing: Option<u32>)
+    requires { CanGiveWay image.old zone closing }
+    ensures { image.new ≡ closed image.old closing }
+{
+    if let Some(other) = closing {
+        image.set_state(other, ZoneState::Closed);
+    }
+}
+
+/// Brings a zone into a state that allows the blocks that it keeps there.
+pub fn move_to(image: &mut Image, zone: u32, to: ZoneState)
+    requires inside { zone < length image.old.zones }
+    requires fits { IsZone to (kept to (length (zone_at image.old zone).blocks)) image.old.capacity }
+    ensures { image.new ≡ moved_to image.old zone to }
+{
+    match to {
+        ZoneState::Empty => image.reset(zone),
+        ZoneState::Offline => image.forget(zone),
+        _ => image.set_state(zone, to),
+    }
+}

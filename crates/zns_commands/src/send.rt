@@ -1,0 +1,188 @@
+//! Zone Management Send.
+
+ghost use Rattle.std.specs.Prelude.{◌≡◌, ◌<◌, ◌≤◌, ◌^◌, length, List, ℕ, IfOk, OnOk, OnErr};
+ghost use Rattle.nvme_entry.specs.Checks.{first_refused, allowed};
+ghost use Rattle.image_store.specs.Namespace.{zone_at, with_zone};
+ghost use Rattle.zns_commands.specs.Address.{records};
+ghost use Rattle.zns_commands.specs.Answer.{outcome};
+ghost use Rattle.zns_commands.specs.Send.{send_meaning, send_checks, send_effect, zone_checks, zone_plan, zone_effect, all_checks, all_effect, all_fit, swept, takes, held_among, taken_among, CanMove};
+
+use crate::address::lowest;
+use crate::answer::Answer;
+use crate::resources::{give_way, move_to, room_for};
+use crate::transfer;
+use image_store::{Image, Zone};
+use nvme_entry::Status;
+use zone_resources::Holds;
+use zone_state::{Action, ZoneState};
+
+/// An action on one zone that isn't refused: the zone, the state that it comes into, and the zone
+/// that gives way to it.
+#[derive(Clone, Copy, Debug)]
+pub struct ZonePlan {
+    pub zone: u32,
+    pub to: ZoneState,
+    pub closing: Option<u32>,
+}
+
+/// The checks of an action on one zone.
+fn check_zone(image: &Image, holds: &Holds, lba: u64, action: Action) -> Result<ZonePlan, Status>
+    ensures value { result ≡ allowed (first_refused (zone_checks image.now holds.now lba action)) (zone_plan image.now holds.now lba action) }
+    ensures can { IfOk result (CanMove image.now) }
+{
+    let zone = lowest(image, lba)?;
+    if holds.refuses(action, zone) {
+        return Err(Status::ZONE_HELD);
+    }
+    let to = image.zone(zone).manage(action)?;
+    let closing = match action {
+        Action::Open => room_for(image, holds, zone)?,
+        _ => None,
+    };
+    Ok(ZonePlan { zone, to, closing })
+}
+
+/// Takes an action on the zone whose lowest block is `lba`.
+fn send_to_zone(image: &mut Image, holds: &Holds, lba: u64, action: Action) -> Result<(), Status>
+    ensures value { result ≡ allowed (first_refused (zone_checks image.old holds.now lba action)) tt }
+    ensures ok { OnOk result (image.new ≡ zone_effect image.old holds.now lba action) }
+    ensures err { OnErr result (image.new ≡ image.old) }
+{
+    let plan = check_zone(image, holds, lba, action)?;
+    give_way(image, plan.zone, plan.closing);
+    move_to(image, plan.zone, plan.to);
+    Ok(())
+}
+
+/// Does Select All take a zone of this state?
+fn takes(action: Action, state: ZoneState) -> bool
+    ensures { result ≡ takes action state }
+{
+    match action {
+        Action::Close => state.is_open(),
+        Action::Finish => state.is_active(),
+        Action::Open => state == ZoneState::Closed,
+        Action::Reset => state.is_active() || state == ZoneState::Full,
+        Action::Offline => state == ZoneState::ReadOnly,
+    }
+}
+
+/// Is a zone that Select All would take held against the action?
+fn takes_held(zones: &[Zone], holds: &Holds, action: Action) -> bool
+    requires { length zones.now ≤ 2 ^ 32 }
+    ensures { result ≡ held_among zones.now holds.now action }
+{
+    zones.iter().enumerate().any(|(number, zone)| takes(action, zone.state())
+        && holds.refuses(action, number as u32))
+}
+
+/// How many of the zones Select All would take.
+fn taken(zones: &[Zone], action: Action) -> usize
+    ensures count { result ≡ taken_among zones.now action }
+    ensures most { result ≤ length zones.now }
+{
+    zones
+        .iter()
+        .filter(|zone| takes(action, zone.state()))
+        .count()
+}
+
+/// The zones of an image, of which there are at most as many as a geometry allows.
+fn few_zones(image: &Image) -> &[Zone]
+    ensures value { result.now ≡ records image.now }
+    ensures few { length result.now ≤ 1024 }
+{
+    let _ = image.geometry();
+    image.zones()
+}
+
+/// The checks of Select All.
+fn check_all(image: &Image, holds: &Holds, action: Action) -> Result<(), Status>
+    ensures { result ≡ allowed (first_refused (all_checks image.now holds.now action)) tt }
+{
+    let zones = few_zones(image);
+    if takes_held(zones, holds, action) {
+        return Err(Status::ZONE_HELD);
+    }
+    if !all_fit(image, action) {
+        return Err(Status::TOO_MANY_OPEN_ZONES);
+    }
+    Ok(())
+}
+
+/// Has each zone that Select All would open an open resource?
+fn all_fit(image: &Image, action: Action) -> bool
+    ensures { result ≡ all_fit image.now action }
+{
+    match action {
+        Action::Open => {
+            let limit = image.geometry().limits().open_limit as usize;
+            image.counts().opened + taken(image.zones(), Action::Open) <= limit
+        }
+        _ => true,
+    }
+}
+
+/// Takes the action on a zone, if Select All takes it.
+fn sweep_zone(image: &mut Image, zone: u32, action: Action)
+    requires { zone < length image.old.zones }
+    ensures { image.new ≡ with_zone image.old zone (swept action (zone_at image.old zone)) }
+{
+    let mut copy = image.zone(zone);
+    if takes(action, copy.state()) {
+        if let Ok(to) = copy.manage(action) {
+            move_to(image, zone, to);
+        }
+    }
+}
+
+/// Takes the action on each zone that Select All takes.
+fn sweep(image: &mut Image, action: Action)
+    ensures { image.new ≡ all_effect image.old action }
+{
+    let zones = image.geometry().zones();
+    for zone in 0..zones {
+        sweep_zone(image, zone, action);
+    }
+}
+
+/// Takes a zone send action, on one zone or on all that it takes, and changes nothing where it is
+/// refused.
+pub fn send(
+    image: &mut Image,
+    holds: &Holds,
+    lba: u64,
+    action: Action,
+    select_all: bool,
+    input: &[u8],
+) -> Answer
+    ensures answer { (bytes : List ℕ) → outcome result image.new bytes ≡ send_meaning image.old holds.now lba action select_all input.now }
+    ensures no_data { result.length ≡ 0 }
+{
+    match try_send(image, holds, lba, action, select_all, input) {
+        Ok(()) => Answer::success(0, 0),
+        Err(status) => Answer::refused(status),
+    }
+}
+
+/// What [`send`] does, or the status that refuses it.
+fn try_send(
+    image: &mut Image,
+    holds: &Holds,
+    lba: u64,
+    action: Action,
+    select_all: bool,
+    input: &[u8],
+) -> Result<(), Status>
+    ensures value { result ≡ allowed (first_refused (send_checks image.old holds.now lba action select_all input.now)) tt }
+    ensures ok { OnOk result (image.new ≡ send_effect image.old holds.now lba action select_all) }
+    ensures err { OnErr result (image.new ≡ image.old) }
+{
+    transfer::check(0, 0, input)?;
+    if !select_all {
+        return send_to_zone(image, holds, lba, action);
+    }
+    check_all(image, holds, action)?;
+    sweep(image, action);
+    Ok(())
+}

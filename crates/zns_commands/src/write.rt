@@ -1,0 +1,110 @@
+//! Writing to a zone, and Write.
+
+ghost use Rattle.std.specs.Prelude.{◌≡◌, ◌≤◌, ◌<◌, ◌*◌, ◌^◌, length, List, ℕ, IfOk, OnOk, OnErr};
+ghost use Rattle.image_store.specs.Namespace.{zone_at};
+ghost use Rattle.nvme_entry.specs.Checks.{first_refused, allowed};
+ghost use Rattle.zns_commands.specs.Address.{zone_number};
+ghost use Rattle.zns_commands.specs.Answer.{outcome};
+ghost use Rattle.zns_commands.specs.Transfer.{transfer_checks};
+ghost use Rattle.zns_commands.specs.Write.{zone_write_checks, write_checks, write_plan, write_meaning, written, CanWrite, IsWhole};
+
+use crate::address::range;
+use crate::answer::Answer;
+use crate::resources::{give_way, room_for};
+use crate::transfer;
+use image_store::Image;
+use nvme_entry::{BlockCount, Status};
+use zone_resources::Holds;
+
+/// A write that isn't refused: the zone that is written, and the one that gives way to it.
+#[derive(Clone, Copy, Debug)]
+pub struct WritePlan {
+    pub zone: u32,
+    pub closing: Option<u32>,
+}
+
+/// The checks of the data of a write: whole blocks, as many as the command says.
+pub fn check_data(image: &Image, blocks: BlockCount, input: &[u8]) -> Result<(), Status>
+    ensures value { let bytes = blocks * image.now.block in result ≡ allowed (first_refused (transfer_checks bytes bytes input.now)) tt }
+    ensures whole { OnOk result (IsWhole image.now blocks input.now) }
+{
+    let bytes = u64::from(blocks.get()) * u64::from(image.geometry().block());
+    transfer::check(bytes, bytes, input)
+}
+
+/// The checks of a write to a zone, from its block `at` on.
+pub fn check_zone(
+    image: &Image,
+    holds: &Holds,
+    zone: u32,
+    at: u32,
+    blocks: BlockCount,
+) -> Result<WritePlan, Status>
+    requires { zone < length image.now.zones }
+    ensures value { result ≡ allowed (first_refused (zone_write_checks image.now holds.now zone at blocks)) (write_plan image.now holds.now zone) }
+    ensures can { IfOk result (CanWrite image.now at blocks) }
+{
+    if holds.is_destination(zone) {
+        return Err(Status::ZONE_HELD);
+    }
+    image.zone(zone).check_write(at, blocks.get())?;
+    let closing = room_for(image, holds, zone)?;
+    Ok(WritePlan { zone, closing })
+}
+
+/// The checks of a write to a zone from its write pointer on.
+pub fn check_end(
+    image: &Image,
+    holds: &Holds,
+    zone: u32,
+    blocks: BlockCount,
+) -> Result<WritePlan, Status>
+    requires { zone < length image.now.zones }
+    ensures value { let at = length (zone_at image.now zone).blocks in
+        result ≡ allowed (first_refused (zone_write_checks image.now holds.now zone at blocks)) (write_plan image.now holds.now zone) }
+    ensures can { IfOk result (CanWrite image.now (length (zone_at image.now zone).blocks) blocks) }
+{
+    let at = image.zone(zone).written();
+    check_zone(image, holds, zone, at, blocks)
+}
+
+/// Writes the data at the write pointer of the zone of a plan.
+pub fn put(image: &mut Image, plan: WritePlan, blocks: BlockCount, input: &[u8])
+    requires can { (at : ℕ) × CanWrite image.old at blocks plan }
+    requires whole { IsWhole image.old blocks input.now }
+    ensures { image.new ≡ written image.old plan input.now }
+{
+    give_way(image, plan.zone, plan.closing);
+    image.append(plan.zone, input);
+}
+
+/// Writes the data from `lba` on, which is the write pointer of its zone. A refused write changes
+/// nothing.
+pub fn write(image: &mut Image, holds: &Holds, lba: u64, blocks: BlockCount, input: &[u8]) -> Answer
+    ensures answer { (bytes : List ℕ) → outcome result image.new bytes ≡ write_meaning image.old holds.now lba blocks input.now }
+    ensures no_data { result.length ≡ 0 }
+{
+    match try_write(image, holds, lba, blocks, input) {
+        Ok(()) => Answer::success(0, 0),
+        Err(status) => Answer::refused(status),
+    }
+}
+
+/// What [`write`] does, or the status that refuses it.
+fn try_write(
+    image: &mut Image,
+    holds: &Holds,
+    lba: u64,
+    blocks: BlockCount,
+    input: &[u8],
+) -> Result<(), Status>
+    ensures value { result ≡ allowed (first_refused (write_checks image.old holds.now lba blocks input.now)) tt }
+    ensures ok { OnOk result (image.new ≡ written image.old (write_plan image.old holds.now (zone_number image.old lba)) input.now) }
+    ensures err { OnErr result (image.new ≡ image.old) }
+{
+    check_data(image, blocks, input)?;
+    let place = range(image, lba, blocks)?;
+    let plan = check_zone(image, holds, place.zone, place.offset, blocks)?;
+    put(image, plan, blocks, input);
+    Ok(())
+}
