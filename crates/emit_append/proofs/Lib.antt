@@ -1,0 +1,3 @@
+pub mod BlockSizes
+pub mod Layouts
+pub mod Packings

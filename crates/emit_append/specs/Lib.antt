@@ -1,0 +1,3 @@
+pub mod BlockSize
+pub mod Packer
+pub mod Packing
