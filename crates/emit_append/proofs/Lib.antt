@@ -1,3 +1,9 @@
+pub mod Answered
 pub mod BlockSizes
+pub mod Continuing
+pub mod FramesRead
 pub mod Layouts
+pub mod Needs
 pub mod Packings
+pub mod Parts
+pub mod Puts

@@ -3,7 +3,14 @@
 #![tactic(auto)]
 
 mod block;
+mod fault;
+pub mod laws;
 mod packer;
+mod reader;
+mod room;
 
 pub use block::{BLOCK_SIZES, LARGEST_BLOCK, is_block_size};
+pub use fault::UnpackFault;
 pub use packer::{Full, Packer};
+pub use reader::unpack;
+pub use room::need;

@@ -2,8 +2,8 @@
 
 ghost use Rattle.std.specs.Prelude.{◌≡◌, ◌≤◌, ◌+◌, [], ◌∷◌, ◌++◌, length};
 ghost use Rattle.emit_append.specs.BlockSize.{IsBlockSize};
-ghost use Rattle.emit_append.specs.Packer.{blocks_of};
-ghost use Rattle.emit_append.specs.Packing.{packed, padded, pending_of, released};
+ghost use Rattle.emit_append.specs.Packer.{after_put, blocks_of, given_by_finish, given_by_put, new_packer};
+ghost use Rattle.emit_append.specs.Packing.{padded};
 
 use crate::block::LARGEST_BLOCK;
 use arrayvec::ArrayVec;
@@ -36,7 +36,7 @@ impl Packer {
     /// A packer for blocks of `block` bytes, with nothing pending.
     pub fn new(block: usize) -> Packer
         requires { IsBlockSize block }
-        ensures { result ≡ record { block = block; pending = [] } }
+        ensures { result ≡ new_packer block }
     {
         Packer {
             block,
@@ -49,11 +49,8 @@ impl Packer {
     /// bytes changes nothing.
     pub fn put(&mut self, group: &[u8]) -> Option<Full>
         requires { length group.now ≤ self.old.block }
-        ensures blocks { blocks_of result ≡ released self.old.block (self.old.pending ∷ group.now ∷ []) }
-        ensures pending { self.new ≡ record {
-          block = self.old.block;
-          pending = pending_of self.old.block (self.old.pending ∷ group.now ∷ []);
-        } }
+        ensures blocks { blocks_of result ≡ given_by_put self.old group.now }
+        ensures state { self.new ≡ after_put self.old group.now }
         ensures fits { length self.new.pending ≤ self.new.block }
     {
         if group.len() <= self.block - self.pending.len() {
@@ -67,8 +64,8 @@ impl Packer {
 
     /// Releases the pending block, where it holds a group.
     pub fn finish(&mut self) -> Option<Full>
-        ensures blocks { blocks_of result ≡ packed self.old.block (self.old.pending ∷ []) }
-        ensures pending { self.new ≡ record { block = self.old.block; pending = [] } }
+        ensures blocks { blocks_of result ≡ given_by_finish self.old }
+        ensures state { self.new ≡ new_packer self.old.block }
     {
         if self.pending.is_empty() {
             return None;
