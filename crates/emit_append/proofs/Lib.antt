@@ -4,6 +4,7 @@ pub mod Continuing
 pub mod FramesRead
 pub mod Layouts
 pub mod Needs
-pub mod Packings
+pub mod Padding
 pub mod Parts
 pub mod Puts
+pub mod ReadBack

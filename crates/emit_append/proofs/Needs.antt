@@ -1,5 +1,5 @@
 -- No packing needs more blocks than `need` tells.
-use Rattle.std.proofs.Common.{◌≡◌, ℕ, zero, suc, ◌+◌, ◌-◌, ◌*◌, ◌/◌, ◌%◌, ◌≤◌, ◌<◌, List, [], ◌∷◌, length, map, min, refl, ap, sym, ◌∙◌, arith, rules, inl, inr, ⊎_elim, ◌⊎◌}
+use Rattle.std.proofs.Common.{◌≡◌, ℕ, zero, suc, ◌+◌, ◌-◌, ◌*◌, ◌/◌, ◌≤◌, ◌<◌, List, [], ◌∷◌, length, refl, ap, ◌∙◌, arith, rules, inl, inr, ⊎_elim, ◌⊎◌}
 use Rattle.std.specs.Int.{div_ceil}
 use Rattle.std.specs.List.{AllByRecursion}
 use Rattle.std.proofs.Math.Nat.{div-mul-le_self, lt_of_mul-lt-mul_left, mul-suc, mul_comm, suc-mul}
@@ -8,7 +8,7 @@ use Rattle.std.proofs.lemmas.List.{length-map}
 use Rattle.std.proofs.lemmas.Nat.{le-div}
 use Rattle.std.proofs.lemmas.Bool.Decides.{nat_tests}
 use Rattle.std.proofs.lemmas.Grind.{div_ceil_times}
-use Rattle.emit_append.specs.Packing.{beginning, behind, laid_out, filled, packed, padded}
+use Rattle.emit_append.specs.Packing.{laid_out, filled, padded}
 use Rattle.emit_append.specs.Need.{NeedIsEnough, need}
 use Rattle.emit_append.proofs.Layouts.{laid-behind, laid-beginning, laid-empty}
 

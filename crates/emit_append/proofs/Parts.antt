@@ -1,10 +1,9 @@
 -- The packing of groups and its parts, the groups of each block.
-use Rattle.std.proofs.Common.{◌≡◌, ◌↔◌, ℕ, ◌+◌, ◌-◌, ◌≤◌, ◌<◌, nat_lt, Bool, true, false, cond, List, [], ◌∷◌, ◌++◌, length, map, filter, refl, ap, sym, ◌∙◌, subst, arith, rules, leb, ltb, length-append, append_assoc, ⊎_elim}
+use Rattle.std.proofs.Common.{◌≡◌, ℕ, ◌+◌, ◌-◌, ◌≤◌, ◌<◌, List, [], ◌∷◌, ◌++◌, length, map, refl, ap, sym, ◌∙◌, arith, length-append, append_assoc, ⊎_elim}
 use Rattle.std.specs.List.{AllByRecursion, concat, flat_map}
 use Rattle.std.proofs.lemmas.List.{append-nil}
 use Rattle.std.proofs.lemmas.Bool.{cases_lt}
-use Rattle.std.proofs.lemmas.Bool.Decides.{nat_tests}
-use Rattle.emit_append.specs.Packing.{Layout, behind, beginning, laid_out, filled, packed, padded}
+use Rattle.emit_append.specs.Packing.{Layout, behind, beginning, laid_out, packed, padded}
 use Rattle.emit_append.specs.Packed.{ArePacked, EachNextIsLonger, FitBlock, NextIsLonger, PackedAsDescribed, with_bytes}
 use Rattle.emit_append.proofs.Layouts.{laid-behind, laid-beginning, laid-empty}
 

@@ -1,7 +1,9 @@
 -- Frames in output blocks, and how they are read back (profile).
-use Rattle.std.specs.Prelude.{ℕ, zero, suc, ◌+◌, ◌/◌, ◌==◌, nat_lt, List, [], ◌∷◌, ◌++◌, length, take, drop, Result, Ok, Err, if◌then◌else◌}
-use Rattle.std.specs.List.{flat_map}
+use Rattle.std.specs.Prelude.{ℕ, zero, suc, ◌≡◌, ◌+◌, ◌/◌, ◌^◌, ◌<◌, ◌==◌, nat_lt, List, [], ◌∷◌, ◌++◌, length, map, take, drop, Result, Ok, Err, if◌then◌else◌}
+use Rattle.std.specs.List.{AllByRecursion, concat, flat_map}
 use Rattle.byteorder.specs.Endian.{little_bytes, little_number}
+use Rattle.emit_append.specs.Packed.{FitBlock}
+use Rattle.emit_append.specs.Packing.{packed}
 
 -- a record as a frame: its length in two bytes, the lower first, and its bytes
 abbrev pub framed : List ℕ → List ℕ
@@ -62,3 +64,11 @@ blocks_at (suc count) block at bytes = and_then (block_at at (take block bytes))
 -- the records of the blocks that these bytes are
 abbrev pub unpacked : ℕ → List ℕ → Reading
 unpacked block bytes = blocks_at (length bytes / block) block 0 bytes
+
+-- What is packed of groups that hold frames reads back as the records of all of them, in order.
+abbrev pub PackedFramesReadBack : Type 0
+PackedFramesReadBack =
+    (block : ℕ) (groups : List (List (List ℕ))) → 0 < block → block < 2 ^ 16 →
+    AllByRecursion (λ records. AllByRecursion (λ bytes. 0 < length bytes) records) groups →
+    FitBlock block (map group_of groups) →
+    unpacked block (concat (packed block (map group_of groups))) ≡ Ok (flat_map (λ records. records) groups)

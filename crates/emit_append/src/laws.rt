@@ -1,5 +1,6 @@
 //! Laws of the definitions: what they mean, in words of their own.
 
+ghost use Rattle.emit_append.specs.Frames.{PackedFramesReadBack};
 ghost use Rattle.emit_append.specs.Need.{NeedIsEnough};
 ghost use Rattle.emit_append.specs.Packed.{PackedAsDescribed, PackingGoesOn};
 ghost use Rattle.emit_append.specs.Packer.{PuttingIsPacking};
@@ -24,4 +25,9 @@ pub fn putting_is_packing()
 /// No packing of groups has more blocks than `need` tells.
 pub fn need_is_enough()
     ensures { NeedIsEnough }
+{}
+
+/// What is packed of groups of frames reads back as the records of all of them, in order.
+pub fn packed_frames_read_back()
+    ensures { PackedFramesReadBack }
 {}

@@ -34,12 +34,12 @@ impl Model for Packer {
 
 impl Packer {
     /// A packer for blocks of `block` bytes, with nothing pending.
-    pub fn new(block: usize) -> Packer
+    pub fn new(block: u32) -> Packer
         requires { IsBlockSize block }
         ensures { result ≡ new_packer block }
     {
         Packer {
-            block,
+            block: block as usize,
             pending: ArrayVec::new(),
         }
     }

@@ -14,14 +14,15 @@ use std::alloc::Global;
 /// Frames stand at the front of a block: two bytes of length, the lower first, and as many bytes.
 /// Where the length is 0, or fewer than two bytes are left, the rest of the block is zeros.
 /// Otherwise the fault tells the lowest byte that is refused, counted from the first of `bytes`.
-pub fn unpack(alloc: Global, bytes: &[u8], block: usize) -> Result<Vec<Vec<u8>>, UnpackFault>
+pub fn unpack(alloc: Global, bytes: &[u8], block: u32) -> Result<Vec<Vec<u8>>, UnpackFault>
     requires { IsBlockSize block }
     ensures { Gives (λ records. bytes_of records.items) result (unpacked block bytes.now) }
 {
+    let size = block as usize;
     let mut records = Vec::new(alloc);
     let mut rest = bytes;
-    while rest.len() >= block {
-        let (front, back) = rest.split_at(block);
+    while rest.len() >= size {
+        let (front, back) = rest.split_at(size);
         read_block(alloc, front, bytes.len() - rest.len(), &mut records)?;
         rest = back;
     }

@@ -1,7 +1,8 @@
-use Rattle.emit_append.proofs.Packings.{padded-zeros}
+use Rattle.emit_append.specs.declared.block.TheConstants.{LARGEST_BLOCK}
+use Rattle.emit_append.proofs.Padding.{padded-zeros}
 use Rattle.emit_append.proofs.packer.release.Goals as goal
 
 pub returns-clause-block : goal.returns-clause-block
 returns-clause-block c =
-    let zeros = padded-zeros c.args.block 4096 c.args.pending.now.items c.requires.small in
+    let zeros = padded-zeros c.args.block LARGEST_BLOCK c.args.pending.now.items c.requires.small in
     cc (zeros, c.append.ensures, c.take-full.ensures.value, c.len.ensures.value)

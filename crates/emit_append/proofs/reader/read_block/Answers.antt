@@ -1,6 +1,6 @@
-use Rattle.std.proofs.Common.{◌≡◌, ◌++◌, ◌∷◌, [], take, drop, ◌∙◌, ap, subst, arith}
+use Rattle.std.proofs.Common.{◌≡◌, ◌++◌, ◌∷◌, [], take, drop, ◌∙◌, ap, arith}
 use Rattle.std.proofs.lemmas.List.{map_push}
-use Rattle.emit_append.specs.Unpacking.{Gives, bytes_of}
+use Rattle.emit_append.specs.Unpacking.{bytes_of}
 use Rattle.emit_append.proofs.Answered.{gives_records}
 use Rattle.emit_append.proofs.FramesRead.{frame_is, goes_on, is_short, is_zeros}
 use Rattle.emit_append.proofs.reader.read_block.Goals as goal
