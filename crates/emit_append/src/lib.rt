@@ -8,6 +8,8 @@ pub mod laws;
 mod packer;
 mod reader;
 mod room;
+#[cfg(test)]
+mod tests;
 
 pub use block::{BLOCK_SIZES, LARGEST_BLOCK, is_block_size};
 pub use fault::UnpackFault;
