@@ -6,14 +6,14 @@ ghost use Rattle.std.specs.Prelude.{◌≤◌, ◌<◌};
 mod work;
 
 use std::alloc::Global;
-use std::time::{Duration, Instant};
+use std::time::Instant;
 use std::{env, io};
-use work::{copy_groups, pack_groups};
+use work::{copy_all, copy_groups, pack_groups};
 
 /// The bytes of the groups of one round.
-const BYTES: usize = 1 << 20;
+const BYTES: usize = 1 << 16;
 
-const ROUNDS: usize = 200;
+const ROUNDS: usize = 2000;
 
 /// With no word it prints what is packed, with a word the rate of packing as a part of the rate of
 /// copying, each the best of many rounds.
@@ -24,7 +24,8 @@ fn main(rt: HostRuntime) -> io::Result<()> {
         if timed {
             compare(&rt, &source, length)?;
         } else {
-            let blocks = pack_groups(&source, length);
+            let mut target = [0u8; 4096];
+            let blocks = pack_groups(&source, length, &mut target);
             println!(rt; "groups of {length} bytes fill {blocks} blocks")?;
         }
     }
@@ -44,22 +45,35 @@ fn compare(rt: &HostRuntime, source: &[u8], length: usize) -> io::Result<()>
     requires fits { length ≤ 4096 }
 {
     let mut target = Vec::from_slice(rt.alloc(), source)?;
-    let mut packing = Duration::MAX;
-    let mut copying = Duration::MAX;
+    let mut packing = u64::MAX;
+    let mut copying = u64::MAX;
+    let mut whole = u64::MAX;
     let mut seen = 0u64;
     for _ in 0..ROUNDS {
         let start = Instant::now(rt)?;
-        seen = seen.wrapping_add(pack_groups(source, length));
-        packing = packing.min(start.elapsed(rt)?);
+        seen = seen.wrapping_add(pack_groups(source, length, &mut target));
+        packing = packing.min(nanos_since(rt, start)?);
 
         let start = Instant::now(rt)?;
         seen = seen.wrapping_add(copy_groups(source, length, &mut target));
-        copying = copying.min(start.elapsed(rt)?);
+        copying = copying.min(nanos_since(rt, start)?);
+
+        let start = Instant::now(rt)?;
+        seen = seen.wrapping_add(copy_all(source, &mut target));
+        whole = whole.min(nanos_since(rt, start)?);
     }
-    let percent = nanos(copying).saturating_mul(100) / nanos(packing).max(1);
-    println!(rt; "groups of {length} bytes: packed at {percent} % of the rate of a copy ({seen})")
+    println!(rt;
+        "groups of {length} bytes: packed at {} % of the rate of a copy group by group, {} % of one copy of all ({seen} seen)",
+        percent(copying, packing),
+        percent(whole, packing)
+    )
 }
 
-fn nanos(time: Duration) -> u64 {
-    u64::try_from(time.as_nanos()).unwrap_or(u64::MAX)
+/// The rate of what took the second time, as a part of the rate of what took the first.
+fn percent(first: u64, second: u64) -> u64 {
+    first.saturating_mul(100) / second.max(1)
+}
+
+fn nanos_since(rt: &HostRuntime, start: Instant) -> io::Result<u64> {
+    Ok(u64::try_from(start.elapsed(rt)?.as_nanos()).unwrap_or(u64::MAX))
 }

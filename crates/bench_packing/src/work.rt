@@ -1,13 +1,14 @@
 //! The two things that are compared.
 
-ghost use Rattle.std.specs.Prelude.{◌≤◌, ◌<◌};
+ghost use Rattle.std.specs.Prelude.{◌≡◌, ◌≤◌, ◌<◌, length};
 
 use emit_append::{Full, Packer};
 
 const BLOCK: u32 = 4096;
 
-/// Packs the whole groups of this length in the bytes, and answers how many blocks they fill.
-pub fn pack_groups(bytes: &[u8], length: usize) -> u64
+/// Packs the whole groups of this length in the bytes, puts each block into the target as it
+/// comes, and answers how many blocks there are.
+pub fn pack_groups(bytes: &[u8], length: usize, target: &mut [u8]) -> u64
     requires some { 0 < length }
     requires fits { length ≤ 4096 }
 {
@@ -17,20 +18,22 @@ pub fn pack_groups(bytes: &[u8], length: usize) -> u64
     while rest.len() >= length {
         let (group, after) = rest.split_at(length);
         if let Some(full) = packer.put(group) {
-            blocks = blocks.wrapping_add(look(&full));
+            keep(&full, target);
+            blocks = blocks.wrapping_add(1);
         }
         rest = after;
     }
-    match packer.finish() {
-        Some(full) => blocks.wrapping_add(look(&full)),
-        None => blocks,
+    if let Some(full) = packer.finish() {
+        keep(&full, target);
+        blocks = blocks.wrapping_add(1);
     }
+    blocks
 }
 
-/// One, for a block that is there.
-#[inline(never)]
-fn look(full: &Full) -> u64 {
-    u64::from(full.len() as u32 == BLOCK)
+fn keep(full: &Full, target: &mut [u8]) {
+    if full.len() <= target.len() {
+        target[..full.len()].copy_from_slice(full.as_slice());
+    }
 }
 
 /// Copies the same groups, one after another.
@@ -45,4 +48,12 @@ pub fn copy_groups(bytes: &[u8], length: usize, target: &mut [u8]) -> u64
         copied = copied.wrapping_add(1);
     }
     copied
+}
+
+/// Copies all of the bytes at once.
+pub fn copy_all(bytes: &[u8], target: &mut [u8]) -> u64
+    requires { length bytes.now ≡ length target.old }
+{
+    target.copy_from_slice(bytes);
+    target.first().map_or(0, |byte| u64::from(*byte))
 }

@@ -1,6 +1,7 @@
 //! The packer, which keeps one output block.
 
-ghost use Rattle.std.specs.Prelude.{◌≡◌, ◌≤◌, ◌+◌, [], ◌∷◌, ◌++◌, length};
+ghost use Rattle.std.specs.Prelude.{◌≡◌, ◌≤◌, ◌+◌, [], ◌∷◌, ◌++◌, length, IfSome};
+ghost use Rattle.arrayvec.specs.ArrayVec.{array_vec_len};
 ghost use Rattle.emit_append.specs.BlockSize.{IsBlockSize};
 ghost use Rattle.emit_append.specs.Packer.{after_put, blocks_of, given_by_finish, given_by_put, new_packer};
 ghost use Rattle.emit_append.specs.Packing.{padded};
@@ -51,6 +52,7 @@ impl Packer {
         requires { length group.now ≤ self.old.block }
         ensures blocks { blocks_of result ≡ given_by_put self.old group.now }
         ensures state { self.new ≡ after_put self.old group.now }
+        ensures whole { IfSome result (λ full. array_vec_len full ≡ self.old.block) }
         ensures fits { length self.new.pending ≤ self.new.block }
     {
         if group.len() <= self.block - self.pending.len() {
@@ -66,6 +68,7 @@ impl Packer {
     pub fn finish(&mut self) -> Option<Full>
         ensures blocks { blocks_of result ≡ given_by_finish self.old }
         ensures state { self.new ≡ new_packer self.old.block }
+        ensures whole { IfSome result (λ full. array_vec_len full ≡ self.old.block) }
     {
         if self.pending.is_empty() {
             return None;
@@ -86,6 +89,7 @@ fn release(pending: &mut Full, block: usize) -> Full
     requires fits { length pending.old.items ≤ block }
     requires small { block ≤ LARGEST_BLOCK }
     ensures block { result.items ≡ padded block pending.old.items }
+    ensures whole { array_vec_len result ≡ block }
     ensures left { pending.new.items ≡ [] }
 {
     let mut full = pending.take();
