@@ -4,7 +4,7 @@ use Rattle.std.specs.List.{AllByRecursion, concat, flat_map}
 use Rattle.std.proofs.lemmas.Bool.{cases_lt}
 use Rattle.std.proofs.lemmas.Bool.Decides.{nat_tests}
 use Rattle.std.proofs.lemmas.Grind.{flat_map-append}
-use Rattle.std.proofs.lemmas.List.{drop-drop, drop_at, length-replicate, take_at}
+use Rattle.std.proofs.lemmas.List.{drop-drop, drop_at, take_at}
 use Rattle.std.proofs.Math.Nat.{mul-div_cancel, suc-mul}
 use Rattle.byteorder.specs.Endian.{little_number}
 use Rattle.byteorder.specs.Numbers.{little_number-reads_back}
@@ -12,6 +12,7 @@ use Rattle.emit_append.specs.Packed.{FitBlock}
 use Rattle.emit_append.specs.Packing.{Layout, behind, beginning, laid_out, packed, padded}
 use Rattle.emit_append.specs.Frames.{PackedFramesReadBack, block_at, blocks_at, frame_length, framed, group_of, then_read, unpacked, zeros_at}
 use Rattle.emit_append.proofs.Layouts.{laid-behind, laid-beginning}
+use Rattle.emit_append.proofs.Padding.{length-padded}
 use Rattle.emit_append.proofs.FramesRead.{block-frame, block-zeros}
 
 -- records that frames can hold
@@ -111,9 +112,6 @@ grouped block room (g ∷ gs) are fit =
 none_in_front : (records : List (List ℕ)) → length (group_of records) ≤ 0 → records ≡ []
 none_in_front [] none = refl
 none_in_front (bytes ∷ records) none = absurd (omega arith)
-
-length-padded : (block : ℕ) (bytes : List ℕ) → length bytes ≤ block → length (padded block bytes) ≡ block
-length-padded block bytes fits = omega (arith, length-append bytes (replicate (block - length bytes) 0), length-replicate (block - length bytes) (◌+◌ 0 0))
 
 -- blocks of frames, one after another
 blocks-read : (block at : ℕ) (parts : List (List (List ℕ))) → AllByRecursion AreRecords parts → AllByRecursion (λ part. length (group_of part) ≤ block) parts →
