@@ -1,0 +1,116 @@
+-- Reading a block frame by frame, and blocks one after another.
+use Rattle.std.proofs.Common.{◌≡◌, ℕ, zero, suc, ◌+◌, ◌-◌, ◌/◌, ◌≤◌, ◌<◌, List, [], ◌∷◌, ◌++◌, length, take, drop, Ok, Err, refl, ap, sym, ◌∙◌, arith, rules, add-one, length-drop, append_assoc, ⊎_elim}
+use Rattle.std.proofs.Math.Nat.{add-div_right}
+use Rattle.std.proofs.lemmas.Bool.{cases_lt}
+use Rattle.std.proofs.lemmas.Bool.Decides.{nat_tests}
+use Rattle.std.proofs.lemmas.List.{drop-take, length-take-le, take-take}
+use Rattle.emit_append.specs.Frames.{Reading, after_frame, and_then, block_at, blocks_at, frame_length, frame_record, frames_at, then_read, zeros_at}
+
+pub then_read-none : (reading : Reading) → then_read [] reading ≡ reading
+then_read-none (Ok records) = refl
+then_read-none (Err at) = refl
+
+pub then_read-append : (first second : List (List ℕ)) (reading : Reading) → then_read (first ++ second) reading ≡ then_read first (then_read second reading)
+then_read-append first second (Ok records) = ap Ok (append_assoc first second records)
+then_read-append first second (Err at) = refl
+
+-- one step, by what stands in front
+module _ (steps at : ℕ) (rest : List ℕ) where
+  step-zeros : frame_length rest ≡ 0 → frames_at (suc steps) at rest ≡ zeros_at at rest
+  unfolding frames_at
+  step-zeros none = search (rules, nat_tests)
+
+  step-short : 0 < frame_length rest → length rest < 2 + frame_length rest → frames_at (suc steps) at rest ≡ Err at
+  unfolding frames_at
+  step-short some short = search (rules, nat_tests)
+
+  step-frame : 0 < frame_length rest → 2 + frame_length rest ≤ length rest → frames_at (suc steps) at rest ≡ then_read (frame_record rest ∷ []) (frames_at steps (at + (2 + frame_length rest)) (after_frame rest))
+  unfolding frames_at
+  step-frame some long = search (rules, nat_tests)
+
+-- enough steps are as good as any
+same_steps : (first second at : ℕ) (rest : List ℕ) → length rest ≤ first → length rest ≤ second → frames_at first at rest ≡ frames_at second at rest
+unfolding frames_at
+same_steps zero zero at rest few more = refl
+same_steps zero (suc second) at [] few more = sym (step-zeros second at [] refl)
+same_steps zero (suc second) at (x ∷ xs) few more = absurd (omega arith)
+same_steps (suc first) zero at [] few more = step-zeros first at [] refl
+same_steps (suc first) zero at (x ∷ xs) few more = absurd (omega arith)
+same_steps (suc first) (suc second) at rest few more =
+    ⊎_elim
+    (λ some.
+    ⊎_elim
+    (λ short. step-short first at rest some short ∙ sym (step-short second at rest some short))
+    (λ long.
+    let left = length-drop (2 + frame_length rest) rest in
+    step-frame first at rest some long
+    ∙ ap (then_read (frame_record rest ∷ [])) (same_steps first second (at + (2 + frame_length rest)) (after_frame rest) (omega arith) (omega arith))
+    ∙ sym (step-frame second at rest some long))
+    (cases_lt (length rest) (2 + frame_length rest)))
+    (λ none. let zero_length : frame_length rest ≡ 0 = omega arith in step-zeros first at rest zero_length ∙ sym (step-zeros second at rest zero_length))
+    (cases_lt 0 (frame_length rest))
+
+-- what is left of a block, by what stands in front
+pub block-zeros : (at : ℕ) (rest : List ℕ) → frame_length rest ≡ 0 → block_at at rest ≡ zeros_at at rest
+unfolding frames_at
+block-zeros at [] none = refl
+block-zeros at (x ∷ xs) none = step-zeros (length xs) at (x ∷ xs) none
+
+pub block-short : (at : ℕ) (rest : List ℕ) → 0 < frame_length rest → length rest < 2 + frame_length rest → block_at at rest ≡ Err at
+block-short at [] some short = absurd (omega arith)
+block-short at (x ∷ xs) some short = step-short (length xs) at (x ∷ xs) some short
+
+pub block-frame : (at : ℕ) (rest : List ℕ) → 0 < frame_length rest → 2 + frame_length rest ≤ length rest →
+    block_at at rest ≡ then_read (frame_record rest ∷ []) (block_at (at + (2 + frame_length rest)) (after_frame rest))
+block-frame at [] some long = absurd (omega arith)
+block-frame at (x ∷ xs) some long =
+    let left = length-drop (2 + frame_length (x ∷ xs)) (x ∷ xs) in
+    step-frame (length xs) at (x ∷ xs) some long
+    ∙ ap (then_read (frame_record (x ∷ xs) ∷ [])) (same_steps (length xs) (length (after_frame (x ∷ xs))) (at + (2 + frame_length (x ∷ xs))) (after_frame (x ∷ xs)) (omega arith) (omega arith))
+
+-- the same after some records, where a block's reading is all
+module _ (records : List (List ℕ)) (all : Reading) (place n : ℕ) (rest : List ℕ) (front : n ≡ frame_length rest) (read : then_read records (block_at place rest) ≡ all) where
+  pub is_short : 0 < n → length rest < 2 + n → all ≡ Err place
+  is_short some short = sym read ∙ ap (then_read records) (block-short place rest (rw (← front) some) (rw (← front) short))
+
+  pub goes_on : 0 < n → 2 + n ≤ length rest → then_read (records ++ take n (drop 2 rest) ∷ []) (block_at (place + (2 + n)) (drop (2 + n) rest)) ≡ all
+  goes_on some long =
+      let one = block-frame place rest (rw (← front) some) (rw (← front) long) in
+      then_read-append records (take n (drop 2 rest) ∷ []) (block_at (place + (2 + n)) (drop (2 + n) rest))
+      ∙ ap (then_read records) (rw front (sym one)) ∙ read
+
+  pub is_zeros : n ≡ 0 → all ≡ then_read records (zeros_at place rest)
+  is_zeros none = sym read ∙ ap (then_read records) (block-zeros place rest (sym front ∙ none))
+
+-- the bytes behind the two in front of a frame
+pub frame_is : (n : ℕ) (rest frame bytes : List ℕ) → 2 + n ≤ length rest → frame ≡ take (2 + n) rest → bytes ≡ take (length frame - 2) (drop 2 frame) → bytes ≡ take n (drop 2 rest)
+frame_is n rest frame bytes long is behind =
+    let count : length frame - 2 ≡ n = omega (arith, ap length is, length-take-le (2 + n) rest long) in
+    let cut : drop 2 frame ≡ take n (drop 2 rest) = ap (drop 2) is ∙ drop-take 2 n rest in
+    behind ∙ rw (count, cut) (take-take n n (drop 2 rest) (omega arith))
+
+pub more_blocks : (block at : ℕ) (rest : List ℕ) → 0 < block → block ≤ length rest →
+    blocks_at (length rest / block) block at rest ≡ and_then (block_at at (take block rest)) (blocks_at (length (drop block rest) / block) block (at + block) (drop block rest))
+unfolding blocks_at
+more_blocks block at rest some long =
+    let whole : length rest ≡ length (drop block rest) + block = omega (arith, length-drop block rest) in
+    let count : length rest / block ≡ suc (length (drop block rest) / block) = ap (λ n. n / block) whole ∙ add-div_right (length (drop block rest)) some ∙ add-one _ in
+    rw count refl
+
+pub no_more_blocks : (block at : ℕ) → blocks_at 0 block at [] ≡ Ok []
+unfolding blocks_at
+no_more_blocks block at = refl
+
+pub part_of_block : (block at : ℕ) (rest : List ℕ) → 0 < length rest → blocks_at 0 block at rest ≡ Err at
+unfolding blocks_at
+part_of_block block at [] some = absurd (omega arith)
+part_of_block block at (x ∷ xs) some = refl
+
+-- a block's reading, and the blocks' after it
+pub and_then-ok : (records new : List (List ℕ)) (first rest : Reading) → then_read records first ≡ Ok new → then_read new rest ≡ then_read records (and_then first rest)
+and_then-ok records new (Ok more) rest is = let same : new ≡ records ++ more = cc in rw same (then_read-append records more rest)
+and_then-ok records new (Err at) rest is = cc
+
+pub and_then-err : (records : List (List ℕ)) (first rest : Reading) (place : ℕ) → then_read records first ≡ Err place → then_read records (and_then first rest) ≡ Err place
+and_then-err records (Ok more) rest place is = cc
+and_then-err records (Err at) rest place is = is

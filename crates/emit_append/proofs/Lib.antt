@@ -1,0 +1,10 @@
+pub mod Answered
+pub mod BlockSizes
+pub mod Continuing
+pub mod FramesRead
+pub mod Layouts
+pub mod Needs
+pub mod Padding
+pub mod Parts
+pub mod Puts
+pub mod ReadBack

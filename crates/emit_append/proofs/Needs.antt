@@ -1,0 +1,78 @@
+-- No packing needs more blocks than `need` tells.
+use Rattle.std.proofs.Common.{◌≡◌, ℕ, zero, suc, ◌+◌, ◌-◌, ◌*◌, ◌/◌, ◌≤◌, ◌<◌, List, [], ◌∷◌, length, refl, ap, ◌∙◌, arith, rules, inl, inr, ⊎_elim, ◌⊎◌}
+use Rattle.std.specs.Int.{div_ceil}
+use Rattle.std.specs.List.{AllByRecursion}
+use Rattle.std.proofs.Math.Nat.{div-mul-le_self, lt_of_mul-lt-mul_left, mul-suc, mul_comm, suc-mul}
+use Rattle.std.proofs.lemmas.Bool.{cases_lt}
+use Rattle.std.proofs.lemmas.List.{length-map}
+use Rattle.std.proofs.lemmas.Nat.{le-div}
+use Rattle.std.proofs.lemmas.Bool.Decides.{nat_tests}
+use Rattle.std.proofs.lemmas.Grind.{div_ceil_times}
+use Rattle.emit_append.specs.Packing.{laid_out, filled, padded}
+use Rattle.emit_append.specs.Need.{NeedIsEnough, need}
+use Rattle.emit_append.proofs.Layouts.{laid-behind, laid-beginning, laid-empty}
+
+zero_or_more : (a l : ℕ) → (a * l ≡ 0) ⊎ (a ≤ a * l)
+zero_or_more a zero = inl (omega arith)
+zero_or_more a (suc l) = inr (omega (arith, mul-suc a l))
+
+-- none that may be as long as the group fits where the group doesn't
+none_fits : (fit limit room long : ℕ) → fit * limit ≤ room → room < long → long ≤ limit → fit ≡ 0
+none_fits zero limit room long fits longer within = refl
+none_fits (suc fit) limit room long fits longer within = absurd (omega (arith, suc-mul fit limit))
+
+one_less : (fit limit room long : ℕ) → fit * limit ≤ room → long ≤ limit → (fit - 1) * limit ≤ room - long
+one_less zero limit room long fits within = omega arith
+one_less (suc fit) limit room long fits within = let left : suc fit - 1 ≡ fit = omega arith in rw left (omega (arith, suc-mul fit limit))
+
+one_block_more : (e more later : ℕ) → suc e * later ≤ (more - e) + e → suc e * suc later ≤ (suc more - 0) + e
+one_block_more e more later few =
+    ⊎_elim
+    (λ none. omega (arith, mul-suc (suc e) later, none))
+    (λ some. omega (arith, mul-suc (suc e) later, some))
+    (zero_or_more (suc e) later)
+
+-- Groups of at most limit bytes, `suc e` of which fit into a block and `fit` into the room that is left, begin few blocks.
+blocks-few : (block limit e room fit : ℕ) (groups : List (List ℕ)) → suc e * limit ≤ block → fit * limit ≤ room →
+    AllByRecursion (λ group. length group ≤ limit) groups →
+    suc e * length (laid_out block room groups).later ≤ (length groups - fit) + e
+blocks-few block limit e room fit [] each fits all = omega arith
+blocks-few block limit e room fit (g ∷ gs) each fits all =
+    ⊎_elim
+    (λ large.
+    let rest = blocks-few block limit e (block - length g) e gs each (omega (arith, suc-mul e limit, all.0)) all.1 in
+    rw (none_fits fit limit room (length g) fits large all.0, laid-beginning block room g gs large)
+    (one_block_more e (length gs) (length (laid_out block (block - length g) gs).later) rest))
+    (λ small. rw (laid-behind block room g gs small) (omega (arith, blocks-few block limit e (room - length g) (fit - 1) gs each (one_less fit limit room (length g) fits all.0) all.1)))
+    (cases_lt room (length g))
+
+-- where no group has a byte, no block is begun
+none_begun : (block room : ℕ) (groups : List (List ℕ)) → AllByRecursion (λ group. length group ≤ 0) groups → (laid_out block room groups).later ≡ []
+none_begun block room [] all = refl
+none_begun block room ([] ∷ gs) all = ap (λ l. l.later) (laid-empty block room gs) ∙ none_begun block room gs all.1
+none_begun block room ((x ∷ xs) ∷ gs) all = absurd (omega (arith, all.0))
+
+quotient_below : (many groups e : ℕ) → suc e * many ≤ groups + e → many ≤ div_ceil groups (suc e)
+quotient_below many groups e few =
+    let whole = div_ceil_times groups (suc e) (omega arith) in
+    let turned = mul_comm (div_ceil groups (suc e)) (suc e) in
+    let more = mul-suc (suc e) (div_ceil groups (suc e)) in
+    let below : suc e * many < suc e * suc (div_ceil groups (suc e)) = omega (arith, whole.0) in
+    omega (arith, lt_of_mul-lt-mul_left (suc e) below)
+
+filled-few : (block limit each : ℕ) (groups : List (List ℕ)) → 0 < each → each * limit ≤ block → AllByRecursion (λ group. length group ≤ limit) groups →
+    length (filled block groups) ≤ div_ceil (length groups) each
+filled-few block limit zero groups some fits all = absurd (omega arith)
+filled-few block limit (suc e) groups some fits all =
+    quotient_below (length (filled block groups)) (length groups) e (omega (arith, blocks-few block limit e 0 0 groups fits (omega arith) all))
+
+-- what `need` is where a group may have bytes
+need-some : (groups limit block : ℕ) → need groups (suc limit) block ≡ div_ceil groups (block / suc limit)
+need-some groups limit block = search (rules, nat_tests)
+
+pub need_is_enough : NeedIsEnough
+need_is_enough block zero groups within all = omega (arith, length-map (filled block groups) (padded block), ap length (none_begun block 0 groups all))
+need_is_enough block (suc limit) groups within all =
+    let some : 0 < block / suc limit = le-div 1 block (suc limit) (omega arith) (omega arith) in
+    let few = filled-few block (suc limit) (block / suc limit) groups some (div-mul-le_self block (suc limit)) all in
+    rw (need-some (length groups) limit block, length-map (filled block groups) (padded block)) few

@@ -1,0 +1,5 @@
+use Rattle.emit_append.proofs.Parts.{packed_as_described}
+use Rattle.emit_append.proofs.laws.packed_as_described.Goals as goal
+
+pub returns : goal.returns
+returns c = packed_as_described

@@ -1,0 +1,74 @@
+-- Frames in output blocks, and how they are read back (profile).
+use Rattle.std.specs.Prelude.{ℕ, zero, suc, ◌≡◌, ◌+◌, ◌/◌, ◌^◌, ◌<◌, ◌==◌, nat_lt, List, [], ◌∷◌, ◌++◌, length, map, take, drop, Result, Ok, Err, if◌then◌else◌}
+use Rattle.std.specs.List.{AllByRecursion, concat, flat_map}
+use Rattle.byteorder.specs.Endian.{little_bytes, little_number}
+use Rattle.emit_append.specs.Packed.{FitBlock}
+use Rattle.emit_append.specs.Packing.{packed}
+
+-- a record as a frame: its length in two bytes, the lower first, and its bytes
+abbrev pub framed : List ℕ → List ℕ
+framed bytes = little_bytes 2 (length bytes) ++ bytes
+
+-- records as a group: their frames in order
+abbrev pub group_of : List (List ℕ) → List ℕ
+group_of records = flat_map framed records
+
+-- the records, or the place of the first byte that is refused
+abbrev pub Reading : Type 0
+Reading = Result (List (List ℕ)) ℕ
+
+-- these records, and those that are read after them
+abbrev pub then_read : List (List ℕ) → Reading → Reading
+then_read records (Ok more) = Ok (records ++ more)
+then_read records (Err at) = Err at
+
+-- The bytes after the last frame hold no record, and have to be zeros.
+abbrev pub zeros_at : ℕ → List ℕ → Reading
+zeros_at at [] = Ok []
+zeros_at at (byte ∷ rest) = if byte == 0 then zeros_at (at + 1) rest else Err at
+
+-- the length that stands in front; 0 where no frame follows
+abbrev pub frame_length : List ℕ → ℕ
+frame_length rest = if nat_lt (length rest) 2 then 0 else little_number 2 rest
+
+-- the record behind the length in front, and the bytes after that frame
+abbrev pub frame_record : List ℕ → List ℕ
+frame_record rest = take (frame_length rest) (drop 2 rest)
+
+abbrev pub after_frame : List ℕ → List ℕ
+after_frame rest = drop (2 + frame_length rest) rest
+
+-- The frames from a place of a block on, where these bytes are left. Each step passes a frame, so as many steps as bytes are enough.
+unfoldable pub frames_at : ℕ → ℕ → List ℕ → Reading
+frames_at zero at rest = Ok []
+frames_at (suc steps) at rest =
+    if frame_length rest == 0 then zeros_at at rest else
+    if nat_lt (length rest) (2 + frame_length rest) then Err at else
+    then_read (frame_record rest ∷ []) (frames_at steps (at + (2 + frame_length rest)) (after_frame rest))
+
+-- the records of a block whose first byte is at this place
+abbrev pub block_at : ℕ → List ℕ → Reading
+block_at at block = frames_at (length block) at block
+
+-- what is read in one block, and then in what follows it
+abbrev pub and_then : Reading → Reading → Reading
+and_then (Ok records) rest = then_read records rest
+and_then (Err at) rest = Err at
+
+-- so many blocks from a place on, after which nothing may follow
+unfoldable pub blocks_at : ℕ → ℕ → ℕ → List ℕ → Reading
+blocks_at zero block at [] = Ok []
+blocks_at zero block at (byte ∷ rest) = Err at
+blocks_at (suc count) block at bytes = and_then (block_at at (take block bytes)) (blocks_at count block (at + block) (drop block bytes))
+
+-- the records of the blocks that these bytes are
+abbrev pub unpacked : ℕ → List ℕ → Reading
+unpacked block bytes = blocks_at (length bytes / block) block 0 bytes
+
+-- What is packed of groups that hold frames reads back as the records of all of them, in order.
+abbrev pub PackedFramesReadBack : Type 0
+PackedFramesReadBack =
+    (block : ℕ) (groups : List (List (List ℕ))) → 0 < block → block < 2 ^ 16 →
+    AllByRecursion (λ records. AllByRecursion (λ bytes. 0 < length bytes) records) groups →
+    FitBlock block (map group_of groups) →
+    unpacked block (concat (packed block (map group_of groups))) ≡ Ok (flat_map (λ records. records) groups)

@@ -1,0 +1,44 @@
+-- What the packing of groups is, said of its blocks: the groups that have bytes stand in them whole and in order, at least one in each, the rest of a block is zeros, and the next group is longer than that rest.
+use Rattle.std.specs.Prelude.{◌≡◌, ◌↔◌, ℕ, ◌-◌, ◌≤◌, ◌<◌, Bool, true, false, List, [], ◌∷◌, ◌++◌, length, map, filter}
+use Rattle.std.specs.List.{AllByRecursion, concat, flat_map}
+use Rattle.emit_append.specs.Packing.{packed, padded, pending_of, released}
+
+abbrev pub has_bytes : List ℕ → Bool
+has_bytes [] = false
+has_bytes (x ∷ xs) = true
+
+abbrev pub with_bytes : List (List ℕ) → List (List ℕ)
+with_bytes groups = filter has_bytes groups
+
+-- the first group of the blocks that follow, if there is one, is longer than so much room
+abbrev pub NextIsLonger : ℕ → List (List (List ℕ)) → Type 0
+NextIsLonger room ((group ∷ groups) ∷ parts) = room < length group
+NextIsLonger room _ = Unit {0}
+
+abbrev pub EachNextIsLonger : ℕ → List (List (List ℕ)) → Type 0
+EachNextIsLonger block [] = Unit {0}
+EachNextIsLonger block (part ∷ parts) = NextIsLonger (block - length (concat part)) parts × EachNextIsLonger block parts
+
+-- parts: the groups of each block
+pub record ArePacked (block : ℕ) (groups blocks : List (List ℕ)) : Type 0 where
+  pub parts : List (List (List ℕ))
+  pub whole_in_order : flat_map (λ part. part) parts ≡ with_bytes groups
+  pub at_least_one : AllByRecursion (λ part. 0 < length part) parts
+  pub fits : AllByRecursion (λ part. length (concat part) ≤ block) parts
+  pub next_is_longer : EachNextIsLonger block parts
+  pub rest_is_zeros : blocks ≡ map (padded block) (map concat parts)
+
+abbrev pub FitBlock : ℕ → List (List ℕ) → Type 0
+FitBlock block groups = AllByRecursion (λ group. length group ≤ block) groups
+
+-- The packing of groups that each fit into a block is what is said above, and nothing else is.
+abbrev pub PackedAsDescribed : Type 0
+PackedAsDescribed =
+    (block : ℕ) (groups blocks : List (List ℕ)) → FitBlock block groups →
+    ArePacked block groups blocks ↔ (blocks ≡ packed block groups)
+
+-- Packing goes on from the pending bytes as from a first group, after the blocks released.
+abbrev pub PackingGoesOn : Type 0
+PackingGoesOn =
+    (block : ℕ) (before after : List (List ℕ)) →
+    packed block (before ++ after) ≡ released block before ++ packed block (pending_of block before ∷ after)

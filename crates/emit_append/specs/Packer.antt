@@ -1,0 +1,57 @@
+-- What a packer is seen as, and what its calls give, in the words of the packing.
+use Rattle.std.specs.Prelude.{◌≡◌, ℕ, ◌≤◌, List, [], ◌∷◌, ◌++◌, length, Option, None, Some}
+use Rattle.arrayvec.specs.ArrayVec.{ArrayVec}
+use Rattle.emit_append.specs.BlockSize.{IsBlockSize}
+use Rattle.emit_append.specs.Packing.{packed, pending_of, released}
+
+-- the size of its blocks, and the bytes of the block that it hasn't released yet
+pub record PackerState : Type 0 where
+  pub block : ℕ
+  pub pending : List ℕ
+
+pub record IsPacker (block : ℕ) (pending : List ℕ) : Type 0 where
+  pub size : IsBlockSize block
+  pub fits : length pending ≤ block
+
+abbrev pub new_packer : ℕ → PackerState
+new_packer block = record { block = block; pending = [] }
+
+-- The pending bytes count as one group, and what a call gives is the packing of that group and the next.
+abbrev pub given_by_put : PackerState → List ℕ → List (List ℕ)
+given_by_put packer group = released packer.block (packer.pending ∷ group ∷ [])
+
+abbrev pub after_put : PackerState → List ℕ → PackerState
+after_put packer group = record {
+  block = packer.block;
+  pending = pending_of packer.block (packer.pending ∷ group ∷ []);
+}
+
+abbrev pub given_by_finish : PackerState → List (List ℕ)
+given_by_finish packer = packed packer.block (packer.pending ∷ [])
+
+-- the blocks that a call gave: one or none
+abbrev pub blocks_of : Option (ArrayVec ℕ) → List (List ℕ)
+blocks_of None = []
+blocks_of (Some full) = full.items ∷ []
+
+-- groups put one after another: the blocks that the calls give, and what the packer is then
+abbrev pub given_by_puts : PackerState → List (List ℕ) → List (List ℕ)
+given_by_puts packer [] = []
+given_by_puts packer (group ∷ groups) = given_by_put packer group ++ given_by_puts (after_put packer group) groups
+
+abbrev pub after_puts : PackerState → List (List ℕ) → PackerState
+after_puts packer [] = packer
+after_puts packer (group ∷ groups) = after_puts (after_put packer group) groups
+
+-- a new packer's calls, for some groups put in order
+pub record ArePutsOf (block : ℕ) (groups : List (List ℕ)) : Type 0 where
+  -- they give all blocks of the groups but the last,
+  pub blocks : given_by_puts (new_packer block) groups ≡ released block groups
+  -- whose bytes are pending,
+  pub pending : after_puts (new_packer block) groups ≡ record { block = block; pending = pending_of block groups }
+  -- and finishing gives that one too
+  pub finished : given_by_puts (new_packer block) groups ++ given_by_finish (after_puts (new_packer block) groups) ≡ packed block groups
+
+-- Packing group by group gives the packing of the whole list.
+abbrev pub PuttingIsPacking : Type 0
+PuttingIsPacking = (block : ℕ) (groups : List (List ℕ)) → ArePutsOf block groups

@@ -1,0 +1,53 @@
+-- How groups of bytes stand in output blocks (profile): whole and in order, each in the block of the group before it where it still fits, the rest of a block zeros.
+use Rattle.std.specs.Prelude.{ℕ, ◌-◌, nat_le, List, [], ◌∷◌, ◌++◌, length, map, replicate, if◌then◌else◌}
+
+-- what groups add to a block begun, and the bytes of each block after it
+pub record Layout : Type 0 where
+  pub begun : List ℕ
+  pub later : List (List ℕ)
+
+-- a group in the block begun, before what is laid out after it
+abbrev pub behind : List ℕ → Layout → Layout
+behind group rest = record { begun = group ++ rest.begun; later = rest.later }
+
+-- a group that begins a block, before what is laid out after it
+abbrev pub beginning : List ℕ → Layout → Layout
+beginning group rest = record { begun = []; later = (group ++ rest.begun) ∷ rest.later }
+
+-- where groups go when so much room is left in the block begun; a group of no bytes always fits
+abbrev pub laid_out : ℕ → ℕ → List (List ℕ) → Layout
+laid_out block room [] = record { begun = []; later = [] }
+laid_out block room (group ∷ groups) =
+    if nat_le (length group) room then behind group (laid_out block (room - length group) groups)
+    else beginning group (laid_out block (block - length group) groups)
+
+-- the bytes that groups fill in each output block; no block is begun before the first of them
+abbrev pub filled : ℕ → List (List ℕ) → List (List ℕ)
+filled block groups = (laid_out block 0 groups).later
+
+-- a block of these bytes and zeros
+abbrev pub padded : ℕ → List ℕ → List ℕ
+padded block bytes = bytes ++ replicate (block - length bytes) 0
+
+-- the output blocks of groups
+abbrev pub packed : ℕ → List (List ℕ) → List (List ℕ)
+packed block groups = map (padded block) (filled block groups)
+
+abbrev pub all_but_last : List (List ℕ) → List (List ℕ)
+all_but_last [] = []
+all_but_last (x ∷ []) = []
+all_but_last (x ∷ y ∷ ys) = x ∷ all_but_last (y ∷ ys)
+
+-- the last, or no bytes
+abbrev pub last_or_empty : List (List ℕ) → List ℕ
+last_or_empty [] = []
+last_or_empty (x ∷ []) = x
+last_or_empty (x ∷ y ∷ ys) = last_or_empty (y ∷ ys)
+
+-- the blocks that no later group can change, since a block stands after them
+abbrev pub released : ℕ → List (List ℕ) → List (List ℕ)
+released block groups = all_but_last (packed block groups)
+
+-- the bytes in the last block, where later groups may still go
+abbrev pub pending_of : ℕ → List (List ℕ) → List ℕ
+pending_of block groups = last_or_empty (filled block groups)

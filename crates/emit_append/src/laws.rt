@@ -1,0 +1,33 @@
+//! Laws of the definitions: what they mean, in words of their own.
+
+ghost use Rattle.emit_append.specs.Frames.{PackedFramesReadBack};
+ghost use Rattle.emit_append.specs.Need.{NeedIsEnough};
+ghost use Rattle.emit_append.specs.Packed.{PackedAsDescribed, PackingGoesOn};
+ghost use Rattle.emit_append.specs.Packer.{PuttingIsPacking};
+
+/// The groups that have bytes stand in the blocks whole and in order, at least one in each, the
+/// rest of a block is zeros and shorter than the next group. This holds of the packing alone.
+pub fn packed_as_described()
+    ensures { PackedAsDescribed }
+{}
+
+/// Packing goes on from what is pending as from a first group.
+pub fn packing_goes_on()
+    ensures { PackingGoesOn }
+{}
+
+/// Groups put one after another give all blocks of their packing but the last, and finishing gives
+/// that one too.
+pub fn putting_is_packing()
+    ensures { PuttingIsPacking }
+{}
+
+/// No packing of groups has more blocks than `need` tells.
+pub fn need_is_enough()
+    ensures { NeedIsEnough }
+{}
+
+/// What is packed of groups of frames reads back as the records of all of them, in order.
+pub fn packed_frames_read_back()
+    ensures { PackedFramesReadBack }
+{}

@@ -1,0 +1,83 @@
+//! Reading output blocks back.
+
+ghost use Rattle.std.specs.Prelude.{◌≡◌, ◌+◌, ◌^◌, ◌<◌, [], length};
+ghost use Rattle.emit_append.specs.BlockSize.{IsBlockSize};
+ghost use Rattle.emit_append.specs.Frames.{block_at, frame_length as length_in_front, then_read, unpacked, zeros_at};
+ghost use Rattle.emit_append.specs.Unpacking.{Gives, bytes_of};
+
+use crate::fault::UnpackFault;
+use byteorder::{ByteOrder, LittleEndian};
+use std::alloc::Global;
+
+/// The records of the frames in output blocks of `block` bytes each, in order.
+///
+/// Frames stand at the front of a block: two bytes of length, the lower first, and as many bytes.
+/// Where the length is 0, or fewer than two bytes are left, the rest of the block is zeros.
+/// Otherwise the fault tells the lowest byte that is refused, counted from the first of `bytes`.
+pub fn unpack(alloc: Global, bytes: &[u8], block: u32) -> Result<Vec<Vec<u8>>, UnpackFault>
+    requires { IsBlockSize block }
+    ensures { Gives (λ records. bytes_of records.items) result (unpacked block bytes.now) }
+{
+    let size = block as usize;
+    let mut records = Vec::new(alloc);
+    let mut rest = bytes;
+    while rest.len() >= size {
+        let (front, back) = rest.split_at(size);
+        read_block(alloc, front, bytes.len() - rest.len(), &mut records)?;
+        rest = back;
+    }
+    if !rest.is_empty() {
+        return Err(UnpackFault::At(bytes.len() - rest.len()));
+    }
+    Ok(records)
+}
+
+/// Adds the records of a block, whose first byte is at place `at`.
+fn read_block(
+    alloc: Global,
+    block: &[u8],
+    at: usize,
+    records: &mut Vec<Vec<u8>>,
+) -> Result<(), UnpackFault>
+    requires { at + length block.now < 2 ^ 64 }
+    ensures { Gives (λ _. bytes_of records.new.items) result (then_read (bytes_of records.old.items) (block_at at block.now)) }
+{
+    let mut rest = block;
+    let mut place = at;
+    let mut length = frame_length(rest);
+    while length > 0 {
+        if rest.len() < 2 + length {
+            return Err(UnpackFault::At(place));
+        }
+        let (frame, after) = rest.split_at(2 + length);
+        records.push(Vec::from_slice(alloc, &frame[2..])?)?;
+        rest = after;
+        place += 2 + length;
+        length = frame_length(rest);
+    }
+    check_zeros(rest, place)
+}
+
+/// The length of the frame in front; 0 where no frame follows.
+fn frame_length(rest: &[u8]) -> usize
+    ensures value { result ≡ length_in_front rest.now }
+    ensures small { result < 2 ^ 16 }
+{
+    if rest.len() < 2 {
+        return 0;
+    }
+    usize::from(LittleEndian::read_u16(rest))
+}
+
+/// Refuses the first byte that isn't zero.
+fn check_zeros(rest: &[u8], at: usize) -> Result<(), UnpackFault>
+    requires { at + length rest.now < 2 ^ 64 }
+    ensures { Gives (λ _. []) result (zeros_at at rest.now) }
+{
+    for (i, byte) in rest.iter().enumerate() {
+        if *byte != 0 {
+            return Err(UnpackFault::At(at + i));
+        }
+    }
+    Ok(())
+}

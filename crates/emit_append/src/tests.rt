@@ -1,0 +1,116 @@
+//! The worked examples of packing and reading back.
+
+ghost use Rattle.std.specs.Prelude.{◌≤◌};
+
+use crate::{BLOCK_SIZES, Packer, UnpackFault, is_block_size, need, unpack};
+use std::alloc::{AllocError, Global};
+use std::test::Fail;
+
+/// A block of these bytes and zeros, and then one more byte.
+fn block_with(alloc: Global, front: &[u8], size: usize, last: u8) -> Result<Vec<u8>, AllocError>
+    requires { 1 ≤ size }
+{
+    let mut block = Vec::from_slice(alloc, front)?;
+    block.resize(size - 1, 0)?;
+    block.push(last)?;
+    Ok(block)
+}
+
+#[test]
+fn bounds_the_blocks(rt: HostRuntime) {
+    for (groups, limit, blocks) in [
+        (52, 10, 2),
+        (3, 512, 3),
+        (7, 200, 4),
+        (4, 257, 4),
+        (65536, 1, 128),
+        (9, 0, 0),
+    ] {
+        assert_eq!(rt;
+            need(groups, limit, 512),
+            blocks,
+            "for {groups} groups of {limit}"
+        );
+    }
+    assert_eq!(rt; need(65536, 4096, 4096), 65536);
+}
+
+#[test]
+fn knows_the_block_sizes(rt: HostRuntime) {
+    for size in BLOCK_SIZES {
+        assert!(rt; is_block_size(size), "{size}");
+        assert!(rt; !is_block_size(size + 1), "{size} and one");
+    }
+    assert!(rt; !is_block_size(0));
+}
+
+#[test]
+fn releases_a_block_that_the_next_group_passes(rt: HostRuntime) -> Result<(), Fail> {
+    let mut packer = Packer::new(512);
+    assert!(rt; packer.put(&[7; 300]).is_none());
+    assert!(rt; packer.put(&[]).is_none());
+    assert!(rt; packer.put(&[7; 212]).is_none());
+    let full = packer.put(&[8; 3]).expect(&rt, "a full block");
+    assert_eq!(rt; full.as_slice(), [7; 512].as_slice());
+    let rest = packer.finish().expect(&rt, "the pending block");
+    let expected = block_with(rt.alloc(), &[8; 3], 512, 0)?;
+    assert_eq!(rt; rest.as_slice(), expected.as_slice());
+    assert!(rt; packer.finish().is_none());
+    Ok(())
+}
+
+#[test]
+fn packs_the_largest_blocks(rt: HostRuntime) -> Result<(), Fail> {
+    let mut packer = Packer::new(4096);
+    assert!(rt; packer.put(&[1; 4096]).is_none());
+    let first = packer.put(&[2]).expect(&rt, "a full block");
+    assert_eq!(rt; first.as_slice(), [1; 4096].as_slice());
+    let second = packer.finish().expect(&rt, "the pending block");
+    let expected = block_with(rt.alloc(), &[2], 4096, 0)?;
+    assert_eq!(rt; second.as_slice(), expected.as_slice());
+    Ok(())
+}
+
+#[test]
+fn reads_what_fills_the_block(rt: HostRuntime) -> Result<(), Fail> {
+    for (front, last, records) in [
+        ([0x03, 0x00, b'a', b'b', b'c'], 0, Ok(3)),
+        ([0x03, 0x00, b'a', b'b', b'c'], 1, Err(UnpackFault::At(511))),
+        ([0xff, 0x01, 0, 0, 0], 0, Err(UnpackFault::At(0))),
+        ([0xfe, 0x01, 5, 5, 5], 5, Ok(510)),
+        ([0xfd, 0x01, 5, 5, 5], 0, Ok(509)),
+        ([0xfd, 0x01, 5, 5, 5], 5, Err(UnpackFault::At(511))),
+    ] {
+        let block = block_with(rt.alloc(), &front, 512, last)?;
+        let read = unpack(rt.alloc(), &block, 512);
+        match read {
+            Ok(read) => {
+                assert_eq!(rt; read.len(), 1);
+                assert_eq!(rt; Ok(read[0].len()), records);
+                assert_eq!(rt; block.get(2..2 + read[0].len()), Some(read[0].as_slice()));
+            }
+            Err(UnpackFault::Memory) => return Err(AllocError)?,
+            Err(fault) => assert_eq!(rt; Err(fault), records),
+        }
+    }
+    Ok(())
+}
+
+#[test]
+fn reads_block_after_block(rt: HostRuntime) -> Result<(), Fail> {
+    assert_eq!(rt; unpack(rt.alloc(), &[], 512)?.len(), 0);
+    let mut blocks = block_with(rt.alloc(), &[1, 0, 9, 2, 0, 8, 8], 4096, 0)?;
+    blocks.extend_from_slice(block_with(rt.alloc(), &[1, 0, 7], 4096, 0)?.as_slice())?;
+    let records = unpack(rt.alloc(), &blocks, 4096)?;
+    assert_eq!(rt; records.len(), 3);
+    assert_eq!(rt; records[0].as_slice(), [9].as_slice());
+    assert_eq!(rt; records[1].as_slice(), [8, 8].as_slice());
+    assert_eq!(rt; records[2].as_slice(), [7].as_slice());
+    blocks.push(0)?;
+    match unpack(rt.alloc(), &blocks, 4096) {
+        Err(UnpackFault::At(place)) => assert_eq!(rt; place, 8192),
+        Err(UnpackFault::Memory) => return Err(AllocError)?,
+        Ok(records) => panic!(rt; "{} records", records.len()),
+    }
+    Ok(())
+}
