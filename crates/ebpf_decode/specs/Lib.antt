@@ -1,3 +1,5 @@
 pub mod Program
 pub mod Spelling
 pub mod Codes
+pub mod Opcodes
+pub mod Faults

@@ -2,7 +2,8 @@
 
 ghost use Rattle.std.specs.Prelude.{◌≡◌, ◌<◌};
 ghost use Rattle.ebpf_decode.specs.Spelling.{arithmetic_class, extension_offset, extension_width, jump_class, kept_bits, operation_code, operation_offset, relation_code, signed_size_code, size_code, swap_opcode};
-ghost use Rattle.ebpf_decode.specs.Codes.{size_with, relation_with};
+ghost use Rattle.ebpf_decode.specs.Codes.{operation_with, relation_with, signed_size_with, size_with, swap_size_with, swap_with};
+ghost use Rattle.ebpf_decode.specs.Opcodes.{has_variants};
 
 use crate::operation::{
     Operation, Relation, SignExtension, SignedSize, Size, Swap, SwapSize, Width,
@@ -71,6 +72,17 @@ impl SignedSize {
             SignedSize::Byte => 2,
         }
     }
+
+    pub fn with_code(code: u8) -> Option<SignedSize>
+        ensures { result ≡ signed_size_with code }
+    {
+        match code {
+            0 => Some(SignedSize::Word),
+            1 => Some(SignedSize::HalfWord),
+            2 => Some(SignedSize::Byte),
+            _ => None,
+        }
+    }
 }
 
 impl Operation {
@@ -93,6 +105,34 @@ impl Operation {
             Operation::Move => 0xb,
             Operation::ArithmeticShift => 0xc,
         }
+    }
+
+    /// The operation of offset 0 with this code.
+    pub fn with_code(code: u8) -> Option<Operation>
+        ensures { result ≡ operation_with code }
+    {
+        match code {
+            0x0 => Some(Operation::Add),
+            0x1 => Some(Operation::Subtract),
+            0x2 => Some(Operation::Multiply),
+            0x3 => Some(Operation::Divide),
+            0x4 => Some(Operation::Or),
+            0x5 => Some(Operation::And),
+            0x6 => Some(Operation::LeftShift),
+            0x7 => Some(Operation::RightShift),
+            0x9 => Some(Operation::Modulo),
+            0xa => Some(Operation::Xor),
+            0xb => Some(Operation::Move),
+            0xc => Some(Operation::ArithmeticShift),
+            _ => None,
+        }
+    }
+
+    /// Do offsets tell several operations of its code?
+    pub fn has_variants(self) -> bool
+        ensures { result ≡ has_variants self }
+    {
+        matches!(self, Operation::Divide | Operation::Modulo | Operation::Move)
     }
 
     /// The offset that tells the signed division and modulo (RFC 9669, 4.1).
@@ -142,6 +182,17 @@ impl Swap {
             Swap::Reverse => 0xd7,
         }
     }
+
+    pub fn with_opcode(opcode: u8) -> Option<Swap>
+        ensures { result ≡ swap_with opcode }
+    {
+        match opcode {
+            0xd4 => Some(Swap::ToLittle),
+            0xdc => Some(Swap::ToBig),
+            0xd7 => Some(Swap::Reverse),
+            _ => None,
+        }
+    }
 }
 
 impl SwapSize {
@@ -153,6 +204,17 @@ impl SwapSize {
             SwapSize::Bits16 => 16,
             SwapSize::Bits32 => 32,
             SwapSize::Bits64 => 64,
+        }
+    }
+
+    pub fn with_bits(bits: i32) -> Option<SwapSize>
+        ensures { result ≡ swap_size_with bits }
+    {
+        match bits {
+            16 => Some(SwapSize::Bits16),
+            32 => Some(SwapSize::Bits32),
+            64 => Some(SwapSize::Bits64),
+            _ => None,
         }
     }
 }

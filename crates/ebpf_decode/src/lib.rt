@@ -3,13 +3,16 @@
 
 mod codes;
 mod encoding;
+mod fault;
 mod fields;
 mod insn;
+mod opcode;
 mod operation;
 mod program;
 mod register;
 
 pub use encoding::{encode, push_instruction};
+pub use fault::{DecodeFault, Fault, FaultKind};
 pub use insn::{Insn, Source};
 pub use operation::{Operation, Relation, SignExtension, SignedSize, Size, Swap, SwapSize, Width};
 pub use program::Program;
