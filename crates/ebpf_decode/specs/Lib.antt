@@ -3,3 +3,4 @@ pub mod Spelling
 pub mod Codes
 pub mod Opcodes
 pub mod Faults
+pub mod Reading

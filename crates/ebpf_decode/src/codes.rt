@@ -2,7 +2,7 @@
 
 ghost use Rattle.std.specs.Prelude.{◌≡◌, ◌<◌};
 ghost use Rattle.ebpf_decode.specs.Spelling.{arithmetic_class, extension_offset, extension_width, jump_class, kept_bits, operation_code, operation_offset, relation_code, signed_size_code, size_code, swap_opcode};
-ghost use Rattle.ebpf_decode.specs.Codes.{operation_with, relation_with, signed_size_with, size_with, swap_size_with, swap_with};
+ghost use Rattle.ebpf_decode.specs.Codes.{extension_with, operation_with, relation_with, signed_size_with, size_with, swap_size_with, swap_with, variant_with};
 ghost use Rattle.ebpf_decode.specs.Opcodes.{has_variants};
 
 use crate::operation::{
@@ -128,6 +128,21 @@ impl Operation {
         }
     }
 
+    /// The operation with the same code and this offset.
+    pub fn variant(self, offset: i16) -> Option<Operation>
+        ensures { result ≡ variant_with self offset }
+    {
+        match offset {
+            0 => Operation::with_code(self.code()),
+            1 => match self {
+                Operation::Divide | Operation::SignedDivide => Some(Operation::SignedDivide),
+                Operation::Modulo | Operation::SignedModulo => Some(Operation::SignedModulo),
+                _ => None,
+            },
+            _ => None,
+        }
+    }
+
     /// Do offsets tell several operations of its code?
     pub fn has_variants(self) -> bool
         ensures { result ≡ has_variants self }
@@ -155,6 +170,20 @@ impl SignExtension {
             SignExtension::Bits8To32 | SignExtension::Bits8To64 => 8,
             SignExtension::Bits16To32 | SignExtension::Bits16To64 => 16,
             SignExtension::Bits32To64 => 32,
+        }
+    }
+
+    /// The sign-extending move to this width that is a variant of an operation, by its offset.
+    pub fn variant(width: Width, operation: Operation, offset: i16) -> Option<SignExtension>
+        ensures { result ≡ extension_with width operation offset }
+    {
+        match (operation, width, offset) {
+            (Operation::Move, Width::Bits32, 8) => Some(SignExtension::Bits8To32),
+            (Operation::Move, Width::Bits32, 16) => Some(SignExtension::Bits16To32),
+            (Operation::Move, Width::Bits64, 8) => Some(SignExtension::Bits8To64),
+            (Operation::Move, Width::Bits64, 16) => Some(SignExtension::Bits16To64),
+            (Operation::Move, Width::Bits64, 32) => Some(SignExtension::Bits32To64),
+            _ => None,
         }
     }
 

@@ -2,6 +2,7 @@
 #![tactic(auto)]
 
 mod codes;
+mod decoding;
 mod encoding;
 mod fault;
 mod fields;
