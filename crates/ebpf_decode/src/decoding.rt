@@ -1,11 +1,11 @@
 //! Programs out of bytes.
 
-ghost use Rattle.std.specs.Prelude.{◌≡◌, ◌<◌, ◌≤◌, ◌+◌, ◌*◌, ◌/◌, ◌^◌, drop, length, None};
+ghost use Rattle.std.specs.Prelude.{◌≡◌, ◌<◌, ◌≤◌, ◌+◌, ◌*◌, ◌/◌, ◌^◌, drop, length, slice_get, None};
 ghost use Rattle.std.specs.Int.{w32, cast_unsigned};
 ghost use Rattle.ebpf_decode.specs.Reading.{Gives, decoded, first_fault, has_more, has_no_register, has_unused, immediate_of, instruction, is_left_out, length_fault, read, slots_at, source_of};
 
 use crate::fault::{DecodeFault, Fault, FaultKind};
-use crate::fields::Fields;
+use crate::fields::{Fields, from_bytes};
 use crate::insn::{Insn, Source};
 use crate::opcode::{Opcode, Operand, Uses};
 use crate::operation::{Operation, SignExtension, SwapSize, Width};
@@ -142,5 +142,30 @@ fn instruction(opcode: Opcode, fields: &Fields, next: Option<Fields>) -> Option<
         Opcode::Call => Some(Insn::Call { helper: immediate }),
         Opcode::Exit => Some(Insn::Exit),
         Opcode::LeftOut => None,
+    }
+}
+
+/// The instruction of a slot, where the next slot is known, or its first fault.
+fn read(fields: &Fields, next: Option<Fields>) -> Result<Insn, FaultKind>
+    ensures { result ≡ read fields.now next }
+{
+    let opcode = Opcode::named(fields.opcode).ok_or(FaultKind::Opcode)?;
+    if let Some(kind) = first_fault(opcode, fields, next) {
+        return Err(kind);
+    }
+    match instruction(opcode, fields, next) {
+        Some(found) => Ok(found),
+        None => Err(FaultKind::Value),
+    }
+}
+
+fn slot_at(bytes: &[u8], slot: usize) -> Option<Fields>
+    requires { slot ≤ 4096 }
+    ensures { result ≡ slice_get (slots_at (length bytes.now / 8) bytes.now) slot }
+{
+    if slot < bytes.len() / 8 {
+        Some(from_bytes(&bytes[8 * slot..]))
+    } else {
+        None
     }
 }

@@ -1,6 +1,7 @@
 //! The fields of a slot.
 
 ghost use Rattle.std.specs.Prelude.{◌≡◌, ◌<◌, ◌≤◌, length};
+ghost use Rattle.ebpf_decode.specs.Reading.{fields_at};
 ghost use Rattle.ebpf_decode.specs.Spelling.{slot_bytes};
 
 use byteorder::{ByteOrder, LittleEndian};
@@ -15,6 +16,22 @@ pub struct Fields {
     pub src: u8,
     pub offset: i16,
     pub immediate: i32,
+}
+
+/// The fields of the slot at the front.
+pub fn from_bytes(bytes: &[u8]) -> Fields
+    requires { 8 ≤ length bytes.now }
+    ensures { result ≡ fields_at bytes.now }
+{
+    let offset = LittleEndian::read_i16(&bytes[2..]);
+    let immediate = LittleEndian::read_i32(&bytes[4..]);
+    Fields {
+        opcode: bytes[0],
+        dst: bytes[1] % 16,
+        src: bytes[1] / 16,
+        offset,
+        immediate,
+    }
 }
 
 /// The bytes of a slot.
