@@ -130,16 +130,28 @@ abbrev pub with_front : List (Option Insn) → Result (List (Option Insn)) Fault
 with_front front (Ok slots) = Ok (front ++ slots)
 with_front front (Err fault) = Err fault
 
--- the instruction of slot number s, and then the slots after it
-abbrev pub then_read : Result Insn FaultKind → ℕ → (Bool → Result (List (Option Insn)) Fault) → Result (List (Option Insn)) Fault
-then_read (Err kind) s after = Err (record { slot = s; kind = kind })
-then_read (Ok i) s after = with_front (Some i ∷ []) (after (is_wide i))
+abbrev pub found_in : Result Insn FaultKind → Result (Option Insn) FaultKind
+found_in (Ok i) = Ok (Some i)
+found_in (Err kind) = Err kind
 
--- the instructions of the slots from number s on, of which the first may be a wide instruction's second
+-- what begins at a slot: nothing at a wide instruction's second
+abbrev pub entry : Bool → Fields → Option Fields → Result (Option Insn) FaultKind
+entry true f next = Ok None
+entry false f next = found_in (read f next)
+
+abbrev pub begins_wide : Option Insn → Bool
+begins_wide None = false
+begins_wide (Some i) = is_wide i
+
+-- what begins at slot number s, and then the slots after it
+abbrev pub then_read : Result (Option Insn) FaultKind → ℕ → (Bool → Result (List (Option Insn)) Fault) → Result (List (Option Insn)) Fault
+then_read (Err kind) s after = Err (record { slot = s; kind = kind })
+then_read (Ok found) s after = with_front (found ∷ []) (after (begins_wide found))
+
+-- what begins at the slots from number s on, of which the first may be a wide instruction's second
 abbrev pub read_slots : Bool → ℕ → List Fields → Result (List (Option Insn)) Fault
 read_slots second s [] = Ok []
-read_slots true s (f ∷ rest) = with_front (None ∷ []) (read_slots false (s + 1) rest)
-read_slots false s (f ∷ rest) = then_read (read f (slice_get rest 0)) s (λ second. read_slots second (s + 1) rest)
+read_slots second s (f ∷ rest) = then_read (entry second f (slice_get rest 0)) s (λ wide. read_slots wide (s + 1) rest)
 
 -- the checks of a program's length, in order
 abbrev pub length_checks : ℕ → List (Bool × FaultKind)

@@ -1,8 +1,8 @@
 //! Programs out of bytes.
 
-ghost use Rattle.std.specs.Prelude.{◌≡◌, ◌<◌, ◌≤◌, ◌+◌, ◌*◌, ◌/◌, ◌^◌, drop, length, slice_get, None};
+ghost use Rattle.std.specs.Prelude.{◌≡◌, ◌<◌, ◌≤◌, ◌+◌, ◌*◌, ◌/◌, ◌^◌, drop, length, slice_get, false, None};
 ghost use Rattle.std.specs.Int.{w32, cast_unsigned};
-ghost use Rattle.ebpf_decode.specs.Reading.{Gives, decoded, first_fault, has_more, has_no_register, has_unused, immediate_of, instruction, is_left_out, length_fault, read, slots_at, source_of};
+ghost use Rattle.ebpf_decode.specs.Reading.{Gives, begins_wide, decoded, entry, fields_at, first_fault, has_more, has_no_register, has_unused, immediate_of, instruction, is_left_out, length_fault, read, read_slots, slots_at, source_of};
 
 use crate::fault::{DecodeFault, Fault, FaultKind};
 use crate::fields::{Fields, from_bytes};
@@ -168,4 +168,43 @@ fn slot_at(bytes: &[u8], slot: usize) -> Option<Fields>
     } else {
         None
     }
+}
+
+/// What begins at a slot: nothing at a wide instruction's second.
+fn entry_at(bytes: &[u8], slot: usize, second: bool) -> Result<Option<Insn>, FaultKind>
+    requires inside { slot < length bytes.now / 8 }
+    requires most { length bytes.now / 8 ≤ 4096 }
+    ensures { result ≡ entry second (fields_at (drop (8 * slot) bytes.now)) (slice_get (slots_at (length bytes.now / 8) bytes.now) (slot + 1)) }
+{
+    if second {
+        return Ok(None);
+    }
+    let fields = from_bytes(&bytes[8 * slot..]);
+    let instruction = read(&fields, slot_at(bytes, slot + 1))?;
+    Ok(Some(instruction))
+}
+
+fn begins_wide(entry: &Option<Insn>) -> bool
+    ensures { result ≡ begins_wide entry.now }
+{
+    matches!(entry, Some(Insn::LoadImmediate { .. }))
+}
+
+fn decode_slots(alloc: Global, bytes: &[u8]) -> Result<Vec<Option<Insn>>, DecodeFault>
+    requires { length bytes.now / 8 ≤ 4096 }
+    ensures { Gives (λ slots. slots.items) result (read_slots false 0 (slots_at (length bytes.now / 8) bytes.now)) }
+{
+    let count = bytes.len() / 8;
+    let mut slots = Vec::with_capacity(alloc, count)?;
+    let mut second = false;
+    for slot in 0..count {
+        match entry_at(bytes, slot, second) {
+            Ok(entry) => {
+                second = begins_wide(&entry);
+                slots.extend_from_slice(&[entry])?;
+            }
+            Err(kind) => return Err(DecodeFault::Fault(Fault { slot, kind })),
+        }
+    }
+    Ok(slots)
 }
