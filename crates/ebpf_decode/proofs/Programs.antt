@@ -1,5 +1,5 @@
 -- What is read from slots is spelled by them.
-use Rattle.std.proofs.Common.{◌≡◌, ℕ, zero, suc, ◌+◌, ◌<◌, ◌≤◌, Bool, true, false, cond, List, [], ◌∷◌, ◌++◌, length, Option, Some, None, Result, Ok, Err, refl, sym, ap, subst, ◌∙◌, arith}
+use Rattle.std.proofs.Common.{◌≡◌, ℕ, zero, suc, ◌+◌, ◌*◌, ◌/◌, ◌%◌, ◌<◌, ◌≤◌, Bool, true, false, not, cond, eqb, ltb, find, option_map, List, [], ◌∷◌, ◌++◌, length, Option, Some, None, Result, Ok, Err, refl, sym, ap, subst, ◌∙◌, arith}
 use Rattle.std.specs.Prelude.{IsSome, option_to_list}
 use Rattle.std.specs.List.{AllByRecursion, flat_map, slice_get}
 use Rattle.ebpf_decode.specs.declared.fault.Fault.{Fault}
@@ -7,9 +7,13 @@ use Rattle.ebpf_decode.specs.declared.fault.FaultKind.{FaultKind}
 use Rattle.ebpf_decode.specs.declared.fields.Fields.{Fields}
 use Rattle.ebpf_decode.specs.declared.insn.Insn.{Insn}
 use Rattle.ebpf_decode.specs.declared.insn.Insn.TheVariants.{LoadImmediate}
-use Rattle.ebpf_decode.specs.Program.{is_wide, slots_of}
-use Rattle.ebpf_decode.specs.Reading.{begins_wide, entry, found_in, read, read_slots, then_read, with_front}
-use Rattle.ebpf_decode.specs.Spelling.{Fits, first_slot, second_slot, slots_spelled}
+use Rattle.ebpf_decode.specs.Program.{IsProgram, is_wide, slots_of}
+use Rattle.ebpf_decode.specs.Reading.{begins_wide, entry, found_in, length_fault, read, read_slots, slots_at, then_read, with_front}
+use Rattle.ebpf_decode.specs.Spelling.{Fits, first_slot, instructions_of, program_bytes, second_slot, slot_bytes, slots_spelled, spelling}
+use Rattle.std.proofs.lemmas.Bool.{eqb-false, eqb-true, ltb-false, not-false}
+use Rattle.std.proofs.lemmas.List.Concat.{flat_map-append}
+use Rattle.ebpf_decode.proofs.Bytes.{IsBytes, slots-bytes, slots-fields}
+use Rattle.ebpf_decode.proofs.Slots.{length-slots}
 use Rattle.ebpf_decode.proofs.Takes.{AreFields, AreFieldsIn, IsSpelled, IsTaken, read-takes}
 
 -- instructions whose slots they are
@@ -85,3 +89,54 @@ takes (f ∷ fs) false s slots all some e =
 -- what is read from slots is spelled by them
 pub slots-take : (fs : List Fields) (slots : List (Option Insn)) → AllByRecursion AreFields fs → read_slots false 0 fs ≡ Ok slots → Spelled fs slots
 slots-take fs slots all e = takes fs false 0 slots all (λ never. absurd cc) e
+
+-- ---- lengths, instructions and bytes of programs
+
+pub length-slots_of : (is : List Insn) → length (slots_of is) ≡ length (flat_map slots_spelled is)
+length-slots_of [] = refl
+length-slots_of (LoadImmediate dst value ∷ is) = ap (λ n. suc (suc n)) (length-slots_of is)
+length-slots_of (i ∷ is) = ap suc (length-slots_of is)
+
+pub instructions_of-slots_of : (is : List Insn) → instructions_of (slots_of is) ≡ is
+instructions_of-slots_of [] = refl
+instructions_of-slots_of (LoadImmediate dst value ∷ is) = ap (λ xs. LoadImmediate dst value ∷ xs) (instructions_of-slots_of is)
+instructions_of-slots_of (i ∷ is) = ap (λ xs. i ∷ xs) (instructions_of-slots_of is)
+
+pub spelling-slots : (is : List Insn) → flat_map spelling is ≡ flat_map slot_bytes (flat_map slots_spelled is)
+spelling-slots [] = refl
+spelling-slots (i ∷ is) =
+    ap (λ xs. spelling i ++ xs) (spelling-slots is) ∙ sym (flat_map-append slot_bytes (slots_spelled i) (flat_map slots_spelled is))
+
+pub program_bytes-slots_of : (is : List Insn) → program_bytes (slots_of is) ≡ flat_map slot_bytes (flat_map slots_spelled is)
+program_bytes-slots_of is = ap (flat_map spelling) (instructions_of-slots_of is) ∙ spelling-slots is
+
+three : (a b c : Bool) (p q r : FaultKind) → option_map (λ (x : Bool × FaultKind). x.1) (find (λ (x : Bool × FaultKind). x.0) ((a, p) ∷ (b, q) ∷ (c, r) ∷ [])) ≡ None
+    → (a ≡ false) × (b ≡ false) × (c ≡ false)
+three true b c p q r e = absurd cc
+three false true c p q r e = absurd cc
+three false false true p q r e = absurd cc
+three false false false p q r e = (refl, refl, refl)
+
+-- slots that are read from bytes are a program, spelled by the bytes
+pub program-read : (bytes : List ℕ) (slots : List (Option Insn)) → IsBytes bytes → length_fault (length bytes) ≡ None
+    → read_slots false 0 (slots_at (length bytes / 8) bytes) ≡ Ok slots → IsProgram slots × (bytes ≡ program_bytes slots)
+program-read bytes slots fits length_is e =
+    let count = length bytes / 8 in
+    let good = three (not (eqb (length bytes % 8) 0)) (eqb (length bytes) 0) (ltb 4096 count) _ _ _ length_is in
+    let whole : length bytes % 8 ≡ 0 = eqb-true _ _ (not-false _ good.0) in
+    let few : count ≤ 4096 = ltb-false _ _ good.2 in
+    let some : length bytes ≡ 0 → ⊥ = eqb-false _ _ good.1 in
+    let spelled = slots-take (slots_at count bytes) slots (slots-fields count bytes fits) e in
+    let long : length slots ≡ count =
+        ap length spelled.layout ∙ length-slots_of spelled.instructions ∙ ap length (sym spelled.spelled) ∙ length-slots count bytes in
+    (record {
+      instructions = spelled.instructions;
+      layout = spelled.layout;
+      fits = spelled.fits;
+      some = omega arith;
+      most = omega arith;
+    },
+    sym (slots-bytes count bytes fits (omega arith))
+    ∙ ap (flat_map slot_bytes) spelled.spelled
+    ∙ sym (program_bytes-slots_of spelled.instructions)
+    ∙ ap program_bytes (sym spelled.layout))

@@ -1,7 +1,8 @@
 //! Programs out of bytes.
 
-ghost use Rattle.std.specs.Prelude.{◌≡◌, ◌<◌, ◌≤◌, ◌+◌, ◌*◌, ◌/◌, ◌^◌, drop, length, slice_get, false, None};
+ghost use Rattle.std.specs.Prelude.{◌≡◌, ◌<◌, ◌≤◌, ◌+◌, ◌*◌, ◌/◌, ◌^◌, drop, length, slice_get, false, None, IfOk};
 ghost use Rattle.std.specs.Int.{w32, cast_unsigned};
+ghost use Rattle.ebpf_decode.specs.Spelling.{program_bytes};
 ghost use Rattle.ebpf_decode.specs.Reading.{Gives, begins_wide, decoded, entry, fields_at, first_fault, has_more, has_no_register, has_unused, immediate_of, instruction, is_left_out, length_fault, read, read_slots, slots_at, source_of};
 
 use crate::fault::{DecodeFault, Fault, FaultKind};
@@ -207,4 +208,32 @@ fn decode_slots(alloc: Global, bytes: &[u8]) -> Result<Vec<Option<Insn>>, Decode
         }
     }
     Ok(slots)
+}
+
+fn length_fault(len: usize) -> Option<FaultKind>
+    ensures { result ≡ length_fault len }
+{
+    if len % 8 != 0 {
+        Some(FaultKind::Length)
+    } else if len == 0 {
+        Some(FaultKind::Empty)
+    } else if len / 8 > 4096 {
+        Some(FaultKind::TooLong)
+    } else {
+        None
+    }
+}
+
+/// The program that the bytes spell, or their first fault (RFC 9669, 3).
+pub fn decode(alloc: Global, bytes: &[u8]) -> Result<Program, DecodeFault>
+    // What is decoded is spelled by the bytes.
+    ensures found { IfOk result (λ program. bytes.now ≡ program_bytes program) }
+    // Which program or fault it is.
+    ensures exact { Gives (λ program. program) result (decoded bytes.now) }
+{
+    if let Some(kind) = length_fault(bytes.len()) {
+        return Err(DecodeFault::Fault(Fault { slot: 0, kind }));
+    }
+    let slots = decode_slots(alloc, bytes)?;
+    Ok(Program::from_slots(slots))
 }

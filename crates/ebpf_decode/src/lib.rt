@@ -12,6 +12,7 @@ mod operation;
 mod program;
 mod register;
 
+pub use decoding::decode;
 pub use encoding::{encode, push_instruction};
 pub use fault::{DecodeFault, Fault, FaultKind};
 pub use insn::{Insn, Source};
