@@ -45,13 +45,13 @@ slots-bytes (suc count) (a ∷ b ∷ c ∷ d ∷ e ∷ f ∷ g ∷ h ∷ bytes) 
     let m = little_number 2 (c ∷ d ∷ []) in
     let n = little_number 4 (e ∷ f ∷ g ∷ h ∷ []) in
     let offset : little_bytes 2 (cast_unsigned w16 (cast_signed w16 m)) ≡ c ∷ d ∷ [] =
-        ap (little_bytes 2) (of_z-to_z w16 m (omega (arith, fits 2, fits 3))) ∙ two-bytes m c d (fits 2) (fits 3) (omega arith) in
+    ap (little_bytes 2) (of_z-to_z w16 m (omega (arith, fits 2, fits 3))) ∙ two-bytes m c d (fits 2) (fits 3) (omega arith) in
     let immediate : little_bytes 4 (cast_unsigned w32 (cast_signed w32 n)) ≡ e ∷ f ∷ g ∷ h ∷ [] =
-        ap (little_bytes 4) (of_z-to_z w32 n (omega (arith, fits 4, fits 5, fits 6, fits 7))) ∙ four-bytes n e f g h (fits 4) (fits 5) (fits 6) (fits 7) (omega arith) in
+    ap (little_bytes 4) (of_z-to_z w32 n (omega (arith, fits 4, fits 5, fits 6, fits 7))) ∙ four-bytes n e f g h (fits 4) (fits 5) (fits 6) (fits 7) (omega arith) in
     let slot : slot_bytes (fields_at (a ∷ b ∷ c ∷ d ∷ e ∷ f ∷ g ∷ h ∷ bytes)) ≡ a ∷ b ∷ c ∷ d ∷ e ∷ f ∷ g ∷ h ∷ [] =
-        ap (λ k. a ∷ k ∷ (little_bytes 2 (cast_unsigned w16 (cast_signed w16 m)) ++ little_bytes 4 (cast_unsigned w32 (cast_signed w32 n)))) registers
-        ∙ ap (λ xs. a ∷ b ∷ (xs ++ little_bytes 4 (cast_unsigned w32 (cast_signed w32 n)))) offset
-        ∙ ap (λ xs. a ∷ b ∷ c ∷ d ∷ xs) immediate in
+    ap (λ k. a ∷ k ∷ (little_bytes 2 (cast_unsigned w16 (cast_signed w16 m)) ++ little_bytes 4 (cast_unsigned w32 (cast_signed w32 n)))) registers
+    ∙ ap (λ xs. a ∷ b ∷ (xs ++ little_bytes 4 (cast_unsigned w32 (cast_signed w32 n)))) offset
+    ∙ ap (λ xs. a ∷ b ∷ c ∷ d ∷ xs) immediate in
     ap (λ xs. xs ++ flat_map slot_bytes (slots_at count bytes)) slot
     ∙ ap (λ xs. a ∷ b ∷ c ∷ d ∷ e ∷ f ∷ g ∷ h ∷ xs) (slots-bytes count bytes (IsBytes-drop a b c d e f g h bytes fits) (omega arith))
 slots-bytes (suc count) bytes fits len = absurd (omega arith)
@@ -61,9 +61,11 @@ pub slots-fields : (count : ℕ) (bytes : List ℕ) → IsBytes bytes → AllByR
 slots-fields zero bytes fits = tt
 slots-fields (suc count) bytes fits =
     let two : (i : ℕ) → get_or (drop 2 bytes) i 0 < 256 = λ i. rw get_or-drop (fits (2 + i)) in
-    let four : (i : ℕ) → get_or (drop 4 bytes) i 0 < 256 = λ i. rw get_or-drop (fits (4 + i)) in
-    (record {
-      opcode = fits 0;
-      offset = fits-16 _ (omega (arith, two 0, two 1));
-      immediate = fits-32 _ (omega (arith, four 0, four 1, four 2, four 3));
-    }, slots-fields count (drop 8 bytes) (λ i. rw get_or-drop (fits (8 + i))))
+    let four : (i : ℕ) → get_or (drop 4 bytes) i 0 < 256 = λ i. rw get_or-drop (fits (4 + i)) in (
+      record {
+        opcode = fits 0;
+        offset = fits-16 _ (omega (arith, two 0, two 1));
+        immediate = fits-32 _ (omega (arith, four 0, four 1, four 2, four 3));
+      },
+      slots-fields count (drop 8 bytes) (λ i. rw get_or-drop (fits (8 + i))),
+    )

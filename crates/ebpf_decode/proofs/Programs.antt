@@ -67,8 +67,8 @@ joined f fs slots rest i true is taken e after = record {
   instructions = i ∷ after.after.instructions;
   layout = rw is (sym e ∙ ap (λ xs. Some i ∷ xs) (after.slots_are ∙ ap (λ xs. None ∷ xs) after.after.layout));
   spelled =
-    let next : slice_get fs 0 ≡ Some after.second = ap (λ xs. slice_get xs 0) after.are in
-    rw (taken.0.0, taken.0.1, is, next) (ap (λ xs. f ∷ xs) (after.are ∙ ap (λ xs. after.second ∷ xs) after.after.spelled));
+      let next : slice_get fs 0 ≡ Some after.second = ap (λ xs. slice_get xs 0) after.are in
+      rw (taken.0.0, taken.0.1, is, next) (ap (λ xs. f ∷ xs) (after.are ∙ ap (λ xs. after.second ∷ xs) after.after.spelled));
   fits = (taken.1, after.after.fits);
 }
 
@@ -128,15 +128,16 @@ program-read bytes slots fits length_is e =
     let some : length bytes ≡ 0 → ⊥ = eqb-false _ _ good.1 in
     let spelled = slots-take (slots_at count bytes) slots (slots-fields count bytes fits) e in
     let long : length slots ≡ count =
-        ap length spelled.layout ∙ length-slots_of spelled.instructions ∙ ap length (sym spelled.spelled) ∙ length-slots count bytes in
-    (record {
-      instructions = spelled.instructions;
-      layout = spelled.layout;
-      fits = spelled.fits;
-      some = omega arith;
-      most = omega arith;
-    },
-    sym (slots-bytes count bytes fits (omega arith))
-    ∙ ap (flat_map slot_bytes) spelled.spelled
-    ∙ sym (program_bytes-slots_of spelled.instructions)
-    ∙ ap program_bytes (sym spelled.layout))
+    ap length spelled.layout ∙ length-slots_of spelled.instructions ∙ ap length (sym spelled.spelled) ∙ length-slots count bytes in (
+      record {
+        instructions = spelled.instructions;
+        layout = spelled.layout;
+        fits = spelled.fits;
+        some = omega arith;
+        most = omega arith;
+      },
+      sym (slots-bytes count bytes fits (omega arith))
+          ∙ ap (flat_map slot_bytes) spelled.spelled
+          ∙ sym (program_bytes-slots_of spelled.instructions)
+          ∙ ap program_bytes (sym spelled.layout),
+    )

@@ -218,10 +218,12 @@ row LoadImmediate f (Some g) i named used here more fits others e =
     let a = cast_unsigned w32 f.immediate in
     let b = cast_unsigned w32 g.immediate in
     let second = slot-is g _ _ _ _ _ (sym (eqb-true _ _ (not-false _ r.0))) (sym (eqb-true _ _ (not-false _ r.1))) (sym (eqb-true _ _ (not-false _ q.1)))
-        (sym ((Decides-int_eq g.offset (pos 0)).0 (not-false _ p.1))) (high-half a g.immediate (below-32 f.immediate fits.immediate) others.immediate) in
-    moved f (Some g) (insns.LoadImmediate f.dst (a + 2 ^ 32 * b)) i e
-    (slot-is f _ _ _ _ _ (eqb-true _ _ named) refl (sym (used.src refl)) (sym (used.offset refl)) (low-half f.immediate b fits.immediate),
-     ap (λ s. Some s) second, omega (arith, below-32 f.immediate fits.immediate, below-32 g.immediate others.immediate))
+    (sym ((Decides-int_eq g.offset (pos 0)).0 (not-false _ p.1))) (high-half a g.immediate (below-32 f.immediate fits.immediate) others.immediate) in
+    moved f (Some g) (insns.LoadImmediate f.dst (a + 2 ^ 32 * b)) i e (
+      slot-is f _ _ _ _ _ (eqb-true _ _ named) refl (sym (used.src refl)) (sym (used.offset refl)) (low-half f.immediate b fits.immediate),
+      ap (λ s. Some s) second,
+      omega (arith, below-32 f.immediate fits.immediate, below-32 g.immediate others.immediate),
+    )
 row (Load size) f next i named used here more fits others e =
     moved f next (insns.Load size f.dst f.src f.offset) i e
     (slot-is f _ _ _ _ _ (eqb-true _ _ named) refl refl refl (sym (used.immediate refl)), refl, tt)
@@ -276,14 +278,16 @@ read-named f next i (Some opcode) is fits others e =
     let w = or_parts (has_unused (uses opcode) f) (is_load_immediate opcode && has_more next) v.3 in
     let used = is_used (uses opcode) f v.2 w.0 in
     let named : is_of (Some opcode) f.opcode ≡ true = ap (λ m. is_of m f.opcode) (sym is) ∙ named-is f.opcode fits.opcode in
-    let spelled = row opcode f next i named used v.1 w.1 fits others u.1 in
-    (spelled, record {
-      dst = subst (λ (s : Fields). s.dst < 11) (sym spelled.0) used.low_dst;
-      src = subst (λ (s : Fields). s.src < 11) (sym spelled.0) used.low_src;
-      offset = subst (λ (s : Fields). FitsSigned w16 s.offset) (sym spelled.0) fits.offset;
-      immediate = subst (λ (s : Fields). FitsSigned w32 s.immediate) (sym spelled.0) fits.immediate;
-      value = spelled.2;
-    })
+    let spelled = row opcode f next i named used v.1 w.1 fits others u.1 in (
+      spelled,
+      record {
+        dst = subst (λ (s : Fields). s.dst < 11) (sym spelled.0) used.low_dst;
+        src = subst (λ (s : Fields). s.src < 11) (sym spelled.0) used.low_src;
+        offset = subst (λ (s : Fields). FitsSigned w16 s.offset) (sym spelled.0) fits.offset;
+        immediate = subst (λ (s : Fields). FitsSigned w32 s.immediate) (sym spelled.0) fits.immediate;
+        value = spelled.2;
+      },
+    )
 
 -- what is read from a slot is spelled by it
 pub read-takes : (f : Fields) (next : Option Fields) (i : Insn) → AreFields f → AreFieldsIn next → read f next ≡ Ok i → IsTaken f next i

@@ -87,14 +87,23 @@ fn arithmetic(width: Width, operation: Operation, operand: Operand, fields: &Fie
     let dst = Register::from_number(fields.dst);
     if let Some(operation) = operation.variant(fields.offset) {
         let source = source(operand, fields);
-        return Some(Insn::Arithmetic { width, operation, dst, source });
+        return Some(Insn::Arithmetic {
+            width,
+            operation,
+            dst,
+            source,
+        });
     }
     if operand == Operand::Immediate {
         return None;
     }
     let extension = SignExtension::variant(width, operation, fields.offset)?;
     let src = Register::from_number(fields.src);
-    Some(Insn::MoveSigned { extension, dst, src })
+    Some(Insn::MoveSigned {
+        extension,
+        dst,
+        src,
+    })
 }
 
 fn wide_value(fields: &Fields, next: Option<Fields>) -> u64
@@ -115,17 +124,44 @@ fn instruction(opcode: Opcode, fields: &Fields, next: Option<Fields>) -> Option<
 {
     let dst = Register::from_number(fields.dst);
     let src = Register::from_number(fields.src);
-    let Fields { offset, immediate, .. } = *fields;
+    let Fields {
+        offset,
+        immediate,
+        ..
+    } = *fields;
     match opcode {
         Opcode::LoadImmediate => {
-            Some(Insn::LoadImmediate { dst, value: wide_value(fields, next) })
+            Some(Insn::LoadImmediate {
+                dst,
+                value: wide_value(fields, next),
+            })
         }
-        Opcode::Load(size) => Some(Insn::Load { size, dst, src, offset }),
-        Opcode::LoadSigned(size) => Some(Insn::LoadSigned { size, dst, src, offset }),
+        Opcode::Load(size) => Some(Insn::Load {
+            size,
+            dst,
+            src,
+            offset,
+        }),
+        Opcode::LoadSigned(size) => Some(Insn::LoadSigned {
+            size,
+            dst,
+            src,
+            offset,
+        }),
         Opcode::StoreImmediate(size) => {
-            Some(Insn::StoreImmediate { size, dst, offset, value: immediate })
+            Some(Insn::StoreImmediate {
+                size,
+                dst,
+                offset,
+                value: immediate,
+            })
         }
-        Opcode::StoreRegister(size) => Some(Insn::StoreRegister { size, dst, src, offset }),
+        Opcode::StoreRegister(size) => Some(Insn::StoreRegister {
+            size,
+            dst,
+            src,
+            offset,
+        }),
         Opcode::Arithmetic(width, operation, operand) => {
             arithmetic(width, operation, operand, fields)
         }
@@ -135,10 +171,18 @@ fn instruction(opcode: Opcode, fields: &Fields, next: Option<Fields>) -> Option<
             Some(Insn::SwapBytes { swap, size, dst })
         }
         Opcode::Jump => Some(Insn::Jump { distance: offset }),
-        Opcode::JumpLong => Some(Insn::JumpLong { distance: immediate }),
+        Opcode::JumpLong => Some(Insn::JumpLong {
+            distance: immediate,
+        }),
         Opcode::Branch(width, relation, operand) => {
             let source = source(operand, fields);
-            Some(Insn::Branch { width, relation, dst, source, distance: offset })
+            Some(Insn::Branch {
+                width,
+                relation,
+                dst,
+                source,
+                distance: offset,
+            })
         }
         Opcode::Call => Some(Insn::Call { helper: immediate }),
         Opcode::Exit => Some(Insn::Exit),

@@ -19,3 +19,6 @@ pub use insn::{Insn, Source};
 pub use operation::{Operation, Relation, SignExtension, SignedSize, Size, Swap, SwapSize, Width};
 pub use program::Program;
 pub use register::Register;
+
+#[cfg(test)]
+mod tests;
