@@ -69,3 +69,42 @@ slots-fields (suc count) bytes fits =
       },
       slots-fields count (drop 8 bytes) (λ i. rw get_or-drop (fits (8 + i))),
     )
+
+-- ---- the slots that bytes spell
+
+-- fields that fit their places
+pub record FitSlot (f : Fields) : Type 0 where
+  pub dst : f.dst < 16
+  pub offset : FitsSigned w16 f.offset
+  pub immediate : FitsSigned w32 f.immediate
+
+low-16 : (z : ℤ) → FitsSigned w16 z → cast_unsigned w16 z < 2 ^ 16
+low-16 z fits = omega (arith, ints)
+
+low-32 : (z : ℤ) → FitsSigned w32 z → cast_unsigned w32 z < 2 ^ 32
+low-32 z fits = omega (arith, ints)
+
+fields-slot : (f : Fields) (bytes : List ℕ) → FitSlot f → fields_at (slot_bytes f ++ bytes) ≡ f
+fields-slot f bytes fits =
+    let m = cast_unsigned w16 f.offset in
+    let n = cast_unsigned w32 f.immediate in
+    let dst : (f.dst + 16 * f.src) % 16 ≡ f.dst = omega (arith, fits.dst) in
+    let src : (f.dst + 16 * f.src) / 16 ≡ f.src = omega (arith, fits.dst) in
+    let offset : cast_signed w16 (little_number 2 (little_bytes 2 m)) ≡ f.offset =
+        let whole : little_number 2 (little_bytes 2 m) ≡ m = omega (arith, low-16 f.offset fits.offset) in
+        ap (cast_signed w16) whole ∙ to_z-of_z w16 f.offset fits.offset in
+    let immediate : cast_signed w32 (little_number 4 (little_bytes 4 n)) ≡ f.immediate =
+        let whole : little_number 4 (little_bytes 4 n) ≡ n = omega (arith, low-32 f.immediate fits.immediate) in
+        ap (cast_signed w32) whole ∙ to_z-of_z w32 f.immediate fits.immediate in
+    rw (dst, src, offset, immediate) refl
+
+pub length-slots_bytes : (fs : List Fields) → length (flat_map slot_bytes fs) ≡ 8 * length fs
+length-slots_bytes [] = refl
+length-slots_bytes (f ∷ fs) = omega (arith, length-slots_bytes fs)
+
+-- the slots of the bytes of slots
+pub slots-again : (fs : List Fields) → AllByRecursion FitSlot fs → slots_at (length fs) (flat_map slot_bytes fs) ≡ fs
+slots-again [] fits = refl
+slots-again (f ∷ fs) fits =
+    ap (λ x. x ∷ slots_at (length fs) (flat_map slot_bytes fs)) (fields-slot f (flat_map slot_bytes fs) fits.0)
+    ∙ ap (λ xs. f ∷ xs) (slots-again fs fits.1)

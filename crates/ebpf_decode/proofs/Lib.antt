@@ -2,3 +2,4 @@ pub mod Slots
 pub mod Takes
 pub mod Programs
 pub mod Bytes
+pub mod Again
