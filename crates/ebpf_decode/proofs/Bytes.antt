@@ -30,7 +30,7 @@ four-bytes n a b c d ha hb hc hd is =
 fits-16 : (n : ℕ) → n < 2 ^ 16 → FitsSigned w16 (cast_signed w16 n)
 fits-16 n h = omega (arith, ints)
 
-fits-32 : (n : ℕ) → n < 2 ^ 32 → FitsSigned w32 (cast_signed w32 n)
+pub fits-32 : (n : ℕ) → n < 2 ^ 32 → FitsSigned w32 (cast_signed w32 n)
 fits-32 n h = omega (arith, ints)
 
 IsBytes-drop : (a b c d e f g h : ℕ) (bytes : List ℕ) → IsBytes (a ∷ b ∷ c ∷ d ∷ e ∷ f ∷ g ∷ h ∷ bytes) → IsBytes bytes
@@ -91,11 +91,11 @@ fields-slot f bytes fits =
     let dst : (f.dst + 16 * f.src) % 16 ≡ f.dst = omega (arith, fits.dst) in
     let src : (f.dst + 16 * f.src) / 16 ≡ f.src = omega (arith, fits.dst) in
     let offset : cast_signed w16 (little_number 2 (little_bytes 2 m)) ≡ f.offset =
-        let whole : little_number 2 (little_bytes 2 m) ≡ m = omega (arith, low-16 f.offset fits.offset) in
-        ap (cast_signed w16) whole ∙ to_z-of_z w16 f.offset fits.offset in
+    let whole : little_number 2 (little_bytes 2 m) ≡ m = omega (arith, low-16 f.offset fits.offset) in
+    ap (cast_signed w16) whole ∙ to_z-of_z w16 f.offset fits.offset in
     let immediate : cast_signed w32 (little_number 4 (little_bytes 4 n)) ≡ f.immediate =
-        let whole : little_number 4 (little_bytes 4 n) ≡ n = omega (arith, low-32 f.immediate fits.immediate) in
-        ap (cast_signed w32) whole ∙ to_z-of_z w32 f.immediate fits.immediate in
+    let whole : little_number 4 (little_bytes 4 n) ≡ n = omega (arith, low-32 f.immediate fits.immediate) in
+    ap (cast_signed w32) whole ∙ to_z-of_z w32 f.immediate fits.immediate in
     rw (dst, src, offset, immediate) refl
 
 pub length-slots_bytes : (fs : List Fields) → length (flat_map slot_bytes fs) ≡ 8 * length fs

@@ -1,5 +1,5 @@
 -- What is read from slots is spelled by them.
-use Rattle.std.proofs.Common.{◌≡◌, ℕ, zero, suc, ◌+◌, ◌*◌, ◌/◌, ◌%◌, ◌<◌, ◌≤◌, Bool, true, false, not, cond, eqb, ltb, find, option_map, List, [], ◌∷◌, ◌++◌, length, Option, Some, None, Result, Ok, Err, refl, sym, ap, subst, ◌∙◌, arith}
+use Rattle.std.proofs.Common.{◌≡◌, ℕ, zero, suc, ◌+◌, ◌*◌, ◌/◌, ◌%◌, ◌^◌, ◌<◌, ◌≤◌, Bool, true, false, not, cond, eqb, ltb, find, option_map, List, [], ◌∷◌, ◌++◌, length, Option, Some, None, Result, Ok, Err, refl, sym, ap, subst, ◌∙◌, arith}
 use Rattle.std.specs.Prelude.{IsSome, option_to_list}
 use Rattle.std.specs.List.{AllByRecursion, flat_map, slice_get}
 use Rattle.ebpf_decode.specs.declared.fault.Fault.{Fault}
@@ -8,11 +8,12 @@ use Rattle.ebpf_decode.specs.declared.fields.Fields.{Fields}
 use Rattle.ebpf_decode.specs.declared.insn.Insn.{Insn}
 use Rattle.ebpf_decode.specs.declared.insn.Insn.TheVariants.{LoadImmediate}
 use Rattle.ebpf_decode.specs.Program.{IsProgram, is_wide, slots_of}
-use Rattle.ebpf_decode.specs.Reading.{begins_wide, entry, found_in, length_fault, read, read_slots, slots_at, then_read, with_front}
+use Rattle.ebpf_decode.specs.Reading.{begins_wide, decoded, entry, found_in, length_fault, read, read_slots, slots_at, then_read, unless_length, with_front}
 use Rattle.ebpf_decode.specs.Spelling.{Fits, first_slot, instructions_of, program_bytes, second_slot, slot_bytes, slots_spelled, spelling}
-use Rattle.std.proofs.lemmas.Bool.{eqb-false, eqb-true, ltb-false, not-false}
+use Rattle.std.proofs.lemmas.Bool.{eq-eqb, eqb-false, eqb-true, le-ltb, ltb-false, ne_eqb, not-false, not_from_true}
 use Rattle.std.proofs.lemmas.List.Concat.{flat_map-append}
-use Rattle.ebpf_decode.proofs.Bytes.{IsBytes, slots-bytes, slots-fields}
+use Rattle.ebpf_decode.proofs.Again.{read-again}
+use Rattle.ebpf_decode.proofs.Bytes.{FitSlot, IsBytes, fits-32, length-slots_bytes, slots-again, slots-bytes, slots-fields}
 use Rattle.ebpf_decode.proofs.Slots.{length-slots}
 use Rattle.ebpf_decode.proofs.Takes.{AreFields, AreFieldsIn, IsSpelled, IsTaken, read-takes}
 
@@ -141,3 +142,72 @@ program-read bytes slots fits length_is e =
           ∙ sym (program_bytes-slots_of spelled.instructions)
           ∙ ap program_bytes (sym spelled.layout),
     )
+
+-- ---- what a program spells is read again
+
+read-first : (i : Insn) (s : ℕ) (fs : List Fields) → Fits i → second_slot i ≡ cond (is_wide i) (slice_get fs 0) None
+    → read_slots false s (first_slot i ∷ fs) ≡ with_front (Some i ∷ []) (read_slots (is_wide i) (s + 1) fs)
+read-first i s fs fits second =
+    ap (λ r. then_read (found_in r) s (λ wide. read_slots wide (s + 1) fs)) (read-again i (slice_get fs 0) fits second)
+
+read-program : (is : List Insn) (s : ℕ) → AllByRecursion Fits is → read_slots false s (flat_map slots_spelled is) ≡ Ok (slots_of is)
+read-program [] s fits = refl
+read-program (LoadImmediate dst value ∷ is) s fits =
+    read-first (LoadImmediate dst value) s (option_to_list (second_slot (LoadImmediate dst value)) ++ flat_map slots_spelled is) fits.0 refl
+    ∙ ap (λ r. with_front (Some (LoadImmediate dst value) ∷ []) (with_front (None ∷ []) r)) (read-program is (s + 1 + 1) fits.1)
+read-program (i ∷ is) s fits =
+    read-first i s (flat_map slots_spelled is) fits.0 refl ∙ ap (with_front (Some i ∷ [])) (read-program is (s + 1) fits.1)
+
+fit-slots : (is : List Insn) → AllByRecursion Fits is → AllByRecursion FitSlot (flat_map slots_spelled is)
+fit-slots [] fits = tt
+fit-slots (LoadImmediate dst value ∷ is) fits = (
+  record { dst = omega (arith, fits.0.dst); offset = fits.0.offset; immediate = fits.0.immediate },
+  (record { dst = omega arith; offset = fits.0.offset; immediate = fits-32 (value / 2 ^ 32 % 2 ^ 32) (omega arith) }, fit-slots is fits.1),
+)
+fit-slots (i ∷ is) fits =
+    (record { dst = omega (arith, fits.0.dst); offset = fits.0.offset; immediate = fits.0.immediate }, fit-slots is fits.1)
+
+three-none : (a b c : Bool) (p q r : FaultKind) → a ≡ false → b ≡ false → c ≡ false
+    → option_map (λ (x : Bool × FaultKind). x.1) (find (λ (x : Bool × FaultKind). x.0) ((a, p) ∷ (b, q) ∷ (c, r) ∷ [])) ≡ None
+three-none a b c p q r x y z = rw (x, y, z) refl
+
+-- what a program spells decodes as the program
+pub program-again : (slots : List (Option Insn)) → IsProgram slots → decoded (program_bytes slots) ≡ Ok slots
+program-again slots program =
+    let is = program.instructions in
+    let fs = flat_map slots_spelled is in
+    let bytes : program_bytes slots ≡ flat_map slot_bytes fs = ap program_bytes program.layout ∙ program_bytes-slots_of is in
+    let len : length (flat_map slot_bytes fs) ≡ 8 * length fs = length-slots_bytes fs in
+    let slot_count : length slots ≡ length fs = ap length program.layout ∙ length-slots_of is in
+    let count : length (flat_map slot_bytes fs) / 8 ≡ length fs = omega arith in
+    let some = program.some in
+    let most = program.most in
+    let whole : not (eqb (length (flat_map slot_bytes fs) % 8) 0) ≡ false = not_from_true _ (eq-eqb _ _ (omega arith)) in
+    let filled : eqb (length (flat_map slot_bytes fs)) 0 ≡ false = ne_eqb _ _ (λ none. omega arith) in
+    let few : ltb 4096 (length (flat_map slot_bytes fs) / 8) ≡ false = le-ltb _ _ (omega arith) in
+    ap decoded bytes
+    ∙ ap (λ k. unless_length k (read_slots false 0 (slots_at (length (flat_map slot_bytes fs) / 8) (flat_map slot_bytes fs)))) (three-none _ _ _ _ _ _ whole filled few)
+    ∙ ap (λ n. read_slots false 0 (slots_at n (flat_map slot_bytes fs))) count
+    ∙ ap (read_slots false 0) (slots-again fs (fit-slots is program.fits))
+    ∙ read-program is 0 program.fits
+    ∙ ap (λ xs. Ok xs) (sym program.layout)
+
+abbrev read_as : List (Option Insn) → Result (List (Option Insn)) Fault
+read_as slots = Ok slots
+
+one-read : (a b : List (Option Insn)) → read_as a ≡ read_as b → a ≡ b
+one-read a b e = cc
+
+-- programs that are spelled alike are one
+pub one-program : (a b : List (Option Insn)) → IsProgram a → IsProgram b → program_bytes a ≡ program_bytes b → a ≡ b
+one-program a b p q same = one-read a b (sym (program-again a p) ∙ ap decoded same ∙ program-again b q)
+
+unless_length-ok : (k : Option FaultKind) (read : Result (List (Option Insn)) Fault) (slots : List (Option Insn)) → unless_length k read ≡ Ok slots → (k ≡ None) × (read ≡ Ok slots)
+unless_length-ok (Some kind) read slots e = absurd cc
+unless_length-ok None read slots e = (refl, e)
+
+-- what decodes is a program, spelled by the bytes
+pub decoded-program : (bytes : List ℕ) (slots : List (Option Insn)) → IsBytes bytes → decoded bytes ≡ Ok slots → IsProgram slots × (bytes ≡ program_bytes slots)
+decoded-program bytes slots fits e =
+    let ok = unless_length-ok (length_fault (length bytes)) (read_slots false 0 (slots_at (length bytes / 8) bytes)) slots e in
+    program-read bytes slots fits ok.0 ok.1

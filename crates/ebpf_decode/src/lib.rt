@@ -7,6 +7,7 @@ mod encoding;
 mod fault;
 mod fields;
 mod insn;
+pub mod laws;
 mod opcode;
 mod operation;
 mod program;
