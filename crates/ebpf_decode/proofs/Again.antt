@@ -1,10 +1,9 @@
 -- What an instruction spells is read as the instruction again.
-use Rattle.std.proofs.Common.{◌≡◌, FitsSigned, ℕ, zero, suc, ℤ, pos, ◌+◌, ◌*◌, ◌%◌, ◌/◌, ◌^◌, ◌<◌, ◌≤◌, Bool, true, false, not, ◌&&◌, ◌||◌, cond, eqb, ltb, List, [], ◌∷◌, ◌++◌, Option, Some, None, Result, Ok, Err, is_none, find, option_map, refl, sym, ap, ◌∙◌, arith}
+use Rattle.std.proofs.Common.{◌≡◌, ℕ, pos, ◌+◌, ◌*◌, ◌%◌, ◌/◌, ◌^◌, ◌<◌, false, not, ◌&&◌, cond, Option, Some, None, Ok, is_none, refl, sym, ap, ◌∙◌, arith}
 use Rattle.std.specs.Ordering.{int_eq}
-use Rattle.std.specs.Int.{w16, w32, cast_signed, cast_unsigned}
+use Rattle.std.specs.Int.{w32, cast_signed, cast_unsigned}
 use Rattle.std.proofs.lemmas.Bool.{and_right, le-ltb, or_from}
 use Rattle.std.proofs.lemmas.Int.{of_z-to_z}
-use Rattle.ebpf_decode.specs.declared.fault.FaultKind.{FaultKind}
 use Rattle.ebpf_decode.specs.declared.fields.Fields.{Fields}
 use Rattle.ebpf_decode.specs.declared.insn.Insn.{Insn}
 use Rattle.ebpf_decode.specs.declared.insn.Insn.TheVariants as insns

@@ -1,5 +1,5 @@
 -- What is read from slots is spelled by them.
-use Rattle.std.proofs.Common.{◌≡◌, ℕ, zero, suc, ◌+◌, ◌*◌, ◌/◌, ◌%◌, ◌^◌, ◌<◌, ◌≤◌, Bool, true, false, not, cond, eqb, ltb, find, option_map, List, [], ◌∷◌, ◌++◌, length, Option, Some, None, Result, Ok, Err, refl, sym, ap, subst, ◌∙◌, arith}
+use Rattle.std.proofs.Common.{◌≡◌, ℕ, suc, ◌+◌, ◌*◌, ◌/◌, ◌%◌, ◌^◌, ◌≤◌, Bool, true, false, not, cond, eqb, ltb, find, option_map, List, [], ◌∷◌, ◌++◌, length, Option, Some, None, Result, Ok, Err, refl, sym, ap, ◌∙◌, arith}
 use Rattle.std.specs.Prelude.{IsSome, option_to_list}
 use Rattle.std.specs.List.{AllByRecursion, flat_map, slice_get}
 use Rattle.ebpf_decode.specs.declared.fault.Fault.{Fault}
@@ -8,14 +8,14 @@ use Rattle.ebpf_decode.specs.declared.fields.Fields.{Fields}
 use Rattle.ebpf_decode.specs.declared.insn.Insn.{Insn}
 use Rattle.ebpf_decode.specs.declared.insn.Insn.TheVariants.{LoadImmediate}
 use Rattle.ebpf_decode.specs.Program.{IsProgram, is_wide, slots_of}
-use Rattle.ebpf_decode.specs.Reading.{begins_wide, decoded, entry, found_in, length_fault, read, read_slots, slots_at, then_read, unless_length, with_front}
+use Rattle.ebpf_decode.specs.Reading.{decoded, found_in, length_fault, read, read_slots, slots_at, then_read, unless_length, with_front}
 use Rattle.ebpf_decode.specs.Spelling.{Fits, first_slot, instructions_of, program_bytes, second_slot, slot_bytes, slots_spelled, spelling}
 use Rattle.std.proofs.lemmas.Bool.{eq-eqb, eqb-false, eqb-true, le-ltb, ltb-false, ne_eqb, not-false, not_from_true}
 use Rattle.std.proofs.lemmas.List.Concat.{flat_map-append}
 use Rattle.ebpf_decode.proofs.Again.{read-again}
 use Rattle.ebpf_decode.proofs.Bytes.{FitSlot, IsBytes, fits-32, length-slots_bytes, slots-again, slots-bytes, slots-fields}
 use Rattle.ebpf_decode.proofs.Slots.{length-slots}
-use Rattle.ebpf_decode.proofs.Takes.{AreFields, AreFieldsIn, IsSpelled, IsTaken, read-takes}
+use Rattle.ebpf_decode.proofs.Takes.{AreFields, AreFieldsIn, IsTaken, read-takes}
 
 -- instructions whose slots they are
 pub record Spelled (fs : List Fields) (slots : List (Option Insn)) : Type 0 where

@@ -1,5 +1,5 @@
 -- What an opcode names, and which fields it uses.
-use Rattle.std.specs.Prelude.{ℕ, ◌==◌, ◌/◌, ◌%◌, Bool, true, false, List, [], ◌∷◌, Option, Some, None, option_map, if◌then◌else◌}
+use Rattle.std.specs.Prelude.{ℕ, ◌==◌, ◌/◌, ◌%◌, Bool, true, false, [], ◌∷◌, Option, Some, None, option_map, if◌then◌else◌}
 use Rattle.std.specs.List.{list_any}
 use Rattle.ebpf_decode.specs.declared.opcode.Opcode.{Opcode}
 use Rattle.ebpf_decode.specs.declared.opcode.Opcode.TheVariants as opcodes
@@ -10,7 +10,7 @@ use Rattle.ebpf_decode.specs.declared.operation.Width.{Width}
 use Rattle.ebpf_decode.specs.declared.operation.Width.TheVariants as widths
 use Rattle.ebpf_decode.specs.declared.operation.Operation.{Operation}
 use Rattle.ebpf_decode.specs.declared.operation.Operation.TheVariants.{Divide, Modulo, Move}
-use Rattle.ebpf_decode.specs.Spelling.{LD, LDX, ST, STX, IMM, MEM, MEMSX, NEG, JA, CALL, EXIT, access_opcode, operation_opcode, arithmetic_class, jump_class}
+use Rattle.ebpf_decode.specs.Spelling.{LD, LDX, ST, STX, MEM, MEMSX, NEG, JA, CALL, EXIT, operation_opcode, arithmetic_class, jump_class}
 use Rattle.ebpf_decode.specs.Codes.{size_with, signed_size_with, operation_with, swap_with, relation_with}
 
 abbrev pub or_else : {X : Type 0} → Option X → Option X → Option X

@@ -1,5 +1,5 @@
 use Rattle.ebpf_decode.proofs.Slots.{slots-get, slots-past}
-use Rattle.std.proofs.Common.{◌≡◌, ◌∙◌, ◌/◌, ◌*◌, ◌<◌, sym, ap, length, drop, arith, Some}
+use Rattle.std.proofs.Common.{◌≡◌, ◌∙◌, ◌*◌, sym, ap, drop, arith, Some}
 use Rattle.ebpf_decode.specs.Reading.{fields_at}
 use Rattle.std.proofs.lemmas.Grind.{common_steps}
 use Rattle.ebpf_decode.proofs.decoding.slot_at.Goals as goal
