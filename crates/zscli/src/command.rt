@@ -3,11 +3,14 @@
 use crate::exec;
 use crate::failure::{Failure, STANDARD_OUTPUT};
 use crate::files::Files;
-use clap::{ArgMatches, Command};
+use clap::error::ErrorKind;
+use clap::Command;
 use std::alloc::{AllocError, Global};
 use std::io::Write;
 
-/// Does what the words ask for, the program's name first, and answers the exit status.
+/// Does what the words ask for, the program's name first, and answers the exit status: 0 where all
+/// was done, 1 where a file failed or memory was wanting, 2 for a wrong command line, 3 for input
+/// that is refused. For 1 and 3 the last line written to `err` says what it was.
 pub fn command<F: Files, O: Write, E: Write>(
     alloc: Global,
     words: &[String],
@@ -27,34 +30,34 @@ fn run<'a, F: Files, O: Write>(
     files: &mut F,
     out: &mut O,
 ) -> Result<(), Failure<'a>> {
-    let matches = match command_line(alloc)?.try_get_matches_from(words) {
+    let mut line = command_line(alloc)?;
+    let matches = match line.try_get_matches_from_mut(words) {
         Ok(matches) => matches,
-        Err(error) if error.use_stderr() => return Err(Failure::from(error)),
-        Err(help) => {
-            return write!(out, "{help}").map_err(|_| Failure::CannotWrite(STANDARD_OUTPUT));
-        }
+        Err(error) if error.kind() == ErrorKind::DisplayHelp => return show(&error, out),
+        Err(error) => return Err(Failure::from(error)),
     };
     match matches.subcommand() {
-        Some(("exec", matches)) => exec::exec(
-            alloc,
-            value(matches, "NAMESPACE"),
-            value(matches, "COMMANDS"),
-            files,
-            out,
-        ),
-        _ => Ok(()),
+        Some((exec::NAME, matches)) => exec::exec(alloc, matches, files, out),
+        _ => {
+            let message = "a command is required";
+            Err(Failure::from(line.error(ErrorKind::MissingSubcommand, message)?))
+        }
     }
 }
 
+/// How a command line is written.
 fn command_line<'a>(alloc: Global) -> Result<Command<'a>, AllocError> {
     Command::new(alloc, "zscli")
-        .about("Runs command files on zoned namespaces")
+        .about("Works on zoned namespaces, and on the programs that run beside their data")
         .subcommand_required(true)
         .arg_required_else_help(true)
         .subcommand(exec::subcommand(alloc)?)
 }
 
-/// The value of a required argument.
-fn value<'a>(matches: &ArgMatches<'a>, id: &str) -> &'a str {
-    matches.get_str(id).unwrap_or("")
+/// Prints the help that was asked for.
+fn show<'a, O: Write>(help: &clap::Error, out: &mut O) -> Result<(), Failure<'a>> {
+    match write!(out, "{help}") {
+        Ok(()) => Ok(()),
+        Err(_) => Err(Failure::CannotWrite(STANDARD_OUTPUT)),
+    }
 }

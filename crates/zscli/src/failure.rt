@@ -1,6 +1,7 @@
 //! Why a command ends before its work is done, and what the user is told.
 
 use crate::command_file::ParseError;
+use crate::files::FileError;
 use std::alloc::AllocError;
 use std::io;
 use std::io::Write;
@@ -26,7 +27,15 @@ pub enum Failure<'a> {
     LineRefused(usize),
 }
 
-impl Failure<'_> {
+impl<'a> Failure<'a> {
+    /// That of reading a file.
+    pub fn reading(path: &'a str, error: FileError) -> Failure<'a> {
+        match error {
+            FileError::Failed => Failure::CannotRead(path),
+            FileError::OutOfMemory => Failure::NoMemory,
+        }
+    }
+
     /// Tells the user, and answers the exit status.
     pub fn tell<E: Write>(self, err: &mut E) -> u8 {
         let _ = write!(err, "{self}");

@@ -3,11 +3,13 @@
 
 mod command;
 mod command_file;
+mod device;
 mod event;
 mod exec;
 mod failure;
 mod files;
 mod lines;
+mod namespace;
 mod out;
 mod reply;
 #[cfg(test)]

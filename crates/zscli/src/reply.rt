@@ -1,5 +1,8 @@
 //! What a device answers.
 
+ghost use Rattle.std.specs.Prelude.{◌≡◌};
+ghost use Rattle.zscli.specs.Events.{data_length};
+
 /// The answer to an event.
 #[derive(Clone, Copy, Debug, PartialEq, Eq)]
 pub enum Reply {
@@ -17,4 +20,16 @@ pub enum Reply {
     Done,
     /// A fault was refused.
     FaultRefused,
+}
+
+impl Reply {
+    /// How many bytes of data go with the reply.
+    pub fn data_length(&self) -> usize
+        ensures { result ≡ data_length self.now }
+    {
+        match self {
+            Reply::Complete { length, .. } => *length,
+            Reply::Pending { .. } | Reply::Idle | Reply::Done | Reply::FaultRefused => 0,
+        }
+    }
 }
