@@ -1,13 +1,15 @@
 -- The fields of a submission queue entry and the command that they name.
-use Rattle.std.specs.Prelude.{ℕ, ◌+◌, ◌*◌, ◌%◌, ◌^◌, ◌==◌, List, [], ◌∷◌, Option, Some, None, Result, if◌then◌else◌, is_some, unwrap_or, drop, slice_index}
+use Rattle.std.specs.Prelude.{ℕ, Bool, ◌+◌, ◌*◌, ◌%◌, ◌^◌, ◌==◌, List, [], ◌∷◌, Option, Some, None, Result, if◌then◌else◌, is_some, unwrap_or, drop, slice_index}
 use Rattle.byteorder.specs.Endian.{little_number}
+use Rattle.zone_state.specs.declared.action.Action.{Action}
+use Rattle.zone_state.specs.declared.action.Action.TheVariants as action
 use Rattle.zone_state.specs.declared.status.Status.{Status}
 use Rattle.zone_state.specs.declared.status.TheConstants.Status.{INVALID_COMMAND_OPCODE, INVALID_FIELD_IN_COMMAND, INVALID_NAMESPACE_OR_FORMAT}
 use Rattle.nvme_entry.specs.Checks.{demand, first_refused, allowed}
 use Rattle.nvme_entry.specs.declared.command.Opcode.{Opcode}
 use Rattle.nvme_entry.specs.declared.command.Opcode.TheVariants as opcode
 use Rattle.nvme_entry.specs.declared.command.Command.{Command}
-use Rattle.nvme_entry.specs.declared.command.Command.TheVariants.{Read, Append}
+use Rattle.nvme_entry.specs.declared.command.Command.TheVariants.{Read, Send, Append}
 
 -- the number that so many bytes from a byte on spell, the lowest first (NVMe Base 2.0, 1.8.2)
 abbrev pub field : List ℕ → ℕ → ℕ → ℕ
@@ -37,12 +39,32 @@ block_count entry = field entry 48 2 + 1
 abbrev pub opcode_of : ℕ → Option Opcode
 opcode_of code =
     if code == 0x02 then Some opcode.Read else
+    if code == 0x79 then Some opcode.ZoneManagementSend else
     if code == 0x7D then Some opcode.ZoneAppend else None
+
+-- Command Dword 13, bits 7:0: the zone send action (ZNS 1.1, figure 46)
+abbrev pub action_of : ℕ → Option Action
+action_of code =
+    if code == 0x01 then Some action.Close else
+    if code == 0x02 then Some action.Finish else
+    if code == 0x03 then Some action.Open else
+    if code == 0x04 then Some action.Reset else
+    if code == 0x05 then Some action.Offline else None
+
+-- Command Dword 13, bit 8: Select All (ZNS 1.1, figure 46)
+abbrev pub selects_all : List ℕ → Bool
+selects_all entry = slice_index entry 53 % 2 == 1
 
 -- the command that the fields name
 abbrev pub command_of : Opcode → List ℕ → Command
 command_of opcode.Read entry = Read (starting_lba entry) (block_count entry)
+command_of opcode.ZoneManagementSend entry = Send (starting_lba entry) (unwrap_or (action_of (slice_index entry 52)) action.Close) (selects_all entry)
 command_of opcode.ZoneAppend entry = Append (starting_lba entry) (block_count entry)
+
+-- the checks of the fields of a command (profile)
+abbrev pub field_checks : Opcode → List ℕ → List (Option Status)
+field_checks opcode.ZoneManagementSend entry = demand (is_some (action_of (slice_index entry 52))) INVALID_FIELD_IN_COMMAND ∷ []
+field_checks _ entry = []
 
 -- the checks of an entry alone, in order (profile); the one namespace is 1 (profile)
 abbrev pub entry_checks : Option Opcode → List ℕ → List (Option Status)
@@ -50,7 +72,7 @@ entry_checks found entry =
     demand (is_some found) INVALID_COMMAND_OPCODE
     ∷ demand (fuse_of entry == 0) INVALID_FIELD_IN_COMMAND
     ∷ demand (namespace_of entry == 1) INVALID_NAMESPACE_OR_FORMAT
-    ∷ []
+    ∷ field_checks (unwrap_or found opcode.Read) entry
 
 abbrev pub decoded_by : Option Opcode → List ℕ → Result Command Status
 decoded_by found entry = allowed (first_refused (entry_checks found entry)) (command_of (unwrap_or found opcode.Read) entry)

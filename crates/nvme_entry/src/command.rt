@@ -1,35 +1,90 @@
 //! Commands and their opcodes.
 
-ghost use Rattle.std.specs.Prelude.{◌≡◌};
+ghost use Rattle.std.specs.Prelude.{◌≡◌, ◌+◌, ◌≤◌};
 ghost use Rattle.nvme_entry.specs.Entry.{opcode_of};
+
+use std::marker::Model;
+use zone_state::Action;
 
 /// The opcode of a command (NVM Command Set 1.0, 3.2; ZNS 1.1, 3.4).
 #[derive(Clone, Copy, Debug, PartialEq, Eq)]
 pub enum Opcode {
     Read,
+    ZoneManagementSend,
     ZoneAppend,
 }
 
 impl Opcode {
-    /// The opcode with this code: 02h Read, 7Dh Zone Append; `None` for any other.
+    /// The opcode with this code; `None` for one that isn't supported.
     pub fn from_code(code: u8) -> Option<Opcode>
         ensures { result ≡ opcode_of code }
     {
         match code {
             0x02 => Some(Opcode::Read),
+            0x79 => Some(Opcode::ZoneManagementSend),
             0x7D => Some(Opcode::ZoneAppend),
             _ => None,
         }
     }
 }
 
-/// A command with its fields. `lba` is a logical block address, `blocks` a number of blocks from 1
-/// to 65536.
+/// A number of logical blocks, from 1 to 65536. A clause sees the number.
+#[derive(Clone, Copy, Debug, PartialEq, Eq)]
+pub struct BlockCount {
+    blocks: u32,
+}
+
+impl Model for BlockCount {
+    ghost use Rattle.std.specs.Prelude.{◌≤◌, ℕ};
+
+    ghost Value = { ℕ };
+
+    ghost view = { λ n. n.blocks };
+
+    ghost invariant = { λ n. (1 ≤ n.blocks) × (n.blocks ≤ 65536) };
+
+    ghost inverse = { λ n. record { blocks = n } };
+}
+
+impl BlockCount {
+    /// The number that a zero-based field spells: one more than the field says.
+    pub fn from_zero_based(field: u16) -> BlockCount
+        ensures { result ≡ field + 1 }
+    {
+        BlockCount {
+            blocks: u32::from(field) + 1,
+        }
+    }
+
+    /// The number of blocks.
+    pub fn get(self) -> u32
+        ensures value { result ≡ self }
+        ensures some { 1 ≤ result }
+        ensures most { result ≤ 65536 }
+    {
+        self.blocks
+    }
+}
+
+/// A command with its fields. `lba` is a logical block address.
 #[derive(Clone, Copy, Debug, PartialEq, Eq)]
 pub enum Command {
     /// Reads blocks from `lba` on (NVM Command Set 1.0, 3.2.4).
-    Read { lba: u64, blocks: u32 },
+    Read {
+        lba: u64,
+        blocks: BlockCount,
+    },
+    /// Takes an action on the zone whose lowest address is `lba`, or on all zones that the action
+    /// takes (ZNS 1.1, 3.4.3).
+    Send {
+        lba: u64,
+        action: Action,
+        select_all: bool,
+    },
     /// Writes blocks at the write pointer of the zone whose lowest address is `lba`
     /// (ZNS 1.1, 3.4.1).
-    Append { lba: u64, blocks: u32 },
+    Append {
+        lba: u64,
+        blocks: BlockCount,
+    },
 }

@@ -1,11 +1,12 @@
 //! Submission queue entries.
 
 ghost use Rattle.std.specs.Prelude.{◌≡◌, ◌+◌, ◌*◌, ◌^◌, ◌≤◌, length};
-ghost use Rattle.nvme_entry.specs.Entry.{decoded, identifier_of, starting_lba, block_count, field, fuse_of, namespace_of};
+ghost use Rattle.nvme_entry.specs.Checks.{allowed, first_refused};
+ghost use Rattle.nvme_entry.specs.Entry.{decoded, command_of, field_checks, action_of, identifier_of, starting_lba, block_count, field, fuse_of, namespace_of};
 
-use crate::command::{Command, Opcode};
+use crate::command::{BlockCount, Command, Opcode};
 use byteorder::{ByteOrder, LittleEndian};
-use zone_state::Status;
+use zone_state::{Action, Status};
 
 /// The one namespace's identifier (profile).
 const NAMESPACE: u32 = 1;
@@ -20,7 +21,7 @@ impl Entry {
     ///
     /// The first that applies: Invalid Command Opcode for an opcode that isn't supported; Invalid
     /// Field in Command for a fused command; Invalid Namespace or Format for a namespace other than
-    /// 1.
+    /// 1; Invalid Field in Command for a zone send action that there isn't.
     pub fn decode(entry: &[u8; 64]) -> Result<Command, Status>
         ensures { result ≡ decoded entry.now }
     {
@@ -33,12 +34,27 @@ impl Entry {
         if Entry::namespace(entry) != NAMESPACE {
             return Err(Status::INVALID_NAMESPACE_OR_FORMAT);
         }
+        Entry::command(opcode, entry)
+    }
+
+    /// The command that the fields of an entry name.
+    fn command(opcode: Opcode, entry: &[u8; 64]) -> Result<Command, Status>
+        ensures { result ≡ allowed (first_refused (field_checks opcode entry.now)) (command_of opcode entry.now) }
+    {
         let lba = Entry::lba(entry);
         let blocks = Entry::blocks(entry);
-        Ok(match opcode {
-            Opcode::Read => Command::Read { lba, blocks },
-            Opcode::ZoneAppend => Command::Append { lba, blocks },
-        })
+        match opcode {
+            Opcode::Read => Ok(Command::Read { lba, blocks }),
+            Opcode::ZoneAppend => Ok(Command::Append { lba, blocks }),
+            Opcode::ZoneManagementSend => match action(entry[52]) {
+                Some(action) => Ok(Command::Send {
+                    lba,
+                    action,
+                    select_all: entry[53] % 2 == 1,
+                }),
+                None => Err(Status::INVALID_FIELD_IN_COMMAND),
+            },
+        }
     }
 
     /// The command identifier of an entry, which its completion repeats.
@@ -66,10 +82,24 @@ impl Entry {
         two_dwords(dword(entry, 40), dword(entry, 44))
     }
 
-    fn blocks(entry: &[u8; 64]) -> u32
+    fn blocks(entry: &[u8; 64]) -> BlockCount
         ensures { result ≡ block_count entry.now }
     {
-        u32::from(LittleEndian::read_u16(&entry[48..])) + 1
+        BlockCount::from_zero_based(LittleEndian::read_u16(&entry[48..]))
+    }
+}
+
+/// The action with this code in the field Zone Send Action (ZNS 1.1, figure 46).
+fn action(code: u8) -> Option<Action>
+    ensures { result ≡ action_of code }
+{
+    match code {
+        0x01 => Some(Action::Close),
+        0x02 => Some(Action::Finish),
+        0x03 => Some(Action::Open),
+        0x04 => Some(Action::Reset),
+        0x05 => Some(Action::Offline),
+        _ => None,
     }
 }
 

@@ -5,8 +5,10 @@
 mod command;
 mod completion;
 mod entry;
+#[cfg(test)]
+mod tests;
 
-pub use command::{Command, Opcode};
+pub use command::{BlockCount, Command, Opcode};
 pub use completion::Completion;
 pub use entry::Entry;
 pub use zone_state::Status;

@@ -1,21 +1,28 @@
 //! One zone: its state, how many of its blocks are written, and its capacity.
 
-ghost use Rattle.std.specs.Prelude.{◌≡◌, ◌+◌, ◌≤◌, ◌<◌, ◌↔◌, IsSome, IfSome, OnOk, OnErr, IfOk, Ok, Err, Option, None, Some};
-ghost use Rattle.zone_state.specs.Zone.{IsZone, refusal, after_write, in_state};
+ghost use Rattle.std.specs.Prelude.{◌≡◌, ◌≤◌, ◌↔◌, IsSome, IfSome, OnOk, OnErr, IfOk};
 ghost use Rattle.zone_state.specs.Transition.{transition};
+ghost use Rattle.zone_state.specs.Zone.{IsZone, refusal, after_write, in_state, fault_refusal, state_of_fault};
 
 use crate::action::Action;
-use crate::state::ZoneState;
+use crate::state::{FaultState, ZoneState};
 use crate::status::Status;
 use std::marker::Model;
 
-/// A zone. Its written blocks are counted from its lowest LBA.
-#[derive(Clone, Copy, Debug)]
+/// A zone: its state, its capacity in blocks, and the number of its written blocks.
+///
+/// The written blocks are the zone's first, so its write pointer is its lowest LBA and that number
+/// (ZNS Command Set 1.1, Zone State Machine).
+#[derive(Clone, Copy, Debug, PartialEq, Eq)]
 pub struct Zone {
     state: ZoneState,
     written: u32,
     capacity: u32,
 }
+
+/// A fault that a zone cannot have: one to Read Only where the zone is Offline (profile).
+#[derive(Clone, Copy, Debug, PartialEq, Eq)]
+pub struct FaultRefused;
 
 impl Model for Zone {
     ghost use Rattle.zone_state.specs.Zone.{ZoneRecord, IsZone};
@@ -30,7 +37,9 @@ impl Model for Zone {
 }
 
 impl Zone {
-    /// A zone with these three, where they can stand together.
+    /// The zone of this state with `written` of its `capacity` blocks written; None where a zone
+    /// of that state has another number of them (ZNS Command Set 1.1, Zone State Machine), or
+    /// where the capacity is 0 blocks.
     pub fn new(state: ZoneState, written: u32, capacity: u32) -> Option<Zone>
         ensures found { IsSome result ↔ IsZone state written capacity }
         ensures value { IfSome result (λ z. z ≡ record { state = state; written = written; capacity = capacity }) }
@@ -52,25 +61,36 @@ impl Zone {
         }
     }
 
+    /// The zone's state.
     pub fn state(&self) -> ZoneState
         ensures { result ≡ self.now.state }
     {
         self.state
     }
 
+    /// How many blocks are written.
     pub fn written(&self) -> u32
         ensures { result ≡ self.now.written }
     {
         self.written
     }
 
+    /// How many blocks can be written before the zone has to be reset: at least 1.
     pub fn capacity(&self) -> u32
         ensures { result ≡ self.now.capacity }
     {
         self.capacity
     }
 
-    /// May `n` blocks be written from block `at` of the zone on?
+    /// Whether `n` blocks, at least one, may be written from block `at` of the zone on (ZNS
+    /// Command Set 1.1, Zone State Machine and 3.4.1). The first check that fails decides.
+    ///
+    /// # Errors
+    ///
+    /// - [`Status::ZONE_IS_FULL`], [`Status::ZONE_IS_READ_ONLY`] and [`Status::ZONE_IS_OFFLINE`],
+    ///   where the zone is so;
+    /// - [`Status::ZONE_INVALID_WRITE`] where `at` is not the number of written blocks;
+    /// - [`Status::ZONE_BOUNDARY_ERROR`] where fewer than `n` blocks are left.
     pub fn check_write(&self, at: u32, n: u32) -> Result<(), Status>
         requires { 1 ≤ n }
         ensures { result ≡ refusal self.now at n }
@@ -90,7 +110,9 @@ impl Zone {
         Ok(())
     }
 
-    /// Notes that `n` blocks were written at the write pointer.
+    /// Notes that `n` blocks were written at the write pointer. The zone becomes Full where they
+    /// reach its capacity; else it is open, and implicitly so unless the host had opened it (ZNS
+    /// Command Set 1.1, Zone State Machine).
     pub fn note_written(&mut self, n: u32)
         requires some { 1 ≤ n }
         requires fits { refusal self.old self.old.written n ≡ Ok tt }
@@ -104,47 +126,49 @@ impl Zone {
         }
     }
 
-    /// Takes a zone send action.
+    /// Takes a Zone Send Action, and tells the state that the zone then has (ZNS Command Set 1.1,
+    /// 3.4.3). Reset and Offline forget the written blocks; Finish moves none.
+    ///
+    /// # Errors
+    ///
+    /// [`Status::INVALID_ZONE_STATE_TRANSITION`] where the zone's state does not allow the action;
+    /// the zone is then as before.
     pub fn manage(&mut self, action: Action) -> Result<ZoneState, Status>
         ensures state { result ≡ transition action self.old.state }
         ensures ok { IfOk result (λ to. self.new ≡ in_state to self.old) }
         ensures err { OnErr result (self.new ≡ self.old) }
     {
-        let to = match (action, self.state) {
-            (
-                Action::Close,
-                ZoneState::ImplicitlyOpened | ZoneState::ExplicitlyOpened | ZoneState::Closed,
-            ) => ZoneState::Closed,
-            (
-                Action::Finish,
-                ZoneState::Empty
-                | ZoneState::ImplicitlyOpened
-                | ZoneState::ExplicitlyOpened
-                | ZoneState::Closed
-                | ZoneState::Full,
-            ) => ZoneState::Full,
-            (
-                Action::Open,
-                ZoneState::Empty
-                | ZoneState::ImplicitlyOpened
-                | ZoneState::ExplicitlyOpened
-                | ZoneState::Closed,
-            ) => ZoneState::ExplicitlyOpened,
-            (
-                Action::Reset,
-                ZoneState::Empty
-                | ZoneState::ImplicitlyOpened
-                | ZoneState::ExplicitlyOpened
-                | ZoneState::Closed
-                | ZoneState::Full,
-            ) => ZoneState::Empty,
-            (Action::Offline, ZoneState::ReadOnly | ZoneState::Offline) => ZoneState::Offline,
-            _ => return Err(Status::INVALID_TRANSITION),
-        };
+        let to = action.transition(self.state)?;
         if to == ZoneState::Empty || to == ZoneState::Offline {
             self.written = 0;
         }
         self.state = to;
         Ok(to)
+    }
+
+    /// Takes a fault (profile). Read Only keeps the written blocks, Offline forgets them; a zone
+    /// that has the state already stays as it is.
+    ///
+    /// # Errors
+    ///
+    /// [`FaultRefused`] for Read Only where the zone is Offline; the zone is then as before.
+    pub fn fault(&mut self, to: FaultState) -> Result<(), FaultRefused>
+        ensures answer { result ≡ fault_refusal to self.old.state }
+        ensures ok { OnOk result (self.new ≡ in_state (state_of_fault to) self.old) }
+        ensures err { OnErr result (self.new ≡ self.old) }
+    {
+        match to {
+            FaultState::ReadOnly => {
+                if self.state == ZoneState::Offline {
+                    return Err(FaultRefused);
+                }
+                self.state = ZoneState::ReadOnly;
+            }
+            FaultState::Offline => {
+                self.written = 0;
+                self.state = ZoneState::Offline;
+            }
+        }
+        Ok(())
     }
 }

@@ -1,0 +1,5 @@
+use Rattle.image_store.proofs.Images.{shape_seen}
+use Rattle.image_store.proofs.image.Image.geometry.Goals as goal
+
+pub returns-clause-value : goal.returns-clause-value
+returns-clause-value c = shape_seen c.self.inside.geometry c.self.inside.zones.items c.self.inside.blocks.items c.args.self.now c.self.view_is c.self.invariant

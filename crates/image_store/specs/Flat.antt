@@ -1,0 +1,39 @@
+-- Zones whose blocks lie in one list of bytes, in a slot of one size for each zone.
+use Rattle.std.specs.Prelude.{ℕ, ◌≡◌, ◌≤◌, ◌<◌, ◌+◌, ◌*◌, List, [], ◌∷◌, ◌++◌, length, get_or, take, drop}
+use Rattle.zone_state.specs.declared.state.ZoneState.TheVariants.{Empty, Offline}
+use Rattle.zone_state.specs.Zone.{ZoneRecord}
+use Rattle.image_store.specs.Blocks.{blocks_of}
+use Rattle.image_store.specs.Geometry.{Shape, IsShape}
+use Rattle.image_store.specs.Namespace.{ZoneBlocks, ZonedNamespace}
+
+-- the zone of a record whose blocks stand at the front of these bytes
+abbrev pub zone_seen : ℕ → ZoneRecord → List ℕ → ZoneBlocks
+zone_seen block z bytes = record { state = z.state; blocks = blocks_of block z.written bytes }
+
+-- the zones of these slots, each of so many blocks of this many bytes
+abbrev pub zones_of : ℕ → ℕ → List ZoneRecord → List ℕ → List ZoneBlocks
+zones_of block capacity [] bytes = []
+zones_of block capacity (z ∷ zs) bytes =
+    zone_seen block z bytes ∷ zones_of block capacity zs (drop (capacity * block) bytes)
+
+abbrev pub namespace_of : Shape → List ZoneRecord → List ℕ → ZonedNamespace
+namespace_of s zones bytes = record { block = s.block; size = s.size; capacity = s.capacity; zones = zones_of s.block s.capacity zones bytes }
+
+abbrev pub no_record : ZoneRecord
+no_record = record { state = Offline; written = 0; capacity = 0 }
+
+-- a zone of which nothing is written
+abbrev pub empty_record : ℕ → ZoneRecord
+empty_record capacity = record { state = Empty; written = 0; capacity = capacity }
+
+-- a slot for each zone, and no zone has more blocks than fit its slot
+pub record IsFlat (s : Shape) (zones : List ZoneRecord) (bytes : List ℕ) : Type 0 where
+  pub shape : IsShape s
+  pub count : length zones ≡ s.zones
+  pub room : length bytes ≡ s.zones * (s.capacity * s.block)
+  pub capacities : (z : ℕ) → z < length zones → (get_or zones z no_record).capacity ≡ s.capacity
+  pub within : (z : ℕ) → z < length zones → (get_or zones z no_record).written ≤ s.capacity
+
+-- bytes with others put in their place from one on
+abbrev pub spliced : ℕ → List ℕ → List ℕ → List ℕ
+spliced at new bytes = take at bytes ++ (new ++ drop (at + length new) bytes)

@@ -1,0 +1,169 @@
+//! The shape of a namespace.
+
+ghost use Rattle.std.specs.Prelude.{◌≡◌, ◌≤◌, ◌<◌, ◌*◌, ◌^◌, ◌+◌, IfSome, OnSome};
+ghost use Rattle.image_store.specs.Geometry.{tested, shape_of, place_of, is_block_size, is_counted, IsShape};
+
+use std::marker::Model;
+use thiserror::Error;
+
+/// The most bytes that the blocks of all zones may take.
+const MOST_BYTES: u64 = 268_435_456;
+
+/// Why numbers are no geometry. The variants stand in the order of the tests.
+#[derive(Clone, Copy, Debug, PartialEq, Eq, Error)]
+pub enum GeometryFault {
+    #[error("the block size is none of 512, 1024, 2048 and 4096")]
+    BlockSize,
+    #[error("the number of zones is not from 1 to 1024")]
+    ZoneCount,
+    #[error("the zone size is not from 1 to 16777216 blocks")]
+    ZoneSize,
+    #[error("the zone capacity is not from 1 to the zone size")]
+    ZoneCapacity,
+    #[error("the zones' capacity is more than 268435456 bytes in all")]
+    TooLarge,
+}
+
+/// A logical block as a block of a zone.
+#[derive(Clone, Copy, Debug, PartialEq, Eq)]
+pub struct Place {
+    /// The number of the zone.
+    pub zone: u32,
+    /// How many blocks lie between the zone's lowest one and this one.
+    pub offset: u32,
+}
+
+/// The shape of a namespace: bytes of a block, number of zones, and blocks of a zone with how many
+/// of them can be written (ZNS 1.1, 2.1.1).
+#[derive(Clone, Copy, Debug, PartialEq, Eq)]
+pub struct Geometry {
+    block: u32,
+    zones: u32,
+    size: u32,
+    capacity: u32,
+}
+
+impl Model for Geometry {
+    ghost use Rattle.image_store.specs.Geometry.{Shape, IsShape};
+
+    ghost Value = { Shape };
+
+    ghost view = { λ g. record { block = g.block; zones = g.zones; size = g.size; capacity = g.capacity } };
+
+    ghost invariant = { λ g. IsShape (record { block = g.block; zones = g.zones; size = g.size; capacity = g.capacity }) };
+
+    ghost inverse = { λ s. record { block = s.block; zones = s.zones; size = s.size; capacity = s.capacity } };
+}
+
+impl Geometry {
+    /// A geometry of these numbers. `size` and `capacity` are in blocks.
+    ///
+    /// # Errors
+    ///
+    /// The first of [`GeometryFault`] that applies.
+    pub fn new(block: u32, zones: u32, size: u32, capacity: u32) -> Result<Geometry, GeometryFault>
+        ensures { result ≡ tested (shape_of block zones size capacity) }
+    {
+        if !is_block_size(block) {
+            return Err(GeometryFault::BlockSize);
+        }
+        if !is_counted(zones, 1024) {
+            return Err(GeometryFault::ZoneCount);
+        }
+        if !is_counted(size, 16_777_216) {
+            return Err(GeometryFault::ZoneSize);
+        }
+        if !is_counted(capacity, size) {
+            return Err(GeometryFault::ZoneCapacity);
+        }
+        if u64::from(zones) * u64::from(capacity) * u64::from(block) > MOST_BYTES {
+            return Err(GeometryFault::TooLarge);
+        }
+        Ok(Geometry {
+            block,
+            zones,
+            size,
+            capacity,
+        })
+    }
+
+    /// Bytes of a block.
+    pub fn block(self) -> u32
+        ensures value { result ≡ self.block }
+        ensures shape { IsShape self }
+    {
+        self.block
+    }
+
+    /// The number of zones.
+    pub fn zones(self) -> u32
+        ensures { result ≡ self.zones }
+    {
+        self.zones
+    }
+
+    /// Blocks of a zone, written or not.
+    pub fn size(self) -> u32
+        ensures { result ≡ self.size }
+    {
+        self.size
+    }
+
+    /// How many blocks of a zone can be written.
+    pub fn capacity(self) -> u32
+        ensures { result ≡ self.capacity }
+    {
+        self.capacity
+    }
+
+    /// The number of logical blocks of the namespace.
+    pub fn blocks(self) -> u64
+        ensures value { result ≡ self.zones * self.size }
+        ensures most { result ≤ 2 ^ 34 }
+    {
+        u64::from(self.zones) * u64::from(self.size)
+    }
+
+    /// The zone and place of a logical block, or `None` for an address past the namespace's end.
+    pub fn place(self, lba: u64) -> Option<Place>
+        ensures value { result ≡ place_of self lba }
+        ensures inside { IfSome result (λ place. place.zone < self.zones) }
+        ensures lowest { IfSome result (λ place. place.zone * self.size + place.offset ≡ lba) }
+        ensures small { OnSome result (lba < 2 ^ 34) }
+    {
+        if lba >= self.blocks() {
+            return None;
+        }
+        let size = u64::from(self.size);
+        Some(Place {
+            zone: (lba / size) as u32,
+            offset: (lba % size) as u32,
+        })
+    }
+
+    /// Bytes that the blocks of one zone may take.
+    pub fn slot(self) -> usize
+        ensures { result ≡ self.capacity * self.block }
+    {
+        self.capacity as usize * self.block as usize
+    }
+
+    /// Bytes that the blocks of all zones may take.
+    pub fn room(self) -> usize
+        ensures { result ≡ self.zones * (self.capacity * self.block) }
+    {
+        self.zones as usize * self.slot()
+    }
+}
+
+fn is_block_size(block: u32) -> bool
+    ensures { result ≡ is_block_size block }
+{
+    block == 512 || block == 1024 || block == 2048 || block == 4096
+}
+
+fn is_counted(n: u32, most: u32) -> bool
+    ensures { result ≡ is_counted n most }
+{
+    1 <= n && n <= most
+}

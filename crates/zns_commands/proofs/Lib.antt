@@ -1,0 +1,2 @@
+pub mod ReadBytes
+pub mod Transfers

@@ -1,0 +1,13 @@
+-- The data of a command.
+use Rattle.std.specs.Prelude.{ℕ, ◌*◌, ◌==◌, nat_le, List, [], ◌∷◌, length, Option}
+use Rattle.zone_state.specs.declared.status.Status.{Status}
+use Rattle.zone_state.specs.declared.status.TheConstants.Status.{INVALID_FIELD_IN_COMMAND}
+use Rattle.zns_commands.specs.declared.transfer.TheConstants.{MOST_TRANSFER}
+use Rattle.nvme_entry.specs.Checks.{demand}
+
+-- a transfer of so many bytes, of which these stand beside the entry
+abbrev pub transfer_checks : ℕ → ℕ → List ℕ → List (Option Status)
+transfer_checks bytes beside input =
+    demand (nat_le bytes MOST_TRANSFER) INVALID_FIELD_IN_COMMAND
+    ∷ demand (length input == beside) INVALID_FIELD_IN_COMMAND
+    ∷ []

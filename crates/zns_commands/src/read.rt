@@ -1,0 +1,97 @@
+//! Read.
+
+ghost use Rattle.std.specs.Prelude.{◌≡◌, ◌≤◌, ◌<◌, ◌*◌, ◌+◌, ◌-◌, ◌++◌, ◌^◌, length, take, drop, replicate, List, ℕ, IfOk, OnOk};
+ghost use Rattle.image_store.specs.Blocks.{bytes_of};
+ghost use Rattle.image_store.specs.Namespace.{ZonedNamespace, zone_at};
+ghost use Rattle.nvme_entry.specs.Checks.{first_refused, allowed};
+ghost use Rattle.zns_commands.specs.Answer.{outcome};
+ghost use Rattle.zns_commands.specs.Read.{read_checks, read_meaning, blocks_read, place_read, CanRead};
+
+use crate::answer::Answer;
+use crate::transfer;
+use crate::transfer::MOST_TRANSFER;
+use image_store::{Image, Place};
+use nvme_entry::{BlockCount, Status};
+use zone_state::ZoneState;
+
+/// Where a read begins.
+fn check(image: &Image, lba: u64, blocks: BlockCount, input: &[u8]) -> Result<Place, Status>
+    ensures value { result ≡ allowed (first_refused (read_checks image.now lba blocks input.now)) (place_read image.now lba) }
+    ensures can { IfOk result (λ place. CanRead image.now place blocks) }
+{
+    let geometry = image.geometry();
+    let bytes = u64::from(blocks.get()) * u64::from(geometry.block());
+    transfer::check(bytes, 0, input)?;
+    if u64::from(blocks.get()) > geometry.blocks().saturating_sub(lba) {
+        return Err(Status::LBA_OUT_OF_RANGE);
+    }
+    let Some(place) = geometry.place(lba) else {
+        return Err(Status::LBA_OUT_OF_RANGE);
+    };
+    if u64::from(place.offset) + u64::from(blocks.get()) > u64::from(geometry.size()) {
+        return Err(Status::ZONE_BOUNDARY_ERROR);
+    }
+    if image.zone(place.zone).state() == ZoneState::Offline {
+        return Err(Status::ZONE_IS_OFFLINE);
+    }
+    Ok(place)
+}
+
+/// Puts bytes at the front.
+fn copy_front(output: &mut [u8], bytes: &[u8])
+    requires { length bytes.now ≤ length output.old }
+    ensures { output.new ≡ bytes.now ++ drop (length bytes.now) output.old }
+{
+    output[..bytes.len()].copy_from_slice(bytes);
+}
+
+/// Puts zeros at the front.
+fn clear_front(output: &mut [u8], count: usize)
+    requires { count ≤ length output.old }
+    ensures { output.new ≡ replicate count 0 ++ drop count output.old }
+{
+    output[..count].fill(0);
+}
+
+/// Puts bytes at the front, and so many zeros behind them.
+fn give(output: &mut [u8], bytes: &[u8], zeros: usize)
+    requires { length bytes.now + zeros ≤ length output.old }
+    ensures { output.new ≡ bytes.now ++ (replicate zeros 0 ++ drop (length bytes.now + zeros) output.old) }
+{
+    copy_front(output, bytes);
+    clear_front(&mut output[bytes.len()..], zeros);
+}
+
+/// Gives the blocks from a place on, and answers how many bytes they are.
+fn give_blocks(image: &Image, place: Place, blocks: BlockCount, output: &mut [u8]) -> usize
+    requires can { CanRead image.now place blocks }
+    requires room { MOST_TRANSFER ≤ length output.old }
+    ensures length { result ≡ blocks * image.now.block }
+    ensures front { take result output.new ≡ bytes_of (blocks_read image.now.block (zone_at image.now place.zone).blocks place.offset blocks) }
+    ensures rest { drop result output.new ≡ drop result output.old }
+{
+    let block = image.geometry().block() as usize;
+    let written = image.zone(place.zone).written();
+    let first = place.offset.min(written);
+    let stored = blocks.get().min(written - first);
+    let missing = (blocks.get() - stored) as usize;
+    give(
+        output,
+        image.blocks(place.zone, first, stored),
+        missing * block,
+    );
+    blocks.get() as usize * block
+}
+
+/// Gives the data of the blocks from `lba` on. It changes nothing.
+pub fn read(image: &Image, lba: u64, blocks: BlockCount, input: &[u8], output: &mut [u8]) -> Answer
+    requires { MOST_TRANSFER ≤ length output.old }
+    ensures answer { outcome result image.now output.new ≡ read_meaning image.now lba blocks input.now }
+    ensures most { result.length ≤ MOST_TRANSFER }
+    ensures rest { drop result.length output.new ≡ drop result.length output.old }
+{
+    match check(image, lba, blocks, input) {
+        Ok(place) => Answer::success(0, give_blocks(image, place, blocks, output)),
+        Err(status) => Answer::refused(status),
+    }
+}

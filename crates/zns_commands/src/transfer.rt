@@ -1,0 +1,26 @@
+//! The checks of a command's data.
+
+ghost use Rattle.std.specs.Prelude.{◌≡◌, ◌≤◌, ◌*◌, ◌^◌, ◌<◌, length, OnOk};
+ghost use Rattle.nvme_entry.specs.Checks.{first_refused, allowed};
+ghost use Rattle.zns_commands.specs.Transfer.{transfer_checks};
+
+use nvme_entry::Status;
+
+/// The most bytes that one command moves (the Maximum Data Transfer Size of NVMe Base 2.0, figure
+/// 276; its value is profile).
+pub const MOST_TRANSFER: usize = 131_072;
+
+/// Tests a transfer of `bytes`, of which `beside` should stand beside the entry.
+pub fn check(bytes: u64, beside: u64, input: &[u8]) -> Result<(), Status>
+    ensures value { result ≡ allowed (first_refused (transfer_checks bytes beside input.now)) tt }
+    ensures whole { OnOk result (length input.now ≡ beside) }
+    ensures most { OnOk result (bytes ≤ MOST_TRANSFER) }
+{
+    if bytes > MOST_TRANSFER as u64 {
+        return Err(Status::INVALID_FIELD_IN_COMMAND);
+    }
+    if input.len() as u64 != beside {
+        return Err(Status::INVALID_FIELD_IN_COMMAND);
+    }
+    Ok(())
+}

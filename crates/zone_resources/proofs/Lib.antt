@@ -1,0 +1,3 @@
+pub mod AdmissionLemmas
+pub mod CountLemmas
+pub mod LimitLemmas

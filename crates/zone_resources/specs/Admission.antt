@@ -1,0 +1,92 @@
+-- Whether a zone may take resources, and which zone gives way to it.
+use Rattle.std.specs.Prelude.{ℕ, Bool, true, false, Option, Some, None, Result, Ok, Err, List, ◌≡◌, ◌<◌, ◌≤◌, ◌&&◌, not, nat_lt, if◌then◌else◌, position, slice_get, slice_set, MatchOption}
+use Rattle.std.specs.List.{enumerate_from}
+use Rattle.zone_resources.specs.Counts.{open_count, active_count}
+use Rattle.zone_resources.specs.Holds.{is_destination}
+use Rattle.zone_resources.specs.declared.admission.Limits.{Limits}
+use Rattle.zone_resources.specs.declared.admission.Wanted.{Wanted}
+use Rattle.zone_resources.specs.declared.admission.Wanted.TheVariants.{OpenOnly, OpenAndActive}
+use Rattle.zone_resources.specs.declared.holds.Holds.{Holds}
+use Rattle.zone_state.specs.Zone.{ZoneRecord, in_state}
+use Rattle.zone_state.specs.declared.state.ZoneState.{ZoneState}
+use Rattle.zone_state.specs.declared.state.ZoneState.TheVariants.{Empty, ImplicitlyOpened, Closed}
+use Rattle.zone_state.specs.declared.status.Status.{Status}
+use Rattle.zone_state.specs.declared.status.TheConstants.Status.{TOO_MANY_ACTIVE_ZONES, TOO_MANY_OPEN_ZONES}
+
+-- what a zone of the state wants so that it can be open (ZNS Command Set 1.1, Zone Resources)
+abbrev pub wanted_of : ZoneState → Option Wanted
+wanted_of Empty = Some OpenAndActive
+wanted_of Closed = Some OpenOnly
+wanted_of _ = None
+
+abbrev pub is_implicitly_opened : ZoneState → Bool
+is_implicitly_opened ImplicitlyOpened = true
+is_implicitly_opened _ = false
+
+-- may the zone of this number be closed to make room? (ZNS Command Set 1.1, Zone Resources: an
+-- implicitly opened one; that it is no run's destination: profile)
+abbrev pub may_close : Holds → ℕ → ZoneRecord → Bool
+may_close holds number zone = is_implicitly_opened zone.state && not (is_destination holds number)
+
+-- the lowest number of a zone that may be closed (profile)
+abbrev pub zone_to_close : Holds → List ZoneRecord → Option ℕ
+zone_to_close holds zones = position (λ p. may_close holds p.0 p.1) (enumerate_from 0 zones)
+
+-- what is answered where no open resource is free
+abbrev pub closing : Option ℕ → Result (Option ℕ) Status
+closing None = Err TOO_MANY_OPEN_ZONES
+closing (Some number) = Ok (Some number)
+
+-- whether an open resource can be had, and the zone to be closed for it, if one has to be
+abbrev pub open_admission : List ZoneRecord → Limits → Holds → Result (Option ℕ) Status
+open_admission zones limits holds =
+    if nat_lt (open_count zones) limits.open_limit then Ok None else closing (zone_to_close holds zones)
+
+-- whether what is wanted can be had: an active resource first (ZNS Command Set 1.1, Zone Resources;
+-- the order: profile)
+abbrev pub admission : List ZoneRecord → Limits → Holds → Wanted → Result (Option ℕ) Status
+admission zones limits holds OpenOnly = open_admission zones limits holds
+admission zones limits holds OpenAndActive =
+    if nat_lt (active_count zones) limits.active_limit
+    then open_admission zones limits holds
+    else Err TOO_MANY_ACTIVE_ZONES
+
+-- the zone of this number may be closed
+pub record IsClosable (holds : Holds) (zones : List ZoneRecord) (number : ℕ) : Type 0 where
+  pub zone : ZoneRecord
+  pub there : slice_get zones number ≡ Some zone
+  pub implicitly_opened : zone.state ≡ ImplicitlyOpened
+  pub free : is_destination holds number ≡ false
+
+-- the zone that is closed may be, and is the lowest that may; where none is, none may be
+abbrev pub ClosesTheLowest : Type 0
+ClosesTheLowest =
+    (zones : List ZoneRecord) (holds : Holds)
+    → MatchOption (zone_to_close holds zones)
+    ((number : ℕ) → ¬ IsClosable holds zones number)
+    (λ lowest. IsClosable holds zones lowest × ((number : ℕ) → number < lowest → ¬ IsClosable holds zones number))
+
+-- the zones, once the one that gives way, if one has to, is closed
+abbrev pub closed_in : List ZoneRecord → ℕ → Option ZoneRecord → List ZoneRecord
+closed_in zones number None = zones
+closed_in zones number (Some zone) = slice_set zones number (in_state Closed zone)
+
+abbrev pub after_closing : Option ℕ → List ZoneRecord → List ZoneRecord
+after_closing None zones = zones
+after_closing (Some number) zones = closed_in zones number (slice_get zones number)
+
+-- the zones pass neither limit
+pub record IsWithin (zones : List ZoneRecord) (limits : Limits) : Type 0 where
+  pub opened : open_count zones ≤ limits.open_limit
+  pub active : active_count zones ≤ limits.active_limit
+
+-- admission keeps zones within their limits: once the one that gives way is closed, and also once the
+-- one that was admitted is in its new state
+abbrev pub AdmissionKeepsLimits : Type 0
+AdmissionKeepsLimits =
+    (zones : List ZoneRecord) (limits : Limits) (holds : Holds) (wanted : Wanted) (closing : Option ℕ)
+    → IsWithin zones limits → admission zones limits holds wanted ≡ Ok closing
+    → IsWithin (after_closing closing zones) limits
+    × ((number : ℕ) (was is : ZoneRecord)
+    → slice_get zones number ≡ Some was → wanted_of was.state ≡ Some wanted
+    → IsWithin (slice_set (after_closing closing zones) number is) limits)

@@ -1,0 +1,35 @@
+-- The zones that active runs use, and what is refused there (profile).
+use Rattle.std.specs.Prelude.{ℕ, Bool, true, false, Option, Some, None, ◌==◌, ◌||◌, ◌&&◌, replicate}
+use Rattle.std.specs.List.{list_any}
+use Rattle.zone_resources.specs.declared.holds.Holds.{Holds}
+use Rattle.zone_resources.specs.declared.holds.TheConstants.{RUNS}
+use Rattle.zone_state.specs.declared.action.Action.{Action}
+use Rattle.zone_state.specs.declared.action.Action.TheVariants as action
+
+-- is this the number of the zone that a run uses?
+abbrev pub names : ℕ → Option ℕ → Bool
+names zone None = false
+names zone (Some number) = number == zone
+
+abbrev pub is_source : Holds → ℕ → Bool
+is_source holds zone = list_any (names zone) holds.sources
+
+abbrev pub is_destination : Holds → ℕ → Bool
+is_destination holds zone = list_any (names zone) holds.destinations
+
+abbrev pub is_held : Holds → ℕ → Bool
+is_held holds zone = is_source holds zone || is_destination holds zone
+
+-- does the action forget the blocks of a zone that it takes? (ZNS Command Set 1.1, 3.4.3)
+abbrev pub forgets : Action → Bool
+forgets action.Reset = true
+forgets action.Offline = true
+forgets _ = false
+
+-- is the zone held against the action?
+abbrev pub refuses : Holds → Action → ℕ → Bool
+refuses holds action zone = is_destination holds zone || (forgets action && is_source holds zone)
+
+-- the holds of no run
+abbrev pub no_holds : Holds
+no_holds = record { sources = replicate RUNS None; destinations = replicate RUNS None }

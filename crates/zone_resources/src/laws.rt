@@ -1,0 +1,25 @@
+//! Laws of the definitions that the contracts of this crate cite. Each function does nothing: what
+//! it ensures is the law.
+
+ghost use Rattle.zone_resources.specs.Admission.{AdmissionKeepsLimits, ClosesTheLowest};
+ghost use Rattle.zone_resources.specs.Counts.{CountsAreFew, CountsFollowOne};
+
+/// Where one zone changes, the counts lose what it was and gain what it is.
+pub fn counts_follow_one()
+    ensures { CountsFollowOne }
+{}
+
+/// There are no more open zones than active ones, and no more of these than zones.
+pub fn counts_are_few()
+    ensures { CountsAreFew }
+{}
+
+/// The zone that gives way is implicitly opened and no run's destination, and is the lowest such.
+pub fn closes_the_lowest()
+    ensures { ClosesTheLowest }
+{}
+
+/// Zones within their limits stay so where one gives way and another, admitted, changes its state.
+pub fn admission_keeps_limits()
+    ensures { AdmissionKeepsLimits }
+{}

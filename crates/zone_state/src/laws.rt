@@ -1,0 +1,26 @@
+//! Laws of the definitions that the contracts of this crate cite. Each function does nothing: what
+//! it ensures is the law.
+
+ghost use Rattle.zone_state.specs.State.{CodesAreDistinct};
+ghost use Rattle.zone_state.specs.Transition.{ActionsRepeat, OfflineIsFinal};
+ghost use Rattle.zone_state.specs.Zone.{WritesJoin};
+
+/// The state of a state's code is that state, and no other number is a code.
+pub fn codes_are_distinct()
+    ensures { CodesAreDistinct }
+{}
+
+/// An action that a zone has taken changes nothing when it is taken again.
+pub fn actions_repeat()
+    ensures { ActionsRepeat }
+{}
+
+/// A zone that is Offline stays so, whatever actions it takes.
+pub fn offline_is_final()
+    ensures { OfflineIsFinal }
+{}
+
+/// Two writes, one behind the other, leave the zone that one write of all their blocks leaves.
+pub fn writes_join()
+    ensures { WritesJoin }
+{}
