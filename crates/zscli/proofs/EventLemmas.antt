@@ -1,10 +1,10 @@
 -- A list of events, one event longer.
 use Rattle.std.proofs.Common.{◌≡◌, ℕ, ◌+◌, ◌<◌, List, [], ◌∷◌, ◌++◌, length, take, get_or, Option, Some, None, refl, ap, sym, ◌∙◌, append_assoc}
 use Rattle.std.proofs.lemmas.List.{take_more}
+use Rattle.image_store.specs.Namespace.{ZonedNamespace}
 use Rattle.zscli.specs.declared.event.Event.{Event}
 use Rattle.zscli.specs.declared.reply.Reply.{Reply}
 use Rattle.zscli.specs.Events.{happens, answers_to, namespace_after, data_length}
-use Rattle.zscli.specs.Stub.{ZonedNamespace}
 use Rattle.zscli.specs.Taken.{Taken, and_then}
 
 pub namespace-push : (es : List Event) (e : Event) (ns : ZonedNamespace) → namespace_after (es ++ e ∷ []) ns ≡ (happens (namespace_after es ns) e).namespace
@@ -35,7 +35,7 @@ pub answers_step : (es : List Event) (i : ℕ) (e : Event) (old now : ZonedNames
 answers_step es i e old now first then after answer h item before taken step added =
     added ∙ ap (λ xs. and_then xs (answer ∷ [])) taken ∙ and_then-and_then first (answers_to (take i es) old) (answer ∷ [])
     ∙ ap (λ (x : Taken). and_then first (answers_to (take i es) old ++ x ∷ []))
-        (step ∙ ap (λ (ns : ZonedNamespace). (happens ns e).answer) before ∙ ap (λ (x : Event). (happens (namespace_after (take i es) old) x).answer) item)
+    (step ∙ ap (λ (ns : ZonedNamespace). (happens ns e).answer) before ∙ ap (λ (x : Event). (happens (namespace_after (take i es) old) x).answer) item)
     ∙ ap (and_then first) (sym (answers-more es i e old h))
 
 -- a reply and the bytes in front are the whole answer

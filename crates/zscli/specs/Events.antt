@@ -5,7 +5,9 @@ use Rattle.nvme_entry.specs.declared.command.Command.{Command}
 use Rattle.nvme_entry.specs.declared.completion.Completion.{Completion}
 use Rattle.nvme_entry.specs.Completion.{completion_bytes}
 use Rattle.nvme_entry.specs.Entry.{decoded, identifier_of}
-use Rattle.zscli.specs.Stub.{ZonedNamespace, Outcome, meaning, refused}
+use Rattle.image_store.specs.Namespace.{ZonedNamespace}
+use Rattle.zns_commands.specs.Answer.{Outcome, refused}
+use Rattle.zns_commands.specs.Meaning.{meaning}
 use Rattle.zscli.specs.declared.event.Event.{Event}
 use Rattle.zscli.specs.declared.event.Event.TheVariants as event
 use Rattle.zscli.specs.declared.reply.Reply.{Reply}

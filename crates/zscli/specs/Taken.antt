@@ -1,5 +1,5 @@
 -- What an `Out` is told, and what it says of it.
-use Rattle.std.specs.Prelude.{ℕ, ◌≡◌, ◌+◌, List, [], ◌∷◌, ◌++◌, Option, Result, MatchResult}
+use Rattle.std.specs.Prelude.{ℕ, ◌≡◌, ◌+◌, List, ◌++◌, Option, Result, MatchResult}
 use Rattle.std.specs.Option.{option_map}
 use Rattle.zscli.specs.declared.reply.Reply.{Reply}
 

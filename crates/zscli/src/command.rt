@@ -3,8 +3,8 @@
 use crate::exec;
 use crate::failure::{Failure, STANDARD_OUTPUT};
 use crate::files::Files;
-use clap::error::ErrorKind;
 use clap::Command;
+use clap::error::ErrorKind;
 use std::alloc::{AllocError, Global};
 use std::io::Write;
 

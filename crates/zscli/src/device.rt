@@ -6,11 +6,11 @@ ghost use Rattle.nvme_entry.specs.Entry.{decoded};
 ghost use Rattle.zscli.specs.Taken.{and_then, CountsRefusals};
 
 use crate::event::Event;
-use crate::namespace::{Answer, MOST_TRANSFER, Namespace};
 use crate::out::Out;
 use crate::reply::Reply;
 use nvme_entry::{Completion, Entry};
 use std::marker::Model;
+use zns_commands::{Answer, MOST_TRANSFER, Namespace};
 
 /// A reply was refused. `done` events are done, the one that it answers being the last of them.
 #[derive(Clone, Copy, Debug, PartialEq, Eq)]
@@ -25,7 +25,7 @@ pub struct Device {
 }
 
 impl Model for Device {
-    ghost use Rattle.zscli.specs.Stub.{ZonedNamespace};
+    ghost use Rattle.image_store.specs.Namespace.{ZonedNamespace};
 
     ghost Value = { ZonedNamespace };
 
@@ -92,7 +92,12 @@ impl Device {
     /// # Errors
     ///
     /// Stops at the first reply that `out` refuses.
-    pub fn serve<O: Out>(&mut self, events: &[Event], data_out: &mut [u8], out: &mut O) -> Result<(), Stopped>
+    pub fn serve<O: Out>(
+        &mut self,
+        events: &[Event],
+        data_out: &mut [u8],
+        out: &mut O,
+    ) -> Result<(), Stopped>
         requires room { MOST_TRANSFER ≤ length data_out.old }
         requires counts { O.refused out.old + 1 < 2 ^ 64 }
         ensures namespace { OnOk result (self.new ≡ namespace_after events.now self.old) }

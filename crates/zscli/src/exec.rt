@@ -5,10 +5,10 @@ use crate::device::Device;
 use crate::failure::{Failure, STANDARD_OUTPUT};
 use crate::files::Files;
 use crate::lines::Lines;
-use crate::namespace::{MOST_TRANSFER, Namespace};
 use clap::{Arg, ArgMatches, Command};
 use std::alloc::{AllocError, Global};
 use std::io::Write;
+use zns_commands::{Geometry, Image, MOST_TRANSFER, Namespace};
 
 pub const NAME: &str = "exec";
 
@@ -44,9 +44,9 @@ Example, in the folder of the sources:
 
 /// How the command stands on the command line.
 pub fn subcommand<'a>(alloc: Global) -> Result<Command<'a>, AllocError> {
-    let namespace = Arg::new(alloc, NAMESPACE)
-        .required(true)
-        .help("g1: 4 zones of 8 blocks, 6 of them writable; g2: 2 zones of 64. A block has 512 bytes");
+    let namespace = Arg::new(alloc, NAMESPACE).required(true).help(
+        "g1: 4 zones of 8 blocks, 6 of them writable; g2: 2 zones of 64. A block has 512 bytes",
+    );
     let commands = Arg::new(alloc, COMMANDS)
         .required(true)
         .help("The command file");
@@ -69,7 +69,9 @@ pub fn exec<'a, F: Files, O: Write>(
     let path = matches.get_str(COMMANDS).unwrap_or("");
     let namespace = named(alloc, name)?;
     let events = {
-        let file = files.read(path).map_err(|error| Failure::reading(path, error))?;
+        let file = files
+            .read(path)
+            .map_err(|error| Failure::reading(path, error))?;
         command_file::parse(alloc, file.as_slice())?
     };
     let mut lines = Lines::new(alloc, out)?;
@@ -83,9 +85,10 @@ pub fn exec<'a, F: Files, O: Write>(
 
 /// The namespace that goes by a name.
 fn named<'a>(alloc: Global, name: &'a str) -> Result<Namespace, Failure<'a>> {
-    match name {
-        "g1" => Ok(Namespace::new()),
-        "g2" => Ok(Namespace::new()),
-        _ => Err(Failure::CannotRead(name)),
-    }
+    let geometry = match name {
+        "g1" => Geometry::new(512, 4, 8, 6).unwrap(),
+        "g2" => Geometry::new(512, 2, 64, 64).unwrap(),
+        _ => return Err(Failure::CannotRead(name)),
+    };
+    Ok(Namespace::new(Image::empty(alloc, geometry)?))
 }

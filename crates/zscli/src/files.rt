@@ -1,8 +1,7 @@
 //! The files that a command names.
 
 use std::io::ErrorKind;
-use std::rt;
-use std::{fs, io};
+use std::{fs, io, rt};
 
 /// Why a file wasn't read or written.
 #[derive(Clone, Copy, Debug, PartialEq, Eq)]

@@ -60,12 +60,7 @@ impl<W: Write> Out for Lines<'_, W> {
 }
 
 /// Prints the line of a reply in one write.
-fn print<W: Write>(
-    out: &mut W,
-    line: &mut Vec<u8>,
-    reply: Reply,
-    bytes: &[u8],
-) -> io::Result<()> {
+fn print<W: Write>(out: &mut W, line: &mut Vec<u8>, reply: Reply, bytes: &[u8]) -> io::Result<()> {
     line.clear();
     push_line(line, reply, bytes)?;
     out.write_all(line.as_slice())

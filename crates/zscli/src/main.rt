@@ -9,7 +9,6 @@ mod exec;
 mod failure;
 mod files;
 mod lines;
-mod namespace;
 mod out;
 mod reply;
 #[cfg(test)]
@@ -27,7 +26,13 @@ fn main(rt: HostRuntime) -> ExitCode {
     let mut out = io::writer(&rt);
     let mut err = rt.stderr();
     let status = match arguments(&rt) {
-        Ok(words) => command(rt.alloc(), words.as_slice(), &mut Disk::new(&rt), &mut out, &mut err),
+        Ok(words) => command(
+            rt.alloc(),
+            words.as_slice(),
+            &mut Disk::new(&rt),
+            &mut out,
+            &mut err,
+        ),
         Err(failure) => failure.tell(&mut err),
     };
     ExitCode::from(status)

@@ -13,7 +13,9 @@ pub enum Reply {
         length: usize,
     },
     /// A run was admitted, or has turns left.
-    Pending { run: u8 },
+    Pending {
+        run: u8,
+    },
     /// No run has this number.
     Idle,
     /// A fault was taken.

@@ -13,9 +13,30 @@ type Submission = (&'static str, u8, u8, usize, &'static str, usize);
 #[test]
 fn append_to_a_full_zone(rt: HostRuntime) -> Result<(), Fail> {
     let submissions = [
-        ("7d000100", 16, 5, 3072, "10000000000000000000010001000000", 0),
-        ("7d000400", 16, 0, 512, "00000000000000000000010004007203", 0),
-        ("02000500", 22, 1, 0, "00000000000000000000010005000000", 1024),
+        (
+            "7d000100",
+            16,
+            5,
+            3072,
+            "10000000000000000000010001000000",
+            0,
+        ),
+        (
+            "7d000400",
+            16,
+            0,
+            512,
+            "00000000000000000000010004007203",
+            0,
+        ),
+        (
+            "02000500",
+            22,
+            1,
+            0,
+            "00000000000000000000010005000000",
+            1024,
+        ),
         ("02000600", 23, 1, 0, "00000000000000000000010006007003", 0),
     ];
     assert_answers(&rt, rt.alloc(), &submissions)
@@ -24,8 +45,22 @@ fn append_to_a_full_zone(rt: HostRuntime) -> Result<(), Fail> {
 #[test]
 fn append_past_the_capacity(rt: HostRuntime) -> Result<(), Fail> {
     let submissions = [
-        ("7d000100", 0, 4, 2560, "00000000000000000000010001000000", 0),
-        ("7d000200", 0, 1, 1024, "00000000000000000000010002007003", 0),
+        (
+            "7d000100",
+            0,
+            4,
+            2560,
+            "00000000000000000000010001000000",
+            0,
+        ),
+        (
+            "7d000200",
+            0,
+            1,
+            1024,
+            "00000000000000000000010002007003",
+            0,
+        ),
         ("7d000300", 0, 0, 512, "05000000000000000000010003000000", 0),
     ];
     assert_answers(&rt, rt.alloc(), &submissions)
@@ -41,18 +76,17 @@ fn entries_that_are_refused(rt: HostRuntime) -> Result<(), Fail> {
 }
 
 /// Submits entries one after another to a namespace of which nothing is written.
-fn assert_answers(
-    rt: &impl Abort,
-    alloc: Global,
-    submissions: &[Submission],
-) -> Result<(), Fail> {
+fn assert_answers(rt: &impl Abort, alloc: Global, submissions: &[Submission]) -> Result<(), Fail> {
     let mut events = String::new(alloc);
     let mut answers = String::new(alloc);
     for (command, lba, count, beside, completion, read) in submissions {
         let beside = zeros(alloc, *beside)?;
         let read = zeros(alloc, *read)?;
         let gap = 0;
-        writeln!(events, "submit 1 {command}01000000{gap:064}{lba:02x}{gap:014}{count:02x}{gap:030}{beside}")?;
+        writeln!(
+            events,
+            "submit 1 {command}01000000{gap:064}{lba:02x}{gap:014}{count:02x}{gap:030}{beside}"
+        )?;
         writeln!(answers, "cpl 1 {completion}{read}")?;
     }
     let ended = run(alloc, "zscli exec g1 events", events.as_bytes())?;

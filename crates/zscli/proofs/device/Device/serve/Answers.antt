@@ -1,7 +1,4 @@
-use Rattle.std.proofs.Common.{arith, ◌≡◌, ◌+◌, ◌-◌, take, ap, sym, ◌∙◌}
-use Rattle.zscli.specs.declared.reply.Reply.{Reply}
-use Rattle.zscli.specs.Events.{happens, answers_to, namespace_after}
-use Rattle.zscli.specs.Taken.{Taken, and_then}
+use Rattle.std.proofs.Common.{arith, ◌≡◌, ◌+◌, ◌-◌, ◌∙◌}
 use Rattle.zscli.proofs.EventLemmas.{namespace_step, answer_is, answers_step}
 use Rattle.zscli.proofs.device.Device.serve.Goals as goal
 
@@ -15,7 +12,7 @@ loop-index-preserved g c =
     record {
       namespace = namespace_step es i event.result c.args.self.now c.loop-index.self c.step-reply.new.self c.loop-index-test.true event.is inv.namespace step.namespace;
       answers = answers_step es i event.result c.args.self.now c.loop-index.self _ _ _ _ c.loop-index-test.true event.is inv.namespace inv.answers
-        (answer_is _ _ _ _ c.data_length.ensures step.reply step.given) c.in-Ok.ensures.ok;
+          (answer_is _ _ _ _ c.data_length.ensures step.reply step.given) c.in-Ok.ensures.ok;
       refused = c.in-Ok.ensures.count ∙ inv.refused;
     }
 
