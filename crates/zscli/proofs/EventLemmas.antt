@@ -1,5 +1,5 @@
 -- A list of events, one event longer.
-use Rattle.std.proofs.Common.{◌≡◌, ℕ, ◌+◌, ◌<◌, List, [], ◌∷◌, ◌++◌, length, take, get_or, Option, Some, None, refl, ap, sym, ◌∙◌, append_assoc}
+use Rattle.std.proofs.Common.{suc, ◌≡◌, ℕ, ◌+◌, ◌<◌, List, [], ◌∷◌, ◌++◌, length, take, get_or, Option, Some, None, refl, ap, sym, ◌∙◌, append_assoc}
 use Rattle.std.proofs.lemmas.List.{take_more}
 use Rattle.image_store.specs.Namespace.{ZonedNamespace}
 use Rattle.zscli.specs.declared.event.Event.{Event}
@@ -7,19 +7,23 @@ use Rattle.zscli.specs.declared.reply.Reply.{Reply}
 use Rattle.zscli.specs.Events.{happens, answers_to, namespace_after, data_length}
 use Rattle.zscli.specs.Taken.{Taken, and_then}
 
-pub namespace-push : (es : List Event) (e : Event) (ns : ZonedNamespace) → namespace_after (es ++ e ∷ []) ns ≡ (happens (namespace_after es ns) e).namespace
-namespace-push [] e ns = refl
-namespace-push (x ∷ es) e ns = namespace-push es e (happens ns x).namespace
+pub length-answers_to : (es : List Event) (ns : ZonedNamespace) → length (answers_to es ns) ≡ length es
+length-answers_to [] ns = refl
+length-answers_to (e ∷ es) ns = ap suc (length-answers_to es (happens ns e).namespace)
 
-pub answers-push : (es : List Event) (e : Event) (ns : ZonedNamespace) → answers_to (es ++ e ∷ []) ns ≡ answers_to es ns ++ (happens (namespace_after es ns) e).answer ∷ []
-answers-push [] e ns = refl
-answers-push (x ∷ es) e ns = ap (λ later. (happens ns x).answer ∷ later) (answers-push es e (happens ns x).namespace)
+pub answers_to-append : (first later : List Event) (ns : ZonedNamespace) → answers_to (first ++ later) ns ≡ answers_to first ns ++ answers_to later (namespace_after first ns)
+answers_to-append [] later ns = refl
+answers_to-append (e ∷ es) later ns = ap (λ answers. (happens ns e).answer ∷ answers) (answers_to-append es later (happens ns e).namespace)
+
+pub namespace_after-append : (first later : List Event) (ns : ZonedNamespace) → namespace_after (first ++ later) ns ≡ namespace_after later (namespace_after first ns)
+namespace_after-append [] later ns = refl
+namespace_after-append (e ∷ es) later ns = namespace_after-append es later (happens ns e).namespace
 
 pub namespace-more : (es : List Event) (i : ℕ) (e : Event) (ns : ZonedNamespace) → i < length es → namespace_after (take (i + 1) es) ns ≡ (happens (namespace_after (take i es) ns) (get_or es i e)).namespace
-namespace-more es i e ns h = ap (λ xs. namespace_after xs ns) (take_more es i e h) ∙ namespace-push (take i es) (get_or es i e) ns
+namespace-more es i e ns h = ap (λ xs. namespace_after xs ns) (take_more es i e h) ∙ namespace_after-append (take i es) (get_or es i e ∷ []) ns
 
 pub answers-more : (es : List Event) (i : ℕ) (e : Event) (ns : ZonedNamespace) → i < length es → answers_to (take (i + 1) es) ns ≡ answers_to (take i es) ns ++ (happens (namespace_after (take i es) ns) (get_or es i e)).answer ∷ []
-answers-more es i e ns h = ap (λ xs. answers_to xs ns) (take_more es i e h) ∙ answers-push (take i es) (get_or es i e) ns
+answers-more es i e ns h = ap (λ xs. answers_to xs ns) (take_more es i e h) ∙ answers_to-append (take i es) (get_or es i e ∷ []) ns
 
 pub and_then-and_then : (before : Option (List Taken)) (first later : List Taken) → and_then (and_then before first) later ≡ and_then before (first ++ later)
 and_then-and_then None first later = refl

@@ -8,6 +8,7 @@
 use crate::event::Event;
 use crate::words::{Words, decimal};
 use hex::{FromHex, FromHexError};
+use memchr::memchr;
 use std::alloc::{AllocFailed, Global};
 use std::str::FromStr;
 
@@ -47,15 +48,17 @@ pub fn parse(alloc: Global, file: &[u8]) -> Result<Vec<Event>, ParseError> {
 
 /// The event of a line with its end, or `None` where the line has no words.
 fn event_of(alloc: Global, line: &[u8]) -> Result<Option<Event>, LineError> {
-    let text = ascii_text(line).ok_or(LineError::Malformed)?;
-    let code = text.split_once(';').map_or(text, |(code, _)| code);
-    let mut words = Words::new(code);
+    let text = without_end(line);
+    if !text.is_ascii() {
+        return Err(LineError::Malformed);
+    }
+    let mut words = Words::new(without_comment(text));
     let Some(name) = words.next() else {
         return Ok(None);
     };
     let event = match name {
-        "submit" => submit(alloc, &mut words)?,
-        "turn" => turn(&mut words)?,
+        b"submit" => submit(alloc, &mut words)?,
+        b"turn" => turn(&mut words)?,
         _ => return Err(LineError::Malformed),
     };
     match words.next() {
@@ -64,16 +67,19 @@ fn event_of(alloc: Global, line: &[u8]) -> Result<Option<Event>, LineError> {
     }
 }
 
-/// The text of a line without its end, `\n` or `\r\n`, if it is ASCII.
-fn ascii_text(line: &[u8]) -> Option<&str> {
-    let line = match line.strip_suffix(b"\n") {
+/// A line without the `\n` or `\r\n` that ends it.
+fn without_end(line: &[u8]) -> &[u8] {
+    match line.strip_suffix(b"\n") {
         Some(text) => text.strip_suffix(b"\r").unwrap_or(text),
         None => line,
-    };
-    if line.is_ascii() {
-        std::str::from_utf8(line).ok()
-    } else {
-        None
+    }
+}
+
+/// What stands before a `;`.
+fn without_comment(text: &[u8]) -> &[u8] {
+    match memchr(b';', text) {
+        Some(end) => &text[..end],
+        None => text,
     }
 }
 

@@ -1,5 +1,6 @@
 //! The command `exec`: the events of a command file, run on a namespace.
 
+use crate::arguments::required;
 use crate::command_file;
 use crate::device::Device;
 use crate::failure::{Failure, STANDARD_OUTPUT};
@@ -65,13 +66,13 @@ pub fn exec<'a, F: Files, O: Write>(
     files: &mut F,
     out: &mut O,
 ) -> Result<(), Failure<'a>> {
-    let name = matches.get_str(NAMESPACE).unwrap_or("");
-    let path = matches.get_str(COMMANDS).unwrap_or("");
+    let name = required(matches, NAMESPACE);
+    let path = required(matches, COMMANDS);
     let namespace = named(alloc, name)?;
     let events = {
         let file = files
             .read(path)
-            .map_err(|error| Failure::reading(path, error))?;
+            .map_err(|error| Failure::of_reading(path, error))?;
         command_file::parse(alloc, file.as_slice())?
     };
     let mut lines = Lines::new(alloc, out)?;

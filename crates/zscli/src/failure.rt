@@ -2,6 +2,7 @@
 
 use crate::command_file::ParseError;
 use crate::files::FileError;
+use clap::error::ErrorKind;
 use std::alloc::AllocError;
 use std::io;
 use std::io::Write;
@@ -15,21 +16,29 @@ pub const STANDARD_OUTPUT: &str = "-";
 pub enum Failure<'a> {
     #[error("{0}")]
     CommandLine(clap::Error),
-    #[error("error: the words of the command line aren't text\n")]
+    #[error("error: a word of the command line isn't text")]
     NotText,
-    #[error("cannot read {0}\n")]
+    #[error("cannot read {0}")]
     CannotRead(&'a str),
-    #[error("cannot write {0}\n")]
+    #[error("cannot write {0}")]
     CannotWrite(&'a str),
-    #[error("no memory\n")]
+    #[error("no memory")]
     NoMemory,
-    #[error("line {0} refused\n")]
+    #[error("line {0} refused")]
     LineRefused(usize),
 }
 
 impl<'a> Failure<'a> {
+    /// That of reading the words of the command line.
+    pub fn of_words(error: io::Error) -> Failure<'a> {
+        match error.kind() {
+            io::ErrorKind::OutOfMemory => Failure::NoMemory,
+            _ => Failure::NotText,
+        }
+    }
+
     /// That of reading a file.
-    pub fn reading(path: &'a str, error: FileError) -> Failure<'a> {
+    pub fn of_reading(path: &'a str, error: FileError) -> Failure<'a> {
         match error {
             FileError::Failed => Failure::CannotRead(path),
             FileError::OutOfMemory => Failure::NoMemory,
@@ -38,12 +47,17 @@ impl<'a> Failure<'a> {
 
     /// Tells the user, and answers the exit status.
     pub fn tell<E: Write>(self, err: &mut E) -> u8 {
-        let _ = write!(err, "{self}");
+        let _ = match &self {
+            // This text has a line end of its own.
+            Failure::CommandLine(error) => write!(err, "{error}"),
+            _ => writeln!(err, "{self}"),
+        };
         self.status()
     }
 
-    /// The exit status: 1 for a file or for memory, 2 for the command line, 3 for refused input.
-    pub fn status(&self) -> u8 {
+    /// 1 where a file failed or memory was wanting, 2 for a wrong command line, 3 for input that is
+    /// refused.
+    fn status(&self) -> u8 {
         match self {
             Failure::CannotRead(_) | Failure::CannotWrite(_) | Failure::NoMemory => 1,
             Failure::CommandLine(_) | Failure::NotText => 2,
@@ -55,18 +69,8 @@ impl<'a> Failure<'a> {
 impl From<clap::Error> for Failure<'_> {
     fn from(error: clap::Error) -> Self {
         match error.kind() {
-            clap::error::ErrorKind::OutOfMemory => Failure::NoMemory,
+            ErrorKind::OutOfMemory => Failure::NoMemory,
             _ => Failure::CommandLine(error),
-        }
-    }
-}
-
-/// Of reading the words.
-impl From<io::Error> for Failure<'_> {
-    fn from(error: io::Error) -> Self {
-        match error.kind() {
-            io::ErrorKind::OutOfMemory => Failure::NoMemory,
-            _ => Failure::NotText,
         }
     }
 }

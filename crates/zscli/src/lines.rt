@@ -7,12 +7,10 @@ use crate::reply::Reply;
 use std::alloc::{AllocError, Global};
 use std::io;
 use std::io::Write;
-
-/// The most bytes of data in a reply.
-pub const DATA_BYTES: usize = 131072;
+use zns_commands::MOST_TRANSFER;
 
 /// The most bytes in a line: `cpl 65535 `, the completion, a space, the data and the line's end.
-const LINE_BYTES: usize = 10 + 32 + 1 + 2 * DATA_BYTES + 1;
+const LINE_BYTES: usize = 10 + 32 + 1 + 2 * MOST_TRANSFER + 1;
 
 /// How many bytes are spelled at a time.
 const CHUNK: usize = 128;
@@ -99,6 +97,6 @@ fn push_digits(line: &mut Vec<u8>, chunk: &[u8]) -> Result<(), AllocError>
 {
     let mut digits = [0; 2 * CHUNK];
     let digits = &mut digits[..2 * chunk.len()];
-    let _ = hex::encode_to_slice(chunk, digits);
+    hex::encode_to_slice(chunk, digits).unwrap();
     line.extend_from_slice(digits)
 }

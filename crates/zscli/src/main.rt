@@ -1,6 +1,7 @@
 //! The command line of Pifnjarl: files in, one command, text out.
 #![tactic(auto)]
 
+mod arguments;
 mod command;
 mod command_file;
 mod device;
@@ -8,6 +9,7 @@ mod event;
 mod exec;
 mod failure;
 mod files;
+mod laws;
 mod lines;
 mod out;
 mod reply;
@@ -25,7 +27,7 @@ use std::process::ExitCode;
 fn main(rt: HostRuntime) -> ExitCode {
     let mut out = io::writer(&rt);
     let mut err = rt.stderr();
-    let status = match arguments(&rt) {
+    let status = match command_line_words(&rt) {
         Ok(words) => command(
             rt.alloc(),
             words.as_slice(),
@@ -39,6 +41,7 @@ fn main(rt: HostRuntime) -> ExitCode {
 }
 
 /// The words of the command line, the program's name first.
-fn arguments<R: Env + AllocGlobal>(rt: &R) -> Result<Vec<String>, Failure<'static>> {
-    Ok(env::args(rt)?.collect(rt.alloc())?)
+fn command_line_words<R: Env + AllocGlobal>(rt: &R) -> Result<Vec<String>, Failure<'static>> {
+    let words = env::args(rt).map_err(|error| Failure::of_words(error))?;
+    Ok(words.collect(rt.alloc())?)
 }

@@ -1,41 +1,40 @@
 //! The words of a line.
 
-use std::str::FromStr;
+use memchr::memchr2;
+use std::str::{self, FromStr};
 
-/// The words of a line of text, which spaces and tabs separate.
+/// The words of a line, which spaces and tabs separate.
 #[derive(Drop)]
 pub struct Words<'a> {
-    rest: &'a str,
+    rest: &'a [u8],
 }
 
 impl<'a> Words<'a> {
-    pub fn new(line: &'a str) -> Words<'a> {
+    pub fn new(line: &'a [u8]) -> Words<'a> {
         Words { rest: line }
     }
 
     /// The next word, if there is one.
-    pub fn next(&mut self) -> Option<&'a str> {
-        let text = self.rest.trim_start_matches(is_blank);
-        if text.is_empty() {
-            return None;
-        }
-        let (word, rest) = text.split_once(is_blank).unwrap_or((text, ""));
+    pub fn next(&mut self) -> Option<&'a [u8]> {
+        let start = self
+            .rest
+            .iter()
+            .position(|byte| *byte != b' ' && *byte != b'\t')?;
+        let text = &self.rest[start..];
+        let end = memchr2(b' ', b'\t', text).unwrap_or(text.len());
+        let (word, rest) = text.split_at(end);
         self.rest = rest;
         Some(word)
     }
 }
 
-fn is_blank(c: char) -> bool {
-    c == ' ' || c == '\t'
-}
-
 /// The number that decimal digits alone spell, leading zeros allowed, if it is a `T`.
-pub fn decimal<T: FromStr>(word: &str) -> Option<T>
+pub fn decimal<T: FromStr>(word: &[u8]) -> Option<T>
 where
     T::Err: Drop,
 {
-    if word.bytes().all(|digit| digit.is_ascii_digit()) {
-        word.parse().ok()
+    if word.iter().all(|digit| digit.is_ascii_digit()) {
+        str::from_utf8(word).ok()?.parse().ok()
     } else {
         None
     }

@@ -6,93 +6,99 @@ use std::fmt::Write;
 use std::process::Abort;
 use std::test::Fail;
 
-/// A submission to queue 1 and its answer: Command Dword 0, the lowest byte of Command Dwords 10 and
-/// 12, how many zeros stand beside the entry, the completion, and how many zeros are read.
-type Submission = (&'static str, u8, u8, usize, &'static str, usize);
-
 #[test]
 fn append_to_a_full_zone(rt: HostRuntime) -> Result<(), Fail> {
-    let submissions = [
-        (
-            "7d000100",
-            16,
-            5,
-            3072,
-            "10000000000000000000010001000000",
-            0,
-        ),
-        (
-            "7d000400",
-            16,
-            0,
-            512,
-            "00000000000000000000010004007203",
-            0,
-        ),
-        (
-            "02000500",
-            22,
-            1,
-            0,
-            "00000000000000000000010005000000",
-            1024,
-        ),
-        ("02000600", 23, 1, 0, "00000000000000000000010006007003", 0),
-    ];
-    assert_answers(&rt, rt.alloc(), &submissions)
+    let mut g1 = Submissions::new(rt.alloc());
+    g1.append(1, 16, 6, "10000000000000000000010001000000")?;
+    g1.append(4, 16, 1, "00000000000000000000010004007203")?;
+    g1.read(5, 22, 2, "00000000000000000000010005000000", 1024)?;
+    g1.read(6, 23, 2, "00000000000000000000010006007003", 0)?;
+    g1.check(&rt)
 }
 
 #[test]
 fn append_past_the_capacity(rt: HostRuntime) -> Result<(), Fail> {
-    let submissions = [
-        (
-            "7d000100",
-            0,
-            4,
-            2560,
-            "00000000000000000000010001000000",
-            0,
-        ),
-        (
-            "7d000200",
-            0,
-            1,
-            1024,
-            "00000000000000000000010002007003",
-            0,
-        ),
-        ("7d000300", 0, 0, 512, "05000000000000000000010003000000", 0),
-    ];
-    assert_answers(&rt, rt.alloc(), &submissions)
+    let mut g1 = Submissions::new(rt.alloc());
+    g1.append(1, 0, 5, "00000000000000000000010001000000")?;
+    g1.append(2, 0, 2, "00000000000000000000010002007003")?;
+    g1.append(3, 0, 1, "05000000000000000000010003000000")?;
+    g1.check(&rt)
 }
 
 #[test]
 fn entries_that_are_refused(rt: HostRuntime) -> Result<(), Fail> {
-    let submissions = [
-        ("01000600", 8, 0, 512, "00000000000000000000010006000200", 0),
-        ("7d000600", 9, 0, 512, "00000000000000000000010006000400", 0),
-    ];
-    assert_answers(&rt, rt.alloc(), &submissions)
+    let mut g1 = Submissions::new(rt.alloc());
+    g1.submit("01000600", 8, 1, 512, "00000000000000000000010006000200", 0)?;
+    g1.append(6, 9, 1, "00000000000000000000010006000400")?;
+    g1.check(&rt)
 }
 
-/// Submits entries one after another to a namespace of which nothing is written.
-fn assert_answers(rt: &impl Abort, alloc: Global, submissions: &[Submission]) -> Result<(), Fail> {
-    let mut events = String::new(alloc);
-    let mut answers = String::new(alloc);
-    for (command, lba, count, beside, completion, read) in submissions {
-        let beside = zeros(alloc, *beside)?;
-        let read = zeros(alloc, *read)?;
+/// Entries for queue 1, and the lines that answer them.
+#[derive(Drop)]
+struct Submissions {
+    alloc: Global,
+    events: String,
+    answers: String,
+}
+
+impl Submissions {
+    fn new(alloc: Global) -> Submissions {
+        Submissions {
+            alloc,
+            events: String::new(alloc),
+            answers: String::new(alloc),
+        }
+    }
+
+    /// A Zone Append of zeros.
+    fn append(&mut self, cid: u8, lba: u8, blocks: u8, completion: &str) -> Result<(), Fail> {
+        let command = format!(in self.alloc; "7d00{cid:02x}00")?;
+        let beside = 512 * usize::from(blocks);
+        self.submit(command.as_str(), lba, blocks, beside, completion, 0)
+    }
+
+    /// A Read of so many bytes, all zero.
+    fn read(
+        &mut self,
+        cid: u8,
+        lba: u8,
+        blocks: u8,
+        completion: &str,
+        bytes: usize,
+    ) -> Result<(), Fail> {
+        let command = format!(in self.alloc; "0200{cid:02x}00")?;
+        self.submit(command.as_str(), lba, blocks, 0, completion, bytes)
+    }
+
+    /// An entry with this Command Dword 0, with so many bytes beside it and so many in the answer.
+    fn submit(
+        &mut self,
+        command: &str,
+        lba: u8,
+        blocks: u8,
+        beside: usize,
+        completion: &str,
+        bytes: usize,
+    ) -> Result<(), Fail> {
+        let beside = zeros(self.alloc, beside)?;
+        let bytes = zeros(self.alloc, bytes)?;
+        let count = blocks.saturating_sub(1);
         let gap = 0;
         writeln!(
-            events,
+            self.events,
             "submit 1 {command}01000000{gap:064}{lba:02x}{gap:014}{count:02x}{gap:030}{beside}"
         )?;
-        writeln!(answers, "cpl 1 {completion}{read}")?;
+        writeln!(self.answers, "cpl 1 {completion}{bytes}")?;
+        Ok(())
     }
-    let ended = run(alloc, "zscli exec g1 events", events.as_bytes())?;
-    assert_eq!(rt; ended.out.as_str(), answers.as_str());
-    assert_eq!(rt; ended.status, 0);
-    Ok(())
+
+    /// Submits the entries, one after another, where nothing is written.
+    fn check(&self, rt: &impl Abort) -> Result<(), Fail> {
+        let ended = run(self.alloc, "zscli exec g1 events", self.events.as_bytes())?;
+        assert_eq!(rt; ended.out.as_str(), self.answers.as_str());
+        assert_eq!(rt; ended.status, 0);
+        Ok(())
+    }
 }
 
 /// A space and so many zero bytes, or nothing.
