@@ -1,0 +1,1 @@
+../../../examples/append_and_read.cmd

@@ -1,0 +1,63 @@
+//! The words of a command line, and what they ask for.
+
+use crate::exec;
+use crate::failure::{Failure, STANDARD_OUTPUT};
+use crate::files::Files;
+use clap::Command;
+use clap::error::ErrorKind;
+use std::alloc::{AllocError, Global};
+use std::io::Write;
+
+/// Does what the words ask for, the program's name first, and answers the exit status: 0 where all
+/// was done, 1 where a file failed or memory was wanting, 2 for a wrong command line, 3 for input
+/// that is refused. For 1 and 3 the last line written to `err` says what it was.
+pub fn command<F: Files, O: Write, E: Write>(
+    alloc: Global,
+    words: &[String],
+    files: &mut F,
+    out: &mut O,
+    err: &mut E,
+) -> u8 {
+    match run(alloc, words, files, out) {
+        Ok(()) => 0,
+        Err(failure) => failure.tell(err),
+    }
+}
+
+fn run<'a, F: Files, O: Write>(
+    alloc: Global,
+    words: &'a [String],
+    files: &mut F,
+    out: &mut O,
+) -> Result<(), Failure<'a>> {
+    let mut line = command_line(alloc)?;
+    let matches = match line.try_get_matches_from_mut(words) {
+        Ok(matches) => matches,
+        Err(error) if error.kind() == ErrorKind::DisplayHelp => return show(&error, out),
+        Err(error) => return Err(Failure::from(error)),
+    };
+    match matches.subcommand() {
+        Some((exec::NAME, matches)) => exec::exec(alloc, matches, files, out),
+        _ => {
+            let message = "a command is required";
+            Err(Failure::from(line.error(ErrorKind::MissingSubcommand, message)?))
+        }
+    }
+}
+
+/// How a command line is written.
+fn command_line<'a>(alloc: Global) -> Result<Command<'a>, AllocError> {
+    Command::new(alloc, "zscli")
+        .about("Works on zoned namespaces, and on the programs that run beside their data")
+        .subcommand_required(true)
+        .arg_required_else_help(true)
+        .subcommand(exec::subcommand(alloc)?)
+}
+
+/// Prints the help that was asked for.
+fn show<'a, O: Write>(help: &clap::Error, out: &mut O) -> Result<(), Failure<'a>> {
+    match write!(out, "{help}") {
+        Ok(()) => Ok(()),
+        Err(_) => Err(Failure::CannotWrite(STANDARD_OUTPUT)),
+    }
+}

@@ -1,0 +1,91 @@
+//! Why a command ends before its work is done, and what the user is told.
+
+use crate::command_file::ParseError;
+use crate::files::FileError;
+use clap::error::ErrorKind;
+use std::alloc::AllocError;
+use std::io;
+use std::io::Write;
+use thiserror::Error;
+
+/// The name that standard output goes by.
+pub const STANDARD_OUTPUT: &str = "-";
+
+/// Why a command ended. Its text is the last on standard error.
+#[derive(Debug, Drop, Error)]
+pub enum Failure<'a> {
+    #[error("{0}")]
+    CommandLine(clap::Error),
+    #[error("error: a word of the command line isn't text")]
+    NotText,
+    #[error("cannot read {0}")]
+    CannotRead(&'a str),
+    #[error("cannot write {0}")]
+    CannotWrite(&'a str),
+    #[error("no memory")]
+    NoMemory,
+    #[error("line {0} refused")]
+    LineRefused(usize),
+}
+
+impl<'a> Failure<'a> {
+    /// That of reading the words of the command line.
+    pub fn of_words(error: io::Error) -> Failure<'a> {
+        match error.kind() {
+            io::ErrorKind::OutOfMemory => Failure::NoMemory,
+            _ => Failure::NotText,
+        }
+    }
+
+    /// That of reading a file.
+    pub fn of_reading(path: &'a str, error: FileError) -> Failure<'a> {
+        match error {
+            FileError::Failed => Failure::CannotRead(path),
+            FileError::OutOfMemory => Failure::NoMemory,
+        }
+    }
+
+    /// Tells the user, and answers the exit status.
+    pub fn tell<E: Write>(self, err: &mut E) -> u8 {
+        let _ = match &self {
+            // This text has a line end of its own.
+            Failure::CommandLine(error) => write!(err, "{error}"),
+            _ => writeln!(err, "{self}"),
+        };
+        self.status()
+    }
+
+    /// 1 where a file failed or memory was wanting, 2 for a wrong command line, 3 for input that is
+    /// refused.
+    fn status(&self) -> u8 {
+        match self {
+            Failure::CannotRead(_) | Failure::CannotWrite(_) | Failure::NoMemory => 1,
+            Failure::CommandLine(_) | Failure::NotText => 2,
+            Failure::LineRefused(_) => 3,
+        }
+    }
+}
+
+impl From<clap::Error> for Failure<'_> {
+    fn from(error: clap::Error) -> Self {
+        match error.kind() {
+            ErrorKind::OutOfMemory => Failure::NoMemory,
+            _ => Failure::CommandLine(error),
+        }
+    }
+}
+
+impl From<AllocError> for Failure<'_> {
+    fn from(_error: AllocError) -> Self {
+        Failure::NoMemory
+    }
+}
+
+impl From<ParseError> for Failure<'_> {
+    fn from(error: ParseError) -> Self {
+        match error {
+            ParseError::Line(line) => Failure::LineRefused(line),
+            ParseError::OutOfMemory => Failure::NoMemory,
+        }
+    }
+}
