@@ -8,7 +8,7 @@ use zone_state::Action;
 
 /// The most bytes that one command moves (the Maximum Data Transfer Size of NVMe Base 2.0, figure
 /// 276; its value is profile).
-pub const MOST_TRANSFER: u32 = 131_072;
+pub const MOST_TRANSFER: usize = 131_072;
 
 /// The opcode of a command (NVM Command Set 1.0, 3.2; ZNS 1.1, 3.4).
 #[derive(Clone, Copy, Debug, PartialEq, Eq)]

@@ -12,7 +12,7 @@ pub fn check(bytes: u64, beside: u64, input: &[u8]) -> Result<(), Status>
     ensures whole { OnOk result (length input.now ≡ beside) }
     ensures most { OnOk result (bytes ≤ MOST_TRANSFER) }
 {
-    if bytes > u64::from(MOST_TRANSFER) {
+    if bytes > MOST_TRANSFER as u64 {
         return Err(Status::INVALID_FIELD_IN_COMMAND);
     }
     if input.len() as u64 != beside {

@@ -6,6 +6,9 @@ use Rattle.nvme_entry.specs.declared.completion.Completion.{Completion}
 use Rattle.nvme_entry.specs.Completion.{completion_bytes}
 use Rattle.nvme_entry.specs.Entry.{decoded, identifier_of}
 use Rattle.image_store.specs.Namespace.{ZonedNamespace}
+use Rattle.zone_state.specs.declared.zone.FaultRefused.{FaultRefused}
+use Rattle.zone_resources.specs.Holds.{no_holds}
+use Rattle.zns_commands.specs.Fault.{fault_answer, faulted}
 use Rattle.zns_commands.specs.Answer.{Outcome, refused}
 use Rattle.zns_commands.specs.Meaning.{meaning}
 use Rattle.zscli.specs.declared.event.Event.{Event}
@@ -21,7 +24,7 @@ pub record Happening : Type 0 where
 
 -- what an entry comes to: its command's meaning, or a refusal where it names no command
 abbrev pub entry_outcome : ZonedNamespace → Result Command Status → List ℕ → Outcome
-entry_outcome ns (Ok command) payload = meaning ns command payload
+entry_outcome ns (Ok command) payload = meaning ns no_holds command payload
 entry_outcome ns (Err status) payload = refused ns status
 
 -- the completion of an entry, to which the queue and the command identifier come back
@@ -41,11 +44,19 @@ completed queue entry o = record { answer = record { reply = complete_reply queu
 abbrev pub unchanged : ZonedNamespace → Reply → Happening
 unchanged ns r = record { answer = record { reply = r; bytes = [] }; namespace = ns }
 
--- there are no runs to be given a turn, and no zone takes a fault
+-- what a fault comes to
+abbrev pub fault_reply : Result Unit FaultRefused → Reply
+fault_reply (Ok done) = reply.Done
+fault_reply (Err refused) = reply.FaultRefused
+
+-- there are no runs to be given a turn, and none that holds a zone
 abbrev pub happens : ZonedNamespace → Event → Happening
 happens ns (event.Submit queue entry payload) = completed queue entry (entry_outcome ns (decoded entry) payload.items)
 happens ns (event.Turn run) = unchanged ns reply.Idle
-happens ns (event.Fault zone state) = unchanged ns reply.FaultRefused
+happens ns (event.Fault zone state) = record {
+  answer = record { reply = fault_reply (fault_answer ns no_holds zone state); bytes = [] };
+  namespace = faulted ns no_holds zone state;
+}
 
 -- the answers to events, in order
 abbrev pub answers_to : List Event → ZonedNamespace → List Taken

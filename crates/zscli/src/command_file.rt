@@ -3,6 +3,8 @@
 //! ```text
 //! submit QUEUE ENTRY [DATA]   ; ENTRY: 128 hexadecimal digits, DATA: hexadecimal
 //! turn RUN
+//! fault ZONE readonly
+//! fault ZONE offline
 //! ```
 
 use crate::event::Event;
@@ -11,6 +13,7 @@ use hex::{FromHex, FromHexError};
 use memchr::memchr;
 use std::alloc::{AllocFailed, Global};
 use std::str::FromStr;
+use zone_state::FaultState;
 
 /// Why a command file has no events.
 #[derive(Clone, Copy, Debug, PartialEq, Eq)]
@@ -59,6 +62,7 @@ fn event_of(alloc: Global, line: &[u8]) -> Result<Option<Event>, LineError> {
     let event = match name {
         b"submit" => submit(alloc, &mut words)?,
         b"turn" => turn(&mut words)?,
+        b"fault" => fault(&mut words)?,
         _ => return Err(LineError::Malformed),
     };
     match words.next() {
@@ -100,6 +104,16 @@ fn submit(alloc: Global, words: &mut Words<'_>) -> Result<Event, LineError> {
 fn turn(words: &mut Words<'_>) -> Result<Event, LineError> {
     let run = number(words)?;
     Ok(Event::Turn { run })
+}
+
+fn fault(words: &mut Words<'_>) -> Result<Event, LineError> {
+    let zone = number(words)?;
+    let state = match words.next() {
+        Some(b"readonly") => FaultState::ReadOnly,
+        Some(b"offline") => FaultState::Offline,
+        _ => return Err(LineError::Malformed),
+    };
+    Ok(Event::Fault { zone, state })
 }
 
 fn number<T: FromStr>(words: &mut Words<'_>) -> Result<T, LineError>

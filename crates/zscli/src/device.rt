@@ -1,7 +1,9 @@
 //! The device: a namespace that events happen to.
 
 ghost use Rattle.std.specs.Prelude.{◌≡◌, ◌≤◌, ◌<◌, ◌+◌, ◌^◌, length, take, drop, OnOk, IfErr};
-ghost use Rattle.zscli.specs.Events.{happens, answers_to, namespace_after, HasStopped, data_length, entry_outcome, complete_reply};
+ghost use Rattle.zscli.specs.Events.{happens, answers_to, namespace_after, HasStopped, data_length, entry_outcome, complete_reply, fault_reply};
+ghost use Rattle.zone_resources.specs.Holds.{no_holds};
+ghost use Rattle.zns_commands.specs.Fault.{fault_answer, faulted};
 ghost use Rattle.nvme_entry.specs.Entry.{decoded};
 ghost use Rattle.zscli.specs.Taken.{and_then, CountsRefusals};
 
@@ -10,7 +12,7 @@ use crate::out::Out;
 use crate::reply::Reply;
 use nvme_entry::{Completion, Entry};
 use std::marker::Model;
-use zns_commands::{Answer, MOST_TRANSFER, Namespace};
+use zns_commands::{Answer, FaultRefused, FaultState, Holds, MOST_TRANSFER, Namespace};
 
 /// A reply was refused. `done` events are done, the one that it answers being the last of them.
 #[derive(Clone, Copy, Debug, PartialEq, Eq)]
@@ -56,7 +58,18 @@ impl Device {
                 payload,
             } => self.submit(*queue, entry, payload.as_slice(), data_out),
             Event::Turn { .. } => Reply::Idle,
-            Event::Fault { .. } => Reply::FaultRefused,
+            Event::Fault { zone, state } => self.fault(*zone, *state),
+        }
+    }
+
+    /// Brings a zone into the state of a fault.
+    fn fault(&mut self, zone: u32, state: FaultState) -> Reply
+        ensures reply { result ≡ fault_reply (fault_answer self.old no_holds zone state) }
+        ensures namespace { self.new ≡ faulted self.old no_holds zone state }
+    {
+        match self.namespace.fault(zone, state, &Holds::none()) {
+            Ok(()) => Reply::Done,
+            Err(FaultRefused) => Reply::FaultRefused,
         }
     }
 
@@ -70,7 +83,10 @@ impl Device {
         ensures within { data_length result ≤ length data_out.new }
     {
         let answer = match Entry::decode(entry) {
-            Ok(command) => self.namespace.execute(&command, payload, data_out),
+            Ok(command) => {
+                self.namespace
+                    .execute(&command, payload, data_out, &Holds::none())
+            }
             Err(status) => Answer::refused(status),
         };
         let completion = Completion {

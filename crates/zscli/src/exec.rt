@@ -9,7 +9,7 @@ use crate::lines::Lines;
 use clap::{Arg, ArgMatches, Command};
 use std::alloc::{AllocError, Global};
 use std::io::Write;
-use zns_commands::{Geometry, Image, MOST_TRANSFER, Namespace};
+use zns_commands::{Geometry, Image, Limits, MOST_TRANSFER, Namespace};
 
 pub const NAME: &str = "exec";
 
@@ -26,8 +26,10 @@ and `;` begins a comment.
 
   submit QUEUE ENTRY [DATA]   a submission queue entry, and the data that stands beside it
   turn RUN                    a turn for a run
+  fault ZONE readonly         a fault of a zone, which can then only be read
+  fault ZONE offline          a fault of a zone, which is then lost
 
-QUEUE is from 0 to 65535 and RUN from 0 to 255, in decimal. ENTRY is 64 bytes and DATA any number \
+QUEUE is from 0 to 65535, RUN from 0 to 255 and ZONE from 0 to 4294967295, in decimal. ENTRY is 64 bytes and DATA any number \
 of bytes, in hexadecimal. Where a line isn't of this form, no event happens.
 
 What is printed:
@@ -46,7 +48,7 @@ Example, in the folder of the sources:
 /// How the command stands on the command line.
 pub fn subcommand<'a>(alloc: Global) -> Result<Command<'a>, AllocError> {
     let namespace = Arg::new(alloc, NAMESPACE).required(true).help(
-        "g1: 4 zones of 8 blocks, 6 of them writable; g2: 2 zones of 64. A block has 512 bytes",
+        "g1: 4 zones of 8 blocks, 6 of them writable, at most 2 open and 3 active; g2: 2 zones of 64. A block has 512 bytes",
     );
     let commands = Arg::new(alloc, COMMANDS)
         .required(true)
@@ -87,8 +89,20 @@ pub fn exec<'a, F: Files, O: Write>(
 /// The namespace that goes by a name.
 fn named<'a>(alloc: Global, name: &'a str) -> Result<Namespace, Failure<'a>> {
     let geometry = match name {
-        "g1" => Geometry::new(512, 4, 8, 6).unwrap(),
-        "g2" => Geometry::new(512, 2, 64, 64).unwrap(),
+        "g1" => {
+            let limits = Limits {
+                open_limit: 2,
+                active_limit: 3,
+            };
+            Geometry::new(512, 4, 8, 6, limits).unwrap()
+        }
+        "g2" => {
+            let limits = Limits {
+                open_limit: 2,
+                active_limit: 2,
+            };
+            Geometry::new(512, 2, 64, 64, limits).unwrap()
+        }
         _ => return Err(Failure::CannotRead(name)),
     };
     Ok(Namespace::new(Image::empty(alloc, geometry)?))

@@ -20,6 +20,11 @@ fn lines_that_are_events(rt: HostRuntime) -> Result<(), Fail> {
         ("\t turn\t255 \n", "idle\n"),
         ("turn 000;", "idle\n"),
         ("turn 3;turn 4\r\n \r\n", "idle\n"),
+        ("fault 0 readonly\nfault 4 offline", "done\nrefused\n"),
+        (
+            "fault 3 offline\nfault 3 offline\nfault 3 readonly",
+            "done\ndone\nrefused\n",
+        ),
     ];
     for (events, out) in table {
         let ended = run(rt.alloc(), "zscli exec g1 events", events.as_bytes())?;
@@ -45,7 +50,9 @@ fn lines_that_are_refused(rt: HostRuntime) -> Result<(), Fail> {
         ("turn 0 ; \u{e9}", 1),
         ("submit", 1),
         ("submit 1", 1),
-        ("fault 0 readonly", 1),
+        ("fault 0", 1),
+        ("fault 0 lost", 1),
+        ("fault 4294967296 offline", 1),
     ];
     for (events, line) in table {
         assert_refused(&rt, rt.alloc(), events, line)?;
