@@ -9,6 +9,8 @@ mod namespace;
 mod read;
 mod resources;
 mod send;
+#[cfg(test)]
+mod tests;
 mod transfer;
 mod write;
 
