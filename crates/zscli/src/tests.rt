@@ -8,6 +8,7 @@ use std::test::Fail;
 
 mod command_files;
 mod command_lines;
+mod serving;
 mod submissions;
 
 /// One file, with the name `events`.
