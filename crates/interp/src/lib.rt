@@ -1,6 +1,12 @@
 //! The checked eBPF machine: what RFC 9669 says of each instruction, over four areas of memory.
 #![tactic(auto)]
 
+mod cause;
+mod machine;
+mod memory;
 mod word;
 
+pub use cause::Cause;
+pub use machine::Machine;
+pub use memory::Area;
 pub use word::{Arithmetic, alu, taken};
