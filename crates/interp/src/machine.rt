@@ -2,7 +2,7 @@
 
 mod effect;
 
-ghost use Rattle.std.specs.Prelude.{◌<◌, ◌^◌, length};
+ghost use Rattle.std.specs.Prelude.{◌<◌, ◌≤◌, ◌^◌, length};
 
 use crate::memory::Area;
 
@@ -19,6 +19,8 @@ pub struct Machine<'a> {
     group_len: usize,
     frames: u64,
     ghost block_fits: { length block.now < 2 ^ 32 },
+    // so that the number of frames doesn't overflow
+    ghost few_frames: { frames ≤ group_len },
 }
 
 impl<'a> Machine<'a> {

@@ -86,8 +86,9 @@ fn low8(word: u64) -> u8
     (word % 0x100) as u8
 }
 
+/// The low bits of a word, sign-extended.
 #[inline]
-fn extend(extension: SignExtension, word: u64) -> u64
+pub fn extend(extension: SignExtension, word: u64) -> u64
     ensures { result ≡ extended extension word }
 {
     match extension {
