@@ -7,6 +7,6 @@ mod memory;
 mod word;
 
 pub use cause::Cause;
-pub use machine::Machine;
+pub use machine::{End, Machine, Step};
 pub use memory::Area;
 pub use word::{Arithmetic, alu, taken};

@@ -1,10 +1,14 @@
 //! The machine.
 
 mod effect;
+mod run;
+mod step;
 
 ghost use Rattle.std.specs.Prelude.{◌<◌, ◌≤◌, ◌^◌, length};
 
 use crate::memory::Area;
+pub use run::End;
+pub use step::Step;
 
 /// A machine over one block: its registers, its stack, and what it borrows.
 #[derive(Drop)]
