@@ -1,3 +1,4 @@
+pub mod CauseLemmas
 pub mod Running
 pub mod Stepping
 pub mod WordLemmas

@@ -2,6 +2,7 @@
 #![tactic(auto)]
 
 mod cause;
+pub mod laws;
 mod machine;
 mod memory;
 mod word;
