@@ -4,9 +4,10 @@ use Rattle.std.specs.List.{find}
 use Rattle.std.specs.Prelude.{if◌then◌else◌}
 use Rattle.ebpf_decode.specs.declared.insn.Insn.{Insn}
 use Rattle.interp.specs.Cause.{causes_of_effect, holds, is_exit, least_cause, number_of}
+use Rattle.interp.specs.Effect.{register}
 use Rattle.interp.specs.Laws.{StuckByLeast}
 use Rattle.interp.specs.State.{State}
-use Rattle.interp.specs.Step.{Ends, Goes, Stuck, decided}
+use Rattle.interp.specs.Step.{Ends, Goes, Stuck, after, decided, step_of}
 use Rattle.interp.specs.declared.cause.Cause.{Cause}
 use Rattle.interp.specs.declared.cause.Cause.TheVariants.{NextOutside, NextInsideWide, WriteToFramePointer, LoadOutside, StoreOutside, UnknownHelper, EmitOutside, EmitLength}
 
@@ -110,6 +111,20 @@ least_is test EmitOutside is less =
 least_is test EmitLength is less =
     rw (less NextOutside (lit< tt), less NextInsideWide (lit< tt), less WriteToFramePointer (lit< tt), less LoadOutside (lit< tt), less StoreOutside (lit< tt), less UnknownHelper (lit< tt), less EmitOutside (lit< tt), is) refl
 
+-- where none is found, none holds
+module _ {X : Type 0} (test : X → Bool) where
+  none_by : (y : X) (xs : List X) (passes : Bool) → test y ≡ passes → find test (y ∷ xs) ≡ None
+      → (test y ≡ false) × (find test xs ≡ None)
+  none_by y xs true is e = let h : Some y ≡ None = rw is at e in cc
+  none_by y xs false is e = (is, rw is at e)
+
+  none_found : (xs : List X) (k : ℕ) (x : X) → find test xs ≡ None → slice_get xs k ≡ Some x → test x ≡ false
+  none_found [] k x e at = cc
+  none_found (y ∷ xs) zero x e at =
+      let same : y ≡ x = cc in
+      rw (sym same) ((none_by y xs (test y) refl e).0)
+  none_found (y ∷ xs) (suc k) x e at = none_found xs k x ((none_by y xs (test y) refl e).1) at
+
 -- what is decided tells the cause
 not_stuck : (b : Bool) (r0 slot : ℕ) (s s' t : State) (cause : Cause) → (if b then Ends r0 s else Goes s') ≡ Stuck slot cause t → ⊥
 not_stuck true r0 slot s s' t cause e = cc
@@ -127,3 +142,29 @@ stuck_by_least program limit s i cause =
         (least_holds test cause found, λ other less. least_fails test cause other found less)),
       (λ (is, less). ap (decided s i) (least_is test cause is less)),
     )
+
+-- a step that goes on: no cause holds, and the state is the one after the instruction
+pub record IsDone (program : List (Option Insn)) (limit : ℕ) (s s' : State) (i : Insn) : Type 0 where
+  pub runs_on : is_exit i ≡ false
+  pub free : (cause : Cause) → holds program limit s i cause ≡ false
+  pub next : after s i ≡ s'
+
+went : (b : Bool) (r0 : ℕ) (s next s' : State) → (if b then Ends r0 s else Goes next) ≡ Goes s' → (b ≡ false) × (next ≡ s')
+went true r0 s next s' e = cc
+went false r0 s next s' e = (refl, cc)
+
+done_by : (s s' : State) (i : Insn) (least : Option Cause) → decided s i least ≡ Goes s'
+    → (least ≡ None) × (is_exit i ≡ false) × (after s i ≡ s')
+done_by s s' i (Some cause) e = cc
+done_by s s' i None e =
+    let facts = went (is_exit i) (register s 0) s (after s i) s' e in (refl, facts.0, facts.1)
+
+pub done : (program : List (Option Insn)) (limit : ℕ) (s s' : State) (i : Insn)
+    → step_of program limit s i ≡ Goes s' → IsDone program limit s s' i
+done program limit s s' i e =
+    let facts = done_by s s' i (least_cause program limit s i) e in
+    record {
+      runs_on = facts.1;
+      free = λ cause. none_found (holds program limit s i) causes (number_of cause - 1) cause facts.0 (listed cause);
+      next = facts.2;
+    }

@@ -1,5 +1,6 @@
 pub mod CauseLemmas
 pub mod MemoryLemmas
 pub mod Running
+pub mod StateLemmas
 pub mod Stepping
 pub mod WordLemmas
