@@ -1,4 +1,5 @@
 pub mod CauseLemmas
+pub mod MapLemmas
 pub mod MemoryLemmas
 pub mod Running
 pub mod StateLemmas

@@ -1,6 +1,31 @@
 //! Laws of the definitions: each function's contract is one, and its body is empty.
 
-ghost use Rattle.interp.specs.Laws.{EndsWithMoreFuel, KeepsGroupLimit, KeepsState, LeadsToInstruction, StuckByLeast};
+ghost use Rattle.interp.specs.Laws.{AccessIsMapped, ChangesOnly, EndsWithMoreFuel, KeepsGroupLimit, KeepsState, LeadsToInstruction, LoadsFromMap, StoresIntoMap, StuckByLeast};
+
+/// Bytes lie in one area exactly where each of them is in the map from addresses to bytes.
+pub fn access_is_mapped()
+    ensures { AccessIsMapped }
+{
+}
+
+/// A load gives the number that the map's bytes spell, the lowest first.
+pub fn loads_from_map()
+    ensures { LoadsFromMap }
+{
+}
+
+/// After a store the map has the word's low bytes, the lowest first, and is else as before.
+pub fn stores_into_map()
+    ensures { StoresIntoMap }
+{
+}
+
+/// A step changes no register but its destination and those that a call clears, and no byte but
+/// those that it stores.
+pub fn changes_only()
+    ensures { ChangesOnly }
+{
+}
 
 /// A step is stuck with a cause exactly where that cause holds and none with a smaller number does.
 pub fn stuck_by_least()
