@@ -1,0 +1,4 @@
+pub mod Slots
+pub mod Takes
+pub mod Programs
+pub mod Bytes
