@@ -139,7 +139,7 @@ pub stuck_by_least : StuckByLeast
 stuck_by_least program limit s i cause =
     let test = holds program limit s i in (
       (λ e. let found = cause_of_stuck s i (least_cause program limit s i) cause e in
-        (least_holds test cause found, λ other less. least_fails test cause other found less)),
+          (least_holds test cause found, λ other less. least_fails test cause other found less)),
       (λ (is, less). ap (decided s i) (least_is test cause is less)),
     )
 

@@ -11,3 +11,6 @@ pub use cause::Cause;
 pub use machine::{End, Machine, Step};
 pub use memory::Area;
 pub use word::{Arithmetic, alu, taken};
+
+#[cfg(test)]
+mod tests;
