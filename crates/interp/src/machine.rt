@@ -29,13 +29,14 @@ pub struct Machine<'a> {
 
 impl<'a> Machine<'a> {
     ghost use Rattle.std.specs.Prelude.{◌≡◌, ◌<◌, ◌^◌, ℕ, List, length};
-    ghost use Rattle.interp.specs.State.{state_of, entry, group_length, steps_of, scratch_name};
+    ghost use Rattle.interp.specs.State.{entry, frames_of, group_length, scratch_name, slot_of, state_of, steps_of};
 
     /// A machine at the start of a block run, at slot 0: R1, R2 and R3 are the addresses of
     /// context, block and scratch, R10 is the end of the stack, all else is 0 (profile).
     pub fn new(block: &'a [u8], context: &'a [u8; 32], scratch: &'a mut [u8; 1024]) -> Machine<'a>
         requires { length block.now < 2 ^ 32 }
         ensures state { (group : List ℕ) → state_of result group ≡ entry block.now context.now scratch.old }
+        ensures slot { slot_of result ≡ 0 }
         ensures steps { steps_of result ≡ 0 }
         ensures group_len { group_length result ≡ 0 }
         ensures same_scratch { scratch_name result ≡ scratch.entry.ghost_name }
@@ -67,7 +68,7 @@ impl<'a> Machine<'a> {
 
     /// The slot of the instruction at which the machine stands.
     pub fn slot(&self) -> usize
-        ensures { (group : List ℕ) → result ≡ (state_of self.now group).slot }
+        ensures { result ≡ slot_of self.now }
     {
         self.slot
     }
@@ -88,7 +89,7 @@ impl<'a> Machine<'a> {
 
     /// The number of frames in the group.
     pub fn frames(&self) -> u64
-        ensures { (group : List ℕ) → result ≡ (state_of self.now group).frames }
+        ensures { result ≡ frames_of self.now }
     {
         self.frames
     }
