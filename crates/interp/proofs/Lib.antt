@@ -1,0 +1,7 @@
+pub mod CauseLemmas
+pub mod MapLemmas
+pub mod MemoryLemmas
+pub mod Running
+pub mod StateLemmas
+pub mod Stepping
+pub mod WordLemmas

@@ -1,0 +1,16 @@
+//! The checked eBPF machine: what RFC 9669 says of each instruction, over four areas of memory.
+#![tactic(auto)]
+
+mod cause;
+pub mod laws;
+mod machine;
+mod memory;
+mod word;
+
+pub use cause::Cause;
+pub use machine::{End, Machine, Step};
+pub use memory::Area;
+pub use word::{Arithmetic, alu, taken};
+
+#[cfg(test)]
+mod tests;

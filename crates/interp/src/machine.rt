@@ -1,0 +1,96 @@
+//! The machine.
+
+mod effect;
+mod run;
+mod step;
+
+ghost use Rattle.std.specs.Prelude.{◌<◌, ◌≤◌, ◌^◌, length};
+
+use crate::memory::Area;
+pub use run::End;
+pub use step::Step;
+
+/// A machine over one block: its registers, its stack, and what it borrows.
+#[derive(Drop)]
+pub struct Machine<'a> {
+    block: &'a [u8],
+    context: &'a [u8; 32],
+    scratch: &'a mut [u8; 1024],
+    stack: [u8; 512],
+    registers: [u64; 11],
+    slot: usize,
+    steps: u64,
+    group_len: usize,
+    frames: u64,
+    ghost block_fits: { length block.now < 2 ^ 32 },
+    // so that the number of frames doesn't overflow
+    ghost few_frames: { frames ≤ group_len },
+}
+
+impl<'a> Machine<'a> {
+    ghost use Rattle.std.specs.Prelude.{◌≡◌, ◌<◌, ◌^◌, ℕ, List, length};
+    ghost use Rattle.interp.specs.State.{entry, frames_of, group_length, scratch_name, slot_of, state_of, steps_of};
+
+    /// A machine at the start of a block run, at slot 0: R1, R2 and R3 are the addresses of
+    /// context, block and scratch, R10 is the end of the stack, all else is 0 (profile).
+    pub fn new(block: &'a [u8], context: &'a [u8; 32], scratch: &'a mut [u8; 1024]) -> Machine<'a>
+        requires { length block.now < 2 ^ 32 }
+        ensures state { (group : List ℕ) → state_of result group ≡ entry block.now context.now scratch.old }
+        ensures slot { slot_of result ≡ 0 }
+        ensures steps { steps_of result ≡ 0 }
+        ensures group_len { group_length result ≡ 0 }
+        ensures same_scratch { scratch_name result ≡ scratch.entry.ghost_name }
+    {
+        Machine {
+            block,
+            context,
+            scratch,
+            stack: [0; 512],
+            registers: [
+                0,
+                Area::Context.address(),
+                Area::Block.address(),
+                Area::Scratch.address(),
+                0,
+                0,
+                0,
+                0,
+                0,
+                0,
+                Area::Stack.address() + 512,
+            ],
+            slot: 0,
+            steps: 0,
+            group_len: 0,
+            frames: 0,
+        }
+    }
+
+    /// The slot of the instruction at which the machine stands.
+    pub fn slot(&self) -> usize
+        ensures { result ≡ slot_of self.now }
+    {
+        self.slot
+    }
+
+    /// The number of steps taken.
+    pub fn steps(&self) -> u64
+        ensures { result ≡ steps_of self.now }
+    {
+        self.steps
+    }
+
+    /// The length of the group in bytes.
+    pub fn group_len(&self) -> usize
+        ensures { result ≡ group_length self.now }
+    {
+        self.group_len
+    }
+
+    /// The number of frames in the group.
+    pub fn frames(&self) -> u64
+        ensures { result ≡ frames_of self.now }
+    {
+        self.frames
+    }
+}

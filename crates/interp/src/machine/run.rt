@@ -1,0 +1,72 @@
+//! A block run.
+
+use crate::cause::Cause;
+use crate::machine::Machine;
+use crate::machine::step::Flow;
+use ebpf_decode::Program;
+
+/// How a block run ended.
+#[derive(Clone, Copy, Debug, PartialEq, Eq)]
+pub enum End {
+    /// By EXIT, with this in R0.
+    Exit { r0: u64 },
+    /// At this slot, by an instruction that can't be done.
+    Trap { slot: usize, cause: Cause },
+    /// With no fuel left.
+    OutOfFuel,
+}
+
+impl Machine<'_> {
+    ghost use Rattle.std.specs.Prelude.{◌≡◌, ◌+◌, ◌<◌, ◌≤◌, ◌^◌, drop, length};
+    ghost use Rattle.interp.specs.Run.{ran, run_of};
+    ghost use Rattle.interp.specs.State.{group_length, scratch_name, slot_of, state_of, steps_of};
+    ghost use Rattle.interp.specs.Step.{IsAt};
+
+    /// Takes steps from where the machine stands until the run ends, and at most `fuel` of them;
+    /// where they are used up the answer is that no fuel is left, also before an instruction that
+    /// can't be done. `limit` and `group` are as for `step`.
+    pub fn run_checked(
+        &mut self,
+        program: &Program,
+        limit: usize,
+        fuel: u64,
+        group: &mut [u8],
+    ) -> End
+        requires at { IsAt program.now (slot_of self.old) }
+        requires steps { steps_of self.old + fuel < 2 ^ 64 }
+        requires limit { limit < 2 ^ 16 }
+        requires room { limit ≤ length group.old }
+        requires used { group_length self.old ≤ length group.old }
+        ensures run { ran result (steps_of self.new) (state_of self.new group.new) ≡ run_of program.now limit fuel (steps_of self.old) (state_of self.old group.old) }
+        ensures at { IsAt program.now (slot_of self.new) }
+        ensures grows { group_length self.old ≤ group_length self.new }
+        ensures used { group_length self.new ≤ length group.new }
+        ensures beyond { drop (group_length self.new) group.new ≡ drop (group_length self.new) group.old }
+        ensures same_scratch { scratch_name self.new ≡ scratch_name self.old }
+    {
+        let mut slot = self.slot;
+        'steps: for step in 0..fuel {
+            let Some(insn) = program.at(slot) else {
+                unreachable!()
+            };
+            match self.execute(program, slot, insn, limit, group) {
+                Flow::Next { slot: next } => slot = next,
+                Flow::Exit => {
+                    self.slot = slot;
+                    self.steps += step + 1;
+                    return End::Exit {
+                        r0: self.registers[0],
+                    };
+                }
+                Flow::Trap { cause } => {
+                    self.slot = slot;
+                    self.steps += step;
+                    return End::Trap { slot, cause };
+                }
+            }
+        }
+        self.slot = slot;
+        self.steps += fuel;
+        End::OutOfFuel
+    }
+}

@@ -1,0 +1,351 @@
+//! Worked examples, and what gcc makes of the same operations.
+
+ghost use Rattle.std.specs.Prelude.{◌≡◌, ◌≤◌, length};
+
+mod vectors;
+
+use crate::{Area, Arithmetic, Cause, End, Machine, Step, alu, taken};
+use ebpf_decode::{Operation, Program, Relation, SignExtension, Swap, SwapSize, Width, decode};
+use std::alloc::Global;
+use std::process::Abort;
+use std::test::Fail;
+use vectors::{COUNT, IMMEDIATE_STORES, LOADS, OPERATIONS, PAIRS, RELATIONS, STORES, UNARY};
+
+/// Emits the first 8 bytes of a block whose first byte is 7.
+const FILTER: [u64; 7] = [
+    0x7126_0000_0000_0000, // ldxb r6, [r2+0]
+    0x5506_0300_0700_0000, // jne r6, 7, +3
+    0xbf21_0000_0000_0000, // mov r1, r2
+    0xb702_0000_0800_0000, // mov r2, 8
+    0x8500_0000_0100_0000, // call 1
+    0xb700_0000_0000_0000, // mov r0, 0
+    0x9500_0000_0000_0000, // exit
+];
+
+const MOVE_TO_R10: u64 = 0xb70a_0000_0100_0000;
+
+const EXIT: u64 = 0x9500_0000_0000_0000;
+
+/// The program of these slots, each with its bytes in order.
+fn program(alloc: Global, slots: &[u64]) -> Result<Program, Fail> {
+    let mut bytes = Vec::new(alloc);
+    for slot in slots {
+        bytes.extend_from_slice(&slot.to_be_bytes())?;
+    }
+    Ok(decode(alloc, &bytes)?)
+}
+
+/// A run over a block, and the number of steps.
+fn run(rt: &impl Abort, program: &Program, block: &[u8; 512]) -> (End, u64) {
+    let mut scratch = [0; 1024];
+    let context = [0; 32];
+    let mut machine = Machine::new(block, &context, &mut scratch);
+    assert!(rt; program.at(machine.slot()).is_some());
+    let end = machine.run_checked(program, 0, 100, &mut []);
+    (end, machine.steps())
+}
+
+fn bits64(operation: Operation) -> Arithmetic {
+    Arithmetic::Binary {
+        width: Width::Bits64,
+        operation,
+    }
+}
+
+fn bits32(operation: Operation) -> Arithmetic {
+    Arithmetic::Binary {
+        width: Width::Bits32,
+        operation,
+    }
+}
+
+#[test]
+fn words_as_worked_out_by_hand(rt: HostRuntime) {
+    let least = 0x8000_0000_0000_0000;
+    let minus_one = 0xffff_ffff_ffff_ffff;
+    let minus_13 = 0xffff_ffff_ffff_fff3;
+    let rows = [
+        (bits64(Operation::Divide), 7, 0, 0),
+        (bits64(Operation::Modulo), 7, 0, 7),
+        (bits32(Operation::Modulo), 0x1_0000_0007, 0, 7),
+        (bits64(Operation::SignedDivide), 7, 0, 0),
+        (bits64(Operation::SignedModulo), minus_13, 0, minus_13),
+        (bits64(Operation::SignedDivide), least, minus_one, least),
+        (bits64(Operation::SignedModulo), least, minus_one, 0),
+        (bits64(Operation::SignedModulo), minus_13, 3, minus_one),
+        (bits64(Operation::LeftShift), 5, 64, 5),
+        (bits32(Operation::Add), 0x5_ffff_ffff, 1, 0),
+        (bits64(Operation::Divide), 10, minus_one, 0),
+        (
+            Arithmetic::MoveSigned {
+                extension: SignExtension::Bits8To64,
+            },
+            0,
+            0x80,
+            0xffff_ffff_ffff_ff80,
+        ),
+        (
+            Arithmetic::SwapBytes {
+                swap: Swap::Reverse,
+                size: SwapSize::Bits16,
+            },
+            0x1234_5678_1234_5678,
+            0,
+            0x7856,
+        ),
+        (
+            Arithmetic::SwapBytes {
+                swap: Swap::ToBig,
+                size: SwapSize::Bits32,
+            },
+            0x1122_3344_aabb_ccdd,
+            0,
+            0xddcc_bbaa,
+        ),
+        (
+            bits32(Operation::ArithmeticShift),
+            0x8000_0000,
+            4,
+            0xf800_0000,
+        ),
+        (
+            bits64(Operation::SignedDivide),
+            minus_13,
+            3,
+            0xffff_ffff_ffff_fffc,
+        ),
+        (
+            bits32(Operation::SignedDivide),
+            0x8000_0000,
+            minus_one,
+            0x8000_0000,
+        ),
+        (bits32(Operation::Divide), minus_one, minus_one, 1),
+    ];
+    for (arithmetic, x, y, word) in rows {
+        assert_eq!(rt;
+            alu(arithmetic, x, y),
+            word,
+            "{arithmetic:?} of {x:x} and {y:x}"
+        );
+    }
+    assert!(rt; !taken(Width::Bits64, Relation::Greater, 0x1_0000_0000, minus_one));
+}
+
+fn check_operation(
+    rt: &impl Abort,
+    operation: Operation,
+    wide: &[u64; COUNT],
+    narrow: &[u64; COUNT],
+) {
+    for ((x, y), (at_64, at_32)) in PAIRS.iter().zip(wide.iter().zip(narrow)) {
+        let (x, y) = (*x, *y);
+        let made = alu(bits64(operation), x, y);
+        assert_eq!(rt; made, *at_64, "{operation:?} of {x:x} and {y:x}");
+        let made = alu(bits32(operation), x, y);
+        assert_eq!(rt; made, *at_32, "32-bit {operation:?} of {x:x} and {y:x}");
+    }
+}
+
+fn check_relation(
+    rt: &impl Abort,
+    relation: Relation,
+    wide: &[bool; COUNT],
+    narrow: &[bool; COUNT],
+) {
+    for ((x, y), (at_64, at_32)) in PAIRS.iter().zip(wide.iter().zip(narrow)) {
+        let (x, y) = (*x, *y);
+        assert_eq!(rt;
+            taken(Width::Bits64, relation, x, y),
+            *at_64,
+            "{relation:?} of {x:x} and {y:x}"
+        );
+        assert_eq!(rt;
+            taken(Width::Bits32, relation, x, y),
+            *at_32,
+            "32-bit {relation:?} of {x:x} and {y:x}"
+        );
+    }
+}
+
+#[test]
+fn words_as_gcc_makes_them(rt: HostRuntime) {
+    for (operation, wide, narrow) in &OPERATIONS {
+        check_operation(&rt, *operation, wide, narrow);
+    }
+    for (relation, wide, narrow) in &RELATIONS {
+        check_relation(&rt, *relation, wide, narrow);
+    }
+    for (arithmetic, words) in &UNARY {
+        for ((x, _), word) in PAIRS.iter().zip(words) {
+            assert_eq!(rt; alu(*arithmetic, *x, *x), *word, "{arithmetic:?} of {x:x}");
+        }
+    }
+}
+
+fn check_run(
+    rt: &(impl Abort + AllocGlobal),
+    slots: &[u64],
+    block: &[u8; 512],
+    r0: u64,
+) -> Result<(), Fail> {
+    let (end, _) = run(rt, &program(rt.alloc(), slots)?, block);
+    assert_eq!(rt; end, End::Exit { r0 }, "of {slots:?}");
+    Ok(())
+}
+
+#[test]
+fn memory_as_gcc_has_it(rt: HostRuntime) -> Result<(), Fail> {
+    let mut block = [0; 512];
+    let mut byte = 11u8;
+    for place in block.iter_mut() {
+        *place = byte;
+        byte = byte.wrapping_add(37);
+    }
+    for (slots, r0) in &LOADS {
+        check_run(&rt, slots, &block, *r0)?;
+    }
+    for (slots, r0) in &STORES {
+        check_run(&rt, slots, &block, *r0)?;
+    }
+    for (slots, r0) in &IMMEDIATE_STORES {
+        check_run(&rt, slots, &block, *r0)?;
+    }
+    Ok(())
+}
+
+#[test]
+fn a_frame_of_a_block_that_matches(rt: HostRuntime) -> Result<(), Fail> {
+    let filter = program(rt.alloc(), &FILTER)?;
+    let mut block = [0; 512];
+    block[0] = 7;
+    let context = [0; 32];
+    let ends = [
+        (10, 7, End::Exit { r0: 0 }, 7, 10, 1),
+        (10, 100, End::Exit { r0: 0 }, 7, 10, 1),
+        (
+            9,
+            100,
+            End::Trap {
+                slot: 4,
+                cause: Cause::EmitLength,
+            },
+            4,
+            0,
+            0,
+        ),
+        (10, 4, End::OutOfFuel, 4, 0, 0),
+        (9, 4, End::OutOfFuel, 4, 0, 0),
+    ];
+    for (limit, fuel, end, steps, group_len, frames) in ends {
+        let mut scratch = [0; 1024];
+        let mut group = [9; 12];
+        let mut machine = Machine::new(&block, &context, &mut scratch);
+        assert!(rt; filter.at(machine.slot()).is_some());
+        assert_eq!(rt; machine.run_checked(&filter, limit, fuel, &mut group), end);
+        assert_eq!(rt; machine.steps(), steps);
+        assert_eq!(rt; machine.group_len(), group_len);
+        assert_eq!(rt; machine.frames(), frames);
+        if frames == 1 {
+            assert_eq!(rt; group, [8, 0, 7, 0, 0, 0, 0, 0, 0, 0, 9, 9]);
+        } else {
+            assert_eq!(rt; group, [9; 12]);
+        }
+    }
+    assert_eq!(rt; run(&rt, &filter, &[0; 512]), (End::Exit { r0: 0 }, 4));
+    Ok(())
+}
+
+#[test]
+fn the_slots_of_a_run(rt: HostRuntime) -> Result<(), Fail> {
+    let filter = program(rt.alloc(), &FILTER)?;
+    let mut block = [0; 512];
+    block[0] = 7;
+    let context = [0; 32];
+    let mut scratch = [0; 1024];
+    let mut group = [0; 10];
+    let mut machine = Machine::new(&block, &context, &mut scratch);
+    for slot in 0..6usize {
+        assert_eq!(rt; machine.slot(), slot);
+        assert!(rt; filter.at(machine.slot()).is_some());
+        assert!(rt; machine.steps() < 100);
+        assert!(rt; machine.group_len() <= 10);
+        assert_eq!(rt; machine.step(&filter, 10, &mut group), Step::Next);
+    }
+    assert_eq!(rt; machine.slot(), 6);
+    assert!(rt; filter.at(machine.slot()).is_some());
+    assert!(rt; machine.steps() < 100);
+    assert!(rt; machine.group_len() <= 10);
+    assert_eq!(rt; machine.step(&filter, 10, &mut group), Step::Exit { r0: 0 });
+    assert_eq!(rt; machine.steps(), 7);
+    assert_eq!(rt; group, [8, 0, 7, 0, 0, 0, 0, 0, 0, 0]);
+    Ok(())
+}
+
+fn check_trap(
+    rt: &(impl Abort + AllocGlobal),
+    slots: &[u64],
+    slot: usize,
+    cause: u8,
+) -> Result<(), Fail> {
+    let (end, steps) = run(rt, &program(rt.alloc(), slots)?, &[0; 512]);
+    match end {
+        End::Trap {
+            slot: at,
+            cause: told,
+        } => {
+            assert_eq!(rt; at, slot, "of {slots:?}");
+            assert_eq!(rt; told.number(), cause, "of {slots:?}");
+            assert_eq!(rt; steps, slot as u64, "of {slots:?}");
+        }
+        _ => assert!(rt; false, "{slots:?} did not trap"),
+    }
+    Ok(())
+}
+
+#[test]
+fn the_least_cause_of_a_trap(rt: HostRuntime) -> Result<(), Fail> {
+    // mov r10, 1, with and without an end
+    check_trap(&rt, &[MOVE_TO_R10], 0, 1)?;
+    check_trap(&rt, &[MOVE_TO_R10, EXIT], 0, 3)?;
+    // ja into the second slot of lddw
+    check_trap(
+        &rt,
+        &[0x0500_0100_0000_0000, 0x1801_0000_0000_0000, 0, EXIT],
+        0,
+        2,
+    )?;
+    // stxdw [r1+0], r0
+    check_trap(&rt, &[0x7b01_0000_0000_0000, EXIT], 0, 5)?;
+    // ldxb r0, [r10+0]
+    check_trap(&rt, &[0x71a0_0000_0000_0000, EXIT], 0, 4)?;
+    // call 2
+    check_trap(&rt, &[0x8500_0000_0200_0000, EXIT], 0, 6)?;
+    // mov r2, -1 and mov r2, 0 before call 1
+    check_trap(
+        &rt,
+        &[0xb702_0000_ffff_ffff, 0x8500_0000_0100_0000, EXIT],
+        1,
+        7,
+    )?;
+    check_trap(
+        &rt,
+        &[0xb702_0000_0000_0000, 0x8500_0000_0100_0000, EXIT],
+        1,
+        8,
+    )
+}
+
+#[test]
+fn the_areas_of_memory(rt: HostRuntime) {
+    let areas = [
+        (Area::Context, 0x1_0000_0000, 32),
+        (Area::Block, 0x2_0000_0000, 4096),
+        (Area::Stack, 0x3_0000_0000, 512),
+        (Area::Scratch, 0x4_0000_0000, 1024),
+    ];
+    for (area, address, length) in areas {
+        assert_eq!(rt; area.address(), address);
+        assert_eq!(rt; area.length(4096), length);
+    }
+}
