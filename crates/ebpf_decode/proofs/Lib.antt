@@ -1,3 +1,4 @@
+pub mod Beginnings
 pub mod Slots
 pub mod Takes
 pub mod Programs

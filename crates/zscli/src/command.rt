@@ -1,8 +1,8 @@
 //! The words of a command line, and what they ask for.
 
-use crate::exec;
 use crate::failure::{Failure, STANDARD_OUTPUT};
 use crate::files::Files;
+use crate::{exec, unpack};
 use clap::Command;
 use clap::error::ErrorKind;
 use std::alloc::{AllocError, Global};
@@ -38,6 +38,7 @@ fn run<'a, F: Files, O: Write>(
     };
     match matches.subcommand() {
         Some((exec::NAME, matches)) => exec::exec(alloc, matches, files, out),
+        Some((unpack::NAME, matches)) => unpack::unpack(alloc, matches, files, out),
         _ => {
             let message = "a command is required";
             Err(Failure::from(line.error(ErrorKind::MissingSubcommand, message)?))
@@ -51,7 +52,8 @@ fn command_line<'a>(alloc: Global) -> Result<Command<'a>, AllocError> {
         .about("Works on zoned namespaces, and on the programs that run beside their data")
         .subcommand_required(true)
         .arg_required_else_help(true)
-        .subcommand(exec::subcommand(alloc)?)
+        .subcommand(exec::subcommand(alloc)?)?
+        .subcommand(unpack::subcommand(alloc)?)
 }
 
 /// Prints the help that was asked for.

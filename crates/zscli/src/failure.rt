@@ -26,6 +26,14 @@ pub enum Failure<'a> {
     NoMemory,
     #[error("line {0} refused")]
     LineRefused(usize),
+    #[error("geometry refused {0}")]
+    GeometryRefused(u8),
+    #[error("program refused {0} {1}")]
+    ProgramRefused(usize, u8),
+    #[error("frame refused {0}")]
+    FrameRefused(usize),
+    #[error("emit exceeds block")]
+    EmitExceedsBlock,
 }
 
 impl<'a> Failure<'a> {
@@ -60,8 +68,11 @@ impl<'a> Failure<'a> {
     fn status(&self) -> u8 {
         match self {
             Failure::CannotRead(_) | Failure::CannotWrite(_) | Failure::NoMemory => 1,
-            Failure::CommandLine(_) | Failure::NotText => 2,
-            Failure::LineRefused(_) => 3,
+            Failure::CommandLine(_) | Failure::NotText | Failure::EmitExceedsBlock => 2,
+            Failure::LineRefused(_)
+            | Failure::GeometryRefused(_)
+            | Failure::ProgramRefused(..)
+            | Failure::FrameRefused(_) => 3,
         }
     }
 }

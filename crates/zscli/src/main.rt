@@ -15,6 +15,7 @@ mod out;
 mod reply;
 #[cfg(test)]
 mod tests;
+mod unpack;
 mod words;
 
 use crate::command::command;
