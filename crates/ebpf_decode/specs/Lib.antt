@@ -1,1 +1,6 @@
 pub mod Program
+pub mod Spelling
+pub mod Codes
+pub mod Opcodes
+pub mod Faults
+pub mod Reading

@@ -1,11 +1,19 @@
 //! eBPF programs as bytes: the instructions of RFC 9669 that this project runs, and their encoding.
 #![tactic(auto)]
 
+mod codes;
+mod decoding;
+mod encoding;
+mod fault;
+mod fields;
 mod insn;
+mod opcode;
 mod operation;
 mod program;
 mod register;
 
+pub use encoding::{encode, push_instruction};
+pub use fault::{DecodeFault, Fault, FaultKind};
 pub use insn::{Insn, Source};
 pub use operation::{Operation, Relation, SignExtension, SignedSize, Size, Swap, SwapSize, Width};
 pub use program::Program;

@@ -35,6 +35,14 @@ impl Register {
         }
     }
 
+    /// The register with this number.
+    pub(crate) fn from_number(number: u8) -> Register
+        requires { number < 11 }
+        ensures { result ≡ number }
+    {
+        Register { number }
+    }
+
     /// The register's number.
     pub fn number(self) -> u8
         ensures value { result ≡ self }

@@ -1,0 +1,90 @@
+-- The slots of bytes, and reading them one by one.
+use Rattle.std.proofs.Common.{◌≡◌, ℕ, zero, suc, ◌+◌, ◌-◌, ◌*◌, ◌<◌, ◌≤◌, Bool, List, [], ◌∷◌, ◌++◌, length, take, drop, Option, Some, None, Result, Ok, Err, refl, sym, ap, ◌∙◌, append_assoc, add-one, arith}
+use Rattle.std.specs.List.{slice_get}
+use Rattle.std.proofs.lemmas.List.{append-nil, drop-drop}
+use Rattle.ebpf_decode.specs.declared.fault.Fault.{Fault}
+use Rattle.ebpf_decode.specs.declared.fault.FaultKind.{FaultKind}
+use Rattle.ebpf_decode.specs.declared.fields.Fields.{Fields}
+use Rattle.ebpf_decode.specs.declared.insn.Insn.{Insn}
+use Rattle.ebpf_decode.specs.Reading.{begins_wide, entry, fields_at, read_slots, slots_at, then_read, with_front}
+
+pub slots-get : (count : ℕ) (bytes : List ℕ) (k : ℕ) → k < count → slice_get (slots_at count bytes) k ≡ Some (fields_at (drop (8 * k) bytes))
+slots-get zero bytes k h = absurd (omega arith)
+slots-get (suc count) bytes zero h = refl
+slots-get (suc count) bytes (suc k) h =
+    let places : 8 + 8 * k ≡ 8 * suc k = omega arith in
+    slots-get count (drop 8 bytes) k (omega arith)
+    ∙ ap (λ (xs : List ℕ). Some (fields_at xs)) (drop-drop (8 * k) 8 bytes ∙ ap (λ n. drop n bytes) places)
+
+pub slots-past : (count : ℕ) (bytes : List ℕ) (k : ℕ) → count ≤ k → slice_get (slots_at count bytes) k ≡ None
+slots-past zero bytes k h = refl
+slots-past (suc count) bytes zero h = absurd (omega arith)
+slots-past (suc count) bytes (suc k) h = slots-past count (drop 8 bytes) k (omega arith)
+
+pub length-slots : (count : ℕ) (bytes : List ℕ) → length (slots_at count bytes) ≡ count
+length-slots zero bytes = refl
+length-slots (suc count) bytes = ap suc (length-slots count (drop 8 bytes))
+
+-- the slot at a place, and those after it
+drop-at : (fs : List Fields) (s : ℕ) (f : Fields) → slice_get fs s ≡ Some f → drop s fs ≡ f ∷ drop (suc s) fs
+drop-at [] s f h = absurd cc
+drop-at (x ∷ fs) zero f h = cc
+drop-at (x ∷ fs) (suc s) f h = drop-at fs s f h
+
+get-drop : (fs : List Fields) (s : ℕ) → slice_get (drop s fs) 0 ≡ slice_get fs s
+get-drop [] zero = refl
+get-drop [] (suc s) = refl
+get-drop (x ∷ fs) zero = refl
+get-drop (x ∷ fs) (suc s) = get-drop fs s
+
+-- what begins at a slot, and then the slots after it
+read-at : (fs : List Fields) (s : ℕ) (f : Fields) (second : Bool) → slice_get fs s ≡ Some f
+    → read_slots second s (drop s fs) ≡ then_read (entry second f (slice_get fs (s + 1))) s (λ wide. read_slots wide (s + 1) (drop (s + 1) fs))
+read-at fs s f second h =
+    ap (read_slots second s) (drop-at fs s f h)
+    ∙ ap (λ n. then_read (entry second f n) s (λ wide. read_slots wide (s + 1) (drop (suc s) fs))) (get-drop fs (suc s))
+    ∙ ap (λ n. then_read (entry second f (slice_get fs n)) s (λ wide. read_slots wide (s + 1) (drop n fs))) (sym (add-one s))
+
+pub with_front-nil : (read : Result (List (Option Insn)) Fault) → with_front [] read ≡ read
+with_front-nil (Ok slots) = refl
+with_front-nil (Err fault) = refl
+
+pub with_front-more : (front : List (Option Insn)) (found : Option Insn) (read : Result (List (Option Insn)) Fault)
+    → with_front front (with_front (found ∷ []) read) ≡ with_front (front ++ found ∷ []) read
+with_front-more front found (Ok slots) = ap (λ xs. Ok xs) (sym (append_assoc front (found ∷ []) slots))
+with_front-more front found (Err fault) = refl
+
+-- one more slot
+pub goes_on : (fs : List Fields) (s : ℕ) (f : Fields) (second : Bool) (found : Option Insn) (front : List (Option Insn)) (total : Result (List (Option Insn)) Fault)
+    → slice_get fs s ≡ Some f → entry second f (slice_get fs (s + 1)) ≡ Ok found
+    → with_front front (read_slots second s (drop s fs)) ≡ total
+    → with_front (front ++ found ∷ []) (read_slots (begins_wide found) (s + 1) (drop (s + 1) fs)) ≡ total
+goes_on fs s f second found front total here read so_far =
+    sym (with_front-more front found (read_slots (begins_wide found) (s + 1) (drop (s + 1) fs)))
+    ∙ ap (λ r. with_front front (then_read r s (λ wide. read_slots wide (s + 1) (drop (s + 1) fs)))) (sym read)
+    ∙ ap (with_front front) (sym (read-at fs s f second here))
+    ∙ so_far
+
+-- a slot with a fault
+pub ends : (fs : List Fields) (s : ℕ) (f : Fields) (second : Bool) (kind : FaultKind) (front : List (Option Insn)) (total : Result (List (Option Insn)) Fault)
+    → slice_get fs s ≡ Some f → entry second f (slice_get fs (s + 1)) ≡ Err kind
+    → with_front front (read_slots second s (drop s fs)) ≡ total
+    → total ≡ Err (record { slot = s; kind = kind })
+ends fs s f second kind front total here read so_far =
+    sym so_far
+    ∙ ap (with_front front) (read-at fs s f second here)
+    ∙ ap (λ r. with_front front (then_read r s (λ wide. read_slots wide (s + 1) (drop (s + 1) fs)))) read
+
+drop-all : (fs : List Fields) (s : ℕ) → length fs ≤ s → drop s fs ≡ []
+drop-all [] zero h = refl
+drop-all [] (suc s) h = refl
+drop-all (x ∷ fs) zero h = absurd (omega arith)
+drop-all (x ∷ fs) (suc s) h = drop-all fs s (omega arith)
+
+-- no slot is left
+pub is_done : (fs : List Fields) (s : ℕ) (second : Bool) (front : List (Option Insn)) (total : Result (List (Option Insn)) Fault)
+    → length fs ≤ s → with_front front (read_slots second s (drop s fs)) ≡ total → total ≡ Ok front
+is_done fs s second front total h so_far =
+    sym so_far
+    ∙ ap (λ xs. with_front front (read_slots second s xs)) (drop-all fs s h)
+    ∙ ap (λ xs. Ok xs) (append-nil front)

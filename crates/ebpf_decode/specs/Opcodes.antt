@@ -1,0 +1,119 @@
+-- What an opcode names, and which fields it uses.
+use Rattle.std.specs.Prelude.{ℕ, ◌==◌, ◌/◌, ◌%◌, Bool, true, false, List, [], ◌∷◌, Option, Some, None, option_map, if◌then◌else◌}
+use Rattle.std.specs.List.{list_any}
+use Rattle.ebpf_decode.specs.declared.opcode.Opcode.{Opcode}
+use Rattle.ebpf_decode.specs.declared.opcode.Opcode.TheVariants as opcodes
+use Rattle.ebpf_decode.specs.declared.opcode.Operand.{Operand}
+use Rattle.ebpf_decode.specs.declared.opcode.Operand.TheVariants as operands
+use Rattle.ebpf_decode.specs.declared.opcode.Uses.{Uses}
+use Rattle.ebpf_decode.specs.declared.operation.Width.{Width}
+use Rattle.ebpf_decode.specs.declared.operation.Width.TheVariants as widths
+use Rattle.ebpf_decode.specs.declared.operation.Operation.{Operation}
+use Rattle.ebpf_decode.specs.declared.operation.Operation.TheVariants.{Divide, Modulo, Move}
+use Rattle.ebpf_decode.specs.Spelling.{LD, LDX, ST, STX, IMM, MEM, MEMSX, NEG, JA, CALL, EXIT, access_opcode, operation_opcode, arithmetic_class, jump_class}
+use Rattle.ebpf_decode.specs.Codes.{size_with, signed_size_with, operation_with, swap_with, relation_with}
+
+abbrev pub or_else : {X : Type 0} → Option X → Option X → Option X
+or_else (Some x) o = Some x
+or_else None o = o
+
+abbrev pub operand_of : ℕ → Operand
+operand_of opcode = if opcode / 8 % 2 == 0 then operands.Immediate else operands.Register
+
+-- class LD: the wide instruction; packet loads are left out (RFC 9669, 5.4 and 5.5)
+abbrev pub load_immediate_opcode : ℕ → Option Opcode
+load_immediate_opcode opcode =
+    if opcode == 0x18 then Some opcodes.LoadImmediate
+    else if list_any (λ left_out. left_out == opcode) (0x20 ∷ 0x28 ∷ 0x30 ∷ 0x40 ∷ 0x48 ∷ 0x50 ∷ []) then Some opcodes.LeftOut
+    else None
+
+-- class LDX: loads by their mode and size (RFC 9669, 5.1 and 5.2)
+abbrev pub load_opcode : ℕ → Option Opcode
+load_opcode opcode =
+    if opcode / 32 == MEM then option_map opcodes.Load (size_with (opcode / 8 % 4))
+    else if opcode / 32 == MEMSX then option_map opcodes.LoadSigned (signed_size_with (opcode / 8 % 4))
+    else None
+
+-- class ST (RFC 9669, 5.1)
+abbrev pub store_immediate_opcode : ℕ → Option Opcode
+store_immediate_opcode opcode =
+    if opcode / 32 == MEM then option_map opcodes.StoreImmediate (size_with (opcode / 8 % 4)) else None
+
+-- class STX; atomic operations are left out (RFC 9669, 5.1 and 5.3)
+abbrev pub store_register_opcode : ℕ → Option Opcode
+store_register_opcode opcode =
+    if opcode / 32 == MEM then option_map opcodes.StoreRegister (size_with (opcode / 8 % 4))
+    else if list_any (λ left_out. left_out == opcode) (0xc3 ∷ 0xdb ∷ []) then Some opcodes.LeftOut
+    else None
+
+-- classes ALU and ALU64: negation, byte swaps, and the other operations by their code (RFC 9669, 4.1 and 4.2)
+abbrev pub arithmetic_opcode : Width → ℕ → Option Opcode
+arithmetic_opcode width opcode =
+    if opcode == operation_opcode NEG 0 (arithmetic_class width) then Some (opcodes.Negate width)
+    else or_else (option_map opcodes.SwapBytes (swap_with opcode))
+        (option_map (λ operation. opcodes.Arithmetic width operation (operand_of opcode)) (operation_with (opcode / 16)))
+
+-- conditional jumps by their code (RFC 9669, 4.3)
+abbrev pub branch_opcode : Width → ℕ → Option Opcode
+branch_opcode width opcode = option_map (λ relation. opcodes.Branch width relation (operand_of opcode)) (relation_with (opcode / 16))
+
+-- class JMP (RFC 9669, 4.3)
+abbrev pub jump_opcode : ℕ → Option Opcode
+jump_opcode opcode =
+    if opcode == operation_opcode JA 0 (jump_class widths.Bits64) then Some opcodes.Jump
+    else if opcode == operation_opcode CALL 0 (jump_class widths.Bits64) then Some opcodes.Call
+    else if opcode == operation_opcode EXIT 0 (jump_class widths.Bits64) then Some opcodes.Exit
+    else branch_opcode widths.Bits64 opcode
+
+-- class JMP32 (RFC 9669, 4.3)
+abbrev pub jump_long_opcode : ℕ → Option Opcode
+jump_long_opcode opcode =
+    if opcode == operation_opcode JA 0 (jump_class widths.Bits32) then Some opcodes.JumpLong
+    else branch_opcode widths.Bits32 opcode
+
+-- what an opcode names, by its class (RFC 9669, 3.3)
+abbrev pub opcode_named : ℕ → Option Opcode
+opcode_named opcode =
+    if opcode % 8 == LD then load_immediate_opcode opcode
+    else if opcode % 8 == LDX then load_opcode opcode
+    else if opcode % 8 == ST then store_immediate_opcode opcode
+    else if opcode % 8 == STX then store_register_opcode opcode
+    else if opcode % 8 == arithmetic_class widths.Bits32 then arithmetic_opcode widths.Bits32 opcode
+    else if opcode % 8 == jump_class widths.Bits64 then jump_opcode opcode
+    else if opcode % 8 == jump_class widths.Bits32 then jump_long_opcode opcode
+    else arithmetic_opcode widths.Bits64 opcode
+
+-- do offsets tell several operations of one code? (RFC 9669, 4.1)
+abbrev pub has_variants : Operation → Bool
+has_variants Divide = true
+has_variants Modulo = true
+has_variants Move = true
+has_variants _ = false
+
+abbrev pub is_immediate : Operand → Bool
+is_immediate operands.Immediate = true
+is_immediate operands.Register = false
+
+abbrev pub is_register : Operand → Bool
+is_register operands.Immediate = false
+is_register operands.Register = true
+
+abbrev pub fields_used : Bool → Bool → Bool → Bool → Uses
+fields_used dst src offset immediate = record { dst = dst; src = src; offset = offset; immediate = immediate }
+
+-- which of the fields dst, src, offset and immediate an instruction uses
+abbrev pub uses : Opcode → Uses
+uses opcodes.LoadImmediate = fields_used true false false true
+uses (opcodes.Load size) = fields_used true true true false
+uses (opcodes.LoadSigned size) = fields_used true true true false
+uses (opcodes.StoreImmediate size) = fields_used true false true true
+uses (opcodes.StoreRegister size) = fields_used true true true false
+uses (opcodes.Arithmetic width operation operand) = fields_used true (is_register operand) (has_variants operation) (is_immediate operand)
+uses (opcodes.Negate width) = fields_used true false false false
+uses (opcodes.SwapBytes swap) = fields_used true false false true
+uses opcodes.Jump = fields_used false false true false
+uses opcodes.JumpLong = fields_used false false false true
+uses (opcodes.Branch width relation operand) = fields_used true (is_register operand) true (is_immediate operand)
+uses opcodes.Call = fields_used false false false true
+uses opcodes.Exit = fields_used false false false false
+uses opcodes.LeftOut = fields_used false false false false

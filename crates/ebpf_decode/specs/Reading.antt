@@ -1,0 +1,180 @@
+-- Reading bytes: the program that they spell, or their first fault.
+use Rattle.std.specs.Prelude.{◌≡◌, ℕ, zero, suc, ℤ, pos, ◌+◌, ◌*◌, ◌/◌, ◌%◌, ◌^◌, ◌==◌, nat_lt, Bool, true, false, not, ◌&&◌, ◌||◌, List, [], ◌∷◌, ◌++◌, length, drop, slice_get, slice_index, find, Option, Some, None, is_none, option_map, Result, Ok, Err, ok_or, if◌then◌else◌}
+use Rattle.std.specs.Ordering.{int_eq}
+use Rattle.std.specs.Int.{w16, w32, cast_signed, cast_unsigned}
+use Rattle.byteorder.specs.Endian.{little_number}
+use Rattle.ebpf_decode.specs.declared.fault.DecodeFault.{DecodeFault}
+use Rattle.ebpf_decode.specs.declared.fault.DecodeFault.TheVariants as errors
+use Rattle.ebpf_decode.specs.declared.fault.Fault.{Fault}
+use Rattle.ebpf_decode.specs.declared.fault.FaultKind.{FaultKind}
+use Rattle.ebpf_decode.specs.declared.fault.FaultKind.TheVariants as kinds
+use Rattle.ebpf_decode.specs.declared.fields.Fields.{Fields}
+use Rattle.ebpf_decode.specs.declared.insn.Insn.{Insn}
+use Rattle.ebpf_decode.specs.declared.insn.Insn.TheVariants as insns
+use Rattle.ebpf_decode.specs.declared.insn.Source.{Source}
+use Rattle.ebpf_decode.specs.declared.insn.Source.TheVariants as sources
+use Rattle.ebpf_decode.specs.declared.opcode.Opcode.{Opcode}
+use Rattle.ebpf_decode.specs.declared.opcode.Opcode.TheVariants.{LoadImmediate, Load, LoadSigned, StoreImmediate, StoreRegister, Arithmetic, Negate, SwapBytes, Jump, JumpLong, Branch, Call, Exit, LeftOut}
+use Rattle.ebpf_decode.specs.declared.opcode.Operand.{Operand}
+use Rattle.ebpf_decode.specs.declared.opcode.Operand.TheVariants as operands
+use Rattle.ebpf_decode.specs.declared.opcode.Uses.{Uses}
+use Rattle.ebpf_decode.specs.declared.operation.Width.{Width}
+use Rattle.ebpf_decode.specs.declared.operation.Operation.{Operation}
+use Rattle.ebpf_decode.specs.Codes.{extension_with, variant_with, swap_size_with}
+use Rattle.ebpf_decode.specs.Opcodes.{opcode_named, uses, or_else}
+use Rattle.ebpf_decode.specs.Program.{is_wide}
+
+-- the fields of the slot at the front of bytes (RFC 9669, 3.1)
+abbrev pub fields_at : List ℕ → Fields
+fields_at bytes = record {
+  opcode = slice_index bytes 0;
+  dst = slice_index bytes 1 % 16;
+  src = slice_index bytes 1 / 16;
+  offset = cast_signed w16 (little_number 2 (drop 2 bytes));
+  immediate = cast_signed w32 (little_number 4 (drop 4 bytes));
+}
+
+-- the fields of the first slots of bytes
+abbrev pub slots_at : ℕ → List ℕ → List Fields
+slots_at zero bytes = []
+slots_at (suc count) bytes = fields_at bytes ∷ slots_at count (drop 8 bytes)
+
+-- ---- the first fault of an instruction
+
+abbrev pub is_left_out : Opcode → Fields → Bool
+is_left_out LeftOut f = true
+is_left_out LoadImmediate f = not (f.src == 0)
+is_left_out Call f = not (f.src == 0)
+is_left_out _ f = false
+
+abbrev pub is_load_immediate : Opcode → Bool
+is_load_immediate LoadImmediate = true
+is_load_immediate _ = false
+
+abbrev pub has_no_register : Uses → Fields → Bool
+has_no_register used f = (used.dst && nat_lt 10 f.dst) || (used.src && nat_lt 10 f.src)
+
+-- is a field that isn't used other than 0?
+abbrev pub has_unused : Uses → Fields → Bool
+has_unused used f =
+    (not used.dst && not (f.dst == 0)) || (not used.src && not (f.src == 0))
+    || (not used.offset && not (int_eq f.offset (pos 0))) || (not used.immediate && not (int_eq f.immediate (pos 0)))
+
+-- is anything but the immediate of a wide instruction's second slot other than 0?
+abbrev pub has_more : Option Fields → Bool
+has_more None = false
+has_more (Some f) = not (f.opcode == 0) || not (f.dst == 0) || not (f.src == 0) || not (int_eq f.offset (pos 0))
+
+-- the checks of an instruction whose opcode is known, in order; each is true where its fault is there
+abbrev pub checks : Opcode → Fields → Option Fields → List (Bool × FaultKind)
+checks opcode f next =
+    (is_left_out opcode f, kinds.NotInProfile)
+    ∷ (is_load_immediate opcode && is_none next, kinds.CutWide)
+    ∷ (has_no_register (uses opcode) f, kinds.Register)
+    ∷ (has_unused (uses opcode) f || (is_load_immediate opcode && has_more next), kinds.UnusedField)
+    ∷ []
+
+abbrev pub first_fault : Opcode → Fields → Option Fields → Option FaultKind
+first_fault opcode f next = option_map (λ check. check.1) (find (λ check. check.0) (checks opcode f next))
+
+-- ---- an instruction without these faults
+
+abbrev pub source_of : Operand → Fields → Source
+source_of operands.Immediate f = sources.Immediate f.immediate
+source_of operands.Register f = sources.Register f.src
+
+abbrev pub immediate_of : Option Fields → ℕ
+immediate_of None = 0
+immediate_of (Some f) = cast_unsigned w32 f.immediate
+
+-- a sign-extending move from a register, if the offset tells one
+abbrev pub signed_move : Width → Operation → Operand → Fields → Option Insn
+signed_move width operation operands.Immediate f = None
+signed_move width operation operands.Register f =
+    option_map (λ extension. insns.MoveSigned extension f.dst f.src) (extension_with width operation f.offset)
+
+-- the instruction; none where a field that it uses has a value that no instruction has
+abbrev pub instruction : Opcode → Fields → Option Fields → Option Insn
+instruction LoadImmediate f next = Some (insns.LoadImmediate f.dst (cast_unsigned w32 f.immediate + 2 ^ 32 * immediate_of next))
+instruction (Load size) f next = Some (insns.Load size f.dst f.src f.offset)
+instruction (LoadSigned size) f next = Some (insns.LoadSigned size f.dst f.src f.offset)
+instruction (StoreImmediate size) f next = Some (insns.StoreImmediate size f.dst f.offset f.immediate)
+instruction (StoreRegister size) f next = Some (insns.StoreRegister size f.dst f.src f.offset)
+instruction (Arithmetic width operation operand) f next =
+    or_else (option_map (λ variant. insns.Arithmetic width variant f.dst (source_of operand f)) (variant_with operation f.offset))
+        (signed_move width operation operand f)
+instruction (Negate width) f next = Some (insns.Negate width f.dst)
+instruction (SwapBytes swap) f next = option_map (λ size. insns.SwapBytes swap size f.dst) (swap_size_with f.immediate)
+instruction Jump f next = Some (insns.Jump f.offset)
+instruction JumpLong f next = Some (insns.JumpLong f.immediate)
+instruction (Branch width relation operand) f next = Some (insns.Branch width relation f.dst (source_of operand f) f.offset)
+instruction Call f next = Some (insns.Call f.immediate)
+instruction Exit f next = Some insns.Exit
+instruction LeftOut f next = None
+
+-- ---- a slot, and all of them
+
+abbrev pub unless : {X : Type 0} → Option FaultKind → Option X → Result X FaultKind
+unless (Some kind) found = Err kind
+unless None found = ok_or found kinds.Value
+
+abbrev pub read_named : Option Opcode → Fields → Option Fields → Result Insn FaultKind
+read_named None f next = Err kinds.Opcode
+read_named (Some opcode) f next = unless (first_fault opcode f next) (instruction opcode f next)
+
+-- the instruction of a slot, where the next slot is known, or its first fault
+abbrev pub read : Fields → Option Fields → Result Insn FaultKind
+read f next = read_named (opcode_named f.opcode) f next
+
+abbrev pub with_front : List (Option Insn) → Result (List (Option Insn)) Fault → Result (List (Option Insn)) Fault
+with_front front (Ok slots) = Ok (front ++ slots)
+with_front front (Err fault) = Err fault
+
+abbrev pub found_in : Result Insn FaultKind → Result (Option Insn) FaultKind
+found_in (Ok i) = Ok (Some i)
+found_in (Err kind) = Err kind
+
+-- what begins at a slot: nothing at a wide instruction's second
+abbrev pub entry : Bool → Fields → Option Fields → Result (Option Insn) FaultKind
+entry true f next = Ok None
+entry false f next = found_in (read f next)
+
+abbrev pub begins_wide : Option Insn → Bool
+begins_wide None = false
+begins_wide (Some i) = is_wide i
+
+-- what begins at slot number s, and then the slots after it
+abbrev pub then_read : Result (Option Insn) FaultKind → ℕ → (Bool → Result (List (Option Insn)) Fault) → Result (List (Option Insn)) Fault
+then_read (Err kind) s after = Err (record { slot = s; kind = kind })
+then_read (Ok found) s after = with_front (found ∷ []) (after (begins_wide found))
+
+-- what begins at the slots from number s on, of which the first may be a wide instruction's second
+abbrev pub read_slots : Bool → ℕ → List Fields → Result (List (Option Insn)) Fault
+read_slots second s [] = Ok []
+read_slots second s (f ∷ rest) = then_read (entry second f (slice_get rest 0)) s (λ wide. read_slots wide (s + 1) rest)
+
+-- the checks of a program's length, in order
+abbrev pub length_checks : ℕ → List (Bool × FaultKind)
+length_checks len =
+    (not (len % 8 == 0), kinds.Length) ∷ (len == 0, kinds.Empty) ∷ (nat_lt 4096 (len / 8), kinds.TooLong) ∷ []
+
+abbrev pub length_fault : ℕ → Option FaultKind
+length_fault len = option_map (λ check. check.1) (find (λ check. check.0) (length_checks len))
+
+abbrev pub unless_length : Option FaultKind → Result (List (Option Insn)) Fault → Result (List (Option Insn)) Fault
+unless_length (Some kind) slots = Err (record { slot = 0; kind = kind })
+unless_length None slots = slots
+
+-- the program that bytes spell, or their first fault
+abbrev pub decoded : List ℕ → Result (List (Option Insn)) Fault
+decoded bytes = unless_length (length_fault (length bytes)) (read_slots false 0 (slots_at (length bytes / 8) bytes))
+
+-- ---- what a function answers: what was read, unless memory ran out
+
+abbrev pub Fails : {X : Type 0} → DecodeFault → Result X Fault → Type 0
+Fails errors.Memory read = Unit {0}
+Fails (errors.Fault fault) read = read ≡ Err fault
+
+abbrev pub Gives : {X Y : Type 0} → (X → Y) → Result X DecodeFault → Result Y Fault → Type 0
+Gives view (Ok x) read = read ≡ Ok (view x)
+Gives view (Err e) read = Fails e read

@@ -1,0 +1,210 @@
+//! Programs out of bytes.
+
+ghost use Rattle.std.specs.Prelude.{◌≡◌, ◌<◌, ◌≤◌, ◌+◌, ◌*◌, ◌/◌, ◌^◌, drop, length, slice_get, false, None};
+ghost use Rattle.std.specs.Int.{w32, cast_unsigned};
+ghost use Rattle.ebpf_decode.specs.Reading.{Gives, begins_wide, decoded, entry, fields_at, first_fault, has_more, has_no_register, has_unused, immediate_of, instruction, is_left_out, length_fault, read, read_slots, slots_at, source_of};
+
+use crate::fault::{DecodeFault, Fault, FaultKind};
+use crate::fields::{Fields, from_bytes};
+use crate::insn::{Insn, Source};
+use crate::opcode::{Opcode, Operand, Uses};
+use crate::operation::{Operation, SignExtension, SwapSize, Width};
+use crate::program::Program;
+use crate::register::Register;
+use std::alloc::Global;
+
+fn is_left_out(opcode: Opcode, fields: &Fields) -> bool
+    ensures { result ≡ is_left_out opcode fields.now }
+{
+    match opcode {
+        Opcode::LeftOut => true,
+        Opcode::LoadImmediate | Opcode::Call => fields.src != 0,
+        _ => false,
+    }
+}
+
+fn has_no_register(used: Uses, fields: &Fields) -> bool
+    ensures { result ≡ has_no_register used fields.now }
+{
+    (used.dst && fields.dst > 10) || (used.src && fields.src > 10)
+}
+
+fn has_unused(used: Uses, fields: &Fields) -> bool
+    ensures { result ≡ has_unused used fields.now }
+{
+    (!used.dst && fields.dst != 0)
+        || (!used.src && fields.src != 0)
+        || (!used.offset && fields.offset != 0)
+        || (!used.immediate && fields.immediate != 0)
+}
+
+fn has_more(second: Option<Fields>) -> bool
+    ensures { result ≡ has_more second }
+{
+    match second {
+        None => false,
+        Some(f) => f.opcode != 0 || f.dst != 0 || f.src != 0 || f.offset != 0,
+    }
+}
+
+fn first_fault(opcode: Opcode, fields: &Fields, next: Option<Fields>) -> Option<FaultKind>
+    ensures { result ≡ first_fault opcode fields.now next }
+{
+    if is_left_out(opcode, fields) {
+        return Some(FaultKind::NotInProfile);
+    }
+    let is_wide = opcode == Opcode::LoadImmediate;
+    if is_wide && next.is_none() {
+        return Some(FaultKind::CutWide);
+    }
+    let used = opcode.uses();
+    if has_no_register(used, fields) {
+        return Some(FaultKind::Register);
+    }
+    if has_unused(used, fields) || (is_wide && has_more(next)) {
+        return Some(FaultKind::UnusedField);
+    }
+    None
+}
+
+fn source(operand: Operand, fields: &Fields) -> Source
+    requires { fields.now.src < 11 }
+    ensures { result ≡ source_of operand fields.now }
+{
+    match operand {
+        Operand::Immediate => Source::Immediate(fields.immediate),
+        Operand::Register => Source::Register(Register::from_number(fields.src)),
+    }
+}
+
+/// An operation with this offset, or a sign-extending move.
+fn arithmetic(width: Width, operation: Operation, operand: Operand, fields: &Fields) -> Option<Insn>
+    requires dst { fields.now.dst < 11 }
+    requires src { fields.now.src < 11 }
+    ensures { result ≡ instruction (Opcode.Arithmetic width operation operand) fields.now None }
+{
+    let dst = Register::from_number(fields.dst);
+    if let Some(operation) = operation.variant(fields.offset) {
+        let source = source(operand, fields);
+        return Some(Insn::Arithmetic { width, operation, dst, source });
+    }
+    if operand == Operand::Immediate {
+        return None;
+    }
+    let extension = SignExtension::variant(width, operation, fields.offset)?;
+    let src = Register::from_number(fields.src);
+    Some(Insn::MoveSigned { extension, dst, src })
+}
+
+fn wide_value(fields: &Fields, next: Option<Fields>) -> u64
+    ensures { result ≡ cast_unsigned w32 fields.now.immediate + 2 ^ 32 * immediate_of next }
+{
+    let low = u64::from(fields.immediate.cast_unsigned());
+    match next {
+        None => low,
+        Some(second) => low + 0x1_0000_0000 * u64::from(second.immediate.cast_unsigned()),
+    }
+}
+
+/// The instruction of a slot without the faults of [`first_fault`].
+fn instruction(opcode: Opcode, fields: &Fields, next: Option<Fields>) -> Option<Insn>
+    requires dst { fields.now.dst < 11 }
+    requires src { fields.now.src < 11 }
+    ensures { result ≡ instruction opcode fields.now next }
+{
+    let dst = Register::from_number(fields.dst);
+    let src = Register::from_number(fields.src);
+    let Fields { offset, immediate, .. } = *fields;
+    match opcode {
+        Opcode::LoadImmediate => {
+            Some(Insn::LoadImmediate { dst, value: wide_value(fields, next) })
+        }
+        Opcode::Load(size) => Some(Insn::Load { size, dst, src, offset }),
+        Opcode::LoadSigned(size) => Some(Insn::LoadSigned { size, dst, src, offset }),
+        Opcode::StoreImmediate(size) => {
+            Some(Insn::StoreImmediate { size, dst, offset, value: immediate })
+        }
+        Opcode::StoreRegister(size) => Some(Insn::StoreRegister { size, dst, src, offset }),
+        Opcode::Arithmetic(width, operation, operand) => {
+            arithmetic(width, operation, operand, fields)
+        }
+        Opcode::Negate(width) => Some(Insn::Negate { width, dst }),
+        Opcode::SwapBytes(swap) => {
+            let size = SwapSize::with_bits(immediate)?;
+            Some(Insn::SwapBytes { swap, size, dst })
+        }
+        Opcode::Jump => Some(Insn::Jump { distance: offset }),
+        Opcode::JumpLong => Some(Insn::JumpLong { distance: immediate }),
+        Opcode::Branch(width, relation, operand) => {
+            let source = source(operand, fields);
+            Some(Insn::Branch { width, relation, dst, source, distance: offset })
+        }
+        Opcode::Call => Some(Insn::Call { helper: immediate }),
+        Opcode::Exit => Some(Insn::Exit),
+        Opcode::LeftOut => None,
+    }
+}
+
+/// The instruction of a slot, where the next slot is known, or its first fault.
+fn read(fields: &Fields, next: Option<Fields>) -> Result<Insn, FaultKind>
+    ensures { result ≡ read fields.now next }
+{
+    let opcode = Opcode::named(fields.opcode).ok_or(FaultKind::Opcode)?;
+    if let Some(kind) = first_fault(opcode, fields, next) {
+        return Err(kind);
+    }
+    match instruction(opcode, fields, next) {
+        Some(found) => Ok(found),
+        None => Err(FaultKind::Value),
+    }
+}
+
+fn slot_at(bytes: &[u8], slot: usize) -> Option<Fields>
+    requires { slot ≤ 4096 }
+    ensures { result ≡ slice_get (slots_at (length bytes.now / 8) bytes.now) slot }
+{
+    if slot < bytes.len() / 8 {
+        Some(from_bytes(&bytes[8 * slot..]))
+    } else {
+        None
+    }
+}
+
+/// What begins at a slot: nothing at a wide instruction's second.
+fn entry_at(bytes: &[u8], slot: usize, second: bool) -> Result<Option<Insn>, FaultKind>
+    requires inside { slot < length bytes.now / 8 }
+    requires most { length bytes.now / 8 ≤ 4096 }
+    ensures { result ≡ entry second (fields_at (drop (8 * slot) bytes.now)) (slice_get (slots_at (length bytes.now / 8) bytes.now) (slot + 1)) }
+{
+    if second {
+        return Ok(None);
+    }
+    let fields = from_bytes(&bytes[8 * slot..]);
+    let instruction = read(&fields, slot_at(bytes, slot + 1))?;
+    Ok(Some(instruction))
+}
+
+fn begins_wide(entry: &Option<Insn>) -> bool
+    ensures { result ≡ begins_wide entry.now }
+{
+    matches!(entry, Some(Insn::LoadImmediate { .. }))
+}
+
+fn decode_slots(alloc: Global, bytes: &[u8]) -> Result<Vec<Option<Insn>>, DecodeFault>
+    requires { length bytes.now / 8 ≤ 4096 }
+    ensures { Gives (λ slots. slots.items) result (read_slots false 0 (slots_at (length bytes.now / 8) bytes.now)) }
+{
+    let count = bytes.len() / 8;
+    let mut slots = Vec::with_capacity(alloc, count)?;
+    let mut second = false;
+    for slot in 0..count {
+        match entry_at(bytes, slot, second) {
+            Ok(entry) => {
+                second = begins_wide(&entry);
+                slots.extend_from_slice(&[entry])?;
+            }
+            Err(kind) => return Err(DecodeFault::Fault(Fault { slot, kind })),
+        }
+    }
+    Ok(slots)
+}

@@ -1,0 +1,262 @@
+//! The bytes of instructions and programs.
+
+ghost use Rattle.std.specs.Prelude.{◌≡◌, ◌<◌, ◌≤◌, ◌%◌, ◌/◌, ◌^◌, ◌++◌, length, IfSome, IfOk, OnOk};
+ghost use Rattle.std.specs.Int.{w32, cast_signed};
+ghost use Rattle.std.specs.List.{flat_map};
+ghost use Rattle.ebpf_decode.specs.Spelling.{access_opcode, first_slot, operation_opcode, program_bytes, second_slot, slot_bytes, source_bit, source_immediate, source_register, spelling};
+
+use crate::fields::{Fields, to_bytes};
+use crate::insn::{Insn, Source};
+use crate::operation::Width;
+use crate::program::Program;
+use std::alloc::{AllocError, Global};
+
+const IMM: u8 = 0;
+
+const MEM: u8 = 3;
+
+const MEMSX: u8 = 4;
+
+const LD: u8 = 0;
+
+const LDX: u8 = 1;
+
+const ST: u8 = 2;
+
+const STX: u8 = 3;
+
+const JA: u8 = 0x0;
+
+const NEG: u8 = 0x8;
+
+const MOV: u8 = 0xb;
+
+const CALL: u8 = 0x8;
+
+const EXIT: u8 = 0x9;
+
+/// An opcode of the load and store classes (RFC 9669, 5).
+fn access_opcode(mode: u8, size: u8, class: u8) -> u8
+    requires mode { mode < 8 }
+    requires size { size < 4 }
+    requires class { class < 8 }
+    ensures { result ≡ access_opcode mode size class }
+{
+    32 * mode + 8 * size + class
+}
+
+/// An opcode of the arithmetic and jump classes (RFC 9669, 4).
+fn operation_opcode(code: u8, source: u8, class: u8) -> u8
+    requires code { code < 16 }
+    requires source { source < 2 }
+    requires class { class < 8 }
+    ensures { result ≡ operation_opcode code source class }
+{
+    16 * code + 8 * source + class
+}
+
+fn source_bit(source: Source) -> u8
+    ensures value { result ≡ source_bit source }
+    ensures bound { result < 2 }
+{
+    match source {
+        Source::Immediate(_) => 0,
+        Source::Register(_) => 1,
+    }
+}
+
+fn source_register(source: Source) -> u8
+    ensures value { result ≡ source_register source }
+    ensures bound { result < 11 }
+{
+    match source {
+        Source::Immediate(_) => 0,
+        Source::Register(register) => register.number(),
+    }
+}
+
+fn source_immediate(source: Source) -> i32
+    ensures { result ≡ source_immediate source }
+{
+    match source {
+        Source::Immediate(value) => value,
+        Source::Register(_) => 0,
+    }
+}
+
+fn opcode(instruction: &Insn) -> u8
+    ensures { result ≡ (first_slot instruction.now).opcode }
+{
+    match *instruction {
+        Insn::LoadImmediate { .. } => access_opcode(IMM, 3, LD),
+        Insn::Load { size, .. } => access_opcode(MEM, size.code(), LDX),
+        Insn::LoadSigned { size, .. } => access_opcode(MEMSX, size.code(), LDX),
+        Insn::StoreImmediate { size, .. } => access_opcode(MEM, size.code(), ST),
+        Insn::StoreRegister { size, .. } => access_opcode(MEM, size.code(), STX),
+        Insn::Arithmetic {
+            width,
+            operation,
+            source,
+            ..
+        } => {
+            operation_opcode(
+                operation.code(),
+                source_bit(source),
+                width.arithmetic_class(),
+            )
+        }
+        Insn::Negate { width, .. } => operation_opcode(NEG, 0, width.arithmetic_class()),
+        Insn::MoveSigned { extension, .. } => {
+            operation_opcode(MOV, 1, extension.width().arithmetic_class())
+        }
+        Insn::SwapBytes { swap, .. } => swap.opcode(),
+        Insn::Jump { .. } => operation_opcode(JA, 0, Width::Bits64.jump_class()),
+        Insn::JumpLong { .. } => operation_opcode(JA, 0, Width::Bits32.jump_class()),
+        Insn::Branch {
+            width,
+            relation,
+            source,
+            ..
+        } => { operation_opcode(relation.code(), source_bit(source), width.jump_class()) }
+        Insn::Call { .. } => operation_opcode(CALL, 0, Width::Bits64.jump_class()),
+        Insn::Exit => operation_opcode(EXIT, 0, Width::Bits64.jump_class()),
+    }
+}
+
+fn destination(instruction: &Insn) -> u8
+    ensures value { result ≡ (first_slot instruction.now).dst }
+    ensures bound { result < 11 }
+{
+    match *instruction {
+        Insn::LoadImmediate { dst, .. }
+        | Insn::Load { dst, .. }
+        | Insn::LoadSigned { dst, .. }
+        | Insn::StoreImmediate { dst, .. }
+        | Insn::StoreRegister { dst, .. }
+        | Insn::Arithmetic { dst, .. }
+        | Insn::Negate { dst, .. }
+        | Insn::MoveSigned { dst, .. }
+        | Insn::SwapBytes { dst, .. }
+        | Insn::Branch { dst, .. } => dst.number(),
+        Insn::Jump { .. } | Insn::JumpLong { .. } | Insn::Call { .. } | Insn::Exit => 0,
+    }
+}
+
+fn source(instruction: &Insn) -> u8
+    ensures value { result ≡ (first_slot instruction.now).src }
+    ensures bound { result < 11 }
+{
+    match *instruction {
+        Insn::Load { src, .. }
+        | Insn::LoadSigned { src, .. }
+        | Insn::StoreRegister { src, .. }
+        | Insn::MoveSigned { src, .. } => src.number(),
+        Insn::Arithmetic { source, .. } | Insn::Branch { source, .. } => source_register(source),
+        _ => 0,
+    }
+}
+
+fn offset(instruction: &Insn) -> i16
+    ensures { result ≡ (first_slot instruction.now).offset }
+{
+    match *instruction {
+        Insn::Load { offset, .. }
+        | Insn::LoadSigned { offset, .. }
+        | Insn::StoreImmediate { offset, .. }
+        | Insn::StoreRegister { offset, .. } => offset,
+        Insn::Arithmetic { operation, .. } => operation.offset(),
+        Insn::MoveSigned { extension, .. } => extension.offset(),
+        Insn::Jump { distance } | Insn::Branch { distance, .. } => distance,
+        _ => 0,
+    }
+}
+
+fn immediate(instruction: &Insn) -> i32
+    ensures { result ≡ (first_slot instruction.now).immediate }
+{
+    match *instruction {
+        Insn::LoadImmediate { value, .. } => low_half(value),
+        Insn::StoreImmediate { value, .. } => value,
+        Insn::Arithmetic { source, .. } | Insn::Branch { source, .. } => source_immediate(source),
+        Insn::SwapBytes { size, .. } => size.bits(),
+        Insn::JumpLong { distance } => distance,
+        Insn::Call { helper } => helper,
+        _ => 0,
+    }
+}
+
+fn low_half(value: u64) -> i32
+    ensures { result ≡ cast_signed w32 (value % 2 ^ 32) }
+{
+    ((value % 0x1_0000_0000) as u32).cast_signed()
+}
+
+fn high_half(value: u64) -> i32
+    ensures { result ≡ cast_signed w32 (value / 2 ^ 32 % 2 ^ 32) }
+{
+    ((value / 0x1_0000_0000) as u32).cast_signed()
+}
+
+fn first_slot(instruction: &Insn) -> Fields
+    ensures value { result ≡ first_slot instruction.now }
+    ensures dst { result.dst < 16 }
+    ensures src { result.src < 16 }
+{
+    Fields {
+        opcode: opcode(instruction),
+        dst: destination(instruction),
+        src: source(instruction),
+        offset: offset(instruction),
+        immediate: immediate(instruction),
+    }
+}
+
+fn second_slot(instruction: &Insn) -> Option<Fields>
+    ensures value { result ≡ second_slot instruction.now }
+    ensures dst { IfSome result (λ f. f.dst < 16) }
+    ensures src { IfSome result (λ f. f.src < 16) }
+{
+    match *instruction {
+        Insn::LoadImmediate { value, .. } => Some(Fields {
+            opcode: 0,
+            dst: 0,
+            src: 0,
+            offset: 0,
+            immediate: high_half(value),
+        }),
+        _ => None,
+    }
+}
+
+/// Adds the bytes of an instruction at the end: 8, or 16 for the wide one (RFC 9669, 3).
+pub fn push_instruction(bytes: &mut Vec<u8>, instruction: &Insn) -> Result<(), AllocError>
+    ensures { OnOk result (bytes.new.items ≡ bytes.old.items ++ spelling instruction.now) }
+{
+    let first = to_bytes(first_slot(instruction));
+    bytes.extend_from_slice(&first)?;
+    if let Some(second) = second_slot(instruction) {
+        let second = to_bytes(second);
+        bytes.extend_from_slice(&second)?;
+    }
+    Ok(())
+}
+
+fn encode_slots(alloc: Global, slots: &[Option<Insn>]) -> Result<Vec<u8>, AllocError>
+    requires { length slots.now ≤ 4096 }
+    ensures { IfOk result (λ bytes. bytes.items ≡ program_bytes slots.now) }
+{
+    let mut bytes = Vec::with_capacity(alloc, 8 * slots.len())?;
+    for slot in slots {
+        if let Some(instruction) = slot {
+            push_instruction(&mut bytes, instruction)?;
+        }
+    }
+    Ok(bytes)
+}
+
+/// The bytes of a program (RFC 9669, 3): each has one spelling.
+pub fn encode(alloc: Global, program: &Program) -> Result<Vec<u8>, AllocError>
+    ensures { IfOk result (λ bytes. bytes.items ≡ program_bytes program.now) }
+{
+    encode_slots(alloc, program.as_slice())
+}

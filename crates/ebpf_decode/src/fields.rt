@@ -1,0 +1,49 @@
+//! The fields of a slot.
+
+ghost use Rattle.std.specs.Prelude.{◌≡◌, ◌<◌, ◌≤◌, length};
+ghost use Rattle.ebpf_decode.specs.Reading.{fields_at};
+ghost use Rattle.ebpf_decode.specs.Spelling.{slot_bytes};
+
+use byteorder::{ByteOrder, LittleEndian};
+
+/// The fields of a slot of 8 bytes (RFC 9669, 3.1).
+#[derive(Clone, Copy, Debug, PartialEq, Eq)]
+pub struct Fields {
+    pub opcode: u8,
+    /// The number in the low four bits of the second byte.
+    pub dst: u8,
+    /// The number in the high four bits of the second byte.
+    pub src: u8,
+    pub offset: i16,
+    pub immediate: i32,
+}
+
+/// The fields of the slot at the front.
+pub fn from_bytes(bytes: &[u8]) -> Fields
+    requires { 8 ≤ length bytes.now }
+    ensures { result ≡ fields_at bytes.now }
+{
+    let offset = LittleEndian::read_i16(&bytes[2..]);
+    let immediate = LittleEndian::read_i32(&bytes[4..]);
+    Fields {
+        opcode: bytes[0],
+        dst: bytes[1] % 16,
+        src: bytes[1] / 16,
+        offset,
+        immediate,
+    }
+}
+
+/// The bytes of a slot.
+pub fn to_bytes(fields: Fields) -> [u8; 8]
+    requires dst { fields.dst < 16 }
+    requires src { fields.src < 16 }
+    ensures { result ≡ slot_bytes fields }
+{
+    let mut bytes = [0; 8];
+    bytes[0] = fields.opcode;
+    bytes[1] = fields.dst + 16 * fields.src;
+    LittleEndian::write_i16(&mut bytes[2..], fields.offset);
+    LittleEndian::write_i32(&mut bytes[4..], fields.immediate);
+    bytes
+}

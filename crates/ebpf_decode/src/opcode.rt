@@ -1,0 +1,170 @@
+//! Opcodes.
+
+ghost use Rattle.std.specs.Prelude.{◌≡◌};
+ghost use Rattle.ebpf_decode.specs.Opcodes.{arithmetic_opcode, branch_opcode, jump_long_opcode, jump_opcode, load_immediate_opcode, load_opcode, opcode_named, operand_of, store_immediate_opcode, store_register_opcode, uses};
+
+use crate::operation::{Operation, Relation, SignedSize, Size, Swap, Width};
+
+/// Where the second operand is: the source bit of an opcode (RFC 9669, 4).
+#[derive(Clone, Copy, Debug, PartialEq, Eq)]
+pub enum Operand {
+    Immediate,
+    Register,
+}
+
+/// What an opcode names: an instruction without its fields (RFC 9669, 3.1).
+#[derive(Clone, Copy, Debug, PartialEq, Eq)]
+pub enum Opcode {
+    LoadImmediate,
+    Load(Size),
+    LoadSigned(SignedSize),
+    StoreImmediate(Size),
+    StoreRegister(Size),
+    /// An arithmetic operation, or with an offset another of the same code.
+    Arithmetic(Width, Operation, Operand),
+    Negate(Width),
+    SwapBytes(Swap),
+    Jump,
+    JumpLong,
+    Branch(Width, Relation, Operand),
+    Call,
+    Exit,
+    /// An atomic operation or a packet load (RFC 9669, 5.3 and 5.5), which this profile leaves out.
+    LeftOut,
+}
+
+/// Which fields an instruction uses; the others are 0.
+#[derive(Clone, Copy, Debug, PartialEq, Eq)]
+pub struct Uses {
+    pub dst: bool,
+    pub src: bool,
+    pub offset: bool,
+    pub immediate: bool,
+}
+
+impl Opcode {
+    /// What the opcode names, by its class (RFC 9669, 3.3).
+    pub fn named(opcode: u8) -> Option<Opcode>
+        ensures { result ≡ opcode_named opcode }
+    {
+        match opcode % 8 {
+            0 => load_immediate(opcode),
+            1 => load(opcode),
+            2 => store_immediate(opcode),
+            3 => store_register(opcode),
+            4 => arithmetic(Width::Bits32, opcode),
+            5 => jump(opcode),
+            6 => jump_long(opcode),
+            _ => arithmetic(Width::Bits64, opcode),
+        }
+    }
+
+    /// Which fields the instruction uses.
+    pub fn uses(self) -> Uses
+        ensures { result ≡ uses self }
+    {
+        let (dst, src, offset, immediate) = match self {
+            Opcode::LoadImmediate | Opcode::SwapBytes(_) => (true, false, false, true),
+            Opcode::Load(_) | Opcode::LoadSigned(_) | Opcode::StoreRegister(_) => {
+                (true, true, true, false)
+            }
+            Opcode::StoreImmediate(_) => (true, false, true, true),
+            Opcode::Arithmetic(_, operation, operand) => {
+                let is_register = operand == Operand::Register;
+                (true, is_register, operation.has_variants(), !is_register)
+            }
+            Opcode::Negate(_) => (true, false, false, false),
+            Opcode::Jump => (false, false, true, false),
+            Opcode::JumpLong | Opcode::Call => (false, false, false, true),
+            Opcode::Branch(_, _, operand) => {
+                let is_register = operand == Operand::Register;
+                (true, is_register, true, !is_register)
+            }
+            Opcode::Exit | Opcode::LeftOut => (false, false, false, false),
+        };
+        Uses { dst, src, offset, immediate }
+    }
+}
+
+fn operand_of(opcode: u8) -> Operand
+    ensures { result ≡ operand_of opcode }
+{
+    if opcode / 8 % 2 == 0 { Operand::Immediate } else { Operand::Register }
+}
+
+fn load_immediate(opcode: u8) -> Option<Opcode>
+    ensures { result ≡ load_immediate_opcode opcode }
+{
+    match opcode {
+        0x18 => Some(Opcode::LoadImmediate),
+        0x20 | 0x28 | 0x30 | 0x40 | 0x48 | 0x50 => Some(Opcode::LeftOut),
+        _ => None,
+    }
+}
+
+fn load(opcode: u8) -> Option<Opcode>
+    ensures { result ≡ load_opcode opcode }
+{
+    match opcode / 32 {
+        3 => Some(Opcode::Load(Size::with_code(opcode / 8 % 4)?)),
+        4 => Some(Opcode::LoadSigned(SignedSize::with_code(opcode / 8 % 4)?)),
+        _ => None,
+    }
+}
+
+fn store_immediate(opcode: u8) -> Option<Opcode>
+    ensures { result ≡ store_immediate_opcode opcode }
+{
+    match opcode / 32 {
+        3 => Some(Opcode::StoreImmediate(Size::with_code(opcode / 8 % 4)?)),
+        _ => None,
+    }
+}
+
+fn store_register(opcode: u8) -> Option<Opcode>
+    ensures { result ≡ store_register_opcode opcode }
+{
+    match opcode {
+        0xc3 | 0xdb => Some(Opcode::LeftOut),
+        0x60..0x80 => Some(Opcode::StoreRegister(Size::with_code(opcode / 8 % 4)?)),
+        _ => None,
+    }
+}
+
+fn arithmetic(width: Width, opcode: u8) -> Option<Opcode>
+    ensures { result ≡ arithmetic_opcode width opcode }
+{
+    if opcode == 0x80 + width.arithmetic_class() {
+        return Some(Opcode::Negate(width));
+    }
+    if let Some(swap) = Swap::with_opcode(opcode) {
+        return Some(Opcode::SwapBytes(swap));
+    }
+    Some(Opcode::Arithmetic(width, Operation::with_code(opcode / 16)?, operand_of(opcode)))
+}
+
+fn jump(opcode: u8) -> Option<Opcode>
+    ensures { result ≡ jump_opcode opcode }
+{
+    match opcode {
+        0x05 => Some(Opcode::Jump),
+        0x85 => Some(Opcode::Call),
+        0x95 => Some(Opcode::Exit),
+        _ => branch(Width::Bits64, opcode),
+    }
+}
+
+fn jump_long(opcode: u8) -> Option<Opcode>
+    ensures { result ≡ jump_long_opcode opcode }
+{
+    match opcode {
+        0x06 => Some(Opcode::JumpLong),
+        _ => branch(Width::Bits32, opcode),
+    }
+}
+
+fn branch(width: Width, opcode: u8) -> Option<Opcode>
+    ensures { result ≡ branch_opcode width opcode }
+{
+    Some(Opcode::Branch(width, Relation::with_code(opcode / 16)?, operand_of(opcode)))
+}
