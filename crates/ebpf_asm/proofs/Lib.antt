@@ -2,3 +2,4 @@ pub mod Words
 pub mod Numbers
 pub mod Blanks
 pub mod Operands
+pub mod Listings

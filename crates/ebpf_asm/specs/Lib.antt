@@ -4,3 +4,7 @@ pub mod Operand
 pub mod Number
 pub mod Cut
 pub mod Statement
+pub mod Listing
+pub mod Line
+pub mod Assembly
+pub mod LineView

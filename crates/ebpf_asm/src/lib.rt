@@ -3,9 +3,12 @@
 
 mod cut;
 mod fault;
+mod line;
+mod listing;
 mod mnemonic;
 mod number;
 mod operand;
 mod statement;
 
 pub use fault::{AsmFault, AssembleError, FaultKind};
+pub use listing::disassemble;
