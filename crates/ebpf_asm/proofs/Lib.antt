@@ -1,5 +1,7 @@
 pub mod Words
 pub mod Numbers
 pub mod Blanks
+pub mod Parts
 pub mod Operands
+pub mod Lines
 pub mod Listings

@@ -1,5 +1,5 @@
 -- The assembly of a text (profile): labels, faults and bytes.
-use Rattle.std.specs.Prelude.{ℕ, ℤ, pos, ◌-ℤ◌, ◌+◌, nat_lt, if◌then◌else◌, Bool, List, [], ◌∷◌, ◌++◌, length, map, Option, Some, None, is_some, option_and_then, Result, Ok, Err}
+use Rattle.std.specs.Prelude.{◌≡◌, ℕ, ℤ, pos, ◌-ℤ◌, ◌+◌, nat_lt, if◌then◌else◌, Bool, List, [], ◌∷◌, ◌++◌, length, map, Option, Some, None, is_some, option_and_then, Result, Ok, Err}
 use Rattle.std.specs.Map.{lookup}
 use Rattle.std.specs.Str.{bytes_eq}
 use Rattle.std.specs.Str.Lines.{lines}
@@ -7,6 +7,8 @@ use Rattle.ebpf_decode.specs.declared.insn.Insn.{Insn}
 use Rattle.ebpf_decode.specs.declared.insn.Insn.TheVariants.{Jump, JumpLong, Branch}
 use Rattle.ebpf_decode.specs.Spelling.{spelling}
 use Rattle.ebpf_asm.specs.declared.fault.AsmFault.{AsmFault}
+use Rattle.ebpf_asm.specs.declared.fault.AssembleError.{AssembleError}
+use Rattle.ebpf_asm.specs.declared.fault.AssembleError.TheVariants as errors
 use Rattle.ebpf_asm.specs.declared.fault.FaultKind.{FaultKind}
 use Rattle.ebpf_asm.specs.declared.fault.FaultKind.TheVariants.{LabelTwice, TooLong, UnknownLabel, LabelTooFar}
 use Rattle.ebpf_asm.specs.Fault.{◌>>=◌}
@@ -27,9 +29,16 @@ abbrev pub labels_from : ℕ → List Line → List (List ℕ × ℕ)
 labels_from slot [] = []
 labels_from slot (line ∷ rest) = label_at slot line.label ++ labels_from (slot + slots_in line) rest
 
--- the slot that a label names
-abbrev pub slot_named : List (List ℕ × ℕ) → List ℕ → Option ℕ
-slot_named labels name = lookup (λ label. bytes_eq name label) labels
+-- a map from names to slots
+abbrev pub LabelMap : Type 0
+LabelMap = List ℕ → Option ℕ
+
+-- the slots that labels name
+abbrev pub slot_named : List (List ℕ × ℕ) → LabelMap
+slot_named labels name = lookup (λ label. bytes_eq label name) labels
+
+abbrev pub label_map : List Line → LabelMap
+label_map all name = slot_named (labels_from 0 all) name
 
 -- what is wrong with a line, apart from where its jump leads: its label is an earlier line's, or it can't be read, or its instruction ends behind slot 4095
 abbrev pub insn_fault : ℕ → Result (Option Insn) FaultKind → Option FaultKind
@@ -41,7 +50,7 @@ line_fault twice slots line = if twice then Some LabelTwice else insn_fault slot
 
 -- is a line's label the label of one of these lines?
 abbrev pub is_twice : List Line → Line → Bool
-is_twice before line = is_some (option_and_then (slot_named (labels_from 0 before)) line.label)
+is_twice before line = is_some (option_and_then (label_map before) line.label)
 
 abbrev pub told_first : ℕ → Option FaultKind → Option AsmFault → Option AsmFault
 told_first number (Some kind) later = Some (record { line = number; kind = kind })
@@ -70,9 +79,9 @@ jump_to insn slot None = Err UnknownLabel
 jump_to insn slot (Some target) = jump_by insn (pos target -ℤ pos (slot + 1))
 
 -- an instruction at a slot, its distance leading to the label that it names
-abbrev pub resolved : List (List ℕ × ℕ) → ℕ → Insn → Option (List ℕ) → Result Insn FaultKind
+abbrev pub resolved : LabelMap → ℕ → Insn → Option (List ℕ) → Result Insn FaultKind
 resolved labels slot insn None = Ok insn
-resolved labels slot insn (Some name) = jump_to insn slot (slot_named labels name)
+resolved labels slot insn (Some name) = jump_to insn slot (labels name)
 
 -- the bytes of a line's instruction, before the bytes of the later lines
 abbrev pub before_later : ℕ → Result Insn FaultKind → Result (List ℕ) AsmFault → Result (List ℕ) AsmFault
@@ -80,13 +89,13 @@ before_later number (Err kind) later = Err (record { line = number; kind = kind 
 before_later number (Ok insn) (Err fault) = Err fault
 before_later number (Ok insn) (Ok bytes) = Ok (spelling insn ++ bytes)
 
-abbrev pub bytes_of : List (List ℕ × ℕ) → ℕ → ℕ → Result (Option Insn) FaultKind → Option (List ℕ) → Result (List ℕ) AsmFault → Result (List ℕ) AsmFault
+abbrev pub bytes_of : LabelMap → ℕ → ℕ → Result (Option Insn) FaultKind → Option (List ℕ) → Result (List ℕ) AsmFault → Result (List ℕ) AsmFault
 bytes_of labels number slot (Ok (Some insn)) target later = before_later number (resolved labels slot insn target) later
 bytes_of labels number slot (Ok None) target later = later
 bytes_of labels number slot (Err kind) target later = later
 
 -- the bytes of lines without other faults, from this line number and this slot on
-abbrev pub bytes_from : List (List ℕ × ℕ) → ℕ → ℕ → List Line → Result (List ℕ) AsmFault
+abbrev pub bytes_from : LabelMap → ℕ → ℕ → List Line → Result (List ℕ) AsmFault
 bytes_from labels number slot [] = Ok []
 bytes_from labels number slot (line ∷ rest) =
     bytes_of labels number slot line.insn line.target (bytes_from labels (number + 1) (slot + slots_in line) rest)
@@ -99,8 +108,22 @@ abbrev pub lines_of : List ℕ → List Line
 lines_of text = map line_of (lines text)
 
 abbrev pub assembled_lines : List Line → Result (List ℕ) AsmFault
-assembled_lines all = unless_faulty (first_fault [] all) (bytes_from (labels_from 0 all) 1 0 all)
+assembled_lines all = unless_faulty (first_fault [] all) (bytes_from (label_map all) 1 0 all)
 
 -- what a text gives: the bytes of its instructions, or the first fault
 abbrev pub assembled : List ℕ → Result (List ℕ) AsmFault
 assembled text = assembled_lines (lines_of text)
+
+-- what the assembler answers is what the text gives, unless memory ran out
+abbrev pub FailsAs : {Y : Type 0} → AssembleError → Result Y AsmFault → Type 0
+FailsAs errors.Memory meant = Unit {0}
+FailsAs (errors.Fault fault) meant = meant ≡ Err fault
+
+abbrev pub Gives : {X Y : Type 0} → (X → Y) → Result X AssembleError → Result Y AsmFault → Type 0
+Gives view (Ok x) meant = meant ≡ Ok (view x)
+Gives view (Err error) meant = FailsAs error meant
+
+-- an error is this fault, or that memory ran out
+abbrev pub FaultIs : Option AsmFault → AssembleError → Type 0
+FaultIs fault errors.Memory = Unit {0}
+FaultIs fault (errors.Fault told) = fault ≡ Some told

@@ -8,3 +8,4 @@ pub mod Listing
 pub mod Line
 pub mod Assembly
 pub mod LineView
+pub mod Labels

@@ -3,12 +3,14 @@
 
 mod cut;
 mod fault;
+mod label;
 mod line;
 mod listing;
 mod mnemonic;
 mod number;
 mod operand;
 mod statement;
+mod text;
 
 pub use fault::{AsmFault, AssembleError, FaultKind};
 pub use listing::disassemble;
