@@ -4,4 +4,5 @@ pub mod Blanks
 pub mod Parts
 pub mod Operands
 pub mod Lines
+pub mod Passes
 pub mod Listings

@@ -45,8 +45,8 @@ abbrev pub insn_fault : ℕ → Result (Option Insn) FaultKind → Option FaultK
 insn_fault slots (Err kind) = Some kind
 insn_fault slots (Ok insn) = if nat_lt 4096 (slots + slots_of_insn (Ok insn)) then Some TooLong else None
 
-abbrev pub line_fault : Bool → ℕ → Line → Option FaultKind
-line_fault twice slots line = if twice then Some LabelTwice else insn_fault slots line.insn
+abbrev pub line_fault : Bool → ℕ → Result (Option Insn) FaultKind → Option FaultKind
+line_fault twice slots insn = if twice then Some LabelTwice else insn_fault slots insn
 
 -- is a line's label the label of one of these lines?
 abbrev pub is_twice : List Line → Line → Bool
@@ -60,7 +60,7 @@ told_first number None later = later
 abbrev pub first_fault : List Line → List Line → Option AsmFault
 first_fault before [] = None
 first_fault before (line ∷ rest) =
-    told_first (length before + 1) (line_fault (is_twice before line) (slot_count before) line) (first_fault (before ++ line ∷ []) rest)
+    told_first (length before + 1) (line_fault (is_twice before line) (slot_count before) line.insn) (first_fault (before ++ line ∷ []) rest)
 
 -- the instruction with this distance, where its field takes it
 abbrev pub fitting : (ℤ → Insn) → Result ℤ FaultKind → Result Insn FaultKind

@@ -2,7 +2,7 @@
 
 ghost use Rattle.std.specs.Prelude.{◌≡◌, ℕ, List, OnOk, Some, option_copied, option_and_then, is_some, if◌then◌else◌};
 ghost use Rattle.std.specs.Str.{bytes_eq};
-ghost use Rattle.ebpf_asm.specs.Labels.{label_in};
+ghost use Rattle.ebpf_asm.specs.Labels.{label_in, with_label};
 
 use std::alloc::AllocError;
 use std::collections::BTreeMap;
@@ -27,8 +27,21 @@ pub fn is_defined(labels: &Labels<'_>, label: Option<&[u8]>) -> bool
     }
 }
 
-/// Has the label name the slot.
-pub fn define<'a>(labels: &mut Labels<'a>, name: &'a [u8], slot: usize) -> Result<(), AllocError>
+/// Has the label, if there is one, name the slot.
+pub fn define<'a>(
+    labels: &mut Labels<'a>,
+    label: Option<&'a [u8]>,
+    slot: usize,
+) -> Result<(), AllocError>
+    ensures { OnOk result ((name : List ℕ) → label_in labels.new name ≡ with_label (label_in labels.old) (option_copied label.entry) slot name) }
+{
+    match label {
+        Some(name) => put(labels, name, slot),
+        None => Ok(()),
+    }
+}
+
+fn put<'a>(labels: &mut Labels<'a>, name: &'a [u8], slot: usize) -> Result<(), AllocError>
     ensures { OnOk result ((other : List ℕ) → label_in labels.new other ≡ (if bytes_eq name.now other then Some slot else label_in labels.old other)) }
 {
     labels.insert(name, slot)?;

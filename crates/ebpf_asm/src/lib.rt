@@ -1,6 +1,7 @@
 //! Assembly text of eBPF programs (RFC 9669), both ways.
 #![tactic(auto)]
 
+mod assembly;
 mod cut;
 mod fault;
 mod label;
@@ -12,5 +13,6 @@ mod operand;
 mod statement;
 mod text;
 
+pub use assembly::assemble;
 pub use fault::{AsmFault, AssembleError, FaultKind};
 pub use listing::disassemble;
