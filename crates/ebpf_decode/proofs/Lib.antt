@@ -1,1 +1,5 @@
 pub mod Slots
+pub mod Takes
+pub mod Programs
+pub mod Bytes
+pub mod Again

@@ -4,3 +4,4 @@ pub mod Codes
 pub mod Opcodes
 pub mod Faults
 pub mod Reading
+pub mod Laws

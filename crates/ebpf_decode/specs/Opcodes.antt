@@ -51,7 +51,7 @@ abbrev pub arithmetic_opcode : Width → ℕ → Option Opcode
 arithmetic_opcode width opcode =
     if opcode == operation_opcode NEG 0 (arithmetic_class width) then Some (opcodes.Negate width)
     else or_else (option_map opcodes.SwapBytes (swap_with opcode))
-        (option_map (λ operation. opcodes.Arithmetic width operation (operand_of opcode)) (operation_with (opcode / 16)))
+    (option_map (λ operation. opcodes.Arithmetic width operation (operand_of opcode)) (operation_with (opcode / 16)))
 
 -- conditional jumps by their code (RFC 9669, 4.3)
 abbrev pub branch_opcode : Width → ℕ → Option Opcode

@@ -102,7 +102,7 @@ instruction (StoreImmediate size) f next = Some (insns.StoreImmediate size f.dst
 instruction (StoreRegister size) f next = Some (insns.StoreRegister size f.dst f.src f.offset)
 instruction (Arithmetic width operation operand) f next =
     or_else (option_map (λ variant. insns.Arithmetic width variant f.dst (source_of operand f)) (variant_with operation f.offset))
-        (signed_move width operation operand f)
+    (signed_move width operation operand f)
 instruction (Negate width) f next = Some (insns.Negate width f.dst)
 instruction (SwapBytes swap) f next = option_map (λ size. insns.SwapBytes swap size f.dst) (swap_size_with f.immediate)
 instruction Jump f next = Some (insns.Jump f.offset)

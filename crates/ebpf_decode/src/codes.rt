@@ -147,7 +147,10 @@ impl Operation {
     pub fn has_variants(self) -> bool
         ensures { result ≡ has_variants self }
     {
-        matches!(self, Operation::Divide | Operation::Modulo | Operation::Move)
+        matches!(
+            self,
+            Operation::Divide | Operation::Modulo | Operation::Move
+        )
     }
 
     /// The offset that tells the signed division and modulo (RFC 9669, 4.1).

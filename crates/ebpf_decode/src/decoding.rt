@@ -1,7 +1,8 @@
 //! Programs out of bytes.
 
-ghost use Rattle.std.specs.Prelude.{◌≡◌, ◌<◌, ◌≤◌, ◌+◌, ◌*◌, ◌/◌, ◌^◌, drop, length, slice_get, false, None};
+ghost use Rattle.std.specs.Prelude.{◌≡◌, ◌<◌, ◌≤◌, ◌+◌, ◌*◌, ◌/◌, ◌^◌, drop, length, slice_get, false, None, IfOk};
 ghost use Rattle.std.specs.Int.{w32, cast_unsigned};
+ghost use Rattle.ebpf_decode.specs.Spelling.{program_bytes};
 ghost use Rattle.ebpf_decode.specs.Reading.{Gives, begins_wide, decoded, entry, fields_at, first_fault, has_more, has_no_register, has_unused, immediate_of, instruction, is_left_out, length_fault, read, read_slots, slots_at, source_of};
 
 use crate::fault::{DecodeFault, Fault, FaultKind};
@@ -86,14 +87,23 @@ fn arithmetic(width: Width, operation: Operation, operand: Operand, fields: &Fie
     let dst = Register::from_number(fields.dst);
     if let Some(operation) = operation.variant(fields.offset) {
         let source = source(operand, fields);
-        return Some(Insn::Arithmetic { width, operation, dst, source });
+        return Some(Insn::Arithmetic {
+            width,
+            operation,
+            dst,
+            source,
+        });
     }
     if operand == Operand::Immediate {
         return None;
     }
     let extension = SignExtension::variant(width, operation, fields.offset)?;
     let src = Register::from_number(fields.src);
-    Some(Insn::MoveSigned { extension, dst, src })
+    Some(Insn::MoveSigned {
+        extension,
+        dst,
+        src,
+    })
 }
 
 fn wide_value(fields: &Fields, next: Option<Fields>) -> u64
@@ -114,17 +124,44 @@ fn instruction(opcode: Opcode, fields: &Fields, next: Option<Fields>) -> Option<
 {
     let dst = Register::from_number(fields.dst);
     let src = Register::from_number(fields.src);
-    let Fields { offset, immediate, .. } = *fields;
+    let Fields {
+        offset,
+        immediate,
+        ..
+    } = *fields;
     match opcode {
         Opcode::LoadImmediate => {
-            Some(Insn::LoadImmediate { dst, value: wide_value(fields, next) })
+            Some(Insn::LoadImmediate {
+                dst,
+                value: wide_value(fields, next),
+            })
         }
-        Opcode::Load(size) => Some(Insn::Load { size, dst, src, offset }),
-        Opcode::LoadSigned(size) => Some(Insn::LoadSigned { size, dst, src, offset }),
+        Opcode::Load(size) => Some(Insn::Load {
+            size,
+            dst,
+            src,
+            offset,
+        }),
+        Opcode::LoadSigned(size) => Some(Insn::LoadSigned {
+            size,
+            dst,
+            src,
+            offset,
+        }),
         Opcode::StoreImmediate(size) => {
-            Some(Insn::StoreImmediate { size, dst, offset, value: immediate })
+            Some(Insn::StoreImmediate {
+                size,
+                dst,
+                offset,
+                value: immediate,
+            })
         }
-        Opcode::StoreRegister(size) => Some(Insn::StoreRegister { size, dst, src, offset }),
+        Opcode::StoreRegister(size) => Some(Insn::StoreRegister {
+            size,
+            dst,
+            src,
+            offset,
+        }),
         Opcode::Arithmetic(width, operation, operand) => {
             arithmetic(width, operation, operand, fields)
         }
@@ -134,10 +171,18 @@ fn instruction(opcode: Opcode, fields: &Fields, next: Option<Fields>) -> Option<
             Some(Insn::SwapBytes { swap, size, dst })
         }
         Opcode::Jump => Some(Insn::Jump { distance: offset }),
-        Opcode::JumpLong => Some(Insn::JumpLong { distance: immediate }),
+        Opcode::JumpLong => Some(Insn::JumpLong {
+            distance: immediate,
+        }),
         Opcode::Branch(width, relation, operand) => {
             let source = source(operand, fields);
-            Some(Insn::Branch { width, relation, dst, source, distance: offset })
+            Some(Insn::Branch {
+                width,
+                relation,
+                dst,
+                source,
+                distance: offset,
+            })
         }
         Opcode::Call => Some(Insn::Call { helper: immediate }),
         Opcode::Exit => Some(Insn::Exit),
@@ -207,4 +252,32 @@ fn decode_slots(alloc: Global, bytes: &[u8]) -> Result<Vec<Option<Insn>>, Decode
         }
     }
     Ok(slots)
+}
+
+fn length_fault(len: usize) -> Option<FaultKind>
+    ensures { result ≡ length_fault len }
+{
+    if len % 8 != 0 {
+        Some(FaultKind::Length)
+    } else if len == 0 {
+        Some(FaultKind::Empty)
+    } else if len / 8 > 4096 {
+        Some(FaultKind::TooLong)
+    } else {
+        None
+    }
+}
+
+/// The program that the bytes spell, or their first fault (RFC 9669, 3).
+pub fn decode(alloc: Global, bytes: &[u8]) -> Result<Program, DecodeFault>
+    // What is decoded is spelled by the bytes.
+    ensures found { IfOk result (λ program. bytes.now ≡ program_bytes program) }
+    // Which program or fault it is.
+    ensures exact { Gives (λ program. program) result (decoded bytes.now) }
+{
+    if let Some(kind) = length_fault(bytes.len()) {
+        return Err(DecodeFault::Fault(Fault { slot: 0, kind }));
+    }
+    let slots = decode_slots(alloc, bytes)?;
+    Ok(Program::from_slots(slots))
 }

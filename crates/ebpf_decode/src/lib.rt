@@ -7,14 +7,19 @@ mod encoding;
 mod fault;
 mod fields;
 mod insn;
+pub mod laws;
 mod opcode;
 mod operation;
 mod program;
 mod register;
 
+pub use decoding::decode;
 pub use encoding::{encode, push_instruction};
 pub use fault::{DecodeFault, Fault, FaultKind};
 pub use insn::{Insn, Source};
 pub use operation::{Operation, Relation, SignExtension, SignedSize, Size, Swap, SwapSize, Width};
 pub use program::Program;
 pub use register::Register;
+
+#[cfg(test)]
+mod tests;

@@ -82,14 +82,23 @@ impl Opcode {
             }
             Opcode::Exit | Opcode::LeftOut => (false, false, false, false),
         };
-        Uses { dst, src, offset, immediate }
+        Uses {
+            dst,
+            src,
+            offset,
+            immediate,
+        }
     }
 }
 
 fn operand_of(opcode: u8) -> Operand
     ensures { result ≡ operand_of opcode }
 {
-    if opcode / 8 % 2 == 0 { Operand::Immediate } else { Operand::Register }
+    if opcode / 8 % 2 == 0 {
+        Operand::Immediate
+    } else {
+        Operand::Register
+    }
 }
 
 fn load_immediate(opcode: u8) -> Option<Opcode>
@@ -140,7 +149,11 @@ fn arithmetic(width: Width, opcode: u8) -> Option<Opcode>
     if let Some(swap) = Swap::with_opcode(opcode) {
         return Some(Opcode::SwapBytes(swap));
     }
-    Some(Opcode::Arithmetic(width, Operation::with_code(opcode / 16)?, operand_of(opcode)))
+    Some(Opcode::Arithmetic(
+        width,
+        Operation::with_code(opcode / 16)?,
+        operand_of(opcode),
+    ))
 }
 
 fn jump(opcode: u8) -> Option<Opcode>

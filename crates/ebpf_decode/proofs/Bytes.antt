@@ -1,0 +1,110 @@
+-- The bytes of slots.
+use Rattle.std.proofs.Common.{◌≡◌, ℕ, zero, suc, ℤ, pos, ◌+◌, ◌*◌, ◌%◌, ◌/◌, ◌^◌, ◌<◌, ◌≤◌, FitsSigned, List, [], ◌∷◌, ◌++◌, length, get_or, drop, refl, sym, ap, ◌∙◌, arith}
+use Rattle.std.specs.Int.{w16, w32, cast_signed, cast_unsigned}
+use Rattle.std.specs.List.{AllByRecursion, flat_map}
+use Rattle.std.proofs.lemmas.Int.{ints, of_z-to_z, to_z-of_z}
+use Rattle.std.proofs.lemmas.List.{get_or-drop}
+use Rattle.byteorder.specs.Endian.{little_bytes, little_number}
+use Rattle.ebpf_decode.specs.declared.fields.Fields.{Fields}
+use Rattle.ebpf_decode.specs.Reading.{fields_at, slots_at}
+use Rattle.ebpf_decode.specs.Spelling.{slot_bytes}
+use Rattle.ebpf_decode.proofs.Takes.{AreFields}
+
+abbrev pub IsBytes : List ℕ → Type 0
+IsBytes bytes = (i : ℕ) → get_or bytes i 0 < 256
+
+two-bytes : (n a b : ℕ) → a < 256 → b < 256 → n ≡ a + 256 * b → little_bytes 2 n ≡ a ∷ b ∷ []
+two-bytes n a b ha hb is =
+    let p : n % 256 ≡ a = omega arith in
+    let q : n / 256 % 256 ≡ b = omega arith in
+    rw (p, q) refl
+
+four-bytes : (n a b c d : ℕ) → a < 256 → b < 256 → c < 256 → d < 256 → n ≡ a + 256 * (b + 256 * (c + 256 * d)) → little_bytes 4 n ≡ a ∷ b ∷ c ∷ d ∷ []
+four-bytes n a b c d ha hb hc hd is =
+    let p : n % 256 ≡ a = omega arith in
+    let q : n / 256 % 256 ≡ b = omega arith in
+    let r : n / 65536 % 256 ≡ c = omega arith in
+    let s : n / 16777216 % 256 ≡ d = omega arith in
+    rw (p, q, r, s) refl
+
+fits-16 : (n : ℕ) → n < 2 ^ 16 → FitsSigned w16 (cast_signed w16 n)
+fits-16 n h = omega (arith, ints)
+
+pub fits-32 : (n : ℕ) → n < 2 ^ 32 → FitsSigned w32 (cast_signed w32 n)
+fits-32 n h = omega (arith, ints)
+
+IsBytes-drop : (a b c d e f g h : ℕ) (bytes : List ℕ) → IsBytes (a ∷ b ∷ c ∷ d ∷ e ∷ f ∷ g ∷ h ∷ bytes) → IsBytes bytes
+IsBytes-drop a b c d e f g h bytes fits i = fits (suc (suc (suc (suc (suc (suc (suc (suc i))))))))
+
+-- the slots of bytes are spelled by them
+pub slots-bytes : (count : ℕ) (bytes : List ℕ) → IsBytes bytes → length bytes ≡ 8 * count → flat_map slot_bytes (slots_at count bytes) ≡ bytes
+slots-bytes zero [] fits h = refl
+slots-bytes zero (b ∷ bytes) fits h = absurd (omega arith)
+slots-bytes (suc count) (a ∷ b ∷ c ∷ d ∷ e ∷ f ∷ g ∷ h ∷ bytes) fits len =
+    let registers : b % 16 + 16 * (b / 16) ≡ b = omega arith in
+    let m = little_number 2 (c ∷ d ∷ []) in
+    let n = little_number 4 (e ∷ f ∷ g ∷ h ∷ []) in
+    let offset : little_bytes 2 (cast_unsigned w16 (cast_signed w16 m)) ≡ c ∷ d ∷ [] =
+    ap (little_bytes 2) (of_z-to_z w16 m (omega (arith, fits 2, fits 3))) ∙ two-bytes m c d (fits 2) (fits 3) (omega arith) in
+    let immediate : little_bytes 4 (cast_unsigned w32 (cast_signed w32 n)) ≡ e ∷ f ∷ g ∷ h ∷ [] =
+    ap (little_bytes 4) (of_z-to_z w32 n (omega (arith, fits 4, fits 5, fits 6, fits 7))) ∙ four-bytes n e f g h (fits 4) (fits 5) (fits 6) (fits 7) (omega arith) in
+    let slot : slot_bytes (fields_at (a ∷ b ∷ c ∷ d ∷ e ∷ f ∷ g ∷ h ∷ bytes)) ≡ a ∷ b ∷ c ∷ d ∷ e ∷ f ∷ g ∷ h ∷ [] =
+    ap (λ k. a ∷ k ∷ (little_bytes 2 (cast_unsigned w16 (cast_signed w16 m)) ++ little_bytes 4 (cast_unsigned w32 (cast_signed w32 n)))) registers
+    ∙ ap (λ xs. a ∷ b ∷ (xs ++ little_bytes 4 (cast_unsigned w32 (cast_signed w32 n)))) offset
+    ∙ ap (λ xs. a ∷ b ∷ c ∷ d ∷ xs) immediate in
+    ap (λ xs. xs ++ flat_map slot_bytes (slots_at count bytes)) slot
+    ∙ ap (λ xs. a ∷ b ∷ c ∷ d ∷ e ∷ f ∷ g ∷ h ∷ xs) (slots-bytes count bytes (IsBytes-drop a b c d e f g h bytes fits) (omega arith))
+slots-bytes (suc count) bytes fits len = absurd (omega arith)
+
+-- numbers below 256 make fields
+pub slots-fields : (count : ℕ) (bytes : List ℕ) → IsBytes bytes → AllByRecursion AreFields (slots_at count bytes)
+slots-fields zero bytes fits = tt
+slots-fields (suc count) bytes fits =
+    let two : (i : ℕ) → get_or (drop 2 bytes) i 0 < 256 = λ i. rw get_or-drop (fits (2 + i)) in
+    let four : (i : ℕ) → get_or (drop 4 bytes) i 0 < 256 = λ i. rw get_or-drop (fits (4 + i)) in (
+      record {
+        opcode = fits 0;
+        offset = fits-16 _ (omega (arith, two 0, two 1));
+        immediate = fits-32 _ (omega (arith, four 0, four 1, four 2, four 3));
+      },
+      slots-fields count (drop 8 bytes) (λ i. rw get_or-drop (fits (8 + i))),
+    )
+
+-- ---- the slots that bytes spell
+
+-- fields that fit their places
+pub record FitSlot (f : Fields) : Type 0 where
+  pub dst : f.dst < 16
+  pub offset : FitsSigned w16 f.offset
+  pub immediate : FitsSigned w32 f.immediate
+
+low-16 : (z : ℤ) → FitsSigned w16 z → cast_unsigned w16 z < 2 ^ 16
+low-16 z fits = omega (arith, ints)
+
+low-32 : (z : ℤ) → FitsSigned w32 z → cast_unsigned w32 z < 2 ^ 32
+low-32 z fits = omega (arith, ints)
+
+fields-slot : (f : Fields) (bytes : List ℕ) → FitSlot f → fields_at (slot_bytes f ++ bytes) ≡ f
+fields-slot f bytes fits =
+    let m = cast_unsigned w16 f.offset in
+    let n = cast_unsigned w32 f.immediate in
+    let dst : (f.dst + 16 * f.src) % 16 ≡ f.dst = omega (arith, fits.dst) in
+    let src : (f.dst + 16 * f.src) / 16 ≡ f.src = omega (arith, fits.dst) in
+    let offset : cast_signed w16 (little_number 2 (little_bytes 2 m)) ≡ f.offset =
+    let whole : little_number 2 (little_bytes 2 m) ≡ m = omega (arith, low-16 f.offset fits.offset) in
+    ap (cast_signed w16) whole ∙ to_z-of_z w16 f.offset fits.offset in
+    let immediate : cast_signed w32 (little_number 4 (little_bytes 4 n)) ≡ f.immediate =
+    let whole : little_number 4 (little_bytes 4 n) ≡ n = omega (arith, low-32 f.immediate fits.immediate) in
+    ap (cast_signed w32) whole ∙ to_z-of_z w32 f.immediate fits.immediate in
+    rw (dst, src, offset, immediate) refl
+
+pub length-slots_bytes : (fs : List Fields) → length (flat_map slot_bytes fs) ≡ 8 * length fs
+length-slots_bytes [] = refl
+length-slots_bytes (f ∷ fs) = omega (arith, length-slots_bytes fs)
+
+-- the slots of the bytes of slots
+pub slots-again : (fs : List Fields) → AllByRecursion FitSlot fs → slots_at (length fs) (flat_map slot_bytes fs) ≡ fs
+slots-again [] fits = refl
+slots-again (f ∷ fs) fits =
+    ap (λ x. x ∷ slots_at (length fs) (flat_map slot_bytes fs)) (fields-slot f (flat_map slot_bytes fs) fits.0)
+    ∙ ap (λ xs. f ∷ xs) (slots-again fs fits.1)

@@ -1,0 +1,213 @@
+-- What is read from slots is spelled by them.
+use Rattle.std.proofs.Common.{◌≡◌, ℕ, zero, suc, ◌+◌, ◌*◌, ◌/◌, ◌%◌, ◌^◌, ◌<◌, ◌≤◌, Bool, true, false, not, cond, eqb, ltb, find, option_map, List, [], ◌∷◌, ◌++◌, length, Option, Some, None, Result, Ok, Err, refl, sym, ap, subst, ◌∙◌, arith}
+use Rattle.std.specs.Prelude.{IsSome, option_to_list}
+use Rattle.std.specs.List.{AllByRecursion, flat_map, slice_get}
+use Rattle.ebpf_decode.specs.declared.fault.Fault.{Fault}
+use Rattle.ebpf_decode.specs.declared.fault.FaultKind.{FaultKind}
+use Rattle.ebpf_decode.specs.declared.fields.Fields.{Fields}
+use Rattle.ebpf_decode.specs.declared.insn.Insn.{Insn}
+use Rattle.ebpf_decode.specs.declared.insn.Insn.TheVariants.{LoadImmediate}
+use Rattle.ebpf_decode.specs.Program.{IsProgram, is_wide, slots_of}
+use Rattle.ebpf_decode.specs.Reading.{begins_wide, decoded, entry, found_in, length_fault, read, read_slots, slots_at, then_read, unless_length, with_front}
+use Rattle.ebpf_decode.specs.Spelling.{Fits, first_slot, instructions_of, program_bytes, second_slot, slot_bytes, slots_spelled, spelling}
+use Rattle.std.proofs.lemmas.Bool.{eq-eqb, eqb-false, eqb-true, le-ltb, ltb-false, ne_eqb, not-false, not_from_true}
+use Rattle.std.proofs.lemmas.List.Concat.{flat_map-append}
+use Rattle.ebpf_decode.proofs.Again.{read-again}
+use Rattle.ebpf_decode.proofs.Bytes.{FitSlot, IsBytes, fits-32, length-slots_bytes, slots-again, slots-bytes, slots-fields}
+use Rattle.ebpf_decode.proofs.Slots.{length-slots}
+use Rattle.ebpf_decode.proofs.Takes.{AreFields, AreFieldsIn, IsSpelled, IsTaken, read-takes}
+
+-- instructions whose slots they are
+pub record Spelled (fs : List Fields) (slots : List (Option Insn)) : Type 0 where
+  pub instructions : List Insn
+  pub layout : slots ≡ slots_of instructions
+  pub spelled : fs ≡ flat_map slots_spelled instructions
+  pub fits : AllByRecursion Fits instructions
+
+-- the same behind a wide instruction's second slot
+pub record AfterSecond (fs : List Fields) (slots : List (Option Insn)) : Type 0 where
+  pub second : Fields
+  pub others : List Fields
+  pub rest : List (Option Insn)
+  pub are : fs ≡ second ∷ others
+  pub slots_are : slots ≡ None ∷ rest
+  pub after : Spelled others rest
+
+abbrev SpelledFrom : Bool → List Fields → List (Option Insn) → Type 0
+SpelledFrom false fs slots = Spelled fs slots
+SpelledFrom true fs slots = AfterSecond fs slots
+
+front-ok : (front : List (Option Insn)) (read : Result (List (Option Insn)) Fault) (slots : List (Option Insn)) → with_front front read ≡ Ok slots
+    → (rest : List (Option Insn)) × (read ≡ Ok rest) × (front ++ rest ≡ slots)
+front-ok front (Ok rest) slots e = (rest, refl, cc)
+front-ok front (Err fault) slots e = absurd cc
+
+first-ok : (read : Result Insn FaultKind) (s : ℕ) (after : Bool → Result (List (Option Insn)) Fault) (slots : List (Option Insn)) → then_read (found_in read) s after ≡ Ok slots
+    → (i : Insn) × (read ≡ Ok i) × (with_front (Some i ∷ []) (after (is_wide i)) ≡ Ok slots)
+first-ok (Ok i) s after slots e = (i, refl, e)
+first-ok (Err kind) s after slots e = absurd cc
+
+wide-has-second : (i : Insn) (next : Option Fields) → is_wide i ≡ true → second_slot i ≡ cond (is_wide i) next None → IsSome next
+wide-has-second (LoadImmediate dst value) (Some f) wide e = refl
+wide-has-second (LoadImmediate dst value) None wide e = absurd cc
+wide-has-second i next wide e = absurd cc
+
+are-fields-in : (fs : List Fields) → AllByRecursion AreFields fs → AreFieldsIn (slice_get fs 0)
+are-fields-in [] all = tt
+are-fields-in (f ∷ fs) all = all.0
+
+joined : (f : Fields) (fs : List Fields) (slots rest : List (Option Insn)) (i : Insn) (wide : Bool) → is_wide i ≡ wide
+    → IsTaken f (slice_get fs 0) i → Some i ∷ rest ≡ slots → SpelledFrom wide fs rest → Spelled (f ∷ fs) slots
+joined f fs slots rest i false is taken e after = record {
+  instructions = i ∷ after.instructions;
+  layout = rw is (sym e ∙ ap (λ xs. Some i ∷ xs) after.layout);
+  spelled = rw (taken.0.0, taken.0.1, is) (ap (λ xs. f ∷ xs) after.spelled);
+  fits = (taken.1, after.fits);
+}
+joined f fs slots rest i true is taken e after = record {
+  instructions = i ∷ after.after.instructions;
+  layout = rw is (sym e ∙ ap (λ xs. Some i ∷ xs) (after.slots_are ∙ ap (λ xs. None ∷ xs) after.after.layout));
+  spelled =
+      let next : slice_get fs 0 ≡ Some after.second = ap (λ xs. slice_get xs 0) after.are in
+      rw (taken.0.0, taken.0.1, is, next) (ap (λ xs. f ∷ xs) (after.are ∙ ap (λ xs. after.second ∷ xs) after.after.spelled));
+  fits = (taken.1, after.after.fits);
+}
+
+takes : (fs : List Fields) (second : Bool) (s : ℕ) (slots : List (Option Insn)) → AllByRecursion AreFields fs → (second ≡ true → IsSome (slice_get fs 0))
+    → read_slots second s fs ≡ Ok slots → SpelledFrom second fs slots
+takes [] false s slots all some e = record { instructions = []; layout = cc; spelled = refl; fits = tt }
+takes [] true s slots all some e = let none : IsSome (slice_get {X = Fields} [] 0) = some refl in absurd cc
+takes (f ∷ fs) true s slots all some e =
+    let w = front-ok (None ∷ []) (read_slots false (s + 1) fs) slots e in
+    record { second = f; others = fs; rest = w.0; are = refl; slots_are = sym w.2; after = takes fs false (s + 1) w.0 all.1 (λ never. absurd cc) w.1 }
+takes (f ∷ fs) false s slots all some e =
+    let r = first-ok (read f (slice_get fs 0)) s (λ wide. read_slots wide (s + 1) fs) slots e in
+    let w = front-ok (Some r.0 ∷ []) (read_slots (is_wide r.0) (s + 1) fs) slots r.2 in
+    let taken = read-takes f (slice_get fs 0) r.0 all.0 (are-fields-in fs all.1) r.1 in
+    joined f fs slots w.0 r.0 (is_wide r.0) refl taken w.2
+    (takes fs (is_wide r.0) (s + 1) w.0 all.1 (λ wide. wide-has-second r.0 (slice_get fs 0) wide taken.0.1) w.1)
+
+-- what is read from slots is spelled by them
+pub slots-take : (fs : List Fields) (slots : List (Option Insn)) → AllByRecursion AreFields fs → read_slots false 0 fs ≡ Ok slots → Spelled fs slots
+slots-take fs slots all e = takes fs false 0 slots all (λ never. absurd cc) e
+
+-- ---- lengths, instructions and bytes of programs
+
+pub length-slots_of : (is : List Insn) → length (slots_of is) ≡ length (flat_map slots_spelled is)
+length-slots_of [] = refl
+length-slots_of (LoadImmediate dst value ∷ is) = ap (λ n. suc (suc n)) (length-slots_of is)
+length-slots_of (i ∷ is) = ap suc (length-slots_of is)
+
+pub instructions_of-slots_of : (is : List Insn) → instructions_of (slots_of is) ≡ is
+instructions_of-slots_of [] = refl
+instructions_of-slots_of (LoadImmediate dst value ∷ is) = ap (λ xs. LoadImmediate dst value ∷ xs) (instructions_of-slots_of is)
+instructions_of-slots_of (i ∷ is) = ap (λ xs. i ∷ xs) (instructions_of-slots_of is)
+
+pub spelling-slots : (is : List Insn) → flat_map spelling is ≡ flat_map slot_bytes (flat_map slots_spelled is)
+spelling-slots [] = refl
+spelling-slots (i ∷ is) =
+    ap (λ xs. spelling i ++ xs) (spelling-slots is) ∙ sym (flat_map-append slot_bytes (slots_spelled i) (flat_map slots_spelled is))
+
+pub program_bytes-slots_of : (is : List Insn) → program_bytes (slots_of is) ≡ flat_map slot_bytes (flat_map slots_spelled is)
+program_bytes-slots_of is = ap (flat_map spelling) (instructions_of-slots_of is) ∙ spelling-slots is
+
+three : (a b c : Bool) (p q r : FaultKind) → option_map (λ (x : Bool × FaultKind). x.1) (find (λ (x : Bool × FaultKind). x.0) ((a, p) ∷ (b, q) ∷ (c, r) ∷ [])) ≡ None
+    → (a ≡ false) × (b ≡ false) × (c ≡ false)
+three true b c p q r e = absurd cc
+three false true c p q r e = absurd cc
+three false false true p q r e = absurd cc
+three false false false p q r e = (refl, refl, refl)
+
+-- slots that are read from bytes are a program, spelled by the bytes
+pub program-read : (bytes : List ℕ) (slots : List (Option Insn)) → IsBytes bytes → length_fault (length bytes) ≡ None
+    → read_slots false 0 (slots_at (length bytes / 8) bytes) ≡ Ok slots → IsProgram slots × (bytes ≡ program_bytes slots)
+program-read bytes slots fits length_is e =
+    let count = length bytes / 8 in
+    let good = three (not (eqb (length bytes % 8) 0)) (eqb (length bytes) 0) (ltb 4096 count) _ _ _ length_is in
+    let whole : length bytes % 8 ≡ 0 = eqb-true _ _ (not-false _ good.0) in
+    let few : count ≤ 4096 = ltb-false _ _ good.2 in
+    let some : length bytes ≡ 0 → ⊥ = eqb-false _ _ good.1 in
+    let spelled = slots-take (slots_at count bytes) slots (slots-fields count bytes fits) e in
+    let long : length slots ≡ count =
+    ap length spelled.layout ∙ length-slots_of spelled.instructions ∙ ap length (sym spelled.spelled) ∙ length-slots count bytes in (
+      record {
+        instructions = spelled.instructions;
+        layout = spelled.layout;
+        fits = spelled.fits;
+        some = omega arith;
+        most = omega arith;
+      },
+      sym (slots-bytes count bytes fits (omega arith))
+          ∙ ap (flat_map slot_bytes) spelled.spelled
+          ∙ sym (program_bytes-slots_of spelled.instructions)
+          ∙ ap program_bytes (sym spelled.layout),
+    )
+
+-- ---- what a program spells is read again
+
+read-first : (i : Insn) (s : ℕ) (fs : List Fields) → Fits i → second_slot i ≡ cond (is_wide i) (slice_get fs 0) None
+    → read_slots false s (first_slot i ∷ fs) ≡ with_front (Some i ∷ []) (read_slots (is_wide i) (s + 1) fs)
+read-first i s fs fits second =
+    ap (λ r. then_read (found_in r) s (λ wide. read_slots wide (s + 1) fs)) (read-again i (slice_get fs 0) fits second)
+
+read-program : (is : List Insn) (s : ℕ) → AllByRecursion Fits is → read_slots false s (flat_map slots_spelled is) ≡ Ok (slots_of is)
+read-program [] s fits = refl
+read-program (LoadImmediate dst value ∷ is) s fits =
+    read-first (LoadImmediate dst value) s (option_to_list (second_slot (LoadImmediate dst value)) ++ flat_map slots_spelled is) fits.0 refl
+    ∙ ap (λ r. with_front (Some (LoadImmediate dst value) ∷ []) (with_front (None ∷ []) r)) (read-program is (s + 1 + 1) fits.1)
+read-program (i ∷ is) s fits =
+    read-first i s (flat_map slots_spelled is) fits.0 refl ∙ ap (with_front (Some i ∷ [])) (read-program is (s + 1) fits.1)
+
+fit-slots : (is : List Insn) → AllByRecursion Fits is → AllByRecursion FitSlot (flat_map slots_spelled is)
+fit-slots [] fits = tt
+fit-slots (LoadImmediate dst value ∷ is) fits = (
+  record { dst = omega (arith, fits.0.dst); offset = fits.0.offset; immediate = fits.0.immediate },
+  (record { dst = omega arith; offset = fits.0.offset; immediate = fits-32 (value / 2 ^ 32 % 2 ^ 32) (omega arith) }, fit-slots is fits.1),
+)
+fit-slots (i ∷ is) fits =
+    (record { dst = omega (arith, fits.0.dst); offset = fits.0.offset; immediate = fits.0.immediate }, fit-slots is fits.1)
+
+three-none : (a b c : Bool) (p q r : FaultKind) → a ≡ false → b ≡ false → c ≡ false
+    → option_map (λ (x : Bool × FaultKind). x.1) (find (λ (x : Bool × FaultKind). x.0) ((a, p) ∷ (b, q) ∷ (c, r) ∷ [])) ≡ None
+three-none a b c p q r x y z = rw (x, y, z) refl
+
+-- what a program spells decodes as the program
+pub program-again : (slots : List (Option Insn)) → IsProgram slots → decoded (program_bytes slots) ≡ Ok slots
+program-again slots program =
+    let is = program.instructions in
+    let fs = flat_map slots_spelled is in
+    let bytes : program_bytes slots ≡ flat_map slot_bytes fs = ap program_bytes program.layout ∙ program_bytes-slots_of is in
+    let len : length (flat_map slot_bytes fs) ≡ 8 * length fs = length-slots_bytes fs in
+    let slot_count : length slots ≡ length fs = ap length program.layout ∙ length-slots_of is in
+    let count : length (flat_map slot_bytes fs) / 8 ≡ length fs = omega arith in
+    let some = program.some in
+    let most = program.most in
+    let whole : not (eqb (length (flat_map slot_bytes fs) % 8) 0) ≡ false = not_from_true _ (eq-eqb _ _ (omega arith)) in
+    let filled : eqb (length (flat_map slot_bytes fs)) 0 ≡ false = ne_eqb _ _ (λ none. omega arith) in
+    let few : ltb 4096 (length (flat_map slot_bytes fs) / 8) ≡ false = le-ltb _ _ (omega arith) in
+    ap decoded bytes
+    ∙ ap (λ k. unless_length k (read_slots false 0 (slots_at (length (flat_map slot_bytes fs) / 8) (flat_map slot_bytes fs)))) (three-none _ _ _ _ _ _ whole filled few)
+    ∙ ap (λ n. read_slots false 0 (slots_at n (flat_map slot_bytes fs))) count
+    ∙ ap (read_slots false 0) (slots-again fs (fit-slots is program.fits))
+    ∙ read-program is 0 program.fits
+    ∙ ap (λ xs. Ok xs) (sym program.layout)
+
+abbrev read_as : List (Option Insn) → Result (List (Option Insn)) Fault
+read_as slots = Ok slots
+
+one-read : (a b : List (Option Insn)) → read_as a ≡ read_as b → a ≡ b
+one-read a b e = cc
+
+-- programs that are spelled alike are one
+pub one-program : (a b : List (Option Insn)) → IsProgram a → IsProgram b → program_bytes a ≡ program_bytes b → a ≡ b
+one-program a b p q same = one-read a b (sym (program-again a p) ∙ ap decoded same ∙ program-again b q)
+
+unless_length-ok : (k : Option FaultKind) (read : Result (List (Option Insn)) Fault) (slots : List (Option Insn)) → unless_length k read ≡ Ok slots → (k ≡ None) × (read ≡ Ok slots)
+unless_length-ok (Some kind) read slots e = absurd cc
+unless_length-ok None read slots e = (refl, e)
+
+-- what decodes is a program, spelled by the bytes
+pub decoded-program : (bytes : List ℕ) (slots : List (Option Insn)) → IsBytes bytes → decoded bytes ≡ Ok slots → IsProgram slots × (bytes ≡ program_bytes slots)
+decoded-program bytes slots fits e =
+    let ok = unless_length-ok (length_fault (length bytes)) (read_slots false 0 (slots_at (length bytes / 8) bytes)) slots e in
+    program-read bytes slots fits ok.0 ok.1

@@ -1,0 +1,20 @@
+-- Laws of spelling and decoding.
+use Rattle.std.specs.Prelude.{◌≡◌, ◌<◌, ℕ, List, Option, Ok, slice_index}
+use Rattle.ebpf_decode.specs.declared.insn.Insn.{Insn}
+use Rattle.ebpf_decode.specs.Program.{IsProgram}
+use Rattle.ebpf_decode.specs.Reading.{decoded}
+use Rattle.ebpf_decode.specs.Spelling.{program_bytes}
+
+-- what a program spells decodes as the program
+abbrev pub SpelledIsDecoded : Type 0
+SpelledIsDecoded = (slots : List (Option Insn)) → IsProgram slots → decoded (program_bytes slots) ≡ Ok slots
+
+-- programs that are spelled alike are one
+abbrev pub HasOneProgram : Type 0
+HasOneProgram = (a b : List (Option Insn)) → IsProgram a → IsProgram b → program_bytes a ≡ program_bytes b → a ≡ b
+
+-- what decodes, of numbers below 256, is a program spelled by the bytes
+abbrev pub DecodedIsSpelled : Type 0
+DecodedIsSpelled =
+    (bytes : List ℕ) (slots : List (Option Insn)) → ((k : ℕ) → slice_index bytes k < 256) → decoded bytes ≡ Ok slots
+    → IsProgram slots × (bytes ≡ program_bytes slots)

@@ -1,0 +1,18 @@
+//! Laws of spelling and decoding, for all programs.
+
+ghost use Rattle.ebpf_decode.specs.Laws.{DecodedIsSpelled, HasOneProgram, SpelledIsDecoded};
+
+/// What a program spells decodes as the program.
+pub fn spelled_is_decoded()
+    ensures { SpelledIsDecoded }
+{}
+
+/// What decodes is a program, spelled by the bytes.
+pub fn decoded_is_spelled()
+    ensures { DecodedIsSpelled }
+{}
+
+/// Programs that are spelled alike are one.
+pub fn bytes_have_one_program()
+    ensures { HasOneProgram }
+{}
