@@ -27,6 +27,17 @@ pub enum FaultKind {
     NotAscii = 8,
 }
 
+impl FaultKind {
+    ghost use Rattle.ebpf_asm.specs.Fault.{fault_number};
+
+    /// The number by which users see it, 1 to 8.
+    pub fn number(self) -> u8
+        ensures { result ≡ fault_number self }
+    {
+        self as u8
+    }
+}
+
 /// The lowest line, counted from 1, that can't be assembled, and why.
 #[derive(Clone, Copy, Debug, PartialEq, Eq)]
 pub struct AsmFault {

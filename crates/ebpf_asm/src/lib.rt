@@ -16,3 +16,6 @@ mod text;
 pub use assembly::assemble;
 pub use fault::{AsmFault, AssembleError, FaultKind};
 pub use listing::disassemble;
+
+#[cfg(test)]
+mod tests;
