@@ -5,4 +5,6 @@ pub mod Parts
 pub mod Operands
 pub mod Lines
 pub mod Passes
+pub mod Names
+pub mod Round
 pub mod Listings

@@ -9,3 +9,4 @@ pub mod Line
 pub mod Assembly
 pub mod LineView
 pub mod Labels
+pub mod Laws

@@ -5,6 +5,7 @@ mod assembly;
 mod cut;
 mod fault;
 mod label;
+pub mod laws;
 mod line;
 mod listing;
 mod mnemonic;
