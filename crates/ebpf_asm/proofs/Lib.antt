@@ -7,4 +7,5 @@ pub mod Lines
 pub mod Passes
 pub mod Names
 pub mod Round
+pub mod RoundOperands
 pub mod Listings
