@@ -1,0 +1,129 @@
+-- The assembly of a text (profile): labels, faults and bytes.
+use Rattle.std.specs.Prelude.{◌≡◌, ℕ, ℤ, pos, ◌-ℤ◌, ◌+◌, nat_lt, if◌then◌else◌, Bool, List, [], ◌∷◌, ◌++◌, length, map, Option, Some, None, is_some, option_and_then, Result, Ok, Err}
+use Rattle.std.specs.Map.{lookup}
+use Rattle.std.specs.Str.{bytes_eq}
+use Rattle.std.specs.Str.Lines.{lines}
+use Rattle.ebpf_decode.specs.declared.insn.Insn.{Insn}
+use Rattle.ebpf_decode.specs.declared.insn.Insn.TheVariants.{Jump, JumpLong, Branch}
+use Rattle.ebpf_decode.specs.Spelling.{spelling}
+use Rattle.ebpf_asm.specs.declared.fault.AsmFault.{AsmFault}
+use Rattle.ebpf_asm.specs.declared.fault.AssembleError.{AssembleError}
+use Rattle.ebpf_asm.specs.declared.fault.AssembleError.TheVariants as errors
+use Rattle.ebpf_asm.specs.declared.fault.FaultKind.{FaultKind}
+use Rattle.ebpf_asm.specs.declared.fault.FaultKind.TheVariants.{LabelTwice, TooLong, UnknownLabel, LabelTooFar}
+use Rattle.ebpf_asm.specs.Fault.{◌>>=◌}
+use Rattle.ebpf_asm.specs.Operand.{short_of, long_of}
+use Rattle.ebpf_asm.specs.Line.{Line, line_of, slots_in, slots_of_insn}
+
+-- the slots that lines take
+abbrev pub slot_count : List Line → ℕ
+slot_count [] = 0
+slot_count (line ∷ rest) = slots_in line + slot_count rest
+
+-- labels, each with the slot of the next instruction, from the slot at which these lines begin
+abbrev pub label_at : ℕ → Option (List ℕ) → List (List ℕ × ℕ)
+label_at slot None = []
+label_at slot (Some name) = (name, slot) ∷ []
+
+abbrev pub labels_from : ℕ → List Line → List (List ℕ × ℕ)
+labels_from slot [] = []
+labels_from slot (line ∷ rest) = label_at slot line.label ++ labels_from (slot + slots_in line) rest
+
+-- a map from names to slots
+abbrev pub LabelMap : Type 0
+LabelMap = List ℕ → Option ℕ
+
+-- the slots that labels name
+abbrev pub slot_named : List (List ℕ × ℕ) → LabelMap
+slot_named labels name = lookup (λ label. bytes_eq label name) labels
+
+abbrev pub label_map : List Line → LabelMap
+label_map all name = slot_named (labels_from 0 all) name
+
+-- what is wrong with a line, apart from where its jump leads: its label is an earlier line's, or it can't be read, or its instruction ends behind slot 4095
+abbrev pub insn_fault : ℕ → Result (Option Insn) FaultKind → Option FaultKind
+insn_fault slots (Err kind) = Some kind
+insn_fault slots (Ok insn) = if nat_lt 4096 (slots + slots_of_insn (Ok insn)) then Some TooLong else None
+
+abbrev pub line_fault : Bool → ℕ → Result (Option Insn) FaultKind → Option FaultKind
+line_fault twice slots insn = if twice then Some LabelTwice else insn_fault slots insn
+
+-- is a line's label the label of one of these lines?
+abbrev pub is_twice : List Line → Line → Bool
+is_twice before line = is_some (option_and_then (label_map before) line.label)
+
+abbrev pub told_first : ℕ → Option FaultKind → Option AsmFault → Option AsmFault
+told_first number (Some kind) later = Some (record { line = number; kind = kind })
+told_first number None later = later
+
+-- the fault of the lowest of these lines that has one, behind the lines before
+abbrev pub first_fault : List Line → List Line → Option AsmFault
+first_fault before [] = None
+first_fault before (line ∷ rest) =
+    told_first (length before + 1) (line_fault (is_twice before line) (slot_count before) line.insn) (first_fault (before ++ line ∷ []) rest)
+
+-- the instruction with this distance, where its field takes it
+abbrev pub fitting : (ℤ → Insn) → Result ℤ FaultKind → Result Insn FaultKind
+fitting jump (Ok distance) = Ok (jump distance)
+fitting jump (Err fault) = Err LabelTooFar
+
+abbrev pub jump_by : Insn → ℤ → Result Insn FaultKind
+jump_by (Jump unknown) distance = fitting Jump (short_of distance)
+jump_by (JumpLong unknown) distance = fitting JumpLong (long_of distance)
+jump_by (Branch width relation dst source unknown) distance = fitting (Branch width relation dst source) (short_of distance)
+jump_by insn distance = Ok insn
+
+-- distances count from the next slot (RFC 9669, 4.3)
+abbrev pub jump_to : Insn → ℕ → Option ℕ → Result Insn FaultKind
+jump_to insn slot None = Err UnknownLabel
+jump_to insn slot (Some target) = jump_by insn (pos target -ℤ pos (slot + 1))
+
+-- an instruction at a slot, its distance leading to the label that it names
+abbrev pub resolved : LabelMap → ℕ → Insn → Option (List ℕ) → Result Insn FaultKind
+resolved labels slot insn None = Ok insn
+resolved labels slot insn (Some name) = jump_to insn slot (labels name)
+
+-- the bytes of a line's instruction, before the bytes of the later lines
+abbrev pub before_later : ℕ → Result Insn FaultKind → Result (List ℕ) AsmFault → Result (List ℕ) AsmFault
+before_later number (Err kind) later = Err (record { line = number; kind = kind })
+before_later number (Ok insn) (Err fault) = Err fault
+before_later number (Ok insn) (Ok bytes) = Ok (spelling insn ++ bytes)
+
+abbrev pub bytes_of : LabelMap → ℕ → ℕ → Result (Option Insn) FaultKind → Option (List ℕ) → Result (List ℕ) AsmFault → Result (List ℕ) AsmFault
+bytes_of labels number slot (Ok (Some insn)) target later = before_later number (resolved labels slot insn target) later
+bytes_of labels number slot (Ok None) target later = later
+bytes_of labels number slot (Err kind) target later = later
+
+-- the bytes of lines without other faults, from this line number and this slot on
+abbrev pub bytes_from : LabelMap → ℕ → ℕ → List Line → Result (List ℕ) AsmFault
+bytes_from labels number slot [] = Ok []
+bytes_from labels number slot (line ∷ rest) =
+    bytes_of labels number slot line.insn line.target (bytes_from labels (number + 1) (slot + slots_in line) rest)
+
+abbrev pub unless_faulty : Option AsmFault → Result (List ℕ) AsmFault → Result (List ℕ) AsmFault
+unless_faulty (Some fault) bytes = Err fault
+unless_faulty None bytes = bytes
+
+abbrev pub lines_of : List ℕ → List Line
+lines_of text = map line_of (lines text)
+
+abbrev pub assembled_lines : List Line → Result (List ℕ) AsmFault
+assembled_lines all = unless_faulty (first_fault [] all) (bytes_from (label_map all) 1 0 all)
+
+-- what a text gives: the bytes of its instructions, or the first fault
+abbrev pub assembled : List ℕ → Result (List ℕ) AsmFault
+assembled text = assembled_lines (lines_of text)
+
+-- what the assembler answers is what the text gives, unless memory ran out
+abbrev pub FailsAs : {Y : Type 0} → AssembleError → Result Y AsmFault → Type 0
+FailsAs errors.Memory meant = Unit {0}
+FailsAs (errors.Fault fault) meant = meant ≡ Err fault
+
+abbrev pub Gives : {X Y : Type 0} → (X → Y) → Result X AssembleError → Result Y AsmFault → Type 0
+Gives view (Ok x) meant = meant ≡ Ok (view x)
+Gives view (Err error) meant = FailsAs error meant
+
+-- an error is this fault, or that memory ran out
+abbrev pub FaultIs : Option AsmFault → AssembleError → Type 0
+FaultIs fault errors.Memory = Unit {0}
+FaultIs fault (errors.Fault told) = fault ≡ Some told

@@ -1,0 +1,32 @@
+-- What is wrong with a text, and how readings follow one another (profile).
+use Rattle.std.specs.Prelude.{ℕ, Option, Some, None, Result, Ok, Err}
+use Rattle.ebpf_asm.specs.declared.fault.FaultKind.{FaultKind}
+use Rattle.ebpf_asm.specs.declared.fault.FaultKind.TheVariants.{UnknownMnemonic, Operand, OutOfRange, UnknownLabel, LabelTwice, LabelTooFar, TooLong, NotAscii}
+
+abbrev pub fault_number : FaultKind → ℕ
+fault_number UnknownMnemonic = 1
+fault_number Operand = 2
+fault_number OutOfRange = 3
+fault_number UnknownLabel = 4
+fault_number LabelTwice = 5
+fault_number LabelTooFar = 6
+fault_number TooLong = 7
+fault_number NotAscii = 8
+
+-- one reading after another: the first fault is told
+infixl 10 ◌>>=◌
+abbrev pub ◌>>=◌ : {A B : Type 0} → Result A FaultKind → (A → Result B FaultKind) → Result B FaultKind
+(Ok x) >>= f = f x
+(Err fault) >>= f = Err fault
+
+-- what two operands are: an operand that can't be read is told before a number that is out of range
+abbrev pub read_both : {A B : Type 0} → Result A FaultKind → Result B FaultKind → Result (A × B) FaultKind
+read_both (Ok a) (Ok b) = Ok (a, b)
+read_both (Ok a) (Err fault) = Err fault
+read_both (Err OutOfRange) (Err fault) = Err fault
+read_both (Err fault) _ = Err fault
+
+-- a reading, its value seen as `view` sees it
+abbrev pub seen : {A B E : Type 0} → (A → B) → Result A E → Result B E
+seen view (Ok x) = Ok (view x)
+seen view (Err fault) = Err fault

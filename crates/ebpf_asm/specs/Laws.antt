@@ -1,0 +1,28 @@
+-- Laws of assembly text.
+use Rattle.std.specs.Prelude.{◌≡◌, ◌<◌, ◌^◌, ℕ, ℤ, FitsSigned, Some, Ok}
+use Rattle.std.specs.Int.{w16, w32}
+use Rattle.std.specs.Fmt.{signed_decimal}
+use Rattle.ebpf_asm.specs.declared.mnemonic.Mnemonic.{Mnemonic}
+use Rattle.ebpf_asm.specs.Mnemonic.{mnemonic_text, mnemonic_named}
+use Rattle.ebpf_asm.specs.Operand.{register_of, immediate_of, wide_of, memory_of}
+use Rattle.ebpf_asm.specs.Listing.{register_text, wide_text, memory_text}
+
+-- the text of each mnemonic is that mnemonic's and no other's
+abbrev pub MnemonicsReadBack : Type 0
+MnemonicsReadBack = (mnemonic : Mnemonic) → mnemonic_named (mnemonic_text mnemonic) ≡ Some mnemonic
+
+-- each register is read as it is listed
+abbrev pub RegistersReadBack : Type 0
+RegistersReadBack = (number : ℕ) → number < 11 → register_of (register_text number) ≡ Ok number
+
+-- each immediate is read as it is listed
+abbrev pub ImmediatesReadBack : Type 0
+ImmediatesReadBack = (value : ℤ) → FitsSigned w32 value → immediate_of (signed_decimal value) ≡ Ok value
+
+-- each wide value is read as it is listed
+abbrev pub WideValuesReadBack : Type 0
+WideValuesReadBack = (value : ℕ) → value < 2 ^ 64 → wide_of (wide_text value) ≡ Ok value
+
+-- each memory operand is read as it is listed
+abbrev pub MemoryOperandsReadBack : Type 0
+MemoryOperandsReadBack = (base : ℕ) (offset : ℤ) → base < 11 → FitsSigned w16 offset → memory_of (memory_text base offset) ≡ Ok (base, offset)

@@ -1,0 +1,165 @@
+//! The assembler: labels in a first pass over the lines, bytes in a second.
+
+ghost use Rattle.std.specs.Prelude.{◌≡◌, ◌≤◌, ◌<◌, ◌+◌, ◌-ℤ◌, ◌^◌, ℕ, pos, List, [], None, IfOk, OnOk, IfErr, option_copied};
+ghost use Rattle.ebpf_asm.specs.Assembly.{assembled, first_fault, label_map, line_fault, jump_by as jumping_by, resolved, bytes_from, slot_count, Gives, FaultIs};
+ghost use Rattle.ebpf_asm.specs.Labels.{label_in};
+ghost use Rattle.ebpf_asm.specs.LineView.{line_views};
+
+use crate::fault::{AsmFault, AssembleError, FaultKind};
+use crate::label::{Labels, define, is_defined, slot_of};
+use crate::line::{Line, slots_of};
+use crate::number::{long, short};
+use crate::text::read_lines;
+use ebpf_decode::{Insn, push_instruction};
+use std::alloc::Global;
+use std::collections::BTreeMap;
+
+const MOST_SLOTS: usize = 4096;
+
+/// The bytes of the instructions that a text spells, in order; none for a text without instructions.
+///
+/// An error is the lowest line's that can't be read, has the label of an earlier line, or ends
+/// behind slot 4095; else the lowest line's that jumps to an unknown label or too far. It may also
+/// be want of memory.
+pub fn assemble(alloc: Global, text: &[u8]) -> Result<Vec<u8>, AssembleError>
+    ensures { Gives (λ bytes. bytes.items) result (assembled text.now) }
+{
+    let lines = read_lines(alloc, text)?;
+    let labels = labels_of(alloc, &lines)?;
+    bytes_of(alloc, &lines, &labels)
+}
+
+/// The first pass: the labels, unless a line has a fault of its own.
+fn labels_of<'a>(alloc: Global, lines: &[Line<'a>]) -> Result<Labels<'a>, AssembleError>
+    ensures fault { IfErr result (FaultIs (first_fault [] (line_views lines.now))) }
+    ensures none { OnOk result (first_fault [] (line_views lines.now) ≡ None) }
+    ensures labels { IfOk result (λ labels. (name : List ℕ) → label_in labels name ≡ label_map (line_views lines.now) name) }
+    ensures most { OnOk result (slot_count (line_views lines.now) ≤ 4096) }
+{
+    let mut labels = BTreeMap::new(alloc);
+    let mut slots = 0;
+    for (index, line) in lines.iter().enumerate() {
+        let twice = is_defined(&labels, line.label);
+        if let Some(kind) = fault_of(twice, slots, &line.insn) {
+            return Err(fault_at(index, kind));
+        }
+        define(&mut labels, line.label, slots)?;
+        slots += slots_of(&line.insn);
+    }
+    Ok(labels)
+}
+
+/// What is wrong with a line before which so many slots are taken.
+fn fault_of(
+    is_twice: bool,
+    slots: usize,
+    insn: &Result<Option<Insn>, FaultKind>,
+) -> Option<FaultKind>
+    requires { slots ≤ 4096 }
+    ensures { result ≡ line_fault is_twice slots insn.now }
+{
+    if is_twice {
+        return Some(FaultKind::LabelTwice);
+    }
+    if let Err(kind) = insn {
+        return Some(*kind);
+    }
+    if slots + slots_of(insn) > MOST_SLOTS {
+        return Some(FaultKind::TooLong);
+    }
+    None
+}
+
+/// The fault of the line at this index.
+fn fault_at(index: usize, kind: FaultKind) -> AssembleError
+    requires { index < 2 ^ 63 }
+    ensures { result ≡ AssembleError.Fault (record { line = index + 1; kind = kind }) }
+{
+    AssembleError::Fault(AsmFault {
+        line: index + 1,
+        kind,
+    })
+}
+
+/// The second pass: the bytes of the lines, whose labels these are.
+fn bytes_of(
+    alloc: Global,
+    lines: &[Line<'_>],
+    labels: &Labels<'_>,
+) -> Result<Vec<u8>, AssembleError>
+    requires { slot_count (line_views lines.now) ≤ 4096 }
+    ensures { Gives (λ bytes. bytes.items) result (bytes_from (label_in labels.now) 1 0 (line_views lines.now)) }
+{
+    let mut bytes = Vec::new(alloc);
+    let mut slot = 0;
+    for (index, line) in lines.iter().enumerate() {
+        let Ok(Some(insn)) = line.insn else {
+            continue;
+        };
+        let insn = match resolve(labels, slot, insn, line.target) {
+            Ok(insn) => insn,
+            Err(kind) => return Err(fault_at(index, kind)),
+        };
+        push_instruction(&mut bytes, &insn)?;
+        slot += slots_of(&line.insn);
+    }
+    Ok(bytes)
+}
+
+/// An instruction at a slot, its distance leading to the label that it names.
+fn resolve(
+    labels: &Labels<'_>,
+    slot: usize,
+    insn: Insn,
+    target: Option<&[u8]>,
+) -> Result<Insn, FaultKind>
+    ensures { result ≡ resolved (label_in labels.now) slot insn (option_copied target.entry) }
+{
+    let Some(name) = target else {
+        return Ok(insn);
+    };
+    let Some(to) = slot_of(labels, name) else {
+        return Err(FaultKind::UnknownLabel);
+    };
+    jump_by(insn, distance(slot, to))
+}
+
+/// From the slot after one slot to another (RFC 9669, 4.3).
+fn distance(slot: usize, to: usize) -> i128
+    ensures { result ≡ pos to -ℤ pos (slot + 1) }
+{
+    to as i128 - (slot as i128 + 1)
+}
+
+/// The instruction with this distance, where its field takes it.
+fn jump_by(insn: Insn, distance: i128) -> Result<Insn, FaultKind>
+    ensures { result ≡ jumping_by insn distance }
+{
+    match insn {
+        Insn::Jump { .. } => match short(distance) {
+            Ok(distance) => Ok(Insn::Jump { distance }),
+            Err(_) => Err(FaultKind::LabelTooFar),
+        },
+        Insn::JumpLong { .. } => match long(distance) {
+            Ok(distance) => Ok(Insn::JumpLong { distance }),
+            Err(_) => Err(FaultKind::LabelTooFar),
+        },
+        Insn::Branch {
+            width,
+            relation,
+            dst,
+            source,
+            ..
+        } => match short(distance) {
+            Ok(distance) => Ok(Insn::Branch {
+                width,
+                relation,
+                dst,
+                source,
+                distance,
+            }),
+            Err(_) => Err(FaultKind::LabelTooFar),
+        },
+        _ => Ok(insn),
+    }
+}

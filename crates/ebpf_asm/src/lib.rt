@@ -1,0 +1,22 @@
+//! Assembly text of eBPF programs (RFC 9669), both ways.
+#![tactic(auto)]
+
+mod assembly;
+mod cut;
+mod fault;
+mod label;
+pub mod laws;
+mod line;
+mod listing;
+mod mnemonic;
+mod number;
+mod operand;
+mod statement;
+mod text;
+
+pub use assembly::assemble;
+pub use fault::{AsmFault, AssembleError, FaultKind};
+pub use listing::disassemble;
+
+#[cfg(test)]
+mod tests;

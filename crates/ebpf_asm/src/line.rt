@@ -1,0 +1,104 @@
+//! Lines: an optional label, an optional statement, an optional comment.
+
+ghost use Rattle.std.specs.Prelude.{◌≡◌, option_copied};
+ghost use Rattle.std.specs.List.{list_all};
+ghost use Rattle.std.specs.Char.{is_ascii};
+ghost use Rattle.ebpf_asm.specs.Cut.{cut_at};
+ghost use Rattle.ebpf_asm.specs.Line.{line_of, split_label, uncommented, labelled as labelled_line, slots_of_insn};
+ghost use Rattle.ebpf_asm.specs.LineView.{line_view};
+
+use crate::cut::{cut, trim};
+use crate::fault::FaultKind;
+use crate::operand::label;
+use crate::statement::read;
+use ebpf_decode::Insn;
+
+/// What a line has.
+#[derive(Clone, Copy, Debug, PartialEq, Eq)]
+pub struct Line<'a> {
+    pub label: Option<&'a [u8]>,
+    /// Its instruction, or why it has none.
+    pub insn: Result<Option<Insn>, FaultKind>,
+    /// The label that its instruction jumps to, which has the distance 0 then.
+    pub target: Option<&'a [u8]>,
+}
+
+/// The line with these bytes. One that isn't ASCII is refused for that, in its comment too.
+#[tactic(auto, unfolding(crate::specs::Line::line_of))]
+pub fn read_line(bytes: &[u8]) -> Line<'_>
+    ensures { line_view result ≡ line_of bytes.now }
+{
+    if !is_all_ascii(bytes) {
+        return Line {
+            label: None,
+            insn: Err(FaultKind::NotAscii),
+            target: None,
+        };
+    }
+    let (label, rest) = label_and_rest(trim(without_comment(bytes)));
+    labelled(label, trim(rest))
+}
+
+/// A line with this label, and the statement that a text is, if it has a word.
+fn labelled<'a>(label: Option<&'a [u8]>, text: &'a [u8]) -> Line<'a>
+    ensures { line_view result ≡ labelled_line (option_copied label.entry) text.now }
+{
+    if text.is_empty() {
+        return Line {
+            label,
+            insn: Ok(None),
+            target: None,
+        };
+    }
+    match read(text) {
+        Ok(statement) => Line {
+            label,
+            insn: Ok(Some(statement.insn)),
+            target: statement.label,
+        },
+        Err(kind) => Line {
+            label,
+            insn: Err(kind),
+            target: None,
+        },
+    }
+}
+
+fn is_all_ascii(bytes: &[u8]) -> bool
+    ensures { result ≡ list_all is_ascii bytes.now }
+{
+    bytes.iter().all(|byte| byte.is_ascii())
+}
+
+/// What stands before a `;`.
+fn without_comment(bytes: &[u8]) -> &[u8]
+    ensures { result.now ≡ uncommented bytes.now }
+{
+    match cut(bytes, b';') {
+        Some((text, _)) => text,
+        None => bytes,
+    }
+}
+
+/// The label at the start, if a name stands before a colon, and the rest.
+fn label_and_rest(text: &[u8]) -> (Option<&[u8]>, &[u8])
+    ensures { (option_copied result.0, result.1.now) ≡ split_label text.now (cut_at 58 text.now) }
+{
+    if let Some((front, rest)) = cut(text, b':') {
+        if let Some(name) = label(front) {
+            return (Some(name), rest);
+        }
+    }
+    (None, text)
+}
+
+/// How many slots an instruction takes, if there is one.
+pub fn slots_of(insn: &Result<Option<Insn>, FaultKind>) -> usize
+    ensures { result ≡ slots_of_insn insn.now }
+{
+    match insn {
+        Ok(Some(Insn::LoadImmediate { .. })) => 2,
+        Ok(Some(_)) => 1,
+        Ok(None) | Err(_) => 0,
+    }
+}

@@ -1,0 +1,204 @@
+//! Listings: a program as text.
+
+ghost use Rattle.std.specs.Prelude.{◌≡◌, ◌++◌, ◌∷◌, [], OnOk, OnErr, take, codes};
+ghost use Rattle.std.specs.String.{string_bytes};
+ghost use Rattle.std.specs.Fmt.{signed_decimal};
+ghost use Rattle.ebpf_asm.specs.Listing.{register_text, signed_text, memory_text, wide_text, source_text, mnemonic_of, operand_texts, operands_text, line_text, listing};
+
+use crate::mnemonic::Mnemonic;
+use ebpf_decode::{Insn, Program, Register, Source};
+use std::alloc::AllocError;
+
+/// Adds the listing of a program at the end of a text: each instruction on a line, its mnemonic, a
+/// space, and its operands with `, ` between them. Immediates are signed decimal numbers, offsets
+/// and distances have their sign always, a wide value is `0x` and 16 digits, and there are no
+/// labels. Where memory runs out, the text is as before.
+pub fn disassemble(program: &Program, out: &mut String) -> Result<(), AllocError>
+    ensures ok { OnOk result (string_bytes out.new ≡ string_bytes out.old ++ listing program.now) }
+    ensures err { OnErr result (string_bytes out.new ≡ string_bytes out.old) }
+{
+    let mut text = String::new(*out.allocator());
+    for slot in 0..program.slots() {
+        let Some(insn) = program.at(slot) else {
+            continue;
+        };
+        push_line(&mut text, insn)?;
+    }
+    out.push_str(&text)
+}
+
+fn push_line(out: &mut String, insn: &Insn) -> Result<(), AllocError>
+    ensures { OnOk result (string_bytes out.new ≡ string_bytes out.old ++ line_text insn.now) }
+{
+    let (front, back) = mnemonic(insn).parts();
+    out.push_str(front)?;
+    out.push_str(back)?;
+    push_operands(out, insn)?;
+    out.push_str("\n")
+}
+
+fn mnemonic(insn: &Insn) -> Mnemonic
+    ensures { result ≡ mnemonic_of insn.now }
+{
+    match *insn {
+        Insn::LoadImmediate { .. } => Mnemonic::LoadImmediate,
+        Insn::Load { size, .. } => Mnemonic::Load(size),
+        Insn::LoadSigned { size, .. } => Mnemonic::LoadSigned(size),
+        Insn::StoreImmediate { size, .. } => Mnemonic::StoreImmediate(size),
+        Insn::StoreRegister { size, .. } => Mnemonic::StoreRegister(size),
+        Insn::Arithmetic {
+            width,
+            operation,
+            ..
+        } => Mnemonic::Arithmetic(width, operation),
+        Insn::Negate { width, .. } => Mnemonic::Negate(width),
+        Insn::MoveSigned { extension, .. } => Mnemonic::MoveSigned(extension),
+        Insn::SwapBytes { swap, size, .. } => Mnemonic::SwapBytes(swap, size),
+        Insn::Jump { .. } => Mnemonic::Jump,
+        Insn::JumpLong { .. } => Mnemonic::JumpLong,
+        Insn::Branch {
+            width,
+            relation,
+            ..
+        } => Mnemonic::Branch(width, relation),
+        Insn::Call { .. } => Mnemonic::Call,
+        Insn::Exit => Mnemonic::Exit,
+    }
+}
+
+fn push_operands(out: &mut String, insn: &Insn) -> Result<(), AllocError>
+    ensures { OnOk result (string_bytes out.new ≡ string_bytes out.old ++ operands_text (operand_texts insn.now)) }
+{
+    match *insn {
+        Insn::LoadImmediate { dst, value } => {
+            push_first(out, dst)?;
+            out.push_str(", ")?;
+            push_wide(out, value)
+        }
+        Insn::Load {
+            dst,
+            src,
+            offset,
+            ..
+        }
+        | Insn::LoadSigned {
+            dst,
+            src,
+            offset,
+            ..
+        } => {
+            push_first(out, dst)?;
+            out.push_str(", ")?;
+            push_memory(out, src, offset)
+        }
+        Insn::StoreImmediate {
+            dst,
+            offset,
+            value,
+            ..
+        } => {
+            out.push_str(" ")?;
+            push_memory(out, dst, offset)?;
+            out.push_str(", ")?;
+            push_source(out, Source::Immediate(value))
+        }
+        Insn::StoreRegister {
+            dst,
+            src,
+            offset,
+            ..
+        } => {
+            out.push_str(" ")?;
+            push_memory(out, dst, offset)?;
+            out.push_str(", ")?;
+            push_register(out, src)
+        }
+        Insn::Arithmetic { dst, source, .. } => push_pair(out, dst, source),
+        Insn::MoveSigned { dst, src, .. } => push_pair(out, dst, Source::Register(src)),
+        Insn::Negate { dst, .. } | Insn::SwapBytes { dst, .. } => push_first(out, dst),
+        Insn::Jump { distance } => {
+            out.push_str(" ")?;
+            push_signed(out, i32::from(distance))
+        }
+        Insn::JumpLong { distance } => {
+            out.push_str(" ")?;
+            push_signed(out, distance)
+        }
+        Insn::Branch {
+            dst,
+            source,
+            distance,
+            ..
+        } => {
+            push_pair(out, dst, source)?;
+            out.push_str(", ")?;
+            push_signed(out, i32::from(distance))
+        }
+        Insn::Call { helper } => {
+            out.push_str(" ")?;
+            push_source(out, Source::Immediate(helper))
+        }
+        Insn::Exit => Ok(()),
+    }
+}
+
+/// A space and a register.
+fn push_first(out: &mut String, register: Register) -> Result<(), AllocError>
+    ensures { OnOk result (string_bytes out.new ≡ string_bytes out.old ++ (codes " " ++ register_text register)) }
+{
+    out.push_str(" ")?;
+    push_register(out, register)
+}
+
+/// A space, a register and behind a comma a source.
+fn push_pair(out: &mut String, dst: Register, source: Source) -> Result<(), AllocError>
+    ensures { OnOk result (string_bytes out.new ≡ string_bytes out.old ++ (codes " " ++ register_text dst) ++ (codes ", " ++ source_text source)) }
+{
+    push_first(out, dst)?;
+    out.push_str(", ")?;
+    push_source(out, source)
+}
+
+fn push_register(out: &mut String, register: Register) -> Result<(), AllocError>
+    ensures { OnOk result (string_bytes out.new ≡ string_bytes out.old ++ register_text register) }
+{
+    let number = register.number();
+    write!(out, "r{number}")
+}
+
+fn push_source(out: &mut String, source: Source) -> Result<(), AllocError>
+    ensures { OnOk result (string_bytes out.new ≡ string_bytes out.old ++ source_text source) }
+{
+    match source {
+        Source::Immediate(value) => write!(out, "{value}"),
+        Source::Register(register) => push_register(out, register),
+    }
+}
+
+/// In brackets a register and an offset.
+fn push_memory(out: &mut String, base: Register, offset: i16) -> Result<(), AllocError>
+    ensures { OnOk result (string_bytes out.new ≡ string_bytes out.old ++ memory_text base offset) }
+{
+    out.push_str("[")?;
+    push_register(out, base)?;
+    push_signed(out, i32::from(offset))?;
+    out.push_str("]")
+}
+
+/// A number with its sign.
+fn push_signed(out: &mut String, value: i32) -> Result<(), AllocError>
+    ensures { OnOk result (string_bytes out.new ≡ string_bytes out.old ++ signed_text value) }
+{
+    if value < 0 {
+        write!(out, "{value}")
+    } else {
+        write!(out, "+{value}")
+    }
+}
+
+/// `0x` and 16 digits.
+fn push_wide(out: &mut String, value: u64) -> Result<(), AllocError>
+    ensures { OnOk result (string_bytes out.new ≡ string_bytes out.old ++ wide_text value) }
+{
+    write!(out, "0x{value:016x}")
+}

@@ -1,0 +1,12 @@
+/* Adds a field of each block in scratch, and emits the sum with the run's last block. */
+#include "pifnjarl.h"
+
+long aggregate(const struct context *context, const u8 *block, u8 *scratch)
+{
+    u64 *sum = (u64 *)scratch;
+
+    *sum += *(const u32 *)(block + 16);
+    if (context->index + 1 == context->count)
+        emit(sum, 8);
+    return 0;
+}
