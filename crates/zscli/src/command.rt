@@ -2,7 +2,7 @@
 
 use crate::failure::{Failure, STANDARD_OUTPUT};
 use crate::files::Files;
-use crate::{exec, unpack};
+use crate::{asm, disasm, exec, trace, unpack};
 use clap::Command;
 use clap::error::ErrorKind;
 use std::alloc::{AllocError, Global};
@@ -38,6 +38,9 @@ fn run<'a, F: Files, O: Write>(
     };
     match matches.subcommand() {
         Some((exec::NAME, matches)) => exec::exec(alloc, matches, files, out),
+        Some((asm::NAME, matches)) => asm::asm(alloc, matches, files),
+        Some((disasm::NAME, matches)) => disasm::disasm(alloc, matches, files, out),
+        Some((trace::NAME, matches)) => trace::trace(alloc, matches, files, out),
         Some((unpack::NAME, matches)) => unpack::unpack(alloc, matches, files, out),
         _ => {
             let message = "a command is required";
@@ -53,6 +56,9 @@ fn command_line<'a>(alloc: Global) -> Result<Command<'a>, AllocError> {
         .subcommand_required(true)
         .arg_required_else_help(true)
         .subcommand(exec::subcommand(alloc)?)?
+        .subcommand(asm::subcommand(alloc)?)?
+        .subcommand(disasm::subcommand(alloc)?)?
+        .subcommand(trace::subcommand(alloc)?)?
         .subcommand(unpack::subcommand(alloc)?)
 }
 

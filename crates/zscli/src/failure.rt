@@ -28,6 +28,8 @@ pub enum Failure<'a> {
     LineRefused(usize),
     #[error("geometry refused {0}")]
     GeometryRefused(u8),
+    #[error("assembly refused {0} {1}")]
+    AssemblyRefused(usize, u8),
     #[error("program refused {0} {1}")]
     ProgramRefused(usize, u8),
     #[error("frame refused {0}")]
@@ -53,6 +55,14 @@ impl<'a> Failure<'a> {
         }
     }
 
+    /// That of writing a file.
+    pub fn of_writing(path: &'a str, error: FileError) -> Failure<'a> {
+        match error {
+            FileError::Failed => Failure::CannotWrite(path),
+            FileError::OutOfMemory => Failure::NoMemory,
+        }
+    }
+
     /// Tells the user, and answers the exit status.
     pub fn tell<E: Write>(self, err: &mut E) -> u8 {
         let _ = match &self {
@@ -71,6 +81,7 @@ impl<'a> Failure<'a> {
             Failure::CommandLine(_) | Failure::NotText | Failure::EmitExceedsBlock => 2,
             Failure::LineRefused(_)
             | Failure::GeometryRefused(_)
+            | Failure::AssemblyRefused(..)
             | Failure::ProgramRefused(..)
             | Failure::FrameRefused(_) => 3,
         }

@@ -2,9 +2,11 @@
 #![tactic(auto)]
 
 mod arguments;
+mod asm;
 mod command;
 mod command_file;
 mod device;
+mod disasm;
 mod event;
 mod exec;
 mod failure;
@@ -12,9 +14,11 @@ mod files;
 mod laws;
 mod lines;
 mod out;
+mod program;
 mod reply;
 #[cfg(test)]
 mod tests;
+mod trace;
 mod unpack;
 mod words;
 
