@@ -8,4 +8,6 @@ pub mod Passes
 pub mod Names
 pub mod Round
 pub mod RoundOperands
+pub mod RoundLines
+pub mod RoundProgram
 pub mod Listings

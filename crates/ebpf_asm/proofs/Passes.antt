@@ -35,7 +35,7 @@ labels_from-push slot (b ∷ before) line =
     ap (λ t. label_at slot b.label ++ t) (labels_from-push (slot + slots_in b) before line ∙ ap (λ s. labels_from (slot + slots_in b) before ++ label_at s line.label) (omega arith))
     ∙ sym (append_assoc (label_at slot b.label) (labels_from (slot + slots_in b) before) (label_at (slot + slot_count (b ∷ before)) line.label))
 
-slot_count-push : (before : List Line) (line : Line) → slot_count (before ++ line ∷ []) ≡ slot_count before + slots_in line
+pub slot_count-push : (before : List Line) (line : Line) → slot_count (before ++ line ∷ []) ≡ slot_count before + slots_in line
 slot_count-push [] line = omega arith
 slot_count-push (b ∷ before) line = omega (arith, slot_count-push before line)
 

@@ -1,11 +1,15 @@
 -- Laws of assembly text.
-use Rattle.std.specs.Prelude.{◌≡◌, ◌<◌, ◌^◌, ℕ, ℤ, FitsSigned, Some, Ok}
+use Rattle.std.specs.Prelude.{◌≡◌, ◌<◌, ◌^◌, ℕ, ℤ, FitsSigned, List, Option, Some, Ok}
 use Rattle.std.specs.Int.{w16, w32}
 use Rattle.std.specs.Fmt.{signed_decimal}
+use Rattle.ebpf_decode.specs.declared.insn.Insn.{Insn}
+use Rattle.ebpf_decode.specs.Program.{IsProgram}
+use Rattle.ebpf_decode.specs.Spelling.{program_bytes}
 use Rattle.ebpf_asm.specs.declared.mnemonic.Mnemonic.{Mnemonic}
+use Rattle.ebpf_asm.specs.Assembly.{assembled}
 use Rattle.ebpf_asm.specs.Mnemonic.{mnemonic_text, mnemonic_named}
 use Rattle.ebpf_asm.specs.Operand.{register_of, immediate_of, wide_of, memory_of}
-use Rattle.ebpf_asm.specs.Listing.{register_text, wide_text, memory_text}
+use Rattle.ebpf_asm.specs.Listing.{register_text, wide_text, memory_text, listing}
 
 -- the text of each mnemonic is that mnemonic's and no other's
 abbrev pub MnemonicsReadBack : Type 0
@@ -26,3 +30,7 @@ WideValuesReadBack = (value : ℕ) → value < 2 ^ 64 → wide_of (wide_text val
 -- each memory operand is read as it is listed
 abbrev pub MemoryOperandsReadBack : Type 0
 MemoryOperandsReadBack = (base : ℕ) (offset : ℤ) → base < 11 → FitsSigned w16 offset → memory_of (memory_text base offset) ≡ Ok (base, offset)
+
+-- the listing of a program assembles to its bytes
+abbrev pub ListingsAssemble : Type 0
+ListingsAssemble = (slots : List (Option Insn)) → IsProgram slots → assembled (listing slots) ≡ Ok (program_bytes slots)

@@ -1,6 +1,11 @@
 //! Laws of assembly text.
 
-ghost use Rattle.ebpf_asm.specs.Laws.{MnemonicsReadBack, RegistersReadBack, ImmediatesReadBack, WideValuesReadBack, MemoryOperandsReadBack};
+ghost use Rattle.ebpf_asm.specs.Laws.{MnemonicsReadBack, RegistersReadBack, ImmediatesReadBack, WideValuesReadBack, MemoryOperandsReadBack, ListingsAssemble};
+
+/// The listing of a program assembles to its bytes.
+pub fn listings_assemble()
+    ensures { ListingsAssemble }
+{}
 
 /// The text of each mnemonic is that mnemonic's and no other's.
 pub fn mnemonics_read_back()

@@ -3,98 +3,101 @@ use ebpf_decode::decode;
 use std::alloc::Global;
 use std::test::*;
 
-/// Each mnemonic once, and the bytes of its line (RFC 9669, 3 to 5).
-const MNEMONIC_LINES: [(&str, &str); 86] = [
-    ("add r1, r2", "0f21000000000000"),
-    ("addw r3, -7", "04030000f9ffffff"),
-    ("sub r1, r2", "1f21000000000000"),
-    ("subw r3, -7", "14030000f9ffffff"),
-    ("mul r1, r2", "2f21000000000000"),
-    ("mulw r3, -7", "24030000f9ffffff"),
-    ("div r1, r2", "3f21000000000000"),
-    ("divw r3, -7", "34030000f9ffffff"),
-    ("sdiv r1, r2", "3f21010000000000"),
-    ("sdivw r3, -7", "34030100f9ffffff"),
-    ("or r1, r2", "4f21000000000000"),
-    ("orw r3, -7", "44030000f9ffffff"),
-    ("and r1, r2", "5f21000000000000"),
-    ("andw r3, -7", "54030000f9ffffff"),
-    ("lsh r1, r2", "6f21000000000000"),
-    ("lshw r3, -7", "64030000f9ffffff"),
-    ("rsh r1, r2", "7f21000000000000"),
-    ("rshw r3, -7", "74030000f9ffffff"),
-    ("mod r1, r2", "9f21000000000000"),
-    ("modw r3, -7", "94030000f9ffffff"),
-    ("smod r1, r2", "9f21010000000000"),
-    ("smodw r3, -7", "94030100f9ffffff"),
-    ("xor r1, r2", "af21000000000000"),
-    ("xorw r3, -7", "a4030000f9ffffff"),
-    ("mov r1, r2", "bf21000000000000"),
-    ("movw r3, -7", "b4030000f9ffffff"),
-    ("arsh r1, r2", "cf21000000000000"),
-    ("arshw r3, -7", "c4030000f9ffffff"),
-    ("neg r4", "8704000000000000"),
-    ("negw r4", "8404000000000000"),
-    ("movsx8 r5, r6", "bf65080000000000"),
-    ("movsx16 r5, r6", "bf65100000000000"),
-    ("movsx32 r5, r6", "bf65200000000000"),
-    ("movsx8w r5, r6", "bc65080000000000"),
-    ("movsx16w r5, r6", "bc65100000000000"),
-    ("le16 r7", "d407000010000000"),
-    ("le32 r7", "d407000020000000"),
-    ("le64 r7", "d407000040000000"),
-    ("be16 r7", "dc07000010000000"),
-    ("be32 r7", "dc07000020000000"),
-    ("be64 r7", "dc07000040000000"),
-    ("swap16 r7", "d707000010000000"),
-    ("swap32 r7", "d707000020000000"),
-    ("swap64 r7", "d707000040000000"),
-    ("ldxb r1, [r2+8]", "7121080000000000"),
-    ("ldxh r1, [r2+8]", "6921080000000000"),
-    ("ldxw r1, [r2+8]", "6121080000000000"),
-    ("ldxdw r1, [r2+8]", "7921080000000000"),
-    ("ldxsb r1, [r2-8]", "9121f8ff00000000"),
-    ("ldxsh r1, [r2-8]", "8921f8ff00000000"),
-    ("ldxsw r1, [r2-8]", "8121f8ff00000000"),
-    ("stb [r10-16], 9", "720af0ff09000000"),
-    ("sth [r10-16], 9", "6a0af0ff09000000"),
-    ("stw [r10-16], 9", "620af0ff09000000"),
-    ("stdw [r10-16], 9", "7a0af0ff09000000"),
-    ("stxb [r10+0], r9", "739a000000000000"),
-    ("stxh [r10+0], r9", "6b9a000000000000"),
-    ("stxw [r10+0], r9", "639a000000000000"),
-    ("stxdw [r10+0], r9", "7b9a000000000000"),
-    (
-        "lddw r1, 0x0123456789abcdef",
-        "18010000efcdab890000000067452301",
-    ),
-    ("ja +5", "0500050000000000"),
-    ("jaw -70000", "0600000090eefeff"),
-    ("jeq r1, r2, +3", "1d21030000000000"),
-    ("jeqw r3, 100, -3", "1603fdff64000000"),
-    ("jgt r1, r2, +3", "2d21030000000000"),
-    ("jgtw r3, 100, -3", "2603fdff64000000"),
-    ("jge r1, r2, +3", "3d21030000000000"),
-    ("jgew r3, 100, -3", "3603fdff64000000"),
-    ("jset r1, r2, +3", "4d21030000000000"),
-    ("jsetw r3, 100, -3", "4603fdff64000000"),
-    ("jne r1, r2, +3", "5d21030000000000"),
-    ("jnew r3, 100, -3", "5603fdff64000000"),
-    ("jsgt r1, r2, +3", "6d21030000000000"),
-    ("jsgtw r3, 100, -3", "6603fdff64000000"),
-    ("jsge r1, r2, +3", "7d21030000000000"),
-    ("jsgew r3, 100, -3", "7603fdff64000000"),
-    ("jlt r1, r2, +3", "ad21030000000000"),
-    ("jltw r3, 100, -3", "a603fdff64000000"),
-    ("jle r1, r2, +3", "bd21030000000000"),
-    ("jlew r3, 100, -3", "b603fdff64000000"),
-    ("jslt r1, r2, +3", "cd21030000000000"),
-    ("jsltw r3, 100, -3", "c603fdff64000000"),
-    ("jsle r1, r2, +3", "dd21030000000000"),
-    ("jslew r3, 100, -3", "d603fdff64000000"),
-    ("call 1", "8500000001000000"),
-    ("exit", "9500000000000000"),
-];
+/// Lines with each mnemonic once, and in the comment its bytes (RFC 9669, 3 to 5).
+const ARITHMETIC: &str = "\
+add r1, r2 ; 0f21000000000000\n\
+addw r3, -7 ; 04030000f9ffffff\n\
+sub r1, r2 ; 1f21000000000000\n\
+subw r3, -7 ; 14030000f9ffffff\n\
+mul r1, r2 ; 2f21000000000000\n\
+mulw r3, -7 ; 24030000f9ffffff\n\
+div r1, r2 ; 3f21000000000000\n\
+divw r3, -7 ; 34030000f9ffffff\n\
+sdiv r1, r2 ; 3f21010000000000\n\
+sdivw r3, -7 ; 34030100f9ffffff\n\
+or r1, r2 ; 4f21000000000000\n\
+orw r3, -7 ; 44030000f9ffffff\n\
+and r1, r2 ; 5f21000000000000\n\
+andw r3, -7 ; 54030000f9ffffff\n\
+lsh r1, r2 ; 6f21000000000000\n\
+lshw r3, -7 ; 64030000f9ffffff\n\
+rsh r1, r2 ; 7f21000000000000\n\
+rshw r3, -7 ; 74030000f9ffffff\n\
+mod r1, r2 ; 9f21000000000000\n\
+modw r3, -7 ; 94030000f9ffffff\n\
+smod r1, r2 ; 9f21010000000000\n\
+smodw r3, -7 ; 94030100f9ffffff\n\
+xor r1, r2 ; af21000000000000\n\
+xorw r3, -7 ; a4030000f9ffffff\n\
+mov r1, r2 ; bf21000000000000\n\
+movw r3, -7 ; b4030000f9ffffff\n\
+arsh r1, r2 ; cf21000000000000\n\
+arshw r3, -7 ; c4030000f9ffffff\n\
+neg r4 ; 8704000000000000\n\
+negw r4 ; 8404000000000000\n\
+movsx8 r5, r6 ; bf65080000000000\n\
+movsx16 r5, r6 ; bf65100000000000\n\
+movsx32 r5, r6 ; bf65200000000000\n\
+movsx8w r5, r6 ; bc65080000000000\n\
+movsx16w r5, r6 ; bc65100000000000\n\
+";
+
+const JUMPS: &str = "\
+ja +5 ; 0500050000000000\n\
+jaw -70000 ; 0600000090eefeff\n\
+jeq r1, r2, +3 ; 1d21030000000000\n\
+jeqw r3, 100, -3 ; 1603fdff64000000\n\
+jgt r1, r2, +3 ; 2d21030000000000\n\
+jgtw r3, 100, -3 ; 2603fdff64000000\n\
+jge r1, r2, +3 ; 3d21030000000000\n\
+jgew r3, 100, -3 ; 3603fdff64000000\n\
+jset r1, r2, +3 ; 4d21030000000000\n\
+jsetw r3, 100, -3 ; 4603fdff64000000\n\
+jne r1, r2, +3 ; 5d21030000000000\n\
+jnew r3, 100, -3 ; 5603fdff64000000\n\
+jsgt r1, r2, +3 ; 6d21030000000000\n\
+jsgtw r3, 100, -3 ; 6603fdff64000000\n\
+jsge r1, r2, +3 ; 7d21030000000000\n\
+jsgew r3, 100, -3 ; 7603fdff64000000\n\
+jlt r1, r2, +3 ; ad21030000000000\n\
+jltw r3, 100, -3 ; a603fdff64000000\n\
+jle r1, r2, +3 ; bd21030000000000\n\
+jlew r3, 100, -3 ; b603fdff64000000\n\
+jslt r1, r2, +3 ; cd21030000000000\n\
+jsltw r3, 100, -3 ; c603fdff64000000\n\
+jsle r1, r2, +3 ; dd21030000000000\n\
+jslew r3, 100, -3 ; d603fdff64000000\n\
+call 1 ; 8500000001000000\n\
+exit ; 9500000000000000\n\
+";
+
+const MEMORY: &str = "\
+le16 r7 ; d407000010000000\n\
+le32 r7 ; d407000020000000\n\
+le64 r7 ; d407000040000000\n\
+be16 r7 ; dc07000010000000\n\
+be32 r7 ; dc07000020000000\n\
+be64 r7 ; dc07000040000000\n\
+swap16 r7 ; d707000010000000\n\
+swap32 r7 ; d707000020000000\n\
+swap64 r7 ; d707000040000000\n\
+ldxb r1, [r2+8] ; 7121080000000000\n\
+ldxh r1, [r2+8] ; 6921080000000000\n\
+ldxw r1, [r2+8] ; 6121080000000000\n\
+ldxdw r1, [r2+8] ; 7921080000000000\n\
+ldxsb r1, [r2-8] ; 9121f8ff00000000\n\
+ldxsh r1, [r2-8] ; 8921f8ff00000000\n\
+ldxsw r1, [r2-8] ; 8121f8ff00000000\n\
+stb [r10-16], 9 ; 720af0ff09000000\n\
+sth [r10-16], 9 ; 6a0af0ff09000000\n\
+stw [r10-16], 9 ; 620af0ff09000000\n\
+stdw [r10-16], 9 ; 7a0af0ff09000000\n\
+stxb [r10+0], r9 ; 739a000000000000\n\
+stxh [r10+0], r9 ; 6b9a000000000000\n\
+stxw [r10+0], r9 ; 639a000000000000\n\
+stxdw [r10+0], r9 ; 7b9a000000000000\n\
+lddw r1, 0x0123456789abcdef ; 18010000efcdab890000000067452301\n\
+";
 
 /// Programs that clang and llvm-mc made, with their bytes and their listing. The lines are those of
 /// `llvm-objdump -d` in this assembler's words; `outside.tsv` has both side by side.
@@ -238,10 +241,14 @@ fn bytes_of_hex(alloc: Global, digits: &str) -> Result<Vec<u8>, hex::FromHexErro
 
 #[test]
 fn mnemonics_assemble_to_their_bytes(rt: HostRuntime) -> Result<(), Fail> {
-    for (line, digits) in MNEMONIC_LINES {
-        let bytes = assemble(rt.alloc(), line.as_bytes())?;
-        let wanted = bytes_of_hex(rt.alloc(), digits)?;
-        assert_eq!(rt; bytes.as_slice(), wanted.as_slice(), "{line}");
+    for text in [ARITHMETIC, JUMPS, MEMORY] {
+        let mut wanted = Vec::new(rt.alloc());
+        for line in text.lines() {
+            let (_, digits) = line.split_once(" ; ").ok_or("the bytes of each line")?;
+            wanted.extend_from_slice(&bytes_of_hex(rt.alloc(), digits)?)?;
+        }
+        let bytes = assemble(rt.alloc(), text.as_bytes())?;
+        assert_eq!(rt; bytes.as_slice(), wanted.as_slice());
     }
     Ok(())
 }

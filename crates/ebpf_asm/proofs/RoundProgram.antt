@@ -1,0 +1,286 @@
+-- A listing assembles to its program's bytes.
+use Rattle.std.proofs.Common.{◌≡◌, ℕ, ℤ, pos, negsuc, zero, suc, ◌+◌, ◌-◌, ◌<◌, ◌≤◌, ◌^◌, Bool, true, false, not, ◌&&◌, cond, ltb, eqb, List, [], ◌∷◌, ◌++◌, length, get_or, drop, take, map, Option, Some, None, Result, Ok, Err, refl, sym, ap, ◌∙◌, subst, append_assoc, arith}
+use lib.Signed.{mag}
+use Rattle.std.specs.Prelude.{FitsSigned, ok_or}
+use Rattle.std.specs.Int.{w16, w32}
+use Rattle.std.specs.List.{list_all, before_first, position_or_len, flat_map, filter_map, AllByRecursion}
+use Rattle.std.specs.Char.{is_ascii}
+use Rattle.std.specs.Str.Lines.{lines, strip_carriage_return}
+use Rattle.std.proofs.Math.Dec.{eqb-suc-zero}
+use Rattle.std.proofs.lemmas.Bool.{le-ltb}
+use Rattle.std.proofs.lemmas.List.{take_all, take_at, drop_at, append-nil, length-append}
+use Rattle.std.proofs.lemmas.List.Folds.{list_all-append}
+use Rattle.ebpf_decode.specs.declared.insn.Insn.{Insn}
+use Rattle.ebpf_decode.specs.declared.insn.Insn.TheVariants.{LoadImmediate, Load, LoadSigned, StoreImmediate, StoreRegister, Arithmetic, Negate, MoveSigned, SwapBytes, Jump, JumpLong, Branch, Call, Exit}
+use Rattle.ebpf_decode.specs.declared.insn.Source.{Source}
+use Rattle.ebpf_decode.specs.declared.insn.Source.TheVariants as sources
+use Rattle.ebpf_decode.specs.Program.{IsProgram, is_wide, slots_of}
+use Rattle.ebpf_decode.specs.Spelling.{Fits, spelling, instructions_of, program_bytes}
+use Rattle.ebpf_asm.specs.declared.mnemonic.Mnemonic.{Mnemonic}
+use Rattle.ebpf_asm.specs.declared.fault.AsmFault.{AsmFault}
+use Rattle.ebpf_asm.specs.declared.fault.FaultKind.{FaultKind}
+use Rattle.ebpf_asm.specs.declared.fault.FaultKind.TheVariants.{UnknownMnemonic, NotAscii, TooLong}
+use Rattle.ebpf_asm.specs.Fault.{◌>>=◌, read_both}
+use Rattle.ebpf_asm.specs.Mnemonic.{mnemonic_text, mnemonic_named}
+use Rattle.ebpf_asm.specs.Operand.{register_of, source_of, immediate_of, wide_of, memory_of, distance_of, label_of, short_of, long_of}
+use Rattle.ebpf_asm.specs.Cut.{cut_at, is_blank_byte, trimmed, without_first_blanks, without_end_blanks}
+use Rattle.ebpf_asm.specs.Statement.{Statement, statement_of, statement_with, operands_of, one_of, two_of, three_of, none_of}
+use Rattle.ebpf_asm.specs.Line.{Line, line_of, line_in, labelled, behind_label, split_label, with_statement, uncommented, slots_in, slots_of_insn}
+use Rattle.ebpf_asm.specs.Assembly.{LabelMap, lines_of, slot_count, first_fault, bytes_from, label_map, before_later, told_first, assembled, assembled_lines, unless_faulty}
+use Rattle.ebpf_asm.specs.Listing.{mnemonic_of, operand_texts, operands_text, further_texts, insn_text, line_text, listing, register_text, signed_text, memory_text, wide_text, source_text}
+use Rattle.ebpf_asm.proofs.Lines.{lines-cut}
+use Rattle.ebpf_asm.proofs.Passes.{slot_count-push}
+use Rattle.ebpf_asm.proofs.Names.{mnemonic_again, mnemonic_plain}
+use Rattle.ebpf_asm.proofs.Round.{register_again, immediate_again, wide_again}
+use Rattle.ebpf_asm.proofs.RoundOperands.{place_behind, immediate_source_again, register_source_again, memory_again, distance_again, short_again, long_again, no_label}
+use Rattle.ebpf_asm.proofs.RoundLines.{IsPlain, IsText, AreTexts, plain, inline, both_true, not_true, weaker, plain_inline, plain_no_blank, inline_ascii, inline_no_semicolon, inline_no_colon, inline_no_newline, inline_no_return, place_none, cut_none, cut_some, first_text, end_append, end_plain, not_empty, operands_again, register_is_text, signed_decimal_is_text, signed_text_is_text, memory_is_text, wide_is_text}
+
+-- ---- an instruction's text
+
+-- these operands are read as the instruction
+abbrev pub Again : Insn → List (List ℕ) → Type 0
+Again insn [] = statement_of (mnemonic_text (mnemonic_of insn) ++ []) ≡ Ok (insn, None)
+Again insn (first ∷ others) = statement_with (mnemonic_of insn) (first ∷ others) ≡ Ok (insn, None)
+
+-- the operands are texts, and are read as the instruction
+pub record IsListed (insn : Insn) : Type 0 where
+  pub texts : AreTexts (operand_texts insn)
+  pub again : Again insn (operand_texts insn)
+
+abbrev IsSource : Source → Type 0
+IsSource (sources.Immediate z) = FitsSigned w32 z
+IsSource (sources.Register n) = n < 11
+
+source_is_text : (source : Source) → IsSource source → IsText (source_text source)
+source_is_text (sources.Immediate z) fits = signed_decimal_is_text z (omega (arith, fits.sfits))
+source_is_text (sources.Register n) lt = register_is_text n lt
+
+source_again : (source : Source) → IsSource source → source_of (source_text source) ≡ Ok source
+source_again (sources.Immediate z) fits = immediate_source_again z fits
+source_again (sources.Register n) lt = register_source_again n lt
+
+is_source : (width : _) (operation : _) (dst : ℕ) (source : Source) → Fits (Arithmetic width operation dst source) → IsSource source
+is_source width operation dst (sources.Immediate z) fits = fits.immediate
+is_source width operation dst (sources.Register n) fits = fits.src
+
+is_branch_source : (width : _) (relation : _) (dst : ℕ) (source : Source) (distance : ℤ) → Fits (Branch width relation dst source distance) → IsSource source
+is_branch_source width relation dst (sources.Immediate z) distance fits = fits.immediate
+is_branch_source width relation dst (sources.Register n) distance fits = fits.src
+
+pub listed : (insn : Insn) → Fits insn → IsListed insn
+unfolding statement_of operands_of statement_with one_of two_of three_of none_of
+listed (LoadImmediate dst value) fits = record {
+  texts = (register_is_text dst fits.dst, (wide_is_text value fits.value, tt));
+  again = rw (register_again dst fits.dst, wide_again value fits.value) refl;
+}
+listed (Load size dst src offset) fits = record {
+  texts = (register_is_text dst fits.dst, (memory_is_text src offset fits.src (omega (arith, fits.offset.sfits)), tt));
+  again = rw (register_again dst fits.dst, memory_again src offset fits.src fits.offset) refl;
+}
+listed (LoadSigned size dst src offset) fits = record {
+  texts = (register_is_text dst fits.dst, (memory_is_text src offset fits.src (omega (arith, fits.offset.sfits)), tt));
+  again = rw (register_again dst fits.dst, memory_again src offset fits.src fits.offset) refl;
+}
+listed (StoreImmediate size dst offset value) fits = record {
+  texts = (memory_is_text dst offset fits.dst (omega (arith, fits.offset.sfits)), (signed_decimal_is_text value (omega (arith, fits.immediate.sfits)), tt));
+  again = rw (memory_again dst offset fits.dst fits.offset, immediate_again value fits.immediate) refl;
+}
+listed (StoreRegister size dst src offset) fits = record {
+  texts = (memory_is_text dst offset fits.dst (omega (arith, fits.offset.sfits)), (register_is_text src fits.src, tt));
+  again = rw (memory_again dst offset fits.dst fits.offset, register_again src fits.src) refl;
+}
+listed (Arithmetic width operation dst source) fits = record {
+  texts = (register_is_text dst fits.dst, (source_is_text source (is_source width operation dst source fits), tt));
+  again = rw (register_again dst fits.dst, source_again source (is_source width operation dst source fits)) refl;
+}
+listed (Negate width dst) fits = record { texts = (register_is_text dst fits.dst, tt); again = rw (register_again dst fits.dst) refl }
+listed (MoveSigned extension dst src) fits = record {
+  texts = (register_is_text dst fits.dst, (register_is_text src fits.src, tt));
+  again = rw (register_again dst fits.dst, register_again src fits.src) refl;
+}
+listed (SwapBytes swap size dst) fits = record { texts = (register_is_text dst fits.dst, tt); again = rw (register_again dst fits.dst) refl }
+listed (Jump distance) fits = record {
+  texts = (signed_text_is_text distance (omega (arith, fits.offset.sfits)), tt);
+  again = rw (distance_again short_of distance (omega (arith, fits.offset.sfits)) (short_again distance fits.offset), no_label distance) refl;
+}
+listed (JumpLong distance) fits = record {
+  texts = (signed_text_is_text distance (omega (arith, fits.immediate.sfits)), tt);
+  again = rw (distance_again long_of distance (omega (arith, fits.immediate.sfits)) (long_again distance fits.immediate), no_label distance) refl;
+}
+listed (Branch width relation dst source distance) fits = record {
+  texts = (register_is_text dst fits.dst, (source_is_text source (is_branch_source width relation dst source distance fits), (signed_text_is_text distance (omega (arith, fits.offset.sfits)), tt)));
+  again = rw (register_again dst fits.dst, source_again source (is_branch_source width relation dst source distance fits), distance_again short_of distance (omega (arith, fits.offset.sfits)) (short_again distance fits.offset), no_label distance) refl;
+}
+listed (Call helper) fits = record {
+  texts = (signed_decimal_is_text helper (omega (arith, fits.immediate.sfits)), tt);
+  again = rw (immediate_again helper fits.immediate) refl;
+}
+listed Exit fits = record { texts = tt; again = refl }
+
+-- ---- a line
+
+nothing_else : (n : ℕ) (x y : Line) → 0 < n → cond (eqb n 0) x y ≡ y
+nothing_else zero x y some = absurd (omega arith)
+nothing_else (suc n) x y some = ap (λ c. cond c x y) (eqb-suc-zero n)
+
+text_is_some : (m : Mnemonic) → IsText (mnemonic_text m)
+text_is_some m = record { bytes = mnemonic_plain m; some = some (mnemonic_text m) (mnemonic_again m) }
+  where
+    some : (text : List ℕ) → mnemonic_named text ≡ Some m → 0 < length text
+    some [] e = absurd cc
+    some (b ∷ text) e = omega arith
+
+plain_is_inline : (text : List ℕ) → IsPlain text → list_all inline text ≡ true
+plain_is_inline text h = weaker plain inline plain_inline text h
+
+inline_append : (xs ys : List ℕ) → list_all inline xs ≡ true → list_all inline ys ≡ true → list_all inline (xs ++ ys) ≡ true
+inline_append xs ys h g = list_all-append inline xs ys ∙ rw (h, g) refl
+
+inline_further : (texts : List (List ℕ)) → AreTexts texts → list_all inline (further_texts texts) ≡ true
+inline_further [] h = refl
+inline_further (t ∷ ts) h = inline_append (44 ∷ 32 ∷ t) (further_texts ts) (plain_is_inline t h.0.bytes) (inline_further ts h.1)
+
+inline_operands : (texts : List (List ℕ)) → AreTexts texts → list_all inline (operands_text texts) ≡ true
+inline_operands [] h = refl
+inline_operands (t ∷ ts) h = inline_append t (further_texts ts) (plain_is_inline t h.0.bytes) (inline_further ts h.1)
+
+end_further : (xs first : List ℕ) (others : List (List ℕ)) → IsText first → AreTexts others → without_end_blanks (xs ++ (first ++ further_texts others)) ≡ xs ++ (first ++ further_texts others)
+end_further xs first [] h hs =
+    ap (λ t. without_end_blanks (xs ++ t)) (append-nil first) ∙ end_append xs first h.some (end_plain first h.bytes) ∙ ap (λ t. xs ++ t) (sym (append-nil first))
+end_further xs first (o ∷ os) h hs =
+    let regroup : xs ++ (first ++ further_texts (o ∷ os)) ≡ (xs ++ (first ++ 44 ∷ 32 ∷ [])) ++ (o ++ further_texts os) =
+    ap (λ t. xs ++ t) (sym (append_assoc first (44 ∷ 32 ∷ []) (o ++ further_texts os))) ∙ sym (append_assoc xs (first ++ 44 ∷ 32 ∷ []) (o ++ further_texts os)) in
+    ap without_end_blanks regroup ∙ end_further (xs ++ (first ++ 44 ∷ 32 ∷ [])) o os hs.0 hs.1 ∙ sym regroup
+
+end_operands : (m : List ℕ) (texts : List (List ℕ)) → IsText m → AreTexts texts → without_end_blanks (m ++ operands_text texts) ≡ m ++ operands_text texts
+end_operands m [] h hs = ap without_end_blanks (append-nil m) ∙ end_plain m h.bytes ∙ sym (append-nil m)
+end_operands m (t ∷ ts) h hs =
+    let regroup : m ++ operands_text (t ∷ ts) ≡ (m ++ 32 ∷ []) ++ (t ++ further_texts ts) = sym (append_assoc m (32 ∷ []) (t ++ further_texts ts)) in
+    ap without_end_blanks regroup ∙ end_further (m ++ 32 ∷ []) t ts hs.0 hs.1 ∙ sym regroup
+
+-- the statement of a mnemonic and operands
+word_again : (m : Mnemonic) (rest : List ℕ) → (before_first is_blank_byte (mnemonic_text m ++ 32 ∷ rest) ≡ mnemonic_text m) × (drop (position_or_len is_blank_byte (mnemonic_text m ++ 32 ∷ rest)) (mnemonic_text m ++ 32 ∷ rest) ≡ 32 ∷ rest)
+word_again m rest =
+    let text = mnemonic_text m in
+    let place = place_behind is_blank_byte text 32 rest (weaker plain (λ b. not (is_blank_byte b)) plain_no_blank text (mnemonic_plain m)) refl in
+    (ap (λ n. take n (text ++ 32 ∷ rest)) place ∙ take_at text (32 ∷ rest) (length text) refl, ap (λ n. drop n (text ++ 32 ∷ rest)) place ∙ drop_at text (32 ∷ rest) (length text) refl)
+
+abbrev named : Option Mnemonic → List (List ℕ) → Result Statement FaultKind
+named None operands = Err UnknownMnemonic
+named (Some m) operands = statement_with m operands
+
+statement_is : (text : List ℕ) → statement_of text ≡ named (mnemonic_named (before_first is_blank_byte text)) (operands_of (drop (position_or_len is_blank_byte text) text))
+unfolding statement_of
+statement_is text = at (mnemonic_named (before_first is_blank_byte text))
+  where
+    at : (o : Option Mnemonic) → (ok_or o UnknownMnemonic >>= λ m. statement_with m (operands_of (drop (position_or_len is_blank_byte text) text))) ≡ named o (operands_of (drop (position_or_len is_blank_byte text) text))
+    at None = refl
+    at (Some m) = refl
+
+statement_again : (m : Mnemonic) (first : List ℕ) (others : List (List ℕ)) → AreTexts (first ∷ others) → statement_of (mnemonic_text m ++ operands_text (first ∷ others)) ≡ statement_with m (first ∷ others)
+statement_again m first others h =
+    let words = word_again m (first ++ further_texts others) in
+    statement_is (mnemonic_text m ++ operands_text (first ∷ others))
+    ∙ ap (λ t. named (mnemonic_named t) (operands_of (drop (position_or_len is_blank_byte (mnemonic_text m ++ operands_text (first ∷ others))) (mnemonic_text m ++ operands_text (first ∷ others))))) words.0
+    ∙ ap (λ t. named (mnemonic_named (mnemonic_text m)) (operands_of t)) words.1
+    ∙ ap (λ o. named o (operands_of (operands_text (first ∷ others)))) (mnemonic_again m)
+    ∙ ap (statement_with m) (operands_again first others h.0 h.1)
+
+-- a text of such bytes, without blanks at its ends, is a line with that statement
+line_again : (text : List ℕ) → list_all inline text ≡ true → trimmed text ≡ text → 0 < length text → line_of text ≡ with_statement None (statement_of text)
+unfolding line_of
+line_again text h ends some =
+    let clean : uncommented text ≡ text = ap (λ n. take n text) (place_none (λ b. eqb b 59) text (weaker inline (λ b. not (eqb b 59)) inline_no_semicolon text h)) ∙ take_all (length text) text (omega arith) in
+    ap (λ b. cond b (line_in (trimmed (uncommented text))) (record { label = None; insn = Err NotAscii; target = None })) (weaker inline is_ascii inline_ascii text h)
+    ∙ ap (λ t. line_in (trimmed t)) clean ∙ ap line_in ends
+    ∙ ap (λ c. behind_label (split_label text c)) (cut_none 58 text (weaker inline (λ b. not (eqb b 58)) inline_no_colon text h))
+    ∙ ap (labelled None) ends ∙ nothing_else (length text) (record { label = None; insn = Ok None; target = None }) (with_statement None (statement_of text)) some
+
+abbrev pub line_with : Insn → Line
+line_with insn = record { label = None; insn = Ok (Some insn); target = None }
+
+statement_listed : (insn : Insn) (texts : List (List ℕ)) → AreTexts texts → Again insn texts → statement_of (mnemonic_text (mnemonic_of insn) ++ operands_text texts) ≡ Ok (insn, None)
+statement_listed insn [] h again = again
+statement_listed insn (first ∷ others) h again = statement_again (mnemonic_of insn) first others h ∙ again
+
+inline_insn : (insn : Insn) → IsListed insn → list_all inline (insn_text insn) ≡ true
+inline_insn insn h =
+    inline_append (mnemonic_text (mnemonic_of insn)) (operands_text (operand_texts insn)) (plain_is_inline (mnemonic_text (mnemonic_of insn)) (mnemonic_plain (mnemonic_of insn))) (inline_operands (operand_texts insn) h.texts)
+
+insn_line : (insn : Insn) → IsListed insn → line_of (insn_text insn) ≡ line_with insn
+insn_line insn h =
+    let m = mnemonic_text (mnemonic_of insn) in
+    let word = text_is_some (mnemonic_of insn) in
+    let ends : trimmed (insn_text insn) ≡ insn_text insn = ap without_end_blanks (first_text m (operands_text (operand_texts insn)) word) ∙ end_operands m (operand_texts insn) word h.texts in
+    line_again (insn_text insn) (inline_insn insn h) ends (omega (arith, length-append m (operands_text (operand_texts insn)), word.some))
+    ∙ ap (with_statement None) (statement_listed insn (operand_texts insn) h.texts h.again)
+
+-- ---- the lines
+
+no_return_at : (l : List ℕ) (k : ℕ) → list_all (λ b. not (eqb b 13)) l ≡ true → eqb (get_or l k 0) 13 ≡ false
+no_return_at [] k h = refl
+no_return_at (b ∷ l) zero h = not_true (eqb b 13) (both_true (not (eqb b 13)) (list_all (λ c. not (eqb c 13)) l) h).0
+no_return_at (b ∷ l) (suc k) h = no_return_at l k (both_true (not (eqb b 13)) (list_all (λ c. not (eqb c 13)) l) h).1
+
+lines_again : (insns : List Insn) → AllByRecursion IsListed insns → lines (flat_map line_text insns) ≡ map insn_text insns
+lines_again [] h = refl
+lines_again (insn ∷ insns) h =
+    let text = insn_text insn in
+    let rest = flat_map line_text insns in
+    let bytes = inline_insn insn h.0 in
+    let stripped : text ≡ strip_carriage_return text = sym (ap (λ c. cond c (take (length text - 1) text) text) (no_return_at text (length text - 1) (weaker inline (λ b. not (eqb b 13)) inline_no_return text bytes))) in
+    ap lines (append_assoc text (10 ∷ []) rest)
+    ∙ lines-cut (text ++ 10 ∷ rest) text rest text (sym (cut_some 10 text rest refl (weaker inline (λ b. not (eqb b 10)) inline_no_newline text bytes))) stripped
+    ∙ ap (λ ls. text ∷ ls) (lines_again insns h.1)
+
+read_again : (insns : List Insn) → AllByRecursion IsListed insns → map line_of (map insn_text insns) ≡ map line_with insns
+read_again [] h = refl
+read_again (insn ∷ insns) h = rw (insn_line insn h.0, read_again insns h.1) refl
+
+-- ---- the passes
+
+no_fault : (before : List Line) (insns : List Insn) → slot_count before + slot_count (map line_with insns) ≤ 4096 → first_fault before (map line_with insns) ≡ None
+no_fault before [] h = refl
+no_fault before (insn ∷ insns) h =
+    let line = line_with insn in
+    let later = no_fault (before ++ line ∷ []) insns (omega (arith, h, slot_count-push before line)) in
+    ap (λ c. told_first (length before + 1) (cond c (Some TooLong) None) (first_fault (before ++ line ∷ []) (map line_with insns))) (le-ltb 4096 (slot_count before + slots_in line) (omega (arith, h))) ∙ later
+
+bytes_again : (labels : LabelMap) (number slot : ℕ) (insns : List Insn) → bytes_from labels number slot (map line_with insns) ≡ Ok (flat_map spelling insns)
+bytes_again labels number slot [] = refl
+bytes_again labels number slot (insn ∷ insns) = ap (before_later number (Ok insn)) (bytes_again labels (number + 1) (slot + slots_in (line_with insn)) insns)
+
+slots_counted : (insns : List Insn) → slot_count (map line_with insns) ≡ length (slots_of insns)
+slots_counted [] = refl
+slots_counted (insn ∷ insns) = one (is_wide insn) (slots_counted insns)
+  where
+    one : (b : Bool) → slot_count (map line_with insns) ≡ length (slots_of insns) → cond b 2 1 + slot_count (map line_with insns) ≡ length (cond b (Some insn ∷ None ∷ slots_of insns) (Some insn ∷ slots_of insns))
+    one true e = omega (arith, e)
+    one false e = omega (arith, e)
+
+instructions_again : (insns : List Insn) → instructions_of (slots_of insns) ≡ insns
+instructions_again [] = refl
+instructions_again (insn ∷ insns) = one (is_wide insn) ∙ ap (λ is. insn ∷ is) (instructions_again insns)
+  where
+    one : (b : Bool) → filter_map (λ i. i) (cond b (Some insn ∷ None ∷ slots_of insns) (Some insn ∷ slots_of insns)) ≡ insn ∷ filter_map (λ i. i) (slots_of insns)
+    one true = refl
+    one false = refl
+
+all_listed : (insns : List Insn) → AllByRecursion Fits insns → AllByRecursion IsListed insns
+all_listed [] h = tt
+all_listed (insn ∷ insns) h = (listed insn h.0, all_listed insns h.1)
+
+insns_again : (insns : List Insn) → AllByRecursion Fits insns → length (slots_of insns) ≤ 4096 → assembled (flat_map line_text insns) ≡ Ok (flat_map spelling insns)
+insns_again insns fits most =
+    let good = all_listed insns fits in
+    let all : lines_of (flat_map line_text insns) ≡ map line_with insns = ap (map line_of) (lines_again insns good) ∙ read_again insns good in
+    ap assembled_lines all
+    ∙ ap (λ f. unless_faulty f (bytes_from (label_map (map line_with insns)) 1 0 (map line_with insns))) (no_fault [] insns (omega (arith, most, slots_counted insns)))
+    ∙ bytes_again (label_map (map line_with insns)) 1 0 insns
+
+pub listing_again : (slots : List (Option Insn)) → IsProgram slots → assembled (listing slots) ≡ Ok (program_bytes slots)
+listing_again slots p =
+    let insns : instructions_of slots ≡ p.instructions = ap instructions_of p.layout ∙ instructions_again p.instructions in
+    ap (λ is. assembled (flat_map line_text is)) insns
+    ∙ insns_again p.instructions p.fits (subst (λ (ss : List (Option Insn)). length ss ≤ 4096) p.layout p.most)
+    ∙ sym (ap (λ (is : List Insn). Ok (flat_map spelling is)) insns)

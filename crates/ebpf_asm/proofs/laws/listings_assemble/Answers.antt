@@ -1,0 +1,5 @@
+use Rattle.ebpf_asm.proofs.RoundProgram.{listing_again}
+use Rattle.ebpf_asm.proofs.laws.listings_assemble.Goals as goal
+
+pub returns : goal.returns
+returns c = listing_again
