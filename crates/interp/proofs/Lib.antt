@@ -1,4 +1,5 @@
 pub mod CauseLemmas
+pub mod Entry
 pub mod MapLemmas
 pub mod MemoryLemmas
 pub mod Running

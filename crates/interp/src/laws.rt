@@ -1,6 +1,6 @@
 //! Laws of the definitions: each function's contract is one, and its body is empty.
 
-ghost use Rattle.interp.specs.Laws.{AccessIsMapped, ChangesOnly, EndsWithMoreFuel, KeepsGroupLimit, KeepsState, LeadsToInstruction, LoadsFromMap, StoresIntoMap, StuckByLeast};
+ghost use Rattle.interp.specs.Laws.{AccessIsMapped, BeginsAtInstruction, ChangesOnly, EndsWithMoreFuel, EntryIsState, KeepsGroupLimit, KeepsState, LeadsToInstruction, LoadsFromMap, StoresIntoMap, StuckByLeast};
 
 /// Bytes lie in one area exactly where each of them is in the map from addresses to bytes.
 pub fn access_is_mapped()
@@ -31,6 +31,16 @@ pub fn stuck_by_least()
 /// A run that has ended ends the same with more fuel.
 pub fn ends_with_more_fuel()
     ensures { EndsWithMoreFuel }
+{}
+
+/// An instruction begins at a program's slot 0, where a run starts.
+pub fn begins_at_instruction()
+    ensures { BeginsAtInstruction }
+{}
+
+/// What holds of a state holds at the start of a block run.
+pub fn entry_is_state()
+    ensures { EntryIsState }
 {}
 
 /// A step keeps what holds of a state: eleven words, R10 as it was, and the lengths and bytes of
