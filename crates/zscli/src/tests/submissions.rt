@@ -28,7 +28,7 @@ fn append_past_the_capacity(rt: HostRuntime) -> Result<(), Fail> {
 #[test]
 fn entries_that_are_refused(rt: HostRuntime) -> Result<(), Fail> {
     let mut g1 = Submissions::new(rt.alloc());
-    g1.submit("01000600", 8, 1, 512, "00000000000000000000010006000200", 0)?;
+    g1.submit("03010600", 8, 1, 512, "00000000000000000000010006000200", 0)?;
     g1.append(6, 9, 1, "00000000000000000000010006000400")?;
     g1.check(&rt)
 }
