@@ -1,10 +1,10 @@
 -- The lines of a text, one after the other.
-use Rattle.std.proofs.Common.{◌≡◌, ℕ, ◌<◌, ◌≤◌, ◌+◌, suc, Bool, true, false, cond, not, ltb, eqb, List, [], ◌∷◌, length, Option, Some, None, refl, sym, ap, ◌∙◌, arith}
-use Rattle.std.specs.List.{slice_split, onto_first, before_first, after_first, position_or_len}
+use Rattle.std.proofs.Common.{◌≡◌, ℕ, ◌<◌, cond, eqb, List, [], ◌∷◌, length, Some, None, sym, ap, ◌∙◌, arith}
+use Rattle.std.specs.List.{slice_split}
 use Rattle.std.specs.Str.Lines.{lines, lines_of_parts, strip_carriage_return}
 use Rattle.std.proofs.Math.Dec.{eqb-suc-zero}
 use Rattle.ebpf_asm.specs.Cut.{cut_at}
-use Rattle.ebpf_asm.proofs.Parts.{HasFirst, split_some, split_whole, split_more}
+use Rattle.ebpf_asm.proofs.Parts.{split_some, split_whole, split_more}
 
 behind_first : (line : List ℕ) (parts : List (List ℕ)) → (first : List ℕ) × (rest : List (List ℕ)) × (parts ≡ first ∷ rest) → lines_of_parts (line ∷ parts) ≡ strip_carriage_return line ∷ lines_of_parts parts
 behind_first line parts h = ap (λ ps. lines_of_parts (line ∷ ps)) h.2 ∙ ap (λ ps. strip_carriage_return line ∷ lines_of_parts ps) (sym h.2)

@@ -1,5 +1,5 @@
 -- Operands: what stands between commas.
-use Rattle.std.proofs.Common.{◌≡◌, ℕ, cond, eqb, List, [], ◌∷◌, length, map, Option, Some, None, Result, Ok, Err, refl, sym, ap}
+use Rattle.std.proofs.Common.{◌≡◌, ℕ, cond, eqb, List, [], ◌∷◌, length, map, Some, None, Result, Ok, Err, refl, sym, ap}
 use Rattle.std.proofs.Math.Dec.{eqb-suc-zero}
 use Rattle.ebpf_asm.specs.declared.fault.FaultKind.{FaultKind}
 use Rattle.ebpf_asm.specs.declared.fault.FaultKind.TheVariants.{Operand}

@@ -1,14 +1,14 @@
 -- The lines of a listing are read again.
-use Rattle.std.proofs.Common.{◌≡◌, ℕ, ℤ, pos, negsuc, zero, suc, ◌+◌, ◌-◌, ◌<◌, ◌≤◌, ◌^◌, Bool, true, false, not, ◌&&◌, ◌||◌, cond, ltb, leb, eqb, List, [], ◌∷◌, ◌++◌, length, get_or, drop, take, map, replicate, Option, Some, None, Result, Ok, Err, refl, sym, ap, ◌∙◌, subst, append_assoc, arith}
+use Rattle.std.proofs.Common.{◌≡◌, ℕ, ℤ, pos, negsuc, zero, suc, ◌+◌, ◌-◌, ◌<◌, ◌^◌, Bool, true, false, not, ◌&&◌, ◌||◌, cond, ltb, eqb, List, [], ◌∷◌, ◌++◌, length, drop, take, map, replicate, Some, None, refl, sym, ap, ◌∙◌, subst, append_assoc, arith}
 use lib.Signed.{mag}
-use Rattle.std.specs.List.{list_all, before_first, after_first, position_or_len, slice_split, flat_map, All}
+use Rattle.std.specs.List.{list_all, before_first, after_first, position_or_len, slice_split}
 use Rattle.std.specs.Char.{digit_value, is_ascii}
 use Rattle.std.specs.Str.Parse.{AllDigits}
 use Rattle.std.specs.Fmt.{decimal, signed_decimal, digits}
 use Rattle.std.proofs.Math.Dec.{eqb-suc-zero}
 use Rattle.std.proofs.lemmas.Bool.{lt-ltb, le-ltb}
 use Rattle.std.proofs.lemmas.Bool.Decides.{nat_tests}
-use Rattle.std.proofs.lemmas.List.{take_all, take_at, drop_at, append-nil, length-append}
+use Rattle.std.proofs.lemmas.List.{take_at, drop_at, append-nil, length-append}
 use Rattle.std.proofs.lemmas.List.Folds.{list_all-append}
 use Rattle.std.proofs.lemmas.Fmt.{decimal_is_IsNumeral, digits_is_IsNumeral}
 use Rattle.std.proofs.lemmas.Str.Parse.{digit_from_value}
@@ -16,7 +16,7 @@ use Rattle.ebpf_asm.specs.Cut.{cut_at, is_blank_byte, without_first_blanks, with
 use Rattle.ebpf_asm.specs.Statement.{operands_of}
 use Rattle.ebpf_asm.specs.Listing.{further_texts, operands_text, register_text, signed_text, memory_text, wide_text}
 use Rattle.ebpf_asm.proofs.Parts.{split_whole, split_more}
-use Rattle.ebpf_asm.proofs.RoundOperands.{place_behind, signed_text-parts, sign_of, magnitude}
+use Rattle.ebpf_asm.proofs.RoundOperands.{place_behind, signed_text-parts}
 
 -- bytes of mnemonics and operands
 abbrev pub plain : ℕ → Bool

@@ -1,24 +1,22 @@
 -- Operands that are listed are read again.
-use Rattle.std.proofs.Common.{◌≡◌, ℕ, ℤ, pos, negsuc, neg_ℤ, zero, suc, ◌+◌, ◌-◌, ◌<◌, ◌≤◌, ◌^◌, Bool, true, false, not, ◌&&◌, ◌||◌, cond, ltb, leb, eqb, List, [], ◌∷◌, ◌++◌, length, get_or, drop, take, Option, Some, None, Result, Ok, Err, refl, sym, ap, ◌∙◌, subst, arith}
+use Rattle.std.proofs.Common.{◌≡◌, ℕ, ℤ, pos, negsuc, neg_ℤ, suc, ◌+◌, ◌-◌, ◌<◌, ◌^◌, Bool, true, false, not, ◌&&◌, cond, ltb, eqb, List, [], ◌∷◌, ◌++◌, length, get_or, drop, take, Some, None, Result, Ok, Err, refl, ap, ◌∙◌, arith}
 use lib.Signed.{mag}
 use Rattle.std.specs.Prelude.{FitsSigned}
 use Rattle.std.specs.Int.{w16, w32}
 use Rattle.std.specs.List.{list_all, before_first, position_or_len}
-use Rattle.std.specs.Char.{digit_value}
 use Rattle.std.specs.Str.Parse.{AllDigits}
 use Rattle.std.specs.Fmt.{decimal, signed_decimal}
 use Rattle.std.proofs.Math.Dec.{eqb-suc-zero}
-use Rattle.std.proofs.lemmas.Bool.{lt-ltb, le-leb}
+use Rattle.std.proofs.lemmas.Bool.{le-leb}
 use Rattle.std.proofs.lemmas.Bool.Decides.{nat_tests}
 use Rattle.std.proofs.lemmas.Fmt.{decimal_is_IsNumeral}
 use Rattle.std.proofs.lemmas.Str.Parse.{digit_from_value}
 use Rattle.std.proofs.lemmas.List.{take_at, drop_at, get_or_at, length-append}
-use Rattle.ebpf_decode.specs.declared.insn.Source.{Source}
 use Rattle.ebpf_decode.specs.declared.insn.Source.TheVariants as sources
 use Rattle.ebpf_asm.specs.declared.fault.FaultKind.{FaultKind}
-use Rattle.ebpf_asm.specs.declared.fault.FaultKind.TheVariants.{Operand, OutOfRange}
+use Rattle.ebpf_asm.specs.declared.fault.FaultKind.TheVariants.{Operand}
 use Rattle.ebpf_asm.specs.Fault.{◌>>=◌, read_both}
-use Rattle.ebpf_asm.specs.Operand.{register_of, immediate_of, source_of, signed_of, magnitude_of, short_of, long_of, in_range, offset_of, memory_of, distance_of, label_of, is_label_name, is_sign_byte, inside_brackets}
+use Rattle.ebpf_asm.specs.Operand.{register_of, immediate_of, source_of, signed_of, short_of, long_of, offset_of, memory_of, distance_of, label_of, is_label_name, is_sign_byte, inside_brackets}
 use Rattle.ebpf_asm.specs.Listing.{register_text, signed_text, source_text, memory_text}
 use Rattle.ebpf_asm.proofs.Round.{register_again, magnitude_again, immediate_again}
 

@@ -1,8 +1,7 @@
 -- A listing assembles to its program's bytes.
-use Rattle.std.proofs.Common.{◌≡◌, ℕ, ℤ, pos, negsuc, zero, suc, ◌+◌, ◌-◌, ◌<◌, ◌≤◌, ◌^◌, Bool, true, false, not, ◌&&◌, cond, ltb, eqb, List, [], ◌∷◌, ◌++◌, length, get_or, drop, take, map, Option, Some, None, Result, Ok, Err, refl, sym, ap, ◌∙◌, subst, append_assoc, arith}
-use lib.Signed.{mag}
+use Rattle.std.proofs.Common.{◌≡◌, ℕ, ℤ, zero, suc, ◌+◌, ◌-◌, ◌<◌, ◌≤◌, Bool, true, false, not, cond, eqb, List, [], ◌∷◌, ◌++◌, length, get_or, drop, take, map, Option, Some, None, Result, Ok, Err, refl, sym, ap, ◌∙◌, subst, append_assoc, arith}
 use Rattle.std.specs.Prelude.{FitsSigned, ok_or}
-use Rattle.std.specs.Int.{w16, w32}
+use Rattle.std.specs.Int.{w32}
 use Rattle.std.specs.List.{list_all, before_first, position_or_len, flat_map, filter_map, AllByRecursion}
 use Rattle.std.specs.Char.{is_ascii}
 use Rattle.std.specs.Str.Lines.{lines, strip_carriage_return}
@@ -17,23 +16,22 @@ use Rattle.ebpf_decode.specs.declared.insn.Source.TheVariants as sources
 use Rattle.ebpf_decode.specs.Program.{IsProgram, is_wide, slots_of}
 use Rattle.ebpf_decode.specs.Spelling.{Fits, spelling, instructions_of, program_bytes}
 use Rattle.ebpf_asm.specs.declared.mnemonic.Mnemonic.{Mnemonic}
-use Rattle.ebpf_asm.specs.declared.fault.AsmFault.{AsmFault}
 use Rattle.ebpf_asm.specs.declared.fault.FaultKind.{FaultKind}
 use Rattle.ebpf_asm.specs.declared.fault.FaultKind.TheVariants.{UnknownMnemonic, NotAscii, TooLong}
-use Rattle.ebpf_asm.specs.Fault.{◌>>=◌, read_both}
+use Rattle.ebpf_asm.specs.Fault.{◌>>=◌}
 use Rattle.ebpf_asm.specs.Mnemonic.{mnemonic_text, mnemonic_named}
-use Rattle.ebpf_asm.specs.Operand.{register_of, source_of, immediate_of, wide_of, memory_of, distance_of, label_of, short_of, long_of}
-use Rattle.ebpf_asm.specs.Cut.{cut_at, is_blank_byte, trimmed, without_first_blanks, without_end_blanks}
+use Rattle.ebpf_asm.specs.Operand.{source_of, short_of, long_of}
+use Rattle.ebpf_asm.specs.Cut.{is_blank_byte, trimmed, without_end_blanks}
 use Rattle.ebpf_asm.specs.Statement.{Statement, statement_of, statement_with, operands_of, one_of, two_of, three_of, none_of}
-use Rattle.ebpf_asm.specs.Line.{Line, line_of, line_in, labelled, behind_label, split_label, with_statement, uncommented, slots_in, slots_of_insn}
+use Rattle.ebpf_asm.specs.Line.{Line, line_of, line_in, labelled, behind_label, split_label, with_statement, uncommented, slots_in}
 use Rattle.ebpf_asm.specs.Assembly.{LabelMap, lines_of, slot_count, first_fault, bytes_from, label_map, before_later, told_first, assembled, assembled_lines, unless_faulty}
-use Rattle.ebpf_asm.specs.Listing.{mnemonic_of, operand_texts, operands_text, further_texts, insn_text, line_text, listing, register_text, signed_text, memory_text, wide_text, source_text}
+use Rattle.ebpf_asm.specs.Listing.{mnemonic_of, operand_texts, operands_text, further_texts, insn_text, line_text, listing, source_text}
 use Rattle.ebpf_asm.proofs.Lines.{lines-cut}
 use Rattle.ebpf_asm.proofs.Passes.{slot_count-push}
 use Rattle.ebpf_asm.proofs.Names.{mnemonic_again, mnemonic_plain}
 use Rattle.ebpf_asm.proofs.Round.{register_again, immediate_again, wide_again}
 use Rattle.ebpf_asm.proofs.RoundOperands.{place_behind, immediate_source_again, register_source_again, memory_again, distance_again, short_again, long_again, no_label}
-use Rattle.ebpf_asm.proofs.RoundLines.{IsPlain, IsText, AreTexts, plain, inline, both_true, not_true, weaker, plain_inline, plain_no_blank, inline_ascii, inline_no_semicolon, inline_no_colon, inline_no_newline, inline_no_return, place_none, cut_none, cut_some, first_text, end_append, end_plain, not_empty, operands_again, register_is_text, signed_decimal_is_text, signed_text_is_text, memory_is_text, wide_is_text}
+use Rattle.ebpf_asm.proofs.RoundLines.{IsPlain, IsText, AreTexts, plain, inline, both_true, not_true, weaker, plain_inline, plain_no_blank, inline_ascii, inline_no_semicolon, inline_no_colon, inline_no_newline, inline_no_return, place_none, cut_none, cut_some, first_text, end_append, end_plain, operands_again, register_is_text, signed_decimal_is_text, signed_text_is_text, memory_is_text, wide_is_text}
 
 -- ---- an instruction's text
 

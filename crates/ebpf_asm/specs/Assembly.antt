@@ -11,7 +11,6 @@ use Rattle.ebpf_asm.specs.declared.fault.AssembleError.{AssembleError}
 use Rattle.ebpf_asm.specs.declared.fault.AssembleError.TheVariants as errors
 use Rattle.ebpf_asm.specs.declared.fault.FaultKind.{FaultKind}
 use Rattle.ebpf_asm.specs.declared.fault.FaultKind.TheVariants.{LabelTwice, TooLong, UnknownLabel, LabelTooFar}
-use Rattle.ebpf_asm.specs.Fault.{◌>>=◌}
 use Rattle.ebpf_asm.specs.Operand.{short_of, long_of}
 use Rattle.ebpf_asm.specs.Line.{Line, line_of, slots_in, slots_of_insn}
 

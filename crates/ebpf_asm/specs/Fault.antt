@@ -1,5 +1,5 @@
 -- What is wrong with a text, and how readings follow one another (profile).
-use Rattle.std.specs.Prelude.{ℕ, Option, Some, None, Result, Ok, Err}
+use Rattle.std.specs.Prelude.{ℕ, Result, Ok, Err}
 use Rattle.ebpf_asm.specs.declared.fault.FaultKind.{FaultKind}
 use Rattle.ebpf_asm.specs.declared.fault.FaultKind.TheVariants.{UnknownMnemonic, Operand, OutOfRange, UnknownLabel, LabelTwice, LabelTooFar, TooLong, NotAscii}
 

@@ -1,5 +1,5 @@
 -- Lines (profile): an optional label, an optional statement, an optional comment.
-use Rattle.std.specs.Prelude.{ℕ, ◌==◌, if◌then◌else◌, List, [], ◌∷◌, length, Option, Some, None, Result, Ok, Err}
+use Rattle.std.specs.Prelude.{ℕ, ◌==◌, if◌then◌else◌, List, length, Option, Some, None, Result, Ok, Err}
 use Rattle.std.specs.List.{list_all, before_first}
 use Rattle.std.specs.Char.{is_ascii}
 use Rattle.ebpf_decode.specs.declared.insn.Insn.{Insn}

@@ -1,5 +1,5 @@
 -- Mnemonics (profile): one table, from which a mnemonic has its text and a word its mnemonic.
-use Rattle.std.specs.Prelude.{List, [], ◌∷◌, ◌++◌, ℕ, Option, find, codes}
+use Rattle.std.specs.Prelude.{List, ◌++◌, ℕ, Option, find, codes}
 use Rattle.std.specs.Str.{bytes_eq}
 use Rattle.ebpf_decode.specs.declared.operation.Width.{Width}
 use Rattle.ebpf_decode.specs.declared.operation.Width.TheVariants as widths

@@ -1,5 +1,5 @@
 -- Statements (profile): a mnemonic and its operands.
-use Rattle.std.specs.Prelude.{ℕ, ℤ, pos, ◌==◌, List, [], ◌∷◌, length, drop, map, Option, Some, None, ok_or, Result, Ok, Err, if◌then◌else◌}
+use Rattle.std.specs.Prelude.{ℕ, ◌==◌, List, [], ◌∷◌, drop, map, Option, None, ok_or, Result, Ok, Err}
 use Rattle.std.specs.List.{slice_split, before_first, position_or_len}
 use Rattle.ebpf_decode.specs.declared.insn.Insn.{Insn}
 use Rattle.ebpf_decode.specs.declared.insn.Insn.TheVariants as insns

@@ -1,4 +1,4 @@
-use Rattle.std.proofs.Common.{rules, arith, ◌∙◌}
+use Rattle.std.proofs.Common.{arith, ◌∙◌}
 use Rattle.std.proofs.lemmas.List.{take_all, drop_all}
 use Rattle.ebpf_asm.proofs.Lines.{lines-cut, lines-last}
 use Rattle.ebpf_asm.proofs.text.first_line.Goals as goal
