@@ -8,6 +8,7 @@ use std::test::Fail;
 
 mod command_files;
 mod command_lines;
+mod programs;
 mod serving;
 mod submissions;
 

@@ -1,0 +1,80 @@
+//! Programs and output blocks in files.
+
+use super::run;
+use std::test::Fail;
+
+/// Emits the first 8 bytes of a block whose first byte is 7.
+const MATCHING: &[u8; 56] =
+    b"\x71\x26\0\0\0\0\0\0\x55\x06\x03\0\x07\0\0\0\xbf\x21\0\0\0\0\0\0\xb7\x02\0\0\x08\0\0\0\x85\0\0\0\x01\0\0\0\xb7\0\0\0\0\0\0\0\x95\0\0\0\0\0\0\0";
+
+const LISTING: &str = "\
+ldxb r6, [r2+0]
+jne r6, 7, +3
+mov r1, r2
+mov r2, 8
+call 1
+mov r0, 0
+exit
+";
+
+#[test]
+fn files_of_one_command(rt: HostRuntime) -> Result<(), Fail> {
+    let mut framed = [0; 512];
+    framed[..5].copy_from_slice(b"\x03\0abc");
+    let mut spoiled = framed;
+    spoiled[511] = 1;
+    let table: [(&str, &[u8], u8, &str, &str); 9] = [
+        ("zscli disasm events", MATCHING, 0, LISTING, ""),
+        ("zscli disasm events", b"", 3, "", "program refused 0 21\n"),
+        (
+            "zscli unpack events --block 512",
+            &framed,
+            0,
+            "616263\n",
+            "",
+        ),
+        (
+            "zscli unpack events --block 512",
+            &spoiled,
+            3,
+            "",
+            "frame refused 511\n",
+        ),
+        (
+            "zscli unpack events --block 513",
+            &framed,
+            3,
+            "",
+            "geometry refused 1\n",
+        ),
+        (
+            "zscli trace events events",
+            MATCHING,
+            3,
+            "",
+            "geometry refused 1\n",
+        ),
+        (
+            "zscli asm events made",
+            LISTING.as_bytes(),
+            1,
+            "",
+            "cannot write made\n",
+        ),
+        (
+            "zscli asm events made",
+            b"jeq r1, 0, nowhere\nmov r11, 1\n",
+            3,
+            "",
+            "assembly refused 2 2\n",
+        ),
+        ("zscli disasm none", b"", 1, "", "cannot read none\n"),
+    ];
+    for (line, bytes, status, out, err) in table {
+        let ended = run(rt.alloc(), line, bytes)?;
+        assert_eq!(rt; ended.status, status, "{line:?}");
+        assert_eq!(rt; ended.out.as_str(), out, "{line:?}");
+        assert_eq!(rt; ended.err.as_str(), err, "{line:?}");
+    }
+    Ok(())
+}
