@@ -1,5 +1,7 @@
 //! The words that follow a command's name.
 
+use crate::failure::Failure;
+use crate::words::decimal;
 use clap::ArgMatches;
 
 /// The value of a required argument. A command line without it is refused before this.
@@ -7,8 +9,11 @@ pub fn required<'a>(matches: &ArgMatches<'a>, id: &str) -> &'a str {
     matches.get_str(id).unwrap_or("")
 }
 
-/// The value of an argument whose parser takes a number below 2^32 alone, and that is required or
-/// has a default.
-pub fn number(matches: &ArgMatches<'_>, id: &str) -> u32 {
-    matches.get_one::<u32>(id).unwrap_or(0)
+/// The number that an argument spells, which is required or has a default: decimal digits alone.
+pub fn number<'a>(matches: &ArgMatches<'a>, id: &str) -> Result<u32, Failure<'a>> {
+    let text = required(matches, id);
+    match decimal(text.as_bytes()) {
+        Some(number) => Ok(number),
+        None => Err(Failure::NotNumber(text)),
+    }
 }

@@ -18,6 +18,8 @@ pub enum Failure<'a> {
     CommandLine(clap::Error),
     #[error("error: a word of the command line isn't text")]
     NotText,
+    #[error("error: '{0}' is not a number from 0 to 4294967295")]
+    NotNumber(&'a str),
     #[error("cannot read {0}")]
     CannotRead(&'a str),
     #[error("cannot write {0}")]
@@ -78,7 +80,10 @@ impl<'a> Failure<'a> {
     fn status(&self) -> u8 {
         match self {
             Failure::CannotRead(_) | Failure::CannotWrite(_) | Failure::NoMemory => 1,
-            Failure::CommandLine(_) | Failure::NotText | Failure::EmitExceedsBlock => 2,
+            Failure::CommandLine(_)
+            | Failure::NotText
+            | Failure::NotNumber(_)
+            | Failure::EmitExceedsBlock => 2,
             Failure::LineRefused(_)
             | Failure::GeometryRefused(_)
             | Failure::AssemblyRefused(..)

@@ -9,7 +9,6 @@ use crate::failure::{Failure, STANDARD_OUTPUT};
 use crate::files::Files;
 use crate::program::read_program;
 use byteorder::{ByteOrder, LittleEndian};
-use clap::builder::ValueParser;
 use clap::{Arg, ArgAction, ArgMatches, Command};
 use ebpf_decode::Program;
 use emit_append::is_block_size;
@@ -50,7 +49,6 @@ fn option<'a>(alloc: Global, name: &'a str, letter: &'a str, default: &'a str) -
         .long(name)
         .value_name(letter)
         .action(ArgAction::Set)
-        .value_parser(ValueParser::unsigned(0, 4_294_967_295))
         .default_value(default)
 }
 
@@ -78,6 +76,9 @@ pub fn trace<'a, F: Files, O: Write>(
     files: &mut F,
     out: &mut O,
 ) -> Result<(), Failure<'a>> {
+    let limit = number(matches, EMIT)?;
+    let argument = number(matches, ARGUMENT)?;
+    let fuel = fuel?;
     let program = read_program(alloc, required(matches, PROGRAM), files)?;
     let path = required(matches, BLOCK);
     let block = files
@@ -87,20 +88,12 @@ pub fn trace<'a, F: Files, O: Write>(
     let Some(size) = block_size(block) else {
         return Err(Failure::GeometryRefused(1));
     };
-    let limit = number(matches, EMIT);
     if limit > size {
         return Err(Failure::EmitExceedsBlock);
     }
     let mut group = vec![in alloc; 0; limit as usize]?;
-    let context = context(size, number(matches, ARGUMENT));
-    match run(
-        &program,
-        block,
-        &context,
-        number(matches, FUEL),
-        group.as_mut_slice(),
-        out,
-    ) {
+    let context = context(size, argument);
+    match run(&program, block, &context, fuel, group.as_mut_slice(), out) {
         Ok(()) => Ok(()),
         Err(_) => Err(Failure::CannotWrite(STANDARD_OUTPUT)),
     }

@@ -3,7 +3,6 @@
 use crate::arguments::{number, required};
 use crate::failure::{Failure, STANDARD_OUTPUT};
 use crate::files::Files;
-use clap::builder::ValueParser;
 use clap::{Arg, ArgAction, ArgMatches, Command};
 use emit_append::{UnpackFault, is_block_size, unpack as records_of};
 use std::alloc::{AllocError, Global};
@@ -38,7 +37,6 @@ pub fn subcommand<'a>(alloc: Global) -> Result<Command<'a>, AllocError> {
         .value_name("B")
         .required(true)
         .action(ArgAction::Set)
-        .value_parser(ValueParser::unsigned(0, 4_294_967_295))
         .help("Bytes of a block: 512, 1024, 2048 or 4096");
     Command::new(alloc, NAME)
         .about("Prints the records of output blocks")
@@ -55,11 +53,11 @@ pub fn unpack<'a, F: Files, O: Write>(
     files: &mut F,
     out: &mut O,
 ) -> Result<(), Failure<'a>> {
+    let block = number(matches, BLOCK)?;
     let path = required(matches, FILE);
     let file = files
         .read(path)
         .map_err(|error| Failure::of_reading(path, error))?;
-    let block = number(matches, BLOCK);
     if !is_block_size(block) {
         return Err(Failure::GeometryRefused(1));
     }
