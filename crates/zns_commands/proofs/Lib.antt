@@ -1,3 +1,4 @@
+pub mod LawLemmas
 pub mod ReadBytes
 pub mod Rooms
 pub mod Sweeps

@@ -2,6 +2,7 @@ pub mod Address
 pub mod Answer
 pub mod Append
 pub mod Fault
+pub mod Laws
 pub mod Meaning
 pub mod Read
 pub mod Resources

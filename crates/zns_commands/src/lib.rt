@@ -5,6 +5,7 @@ mod address;
 mod answer;
 mod append;
 mod fault;
+pub mod laws;
 mod namespace;
 mod read;
 mod resources;

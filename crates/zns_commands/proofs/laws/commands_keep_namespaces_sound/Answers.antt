@@ -1,0 +1,8 @@
+use Rattle.zns_commands.proofs.LawLemmas.{steps_keep_sound, empty_is_sound}
+use Rattle.zns_commands.proofs.laws.commands_keep_namespaces_sound.Goals as goal
+
+pub returns-clause-kept : goal.returns-clause-kept
+returns-clause-kept c = steps_keep_sound
+
+pub returns-clause-start : goal.returns-clause-start
+returns-clause-start c = empty_is_sound
