@@ -78,7 +78,7 @@ pub fn trace<'a, F: Files, O: Write>(
 ) -> Result<(), Failure<'a>> {
     let limit = number(matches, EMIT)?;
     let argument = number(matches, ARGUMENT)?;
-    let fuel = fuel?;
+    let fuel = number(matches, FUEL)?;
     let program = read_program(alloc, required(matches, PROGRAM), files)?;
     let path = required(matches, BLOCK);
     let block = files
