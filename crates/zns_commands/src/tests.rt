@@ -90,9 +90,10 @@ fn play(
 ) -> Result<(), Fail> {
     let data = vec![in alloc; 7; 8 * BLOCK]?;
     let mut output = vec![in alloc; 1; MOST_TRANSFER]?;
+    let room = output.as_mut_slice();
     for (command, blocks, status) in steps {
         let input = data.get(..(*blocks).min(8) * BLOCK).unwrap_or(&[]);
-        let answer = namespace.execute(command, input, &mut output, holds);
+        let answer = namespace.execute(command, input, room, holds);
         assert_eq!(rt; answer.status, *status, "{command:?}");
     }
     Ok(())
@@ -258,7 +259,8 @@ fn what_was_appended_is_read(rt: HostRuntime) -> Result<(), Fail> {
     let mut output = vec![in rt.alloc(); 1; MOST_TRANSFER]?;
     let blocks = BlockCount::from_zero_based(1);
     let command = Command::Read { lba: 8, blocks };
-    let answer = namespace.execute(&command, &[], &mut output, &none);
+    let room = output.as_mut_slice();
+    let answer = namespace.execute(&command, &[], room, &none);
     assert_eq!(rt;
         (answer.status, answer.dw0, answer.length),
         (OK, 0, 2 * BLOCK)

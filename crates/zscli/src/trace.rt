@@ -1,6 +1,6 @@
 //! The command `trace`: one block run, step by step.
 
-ghost use Rattle.std.specs.Prelude.{◌≡◌, ◌≤◌, ◌<◌, ◌+◌, ◌^◌, length};
+ghost use Rattle.std.specs.Prelude.{◌≡◌, ◌≤◌, ◌<◌, ◌+◌, ◌^◌, length, IfSome};
 ghost use Rattle.interp.specs.Step.{IsAt};
 ghost use Rattle.interp.specs.State.{slot_of, steps_of, group_length};
 
