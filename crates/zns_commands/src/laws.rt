@@ -15,7 +15,7 @@ pub fn refused_commands_change_nothing()
     ensures { RefusedChangesNothing }
 {}
 
-/// The data of an Append that is not refused is what a Read of the assigned address gives.
+/// The data of an Append that succeeds is what a Read of the assigned address gives.
 pub fn appended_blocks_read_back()
     ensures { AppendedReadsBack }
 {}
