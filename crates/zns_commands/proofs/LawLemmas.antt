@@ -1,12 +1,13 @@
--- That commands and faults keep a namespace sound.
-use Rattle.std.proofs.Common.{◌≡◌, ◌≢◌, ℕ, zero, suc, ◌+◌, ◌*◌, ◌/◌, ◌%◌, ◌<◌, ◌≤◌, Bool, true, false, cond, List, [], ◌∷◌, ◌++◌, length, get_or, set, drop, map, replicate, Option, Some, None, Result, Ok, Err, refl, ap, sym, subst, ◌∙◌, arith, length-append, length-take, length-drop, get_or-set_other}
+-- That commands and faults keep a namespace sound, and that appended blocks read back.
+use Rattle.std.proofs.Common.{◌≡◌, ◌≢◌, ℕ, zero, suc, ◌+◌, ◌*◌, ◌/◌, ◌%◌, ◌^◌, ◌<◌, ◌≤◌, Bool, true, false, cond, List, [], ◌∷◌, ◌++◌, length, get_or, set, take, drop, map, replicate, Option, Some, None, Result, Ok, Err, refl, ap, sym, subst, ◌∙◌, arith, length-append, length-take, length-drop, get_or-set_other}
 use Rattle.std.specs.Prelude.{sum_by, slice_get, slice_set, nat_lt, nat_le, nat_eq, ◌&&◌, not}
 use Rattle.std.specs.Option.{ForSome}
-use Rattle.std.proofs.lemmas.Bool.{ltb-true, leb-true, eqb-true}
-use Rattle.std.proofs.lemmas.List.{length-map, length-set, length-replicate, get_or-map, get_or-replicate, map-set}
+use Rattle.std.proofs.lemmas.Bool.{ltb-true, leb-true, eqb-true, le-leb}
+use Rattle.std.proofs.lemmas.List.{length-map, length-set, length-replicate, get_or-map, get_or-replicate, map-set, take_all, take_at, drop_at, get_or-set_same}
 use Rattle.std.proofs.lemmas.List.Sums.{sum_by-cons}
 use Rattle.std.proofs.lemmas.Option.{slice_get-get_or}
-use Rattle.std.proofs.Math.Nat.{suc-mul, mul-le-mul_right, mul-div_cancel, div-lt_iff_lt-mul}
+use Rattle.std.proofs.lemmas.Nat.{div-mul-add, mod-mul-add}
+use Rattle.std.proofs.Math.Nat.{suc-mul, mul-le-mul_right, mul-div_cancel, div-lt_iff_lt-mul, mod-add-div'}
 use Rattle.zone_state.specs.State.{is_open, is_active}
 use Rattle.zone_state.specs.Transition.{transition}
 use Rattle.zone_state.specs.Zone.{ZoneRecord, IsZone, kept, refusal, refusal_in, fits_room, after_write, written_state, state_of_fault, fault_refusal}
@@ -17,11 +18,11 @@ use Rattle.zone_state.specs.declared.state.FaultState.TheVariants as fault
 use Rattle.zone_state.specs.declared.state.ZoneState.{ZoneState}
 use Rattle.zone_state.specs.declared.state.ZoneState.TheVariants.{Empty, ImplicitlyOpened, ExplicitlyOpened, Closed, ReadOnly, Full, Offline}
 use Rattle.zone_state.specs.declared.status.Status.{Status}
-use Rattle.zone_state.specs.declared.status.TheConstants.Status.{SUCCESS, ZONE_BOUNDARY_ERROR, ZONE_INVALID_WRITE, TOO_MANY_ACTIVE_ZONES}
+use Rattle.zone_state.specs.declared.status.TheConstants.Status.{SUCCESS, INVALID_FIELD_IN_COMMAND, LBA_OUT_OF_RANGE, ZONE_BOUNDARY_ERROR, ZONE_INVALID_WRITE, ZONE_IS_FULL, ZONE_IS_READ_ONLY, ZONE_IS_OFFLINE, ZONE_HELD, TOO_MANY_OPEN_ZONES, TOO_MANY_ACTIVE_ZONES}
 use Rattle.zone_state.specs.declared.zone.FaultRefused.{FaultRefused}
 use Rattle.zone_resources.specs.Admission.{admission, open_admission, closing, zone_to_close, wanted_of, IsClosable, IsWithin, after_closing, closed_in}
 use Rattle.zone_resources.specs.Counts.{open_count, active_count, one_if}
-use Rattle.zone_resources.specs.Holds.{is_held}
+use Rattle.zone_resources.specs.Holds.{is_held, is_destination}
 use Rattle.zone_resources.specs.declared.admission.Limits.{Limits}
 use Rattle.zone_resources.specs.declared.admission.Wanted.{Wanted}
 use Rattle.zone_resources.specs.declared.admission.Wanted.TheVariants.{OpenOnly, OpenAndActive}
@@ -30,23 +31,25 @@ use Rattle.zone_resources.proofs.AdmissionLemmas.{closes_at}
 use Rattle.zone_resources.proofs.CountLemmas.{counts_follow_one}
 use Rattle.zone_resources.proofs.LimitLemmas.{admission_keeps_limits}
 use Rattle.nvme_entry.specs.declared.command.Command.TheVariants.{Write, Read, Send, Append}
-use Rattle.nvme_entry.specs.Checks.{demand, first_refused}
-use Rattle.image_store.specs.Blocks.{as_blocks, block_count, blocks_of}
-use Rattle.image_store.specs.Geometry.{IsShape}
+use Rattle.nvme_entry.specs.declared.command.TheConstants.{MOST_TRANSFER}
+use Rattle.nvme_entry.specs.Checks.{demand, or_else, first_refused}
+use Rattle.image_store.specs.Blocks.{as_blocks, block_count, blocks_of, bytes_of}
+use Rattle.image_store.specs.Geometry.{Shape, IsShape}
 use Rattle.image_store.specs.Namespace.{ZoneBlocks, ZonedNamespace, no_zone, zone_at, with_zone, counted, grown, shape, IsNamespace}
-use Rattle.image_store.proofs.Images.{within_capacity}
-use Rattle.image_store.proofs.Pieces.{length-blocks}
+use Rattle.image_store.proofs.Images.{within_capacity, allowed_fits}
+use Rattle.image_store.proofs.Pieces.{length-blocks, bytes-blocks}
 use Rattle.image_store.proofs.Sound.{block-at}
 use Rattle.image_store.proofs.States.{after_write_zone}
-use Rattle.zns_commands.specs.Address.{records, record_at, zone_number, block_total}
+use Rattle.zns_commands.specs.Address.{records, record_at, zone_number, block_total, write_pointer}
 use Rattle.zns_commands.specs.Answer.{Outcome, success, concluded}
 use Rattle.zns_commands.specs.Append.{append_checks, append_effect}
 use Rattle.zns_commands.specs.Fault.{fault_answer, faulted_by, faulted}
-use Rattle.zns_commands.specs.Read.{read_checks, read_effect}
+use Rattle.zns_commands.specs.Read.{read_refusal, blocks_read, read_checks, read_effect, read_meaning}
 use Rattle.zns_commands.specs.Resources.{room_by, room_for, why_not, closing_of, closed, arrived, moved_to, CanGiveWay}
 use Rattle.zns_commands.specs.Send.{send_checks, send_effect, all_effect, all_fit, room_of, led_to, takes, taken_among, swept}
 use Rattle.zns_commands.specs.Write.{write_checks, write_effect, written}
-use Rattle.zns_commands.specs.Laws.{Step, Commanded, Failed, after, WritesSome, IsSound, StepsKeepSound, EmptyIsSound, ChangesNothing, RefusedChangesNothing}
+use Rattle.zns_commands.specs.Meaning.{meaning}
+use Rattle.zns_commands.specs.Laws.{Step, Commanded, Failed, after, WritesSome, IsSound, StepsKeepSound, EmptyIsSound, ChangesNothing, RefusedChangesNothing, AppendedReadsBack}
 use Rattle.zns_commands.proofs.Rooms.{can_give_way}
 
 -- where no check fails the status is that of the effect
@@ -652,3 +655,228 @@ empty_is_sound s known =
         active = omega (arith, empty_counts is_active s.capacity s.zones refl);
       };
     }
+
+-- a namespace, once a zone is written
+written_zone : (ns : ZonedNamespace) (z : ℕ) (gives : Option ℕ) (input : List ℕ) → gives ≢ Some z → z < length ns.zones
+    → zone_at (written ns (record { zone = z; closing = gives }) input) z ≡ grown ns.capacity (zone_at ns z) (as_blocks ns.block input)
+written_zone ns z None input other inside =
+    get_or-set_same ns.zones z (grown ns.capacity (zone_at ns z) (as_blocks ns.block input)) no_zone inside
+written_zone ns z (Some k) input other inside =
+    let given : ZoneBlocks = record { state = Closed; blocks = (zone_at ns k).blocks } in
+    let zone = grown ns.capacity (zone_at ns z) (as_blocks ns.block input) in
+    let in_list : z < length (set ns.zones k given) = omega (arith, length-set ns.zones k given) in
+    ap (λ (m : ZonedNamespace). zone_at m z) (written_is ns z (Some k) input other)
+    ∙ get_or-set_same (set ns.zones k given) z zone no_zone in_list
+
+abbrev with_count : ZonedNamespace → ℕ → Shape
+with_count ns n = record { block = ns.block; zones = n; size = ns.size; capacity = ns.capacity; limits = ns.limits }
+
+written_shape : (ns : ZonedNamespace) (z : ℕ) (gives : Option ℕ) (input : List ℕ) → shape (written ns (record { zone = z; closing = gives }) input) ≡ shape ns
+written_shape ns z None input = ap (with_count ns) (length-set ns.zones z (grown ns.capacity (zone_at ns z) (as_blocks ns.block input)))
+written_shape ns z (Some k) input =
+    let given : ZoneBlocks = record { state = Closed; blocks = (zone_at ns k).blocks } in
+    let m = with_zone ns k given in
+    ap (with_count ns)
+    (length-set (set ns.zones k given) z (grown ns.capacity (zone_at m z) (as_blocks ns.block input)) ∙ length-set ns.zones k given)
+
+-- a zone that was written gives its blocks
+readable : (full : Bool) (s : ZoneState) → read_refusal (cond full Full (written_state s)) ≡ None
+readable true s = refl
+readable false ExplicitlyOpened = refl
+readable false s = refl
+
+-- blocks at an address
+record Lie (m : ZonedNamespace) (z w blocks : ℕ) (input : List ℕ) : Type 0 where
+  front : List (List ℕ)
+  more : List (List ℕ)
+  there : (zone_at m z).blocks ≡ front ++ more
+  start : length front ≡ w
+  count : length more ≡ blocks
+  bytes : bytes_of more ≡ input
+  readable : read_refusal (zone_at m z).state ≡ None
+  inside : z < length m.zones
+  room : w + blocks ≤ m.size
+  some : 1 ≤ blocks
+  transfer : nat_le (blocks * m.block) MOST_TRANSFER ≡ true
+
+all_pass : (a b c : Bool) (r : Option Status) (s t u : Status) → a ≡ true → b ≡ true → c ≡ true → r ≡ None
+    → first_refused (demand a s ∷ None ∷ demand b t ∷ demand c u ∷ r ∷ []) ≡ None
+all_pass a b c r s t u ea eb ec er = rw (ea, eb, ec, er) refl
+
+read_back : (m : ZonedNamespace) (z w blocks : ℕ) (input : List ℕ) → Lie m z w blocks input
+    → read_meaning m (z * m.size + w) blocks [] ≡ success m 0 input
+read_back m z w blocks input h =
+    let lba = z * m.size + w in
+    let size = m.size in
+    let number : lba / size ≡ z = div-mul-add z size w (omega (arith, h.room, h.some)) in
+    let place : lba % size ≡ w = mod-mul-add z size w (omega (arith, h.room, h.some)) in
+    let below : suc z ≤ length m.zones = omega (arith, h.inside) in
+    let product : suc z * size ≤ length m.zones * size = mul-le-mul_right size below in
+    let end : lba + blocks ≤ block_total m = omega (arith, suc-mul z size, h.room) in
+    let one : lba % size + blocks ≤ size = omega (arith, h.room) in
+    let open_zone : read_refusal (zone_at m (lba / size)).state ≡ None = subst (λ (k : ℕ). read_refusal (zone_at m k).state ≡ None) (sym number) h.readable in
+    let none : first_refused (read_checks m lba blocks []) ≡ None =
+    all_pass (nat_le (blocks * m.block) MOST_TRANSFER) (nat_le (lba + blocks) (block_total m)) (nat_le (lba % size + blocks) size)
+    (read_refusal (zone_at m (lba / size)).state) _ _ _ h.transfer (le-leb _ _ end) (le-leb _ _ one) open_zone in
+    let zeros : List (List ℕ) = replicate blocks (replicate m.block 0) in
+    ap (λ (r : Option Status). concluded r m (read_effect m lba blocks)) none
+    ∙ (ap (λ (k : ℕ). success m 0 (bytes_of (blocks_read m.block (zone_at m k).blocks (lba % size) blocks))) number
+    ∙ (ap (λ (k : ℕ). success m 0 (bytes_of (blocks_read m.block (zone_at m z).blocks k blocks))) place
+    ∙ (ap (λ (all : List (List ℕ)). success m 0 (bytes_of (take blocks (drop w all ++ zeros)))) h.there
+    ∙ (ap (λ (all : List (List ℕ)). success m 0 (bytes_of (take blocks (all ++ zeros)))) (drop_at h.front h.more w h.start)
+    ∙ (ap (λ (all : List (List ℕ)). success m 0 (bytes_of all)) (take_at h.more zeros blocks h.count)
+    ∙ ap (success m 0) h.bytes)))))
+
+whole_bytes : (block blocks : ℕ) (input : List ℕ) → 1 ≤ block → length input ≡ blocks * block → bytes_of (as_blocks block input) ≡ input
+whole_bytes block blocks input some size =
+    let n = block_count block input in
+    let is : n ≡ blocks = ap (λ (m : ℕ). m / block) size ∙ mul-div_cancel blocks (omega arith) in
+    let long : length input ≤ n * block = subst (λ (m : ℕ). length input ≤ m * block) (sym is) (omega arith) in
+    bytes-blocks block n input ∙ take_all (n * block) input long
+
+appended_lie : (ns : ZonedNamespace) (z blocks : ℕ) (gives : Option ℕ) (input : List ℕ) → IsSound ns → z < length ns.zones → 1 ≤ blocks
+    → gives ≢ Some z → length input ≡ blocks * ns.block → nat_le (blocks * ns.block) MOST_TRANSFER ≡ true
+    → refusal (record_at ns z) (length (zone_at ns z).blocks) blocks ≡ Ok tt
+    → Lie (written ns (record { zone = z; closing = gives }) input) z (length (zone_at ns z).blocks) blocks input
+appended_lie ns z blocks gives input sound inside some other size transfer fits =
+    let zone = zone_at ns z in
+    let more = as_blocks ns.block input in
+    let m = written ns (record { zone = z; closing = gives }) input in
+    let block_some : 1 ≤ ns.block = omega (arith, sound.namespace.shape.block_some) in
+    let bring = brings ns.block blocks input block_some size in
+    let seen = written_zone ns z gives input other inside in
+    let form = written_shape ns z gives input in
+    let same_size : m.size ≡ ns.size = ap (λ (s : Shape). s.size) form in
+    let same_block : m.block ≡ ns.block = ap (λ (s : Shape). s.block) form in
+    let same_count : length m.zones ≡ length ns.zones = ap (λ (s : Shape). s.zones) form in
+    let end : length zone.blocks + blocks ≤ ns.capacity = allowed_fits (record_at ns z) (length zone.blocks) blocks fits in
+    let reach : length zone.blocks + blocks ≤ ns.size = omega (arith, sound.namespace.shape.capacity_most) in
+    record {
+      front = zone.blocks;
+      more = more;
+      there = ap (λ (x : ZoneBlocks). x.blocks) seen;
+      start = refl;
+      count = bring.count;
+      bytes = whole_bytes ns.block blocks input block_some size;
+      readable =
+          subst (λ (x : ZoneBlocks). read_refusal x.state ≡ None) (sym seen)
+          (readable (nat_eq (length zone.blocks + length more) ns.capacity) zone.state);
+      inside = subst (λ (n : ℕ). z < n) (sym same_count) inside;
+      room = subst (λ (n : ℕ). length zone.blocks + blocks ≤ n) (sym same_size) reach;
+      some = some;
+      transfer = subst (λ (n : ℕ). nat_le (blocks * n) MOST_TRANSFER ≡ true) (sym same_block) transfer;
+    }
+
+-- what a Read gives of the blocks that an outcome tells
+abbrev ReadsBack : Holds → ℕ → List ℕ → Outcome → Type 0
+ReadsBack later blocks input done = read_meaning done.namespace (done.dw0 + done.dw1 * 2 ^ 32) blocks [] ≡ success done.namespace 0 input
+
+-- where a check fails, its status isn't success
+abbrev Fails : Option Status → Type 0
+Fails check = (status : Status) → check ≡ Some status → 1 ≤ status.code
+
+demand_fails : (test : Bool) (status : Status) → 1 ≤ status.code → Fails (demand test status)
+demand_fails true status some = λ other e. cc
+demand_fails false status some = λ other e.
+    let same : status ≡ other = cc in
+    subst (λ (s : Status). 1 ≤ s.code) same some
+
+first_fails : (check rest : Option Status) → Fails check → Fails rest → Fails (or_else check rest)
+first_fails None rest one others = others
+first_fails (Some status) rest one others = one
+
+none_fails : Fails None
+none_fails = λ other e. cc
+
+err_fails : (status : Status) → 1 ≤ status.code → Fails (Some status)
+err_fails status some = λ other e.
+    let same : status ≡ other = cc in
+    subst (λ (s : Status). 1 ≤ s.code) same some
+
+cond_fails : {X : Type 0} (test : Bool) (x y : Result X Status) → Fails (why_not x) → Fails (why_not y) → Fails (why_not (cond test x y))
+cond_fails true x y left right = left
+cond_fails false x y left right = right
+
+room_fails : (r : ZoneRecord) (at n : ℕ) → Fails (why_not (fits_room r at n))
+room_fails r at n =
+    cond_fails (nat_eq at r.written) (cond (nat_le (r.written + n) r.capacity) (Ok tt) (Err ZONE_BOUNDARY_ERROR)) (Err ZONE_INVALID_WRITE)
+    (cond_fails (nat_le (r.written + n) r.capacity) (Ok tt) (Err ZONE_BOUNDARY_ERROR) none_fails (err_fails ZONE_BOUNDARY_ERROR (omega arith)))
+    (err_fails ZONE_INVALID_WRITE (omega arith))
+
+refusal_fails : (s : ZoneState) (r : ZoneRecord) (at n : ℕ) → Fails (why_not (refusal_in s r at n))
+refusal_fails Full r at n = err_fails ZONE_IS_FULL (omega arith)
+refusal_fails ReadOnly r at n = err_fails ZONE_IS_READ_ONLY (omega arith)
+refusal_fails Offline r at n = err_fails ZONE_IS_OFFLINE (omega arith)
+refusal_fails s r at n = room_fails r at n
+
+closing_fails : (found : Option ℕ) → Fails (why_not (closing found))
+closing_fails None = err_fails TOO_MANY_OPEN_ZONES (omega arith)
+closing_fails (Some k) = none_fails
+
+open_fails : (zones : List ZoneRecord) (limits : Limits) (holds : Holds) → Fails (why_not (open_admission zones limits holds))
+open_fails zones limits holds =
+    cond_fails (nat_lt (open_count zones) limits.open_limit) (Ok None) (closing (zone_to_close holds zones))
+    none_fails (closing_fails (zone_to_close holds zones))
+
+wanted_fails : (ns : ZonedNamespace) (holds : Holds) (wanted : Option Wanted) → Fails (why_not (room_by ns holds wanted))
+wanted_fails ns holds None = none_fails
+wanted_fails ns holds (Some OpenOnly) = open_fails (records ns) ns.limits holds
+wanted_fails ns holds (Some OpenAndActive) =
+    cond_fails (nat_lt (active_count (records ns)) ns.limits.active_limit) (open_admission (records ns) ns.limits holds) (Err TOO_MANY_ACTIVE_ZONES)
+    (open_fails (records ns) ns.limits holds) (err_fails TOO_MANY_ACTIVE_ZONES (omega arith))
+
+all_fail : (a b c d e : Bool) (f g : Option Status) → Fails f → Fails g
+    → Fails (first_refused (demand a INVALID_FIELD_IN_COMMAND ∷ demand b INVALID_FIELD_IN_COMMAND ∷ demand c LBA_OUT_OF_RANGE
+    ∷ demand d INVALID_FIELD_IN_COMMAND ∷ demand e ZONE_HELD ∷ f ∷ g ∷ []))
+all_fail a b c d e f g six seven =
+    first_fails (demand a INVALID_FIELD_IN_COMMAND) _ (demand_fails a INVALID_FIELD_IN_COMMAND (omega arith))
+    (first_fails (demand b INVALID_FIELD_IN_COMMAND) _ (demand_fails b INVALID_FIELD_IN_COMMAND (omega arith))
+    (first_fails (demand c LBA_OUT_OF_RANGE) _ (demand_fails c LBA_OUT_OF_RANGE (omega arith))
+    (first_fails (demand d INVALID_FIELD_IN_COMMAND) _ (demand_fails d INVALID_FIELD_IN_COMMAND (omega arith))
+    (first_fails (demand e ZONE_HELD) _ (demand_fails e ZONE_HELD (omega arith))
+    (first_fails f _ six (first_fails g None seven (λ other none. cc)))))))
+
+-- a command that succeeds is one of which no check fails
+none_failed : (refusal : Option Status) (ns : ZonedNamespace) (effect : Outcome)
+    → Fails refusal → (concluded refusal ns effect).status ≡ SUCCESS → refusal ≡ None
+none_failed None ns effect fails done = refl
+none_failed (Some status) ns effect fails done =
+    let some = fails status refl in
+    let zero_code : status.code ≡ 0 = ap (λ (s : Status). s.code) done in
+    absurd (omega arith)
+
+append_passed : (ns : ZonedNamespace) (holds : Holds) (lba blocks : ℕ) (input : List ℕ)
+    → (meaning ns holds (Append lba blocks) input).status ≡ SUCCESS → first_refused (append_checks ns holds lba blocks input) ≡ None
+append_passed ns holds lba blocks input done =
+    let z = zone_number ns lba in
+    let zone = zone_at ns z in
+    none_failed (first_refused (append_checks ns holds lba blocks input)) ns (append_effect ns holds lba input)
+    (all_fail (nat_le (blocks * ns.block) MOST_TRANSFER) (nat_eq (length input) (blocks * ns.block)) (nat_lt lba (block_total ns))
+    (nat_eq (lba % ns.size) 0) (not (is_destination holds z))
+    (why_not (refusal (record_at ns z) (length zone.blocks) blocks)) (why_not (room_for ns holds zone.state))
+    (refusal_fails zone.state (record_at ns z) (length zone.blocks) blocks)
+    (wanted_fails ns holds (wanted_of zone.state)))
+    done
+
+pub appended_reads_back : AppendedReadsBack
+appended_reads_back ns holds later lba blocks input sound some done =
+    let none = append_passed ns holds lba blocks input done in
+    let checks = append_checks ns holds lba blocks input in
+    let z = zone_number ns lba in
+    let w = length (zone_at ns z).blocks in
+    let room = room_for ns holds (zone_at ns z).state in
+    let gives = closing_of room in
+    let size = eqb-true (length input) (blocks * ns.block) (demanded (nat_eq (length input) (blocks * ns.block)) _ (passed checks 1 none)) in
+    let start = ltb-true lba (block_total ns) (demanded (nat_lt lba (block_total ns)) _ (passed checks 2 none)) in
+    let inside = zone_inside ns lba sound start in
+    let has = has_room ns holds z gives sound inside (roomed room (passed checks 6 none)) in
+    let transfer = demanded (nat_le (blocks * ns.block) MOST_TRANSFER) _ (passed checks 0 none) in
+    let fits = allowed (refusal (record_at ns z) w blocks) (passed checks 5 none) in
+    let m = written ns (record { zone = z; closing = gives }) input in
+    let lie = appended_lie ns z blocks gives input sound inside some has.other size transfer fits in
+    let same_size : m.size ≡ ns.size = ap (λ (s : Shape). s.size) (written_shape ns z gives input) in
+    let pointer = write_pointer ns z in
+    let address : pointer % 2 ^ 32 + pointer / 2 ^ 32 * 2 ^ 32 ≡ z * m.size + w =
+    mod-add-div' pointer (2 ^ 32) ∙ ap (λ (n : ℕ). z * n + w) (sym same_size) in
+    subst (λ (r : Option Status). ReadsBack later blocks input (concluded r ns (append_effect ns holds lba input))) (sym none)
+    (ap (λ (n : ℕ). read_meaning m n blocks []) address ∙ read_back m z w blocks input lie)

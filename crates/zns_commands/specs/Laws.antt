@@ -1,5 +1,5 @@
 -- Laws of commands and faults.
-use Rattle.std.specs.Prelude.{ℕ, ◌≡◌, ◌≢◌, ◌≤◌, List, [], ◌∷◌, All}
+use Rattle.std.specs.Prelude.{ℕ, ◌≡◌, ◌≢◌, ◌≤◌, ◌+◌, ◌*◌, ◌^◌, List, [], ◌∷◌, All}
 use Rattle.zone_state.specs.declared.state.FaultState.{FaultState}
 use Rattle.zone_state.specs.declared.status.TheConstants.Status.{SUCCESS}
 use Rattle.zone_resources.specs.Admission.{IsWithin}
@@ -9,7 +9,7 @@ use Rattle.nvme_entry.specs.declared.command.Command.TheVariants.{Write, Read, S
 use Rattle.image_store.specs.Geometry.{Shape, IsShape}
 use Rattle.image_store.specs.Namespace.{ZonedNamespace, IsNamespace, all_empty}
 use Rattle.zns_commands.specs.Address.{records}
-use Rattle.zns_commands.specs.Answer.{Outcome}
+use Rattle.zns_commands.specs.Answer.{Outcome, success}
 use Rattle.zns_commands.specs.Fault.{faulted}
 use Rattle.zns_commands.specs.Meaning.{meaning}
 
@@ -36,8 +36,8 @@ WritesSome (Commanded holds (Read lba blocks) input) = Unit {0}
 WritesSome (Commanded holds (Send lba action select_all) input) = Unit {0}
 WritesSome (Failed holds zone fault) = Unit {0}
 
--- each zone's state allows its written blocks, each block is whole, and the open and active zones
--- are within the limits (ZNS 1.1, Zone State Machine and Zone Resources)
+-- the shape is one that is accepted, each zone's state allows its written blocks, each block is whole,
+-- and the open and active zones are within the limits (ZNS 1.1, Zone State Machine and Zone Resources)
 pub record IsSound (ns : ZonedNamespace) : Type 0 where
   pub namespace : IsNamespace ns
   pub within : IsWithin (records ns) ns.limits
@@ -63,3 +63,12 @@ RefusedChangesNothing =
     (ns : ZonedNamespace) (holds : Holds) (command : Command) (input : List ℕ)
     → (meaning ns holds command input).status ≢ SUCCESS
     → ChangesNothing ns (meaning ns holds command input)
+
+-- the blocks of an Append that succeeds are read back, under any holds, from the address that its
+-- completion tells
+abbrev pub AppendedReadsBack : Type 0
+AppendedReadsBack =
+    (ns : ZonedNamespace) (holds later : Holds) (lba blocks : ℕ) (input : List ℕ)
+    → IsSound ns → 1 ≤ blocks → (meaning ns holds (Append lba blocks) input).status ≡ SUCCESS
+    → let done = meaning ns holds (Append lba blocks) input in
+    meaning done.namespace later (Read (done.dw0 + done.dw1 * 2 ^ 32) blocks) [] ≡ success done.namespace 0 input
