@@ -47,6 +47,7 @@ impl Size {
         }
     }
 
+    /// The size with this code, or `None` for any other (RFC 9669, 5).
     pub fn with_code(code: u8) -> Option<Size>
         ensures { result ≡ size_with code }
     {
@@ -73,6 +74,7 @@ impl SignedSize {
         }
     }
 
+    /// The size of a sign-extending load with this code, or `None` for any other (RFC 9669, 5.2).
     pub fn with_code(code: u8) -> Option<SignedSize>
         ensures { result ≡ signed_size_with code }
     {
@@ -215,6 +217,7 @@ impl Swap {
         }
     }
 
+    /// The byte swap with this opcode, or `None` for any other (RFC 9669, 4.2).
     pub fn with_opcode(opcode: u8) -> Option<Swap>
         ensures { result ≡ swap_with opcode }
     {
@@ -239,6 +242,7 @@ impl SwapSize {
         }
     }
 
+    /// The width of this many bits, or `None` if no byte swap has it (RFC 9669, 4.2).
     pub fn with_bits(bits: i32) -> Option<SwapSize>
         ensures { result ≡ swap_size_with bits }
     {
@@ -272,6 +276,7 @@ impl Relation {
         }
     }
 
+    /// The condition with this code, or `None` for any other (RFC 9669, 4.3).
     pub fn with_code(code: u8) -> Option<Relation>
         ensures { result ≡ relation_with code }
     {

@@ -28,6 +28,7 @@ pub struct Disk<'a, R> {
 }
 
 impl<'a, R> Disk<'a, R> {
+    /// The files that this runtime reaches.
     pub fn new(rt: &'a R) -> Disk<'a, R> {
         Disk { rt }
     }

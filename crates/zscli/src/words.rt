@@ -10,6 +10,7 @@ pub struct Words<'a> {
 }
 
 impl<'a> Words<'a> {
+    /// The words of a line, from its first on.
     pub fn new(line: &'a [u8]) -> Words<'a> {
         Words { rest: line }
     }
