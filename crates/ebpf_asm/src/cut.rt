@@ -5,7 +5,7 @@ ghost use Rattle.std.specs.List.{position_or_len, before_first, after_first};
 ghost use Rattle.ebpf_asm.specs.Cut.{cut_at, is_blank_byte, without_end_blanks, trimmed};
 
 /// The text before the first such byte and the text behind it.
-pub fn cut(text: &[u8], byte: u8) -> Option<(&[u8], &[u8])>
+pub(crate) fn cut(text: &[u8], byte: u8) -> Option<(&[u8], &[u8])>
     ensures { option_map (λ parts. (parts.0.now, parts.1.now)) result ≡ cut_at byte text.now }
 {
     let at = first(text, byte)?;
@@ -20,7 +20,7 @@ fn first(text: &[u8], byte: u8) -> Option<usize>
 }
 
 /// The first word and the text behind it.
-pub fn word(text: &[u8]) -> (&[u8], &[u8])
+pub(crate) fn word(text: &[u8]) -> (&[u8], &[u8])
     ensures word { result.0.now ≡ before_first is_blank_byte text.now }
     ensures rest { result.1.now ≡ drop (position_or_len is_blank_byte text.now) text.now }
 {
@@ -42,7 +42,7 @@ fn is_blank(byte: u8) -> bool
 }
 
 /// The text without the blanks at its ends.
-pub fn trim(text: &[u8]) -> &[u8]
+pub(crate) fn trim(text: &[u8]) -> &[u8]
     ensures { result.now ≡ trimmed text.now }
 {
     let mut inside = text;

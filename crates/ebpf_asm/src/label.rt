@@ -11,14 +11,14 @@ use std::collections::BTreeMap;
 pub type Labels<'a> = BTreeMap<&'a [u8], usize>;
 
 /// The slot that a label names.
-pub fn slot_of(labels: &Labels<'_>, name: &[u8]) -> Option<usize>
+pub(crate) fn slot_of(labels: &Labels<'_>, name: &[u8]) -> Option<usize>
     ensures { result ≡ label_in labels.now name.now }
 {
     labels.get(name).copied()
 }
 
 /// Does the map have this label?
-pub fn is_defined(labels: &Labels<'_>, label: Option<&[u8]>) -> bool
+pub(crate) fn is_defined(labels: &Labels<'_>, label: Option<&[u8]>) -> bool
     ensures { result ≡ is_some (option_and_then (label_in labels.now) (option_copied label.entry)) }
 {
     match label {
@@ -28,7 +28,7 @@ pub fn is_defined(labels: &Labels<'_>, label: Option<&[u8]>) -> bool
 }
 
 /// Has the label, if there is one, name the slot.
-pub fn define<'a>(
+pub(crate) fn define<'a>(
     labels: &mut Labels<'a>,
     label: Option<&'a [u8]>,
     slot: usize,

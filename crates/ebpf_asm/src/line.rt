@@ -25,7 +25,7 @@ pub struct Line<'a> {
 
 /// The line with these bytes. One that isn't ASCII is refused for that, in its comment too.
 #[tactic(auto, unfolding(crate::specs::Line::line_of))]
-pub fn read_line(bytes: &[u8]) -> Line<'_>
+pub(crate) fn read_line(bytes: &[u8]) -> Line<'_>
     ensures { line_view result ≡ line_of bytes.now }
 {
     if !is_all_ascii(bytes) {
@@ -93,7 +93,7 @@ fn label_and_rest(text: &[u8]) -> (Option<&[u8]>, &[u8])
 }
 
 /// How many slots an instruction takes, if there is one.
-pub fn slots_of(insn: &Result<Option<Insn>, FaultKind>) -> usize
+pub(crate) fn slots_of(insn: &Result<Option<Insn>, FaultKind>) -> usize
     ensures { result ≡ slots_of_insn insn.now }
 {
     match insn {

@@ -117,7 +117,7 @@ pub const MNEMONICS: [Mnemonic; 86] = [
 
 impl Mnemonic {
     /// The mnemonic that a word is.
-    pub fn named(word: &[u8]) -> Option<Mnemonic>
+    pub(crate) fn named(word: &[u8]) -> Option<Mnemonic>
         ensures { result ≡ mnemonic_named word.now }
     {
         MNEMONICS
@@ -134,7 +134,7 @@ impl Mnemonic {
     }
 
     /// Its text, in two parts: what it does, and of which size or width.
-    pub fn parts(self) -> (&'static str, &'static str)
+    pub(crate) fn parts(self) -> (&'static str, &'static str)
         ensures { (result.0.now, result.1.now) ≡ mnemonic_parts self }
     {
         match self {

@@ -8,7 +8,7 @@ use crate::fault::FaultKind;
 
 /// An immediate: the low 32 bits of a number from -2^31 to 2^32 - 1.
 #[tactic(auto, unfolding(crate::specs::Operand::immediate_of))]
-pub fn immediate(text: &[u8]) -> Result<i32, FaultKind>
+pub(crate) fn immediate(text: &[u8]) -> Result<i32, FaultKind>
     ensures { result ≡ immediate_of text.now }
 {
     let number = number(text)?;
@@ -24,7 +24,7 @@ pub fn immediate(text: &[u8]) -> Result<i32, FaultKind>
 
 /// A wide value: the low 64 bits of a number from -2^63 to 2^64 - 1.
 #[tactic(auto, unfolding(crate::specs::Operand::wide_of))]
-pub fn wide(text: &[u8]) -> Result<u64, FaultKind>
+pub(crate) fn wide(text: &[u8]) -> Result<u64, FaultKind>
     ensures { result ≡ wide_of text.now }
 {
     let number = number(text)?;
@@ -39,7 +39,7 @@ pub fn wide(text: &[u8]) -> Result<u64, FaultKind>
 }
 
 /// The number, where a field of 16 bits takes it.
-pub fn short(number: i128) -> Result<i16, FaultKind>
+pub(crate) fn short(number: i128) -> Result<i16, FaultKind>
     ensures { result ≡ short_of number }
 {
     if number < -0x8000 || number > 0x7fff {
@@ -49,7 +49,7 @@ pub fn short(number: i128) -> Result<i16, FaultKind>
 }
 
 /// The number, where a field of 32 bits takes it.
-pub fn long(number: i128) -> Result<i32, FaultKind>
+pub(crate) fn long(number: i128) -> Result<i32, FaultKind>
     ensures { result ≡ long_of number }
 {
     if number < -0x8000_0000 || number > 0x7fff_ffff {
@@ -60,7 +60,7 @@ pub fn long(number: i128) -> Result<i32, FaultKind>
 
 /// A `+` or a `-`, and a number without a sign.
 #[tactic(auto, unfolding(crate::specs::Operand::signed_of))]
-pub fn signed(text: &[u8]) -> Result<i128, FaultKind>
+pub(crate) fn signed(text: &[u8]) -> Result<i128, FaultKind>
     ensures { result ≡ signed_of text.now }
 {
     match text {

@@ -11,7 +11,7 @@ use ebpf_decode::{Register, Source};
 
 /// Both, where both could be read. An operand that can't be read is told before a number that is
 /// out of range.
-pub fn both<A: Drop, B: Drop>(
+pub(crate) fn both<A: Drop, B: Drop>(
     first: Result<A, FaultKind>,
     second: Result<B, FaultKind>,
 ) -> Result<(A, B), FaultKind>
@@ -26,7 +26,7 @@ pub fn both<A: Drop, B: Drop>(
 }
 
 /// A register, `r0` to `r10`.
-pub fn register(text: &[u8]) -> Result<Register, FaultKind>
+pub(crate) fn register(text: &[u8]) -> Result<Register, FaultKind>
     ensures { result ≡ register_of text.now }
 {
     let number = match text {
@@ -39,7 +39,7 @@ pub fn register(text: &[u8]) -> Result<Register, FaultKind>
 
 /// A register or an immediate.
 #[tactic(auto, unfolding(crate::specs::Operand::source_of))]
-pub fn source(text: &[u8]) -> Result<Source, FaultKind>
+pub(crate) fn source(text: &[u8]) -> Result<Source, FaultKind>
     ensures { result ≡ source_of text.now }
 {
     match text {
@@ -50,7 +50,7 @@ pub fn source(text: &[u8]) -> Result<Source, FaultKind>
 
 /// A memory operand: in brackets a register, and behind it an offset, where there is one.
 #[tactic(auto, unfolding(crate::specs::Operand::memory_of))]
-pub fn memory(text: &[u8]) -> Result<(Register, i16), FaultKind>
+pub(crate) fn memory(text: &[u8]) -> Result<(Register, i16), FaultKind>
     ensures { result ≡ memory_of text.now }
 {
     let (base, behind) = split_at_sign(bracketed(text)?);
@@ -101,7 +101,7 @@ fn is_sign(byte: u8) -> bool
 
 /// The distance of a jump in 16 bits, so many slots on from the next one; 0 where the text is a label.
 #[tactic(auto, unfolding(crate::specs::Operand::distance_of))]
-pub fn short_distance(text: &[u8]) -> Result<i16, FaultKind>
+pub(crate) fn short_distance(text: &[u8]) -> Result<i16, FaultKind>
     ensures { result ≡ distance_of short_of text.now }
 {
     match text {
@@ -113,7 +113,7 @@ pub fn short_distance(text: &[u8]) -> Result<i16, FaultKind>
 
 /// The distance of a jump in 32 bits, as in `short_distance`.
 #[tactic(auto, unfolding(crate::specs::Operand::distance_of))]
-pub fn long_distance(text: &[u8]) -> Result<i32, FaultKind>
+pub(crate) fn long_distance(text: &[u8]) -> Result<i32, FaultKind>
     ensures { result ≡ distance_of long_of text.now }
 {
     match text {
@@ -124,7 +124,7 @@ pub fn long_distance(text: &[u8]) -> Result<i32, FaultKind>
 }
 
 /// The label that a jump's target is, if it is one.
-pub fn label(text: &[u8]) -> Option<&[u8]>
+pub(crate) fn label(text: &[u8]) -> Option<&[u8]>
     ensures { option_copied result ≡ label_of text.now }
 {
     is_name(text).then_some(text)

@@ -30,7 +30,7 @@ fn plain<'a>(insn: Insn) -> Statement<'a>
 
 /// The statement that a text without blanks at its ends is.
 #[tactic(auto, unfolding(crate::specs::Statement::statement_of))]
-pub fn read(text: &[u8]) -> Result<Statement<'_>, FaultKind>
+pub(crate) fn read(text: &[u8]) -> Result<Statement<'_>, FaultKind>
     ensures { seen (λ s. (s.insn, option_copied s.label)) result ≡ statement_of text.now }
 {
     let (name, operands) = word(text);

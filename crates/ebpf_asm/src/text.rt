@@ -10,7 +10,7 @@ use crate::line::{Line, read_line};
 use std::alloc::{AllocError, Global};
 
 /// The lines of a text, each read apart from the others.
-pub fn read_lines(alloc: Global, text: &[u8]) -> Result<Vec<Line<'_>>, AllocError>
+pub(crate) fn read_lines(alloc: Global, text: &[u8]) -> Result<Vec<Line<'_>>, AllocError>
     ensures { IfOk result (λ lines. line_views lines.items ≡ lines_of text.now) }
 {
     let mut lines = Vec::new(alloc);

@@ -11,7 +11,7 @@ use crate::operation::{
 
 impl Width {
     /// The class of arithmetic, ALU or ALU64: the low three bits of an opcode (RFC 9669, 3.3).
-    pub fn arithmetic_class(self) -> u8
+    pub(crate) fn arithmetic_class(self) -> u8
         ensures value { result ≡ arithmetic_class self }
         ensures bound { result < 8 }
     {
@@ -22,7 +22,7 @@ impl Width {
     }
 
     /// The class of jumps, JMP32 or JMP: the low three bits of an opcode (RFC 9669, 3.3).
-    pub fn jump_class(self) -> u8
+    pub(crate) fn jump_class(self) -> u8
         ensures value { result ≡ jump_class self }
         ensures bound { result < 8 }
     {
@@ -35,7 +35,7 @@ impl Width {
 
 impl Size {
     /// Bits 3 and 4 of an opcode (RFC 9669, 5).
-    pub fn code(self) -> u8
+    pub(crate) fn code(self) -> u8
         ensures value { result ≡ size_code self }
         ensures bound { result < 4 }
     {
@@ -48,7 +48,7 @@ impl Size {
     }
 
     /// The size with this code, or `None` for any other (RFC 9669, 5).
-    pub fn with_code(code: u8) -> Option<Size>
+    pub(crate) fn with_code(code: u8) -> Option<Size>
         ensures { result ≡ size_with code }
     {
         match code {
@@ -63,7 +63,7 @@ impl Size {
 
 impl SignedSize {
     /// Bits 3 and 4 of an opcode (RFC 9669, 5).
-    pub fn code(self) -> u8
+    pub(crate) fn code(self) -> u8
         ensures value { result ≡ signed_size_code self }
         ensures bound { result < 4 }
     {
@@ -75,7 +75,7 @@ impl SignedSize {
     }
 
     /// The size of a sign-extending load with this code, or `None` for any other (RFC 9669, 5.2).
-    pub fn with_code(code: u8) -> Option<SignedSize>
+    pub(crate) fn with_code(code: u8) -> Option<SignedSize>
         ensures { result ≡ signed_size_with code }
     {
         match code {
@@ -89,7 +89,7 @@ impl SignedSize {
 
 impl Operation {
     /// The high four bits of an opcode (RFC 9669, 4.1).
-    pub fn code(self) -> u8
+    pub(crate) fn code(self) -> u8
         ensures value { result ≡ operation_code self }
         ensures bound { result < 16 }
     {
@@ -110,7 +110,7 @@ impl Operation {
     }
 
     /// The operation of offset 0 with this code.
-    pub fn with_code(code: u8) -> Option<Operation>
+    pub(crate) fn with_code(code: u8) -> Option<Operation>
         ensures { result ≡ operation_with code }
     {
         match code {
@@ -131,7 +131,7 @@ impl Operation {
     }
 
     /// The operation with the same code and this offset.
-    pub fn variant(self, offset: i16) -> Option<Operation>
+    pub(crate) fn variant(self, offset: i16) -> Option<Operation>
         ensures { result ≡ variant_with self offset }
     {
         match offset {
@@ -146,7 +146,7 @@ impl Operation {
     }
 
     /// Do offsets tell several operations of its code?
-    pub fn has_variants(self) -> bool
+    pub(crate) fn has_variants(self) -> bool
         ensures { result ≡ has_variants self }
     {
         matches!(
@@ -156,7 +156,7 @@ impl Operation {
     }
 
     /// The offset that tells the signed division and modulo (RFC 9669, 4.1).
-    pub fn offset(self) -> i16
+    pub(crate) fn offset(self) -> i16
         ensures { result ≡ operation_offset self }
     {
         match self {
@@ -168,7 +168,7 @@ impl Operation {
 
 impl SignExtension {
     /// The offset, which is the number of bits taken (RFC 9669, 4.1).
-    pub fn offset(self) -> i16
+    pub(crate) fn offset(self) -> i16
         ensures { result ≡ extension_offset self }
     {
         match self {
@@ -179,7 +179,7 @@ impl SignExtension {
     }
 
     /// The sign-extending move to this width that is a variant of an operation, by its offset.
-    pub fn variant(width: Width, operation: Operation, offset: i16) -> Option<SignExtension>
+    pub(crate) fn variant(width: Width, operation: Operation, offset: i16) -> Option<SignExtension>
         ensures { result ≡ extension_with width operation offset }
     {
         match (operation, width, offset) {
@@ -193,7 +193,7 @@ impl SignExtension {
     }
 
     /// The width that it extends to.
-    pub fn width(self) -> Width
+    pub(crate) fn width(self) -> Width
         ensures { result ≡ extension_width self }
     {
         match self {
@@ -207,7 +207,7 @@ impl SignExtension {
 
 impl Swap {
     /// The opcode of a byte swap (RFC 9669, 4.2).
-    pub fn opcode(self) -> u8
+    pub(crate) fn opcode(self) -> u8
         ensures { result ≡ swap_opcode self }
     {
         match self {
@@ -218,7 +218,7 @@ impl Swap {
     }
 
     /// The byte swap with this opcode, or `None` for any other (RFC 9669, 4.2).
-    pub fn with_opcode(opcode: u8) -> Option<Swap>
+    pub(crate) fn with_opcode(opcode: u8) -> Option<Swap>
         ensures { result ≡ swap_with opcode }
     {
         match opcode {
@@ -232,7 +232,7 @@ impl Swap {
 
 impl SwapSize {
     /// The immediate of a byte swap (RFC 9669, 4.2).
-    pub fn bits(self) -> i32
+    pub(crate) fn bits(self) -> i32
         ensures { result ≡ kept_bits self }
     {
         match self {
@@ -243,7 +243,7 @@ impl SwapSize {
     }
 
     /// The width of this many bits, or `None` if no byte swap has it (RFC 9669, 4.2).
-    pub fn with_bits(bits: i32) -> Option<SwapSize>
+    pub(crate) fn with_bits(bits: i32) -> Option<SwapSize>
         ensures { result ≡ swap_size_with bits }
     {
         match bits {
@@ -257,7 +257,7 @@ impl SwapSize {
 
 impl Relation {
     /// The high four bits of an opcode (RFC 9669, 4.3).
-    pub fn code(self) -> u8
+    pub(crate) fn code(self) -> u8
         ensures value { result ≡ relation_code self }
         ensures bound { result < 16 }
     {
@@ -277,7 +277,7 @@ impl Relation {
     }
 
     /// The condition with this code, or `None` for any other (RFC 9669, 4.3).
-    pub fn with_code(code: u8) -> Option<Relation>
+    pub(crate) fn with_code(code: u8) -> Option<Relation>
         ensures { result ≡ relation_with code }
     {
         match code {

@@ -19,7 +19,7 @@ pub struct Fields {
 }
 
 /// The fields of the slot at the front.
-pub fn from_bytes(bytes: &[u8]) -> Fields
+pub(crate) fn from_bytes(bytes: &[u8]) -> Fields
     requires { 8 ≤ length bytes.now }
     ensures { result ≡ fields_at bytes.now }
 {
@@ -35,7 +35,7 @@ pub fn from_bytes(bytes: &[u8]) -> Fields
 }
 
 /// The bytes of a slot.
-pub fn to_bytes(fields: Fields) -> [u8; 8]
+pub(crate) fn to_bytes(fields: Fields) -> [u8; 8]
     requires dst { fields.dst < 16 }
     requires src { fields.src < 16 }
     ensures { result ≡ slot_bytes fields }

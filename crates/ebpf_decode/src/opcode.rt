@@ -44,7 +44,7 @@ pub struct Uses {
 
 impl Opcode {
     /// What the opcode names, by its class (RFC 9669, 3.3).
-    pub fn named(opcode: u8) -> Option<Opcode>
+    pub(crate) fn named(opcode: u8) -> Option<Opcode>
         ensures { result ≡ opcode_named opcode }
     {
         match opcode % 8 {
@@ -60,7 +60,7 @@ impl Opcode {
     }
 
     /// Which fields the instruction uses.
-    pub fn uses(self) -> Uses
+    pub(crate) fn uses(self) -> Uses
         ensures { result ≡ uses self }
     {
         let (dst, src, offset, immediate) = match self {
