@@ -1,6 +1,7 @@
 use super::*;
 use ebpf_decode::decode;
 use std::alloc::Global;
+use std::process::Abort;
 use std::test::*;
 
 /// Lines with each mnemonic once, and in the comment its bytes (RFC 9669, 3 to 5).
@@ -189,6 +190,21 @@ const OUTSIDE: [(&str, &str, &str); 17] = [
     ),
 ];
 
+/// Programs, with their bytes and their listing.
+const LISTED: [(&str, &str, &str); 3] = [
+    (
+        "emits the first 8 bytes of a block whose first byte is 7",
+        "71260000000000005506030007000000bf21000000000000b7020000080000008500000001000000b7000000000000009500000000000000",
+        "ldxb r6, [r2+0]\njne r6, 7, +3\nmov r1, r2\nmov r2, 8\ncall 1\nmov r0, 0\nexit\n",
+    ),
+    (
+        "a wide value",
+        "18010000ffffffff00000000ffffffff",
+        "lddw r1, 0xffffffffffffffff\n",
+    ),
+    ("an immediate", "07010000ffffffff", "add r1, -1\n"),
+];
+
 /// Texts that are refused, with the line and the number of the fault.
 const REFUSED: [(&str, usize, u8); 24] = [
     ("mov r0, 0\nfrob r1\n", 2, 1),
@@ -297,20 +313,39 @@ fn more_than_4096_slots_are_refused(rt: HostRuntime) -> Result<(), Fail> {
     Ok(())
 }
 
+/// Lists the program with these bytes behind a comment, and assembles the text again.
+fn check_listing(
+    rt: &(impl Abort + AllocGlobal),
+    name: &str,
+    digits: &str,
+    listing: &str,
+) -> Result<(), Fail> {
+    let bytes = bytes_of_hex(rt.alloc(), digits)?;
+    let program = decode(rt.alloc(), &bytes)?;
+    let mut text = String::from_str(rt.alloc(), "; a program\n")?;
+    disassemble(&program, &mut text)?;
+    assert_eq!(rt;
+        text.as_str().strip_prefix("; a program\n"),
+        Some(listing),
+        "{name}"
+    );
+    let again = assemble(rt.alloc(), text.as_bytes())?;
+    assert_eq!(rt; again.as_slice(), bytes.as_slice(), "{name}");
+    Ok(())
+}
+
+#[test]
+fn programs_are_listed_and_assembled_again(rt: HostRuntime) -> Result<(), Fail> {
+    for (name, digits, listing) in LISTED {
+        check_listing(&rt, name, digits, listing)?;
+    }
+    Ok(())
+}
+
 #[test]
 fn programs_from_outside_are_listed_as_their_makers_say(rt: HostRuntime) -> Result<(), Fail> {
     for (name, digits, listing) in OUTSIDE {
-        let bytes = bytes_of_hex(rt.alloc(), digits)?;
-        let program = decode(rt.alloc(), &bytes)?;
-        let mut text = String::from_str(rt.alloc(), "; a program\n")?;
-        disassemble(&program, &mut text)?;
-        assert_eq!(rt;
-            text.as_str().strip_prefix("; a program\n"),
-            Some(listing),
-            "{name}"
-        );
-        let again = assemble(rt.alloc(), text.as_bytes())?;
-        assert_eq!(rt; again.as_slice(), bytes.as_slice(), "{name}");
+        check_listing(&rt, name, digits, listing)?;
     }
     Ok(())
 }

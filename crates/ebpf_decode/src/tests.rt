@@ -117,6 +117,7 @@ fn programs_and_their_bytes(rt: HostRuntime) -> Result<(), Fail> {
 fn the_instructions_of_a_program(rt: HostRuntime) -> Result<(), Fail> {
     let r1 = Register::new(1).ok_or("a register")?;
     let r10 = Register::new(10).ok_or("a register")?;
+    assert_eq!(rt; (r10.number(), r10.index()), (10, 10));
     let cases = [
         (
             [
@@ -168,6 +169,9 @@ fn the_instructions_of_a_program(rt: HostRuntime) -> Result<(), Fail> {
         assert_eq!(rt; program.slots(), 2);
         assert_eq!(rt; program.at(0).copied(), Some(*instruction));
         assert_eq!(rt; program.at(2).copied(), None);
+        let mut spelled = Vec::new(rt.alloc());
+        push_instruction(&mut spelled, instruction)?;
+        assert!(rt; bytes.starts_with(spelled.as_slice()));
     }
     Ok(())
 }
