@@ -279,17 +279,19 @@ fn texts_assemble_to_their_bytes(rt: HostRuntime) -> Result<(), Fail> {
     Ok(())
 }
 
+/// The line and the number of a text's fault.
+fn fault_of(alloc: Global, text: &str) -> Result<(usize, u8), Fail> {
+    match assemble(alloc, text.as_bytes()) {
+        Ok(_) => Err(Fail::from("it assembles")),
+        Err(AssembleError::Fault(fault)) => Ok((fault.line, fault.kind.number())),
+        Err(AssembleError::Memory) => Err(Fail::from("no memory")),
+    }
+}
+
 #[test]
 fn the_lowest_fault_is_told(rt: HostRuntime) -> Result<(), Fail> {
     for (text, line, number) in REFUSED {
-        match assemble(rt.alloc(), text.as_bytes()) {
-            Err(AssembleError::Fault(fault)) => {
-                assert_eq!(rt; fault.line, line, "{text}");
-                assert_eq!(rt; fault.kind.number(), number, "{text}");
-            }
-            Err(AssembleError::Memory) => assert!(rt; false, "out of memory"),
-            Ok(_) => assert!(rt; false, "assembled: {text}"),
-        }
+        assert_eq!(rt; fault_of(rt.alloc(), text)?, (line, number), "{text}");
     }
     Ok(())
 }
@@ -301,15 +303,7 @@ fn more_than_4096_slots_are_refused(rt: HostRuntime) -> Result<(), Fail> {
         text.push_str("exit\n")?;
     }
     text.push_str("lddw r1, 1\n")?;
-    assert!(rt;
-        matches!(
-            assemble(rt.alloc(), text.as_bytes()),
-            Err(AssembleError::Fault(AsmFault {
-                line: 4096,
-                kind: FaultKind::TooLong
-            }))
-        )
-    );
+    assert_eq!(rt; fault_of(rt.alloc(), text.as_str())?, (4096, 7));
     Ok(())
 }
 
