@@ -1,13 +1,10 @@
-use Rattle.std.proofs.Common.{length, ap, ◌∙◌}
+use Rattle.std.proofs.Common.{◌≤◌, length, rules}
 use Rattle.emit_append.specs.declared.block.TheConstants.{LARGEST_BLOCK}
-use Rattle.emit_append.proofs.Padding.{length-padded, padded-zeros}
+use Rattle.emit_append.proofs.Padding.{padded-front}
 use Rattle.emit_append.proofs.packer.release.Goals as goal
 
 pub returns-clause-block : goal.returns-clause-block
 returns-clause-block c =
-    let zeros = padded-zeros c.args.block LARGEST_BLOCK c.args.pending.now.items c.requires.small in
-    cc (zeros, c.append.ensures, c.take-full.ensures.value, c.len.ensures.value)
-
-pub returns-clause-whole : goal.returns-clause-whole
-returns-clause-whole c =
-    ap length (returns-clause-block c) ∙ length-padded c.args.block c.args.pending.now.items c.requires.fits
+    let long : c.args.pending ≤ length c.args.bytes.now = search rules in
+    let front = padded-front c.args.block c.args.pending LARGEST_BLOCK c.args.bytes.now c.append.new.bytes c.requires.fits c.requires.small long c.append.ensures.front in
+    cc (front, c.truncate.ensures.items, c.from-full.ensures.0)
