@@ -1,6 +1,6 @@
 //! The packer, which keeps one output block.
 
-ghost use Rattle.std.specs.Prelude.{◌≡◌, ◌≤◌, ◌+◌, ◌++◌, length, take, IfSome};
+ghost use Rattle.std.specs.Prelude.{◌≡◌, ◌<◌, ◌≤◌, ◌+◌, [], ◌∷◌, ◌++◌, length, nat_le, take, IfSome};
 ghost use Rattle.arrayvec.specs.ArrayVec.{array_vec_len};
 ghost use Rattle.emit_append.specs.BlockSize.{IsBlockSize};
 ghost use Rattle.emit_append.specs.Packer.{after_put, blocks_of, given_by_finish, given_by_put, new_packer};
@@ -51,6 +51,44 @@ impl Packer {
         }
     }
 
+    /// Is there room for a group of so many bytes behind what is pending?
+    #[inline]
+    pub fn has_room(&self, bytes: usize) -> bool
+        ensures { result ≡ nat_le (length self.now.pending + bytes) self.now.block }
+    {
+        bytes <= self.block - self.pending
+    }
+
+    /// Packs one more group into the pending block, which has room for it. A loop over small groups
+    /// is several times faster by this than by [`Packer::put`], whose answer is as large as a block.
+    #[inline]
+    pub fn add(&mut self, group: &[u8])
+        requires { length self.old.pending + length group.now ≤ self.old.block }
+        ensures blocks { [] ≡ given_by_put self.old group.now }
+        ensures state { self.new ≡ after_put self.old group.now }
+        ensures fits { length self.new.pending ≤ self.new.block }
+    {
+        let pending = self.pending;
+        append(&mut self.bytes, pending, group);
+        self.pending = pending + group.len();
+    }
+
+    /// Releases the pending block, which has no room for a group, and begins the next one with that
+    /// group.
+    pub fn release(&mut self, group: &[u8]) -> Full
+        requires whole { length group.now ≤ self.old.block }
+        requires passes { self.old.block < length self.old.pending + length group.now }
+        ensures block { result.items ∷ [] ≡ given_by_put self.old group.now }
+        ensures state { self.new ≡ after_put self.old group.now }
+        ensures whole { array_vec_len result ≡ self.old.block }
+        ensures fits { length self.new.pending ≤ self.new.block }
+    {
+        let full = copy(&mut self.bytes, self.pending, self.block);
+        append(&mut self.bytes, 0, group);
+        self.pending = group.len();
+        full
+    }
+
     /// Packs one more group, after what is pending. Where the group doesn't fit into the rest of
     /// the pending block, that block is released and the group begins the next one. A group of no
     /// bytes changes nothing.
@@ -62,14 +100,11 @@ impl Packer {
         ensures whole { IfSome result (λ full. array_vec_len full ≡ self.old.block) }
         ensures fits { length self.new.pending ≤ self.new.block }
     {
-        let pending = self.pending;
-        if group.len() <= self.block - pending {
-            append(&mut self.bytes, pending, group);
-            self.pending = pending + group.len();
+        if self.has_room(group.len()) {
+            self.add(group);
             return None;
         }
-        self.pending = group.len();
-        Some(exchange(&mut self.bytes, pending, self.block, group))
+        Some(self.release(group))
     }
 
     /// Releases the pending block, where it holds a group.
@@ -83,7 +118,7 @@ impl Packer {
             return None;
         }
         self.pending = 0;
-        Some(release(&mut self.bytes, pending, self.block))
+        Some(copy(&mut self.bytes, pending, self.block))
     }
 }
 
@@ -97,24 +132,8 @@ fn append(bytes: &mut [u8], first: usize, more: &[u8])
     bytes[first..first + more.len()].copy_from_slice(more);
 }
 
-/// Releases the pending bytes, and writes a group in their place.
-#[inline(never)]
-fn exchange(bytes: &mut [u8; LARGEST_BLOCK], pending: usize, block: usize, group: &[u8]) -> Full
-    requires fits { pending ≤ block }
-    requires small { block ≤ LARGEST_BLOCK }
-    requires group { length group.now ≤ block }
-    ensures block { result.items ≡ padded block (take pending bytes.old) }
-    ensures whole { array_vec_len result ≡ block }
-    ensures begun { take (length group.now) bytes.new ≡ group.now }
-    ensures size { length bytes.new ≡ LARGEST_BLOCK }
-{
-    let full = release(bytes, pending, block);
-    append(bytes, 0, group);
-    full
-}
-
 /// The pending bytes as a block, the rest of it zeros.
-fn release(bytes: &mut [u8; LARGEST_BLOCK], pending: usize, block: usize) -> Full
+fn copy(bytes: &mut [u8; LARGEST_BLOCK], pending: usize, block: usize) -> Full
     requires fits { pending ≤ block }
     requires small { block ≤ LARGEST_BLOCK }
     ensures block { result.items ≡ padded block (take pending bytes.old) }

@@ -81,6 +81,22 @@ fn packs_as_many_frames_as_fit(rt: HostRuntime) -> Result<(), Fail> {
 }
 
 #[test]
+fn packs_where_room_is_asked_for_first(rt: HostRuntime) -> Result<(), Fail> {
+    let mut packer = Packer::new(512);
+    assert!(rt; packer.has_room(512));
+    packer.add(&[6; 300]);
+    assert!(rt; packer.has_room(212));
+    assert!(rt; !packer.has_room(213));
+    let full = packer.release(&[7; 213]);
+    let mut expected = Vec::from_slice(rt.alloc(), &[6; 300])?;
+    expected.resize(512, 0)?;
+    assert_eq!(rt; full.as_slice(), expected.as_slice());
+    assert!(rt; packer.has_room(299));
+    assert!(rt; !packer.has_room(300));
+    Ok(())
+}
+
+#[test]
 fn packs_the_largest_blocks(rt: HostRuntime) -> Result<(), Fail> {
     let mut packer = Packer::new(4096);
     assert!(rt; packer.put(&[1; 4096]).is_none());

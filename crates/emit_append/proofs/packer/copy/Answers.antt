@@ -1,7 +1,7 @@
 use Rattle.std.proofs.Common.{◌≤◌, length, rules}
 use Rattle.emit_append.specs.declared.block.TheConstants.{LARGEST_BLOCK}
 use Rattle.emit_append.proofs.Padding.{padded-front}
-use Rattle.emit_append.proofs.packer.release.Goals as goal
+use Rattle.emit_append.proofs.packer.copy.Goals as goal
 
 pub returns-clause-block : goal.returns-clause-block
 returns-clause-block c =
