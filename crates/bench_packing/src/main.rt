@@ -1,7 +1,7 @@
 //! How fast groups are packed, beside a plain copy of the same bytes.
 #![tactic(auto)]
 
-ghost use Rattle.std.specs.Prelude.{◌≤◌, ◌<◌};
+ghost use Rattle.std.specs.Prelude.{◌≡◌, ◌≤◌, ◌<◌, length, IfOk};
 
 mod work;
 
@@ -10,60 +10,85 @@ use std::time::Instant;
 use std::{env, io};
 use work::{copy_all, copy_groups, pack_groups};
 
-/// The bytes of the groups of one round.
-const BYTES: usize = 1 << 16;
+/// The lengths of the groups.
+const LENGTHS: [usize; 2] = [10, 510];
 
-const ROUNDS: usize = 2000;
+/// So many bytes stay in a processor's cache.
+const IN_CACHE: usize = 1 << 16;
+
+/// So many bytes, as those of a whole image, don't.
+const IN_MEMORY: usize = 1 << 26;
 
 /// With no word it prints what is packed, with a word the rate of packing as a part of the rate of
 /// copying, each the best of many rounds.
 fn main(rt: HostRuntime) -> io::Result<()> {
-    let timed = env::args(&rt)?.count() > 1;
-    let source = bytes(rt.alloc())?;
-    for length in [10, 510] {
-        if timed {
-            compare(&rt, &source, length)?;
-        } else {
-            let mut target = [0u8; 4096];
-            let blocks = pack_groups(&source, length, &mut target);
-            println!(rt; "groups of {length} bytes fill {blocks} blocks")?;
-        }
+    if env::args(&rt)?.count() > 1 {
+        compare(&rt, IN_CACHE, 2000)?;
+        return compare(&rt, IN_MEMORY, 20);
+    }
+    let source = bytes(rt.alloc(), IN_CACHE)?;
+    let mut target = bytes(rt.alloc(), IN_CACHE + IN_CACHE / 8)?;
+    for length in LENGTHS {
+        let blocks = pack_groups(&source, length, &mut target) / 4096;
+        println!(rt; "groups of {length} bytes fill {blocks} blocks")?;
     }
     Ok(())
 }
 
-fn bytes(alloc: Global) -> io::Result<Vec<u8>> {
-    let mut bytes = Vec::with_capacity(alloc, BYTES)?;
-    for i in 0..BYTES {
+fn bytes(alloc: Global, count: usize) -> io::Result<Vec<u8>>
+    ensures { IfOk result (λ bytes. length bytes.items ≡ count) }
+{
+    let mut bytes = Vec::with_capacity(alloc, count)?;
+    for i in 0..count {
         bytes.push((i % 251) as u8)?;
     }
     Ok(bytes)
 }
 
-fn compare(rt: &HostRuntime, source: &[u8], length: usize) -> io::Result<()>
-    requires some { 0 < length }
-    requires fits { length ≤ 4096 }
+/// Compares over so many bytes, for groups of each length.
+fn compare(rt: &HostRuntime, count: usize, rounds: u32) -> io::Result<()>
+    requires { count ≤ IN_MEMORY }
 {
-    let mut target = Vec::from_slice(rt.alloc(), source)?;
+    let source = bytes(rt.alloc(), count)?;
+    let mut target = bytes(rt.alloc(), count + count / 8)?;
+    for length in LENGTHS {
+        measure(rt, &source, length, &mut target, rounds)?;
+    }
+    Ok(())
+}
+
+/// Prints the rate of packing, as a part of the rate of copying group by group and at once.
+fn measure(
+    rt: &HostRuntime,
+    source: &[u8],
+    group: usize,
+    target: &mut [u8],
+    rounds: u32,
+) -> io::Result<()>
+    requires some { 0 < group }
+    requires fits { group ≤ 4096 }
+    requires room { length source.now ≤ length target.old }
+{
     let mut packing = u64::MAX;
     let mut copying = u64::MAX;
     let mut whole = u64::MAX;
-    let mut seen = 0u64;
-    for _ in 0..ROUNDS {
+    let mut filled = 0;
+    for _ in 0..rounds {
         let start = Instant::now(rt)?;
-        seen = seen.wrapping_add(pack_groups(source, length, &mut target));
+        filled = pack_groups(source, group, target);
         packing = packing.min(nanos_since(rt, start)?);
 
         let start = Instant::now(rt)?;
-        seen = seen.wrapping_add(copy_groups(source, length, &mut target));
+        filled = filled.max(copy_groups(source, group, target));
         copying = copying.min(nanos_since(rt, start)?);
 
         let start = Instant::now(rt)?;
-        seen = seen.wrapping_add(copy_all(source, &mut target));
+        filled = filled.max(copy_all(source, target));
         whole = whole.min(nanos_since(rt, start)?);
     }
     println!(rt;
-        "groups of {length} bytes: packed at {} % of the rate of a copy group by group, {} % of one copy of all ({seen} seen)",
+        "{} KiB in groups of {group} bytes: packed at {} % of the rate of a copy group by group, {} % of one copy of all ({filled} bytes filled)",
+        source.len() / 1024,
         percent(copying, packing),
         percent(whole, packing)
     )

@@ -1,59 +1,76 @@
-//! The two things that are compared.
+//! The things that are compared.
 
-ghost use Rattle.std.specs.Prelude.{◌≡◌, ◌≤◌, ◌<◌, length};
+ghost use Rattle.std.specs.Prelude.{◌≡◌, ◌≤◌, ◌<◌, ◌++◌, length, drop};
 
 use emit_append::{Full, Packer};
 
 const BLOCK: u32 = 4096;
 
-/// Packs the whole groups of this length in the bytes, puts each block into the target as it
-/// comes, and answers how many blocks there are.
-pub fn pack_groups(bytes: &[u8], length: usize, target: &mut [u8]) -> u64
+/// Packs the whole groups of this length in the bytes, puts each block into the target behind the
+/// one before, and answers how many bytes of the target the blocks fill.
+pub(crate) fn pack_groups(bytes: &[u8], length: usize, target: &mut [u8]) -> usize
     requires some { 0 < length }
     requires fits { length ≤ 4096 }
 {
     let mut packer = Packer::new(BLOCK);
-    let mut blocks = 0u64;
+    let mut filled = 0;
     let mut rest = bytes;
     while rest.len() >= length {
         let (group, after) = rest.split_at(length);
-        if let Some(full) = packer.put(group) {
-            keep(&full, target);
-            blocks = blocks.wrapping_add(1);
-        }
+        filled = pack(&mut packer, group, target, filled);
         rest = after;
     }
-    if let Some(full) = packer.finish() {
-        keep(&full, target);
-        blocks = blocks.wrapping_add(1);
-    }
-    blocks
-}
-
-fn keep(full: &Full, target: &mut [u8]) {
-    if full.len() <= target.len() {
-        target[..full.len()].copy_from_slice(full.as_slice());
+    match packer.finish() {
+        Some(full) => keep(&full, target, filled),
+        None => filled,
     }
 }
 
-/// Copies the same groups, one after another.
-pub fn copy_groups(bytes: &[u8], length: usize, target: &mut [u8]) -> u64
-    requires some { 0 < length }
+/// Packs one group, and puts the block that this may release into the target.
+fn pack(packer: &mut Packer, group: &[u8], target: &mut [u8], filled: usize) -> usize
+    requires fits { length group.now ≤ packer.old.block }
+    requires inside { filled ≤ length target.old }
+    ensures block { packer.new.block ≡ packer.old.block }
+    ensures size { length target.new ≡ length target.old }
+    ensures inside { result ≤ length target.new }
 {
-    let mut copied = 0u64;
-    let mut at = 0;
-    while length <= bytes.len() - at && length <= target.len() - at {
-        target[at..at + length].copy_from_slice(&bytes[at..at + length]);
-        at += length;
-        copied = copied.wrapping_add(1);
+    if packer.has_room(group.len()) {
+        packer.add(group);
+        return filled;
+    }
+    keep(&packer.release(group), target, filled)
+}
+
+/// Puts a block behind what is filled of the target, where there is room for it.
+fn keep(full: &Full, target: &mut [u8], filled: usize) -> usize
+    requires { filled ≤ length target.old }
+    ensures size { length target.new ≡ length target.old }
+    ensures inside { result ≤ length target.new }
+{
+    if full.len() > target.len() - filled {
+        return filled;
+    }
+    target[filled..filled + full.len()].copy_from_slice(full.as_slice());
+    filled + full.len()
+}
+
+/// Copies the same groups, one after another, and answers how many bytes they are.
+pub(crate) fn copy_groups(bytes: &[u8], length: usize, target: &mut [u8]) -> usize
+    requires { 0 < length }
+{
+    let mut copied = 0;
+    while length <= bytes.len() - copied && length <= target.len() - copied {
+        target[copied..copied + length].copy_from_slice(&bytes[copied..copied + length]);
+        copied += length;
     }
     copied
 }
 
-/// Copies all of the bytes at once.
-pub fn copy_all(bytes: &[u8], target: &mut [u8]) -> u64
-    requires { length bytes.now ≡ length target.old }
+/// Copies all of the bytes at once, and answers how many they are.
+pub(crate) fn copy_all(bytes: &[u8], target: &mut [u8]) -> usize
+    requires { length bytes.now ≤ length target.old }
+    ensures { target.new ≡ bytes.now ++ drop (length bytes.now) target.old }
 {
-    target.copy_from_slice(bytes);
-    target.first().map_or(0, |byte| u64::from(*byte))
+    target[..bytes.len()].copy_from_slice(bytes);
+    bytes.len()
 }

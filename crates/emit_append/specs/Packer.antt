@@ -1,6 +1,7 @@
 -- What a packer is seen as, and what its calls give, in the words of the packing.
 use Rattle.std.specs.Prelude.{◌≡◌, ℕ, ◌≤◌, List, [], ◌∷◌, ◌++◌, length, Option, None, Some}
 use Rattle.arrayvec.specs.ArrayVec.{ArrayVec}
+use Rattle.emit_append.specs.declared.block.TheConstants.{LARGEST_BLOCK}
 use Rattle.emit_append.specs.BlockSize.{IsBlockSize}
 use Rattle.emit_append.specs.Packing.{packed, pending_of, released}
 
@@ -9,9 +10,11 @@ pub record PackerState : Type 0 where
   pub block : ℕ
   pub pending : List ℕ
 
-pub record IsPacker (block : ℕ) (pending : List ℕ) : Type 0 where
+-- so many bytes at the front of an array are pending
+pub record IsPacker (block pending : ℕ) (bytes : List ℕ) : Type 0 where
   pub size : IsBlockSize block
-  pub fits : length pending ≤ block
+  pub fits : pending ≤ block
+  pub whole : length bytes ≡ LARGEST_BLOCK
 
 abbrev pub new_packer : ℕ → PackerState
 new_packer block = record { block = block; pending = [] }

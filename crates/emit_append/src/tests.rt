@@ -47,15 +47,52 @@ fn knows_the_block_sizes(rt: HostRuntime) {
 #[test]
 fn releases_a_block_that_the_next_group_passes(rt: HostRuntime) -> Result<(), Fail> {
     let mut packer = Packer::new(512);
-    assert!(rt; packer.put(&[7; 300]).is_none());
+    assert!(rt; packer.put(&[6; 300]).is_none());
     assert!(rt; packer.put(&[]).is_none());
     assert!(rt; packer.put(&[7; 212]).is_none());
     let full = packer.put(&[8; 3]).expect(&rt, "a full block");
-    assert_eq!(rt; full.as_slice(), [7; 512].as_slice());
+    let mut expected = Vec::from_slice(rt.alloc(), &[6; 300])?;
+    expected.extend_from_slice(&[7; 212])?;
+    assert_eq!(rt; full.as_slice(), expected.as_slice());
     let rest = packer.finish().expect(&rt, "the pending block");
     let expected = block_with(rt.alloc(), &[8; 3], 512, 0)?;
     assert_eq!(rt; rest.as_slice(), expected.as_slice());
     assert!(rt; packer.finish().is_none());
+    Ok(())
+}
+
+#[test]
+fn packs_as_many_frames_as_fit(rt: HostRuntime) -> Result<(), Fail> {
+    let mut packer = Packer::new(512);
+    let mut expected = Vec::new(rt.alloc());
+    for frame in 0..51u8 {
+        let group = [8, 0, 7, frame, 0, 0, 0, 0, 0, 0];
+        assert!(rt; packer.put(&group).is_none());
+        expected.extend_from_slice(&group)?;
+    }
+    expected.resize(512, 0)?;
+    let last = [8, 0, 7, 51, 0, 0, 0, 0, 0, 0];
+    let full = packer.put(&last).expect(&rt, "a full block");
+    assert_eq!(rt; full.as_slice(), expected.as_slice());
+    let rest = packer.finish().expect(&rt, "the pending block");
+    let expected = block_with(rt.alloc(), &last, 512, 0)?;
+    assert_eq!(rt; rest.as_slice(), expected.as_slice());
+    Ok(())
+}
+
+#[test]
+fn packs_where_room_is_asked_for_first(rt: HostRuntime) -> Result<(), Fail> {
+    let mut packer = Packer::new(512);
+    assert!(rt; packer.has_room(512));
+    packer.add(&[6; 300]);
+    assert!(rt; packer.has_room(212));
+    assert!(rt; !packer.has_room(213));
+    let full = packer.release(&[7; 213]);
+    let mut expected = Vec::from_slice(rt.alloc(), &[6; 300])?;
+    expected.resize(512, 0)?;
+    assert_eq!(rt; full.as_slice(), expected.as_slice());
+    assert!(rt; packer.has_room(299));
+    assert!(rt; !packer.has_room(300));
     Ok(())
 }
 
@@ -106,9 +143,15 @@ fn reads_block_after_block(rt: HostRuntime) -> Result<(), Fail> {
     assert_eq!(rt; records[0].as_slice(), [9].as_slice());
     assert_eq!(rt; records[1].as_slice(), [8, 8].as_slice());
     assert_eq!(rt; records[2].as_slice(), [7].as_slice());
-    blocks.push(0)?;
-    match unpack(rt.alloc(), &blocks, 4096) {
-        Err(UnpackFault::At(place)) => assert_eq!(rt; place, 8192),
+    Ok(())
+}
+
+#[test]
+fn refuses_a_part_of_a_block(rt: HostRuntime) -> Result<(), Fail> {
+    let mut bytes = block_with(rt.alloc(), &[3, 0, b'a', b'b', b'c'], 512, 0)?;
+    bytes.push(0)?;
+    match unpack(rt.alloc(), &bytes, 512) {
+        Err(UnpackFault::At(place)) => assert_eq!(rt; place, 512),
         Err(UnpackFault::Memory) => return Err(AllocError)?,
         Ok(records) => panic!(rt; "{} records", records.len()),
     }

@@ -1,8 +1,8 @@
 use Rattle.std.proofs.Common.{◌-◌, ◌≤◌, length}
 use Rattle.bench_packing.proofs.work.copy_groups.Given as goal
 
-abbrev pub invariant-loop-at : goal.invariant-loop-at
-invariant-loop-at l = (l.at ≤ length l.bytes) × (l.at ≤ length l.target)
+abbrev pub invariant-loop-copied : goal.invariant-loop-copied
+invariant-loop-copied l = (l.copied ≤ length l.bytes) × (l.copied ≤ length l.target)
 
-abbrev pub decreases-loop-at : goal.decreases-loop-at
-decreases-loop-at l = length l.bytes - l.at
+abbrev pub decreases-loop-copied : goal.decreases-loop-copied
+decreases-loop-copied l = length l.bytes - l.copied
