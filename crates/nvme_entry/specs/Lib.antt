@@ -1,3 +1,4 @@
 pub mod Checks
 pub mod Completion
 pub mod Entry
+pub mod Filter

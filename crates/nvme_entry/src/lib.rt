@@ -5,10 +5,12 @@
 mod command;
 mod completion;
 mod entry;
+mod filter;
 #[cfg(test)]
 mod tests;
 
-pub use command::{BlockCount, Command, MOST_TRANSFER, Opcode};
+pub use command::{BlockCount, Command, DwordCount, MOST_TRANSFER, Opcode};
 pub use completion::Completion;
 pub use entry::Entry;
+pub use filter::ZoneFilter;
 pub use zone_state::Status;
