@@ -2,3 +2,5 @@ pub mod Checks
 pub mod Completion
 pub mod Entry
 pub mod Filter
+pub mod Laws
+pub mod Report
