@@ -174,8 +174,9 @@ fn zeros_but<const N: usize>(set: &[(usize, u8)]) -> [u8; N] {
 #[test]
 fn reports_have_their_bytes(rt: HostRuntime) -> Result<(), Fail> {
     let empty = Zone::new(ZoneState::Empty, 0, 6).ok_or("an empty zone")?;
+    let zones = [empty, empty, empty, empty];
     let report = Report {
-        zones: &[empty, empty, empty, empty],
+        zones: &zones,
         first: 0,
         size: 8,
         filter: ZoneFilter::All,
@@ -196,8 +197,9 @@ fn reports_have_their_bytes(rt: HostRuntime) -> Result<(), Fail> {
 #[test]
 fn short_reports_begin_the_header(rt: HostRuntime) -> Result<(), Fail> {
     let empty = Zone::new(ZoneState::Empty, 0, 6).ok_or("an empty zone")?;
+    let zones = [empty, empty, empty, empty];
     let report = Report {
-        zones: &[empty, empty, empty, empty],
+        zones: &zones,
         first: 0,
         size: 8,
         filter: ZoneFilter::All,
@@ -219,8 +221,9 @@ fn short_reports_begin_the_header(rt: HostRuntime) -> Result<(), Fail> {
 fn reports_begin_at_a_zone_and_are_filtered(rt: HostRuntime) -> Result<(), Fail> {
     let empty = Zone::new(ZoneState::Empty, 0, 6).ok_or("an empty zone")?;
     let opened = Zone::new(ZoneState::ImplicitlyOpened, 1, 6).ok_or("an open zone")?;
+    let zones = [empty, opened, empty, empty];
     let report = Report {
-        zones: &[empty, opened, empty, empty],
+        zones: &zones,
         first: 1,
         size: 8,
         filter: ZoneFilter::Empty,
@@ -248,8 +251,9 @@ fn reports_begin_at_a_zone_and_are_filtered(rt: HostRuntime) -> Result<(), Fail>
 #[test]
 fn a_full_zone_has_no_write_pointer(rt: HostRuntime) -> Result<(), Fail> {
     let full = Zone::new(ZoneState::Full, 0, 6).ok_or("a full zone")?;
+    let zones = [full];
     let report = Report {
-        zones: &[full],
+        zones: &zones,
         first: 0,
         size: 8,
         filter: ZoneFilter::Full,
