@@ -1,5 +1,5 @@
 -- What a report holds, and that it is written so.
-use Rattle.std.proofs.Common.{◌≡◌, ℕ, zero, suc, ◌+◌, ◌-◌, ◌*◌, ◌/◌, ◌^◌, ◌≤◌, ◌<◌, min, Bool, true, false, cond, List, [], ◌∷◌, ◌++◌, length, map, take, drop, replicate, refl, ap, sym, ◌∙◌, arith, append_assoc, length-append, ⊎_elim}
+use Rattle.std.proofs.Common.{◌≡◌, ℕ, suc, ◌+◌, ◌-◌, ◌*◌, ◌/◌, ◌^◌, ◌≤◌, ◌<◌, min, Bool, true, false, cond, List, [], ◌∷◌, ◌++◌, length, map, take, drop, replicate, refl, ap, sym, ◌∙◌, arith, append_assoc, length-append, ⊎_elim}
 use Rattle.std.specs.List.{enumerate_from, flat_map}
 use Rattle.std.proofs.lemmas.Bool.{cases_lt}
 use Rattle.std.proofs.lemmas.List.{take_all, drop_all, drop_at, take_at, take_min, drop-drop, length-drop, length-take, length-take-le, nil_from_length}
@@ -13,7 +13,7 @@ use Rattle.nvme_entry.specs.declared.filter.ZoneFilter.{ZoneFilter}
 use Rattle.nvme_entry.specs.declared.filter.ZoneFilter.TheVariants.{All}
 use Rattle.nvme_entry.specs.Report.{descriptor_at, fitting, header, listed, matching, report, taken}
 use Rattle.nvme_entry.specs.Laws.{GivesWhatMatches, ListsEveryZone, Tells, descriptors_in, number_in, pieces}
-use Rattle.nvme_entry.proofs.Listings.{length-descriptor, length-header, length-pieces, length-whole, whole}
+use Rattle.nvme_entry.proofs.Listings.{length-descriptor, length-header, length-whole, whole}
 
 length-each : (size : ℕ) (zone : ℕ × ZoneRecord) → length (descriptor_at size zone) ≡ 64
 length-each size zone = length-descriptor zone.1 (zone.0 * size)

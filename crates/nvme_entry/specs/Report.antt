@@ -1,11 +1,11 @@
 -- The report of zones that Zone Management Receive gives (ZNS 1.1, 3.4.2).
-use Rattle.std.specs.Prelude.{ℕ, Bool, true, false, ◌+◌, ◌-◌, ◌*◌, ◌/◌, ◌^◌, List, [], ◌∷◌, ◌++◌, length, take, drop, filter, replicate, if◌then◌else◌}
+use Rattle.std.specs.Prelude.{ℕ, Bool, true, false, ◌+◌, ◌-◌, ◌*◌, ◌/◌, ◌^◌, List, ◌∷◌, ◌++◌, length, take, drop, filter, replicate, if◌then◌else◌}
 use Rattle.std.specs.List.{enumerate_from, flat_map}
 use Rattle.byteorder.specs.Endian.{little_bytes}
 use Rattle.zone_state.specs.State.{code_of}
 use Rattle.zone_state.specs.Zone.{ZoneRecord}
 use Rattle.zone_state.specs.declared.state.ZoneState.{ZoneState}
-use Rattle.zone_state.specs.declared.state.ZoneState.TheVariants.{Empty, ImplicitlyOpened, ExplicitlyOpened, Closed, ReadOnly, Full, Offline}
+use Rattle.zone_state.specs.declared.state.ZoneState.TheVariants.{ReadOnly, Full, Offline}
 use Rattle.nvme_entry.specs.Filter.{takes}
 use Rattle.nvme_entry.specs.declared.filter.ZoneFilter.{ZoneFilter}
 

@@ -1,4 +1,4 @@
-use Rattle.std.proofs.Common.{◌≡◌, ◌+◌, ◌*◌, ◌∙◌, ℕ, ap, true, rules, sym}
+use Rattle.std.proofs.Common.{◌≡◌, ◌+◌, ◌*◌, ◌∙◌, ℕ, ap, true, rules}
 use Rattle.nvme_entry.specs.Filter.{takes}
 use Rattle.nvme_entry.proofs.Listings.{listed-next}
 use Rattle.nvme_entry.proofs.report.list.Goals as goal
