@@ -1,5 +1,6 @@
 pub mod Fits
 pub mod GivenWay
+pub mod KeptBlocks
 pub mod MovedZones
 pub mod PassedChecks
 pub mod ReadBack

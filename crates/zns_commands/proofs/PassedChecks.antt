@@ -14,15 +14,15 @@ use Rattle.zone_resources.specs.declared.admission.Limits.{Limits}
 use Rattle.zone_resources.specs.declared.admission.Wanted.{Wanted}
 use Rattle.zone_resources.specs.declared.admission.Wanted.TheVariants.{OpenOnly, OpenAndActive}
 use Rattle.zone_resources.specs.declared.holds.Holds.{Holds}
-use Rattle.nvme_entry.specs.declared.command.Command.TheVariants.{Append}
+use Rattle.nvme_entry.specs.declared.command.Command.TheVariants.{Write, Append}
 use Rattle.nvme_entry.specs.declared.command.TheConstants.{MOST_TRANSFER}
 use Rattle.nvme_entry.specs.Checks.{demand, or_else, first_refused}
-use Rattle.image_store.specs.Namespace.{ZonedNamespace, zone_at, shape}
+use Rattle.image_store.specs.Namespace.{ZonedNamespace, zone_at}
 use Rattle.zns_commands.specs.Address.{records, record_at, zone_number, block_total}
 use Rattle.zns_commands.specs.Answer.{Outcome, concluded}
 use Rattle.zns_commands.specs.Append.{append_checks, append_effect}
 use Rattle.zns_commands.specs.Resources.{room_by, room_for, why_not, closing_of}
-use Rattle.zns_commands.specs.Write.{written}
+use Rattle.zns_commands.specs.Write.{write_checks, write_effect}
 use Rattle.zns_commands.specs.Meaning.{meaning}
 use Rattle.zns_commands.specs.Laws.{IsSound}
 
@@ -106,14 +106,14 @@ wanted_fails ns holds (Some OpenAndActive) =
     cond_fails (nat_lt (active_count (records ns)) ns.limits.active_limit) (open_admission (records ns) ns.limits holds) (Err TOO_MANY_ACTIVE_ZONES)
     (open_fails (records ns) ns.limits holds) (err_fails TOO_MANY_ACTIVE_ZONES (omega arith))
 
-all_fail : (a b c d e : Bool) (f g : Option Status) → Fails f → Fails g
+all_fail : (a b c d e : Bool) (s : Status) (f g : Option Status) → 1 ≤ s.code → Fails f → Fails g
     → Fails (first_refused (demand a INVALID_FIELD_IN_COMMAND ∷ demand b INVALID_FIELD_IN_COMMAND ∷ demand c LBA_OUT_OF_RANGE
-    ∷ demand d INVALID_FIELD_IN_COMMAND ∷ demand e ZONE_HELD ∷ f ∷ g ∷ []))
-all_fail a b c d e f g six seven =
+    ∷ demand d s ∷ demand e ZONE_HELD ∷ f ∷ g ∷ []))
+all_fail a b c d e s f g some six seven =
     first_fails (demand a INVALID_FIELD_IN_COMMAND) _ (demand_fails a INVALID_FIELD_IN_COMMAND (omega arith))
     (first_fails (demand b INVALID_FIELD_IN_COMMAND) _ (demand_fails b INVALID_FIELD_IN_COMMAND (omega arith))
     (first_fails (demand c LBA_OUT_OF_RANGE) _ (demand_fails c LBA_OUT_OF_RANGE (omega arith))
-    (first_fails (demand d INVALID_FIELD_IN_COMMAND) _ (demand_fails d INVALID_FIELD_IN_COMMAND (omega arith))
+    (first_fails (demand d s) _ (demand_fails d s some)
     (first_fails (demand e ZONE_HELD) _ (demand_fails e ZONE_HELD (omega arith))
     (first_fails f _ six (first_fails g None seven (λ other none. cc)))))))
 
@@ -133,8 +133,23 @@ append_passed ns holds lba blocks input done =
     let zone = zone_at ns z in
     none_failed (first_refused (append_checks ns holds lba blocks input)) ns (append_effect ns holds lba input)
     (all_fail (nat_le (blocks * ns.block) MOST_TRANSFER) (nat_eq (length input) (blocks * ns.block)) (nat_lt lba (block_total ns))
-    (nat_eq (lba % ns.size) 0) (not (is_destination holds z))
+    (nat_eq (lba % ns.size) 0) (not (is_destination holds z)) INVALID_FIELD_IN_COMMAND
     (why_not (refusal (record_at ns z) (length zone.blocks) blocks)) (why_not (room_for ns holds zone.state))
+    (omega arith)
     (refusal_fails zone.state (record_at ns z) (length zone.blocks) blocks)
+    (wanted_fails ns holds (wanted_of zone.state)))
+    done
+
+pub write_passed : (ns : ZonedNamespace) (holds : Holds) (lba blocks : ℕ) (input : List ℕ)
+    → (meaning ns holds (Write lba blocks) input).status ≡ SUCCESS → first_refused (write_checks ns holds lba blocks input) ≡ None
+write_passed ns holds lba blocks input done =
+    let z = zone_number ns lba in
+    let zone = zone_at ns z in
+    none_failed (first_refused (write_checks ns holds lba blocks input)) ns (write_effect ns holds lba input)
+    (all_fail (nat_le (blocks * ns.block) MOST_TRANSFER) (nat_eq (length input) (blocks * ns.block)) (nat_le (lba + blocks) (block_total ns))
+    (nat_le (lba % ns.size + blocks) ns.size) (not (is_destination holds z)) ZONE_BOUNDARY_ERROR
+    (why_not (refusal (record_at ns z) (lba % ns.size) blocks)) (why_not (room_for ns holds zone.state))
+    (omega arith)
+    (refusal_fails zone.state (record_at ns z) (lba % ns.size) blocks)
     (wanted_fails ns holds (wanted_of zone.state)))
     done

@@ -15,7 +15,7 @@ use Rattle.zone_resources.specs.declared.holds.Holds.{Holds}
 use Rattle.nvme_entry.specs.declared.command.Command.TheVariants.{Write, Read, Send, Append}
 use Rattle.nvme_entry.specs.Checks.{first_refused}
 use Rattle.image_store.specs.Geometry.{IsShape}
-use Rattle.image_store.specs.Namespace.{ZoneBlocks, ZonedNamespace, no_zone, zone_at, counted, shape}
+use Rattle.image_store.specs.Namespace.{ZoneBlocks, ZonedNamespace, no_zone, zone_at, counted}
 use Rattle.zns_commands.specs.Address.{record_at, zone_number, block_total}
 use Rattle.zns_commands.specs.Answer.{Outcome, success, concluded}
 use Rattle.zns_commands.specs.Append.{append_checks, append_effect}

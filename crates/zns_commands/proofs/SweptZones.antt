@@ -9,10 +9,10 @@ use Rattle.zone_state.specs.Zone.{ZoneRecord, IsZone, kept}
 use Rattle.zone_state.specs.declared.action.Action.{Action}
 use Rattle.zone_state.specs.declared.action.Action.TheVariants as action
 use Rattle.zone_state.specs.declared.state.ZoneState.{ZoneState}
-use Rattle.zone_state.specs.declared.state.ZoneState.TheVariants.{Empty, Offline}
+use Rattle.zone_state.specs.declared.state.ZoneState.TheVariants.{Empty}
 use Rattle.zone_resources.specs.Admission.{IsWithin}
 use Rattle.zone_resources.specs.Counts.{open_count, one_if}
-use Rattle.image_store.specs.Namespace.{ZoneBlocks, ZonedNamespace, no_zone, zone_at, counted, shape}
+use Rattle.image_store.specs.Namespace.{ZoneBlocks, ZonedNamespace, no_zone, zone_at, counted}
 use Rattle.zns_commands.specs.Address.{records}
 use Rattle.zns_commands.specs.Resources.{arrived}
 use Rattle.zns_commands.specs.Send.{all_effect, all_fit, takes, taken_among, swept}

@@ -8,10 +8,10 @@ use Rattle.zone_state.specs.declared.state.ZoneState.{ZoneState}
 use Rattle.zone_state.specs.declared.state.ZoneState.TheVariants.{Empty, ImplicitlyOpened, ExplicitlyOpened, Closed, ReadOnly, Full, Offline}
 use Rattle.zone_state.specs.declared.status.Status.{Status}
 use Rattle.zone_state.specs.declared.status.TheConstants.Status.{ZONE_BOUNDARY_ERROR, ZONE_INVALID_WRITE}
-use Rattle.zone_resources.specs.Admission.{closing, wanted_of}
+use Rattle.zone_resources.specs.Admission.{wanted_of}
 use Rattle.zone_resources.specs.declared.holds.Holds.{Holds}
 use Rattle.image_store.specs.Blocks.{as_blocks, block_count, blocks_of}
-use Rattle.image_store.specs.Namespace.{ZoneBlocks, ZonedNamespace, zone_at, counted, grown, shape}
+use Rattle.image_store.specs.Namespace.{ZoneBlocks, ZonedNamespace, zone_at, counted, grown}
 use Rattle.image_store.proofs.Pieces.{length-blocks}
 use Rattle.image_store.proofs.Sound.{block-at}
 use Rattle.image_store.proofs.States.{after_write_zone}
@@ -59,7 +59,7 @@ at_pointer : (r : ZoneRecord) (at n : ℕ) → fits_room r at n ≡ Ok tt → at
 at_pointer r at n allowed =
     fits_at r at n (nat_eq at r.written) (cond (nat_le (r.written + n) r.capacity) (Ok tt) (Err ZONE_BOUNDARY_ERROR)) ZONE_INVALID_WRITE refl allowed
 
-pointer_in : (s : ZoneState) (r : ZoneRecord) (at n : ℕ) → refusal_in s r at n ≡ Ok tt → at ≡ r.written
+pub pointer_in : (s : ZoneState) (r : ZoneRecord) (at n : ℕ) → refusal_in s r at n ≡ Ok tt → at ≡ r.written
 pointer_in Empty r at n allowed = at_pointer r at n allowed
 pointer_in ImplicitlyOpened r at n allowed = at_pointer r at n allowed
 pointer_in ExplicitlyOpened r at n allowed = at_pointer r at n allowed
