@@ -1,5 +1,5 @@
 -- The fields of a submission queue entry and the command that they name.
-use Rattle.std.specs.Prelude.{ℕ, Bool, ◌+◌, ◌*◌, ◌%◌, ◌^◌, ◌==◌, List, [], ◌∷◌, Option, Some, None, Result, if◌then◌else◌, is_some, unwrap_or, drop, slice_index}
+use Rattle.std.specs.Prelude.{ℕ, Bool, ◌+◌, ◌*◌, ◌%◌, ◌^◌, ◌==◌, nat_le, List, [], ◌∷◌, Option, Some, None, Result, if◌then◌else◌, is_some, unwrap_or, drop, slice_index}
 use Rattle.byteorder.specs.Endian.{little_number}
 use Rattle.zone_state.specs.declared.action.Action.{Action}
 use Rattle.zone_state.specs.declared.action.Action.TheVariants as action
@@ -9,7 +9,10 @@ use Rattle.nvme_entry.specs.Checks.{demand, first_refused, allowed}
 use Rattle.nvme_entry.specs.declared.command.Opcode.{Opcode}
 use Rattle.nvme_entry.specs.declared.command.Opcode.TheVariants as opcode
 use Rattle.nvme_entry.specs.declared.command.Command.{Command}
-use Rattle.nvme_entry.specs.declared.command.Command.TheVariants.{Write, Read, Send, Append}
+use Rattle.nvme_entry.specs.declared.command.Command.TheVariants.{Write, Read, Send, Receive, Append}
+use Rattle.nvme_entry.specs.declared.command.TheConstants.{MOST_TRANSFER}
+use Rattle.nvme_entry.specs.declared.filter.ZoneFilter.TheVariants as filter
+use Rattle.nvme_entry.specs.Filter.{filter_of}
 
 -- the number that so many bytes from a byte on spell, the lowest first (NVMe Base 2.0, 1.8.2)
 abbrev pub field : List ℕ → ℕ → ℕ → ℕ
@@ -41,6 +44,7 @@ opcode_of code =
     if code == 0x01 then Some opcode.Write else
     if code == 0x02 then Some opcode.Read else
     if code == 0x79 then Some opcode.ZoneManagementSend else
+    if code == 0x7A then Some opcode.ZoneManagementReceive else
     if code == 0x7D then Some opcode.ZoneAppend else None
 
 -- Command Dword 13, bits 7:0: the zone send action (ZNS 1.1, figure 46)
@@ -56,16 +60,35 @@ action_of code =
 abbrev pub selects_all : List ℕ → Bool
 selects_all entry = slice_index entry 53 % 2 == 1
 
+-- Command Dword 12: the number of dwords, which is zero-based (ZNS 1.1, 3.4.2); none where they are more than one command moves
+abbrev pub dwords_of : ℕ → Option ℕ
+dwords_of count = if nat_le (4 * (count + 1)) MOST_TRANSFER then Some (count + 1) else None
+
+-- Command Dword 13, bits 7:0: the zone receive action (ZNS 1.1, 3.4.2)
+abbrev pub receive_action : List ℕ → ℕ
+receive_action entry = slice_index entry 52
+
+-- Command Dword 13, bit 16: Partial Report (ZNS 1.1, 3.4.2)
+abbrev pub is_partial : List ℕ → Bool
+is_partial entry = slice_index entry 54 % 2 == 1
+
 -- the command that the fields name
 abbrev pub command_of : Opcode → List ℕ → Command
 command_of opcode.Write entry = Write (starting_lba entry) (block_count entry)
 command_of opcode.Read entry = Read (starting_lba entry) (block_count entry)
 command_of opcode.ZoneManagementSend entry = Send (starting_lba entry) (unwrap_or (action_of (slice_index entry 52)) action.Close) (selects_all entry)
+command_of opcode.ZoneManagementReceive entry =
+    Receive (starting_lba entry) (unwrap_or (dwords_of (field entry 48 4)) 1) (unwrap_or (filter_of (slice_index entry 53)) filter.All) (is_partial entry)
 command_of opcode.ZoneAppend entry = Append (starting_lba entry) (block_count entry)
 
 -- the checks of the fields of a command (profile)
 abbrev pub field_checks : Opcode → List ℕ → List (Option Status)
 field_checks opcode.ZoneManagementSend entry = demand (is_some (action_of (slice_index entry 52))) INVALID_FIELD_IN_COMMAND ∷ []
+field_checks opcode.ZoneManagementReceive entry =
+    demand (is_some (dwords_of (field entry 48 4))) INVALID_FIELD_IN_COMMAND
+    ∷ demand (receive_action entry == 0x00) INVALID_FIELD_IN_COMMAND
+    ∷ demand (is_some (filter_of (slice_index entry 53))) INVALID_FIELD_IN_COMMAND
+    ∷ []
 field_checks _ entry = []
 
 -- the checks of an entry alone, in order (profile); the one namespace is 1 (profile)

@@ -1,3 +1,6 @@
 pub mod Checks
 pub mod Completion
 pub mod Entry
+pub mod Filter
+pub mod Laws
+pub mod Report

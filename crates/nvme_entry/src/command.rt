@@ -1,8 +1,9 @@
 //! Commands and their opcodes.
 
-ghost use Rattle.std.specs.Prelude.{◌≡◌, ◌+◌, ◌≤◌};
-ghost use Rattle.nvme_entry.specs.Entry.{opcode_of};
+ghost use Rattle.std.specs.Prelude.{◌≡◌, ◌+◌, ◌*◌, ◌≤◌};
+ghost use Rattle.nvme_entry.specs.Entry.{opcode_of, dwords_of};
 
+use crate::filter::ZoneFilter;
 use std::marker::Model;
 use zone_state::Action;
 
@@ -10,12 +11,16 @@ use zone_state::Action;
 /// 276; its value is profile).
 pub const MOST_TRANSFER: usize = 131_072;
 
+/// The bytes of a dword.
+const DWORD: usize = 4;
+
 /// The opcode of a command (NVM Command Set 1.0, 3.2; ZNS 1.1, 3.4).
 #[derive(Clone, Copy, Debug, PartialEq, Eq)]
 pub enum Opcode {
     Write,
     Read,
     ZoneManagementSend,
+    ZoneManagementReceive,
     ZoneAppend,
 }
 
@@ -28,6 +33,7 @@ impl Opcode {
             0x01 => Some(Opcode::Write),
             0x02 => Some(Opcode::Read),
             0x79 => Some(Opcode::ZoneManagementSend),
+            0x7A => Some(Opcode::ZoneManagementReceive),
             0x7D => Some(Opcode::ZoneAppend),
             _ => None,
         }
@@ -72,6 +78,46 @@ impl BlockCount {
     }
 }
 
+/// A number of dwords, from 1 to as many as one command moves. A clause sees the number.
+#[derive(Clone, Copy, Debug, PartialEq, Eq)]
+pub struct DwordCount {
+    dwords: u32,
+}
+
+impl Model for DwordCount {
+    ghost use Rattle.std.specs.Prelude.{◌≤◌, ℕ};
+
+    ghost Value = { ℕ };
+
+    ghost view = { λ n. n.dwords };
+
+    ghost invariant = { λ n. (1 ≤ n.dwords) × (n.dwords ≤ 32768) };
+
+    ghost inverse = { λ n. record { dwords = n } };
+}
+
+impl DwordCount {
+    /// The number that a zero-based field spells: one more than the field says. `None` where that
+    /// is more than one command moves.
+    pub fn from_zero_based(field: u32) -> Option<DwordCount>
+        ensures { result ≡ dwords_of field }
+    {
+        if field as usize >= MOST_TRANSFER / DWORD {
+            return None;
+        }
+        Some(DwordCount { dwords: field + 1 })
+    }
+
+    /// The number of bytes.
+    pub fn bytes(self) -> usize
+        ensures value { result ≡ 4 * self }
+        ensures some { 4 ≤ result }
+        ensures most { result ≤ MOST_TRANSFER }
+    {
+        self.dwords as usize * DWORD
+    }
+}
+
 /// A command with its fields. `lba` is a logical block address.
 #[derive(Clone, Copy, Debug, PartialEq, Eq)]
 pub enum Command {
@@ -92,6 +138,14 @@ pub enum Command {
         lba: u64,
         action: Action,
         select_all: bool,
+    },
+    /// Reports the zones that `filter` takes from the one that contains `lba` on; with `partial`
+    /// the number of zones told is that of the descriptors given (ZNS 1.1, 3.4.2).
+    Receive {
+        lba: u64,
+        dwords: DwordCount,
+        filter: ZoneFilter,
+        partial: bool,
     },
     /// Writes blocks at the write pointer of the zone whose lowest address is `lba`
     /// (ZNS 1.1, 3.4.1).

@@ -4,12 +4,16 @@ ghost use Rattle.std.specs.Prelude.{◌≡◌, ◌+◌, ◌*◌, ◌^◌, ◌≤
 ghost use Rattle.nvme_entry.specs.Checks.{allowed, first_refused};
 ghost use Rattle.nvme_entry.specs.Entry.{decoded, command_of, field_checks, action_of, identifier_of, starting_lba, block_count, field, fuse_of, namespace_of};
 
-use crate::command::{BlockCount, Command, Opcode};
+use crate::command::{BlockCount, Command, DwordCount, Opcode};
+use crate::filter::ZoneFilter;
 use byteorder::{ByteOrder, LittleEndian};
 use zone_state::{Action, Status};
 
 /// The one namespace's identifier (profile).
 const NAMESPACE: u32 = 1;
+
+/// The zone receive action Report Zones (ZNS 1.1, 3.4.2), the one that is supported (profile).
+const REPORT_ZONES: u8 = 0x00;
 
 /// The reader of submission queue entries (NVMe Base 2.0, 3.3.3.1): 64 bytes, little-endian.
 pub struct Entry;
@@ -21,7 +25,10 @@ impl Entry {
     ///
     /// The first that applies: Invalid Command Opcode for an opcode that isn't supported; Invalid
     /// Field in Command for a fused command; Invalid Namespace or Format for a namespace other than
-    /// 1; Invalid Field in Command for a zone send action that there isn't.
+    /// 1; Invalid Field in Command for a zone send action or a zone receive action that there
+    /// isn't, a filter of zones that there isn't, or a report of more than [`MOST_TRANSFER`] bytes.
+    ///
+    /// [`MOST_TRANSFER`]: crate::MOST_TRANSFER
     pub fn decode(entry: &[u8; 64]) -> Result<Command, Status>
         ensures { result ≡ decoded entry.now }
     {
@@ -48,6 +55,7 @@ impl Entry {
             Opcode::Read => Ok(Command::Read { lba, blocks }),
             Opcode::ZoneAppend => Ok(Command::Append { lba, blocks }),
             Opcode::ZoneManagementSend => Entry::send(entry),
+            Opcode::ZoneManagementReceive => Entry::receive(entry),
         }
     }
 
@@ -70,6 +78,28 @@ impl Entry {
             lba,
             action,
             select_all: entry[53] % 2 == 1,
+        })
+    }
+
+    /// A Zone Management Receive.
+    fn receive(entry: &[u8; 64]) -> Result<Command, Status>
+        ensures { result ≡ allowed (first_refused (field_checks Opcode.ZoneManagementReceive entry.now)) (command_of Opcode.ZoneManagementReceive entry.now) }
+    {
+        let lba = Entry::lba(entry);
+        let Some(dwords) = DwordCount::from_zero_based(dword(entry, 48)) else {
+            return Err(Status::INVALID_FIELD_IN_COMMAND);
+        };
+        if entry[52] != REPORT_ZONES {
+            return Err(Status::INVALID_FIELD_IN_COMMAND);
+        }
+        let Some(filter) = ZoneFilter::from_code(entry[53]) else {
+            return Err(Status::INVALID_FIELD_IN_COMMAND);
+        };
+        Ok(Command::Receive {
+            lba,
+            dwords,
+            filter,
+            partial: entry[54] % 2 == 1,
         })
     }
 

@@ -1,14 +1,19 @@
-//! NVM Express entries: the 64 bytes of a submission, read into a command, and the 16 bytes of a
-//! completion.
+//! NVM Express entries: the 64 bytes of a submission, read into a command, the 16 bytes of a
+//! completion, and the report of zones that a command may ask for.
 #![tactic(auto)]
 
 mod command;
 mod completion;
 mod entry;
+mod filter;
+pub mod laws;
+mod report;
 #[cfg(test)]
 mod tests;
 
-pub use command::{BlockCount, Command, MOST_TRANSFER, Opcode};
+pub use command::{BlockCount, Command, DwordCount, MOST_TRANSFER, Opcode};
 pub use completion::Completion;
 pub use entry::Entry;
+pub use filter::ZoneFilter;
+pub use report::Report;
 pub use zone_state::Status;

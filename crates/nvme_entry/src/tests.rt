@@ -2,7 +2,7 @@ ghost use Rattle.std.specs.Prelude.{◌≡◌, length};
 
 use super::*;
 use std::test::Fail;
-use zone_state::Action;
+use zone_state::{Action, Zone, ZoneState};
 
 /// The 64 bytes of an entry with these dwords; the others are 0.
 fn entry(dwords: &[(usize, u32)]) -> [u8; 64] {
@@ -57,6 +57,46 @@ fn entries_name_commands(rt: HostRuntime) {
     let blocks = BlockCount::from_zero_based(0xFFFF);
     assert_eq!(rt; blocks.get(), 65536);
     assert_eq!(rt; Entry::decode(&most), Ok(Command::Read { lba: 0, blocks }));
+}
+
+#[test]
+fn entries_name_reports(rt: HostRuntime) -> Result<(), Fail> {
+    let forty = DwordCount::from_zero_based(39).ok_or("forty dwords")?;
+    assert_eq!(rt; forty.bytes(), 160);
+    assert_eq!(rt;
+        Entry::decode(&entry(&[(0, 0x0001_007A), (1, 1), (12, 39), (13, 0x0001_0000)])),
+        Ok(Command::Receive {
+            lba: 0,
+            dwords: forty,
+            filter: ZoneFilter::All,
+            partial: true,
+        })
+    );
+    let most = DwordCount::from_zero_based(32767).ok_or("the most")?;
+    assert_eq!(rt; most.bytes(), MOST_TRANSFER);
+    assert_eq!(rt;
+        Entry::decode(&entry(&[(0, 0x7A), (1, 1), (10, 9), (12, 32767), (13, 0xFFFE_0100)])),
+        Ok(Command::Receive {
+            lba: 9,
+            dwords: most,
+            filter: ZoneFilter::Empty,
+            partial: false,
+        })
+    );
+    Ok(())
+}
+
+#[test]
+fn reports_are_refused(rt: HostRuntime) {
+    let cases = [
+        entry(&[(0, 0x7A), (1, 1), (12, 32768)]),
+        entry(&[(0, 0x7A), (1, 1), (12, 0xFFFF_FFFF)]),
+        entry(&[(0, 0x7A), (1, 1), (13, 0x01)]),
+        entry(&[(0, 0x7A), (1, 1), (13, 0x0800)]),
+    ];
+    for bytes in cases {
+        assert_eq!(rt; Entry::decode(&bytes), Err(Status::INVALID_FIELD_IN_COMMAND));
+    }
 }
 
 #[test]
@@ -118,4 +158,112 @@ fn completions_have_their_bytes(rt: HostRuntime) {
         held.encode(),
         [0, 0, 0, 0, 0, 0, 0, 0, 0, 0, 1, 0, 5, 0, 0x80, 0x0F]
     );
+}
+
+/// Bytes that are 0 but for those at these places.
+fn zeros_but<const N: usize>(set: &[(usize, u8)]) -> [u8; N] {
+    let mut bytes = [0; N];
+    for (at, byte) in set {
+        if *at < N {
+            bytes[*at] = *byte;
+        }
+    }
+    bytes
+}
+
+#[test]
+fn reports_have_their_bytes(rt: HostRuntime) -> Result<(), Fail> {
+    let empty = Zone::new(ZoneState::Empty, 0, 6).ok_or("an empty zone")?;
+    let zones = [empty, empty, empty, empty];
+    let report = Report {
+        zones: &zones,
+        first: 0,
+        size: 8,
+        filter: ZoneFilter::All,
+        partial: true,
+    };
+    let mut output = [0xFF; 160];
+    report.write(&mut output);
+    assert_eq!(rt; output, zeros_but(&[(0, 1), (64, 0x02), (65, 0x10), (72, 6)]));
+    let all = Report {
+        partial: false,
+        ..report
+    };
+    all.write(&mut output);
+    assert_eq!(rt; output, zeros_but(&[(0, 4), (64, 0x02), (65, 0x10), (72, 6)]));
+    Ok(())
+}
+
+#[test]
+fn short_reports_begin_the_header(rt: HostRuntime) -> Result<(), Fail> {
+    let empty = Zone::new(ZoneState::Empty, 0, 6).ok_or("an empty zone")?;
+    let zones = [empty, empty, empty, empty];
+    let report = Report {
+        zones: &zones,
+        first: 0,
+        size: 8,
+        filter: ZoneFilter::All,
+        partial: true,
+    };
+    let mut output = [0xFF; 4];
+    report.write(&mut output);
+    assert_eq!(rt; output, [0, 0, 0, 0]);
+    let all = Report {
+        partial: false,
+        ..report
+    };
+    all.write(&mut output);
+    assert_eq!(rt; output, [4, 0, 0, 0]);
+    Ok(())
+}
+
+#[test]
+fn reports_begin_at_a_zone_and_are_filtered(rt: HostRuntime) -> Result<(), Fail> {
+    let empty = Zone::new(ZoneState::Empty, 0, 6).ok_or("an empty zone")?;
+    let opened = Zone::new(ZoneState::ImplicitlyOpened, 1, 6).ok_or("an open zone")?;
+    let zones = [empty, opened, empty, empty];
+    let report = Report {
+        zones: &zones,
+        first: 1,
+        size: 8,
+        filter: ZoneFilter::Empty,
+        partial: false,
+    };
+    let mut output = [0xFF; 256];
+    report.write(&mut output);
+    let expected = zeros_but(&[
+        (0, 2),
+        (64, 0x02),
+        (65, 0x10),
+        (72, 6),
+        (80, 0x10),
+        (88, 0x10),
+        (128, 0x02),
+        (129, 0x10),
+        (136, 6),
+        (144, 0x18),
+        (152, 0x18),
+    ]);
+    assert_eq!(rt; output, expected);
+    Ok(())
+}
+
+#[test]
+fn a_full_zone_has_no_write_pointer(rt: HostRuntime) -> Result<(), Fail> {
+    let full = Zone::new(ZoneState::Full, 0, 6).ok_or("a full zone")?;
+    let zones = [full];
+    let report = Report {
+        zones: &zones,
+        first: 0,
+        size: 8,
+        filter: ZoneFilter::Full,
+        partial: false,
+    };
+    let mut output = [0; 128];
+    report.write(&mut output);
+    assert_eq!(rt; output[65], 0xE0);
+    for byte in &output[88..96] {
+        assert_eq!(rt; *byte, 0xFF);
+    }
+    Ok(())
 }

@@ -1,0 +1,193 @@
+-- Zone by zone, the descriptors that fit are put one behind the other.
+use Rattle.std.proofs.Common.{◌≡◌, ℕ, zero, suc, ◌+◌, ◌-◌, ◌*◌, ◌/◌, ◌≤◌, ◌<◌, Bool, true, false, cond, List, [], ◌∷◌, ◌++◌, length, take, drop, replicate, get_or, refl, ap, sym, ◌∙◌, arith, append_assoc, length-append, ⊎_elim}
+use Rattle.std.specs.List.{enumerate_from, flat_map}
+use Rattle.std.proofs.lemmas.Bool.{cases_lt}
+use Rattle.std.proofs.lemmas.List.{take_at, drop_all, drop_more, length-take-le, length-replicate}
+use Rattle.zone_state.specs.Zone.{ZoneRecord}
+use Rattle.nvme_entry.specs.Filter.{takes}
+use Rattle.nvme_entry.specs.declared.filter.ZoneFilter.{ZoneFilter}
+use Rattle.nvme_entry.specs.Report.{descriptor, descriptor_at, filled, header, listed, taken}
+
+pub length-descriptor : (zone : ZoneRecord) (lowest : ℕ) → length (descriptor zone lowest) ≡ 64
+unfolding descriptor
+length-descriptor zone lowest = refl
+
+pub length-header : (number : ℕ) → length (header number) ≡ 64
+unfolding header
+length-header number = refl
+
+-- what `listed` is, for pieces of 64 bytes of any kind
+abbrev pub whole : {X : Type 0} → (X → List ℕ) → ℕ → List X → List ℕ
+whole f n xs = filled n (flat_map f (take (n / 64) xs))
+
+-- too little room for a piece holds none
+whole-short : {X : Type 0} (f : X → List ℕ) (n : ℕ) (xs : List X) → n < 64 → whole f n xs ≡ replicate n 0
+whole-short f n xs h =
+    let none : n / 64 ≡ 0 = omega arith in
+    let same : n - 0 ≡ n = omega arith in
+    ap (λ (k : ℕ). filled n (flat_map f (take k xs))) none ∙ ap (λ (m : ℕ). replicate m 0) same
+
+whole-more : {X : Type 0} (f : X → List ℕ) (n : ℕ) (x : X) (xs : List X) → length (f x) ≡ 64 → 64 ≤ n
+    → whole f n (x ∷ xs) ≡ f x ++ whole f (n - 64) xs
+whole-more f n x xs size h =
+    let one : n / 64 ≡ suc ((n - 64) / 64) = omega arith in
+    let pieces = flat_map f (take ((n - 64) / 64) xs) in
+    let left : n - length (f x ++ pieces) ≡ n - 64 - length pieces = omega (arith, length-append (f x) pieces, size) in
+    ap (λ (k : ℕ). filled n (flat_map f (take k (x ∷ xs)))) one
+    ∙ (ap (λ (m : ℕ). (f x ++ pieces) ++ replicate m 0) left
+    ∙ append_assoc (f x) pieces (replicate (n - 64 - length pieces) 0))
+
+pub length-pieces : {X : Type 0} (f : X → List ℕ) → ((x : X) → length (f x) ≡ 64) → (k : ℕ) (xs : List X) → length (flat_map f (take k xs)) ≤ 64 * k
+length-pieces f each zero xs = omega arith
+length-pieces f each (suc k) [] = omega arith
+length-pieces f each (suc k) (x ∷ xs) =
+    let rest = flat_map f (take k xs) in
+    omega (arith, length-append (f x) rest, each x, length-pieces f each k xs)
+
+pub length-whole : {X : Type 0} (f : X → List ℕ) → ((x : X) → length (f x) ≡ 64) → (n : ℕ) (xs : List X) → length (whole f n xs) ≡ n
+length-whole f each n xs =
+    let pieces = flat_map f (take (n / 64) xs) in
+    omega (arith, length-append pieces (replicate (n - length pieces) 0), length-replicate {A = ℕ} (n - length pieces) 0, length-pieces f each (n / 64) xs)
+
+-- a piece put at a place, where it fits
+pub piece-fits : (old piece rest : List ℕ) (at : ℕ) → at ≤ length old → length piece ≡ 64 → take (at + 64) (take at old ++ (piece ++ rest)) ≡ take at old ++ piece
+piece-fits old piece rest at inside size =
+    let long : length (take at old ++ piece) ≡ at + 64 = omega (arith, length-append (take at old) piece, length-take-le at old inside, size) in
+    ap (take (at + 64)) (sym (append_assoc (take at old) piece rest)) ∙ take_at (take at old ++ piece) rest (at + 64) long
+
+step-short : {X : Type 0} (f : X → List ℕ) (x : X) (xs : List X) (old new : List ℕ) (at place : ℕ) → length old < at + 64 → place ≡ at → new ≡ old
+    → take place new ++ whole f (length new - place) xs ≡ take at old ++ whole f (length old - at) (x ∷ xs)
+step-short f x xs old new at place short same_place same =
+    let less : length old - at < 64 = omega arith in
+    ap (λ (n : ℕ). take n new ++ whole f (length new - n) xs) same_place
+    ∙ (ap (λ (ys : List ℕ). take at ys ++ whole f (length ys - at) xs) same
+    ∙ ap (λ (ys : List ℕ). take at old ++ ys) (whole-short f (length old - at) xs less ∙ sym (whole-short f (length old - at) (x ∷ xs) less)))
+
+step-fits : {X : Type 0} (f : X → List ℕ) (x : X) (xs : List X) (old new : List ℕ) (at place : ℕ) → length (f x) ≡ 64 → length new ≡ length old
+    → at + 64 ≤ length old → place ≡ at + 64 → take place new ≡ take at old ++ f x
+    → take place new ++ whole f (length new - place) xs ≡ take at old ++ whole f (length old - at) (x ∷ xs)
+step-fits f x xs old new at place size same_length fits moved put =
+    let enough : 64 ≤ length old - at = omega arith in
+    let left : length new - place ≡ length old - at - 64 = omega arith in
+    ap (λ (ys : List ℕ). ys ++ whole f (length new - place) xs) put
+    ∙ (ap (λ (n : ℕ). (take at old ++ f x) ++ whole f n xs) left
+    ∙ (append_assoc (take at old) (f x) (whole f (length old - at - 64) xs)
+    ∙ ap (λ (ys : List ℕ). take at old ++ ys) (sym (whole-more f (length old - at) x xs size enough))))
+
+-- one more piece: what stands up to the place and what is to come are together the same
+pub step-more : {X : Type 0} (f : X → List ℕ) (x : X) (xs : List X) (old new : List ℕ) (at place : ℕ) → length (f x) ≡ 64 → length new ≡ length old
+    → (at + 64 ≤ length old → (place ≡ at + 64) × (take place new ≡ take at old ++ f x))
+    → (length old < at + 64 → (place ≡ at) × (new ≡ old))
+    → take place new ++ whole f (length new - place) xs ≡ take at old ++ whole f (length old - at) (x ∷ xs)
+step-more f x xs old new at place size same_length fits full =
+    ⊎_elim
+    (λ short. step-short f x xs old new at place short (full short).0 (full short).1)
+    (λ enough. step-fits f x xs old new at place size same_length enough (fits enough).0 (fits enough).1)
+    (cases_lt (length old) (at + 64))
+
+take-none : {X : Type 0} (k : ℕ) → take {A = X} k [] ≡ []
+take-none zero = refl
+take-none (suc k) = refl
+
+-- where no piece is left, zeros are
+pub whole-none : {X : Type 0} (f : X → List ℕ) (n : ℕ) → whole f n [] ≡ replicate n 0
+whole-none {X = X} f n =
+    let same : n - 0 ≡ n = omega arith in
+    ap (λ (xs : List X). filled n (flat_map f xs)) (take-none (n / 64)) ∙ ap (λ (m : ℕ). replicate m 0) same
+
+cut : (zones : List ZoneRecord) (index : ℕ) (zone : ZoneRecord) → index < length zones → zone ≡ get_or zones index zone → drop index zones ≡ zone ∷ drop (index + 1) zones
+cut zones index zone inside is = drop_more zones index zone inside ∙ ap (λ (z : ZoneRecord). z ∷ drop (index + 1) zones) (sym is)
+
+taken-cut : (option : ZoneFilter) (first index : ℕ) (zones : List ZoneRecord) (zone : ZoneRecord) (test : Bool) → index < length zones → zone ≡ get_or zones index zone
+    → takes option zone.state ≡ test
+    → taken option (enumerate_from (first + index) (drop index zones))
+    ≡ cond test ((first + index, zone) ∷ taken option (enumerate_from (first + (index + 1)) (drop (index + 1) zones))) (taken option (enumerate_from (first + (index + 1)) (drop (index + 1) zones)))
+taken-cut option first index zones zone test inside is tested =
+    let behind = drop (index + 1) zones in
+    let next : first + index + 1 ≡ first + (index + 1) = omega arith in
+    ap (λ (zs : List ZoneRecord). taken option (enumerate_from (first + index) zs)) (cut zones index zone inside is)
+    ∙ (ap (λ (b : Bool). cond b ((first + index, zone) ∷ taken option (enumerate_from (first + index + 1) behind)) (taken option (enumerate_from (first + index + 1) behind))) tested
+    ∙ ap (λ (n : ℕ). cond test ((first + index, zone) ∷ taken option (enumerate_from n behind)) (taken option (enumerate_from n behind))) next)
+
+-- a zone that the filter takes is the first of those that are left
+pub taken-next : (option : ZoneFilter) (first index : ℕ) (zones : List ZoneRecord) (zone : ZoneRecord) → index < length zones → zone ≡ get_or zones index zone
+    → takes option zone.state ≡ true
+    → taken option (enumerate_from (first + index) (drop index zones)) ≡ (first + index, zone) ∷ taken option (enumerate_from (first + (index + 1)) (drop (index + 1) zones))
+taken-next option first index zones zone inside is tested = taken-cut option first index zones zone true inside is tested
+
+-- a zone that it doesn't take is none of them
+pub taken-not : (option : ZoneFilter) (first index : ℕ) (zones : List ZoneRecord) (zone : ZoneRecord) → index < length zones → zone ≡ get_or zones index zone
+    → takes option zone.state ≡ false
+    → taken option (enumerate_from (first + index) (drop index zones)) ≡ taken option (enumerate_from (first + (index + 1)) (drop (index + 1) zones))
+taken-not option first index zones zone inside is tested = taken-cut option first index zones zone false inside is tested
+
+-- so far: what the loop over the zones has found and put before one of them
+pub record HasListed (option : ZoneFilter) (first size : ℕ) (zones : List ZoneRecord) (start output : List ℕ) (index found at : ℕ) : Type 0 where
+  pub inside : at ≤ length output
+  pub few : found ≤ index
+  pub number : found + length (taken option (enumerate_from (first + index) (drop index zones))) ≡ length (taken option (enumerate_from first zones))
+  pub bytes : take at output ++ listed size (length output - at) (taken option (enumerate_from (first + index) (drop index zones))) ≡ listed size (length start) (taken option (enumerate_from first zones))
+
+pub listed-begins : (option : ZoneFilter) (first size : ℕ) (zones : List ZoneRecord) (output : List ℕ) → HasListed option first size zones output output 0 0 0
+listed-begins option first size zones output =
+    let same : first + 0 ≡ first = omega arith in
+    let long : length output - 0 ≡ length output = omega arith in
+    record {
+      inside = omega arith;
+      few = omega arith;
+      number = omega (arith, ap (λ (n : ℕ). length (taken option (enumerate_from n zones))) same);
+      bytes =
+        ap (λ (n : ℕ). listed size (length output - 0) (taken option (enumerate_from n zones))) same
+        ∙ ap (λ (n : ℕ). listed size n (taken option (enumerate_from first zones))) long;
+    }
+
+pub listed-not : (option : ZoneFilter) (first size : ℕ) (zones : List ZoneRecord) (start output : List ℕ) (index found at : ℕ) (zone : ZoneRecord)
+    → index < length zones → zone ≡ get_or zones index zone → takes option zone.state ≡ false
+    → HasListed option first size zones start output index found at → HasListed option first size zones start output (index + 1) found at
+listed-not option first size zones start output index found at zone inside is tested has =
+    let next = taken-not option first index zones zone inside is tested in
+    record {
+      inside = has.inside;
+      few = omega (arith, has.few);
+      number = ap (λ (zs : List (ℕ × ZoneRecord)). found + length zs) (sym next) ∙ has.number;
+      bytes = ap (λ (zs : List (ℕ × ZoneRecord)). take at output ++ listed size (length output - at) zs) (sym next) ∙ has.bytes;
+    }
+
+pub listed-next : (option : ZoneFilter) (first size : ℕ) (zones : List ZoneRecord) (start output new : List ℕ) (index found at place lowest : ℕ) (zone : ZoneRecord)
+    → index < length zones → zone ≡ get_or zones index zone → takes option zone.state ≡ true
+    → lowest ≡ (first + index) * size
+    → place ≤ length new → length new ≡ length output
+    → (at + 64 ≤ length output → (place ≡ at + 64) × (take place new ≡ take at output ++ descriptor zone lowest))
+    → (length output < at + 64 → (place ≡ at) × (new ≡ output))
+    → HasListed option first size zones start output index found at → HasListed option first size zones start new (index + 1) (found + 1) place
+listed-next option first size zones start output new index found at place lowest zone inside is tested is_lowest within same_length fits full has =
+    let next = taken-next option first index zones zone inside is tested in
+    let rest = taken option (enumerate_from (first + (index + 1)) (drop (index + 1) zones)) in
+    let longer = ap (λ (zs : List (ℕ × ZoneRecord)). length zs) next in
+    record {
+      inside = within;
+      few = omega (arith, has.few);
+      number = omega (arith, has.number, longer);
+      bytes =
+        step-more (descriptor_at size) (first + index, zone) rest output new at place (length-descriptor zone ((first + index) * size)) same_length
+        (λ h. ((fits h).0, (fits h).1 ∙ ap (λ (n : ℕ). take at output ++ descriptor zone n) is_lowest)) full
+        ∙ (ap (λ (zs : List (ℕ × ZoneRecord)). take at output ++ listed size (length output - at) zs) (sym next) ∙ has.bytes);
+    }
+
+-- behind the last zone nothing is left to list
+taken-last : (option : ZoneFilter) (first index : ℕ) (zones : List ZoneRecord) → length zones ≤ index → taken option (enumerate_from (first + index) (drop index zones)) ≡ []
+taken-last option first index zones past = ap (λ (zs : List ZoneRecord). taken option (enumerate_from (first + index) zs)) (drop_all index zones past)
+
+pub listed-number : (option : ZoneFilter) (first size : ℕ) (zones : List ZoneRecord) (start output : List ℕ) (index found at : ℕ) → length zones ≤ index
+    → HasListed option first size zones start output index found at → found ≡ length (taken option (enumerate_from first zones))
+listed-number option first size zones start output index found at past has =
+    let none = ap (λ (zs : List (ℕ × ZoneRecord)). length zs) (taken-last option first index zones past) in
+    omega (arith, has.number, none)
+
+pub listed-bytes : (option : ZoneFilter) (first size : ℕ) (zones : List ZoneRecord) (start output new : List ℕ) (index found at : ℕ) → length zones ≤ index
+    → new ≡ take at output ++ replicate (length output - at) 0
+    → HasListed option first size zones start output index found at → new ≡ listed size (length start) (taken option (enumerate_from first zones))
+listed-bytes option first size zones start output new index found at past is has =
+    is
+    ∙ (ap (λ (ys : List ℕ). take at output ++ ys) (sym (whole-none (descriptor_at size) (length output - at)))
+    ∙ (ap (λ (zs : List (ℕ × ZoneRecord)). take at output ++ listed size (length output - at) zs) (sym (taken-last option first index zones past)) ∙ has.bytes))

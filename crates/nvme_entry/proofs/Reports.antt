@@ -1,0 +1,189 @@
+-- What a report holds, and that it is written so.
+use Rattle.std.proofs.Common.{◌≡◌, ℕ, zero, suc, ◌+◌, ◌-◌, ◌*◌, ◌/◌, ◌^◌, ◌≤◌, ◌<◌, min, Bool, true, false, cond, List, [], ◌∷◌, ◌++◌, length, map, take, drop, replicate, refl, ap, sym, ◌∙◌, arith, append_assoc, length-append, ⊎_elim}
+use Rattle.std.specs.List.{enumerate_from, flat_map}
+use Rattle.std.proofs.lemmas.Bool.{cases_lt}
+use Rattle.std.proofs.lemmas.List.{take_all, drop_all, drop_at, take_at, take_min, drop-drop, length-drop, length-take, length-take-le, nil_from_length}
+use Rattle.std.proofs.lemmas.List.FromFn.{length-enumerate_from}
+use Rattle.std.proofs.lemmas.Nat.{le-div}
+use Rattle.byteorder.specs.Endian.{little_bytes}
+use Rattle.byteorder.specs.Numbers.{little_number-reads_back}
+use Rattle.zone_state.specs.Zone.{ZoneRecord}
+use Rattle.nvme_entry.specs.Filter.{takes}
+use Rattle.nvme_entry.specs.declared.filter.ZoneFilter.{ZoneFilter}
+use Rattle.nvme_entry.specs.declared.filter.ZoneFilter.TheVariants.{All}
+use Rattle.nvme_entry.specs.Report.{descriptor_at, fitting, header, listed, matching, report, taken}
+use Rattle.nvme_entry.specs.Laws.{GivesWhatMatches, ListsEveryZone, Tells, descriptors_in, number_in, pieces}
+use Rattle.nvme_entry.proofs.Listings.{length-descriptor, length-header, length-pieces, length-whole, whole}
+
+length-each : (size : ℕ) (zone : ℕ × ZoneRecord) → length (descriptor_at size zone) ≡ 64
+length-each size zone = length-descriptor zone.1 (zone.0 * size)
+
+told : {X : Type 0} (partial : Bool) (room : ℕ) (xs : List X) → cond partial (min room (length xs)) (length xs) ≡ length (cond partial (take room xs) xs)
+told true room xs = sym (length-take room xs)
+told false room xs = refl
+
+length-second : {X : Type 0} (f : X → List ℕ) → ((x : X) → length (f x) ≡ 64) → (output : List ℕ) (start : ℕ) (xs : List X) → start ≤ length output
+    → length (take start output ++ whole f (length output - start) xs) ≡ length output
+length-second f each output start xs inside =
+    omega (arith, length-append (take start output) (whole f (length output - start) xs), length-take-le start output inside, length-whole f each (length output - start) xs)
+
+behind-short : {X : Type 0} (f : X → List ℕ) → ((x : X) → length (f x) ≡ 64) → (output : List ℕ) (start : ℕ) (xs : List X) → start ≡ min (length output) 64 → length output < 64
+    → drop 64 (take start output ++ whole f (length output - start) xs) ≡ whole f (length output - 64) xs
+behind-short f each output start xs is short =
+    let second = take start output ++ whole f (length output - start) xs in
+    let few : length second ≤ 64 = omega (arith, length-second f each output start xs (omega arith)) in
+    let none : length (whole f (length output - 64) xs) ≡ 0 = omega (arith, length-whole f each (length output - 64) xs) in
+    drop_all 64 second few ∙ sym (nil_from_length (whole f (length output - 64) xs) none)
+
+behind-long : {X : Type 0} (f : X → List ℕ) (output : List ℕ) (start : ℕ) (xs : List X) → start ≡ min (length output) 64 → 64 ≤ length output
+    → drop 64 (take start output ++ whole f (length output - start) xs) ≡ whole f (length output - 64) xs
+behind-long f output start xs is enough =
+    let all : start ≡ 64 = omega arith in
+    let inside : start ≤ length output = omega arith in
+    drop_at (take start output) (whole f (length output - start) xs) 64 (length-take-le start output inside ∙ all)
+    ∙ ap (λ (k : ℕ). whole f (length output - k) xs) all
+
+behind-header : {X : Type 0} (f : X → List ℕ) → ((x : X) → length (f x) ≡ 64) → (output : List ℕ) (start : ℕ) (xs : List X) → start ≡ min (length output) 64
+    → drop 64 (take start output ++ whole f (length output - start) xs) ≡ whole f (length output - 64) xs
+behind-header f each output start xs is =
+    ⊎_elim (λ short. behind-short f each output start xs is short) (λ enough. behind-long f output start xs is enough) (cases_lt (length output) 64)
+
+-- the two parts, written one after the other, are the report
+pub report-written : (output second new : List ℕ) (zones : List ZoneRecord) (first size : ℕ) (option : ZoneFilter) (partial : Bool) (start room number : ℕ)
+    → start ≡ min (length output) 64
+    → room ≡ (length output - start) / 64
+    → second ≡ take start output ++ listed size (length output - start) (matching zones first option)
+    → number ≡ cond partial (min room (length (matching zones first option))) (length (matching zones first option))
+    → new ≡ take (length second) (header number) ++ drop 64 second
+    → new ≡ report (length output) zones first size option partial
+unfolding report
+report-written output second new zones first size option partial start room number is_start is_room is_second is_number is_new =
+    let n = length output in
+    let f = descriptor_at size in
+    let found = matching zones first option in
+    let behind : n - start ≡ n - 64 = omega arith in
+    let inside : start ≤ n = omega arith in
+    let places : room ≡ (n - 64) / 64 = is_room ∙ ap (λ (k : ℕ). k / 64) behind in
+    let counted : number ≡ length (cond partial (fitting (n - 64) found) found) =
+    is_number ∙ (ap (λ (k : ℕ). cond partial (min k (length found)) (length found)) places ∙ told partial ((n - 64) / 64) found) in
+    let long : length second ≡ n = ap (λ (ys : List ℕ). length ys) is_second ∙ length-second f (length-each size) output start found inside in
+    let back : drop 64 second ≡ listed size (n - 64) found = ap (λ (ys : List ℕ). drop 64 ys) is_second ∙ behind-header f (length-each size) output start found is_start in
+    is_new
+    ∙ (ap (λ (k : ℕ). take k (header number) ++ drop 64 second) long
+    ∙ (ap (λ (k : ℕ). take n (header k) ++ drop 64 second) counted
+    ∙ ap (λ (ys : List ℕ). take n (header (length (cond partial (fitting (n - 64) found) found))) ++ ys) back))
+
+-- the number of zones that a report tells
+abbrev told_by : ℕ → List (ℕ × ZoneRecord) → Bool → ℕ
+told_by bytes found partial = length (cond partial (fitting (bytes - 64) found) found)
+
+report-parts : (bytes : ℕ) (zones : List ZoneRecord) (first size : ℕ) (option : ZoneFilter) (partial : Bool) → 64 ≤ bytes
+    → report bytes zones first size option partial ≡ header (told_by bytes (matching zones first option) partial) ++ whole (descriptor_at size) (bytes - 64) (matching zones first option)
+unfolding report
+report-parts bytes zones first size option partial long =
+    let number = told_by bytes (matching zones first option) partial in
+    let fits : length (header number) ≤ bytes = omega (arith, length-header number) in
+    ap (λ (ys : List ℕ). ys ++ whole (descriptor_at size) (bytes - 64) (matching zones first option)) (take_all bytes (header number) fits)
+
+-- a report has the length of the transfer
+pub length-report : (bytes : ℕ) (zones : List ZoneRecord) (first size : ℕ) (option : ZoneFilter) (partial : Bool) → length (report bytes zones first size option partial) ≡ bytes
+unfolding report
+length-report bytes zones first size option partial =
+    let found = matching zones first option in
+    let front = take bytes (header (told_by bytes found partial)) in
+    let behind = whole (descriptor_at size) (bytes - 64) found in
+    omega (arith, length-append front behind, length-take bytes (header (told_by bytes found partial)), length-header (told_by bytes found partial), length-whole (descriptor_at size) (length-each size) (bytes - 64) found)
+
+number-in-header : (number : ℕ) (rest : List ℕ) → number < 2 ^ 64 → number_in (header number ++ rest) ≡ number
+unfolding header
+number-in-header number rest small =
+    ap (λ (ys : List ℕ). number_in ys) (append_assoc (little_bytes 8 number) (replicate 56 0) rest)
+    ∙ little_number-reads_back 8 number (replicate 56 0 ++ rest) small
+
+length-flat : {X : Type 0} (f : X → List ℕ) → ((x : X) → length (f x) ≡ 64) → (xs : List X) → length (flat_map f xs) ≡ 64 * length xs
+length-flat f each [] = omega arith
+length-flat f each (x ∷ xs) = omega (arith, length-append (f x) (flat_map f xs), each x, length-flat f each xs)
+
+pieces-flat : {X : Type 0} (f : X → List ℕ) → ((x : X) → length (f x) ≡ 64) → (xs : List X) (rest : List ℕ) → pieces (length xs) (flat_map f xs ++ rest) ≡ map f xs
+pieces-flat f each [] rest = refl
+pieces-flat f each (x ∷ xs) rest =
+    let behind = flat_map f xs ++ rest in
+    ap (λ (ys : List ℕ). take 64 ys ∷ pieces (length xs) (drop 64 ys)) (append_assoc (f x) (flat_map f xs) rest)
+    ∙ (ap (λ (ys : List ℕ). ys ∷ pieces (length xs) (drop 64 (f x ++ behind))) (take_at (f x) behind 64 (each x))
+    ∙ (ap (λ (ys : List ℕ). f x ∷ pieces (length xs) ys) (drop_at (f x) behind 64 (each x))
+    ∙ ap (λ (zs : List (List ℕ)). f x ∷ zs) (pieces-flat f each xs rest)))
+
+kept : {X : Type 0} (test : Bool) (x : X) (xs : List X) (n : ℕ) → length xs ≤ n → length (cond test (x ∷ xs) xs) ≤ suc n
+kept true x xs n few = omega arith
+kept false x xs n few = omega arith
+
+length-taken : (option : ZoneFilter) (zones : List (ℕ × ZoneRecord)) → length (taken option zones) ≤ length zones
+length-taken option [] = omega arith
+length-taken option (zone ∷ zones) = kept (takes option zone.1.state) zone (taken option zones) (length zones) (length-taken option zones)
+
+length-matching : (zones : List ZoneRecord) (first : ℕ) (option : ZoneFilter) → length (matching zones first option) ≤ length zones
+length-matching zones first option =
+    omega (arith, length-taken option (enumerate_from first (drop first zones)), length-enumerate_from first (drop first zones), length-drop first zones)
+
+told-few : {X : Type 0} (partial : Bool) (room : ℕ) (xs : List X) → length (cond partial (take room xs) xs) ≤ length xs
+told-few true room xs = omega (arith, length-take room xs)
+told-few false room xs = omega arith
+
+-- what a host reads behind a header of the zones found
+tells : (bytes : ℕ) (partial : Bool) (size : ℕ) (found : List (ℕ × ZoneRecord)) (given : List ℕ) → 64 ≤ bytes → length found < 2 ^ 64
+    → given ≡ header (told_by bytes found partial) ++ whole (descriptor_at size) (bytes - 64) found
+    → length given ≡ bytes
+    → Tells given partial size (min ((bytes - 64) / 64) (length found)) found
+tells bytes partial size found given long few parts same_length =
+    let f = descriptor_at size in
+    let room = (bytes - 64) / 64 in
+    let number = told_by bytes found partial in
+    let shown = take room found in
+    let zeros : List ℕ = replicate (bytes - 64 - length (flat_map f shown)) 0 in
+    let small : number < 2 ^ 64 = omega (arith, told-few partial room found) in
+    let back : drop 64 given ≡ flat_map f shown ++ zeros = ap (λ (ys : List ℕ). drop 64 ys) parts ∙ drop_at (header number) (whole f (bytes - 64) found) 64 (length-header number) in
+    let count : length shown ≡ min room (length found) = length-take room found in
+    let size_shown : length (flat_map f shown) ≡ 64 * min room (length found) = omega (arith, length-flat f (length-each size) shown, count) in
+    let left : bytes - 64 - length (flat_map f shown) ≡ length given - (64 + 64 * min room (length found)) = omega arith in
+    record {
+      number = ap number_in parts ∙ (number-in-header number (whole f (bytes - 64) found) small ∙ sym (told partial room found));
+      descriptors =
+        ap (λ (ys : List ℕ). pieces (min room (length found)) ys) back
+        ∙ (ap (λ (k : ℕ). pieces k (flat_map f shown ++ zeros)) (sym count)
+        ∙ (pieces-flat f (length-each size) shown zeros ∙ ap (λ (zs : List (ℕ × ZoneRecord)). map f zs) (sym (take_min room found))));
+      rest =
+        sym (drop-drop (64 * min room (length found)) 64 given)
+        ∙ (ap (λ (ys : List ℕ). drop (64 * min room (length found)) ys) back
+        ∙ (drop_at (flat_map f shown) zeros (64 * min room (length found)) size_shown ∙ ap (λ (k : ℕ). replicate k 0) left));
+    }
+
+pub gives_what_matches : GivesWhatMatches
+gives_what_matches bytes zones first size option partial long few =
+    let found = matching zones first option in
+    let same_length = length-report bytes zones first size option partial in
+    let few_found : length found < 2 ^ 64 = omega (arith, length-matching zones first option) in
+    (same_length, tells bytes partial size found (report bytes zones first size option partial) long few_found (report-parts bytes zones first size option partial long) same_length)
+
+taken-all : (zones : List (ℕ × ZoneRecord)) → taken All zones ≡ zones
+taken-all [] = refl
+taken-all (zone ∷ zones) = ap (λ (zs : List (ℕ × ZoneRecord)). zone ∷ zs) (taken-all zones)
+
+same_number : (partial : Bool) (given count number : ℕ) → given ≡ count → number ≡ cond partial given count → number ≡ count
+same_number true given count number e is = is ∙ e
+same_number false given count number e is = is
+
+pub lists_every_zone : ListsEveryZone
+lists_every_zone bytes zones size partial room few =
+    let given = report bytes zones 0 size All partial in
+    let found = matching zones 0 All in
+    let all : found ≡ enumerate_from 0 zones = taken-all (enumerate_from 0 zones) in
+    let count : length found ≡ length zones = ap (λ (zs : List (ℕ × ZoneRecord)). length zs) all ∙ length-enumerate_from 0 zones in
+    let enough : length zones ≤ (bytes - 64) / 64 = le-div (length zones) (bytes - 64) 64 (omega arith) (omega arith) in
+    let shown : min ((bytes - 64) / 64) (length found) ≡ length zones = omega arith in
+    let told_all = (gives_what_matches bytes zones 0 size All partial (omega arith) few).1 in
+    let whole_list : take (length zones) found ≡ enumerate_from 0 zones = take_all (length zones) found (omega arith) ∙ all in
+    (same_number partial (min ((bytes - 64) / 64) (length found)) (length found) (number_in given) (shown ∙ sym count) told_all.number ∙ count,
+     ap (λ (k : ℕ). descriptors_in k given) (sym shown)
+     ∙ (told_all.descriptors
+     ∙ (ap (λ (k : ℕ). map (descriptor_at size) (take k found)) shown
+     ∙ ap (λ (zs : List (ℕ × ZoneRecord)). map (descriptor_at size) zs) whole_list)))

@@ -1,0 +1,30 @@
+-- Which zones a report lists.
+use Rattle.std.specs.Prelude.{ℕ, Bool, true, false, ◌==◌, Option, Some, None, if◌then◌else◌}
+use Rattle.zone_state.specs.declared.state.ZoneState.{ZoneState}
+use Rattle.zone_state.specs.declared.state.ZoneState.TheVariants as state
+use Rattle.nvme_entry.specs.declared.filter.ZoneFilter.{ZoneFilter}
+use Rattle.nvme_entry.specs.declared.filter.ZoneFilter.TheVariants.{All, Empty, ImplicitlyOpened, ExplicitlyOpened, Closed, Full, ReadOnly, Offline}
+
+-- Zone Receive Action Specific (ZNS 1.1, 3.4.2)
+abbrev pub filter_of : ℕ → Option ZoneFilter
+filter_of code =
+    if code == 0x00 then Some All else
+    if code == 0x01 then Some Empty else
+    if code == 0x02 then Some ImplicitlyOpened else
+    if code == 0x03 then Some ExplicitlyOpened else
+    if code == 0x04 then Some Closed else
+    if code == 0x05 then Some Full else
+    if code == 0x06 then Some ReadOnly else
+    if code == 0x07 then Some Offline else None
+
+-- does a report with the filter list zones of the state?
+abbrev pub takes : ZoneFilter → ZoneState → Bool
+takes All _ = true
+takes Empty state.Empty = true
+takes ImplicitlyOpened state.ImplicitlyOpened = true
+takes ExplicitlyOpened state.ExplicitlyOpened = true
+takes Closed state.Closed = true
+takes Full state.Full = true
+takes ReadOnly state.ReadOnly = true
+takes Offline state.Offline = true
+takes _ _ = false

@@ -1,0 +1,50 @@
+-- Laws of reports, in the words of a host that reads them.
+use Rattle.std.specs.Prelude.{ℕ, zero, suc, ◌≡◌, ◌≤◌, ◌<◌, ◌+◌, ◌-◌, ◌*◌, ◌/◌, ◌^◌, min, Bool, List, [], ◌∷◌, length, map, take, drop, replicate, if◌then◌else◌}
+use Rattle.std.specs.List.{enumerate_from}
+use Rattle.byteorder.specs.Endian.{little_number}
+use Rattle.zone_state.specs.Zone.{ZoneRecord}
+use Rattle.nvme_entry.specs.declared.filter.ZoneFilter.{ZoneFilter}
+use Rattle.nvme_entry.specs.declared.filter.ZoneFilter.TheVariants.{All}
+use Rattle.nvme_entry.specs.Report.{report, matching, descriptor_at}
+
+-- the number of zones that a report tells (ZNS 1.1, 3.4.2)
+abbrev pub number_in : List ℕ → ℕ
+number_in bytes = little_number 8 bytes
+
+-- so many pieces of 64 bytes
+abbrev pub pieces : ℕ → List ℕ → List (List ℕ)
+pieces zero bytes = []
+pieces (suc count) bytes = take 64 bytes ∷ pieces count (drop 64 bytes)
+
+-- the first descriptors of a report, which stand behind its header
+abbrev pub descriptors_in : ℕ → List ℕ → List (List ℕ)
+descriptors_in count bytes = pieces count (drop 64 bytes)
+
+-- what bytes tell of zones that match: so many descriptors are given
+pub record Tells (bytes : List ℕ) (partial : Bool) (size given : ℕ) (found : List (ℕ × ZoneRecord)) : Type 0 where
+  -- the number of the descriptors given or of all zones that match,
+  pub number : number_in bytes ≡ (if partial then given else length found)
+  -- the descriptors of the first of these zones, in order and none left out,
+  pub descriptors : descriptors_in given bytes ≡ map (descriptor_at size) (take given found)
+  -- and nothing behind them
+  pub rest : drop (64 + 64 * given) bytes ≡ replicate (length bytes - (64 + 64 * given)) 0
+
+-- A report has the length of the transfer. It gives the descriptors of the zones that match, as many
+-- as fit whole behind the header.
+abbrev pub GivesWhatMatches : Type 0
+GivesWhatMatches =
+    (bytes : ℕ) (zones : List ZoneRecord) (first size : ℕ) (option : ZoneFilter) (partial : Bool)
+    → 64 ≤ bytes → length zones < 2 ^ 64
+    → let given = report bytes zones first size option partial in
+      let found = matching zones first option in
+      (length given ≡ bytes) × Tells given partial size (min ((bytes - 64) / 64) (length found)) found
+
+-- A report of all zones from the first on, with room for all, lists every zone once, in order, and
+-- tells their number.
+abbrev pub ListsEveryZone : Type 0
+ListsEveryZone =
+    (bytes : ℕ) (zones : List ZoneRecord) (size : ℕ) (partial : Bool)
+    → 64 + 64 * length zones ≤ bytes → length zones < 2 ^ 64
+    → let given = report bytes zones 0 size All partial in
+      (number_in given ≡ length zones)
+      × (descriptors_in (length zones) given ≡ map (descriptor_at size) (enumerate_from 0 zones))

@@ -1,0 +1,55 @@
+//! Which zones a report lists.
+
+ghost use Rattle.std.specs.Prelude.{◌≡◌};
+ghost use Rattle.nvme_entry.specs.Filter.{filter_of, takes};
+
+use zone_state::ZoneState;
+
+/// The zones that a report lists: all, or those of one state (the field Zone Receive Action
+/// Specific of a Report Zones; ZNS 1.1, 3.4.2).
+#[derive(Clone, Copy, Debug, PartialEq, Eq)]
+pub enum ZoneFilter {
+    All,
+    Empty,
+    ImplicitlyOpened,
+    ExplicitlyOpened,
+    Closed,
+    Full,
+    ReadOnly,
+    Offline,
+}
+
+impl ZoneFilter {
+    /// The filter with this code; `None` for a code that isn't supported.
+    pub fn from_code(code: u8) -> Option<ZoneFilter>
+        ensures { result ≡ filter_of code }
+    {
+        match code {
+            0x00 => Some(ZoneFilter::All),
+            0x01 => Some(ZoneFilter::Empty),
+            0x02 => Some(ZoneFilter::ImplicitlyOpened),
+            0x03 => Some(ZoneFilter::ExplicitlyOpened),
+            0x04 => Some(ZoneFilter::Closed),
+            0x05 => Some(ZoneFilter::Full),
+            0x06 => Some(ZoneFilter::ReadOnly),
+            0x07 => Some(ZoneFilter::Offline),
+            _ => None,
+        }
+    }
+
+    /// Does a report with this filter list a zone of that state?
+    pub fn takes(self, state: ZoneState) -> bool
+        ensures { result ≡ takes self state }
+    {
+        match self {
+            ZoneFilter::All => true,
+            ZoneFilter::Empty => state == ZoneState::Empty,
+            ZoneFilter::ImplicitlyOpened => state == ZoneState::ImplicitlyOpened,
+            ZoneFilter::ExplicitlyOpened => state == ZoneState::ExplicitlyOpened,
+            ZoneFilter::Closed => state == ZoneState::Closed,
+            ZoneFilter::Full => state == ZoneState::Full,
+            ZoneFilter::ReadOnly => state == ZoneState::ReadOnly,
+            ZoneFilter::Offline => state == ZoneState::Offline,
+        }
+    }
+}

@@ -1,0 +1,14 @@
+//! Laws of the definitions that the contracts of this crate cite. Each function does nothing: what
+//! it ensures is the law.
+
+ghost use Rattle.nvme_entry.specs.Laws.{GivesWhatMatches, ListsEveryZone};
+
+/// A report gives the descriptors of the zones that match, in order, as many as fit whole.
+pub fn reports_give_what_matches()
+    ensures { GivesWhatMatches }
+{}
+
+/// A report of all zones with room for all lists every zone once, in order, and tells their number.
+pub fn full_reports_list_every_zone()
+    ensures { ListsEveryZone }
+{}

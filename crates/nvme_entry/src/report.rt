@@ -1,0 +1,188 @@
+//! The report of zones that Zone Management Receive gives.
+
+ghost use Rattle.std.specs.Prelude.{◌≡◌, ◌≤◌, ◌<◌, ◌+◌, ◌-◌, ◌*◌, ◌^◌, ◌++◌, length, take, drop, min, if◌then◌else◌};
+ghost use Rattle.std.specs.List.{enumerate_from, flat_map};
+ghost use Rattle.byteorder.specs.Endian.{little_bytes};
+ghost use Rattle.zone_state.specs.State.{code_of};
+ghost use Rattle.nvme_entry.specs.Report.{report, listed, taken, header, descriptor, write_pointer};
+
+use crate::filter::ZoneFilter;
+use byteorder::{ByteOrder, LittleEndian};
+use zone_state::{Zone, ZoneState};
+
+/// The bytes of the header (ZNS 1.1, 3.4.2).
+const HEADER_BYTES: usize = 64;
+
+/// The bytes of a zone descriptor (ZNS 1.1, 3.4.2).
+const DESCRIPTOR_BYTES: usize = 64;
+
+/// The zone type Sequential Write Required (ZNS 1.1, 3.4.2).
+const SEQUENTIAL_WRITE_REQUIRED: u8 = 0x02;
+
+/// A report of zones (ZNS 1.1, 3.4.2), to be written where it is wanted.
+#[derive(Clone, Copy, Debug)]
+pub struct Report<'a> {
+    /// All zones of the namespace.
+    pub zones: &'a [Zone],
+    /// The number of the zone that the report begins with.
+    pub first: u32,
+    /// The blocks of each zone.
+    pub size: u32,
+    /// The zones that are reported.
+    pub filter: ZoneFilter,
+    /// Does the number of zones told leave out those whose descriptors do not fit?
+    pub partial: bool,
+}
+
+impl Report<'_> {
+    /// Fills all of `output`: the header, as many whole descriptors as fit behind it, and zeros. An
+    /// output of fewer than 64 bytes is a beginning of the header (profile).
+    pub fn write(&self, output: &mut [u8])
+        requires { length self.now.zones.now ≤ 2 ^ 32 }
+        ensures { output.new ≡ report (length output.old) self.now.zones.now self.now.first self.now.size self.now.filter self.now.partial }
+    {
+        let start = output.len().min(HEADER_BYTES);
+        let room = (output.len() - start) / DESCRIPTOR_BYTES;
+        let zones = zones_from(self.zones, self.first);
+        let found = list(zones, self.first, self.size, self.filter, &mut output[start..]);
+        write_header(output, number_told(self.partial, room, found));
+    }
+}
+
+/// The zones from one on.
+fn zones_from(zones: &[Zone], first: u32) -> &[Zone]
+    requires { length zones.now ≤ 2 ^ 32 }
+    ensures value { result.now ≡ drop first zones.now }
+    ensures few { first + length result.now ≤ 2 ^ 32 }
+{
+    let first = zones.len().min(first as usize);
+    zones.split_at(first).1
+}
+
+/// The number of zones that the header tells, where so many were found and there is room for the
+/// descriptors of so many.
+fn number_told(partial: bool, room: usize, found: usize) -> u64
+    ensures { result ≡ (if partial then min room found else found) }
+{
+    if partial {
+        room.min(found) as u64
+    } else {
+        found as u64
+    }
+}
+
+/// Puts bytes at the front.
+fn put_front(output: &mut [u8], bytes: &[u8])
+    requires { length bytes.now ≤ length output.old }
+    ensures { output.new ≡ bytes.now ++ drop (length bytes.now) output.old }
+{
+    output[..bytes.len()].copy_from_slice(bytes);
+}
+
+/// The header's bytes.
+fn header(number: u64) -> [u8; HEADER_BYTES]
+    ensures { result ≡ header number }
+{
+    let mut bytes = [0; HEADER_BYTES];
+    LittleEndian::write_u64(&mut bytes, number);
+    bytes
+}
+
+/// Puts the header at the front, or as much of it as there is room for.
+fn write_header(output: &mut [u8], number: u64)
+    ensures { output.new ≡ take (length output.old) (header number) ++ drop 64 output.old }
+{
+    let length = output.len().min(HEADER_BYTES);
+    put_front(output, &header(number)[..length]);
+}
+
+/// Fills the output with the descriptors of the zones that the filter takes, as many as fit whole,
+/// and zeros, and tells how many it takes. The zones are those from number `first` on.
+fn list(zones: &[Zone], first: u32, size: u32, filter: ZoneFilter, output: &mut [u8]) -> usize
+    requires { first + length zones.now ≤ 2 ^ 32 }
+    ensures number { result ≡ length (taken filter (enumerate_from first zones.now)) }
+    ensures bytes { output.new ≡ listed size (length output.old) (taken filter (enumerate_from first zones.now)) }
+{
+    let mut found = 0;
+    let mut at = 0;
+    for (index, zone) in zones.iter().enumerate() {
+        if !filter.takes(zone.state()) {
+            continue;
+        }
+        found += 1;
+        let lowest = lowest_address(u64::from(first) + index as u64, size);
+        at = put_descriptor(output, at, *zone, lowest);
+    }
+    output[at..].fill(0);
+    found
+}
+
+/// The lowest address of the zone with this number.
+fn lowest_address(number: u64, size: u32) -> u64
+    requires { number < 2 ^ 32 }
+    ensures value { result ≡ number * size }
+    ensures room { result + 2 ^ 32 ≤ 2 ^ 64 }
+{
+    number * u64::from(size)
+}
+
+/// Puts the descriptor of a zone at a place, where it fits there whole, and tells the place behind
+/// what it put.
+fn put_descriptor(output: &mut [u8], at: usize, zone: Zone, lowest: u64) -> usize
+    requires inside { at ≤ length output.old }
+    requires lowest { lowest + 2 ^ 32 ≤ 2 ^ 64 }
+    ensures inside { result ≤ length output.new }
+    ensures same_length { length output.new ≡ length output.old }
+    ensures fits { at + 64 ≤ length output.old → (result ≡ at + 64) × (take result output.new ≡ take at output.old ++ descriptor zone lowest) }
+    ensures full { length output.old < at + 64 → (result ≡ at) × (output.new ≡ output.old) }
+{
+    if output.len() - at < DESCRIPTOR_BYTES {
+        return at;
+    }
+    write_descriptor(&mut output[at..], zone, lowest);
+    at + DESCRIPTOR_BYTES
+}
+
+/// Puts the descriptor of a zone at the front.
+fn write_descriptor(output: &mut [u8], zone: Zone, lowest: u64)
+    requires inside { 64 ≤ length output.old }
+    requires lowest { lowest + 2 ^ 32 ≤ 2 ^ 64 }
+    ensures { output.new ≡ descriptor zone lowest ++ drop 64 output.old }
+{
+    let pointer = write_pointer(zone, lowest);
+    let state = state_byte(zone.state());
+    put_front(
+        output,
+        &[SEQUENTIAL_WRITE_REQUIRED, state, 0, 0, 0, 0, 0, 0],
+    );
+    write_words(
+        &mut output[8..],
+        &[u64::from(zone.capacity()), lowest, pointer, 0, 0, 0, 0],
+    );
+}
+
+/// The byte of a descriptor with the zone's state.
+fn state_byte(state: ZoneState) -> u8
+    ensures { result ≡ code_of state * 2 ^ 4 }
+{
+    16 * state.code()
+}
+
+/// The write pointer of a zone with this lowest address, where it has one.
+fn write_pointer(zone: Zone, lowest: u64) -> u64
+    requires { lowest + 2 ^ 32 ≤ 2 ^ 64 }
+    ensures { result ≡ write_pointer zone lowest }
+{
+    match zone.state() {
+        ZoneState::ReadOnly | ZoneState::Full | ZoneState::Offline => u64::MAX,
+        _ => lowest + u64::from(zone.written()),
+    }
+}
+
+/// Puts seven words at the front.
+fn write_words(output: &mut [u8], words: &[u64; 7])
+    requires { 56 ≤ length output.old }
+    ensures { output.new ≡ flat_map (little_bytes 8) words.now ++ drop 56 output.old }
+{
+    LittleEndian::write_u64_into(words, &mut output[..56]);
+}
