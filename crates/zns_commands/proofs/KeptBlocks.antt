@@ -9,7 +9,7 @@ use Rattle.zone_state.specs.declared.state.ZoneState.TheVariants.{Empty, Closed,
 use Rattle.zone_state.specs.declared.status.Status.{Status}
 use Rattle.zone_state.specs.declared.zone.FaultRefused.{FaultRefused}
 use Rattle.zone_resources.specs.declared.holds.Holds.{Holds}
-use Rattle.nvme_entry.specs.declared.command.Command.TheVariants.{Write, Read, Send, Append}
+use Rattle.nvme_entry.specs.declared.command.Command.TheVariants.{Write, Read, Send, Receive, Append}
 use Rattle.nvme_entry.specs.Checks.{first_refused}
 use Rattle.image_store.specs.Blocks.{as_blocks}
 use Rattle.image_store.specs.Geometry.{Shape}
@@ -21,6 +21,7 @@ use Rattle.zns_commands.specs.Append.{append_checks, append_effect}
 use Rattle.zns_commands.specs.Fault.{fault_answer, faulted_by}
 use Rattle.zns_commands.specs.Read.{read_refusal, read_checks, read_effect}
 use Rattle.zns_commands.specs.Resources.{closed, arrived, moved_to}
+use Rattle.zns_commands.specs.Receive.{receive_checks, receive_effect}
 use Rattle.zns_commands.specs.Send.{send_checks, send_effect, zone_plan, takes, swept}
 use Rattle.zns_commands.specs.Write.{write_checks, write_effect, write_plan, written}
 use Rattle.zns_commands.specs.Laws.{Step, Commanded, Failed, after, after_all, is_cleared, NoneClears}
@@ -125,6 +126,9 @@ step_grows (Commanded holds (Append lba blocks) input) ns z =
 step_grows (Commanded holds (Read lba blocks) input) ns z =
     concluded_grows (first_refused (read_checks ns lba blocks input)) ns (read_effect ns lba blocks) z
     (λ stays. grows_not (zone_at ns z).blocks)
+step_grows (Commanded holds (Receive lba dwords filter partial) input) ns z =
+    concluded_grows (first_refused (receive_checks ns lba dwords input)) ns (receive_effect ns lba dwords filter partial) z
+    (λ stays. grows_not (zone_at ns z).blocks)
 step_grows (Commanded holds (Send lba a select_all) input) ns z =
     concluded_grows (first_refused (send_checks ns holds lba a select_all input)) ns
     (success (send_effect ns holds lba a select_all) 0 []) z
@@ -175,6 +179,8 @@ step_shape (Commanded holds (Append lba blocks) input) ns =
     (written_shape ns (write_plan ns holds (zone_number ns lba)) input)
 step_shape (Commanded holds (Read lba blocks) input) ns =
     concluded_shape (first_refused (read_checks ns lba blocks input)) ns (read_effect ns lba blocks) refl
+step_shape (Commanded holds (Receive lba dwords filter partial) input) ns =
+    concluded_shape (first_refused (receive_checks ns lba dwords input)) ns (receive_effect ns lba dwords filter partial) refl
 step_shape (Commanded holds (Send lba a select_all) input) ns =
     concluded_shape (first_refused (send_checks ns holds lba a select_all input)) ns
     (success (send_effect ns holds lba a select_all) 0 []) (send_shape ns holds lba a select_all)

@@ -6,6 +6,7 @@ pub mod PassedChecks
 pub mod ReadBack
 pub mod ReadBytes
 pub mod Refusals
+pub mod ReportedZones
 pub mod Rooms
 pub mod SoundSteps
 pub mod SweptZones

@@ -3,12 +3,13 @@ use Rattle.std.proofs.Common.{◌≡◌, ◌≢◌, zero, suc, List, [], ◌∷�
 use Rattle.std.specs.Prelude.{All}
 use Rattle.zone_state.specs.declared.status.Status.{Status}
 use Rattle.zone_state.specs.declared.status.TheConstants.Status.{SUCCESS}
-use Rattle.nvme_entry.specs.declared.command.Command.TheVariants.{Write, Read, Send, Append}
+use Rattle.nvme_entry.specs.declared.command.Command.TheVariants.{Write, Read, Send, Receive, Append}
 use Rattle.nvme_entry.specs.Checks.{first_refused}
 use Rattle.image_store.specs.Namespace.{ZonedNamespace}
 use Rattle.zns_commands.specs.Answer.{Outcome, success, concluded}
 use Rattle.zns_commands.specs.Append.{append_checks, append_effect}
 use Rattle.zns_commands.specs.Read.{read_checks, read_effect}
+use Rattle.zns_commands.specs.Receive.{receive_checks, receive_effect}
 use Rattle.zns_commands.specs.Send.{send_checks, send_effect}
 use Rattle.zns_commands.specs.Write.{write_checks, write_effect}
 use Rattle.zns_commands.specs.Laws.{Passes, Case, TakesEffect, IsRefused, JustOneCase, ChangesNothing, RefusedChangesNothing}
@@ -62,6 +63,10 @@ just_one_case ns holds (Send lba action select_all) input =
     let checks = send_checks ns holds lba action select_all input in
     let effect = success (send_effect ns holds lba action select_all) 0 [] in
     (some_case ns checks effect, one_case ns checks effect)
+just_one_case ns holds (Receive lba dwords filter partial) input =
+    let checks = receive_checks ns lba dwords input in
+    let effect = receive_effect ns lba dwords filter partial in
+    (some_case ns checks effect, one_case ns checks effect)
 just_one_case ns holds (Append lba blocks) input =
     let checks = append_checks ns holds lba blocks input in
     let effect = append_effect ns holds lba input in
@@ -81,5 +86,7 @@ refused_changes_nothing ns holds (Read lba blocks) input =
 refused_changes_nothing ns holds (Send lba action select_all) input =
     refused_concluded (first_refused (send_checks ns holds lba action select_all input)) ns
     (success (send_effect ns holds lba action select_all) 0 []) refl
+refused_changes_nothing ns holds (Receive lba dwords filter partial) input =
+    refused_concluded (first_refused (receive_checks ns lba dwords input)) ns (receive_effect ns lba dwords filter partial) refl
 refused_changes_nothing ns holds (Append lba blocks) input =
     refused_concluded (first_refused (append_checks ns holds lba blocks input)) ns (append_effect ns holds lba input) refl

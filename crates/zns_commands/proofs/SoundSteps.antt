@@ -12,7 +12,7 @@ use Rattle.zone_state.specs.declared.state.ZoneState.TheVariants.{Empty}
 use Rattle.zone_state.specs.declared.status.Status.{Status}
 use Rattle.zone_resources.specs.Counts.{one_if}
 use Rattle.zone_resources.specs.declared.holds.Holds.{Holds}
-use Rattle.nvme_entry.specs.declared.command.Command.TheVariants.{Write, Read, Send, Append}
+use Rattle.nvme_entry.specs.declared.command.Command.TheVariants.{Write, Read, Send, Receive, Append}
 use Rattle.nvme_entry.specs.Checks.{first_refused}
 use Rattle.image_store.specs.Geometry.{IsShape}
 use Rattle.image_store.specs.Namespace.{ZoneBlocks, ZonedNamespace, no_zone, zone_at, counted}
@@ -21,6 +21,7 @@ use Rattle.zns_commands.specs.Answer.{Outcome, success, concluded}
 use Rattle.zns_commands.specs.Append.{append_checks, append_effect}
 use Rattle.zns_commands.specs.Read.{read_checks, read_effect}
 use Rattle.zns_commands.specs.Resources.{room_for, closing_of}
+use Rattle.zns_commands.specs.Receive.{receive_checks, receive_effect}
 use Rattle.zns_commands.specs.Send.{send_checks, send_effect, all_fit, room_of}
 use Rattle.zns_commands.specs.Write.{write_checks, write_effect}
 use Rattle.zns_commands.specs.Laws.{Step, Commanded, Failed, after, WritesSome, IsSound, StepsKeepSound, EmptyIsSound}
@@ -83,6 +84,8 @@ step_sound (Commanded holds (Append lba blocks) input) ns sound some =
     (append_sound ns holds lba blocks input sound some)
 step_sound (Commanded holds (Read lba blocks) input) ns sound some =
     concluded_sound (first_refused (read_checks ns lba blocks input)) ns (read_effect ns lba blocks) sound (λ none. sound)
+step_sound (Commanded holds (Receive lba dwords filter partial) input) ns sound some =
+    concluded_sound (first_refused (receive_checks ns lba dwords input)) ns (receive_effect ns lba dwords filter partial) sound (λ none. sound)
 step_sound (Commanded holds (Send lba a select_all) input) ns sound some =
     concluded_sound (first_refused (send_checks ns holds lba a select_all input)) ns
     (success (send_effect ns holds lba a select_all) 0 []) sound

@@ -1,5 +1,6 @@
 -- Laws of commands and faults.
-use Rattle.std.specs.Prelude.{ℕ, ◌≡◌, ◌≢◌, ◌≤◌, ◌+◌, ◌*◌, ◌^◌, Bool, true, false, List, [], ◌∷◌, ◌++◌, Option, Some, None, All}
+use Rattle.std.specs.Prelude.{ℕ, ◌≡◌, ◌≢◌, ◌≤◌, ◌+◌, ◌*◌, ◌^◌, Bool, true, false, List, [], ◌∷◌, ◌++◌, length, map, Option, Some, None, All}
+use Rattle.std.specs.List.{enumerate_from}
 use Rattle.zone_state.specs.declared.state.FaultState.{FaultState}
 use Rattle.zone_state.specs.declared.state.ZoneState.{ZoneState}
 use Rattle.zone_state.specs.declared.state.ZoneState.TheVariants.{Empty, Offline}
@@ -8,7 +9,11 @@ use Rattle.zone_state.specs.declared.status.TheConstants.Status.{SUCCESS}
 use Rattle.zone_resources.specs.Admission.{IsWithin}
 use Rattle.zone_resources.specs.declared.holds.Holds.{Holds}
 use Rattle.nvme_entry.specs.declared.command.Command.{Command}
-use Rattle.nvme_entry.specs.declared.command.Command.TheVariants.{Write, Read, Send, Append}
+use Rattle.nvme_entry.specs.declared.command.Command.TheVariants.{Write, Read, Send, Receive, Append}
+use Rattle.nvme_entry.specs.declared.command.TheConstants.{MOST_TRANSFER}
+use Rattle.nvme_entry.specs.declared.filter.ZoneFilter.TheVariants as filter
+use Rattle.nvme_entry.specs.Laws.{number_in, descriptors_in}
+use Rattle.nvme_entry.specs.Report.{descriptor_at}
 use Rattle.image_store.specs.Geometry.{Shape, IsShape}
 use Rattle.image_store.specs.Namespace.{ZonedNamespace, zone_at, IsNamespace, all_empty}
 use Rattle.zns_commands.specs.Address.{records, zone_number}
@@ -17,6 +22,7 @@ use Rattle.zns_commands.specs.Append.{append_checks, append_effect}
 use Rattle.zns_commands.specs.Fault.{faulted}
 use Rattle.zns_commands.specs.Meaning.{meaning}
 use Rattle.zns_commands.specs.Read.{read_checks, read_effect}
+use Rattle.zns_commands.specs.Receive.{receive_checks, receive_effect}
 use Rattle.zns_commands.specs.Send.{send_checks, send_effect}
 use Rattle.zns_commands.specs.Write.{write_checks, write_effect}
 
@@ -41,6 +47,7 @@ WritesSome (Commanded holds (Write lba blocks) input) = 1 ≤ blocks
 WritesSome (Commanded holds (Append lba blocks) input) = 1 ≤ blocks
 WritesSome (Commanded holds (Read lba blocks) input) = Unit {0}
 WritesSome (Commanded holds (Send lba action select_all) input) = Unit {0}
+WritesSome (Commanded holds (Receive lba dwords filter partial) input) = Unit {0}
 WritesSome (Failed holds zone fault) = Unit {0}
 
 -- the shape is one that is accepted, each zone's state allows its written blocks, each block is whole,
@@ -62,6 +69,7 @@ abbrev pub checks_of : ZonedNamespace → Holds → Command → List ℕ → Lis
 checks_of ns holds (Write lba blocks) input = write_checks ns holds lba blocks input
 checks_of ns holds (Read lba blocks) input = read_checks ns lba blocks input
 checks_of ns holds (Send lba action select_all) input = send_checks ns holds lba action select_all input
+checks_of ns holds (Receive lba dwords filter partial) input = receive_checks ns lba dwords input
 checks_of ns holds (Append lba blocks) input = append_checks ns holds lba blocks input
 
 -- what a command comes to that is not refused
@@ -69,6 +77,7 @@ abbrev pub effect_of : ZonedNamespace → Holds → Command → List ℕ → Out
 effect_of ns holds (Write lba blocks) input = write_effect ns holds lba input
 effect_of ns holds (Read lba blocks) input = read_effect ns lba blocks
 effect_of ns holds (Send lba action select_all) input = success (send_effect ns holds lba action select_all) 0 []
+effect_of ns holds (Receive lba dwords filter partial) input = receive_effect ns lba dwords filter partial
 effect_of ns holds (Append lba blocks) input = append_effect ns holds lba input
 
 abbrev pub Passes : Option Status → Type 0
@@ -136,3 +145,14 @@ WrittenReadsBack =
     → let done = meaning ns holds (Write lba blocks) input in
     NoneClears (zone_number ns lba) steps done.namespace
     → AreRead (after_all steps done.namespace) lba blocks input
+
+-- a report of all zones from the lowest address on, with room for all, tells how many zones there are,
+-- and gives the descriptor of each one once, in order
+abbrev pub ReportsEveryZone : Type 0
+ReportsEveryZone =
+    (ns : ZonedNamespace) (holds : Holds) (dwords : ℕ) (partial : Bool)
+    → IsSound ns → 64 + 64 * length ns.zones ≤ 4 * dwords → 4 * dwords ≤ MOST_TRANSFER
+    → let done = meaning ns holds (Receive 0 dwords filter.All partial) [] in
+    (done.status ≡ SUCCESS)
+    × (number_in done.output ≡ length ns.zones)
+    × (descriptors_in (length ns.zones) done.output ≡ map (descriptor_at ns.size) (enumerate_from 0 (records ns)))

@@ -1,7 +1,7 @@
 //! Laws of the definitions that the contracts of this crate cite. Each function does nothing: what
 //! it ensures is the law.
 
-ghost use Rattle.zns_commands.specs.Laws.{AppendedReadsBack, EmptyIsSound, JustOneCase, RefusedChangesNothing, StepsKeepSound, WrittenReadsBack};
+ghost use Rattle.zns_commands.specs.Laws.{AppendedReadsBack, EmptyIsSound, JustOneCase, RefusedChangesNothing, ReportsEveryZone, StepsKeepSound, WrittenReadsBack};
 
 /// In every namespace that commands and faults leave, starting from an empty one, the open and active
 /// zones are within the limits, and each zone's state fits its written blocks.
@@ -30,4 +30,9 @@ pub fn appended_blocks_read_back()
 /// The same of a Write, at its own address.
 pub fn written_blocks_read_back()
     ensures { WrittenReadsBack }
+{}
+
+/// A report of all zones with room for all lists every zone once, in order, and tells their number.
+pub fn reports_list_every_zone()
+    ensures { ReportsEveryZone }
 {}

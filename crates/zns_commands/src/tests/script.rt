@@ -27,6 +27,12 @@ pub const FULL: ZoneState = ZoneState::Full;
 
 pub const OFFLINE: ZoneState = ZoneState::Offline;
 
+/// The words of 8 bytes that a descriptor begins with, of which the other four are zeros.
+pub type Descriptor = [u64; 4];
+
+/// The place of a descriptor where there is none.
+pub const NONE: Descriptor = [0; 4];
+
 /// A step of a script.
 #[derive(Clone, Copy, Debug)]
 pub enum Step {
@@ -36,6 +42,9 @@ pub enum Step {
     Hold(Holds),
     /// A command with so many bytes of data beside it, and the status that it is answered.
     Execute(Command, usize, Status),
+    /// A Report Zones from an address on, with a transfer of so many bytes, by a filter and partial
+    /// or not, and the status that it is answered.
+    Report(u64, u32, ZoneFilter, bool, Status),
     /// A zone fault, and whether it is taken.
     Fault(u32, FaultState, bool),
     /// The completion of the last command on queue 1, under this identifier, byte by byte.
@@ -43,6 +52,9 @@ pub enum Step {
     /// The data of the last command: from one of the blocks of a write on, so many of them, and
     /// then so many blocks of zeros.
     Gives(u16, u16, u16),
+    /// The report of the last command: its bytes, the number of zones that it tells, and the
+    /// descriptors that it gives.
+    Reports(usize, u64, [Descriptor; 4]),
     /// The states of the zones.
     Leaves([ZoneState; 4]),
     /// How many zones hold an open and an active resource.
@@ -88,6 +100,11 @@ pub fn send_all(action: Action, status: Status) -> Step {
         select_all: true,
     };
     Step::Execute(command, 0, status)
+}
+
+/// The descriptor of a zone in the state with this code, which can hold 6 blocks.
+pub fn zone(code: u64, lowest: u64, pointer: u64) -> Descriptor {
+    [(code << 12) | 0x02, 6, lowest, pointer]
 }
 
 /// Four zones of 8 blocks of 512 bytes, 6 of them writable; 2 zones may be open and 3 active.
@@ -147,6 +164,10 @@ impl Stage {
             Step::Begin => self.begin()?,
             Step::Hold(holds) => self.holds = holds,
             Step::Execute(command, beside, status) => self.execute(rt, &command, beside, status)?,
+            Step::Report(lba, bytes, filter, partial, status) => {
+                let command = report(lba, bytes, filter, partial)?;
+                self.execute(rt, &command, 0, status)?;
+            }
             Step::Fault(zone, state, taken) => {
                 let answer = self.namespace.fault(zone, state, &self.holds);
                 assert_eq!(rt; answer.is_ok(), taken, "step {number}");
@@ -159,6 +180,7 @@ impl Stage {
                 );
             }
             Step::Gives(from, written, zeros) => self.assert_given(rt, from, written, zeros),
+            Step::Reports(length, number, zones) => self.assert_report(rt, length, number, zones),
             Step::Leaves(states) => self.assert_states(rt, states),
             Step::Uses(open, active) => {
                 let counts = self.namespace.image().counts();
@@ -213,11 +235,36 @@ impl Stage {
         assert!(rt; given.iter().skip(stored.len()).all(|byte| *byte == 0));
     }
 
+    fn assert_report(&self, rt: &impl Abort, length: usize, number: u64, zones: [Descriptor; 4]) {
+        let given = self.output.get(..self.last.length).unwrap_or(&[]);
+        assert_eq!(rt; given.len(), length, "step {}", self.number);
+        for (place, byte) in given.iter().enumerate() {
+            let word = report_word(number, zones, place / 8);
+            assert_eq!(rt;
+                *byte,
+                word.to_le_bytes()[place % 8],
+                "step {}",
+                self.number
+            );
+        }
+    }
+
     fn assert_states(&self, rt: &impl Abort, states: [ZoneState; 4]) {
         for (zone, state) in self.namespace.image().zones().iter().zip(states) {
             assert_eq!(rt; zone.state(), state, "step {}", self.number);
         }
     }
+}
+
+/// A Report Zones with a transfer of so many bytes.
+fn report(lba: u64, bytes: u32, filter: ZoneFilter, partial: bool) -> Result<Command, Fail> {
+    let last = (bytes / 4).saturating_sub(1);
+    Ok(Command::Receive {
+        lba,
+        dwords: DwordCount::from_zero_based(last).ok_or("too large")?,
+        filter,
+        partial,
+    })
 }
 
 /// The completion of an answer on queue 1.
@@ -230,4 +277,16 @@ fn completion(answer: Answer, cid: u16) -> [u8; 16] {
         status: answer.status,
     };
     completion.encode()
+}
+
+/// A word of 8 bytes of a report.
+fn report_word(number: u64, zones: [Descriptor; 4], place: usize) -> u64 {
+    match (place / 8, place % 8) {
+        (0, 0) => number,
+        (0, _) => 0,
+        (zone, word) => {
+            let descriptor = zones.get(zone - 1).copied().unwrap_or(NONE);
+            descriptor.get(word).copied().unwrap_or(0)
+        }
+    }
 }
