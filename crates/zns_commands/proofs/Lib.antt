@@ -1,5 +1,15 @@
-pub mod LawLemmas
+pub mod Fits
+pub mod GivenWay
+pub mod KeptBlocks
+pub mod MovedZones
+pub mod PassedChecks
+pub mod ReadBack
 pub mod ReadBytes
+pub mod Refusals
+pub mod ReportedZones
 pub mod Rooms
+pub mod SoundSteps
+pub mod SweptZones
 pub mod Sweeps
 pub mod Transfers
+pub mod WrittenZones

@@ -1,23 +1,20 @@
 -- Zones that give way, and zones that move.
-use Rattle.std.proofs.Common.{◌≡◌, ℕ, ◌<◌, ◌≤◌, List, [], length, get_or, set, map, Option, Some, None, Ok, Err, refl, ap, sym, subst, ◌∙◌, arith}
-use Rattle.std.specs.Prelude.{◌≢◌, slice_get}
+use Rattle.std.proofs.Common.{◌≡◌, ℕ, ◌<◌, length, Option, Some, None, Ok, refl, ap, sym, subst, ◌∙◌, arith}
+use Rattle.std.specs.Prelude.{◌≢◌}
 use Rattle.std.specs.Option.{ForSome}
-use Rattle.std.proofs.lemmas.List.{length-map, get_or-map, get_or-set_other}
+use Rattle.std.proofs.lemmas.List.{length-map, get_or-map}
 use Rattle.std.proofs.lemmas.Option.{slice_get_within, get_or_from_slice_get}
-use Rattle.zone_state.specs.Transition.{transition}
-use Rattle.zone_state.specs.Zone.{ZoneRecord, FitsState, IsZone, kept}
-use Rattle.zone_state.specs.declared.action.Action.{Action}
-use Rattle.zone_state.specs.declared.action.Action.TheVariants as action
+use Rattle.zone_state.specs.Zone.{ZoneRecord, IsZone}
 use Rattle.zone_state.specs.declared.state.ZoneState.{ZoneState}
 use Rattle.zone_state.specs.declared.state.ZoneState.TheVariants.{Empty, ImplicitlyOpened, ExplicitlyOpened, Closed, ReadOnly, Full, Offline}
 use Rattle.zone_resources.specs.Admission.{wanted_of, IsClosable}
 use Rattle.zone_resources.specs.declared.admission.Wanted.{Wanted}
 use Rattle.zone_resources.specs.declared.holds.Holds.{Holds}
-use Rattle.image_store.specs.Namespace.{ZoneBlocks, ZonedNamespace, no_zone, zone_at, counted, IsNamespace}
+use Rattle.image_store.specs.Namespace.{ZonedNamespace, no_zone, zone_at, counted, IsNamespace}
 use Rattle.zone_state.specs.declared.status.Status.{Status}
 use Rattle.nvme_entry.specs.Checks.{allowed}
 use Rattle.zns_commands.specs.Address.{records}
-use Rattle.zns_commands.specs.Resources.{closed, CanGiveWay}
+use Rattle.zns_commands.specs.Resources.{CanGiveWay}
 
 -- a zone that may be closed is a zone, and implicitly opened
 pub closable_zone : (ns : ZonedNamespace) (holds : Holds) (z : ℕ) → IsClosable holds (records ns) z → z < length ns.zones

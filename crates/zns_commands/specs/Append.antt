@@ -1,9 +1,8 @@
 -- Zone Append (ZNS 1.1, 3.4.1).
-use Rattle.std.specs.Prelude.{ℕ, ◌*◌, ◌%◌, ◌==◌, ◌++◌, nat_lt, List, [], ◌∷◌, length, Option}
+use Rattle.std.specs.Prelude.{ℕ, ◌*◌, ◌++◌, List, [], length, Option}
 use Rattle.zone_state.specs.declared.status.Status.{Status}
-use Rattle.zone_state.specs.declared.status.TheConstants.Status.{INVALID_FIELD_IN_COMMAND, LBA_OUT_OF_RANGE}
 use Rattle.zone_resources.specs.declared.holds.Holds.{Holds}
-use Rattle.nvme_entry.specs.Checks.{demand, first_refused}
+use Rattle.nvme_entry.specs.Checks.{first_refused}
 use Rattle.image_store.specs.Namespace.{ZonedNamespace, zone_at}
 use Rattle.zns_commands.specs.Address.{zone_number, write_pointer, lowest_checks}
 use Rattle.zns_commands.specs.Answer.{Outcome, success, concluded}

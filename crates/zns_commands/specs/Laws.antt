@@ -1,17 +1,30 @@
 -- Laws of commands and faults.
-use Rattle.std.specs.Prelude.{ℕ, ◌≡◌, ◌≢◌, ◌≤◌, ◌+◌, ◌*◌, ◌^◌, List, [], ◌∷◌, All}
+use Rattle.std.specs.Prelude.{ℕ, ◌≡◌, ◌≢◌, ◌≤◌, ◌+◌, ◌*◌, ◌^◌, Bool, true, false, List, [], ◌∷◌, ◌++◌, length, map, Option, Some, None, All}
+use Rattle.std.specs.List.{enumerate_from}
 use Rattle.zone_state.specs.declared.state.FaultState.{FaultState}
+use Rattle.zone_state.specs.declared.state.ZoneState.{ZoneState}
+use Rattle.zone_state.specs.declared.state.ZoneState.TheVariants.{Empty, Offline}
+use Rattle.zone_state.specs.declared.status.Status.{Status}
 use Rattle.zone_state.specs.declared.status.TheConstants.Status.{SUCCESS}
 use Rattle.zone_resources.specs.Admission.{IsWithin}
 use Rattle.zone_resources.specs.declared.holds.Holds.{Holds}
 use Rattle.nvme_entry.specs.declared.command.Command.{Command}
-use Rattle.nvme_entry.specs.declared.command.Command.TheVariants.{Write, Read, Send, Append}
+use Rattle.nvme_entry.specs.declared.command.Command.TheVariants.{Write, Read, Send, Receive, Append}
+use Rattle.nvme_entry.specs.declared.command.TheConstants.{MOST_TRANSFER}
+use Rattle.nvme_entry.specs.declared.filter.ZoneFilter.TheVariants as filter
+use Rattle.nvme_entry.specs.Laws.{number_in, descriptors_in}
+use Rattle.nvme_entry.specs.Report.{descriptor_at}
 use Rattle.image_store.specs.Geometry.{Shape, IsShape}
-use Rattle.image_store.specs.Namespace.{ZonedNamespace, IsNamespace, all_empty}
-use Rattle.zns_commands.specs.Address.{records}
-use Rattle.zns_commands.specs.Answer.{Outcome, success}
+use Rattle.image_store.specs.Namespace.{ZonedNamespace, zone_at, IsNamespace, all_empty}
+use Rattle.zns_commands.specs.Address.{records, zone_number}
+use Rattle.zns_commands.specs.Answer.{Outcome, success, refused}
+use Rattle.zns_commands.specs.Append.{append_checks, append_effect}
 use Rattle.zns_commands.specs.Fault.{faulted}
 use Rattle.zns_commands.specs.Meaning.{meaning}
+use Rattle.zns_commands.specs.Read.{read_checks, read_effect}
+use Rattle.zns_commands.specs.Receive.{receive_checks, receive_effect}
+use Rattle.zns_commands.specs.Send.{send_checks, send_effect}
+use Rattle.zns_commands.specs.Write.{write_checks, write_effect}
 
 -- what happens to a namespace, under the holds of the active runs: a command with the data beside its
 -- entry, or a fault of a zone
@@ -34,6 +47,7 @@ WritesSome (Commanded holds (Write lba blocks) input) = 1 ≤ blocks
 WritesSome (Commanded holds (Append lba blocks) input) = 1 ≤ blocks
 WritesSome (Commanded holds (Read lba blocks) input) = Unit {0}
 WritesSome (Commanded holds (Send lba action select_all) input) = Unit {0}
+WritesSome (Commanded holds (Receive lba dwords filter partial) input) = Unit {0}
 WritesSome (Failed holds zone fault) = Unit {0}
 
 -- the shape is one that is accepted, each zone's state allows its written blocks, each block is whole,
@@ -50,6 +64,40 @@ StepsKeepSound = (steps : List Step) (ns : ZonedNamespace) → IsSound ns → Al
 abbrev pub EmptyIsSound : Type 0
 EmptyIsSound = (s : Shape) → IsShape s → IsSound (all_empty s)
 
+-- the checks of a command, in their order
+abbrev pub checks_of : ZonedNamespace → Holds → Command → List ℕ → List (Option Status)
+checks_of ns holds (Write lba blocks) input = write_checks ns holds lba blocks input
+checks_of ns holds (Read lba blocks) input = read_checks ns lba blocks input
+checks_of ns holds (Send lba action select_all) input = send_checks ns holds lba action select_all input
+checks_of ns holds (Receive lba dwords filter partial) input = receive_checks ns lba dwords input
+checks_of ns holds (Append lba blocks) input = append_checks ns holds lba blocks input
+
+-- what a command comes to that is not refused
+abbrev pub effect_of : ZonedNamespace → Holds → Command → List ℕ → Outcome
+effect_of ns holds (Write lba blocks) input = write_effect ns holds lba input
+effect_of ns holds (Read lba blocks) input = read_effect ns lba blocks
+effect_of ns holds (Send lba action select_all) input = success (send_effect ns holds lba action select_all) 0 []
+effect_of ns holds (Receive lba dwords filter partial) input = receive_effect ns lba dwords filter partial
+effect_of ns holds (Append lba blocks) input = append_effect ns holds lba input
+
+abbrev pub Passes : Option Status → Type 0
+Passes check = check ≡ None
+
+-- the cases of a command: each check passes and it takes effect, or one fails behind others that pass,
+-- and it is refused with that one's status
+pub data Case (ns : ZonedNamespace) (checks : List (Option Status)) (effect outcome : Outcome) : Type 0 where
+  TakesEffect : All Passes checks → outcome ≡ effect → Case ns checks effect outcome
+  IsRefused : (passed rest : List (Option Status)) (status : Status)
+      → checks ≡ passed ++ Some status ∷ rest → All Passes passed → outcome ≡ refused ns status → Case ns checks effect outcome
+
+-- the meaning of a command is one of its cases, and there is no other outcome in any of them
+abbrev pub JustOneCase : Type 0
+JustOneCase =
+    (ns : ZonedNamespace) (holds : Holds) (command : Command) (input : List ℕ)
+    → Case ns (checks_of ns holds command input) (effect_of ns holds command input) (meaning ns holds command input)
+    × ((outcome : Outcome) → Case ns (checks_of ns holds command input) (effect_of ns holds command input) outcome
+    → outcome ≡ meaning ns holds command input)
+
 -- an outcome that leaves the namespace as it was, and gives nothing
 pub record ChangesNothing (ns : ZonedNamespace) (outcome : Outcome) : Type 0 where
   pub namespace : outcome.namespace ≡ ns
@@ -64,11 +112,47 @@ RefusedChangesNothing =
     → (meaning ns holds command input).status ≢ SUCCESS
     → ChangesNothing ns (meaning ns holds command input)
 
--- the blocks of an Append that succeeds are read back, under any holds, from the address that its
--- completion tells
+-- is the zone reset or lost, so that nothing of what was written is left?
+abbrev pub is_cleared : ZoneState → Bool
+is_cleared Empty = true
+is_cleared Offline = true
+is_cleared _ = false
+
+-- after none of the steps is the zone cleared
+abbrev pub NoneClears : ℕ → List Step → ZonedNamespace → Type 0
+NoneClears z [] ns = Unit {0}
+NoneClears z (step ∷ steps) ns = (is_cleared (zone_at (after step ns) z).state ≡ false) × NoneClears z steps (after step ns)
+
+-- these bytes are read, under any holds, of so many blocks from an address on
+abbrev pub AreRead : ZonedNamespace → ℕ → ℕ → List ℕ → Type 0
+AreRead ns lba blocks bytes = (holds : Holds) → meaning ns holds (Read lba blocks) [] ≡ success ns 0 bytes
+
+-- what an Append that succeeds put in is read from the address that its completion tells, whatever
+-- commands and faults come in between, until the zone is reset, goes offline or is lost
 abbrev pub AppendedReadsBack : Type 0
 AppendedReadsBack =
-    (ns : ZonedNamespace) (holds later : Holds) (lba blocks : ℕ) (input : List ℕ)
+    (ns : ZonedNamespace) (holds : Holds) (lba blocks : ℕ) (input : List ℕ) (steps : List Step)
     → IsSound ns → 1 ≤ blocks → (meaning ns holds (Append lba blocks) input).status ≡ SUCCESS
     → let done = meaning ns holds (Append lba blocks) input in
-    meaning done.namespace later (Read (done.dw0 + done.dw1 * 2 ^ 32) blocks) [] ≡ success done.namespace 0 input
+    NoneClears (zone_number ns lba) steps done.namespace
+    → AreRead (after_all steps done.namespace) (done.dw0 + done.dw1 * 2 ^ 32) blocks input
+
+-- the same of a Write, which is read from its own address
+abbrev pub WrittenReadsBack : Type 0
+WrittenReadsBack =
+    (ns : ZonedNamespace) (holds : Holds) (lba blocks : ℕ) (input : List ℕ) (steps : List Step)
+    → IsSound ns → 1 ≤ blocks → (meaning ns holds (Write lba blocks) input).status ≡ SUCCESS
+    → let done = meaning ns holds (Write lba blocks) input in
+    NoneClears (zone_number ns lba) steps done.namespace
+    → AreRead (after_all steps done.namespace) lba blocks input
+
+-- a report of all zones from the lowest address on, with room for all, tells how many zones there are,
+-- and gives the descriptor of each one once, in order
+abbrev pub ReportsEveryZone : Type 0
+ReportsEveryZone =
+    (ns : ZonedNamespace) (holds : Holds) (dwords : ℕ) (partial : Bool)
+    → IsSound ns → 64 + 64 * length ns.zones ≤ 4 * dwords → 4 * dwords ≤ MOST_TRANSFER
+    → let done = meaning ns holds (Receive 0 dwords filter.All partial) [] in
+    (done.status ≡ SUCCESS)
+    × (number_in done.output ≡ length ns.zones)
+    × (descriptors_in (length ns.zones) done.output ≡ map (descriptor_at ns.size) (enumerate_from 0 (records ns)))

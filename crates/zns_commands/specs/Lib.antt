@@ -5,6 +5,7 @@ pub mod Fault
 pub mod Laws
 pub mod Meaning
 pub mod Read
+pub mod Receive
 pub mod Resources
 pub mod Send
 pub mod Transfer

@@ -2,11 +2,12 @@
 use Rattle.std.specs.Prelude.{ℕ, List}
 use Rattle.zone_resources.specs.declared.holds.Holds.{Holds}
 use Rattle.nvme_entry.specs.declared.command.Command.{Command}
-use Rattle.nvme_entry.specs.declared.command.Command.TheVariants.{Write, Read, Send, Append}
+use Rattle.nvme_entry.specs.declared.command.Command.TheVariants.{Write, Read, Send, Receive, Append}
 use Rattle.image_store.specs.Namespace.{ZonedNamespace}
 use Rattle.zns_commands.specs.Answer.{Outcome}
 use Rattle.zns_commands.specs.Append.{append_meaning}
 use Rattle.zns_commands.specs.Read.{read_meaning}
+use Rattle.zns_commands.specs.Receive.{receive_meaning}
 use Rattle.zns_commands.specs.Send.{send_meaning}
 use Rattle.zns_commands.specs.Write.{write_meaning}
 
@@ -15,4 +16,5 @@ abbrev pub meaning : ZonedNamespace → Holds → Command → List ℕ → Outco
 meaning ns holds (Write lba blocks) input = write_meaning ns holds lba blocks input
 meaning ns holds (Read lba blocks) input = read_meaning ns lba blocks input
 meaning ns holds (Send lba action select_all) input = send_meaning ns holds lba action select_all input
+meaning ns holds (Receive lba dwords filter partial) input = receive_meaning ns lba dwords filter partial input
 meaning ns holds (Append lba blocks) input = append_meaning ns holds lba blocks input

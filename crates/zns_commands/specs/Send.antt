@@ -1,5 +1,5 @@
 -- Zone Management Send (ZNS 1.1, 3.4.3).
-use Rattle.std.specs.Prelude.{ℕ, Bool, true, false, ◌+◌, ◌%◌, ◌<◌, ◌==◌, ◌++◌, ◌&&◌, not, nat_le, nat_lt, List, [], ◌∷◌, length, take, drop, map, count_by, Option, Some, None, Result, Ok, Err, if◌then◌else◌}
+use Rattle.std.specs.Prelude.{ℕ, Bool, true, false, ◌+◌, ◌<◌, ◌++◌, ◌&&◌, not, nat_le, List, [], ◌∷◌, length, take, drop, map, count_by, Option, None, Result, Ok, Err, if◌then◌else◌}
 use Rattle.std.specs.List.{enumerate_from, list_any}
 use Rattle.zone_state.specs.State.{is_open, is_active}
 use Rattle.zone_state.specs.Transition.{transition}
@@ -7,7 +7,7 @@ use Rattle.zone_state.specs.Zone.{ZoneRecord, IsZone, kept}
 use Rattle.zone_state.specs.declared.action.Action.{Action}
 use Rattle.zone_state.specs.declared.action.Action.TheVariants as action
 use Rattle.zone_state.specs.declared.state.ZoneState.{ZoneState}
-use Rattle.zone_state.specs.declared.state.ZoneState.TheVariants.{Empty, Closed, ReadOnly, Full, Offline}
+use Rattle.zone_state.specs.declared.state.ZoneState.TheVariants.{Closed, ReadOnly, Full}
 use Rattle.zone_state.specs.declared.status.Status.{Status}
 use Rattle.zone_state.specs.declared.status.TheConstants.Status.{TOO_MANY_OPEN_ZONES, ZONE_HELD}
 use Rattle.zone_resources.specs.Counts.{open_count}

@@ -1,5 +1,5 @@
 -- Writing to a zone, and Write (NVM Command Set 1.0, 3.2.6; ZNS 1.1, 3.3.6).
-use Rattle.std.specs.Prelude.{ℕ, ◌+◌, ◌*◌, ◌%◌, ◌++◌, not, List, [], ◌∷◌, Option, Ok, ◌≡◌, ◌≤◌, ◌<◌, length}
+use Rattle.std.specs.Prelude.{ℕ, ◌*◌, ◌%◌, ◌++◌, not, List, [], ◌∷◌, Option, Ok, ◌≡◌, ◌≤◌, ◌<◌, length}
 use Rattle.zone_state.specs.Zone.{refusal}
 use Rattle.zone_state.specs.declared.status.Status.{Status}
 use Rattle.zone_state.specs.declared.status.TheConstants.Status.{ZONE_HELD}

@@ -1,7 +1,7 @@
 //! Laws of the definitions that the contracts of this crate cite. Each function does nothing: what
 //! it ensures is the law.
 
-ghost use Rattle.zns_commands.specs.Laws.{AppendedReadsBack, EmptyIsSound, RefusedChangesNothing, StepsKeepSound};
+ghost use Rattle.zns_commands.specs.Laws.{AppendedReadsBack, EmptyIsSound, JustOneCase, RefusedChangesNothing, ReportsEveryZone, StepsKeepSound, WrittenReadsBack};
 
 /// In every namespace that commands and faults leave, starting from an empty one, the open and active
 /// zones are within the limits, and each zone's state fits its written blocks.
@@ -10,12 +10,29 @@ pub fn commands_keep_namespaces_sound()
     ensures start { EmptyIsSound }
 {}
 
+/// Just one case of a command holds: each check passes and it takes effect, or the first check that
+/// fails refuses it.
+pub fn just_one_case_holds()
+    ensures { JustOneCase }
+{}
+
 /// A command whose status is not success leaves the namespace as it was, and gives nothing.
 pub fn refused_commands_change_nothing()
     ensures { RefusedChangesNothing }
 {}
 
-/// The data of an Append that succeeds is what a Read of the assigned address gives.
+/// The data of an Append that succeeds is what a Read of the assigned address gives, whatever commands
+/// and faults come in between, until the zone is reset, goes offline or is lost.
 pub fn appended_blocks_read_back()
     ensures { AppendedReadsBack }
+{}
+
+/// The same of a Write, at its own address.
+pub fn written_blocks_read_back()
+    ensures { WrittenReadsBack }
+{}
+
+/// A report of all zones with room for all lists every zone once, in order, and tells their number.
+pub fn reports_list_every_zone()
+    ensures { ReportsEveryZone }
 {}

@@ -8,6 +8,7 @@ mod fault;
 pub mod laws;
 mod namespace;
 mod read;
+mod receive;
 mod resources;
 mod send;
 #[cfg(test)]
@@ -18,6 +19,6 @@ mod write;
 pub use answer::Answer;
 pub use image_store::{Geometry, GeometryFault, Image};
 pub use namespace::Namespace;
-pub use nvme_entry::{BlockCount, Command, MOST_TRANSFER, Status};
+pub use nvme_entry::{BlockCount, Command, DwordCount, MOST_TRANSFER, Status, ZoneFilter};
 pub use zone_resources::{Holds, Limits};
 pub use zone_state::{FaultRefused, FaultState};

@@ -9,6 +9,7 @@ use crate::answer::Answer;
 use crate::append::append;
 use crate::fault::fault;
 use crate::read::read;
+use crate::receive::receive;
 use crate::send::send;
 use crate::write::write;
 use image_store::Image;
@@ -69,6 +70,12 @@ impl Namespace {
                 action,
                 select_all,
             } => send(&mut self.image, holds, lba, action, select_all, input),
+            Command::Receive {
+                lba,
+                dwords,
+                filter,
+                partial,
+            } => receive(&self.image, lba, dwords, filter, partial, input, output),
             Command::Append { lba, blocks } => append(&mut self.image, holds, lba, blocks, input),
         }
     }

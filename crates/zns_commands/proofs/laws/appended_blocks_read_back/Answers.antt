@@ -1,4 +1,4 @@
-use Rattle.zns_commands.proofs.LawLemmas.{appended_reads_back}
+use Rattle.zns_commands.proofs.ReadBack.{appended_reads_back}
 use Rattle.zns_commands.proofs.laws.appended_blocks_read_back.Goals as goal
 
 pub returns : goal.returns

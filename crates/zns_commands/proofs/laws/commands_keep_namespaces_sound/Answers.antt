@@ -1,4 +1,4 @@
-use Rattle.zns_commands.proofs.LawLemmas.{steps_keep_sound, empty_is_sound}
+use Rattle.zns_commands.proofs.SoundSteps.{steps_keep_sound, empty_is_sound}
 use Rattle.zns_commands.proofs.laws.commands_keep_namespaces_sound.Goals as goal
 
 pub returns-clause-kept : goal.returns-clause-kept

@@ -1,4 +1,4 @@
-use Rattle.zns_commands.proofs.LawLemmas.{refused_changes_nothing}
+use Rattle.zns_commands.proofs.Refusals.{refused_changes_nothing}
 use Rattle.zns_commands.proofs.laws.refused_commands_change_nothing.Goals as goal
 
 pub returns : goal.returns

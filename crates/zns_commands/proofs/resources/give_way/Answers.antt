@@ -1,4 +1,3 @@
-use Rattle.std.proofs.Common.{refl, sym}
 use Rattle.zns_commands.proofs.resources.give_way.Goals as goal
 
 pub set_state-requires-clause-inside : goal.set_state-requires-clause-inside

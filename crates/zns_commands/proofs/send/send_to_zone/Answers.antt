@@ -1,4 +1,4 @@
-use Rattle.std.proofs.Common.{◌≡◌, ap, ◌∙◌}
+use Rattle.std.proofs.Common.{ap, ◌∙◌}
 use Rattle.nvme_entry.specs.Checks.{first_refused}
 use Rattle.image_store.specs.Namespace.{ZonedNamespace}
 use Rattle.zns_commands.specs.Resources.{closed, moved_to}

@@ -1,4 +1,4 @@
-use Rattle.std.proofs.Common.{◌≡◌, ◌<◌, length, ap, ◌∙◌, arith}
+use Rattle.std.proofs.Common.{◌<◌, length, ap, ◌∙◌, arith}
 use Rattle.image_store.specs.Namespace.{ZonedNamespace, zone_at, with_zone}
 use Rattle.zns_commands.specs.Send.{swept}
 use Rattle.zns_commands.proofs.Sweeps.{sweep_step}

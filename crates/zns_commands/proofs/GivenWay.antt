@@ -1,0 +1,118 @@
+-- Namespaces in which a zone gave way to another.
+use Rattle.std.proofs.Common.{◌≡◌, ◌≢◌, ℕ, ◌<◌, Bool, true, false, cond, List, length, Option, Some, None, Result, Ok, Err, refl, ap, sym, subst, ◌∙◌, get_or-set_other}
+use Rattle.std.specs.Prelude.{slice_set, nat_lt}
+use Rattle.std.specs.Option.{ForSome}
+use Rattle.zone_state.specs.Zone.{ZoneRecord}
+use Rattle.zone_state.specs.declared.state.ZoneState.{ZoneState}
+use Rattle.zone_state.specs.declared.state.ZoneState.TheVariants.{Closed}
+use Rattle.zone_state.specs.declared.status.Status.{Status}
+use Rattle.zone_state.specs.declared.status.TheConstants.Status.{TOO_MANY_ACTIVE_ZONES}
+use Rattle.zone_resources.specs.Admission.{admission, open_admission, closing, zone_to_close, wanted_of, IsClosable, IsWithin, after_closing, closed_in}
+use Rattle.zone_resources.specs.Counts.{open_count, active_count}
+use Rattle.zone_resources.specs.declared.admission.Limits.{Limits}
+use Rattle.zone_resources.specs.declared.admission.Wanted.{Wanted}
+use Rattle.zone_resources.specs.declared.admission.Wanted.TheVariants.{OpenOnly, OpenAndActive}
+use Rattle.zone_resources.specs.declared.holds.Holds.{Holds}
+use Rattle.zone_resources.proofs.AdmissionLemmas.{closes_at}
+use Rattle.zone_resources.proofs.LimitLemmas.{admission_keeps_limits}
+use Rattle.image_store.specs.Blocks.{as_blocks}
+use Rattle.image_store.specs.Namespace.{ZoneBlocks, ZonedNamespace, no_zone, zone_at, with_zone, counted, grown, IsNamespace}
+use Rattle.zns_commands.specs.Address.{records, record_at}
+use Rattle.zns_commands.specs.Resources.{room_by, room_for, closed, arrived, moved_to, CanGiveWay}
+use Rattle.zns_commands.specs.Write.{written}
+use Rattle.zns_commands.specs.Laws.{IsSound}
+use Rattle.zns_commands.proofs.Rooms.{can_give_way}
+use Rattle.zns_commands.proofs.Fits.{FitsIn, set_namespace, HoldsNoMore, record_there, records_with, one_sound}
+
+-- the zone that gives way may be closed
+closing_closable : (zones : List ZoneRecord) (holds : Holds) (free : Bool) (found closed : Option ℕ)
+    → zone_to_close holds zones ≡ found → cond free (Ok None) (closing found) ≡ Ok closed → ForSome closed (IsClosable holds zones)
+closing_closable zones holds true found closed is_found admitted = λ k is. cc
+closing_closable zones holds false None closed is_found admitted = cc
+closing_closable zones holds false (Some lowest) closed is_found admitted = λ k is.
+    let same : lowest ≡ k = cc in
+    subst (λ (n : ℕ). IsClosable holds zones n) same ((closes_at zones holds (Some lowest) is_found).0)
+
+guarded : (b : Bool) (r : Result (Option ℕ) Status) (s : Status) (closed : Option ℕ) → cond b r (Err s) ≡ Ok closed → r ≡ Ok closed
+guarded true r s closed e = e
+guarded false r s closed e = cc
+
+admitted_closable : (zones : List ZoneRecord) (limits : Limits) (holds : Holds) (wanted : Wanted) (closed : Option ℕ)
+    → admission zones limits holds wanted ≡ Ok closed → ForSome closed (IsClosable holds zones)
+admitted_closable zones limits holds OpenOnly closed e =
+    closing_closable zones holds (nat_lt (open_count zones) limits.open_limit) (zone_to_close holds zones) closed refl e
+admitted_closable zones limits holds OpenAndActive closed e =
+    closing_closable zones holds (nat_lt (open_count zones) limits.open_limit) (zone_to_close holds zones) closed refl
+    (guarded (nat_lt (active_count zones) limits.active_limit) (open_admission zones limits holds) TOO_MANY_ACTIVE_ZONES closed e)
+
+-- the records, once the zone that gives way is closed
+closed_with_within : (ns : ZonedNamespace) (z : ℕ) (zone : ZoneBlocks) (gives : Option ℕ) → ForSome gives (λ k. k < length ns.zones)
+    → IsWithin (slice_set (after_closing gives (records ns)) z (counted ns.capacity zone)) ns.limits
+    → IsWithin (records (with_zone (closed ns gives) z zone)) (closed ns gives).limits
+closed_with_within ns z zone None inside within =
+    subst (λ (zones : List ZoneRecord). IsWithin zones ns.limits) (sym (records_with ns z zone)) within
+closed_with_within ns z zone (Some k) inside within =
+    let given : ZoneBlocks = record { state = Closed; blocks = (zone_at ns k).blocks } in
+    let there = record_there ns k (inside k refl) in
+    subst (λ (zones : List ZoneRecord). IsWithin zones ns.limits)
+    (ap (λ (r : Option ZoneRecord). slice_set (closed_in (records ns) k r) z (counted ns.capacity zone)) there
+    ∙ (ap (λ (zones : List ZoneRecord). slice_set zones z (counted ns.capacity zone)) (sym (records_with ns k given))
+    ∙ sym (records_with (with_zone ns k given) z zone)))
+    within
+
+closed_with_namespace : (ns : ZonedNamespace) (z : ℕ) (zone : ZoneBlocks) (gives : Option ℕ)
+    → IsNamespace ns → CanGiveWay ns z gives → FitsIn ns.block ns.capacity zone → IsNamespace (with_zone (closed ns gives) z zone)
+closed_with_namespace ns z zone None sound give fits = set_namespace ns z zone sound fits
+closed_with_namespace ns z zone (Some k) sound give fits =
+    let given : ZoneBlocks = record { state = Closed; blocks = (zone_at ns k).blocks } in
+    set_namespace (with_zone ns k given) z zone
+    (set_namespace ns k given sound (record { state = give.fits k refl; whole = sound.whole k })) fits
+
+-- room for a zone: any state that fits it then keeps the namespace sound
+pub record HasRoom (ns : ZonedNamespace) (z : ℕ) (gives : Option ℕ) : Type 0 where
+  pub other : gives ≢ Some z
+  pub sound : (zone : ZoneBlocks) → FitsIn ns.block ns.capacity zone
+      → (wanted_of (zone_at ns z).state ≡ None → HoldsNoMore zone.state (zone_at ns z).state)
+      → IsSound (with_zone (closed ns gives) z zone)
+
+room_of_wanted : (ns : ZonedNamespace) (holds : Holds) (z : ℕ) (gives : Option ℕ) (wanted : Option Wanted)
+    → IsSound ns → z < length ns.zones → wanted_of (zone_at ns z).state ≡ wanted → room_by ns holds wanted ≡ Ok gives → HasRoom ns z gives
+room_of_wanted ns holds z gives None sound inside wants room =
+    let none : None ≡ gives = cc in
+    subst (HasRoom ns z) none (record {
+      other = λ is. cc;
+      sound = λ zone fits less. one_sound ns z zone sound inside fits (less wants);
+    })
+room_of_wanted ns holds z gives (Some wanted) sound inside wants room =
+    let closable = admitted_closable (records ns) ns.limits holds wanted gives room in
+    let give = can_give_way ns holds z wanted gives sound.namespace wants closable in
+    let keeps = admission_keeps_limits (records ns) ns.limits holds wanted gives sound.within room in
+    record {
+      other = give.other;
+      sound = λ zone fits less. record {
+        namespace = closed_with_namespace ns z zone gives sound.namespace give fits;
+        within = closed_with_within ns z zone gives give.inside
+            (keeps.1 z (record_at ns z) (counted ns.capacity zone) (record_there ns z inside) wants);
+      };
+    }
+
+pub has_room : (ns : ZonedNamespace) (holds : Holds) (z : ℕ) (gives : Option ℕ)
+    → IsSound ns → z < length ns.zones → room_for ns holds (zone_at ns z).state ≡ Ok gives → HasRoom ns z gives
+has_room ns holds z gives sound inside room =
+    room_of_wanted ns holds z gives (wanted_of (zone_at ns z).state) sound inside refl room
+
+-- the zone that gives way is another one
+closed_zone : (ns : ZonedNamespace) (z : ℕ) (gives : Option ℕ) → gives ≢ Some z → zone_at (closed ns gives) z ≡ zone_at ns z
+closed_zone ns z None other = refl
+closed_zone ns z (Some k) other =
+    get_or-set_other ns.zones k z (record { state = Closed; blocks = (zone_at ns k).blocks }) no_zone (λ (same : z ≡ k). other (ap Some (sym same)))
+
+pub written_is : (ns : ZonedNamespace) (z : ℕ) (gives : Option ℕ) (input : List ℕ) → gives ≢ Some z
+    → written ns (record { zone = z; closing = gives }) input ≡ with_zone (closed ns gives) z (grown ns.capacity (zone_at ns z) (as_blocks ns.block input))
+written_is ns z None input other = refl
+written_is ns z (Some k) input other =
+    ap (λ (zone : ZoneBlocks). with_zone (closed ns (Some k)) z (grown ns.capacity zone (as_blocks ns.block input))) (closed_zone ns z (Some k) other)
+
+pub moved_is : (ns : ZonedNamespace) (z : ℕ) (gives : Option ℕ) (to : ZoneState) → gives ≢ Some z
+    → moved_to (closed ns gives) z to ≡ with_zone (closed ns gives) z (arrived to (zone_at ns z))
+moved_is ns z gives to other = ap (λ (zone : ZoneBlocks). with_zone (closed ns gives) z (arrived to zone)) (closed_zone ns z gives other)

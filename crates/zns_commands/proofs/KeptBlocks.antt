@@ -1,0 +1,209 @@
+-- That a zone which isn't cleared keeps its blocks through each step.
+use Rattle.std.proofs.Common.{◌≡◌, ℕ, zero, suc, Bool, true, false, cond, List, [], ◌∷◌, ◌++◌, get_or, set, map, Option, Some, None, Result, Ok, Err, refl, ap, sym, ◌∙◌, append_assoc}
+use Rattle.std.proofs.lemmas.List.{append-nil, length-map, length-set}
+use Rattle.zone_state.specs.Zone.{state_of_fault}
+use Rattle.zone_state.specs.declared.action.Action.{Action}
+use Rattle.zone_state.specs.declared.state.FaultState.{FaultState}
+use Rattle.zone_state.specs.declared.state.ZoneState.{ZoneState}
+use Rattle.zone_state.specs.declared.state.ZoneState.TheVariants.{Empty, Closed, Offline}
+use Rattle.zone_state.specs.declared.status.Status.{Status}
+use Rattle.zone_state.specs.declared.zone.FaultRefused.{FaultRefused}
+use Rattle.zone_resources.specs.declared.holds.Holds.{Holds}
+use Rattle.nvme_entry.specs.declared.command.Command.TheVariants.{Write, Read, Send, Receive, Append}
+use Rattle.nvme_entry.specs.Checks.{first_refused}
+use Rattle.image_store.specs.Blocks.{as_blocks}
+use Rattle.image_store.specs.Geometry.{Shape}
+use Rattle.image_store.specs.Namespace.{ZoneBlocks, ZonedNamespace, no_zone, zone_at, with_zone, grown, shape}
+use Rattle.zns_commands.specs.declared.write.WritePlan.{WritePlan}
+use Rattle.zns_commands.specs.Address.{zone_number}
+use Rattle.zns_commands.specs.Answer.{Outcome, success, concluded}
+use Rattle.zns_commands.specs.Append.{append_checks, append_effect}
+use Rattle.zns_commands.specs.Fault.{fault_answer, faulted_by}
+use Rattle.zns_commands.specs.Read.{read_refusal, read_checks, read_effect}
+use Rattle.zns_commands.specs.Resources.{closed, arrived, moved_to}
+use Rattle.zns_commands.specs.Receive.{receive_checks, receive_effect}
+use Rattle.zns_commands.specs.Send.{send_checks, send_effect, zone_plan, takes, swept}
+use Rattle.zns_commands.specs.Write.{write_checks, write_effect, write_plan, written}
+use Rattle.zns_commands.specs.Laws.{Step, Commanded, Failed, after, after_all, is_cleared, NoneClears}
+use Rattle.zns_commands.proofs.MovedZones.{after_action}
+
+-- the blocks of before, and perhaps some behind them
+pub record Grows (before after : List (List ℕ)) : Type 0 where
+  pub more : List (List ℕ)
+  pub is : after ≡ before ++ more
+
+grows_not : (blocks : List (List ℕ)) → Grows blocks blocks
+grows_not blocks = record { more = []; is = sym (append-nil blocks) }
+
+grows_on : (a b c : List (List ℕ)) → Grows a b → Grows b c → Grows a c
+grows_on a b c first second = record {
+  more = first.more ++ second.more;
+  is = second.is ∙ (ap (λ (blocks : List (List ℕ)). blocks ++ second.more) first.is ∙ append_assoc a first.more second.more);
+}
+
+-- a zone in the place of one that it keeps the blocks of, unless its state says that it doesn't
+set_grows : (clears : ZoneState → Bool) (zones : List ZoneBlocks) (y z : ℕ) (zone : ZoneBlocks)
+    → (clears zone.state ≡ false → Grows (get_or zones y no_zone).blocks zone.blocks)
+    → clears (get_or (set zones y zone) z no_zone).state ≡ false
+    → Grows (get_or zones z no_zone).blocks (get_or (set zones y zone) z no_zone).blocks
+set_grows clears [] y z zone grows stays = grows_not (get_or [] z no_zone).blocks
+set_grows clears (x ∷ xs) zero zero zone grows stays = grows stays
+set_grows clears (x ∷ xs) zero (suc z) zone grows stays = grows_not (get_or xs z no_zone).blocks
+set_grows clears (x ∷ xs) (suc y) zero zone grows stays = grows_not x.blocks
+set_grows clears (x ∷ xs) (suc y) (suc z) zone grows stays = set_grows clears xs y z zone grows stays
+
+closed_grows : (ns : ZonedNamespace) (gives : Option ℕ) (z : ℕ) → Grows (zone_at ns z).blocks (zone_at (closed ns gives) z).blocks
+closed_grows ns None z = grows_not (zone_at ns z).blocks
+closed_grows ns (Some k) z =
+    let blocks = (zone_at ns k).blocks in
+    set_grows (λ s. false) ns.zones k z (record { state = Closed; blocks = blocks }) (λ stays. grows_not blocks) refl
+
+written_grows : (ns : ZonedNamespace) (plan : WritePlan) (input : List ℕ) (z : ℕ)
+    → Grows (zone_at ns z).blocks (zone_at (written ns plan input) z).blocks
+written_grows ns plan input z =
+    let m = closed ns plan.closing in
+    let zone = grown m.capacity (zone_at m plan.zone) (as_blocks m.block input) in
+    grows_on (zone_at ns z).blocks (zone_at m z).blocks (zone_at (with_zone m plan.zone zone) z).blocks
+    (closed_grows ns plan.closing z)
+    (set_grows (λ s. false) m.zones plan.zone z zone (λ stays. record { more = as_blocks m.block input; is = refl }) refl)
+
+-- a zone that comes into a state keeps its blocks there, unless it is cleared
+arrived_grows : (to : ZoneState) (zone : ZoneBlocks) → is_cleared (arrived to zone).state ≡ false → Grows zone.blocks (arrived to zone).blocks
+arrived_grows Empty zone stays = cc
+arrived_grows Offline zone stays = cc
+arrived_grows to zone stays = grows_not zone.blocks
+
+moved_grows : (ns : ZonedNamespace) (gives : Option ℕ) (y z : ℕ) (to : ZoneState)
+    → is_cleared (zone_at (moved_to (closed ns gives) y to) z).state ≡ false
+    → Grows (zone_at ns z).blocks (zone_at (moved_to (closed ns gives) y to) z).blocks
+moved_grows ns gives y z to stays =
+    let m = closed ns gives in
+    let zone = arrived to (zone_at m y) in
+    grows_on (zone_at ns z).blocks (zone_at m z).blocks (zone_at (with_zone m y zone) z).blocks
+    (closed_grows ns gives z)
+    (set_grows is_cleared m.zones y z zone (arrived_grows to (zone_at m y)) stays)
+
+taken_grows : (taken : Bool) (to : ZoneState) (zone : ZoneBlocks)
+    → is_cleared (cond taken (arrived to zone) zone).state ≡ false → Grows zone.blocks (cond taken (arrived to zone) zone).blocks
+taken_grows true to zone stays = arrived_grows to zone stays
+taken_grows false to zone stays = grows_not zone.blocks
+
+swept_grows : (a : Action) (zones : List ZoneBlocks) (z : ℕ)
+    → is_cleared (get_or (map (swept a) zones) z no_zone).state ≡ false
+    → Grows (get_or zones z no_zone).blocks (get_or (map (swept a) zones) z no_zone).blocks
+swept_grows a [] z stays = grows_not (get_or [] z no_zone).blocks
+swept_grows a (x ∷ xs) zero stays = taken_grows (takes a x.state) (after_action a x.state) x stays
+swept_grows a (x ∷ xs) (suc z) stays = swept_grows a xs z stays
+
+send_grows : (ns : ZonedNamespace) (holds : Holds) (lba : ℕ) (a : Action) (select_all : Bool) (z : ℕ)
+    → is_cleared (zone_at (send_effect ns holds lba a select_all) z).state ≡ false
+    → Grows (zone_at ns z).blocks (zone_at (send_effect ns holds lba a select_all) z).blocks
+send_grows ns holds lba a true z stays = swept_grows a ns.zones z stays
+send_grows ns holds lba a false z stays =
+    let plan = zone_plan ns holds lba a in moved_grows ns plan.closing plan.zone z plan.to stays
+
+faulted_grows : (answer : Result Unit FaultRefused) (ns : ZonedNamespace) (y z : ℕ) (fault : FaultState)
+    → is_cleared (zone_at (faulted_by answer ns y fault) z).state ≡ false
+    → Grows (zone_at ns z).blocks (zone_at (faulted_by answer ns y fault) z).blocks
+faulted_grows (Ok done) ns y z fault stays = moved_grows ns None y z (state_of_fault fault) stays
+faulted_grows (Err none) ns y z fault stays = grows_not (zone_at ns z).blocks
+
+concluded_grows : (refusal : Option Status) (ns : ZonedNamespace) (effect : Outcome) (z : ℕ)
+    → (is_cleared (zone_at effect.namespace z).state ≡ false → Grows (zone_at ns z).blocks (zone_at effect.namespace z).blocks)
+    → is_cleared (zone_at (concluded refusal ns effect).namespace z).state ≡ false
+    → Grows (zone_at ns z).blocks (zone_at (concluded refusal ns effect).namespace z).blocks
+concluded_grows None ns effect z grows stays = grows stays
+concluded_grows (Some status) ns effect z grows stays = grows_not (zone_at ns z).blocks
+
+step_grows : (step : Step) (ns : ZonedNamespace) (z : ℕ)
+    → is_cleared (zone_at (after step ns) z).state ≡ false → Grows (zone_at ns z).blocks (zone_at (after step ns) z).blocks
+step_grows (Commanded holds (Write lba blocks) input) ns z =
+    concluded_grows (first_refused (write_checks ns holds lba blocks input)) ns (write_effect ns holds lba input) z
+    (λ stays. written_grows ns (write_plan ns holds (zone_number ns lba)) input z)
+step_grows (Commanded holds (Append lba blocks) input) ns z =
+    concluded_grows (first_refused (append_checks ns holds lba blocks input)) ns (append_effect ns holds lba input) z
+    (λ stays. written_grows ns (write_plan ns holds (zone_number ns lba)) input z)
+step_grows (Commanded holds (Read lba blocks) input) ns z =
+    concluded_grows (first_refused (read_checks ns lba blocks input)) ns (read_effect ns lba blocks) z
+    (λ stays. grows_not (zone_at ns z).blocks)
+step_grows (Commanded holds (Receive lba dwords filter partial) input) ns z =
+    concluded_grows (first_refused (receive_checks ns lba dwords input)) ns (receive_effect ns lba dwords filter partial) z
+    (λ stays. grows_not (zone_at ns z).blocks)
+step_grows (Commanded holds (Send lba a select_all) input) ns z =
+    concluded_grows (first_refused (send_checks ns holds lba a select_all input)) ns
+    (success (send_effect ns holds lba a select_all) 0 []) z
+    (send_grows ns holds lba a select_all z)
+step_grows (Failed holds y fault) ns z = faulted_grows (fault_answer ns holds y fault) ns y z fault
+
+-- a namespace with so many zones, otherwise of the same shape
+abbrev with_count : ZonedNamespace → ℕ → Shape
+with_count ns n = record { block = ns.block; zones = n; size = ns.size; capacity = ns.capacity; limits = ns.limits }
+
+with_zone_shape : (ns : ZonedNamespace) (z : ℕ) (zone : ZoneBlocks) → shape (with_zone ns z zone) ≡ shape ns
+with_zone_shape ns z zone = ap (with_count ns) (length-set ns.zones z zone)
+
+closed_shape : (ns : ZonedNamespace) (gives : Option ℕ) → shape (closed ns gives) ≡ shape ns
+closed_shape ns None = refl
+closed_shape ns (Some k) = with_zone_shape ns k (record { state = Closed; blocks = (zone_at ns k).blocks })
+
+pub written_shape : (ns : ZonedNamespace) (plan : WritePlan) (input : List ℕ) → shape (written ns plan input) ≡ shape ns
+written_shape ns plan input =
+    let m = closed ns plan.closing in
+    with_zone_shape m plan.zone (grown m.capacity (zone_at m plan.zone) (as_blocks m.block input)) ∙ closed_shape ns plan.closing
+
+moved_shape : (ns : ZonedNamespace) (gives : Option ℕ) (z : ℕ) (to : ZoneState) → shape (moved_to (closed ns gives) z to) ≡ shape ns
+moved_shape ns gives z to =
+    let m = closed ns gives in with_zone_shape m z (arrived to (zone_at m z)) ∙ closed_shape ns gives
+
+send_shape : (ns : ZonedNamespace) (holds : Holds) (lba : ℕ) (a : Action) (select_all : Bool)
+    → shape (send_effect ns holds lba a select_all) ≡ shape ns
+send_shape ns holds lba a true = ap (with_count ns) (length-map ns.zones (swept a))
+send_shape ns holds lba a false =
+    let plan = zone_plan ns holds lba a in moved_shape ns plan.closing plan.zone plan.to
+
+faulted_shape : (answer : Result Unit FaultRefused) (ns : ZonedNamespace) (z : ℕ) (fault : FaultState) → shape (faulted_by answer ns z fault) ≡ shape ns
+faulted_shape (Ok done) ns z fault = moved_shape ns None z (state_of_fault fault)
+faulted_shape (Err none) ns z fault = refl
+
+concluded_shape : (refusal : Option Status) (ns : ZonedNamespace) (effect : Outcome)
+    → shape effect.namespace ≡ shape ns → shape (concluded refusal ns effect).namespace ≡ shape ns
+concluded_shape None ns effect same = same
+concluded_shape (Some status) ns effect same = refl
+
+step_shape : (step : Step) (ns : ZonedNamespace) → shape (after step ns) ≡ shape ns
+step_shape (Commanded holds (Write lba blocks) input) ns =
+    concluded_shape (first_refused (write_checks ns holds lba blocks input)) ns (write_effect ns holds lba input)
+    (written_shape ns (write_plan ns holds (zone_number ns lba)) input)
+step_shape (Commanded holds (Append lba blocks) input) ns =
+    concluded_shape (first_refused (append_checks ns holds lba blocks input)) ns (append_effect ns holds lba input)
+    (written_shape ns (write_plan ns holds (zone_number ns lba)) input)
+step_shape (Commanded holds (Read lba blocks) input) ns =
+    concluded_shape (first_refused (read_checks ns lba blocks input)) ns (read_effect ns lba blocks) refl
+step_shape (Commanded holds (Receive lba dwords filter partial) input) ns =
+    concluded_shape (first_refused (receive_checks ns lba dwords input)) ns (receive_effect ns lba dwords filter partial) refl
+step_shape (Commanded holds (Send lba a select_all) input) ns =
+    concluded_shape (first_refused (send_checks ns holds lba a select_all input)) ns
+    (success (send_effect ns holds lba a select_all) 0 []) (send_shape ns holds lba a select_all)
+step_shape (Failed holds z fault) ns = faulted_shape (fault_answer ns holds z fault) ns z fault
+
+-- a zone that isn't cleared can be read
+uncleared_readable : (s : ZoneState) → is_cleared s ≡ false → read_refusal s ≡ None
+uncleared_readable Offline stays = cc
+uncleared_readable s stays = refl
+
+-- what a later namespace has of a zone
+pub record Keeps (ns m : ZonedNamespace) (z : ℕ) : Type 0 where
+  pub same_shape : shape m ≡ shape ns
+  pub blocks : Grows (zone_at ns z).blocks (zone_at m z).blocks
+  pub readable : read_refusal (zone_at ns z).state ≡ None → read_refusal (zone_at m z).state ≡ None
+
+pub steps_keep : (steps : List Step) (ns : ZonedNamespace) (z : ℕ) → NoneClears z steps ns → Keeps ns (after_all steps ns) z
+steps_keep [] ns z none = record { same_shape = refl; blocks = grows_not (zone_at ns z).blocks; readable = λ known. known }
+steps_keep (step ∷ steps) ns z none =
+    let m = after step ns in
+    let later = steps_keep steps m z none.1 in
+    record {
+      same_shape = later.same_shape ∙ step_shape step ns;
+      blocks = grows_on (zone_at ns z).blocks (zone_at m z).blocks (zone_at (after_all steps m) z).blocks (step_grows step ns z none.0) later.blocks;
+      readable = λ known. later.readable (uncleared_readable (zone_at m z).state none.0);
+    }

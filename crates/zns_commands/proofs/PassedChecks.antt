@@ -1,0 +1,155 @@
+-- What is known where no check fails, and that none fails where a command succeeds.
+use Rattle.std.proofs.Common.{◌≡◌, ℕ, zero, suc, ◌+◌, ◌*◌, ◌%◌, ◌<◌, ◌≤◌, Bool, true, false, cond, List, [], ◌∷◌, length, get_or, Option, Some, None, Result, Ok, Err, refl, ap, subst, arith}
+use Rattle.std.specs.Prelude.{nat_lt, nat_le, nat_eq, not}
+use Rattle.std.proofs.Math.Nat.{div-lt_iff_lt-mul}
+use Rattle.zone_state.specs.Zone.{ZoneRecord, refusal, refusal_in, fits_room}
+use Rattle.zone_state.specs.declared.state.ZoneState.{ZoneState}
+use Rattle.zone_state.specs.declared.state.ZoneState.TheVariants.{ReadOnly, Full, Offline}
+use Rattle.zone_state.specs.declared.status.Status.{Status}
+use Rattle.zone_state.specs.declared.status.TheConstants.Status.{SUCCESS, INVALID_FIELD_IN_COMMAND, LBA_OUT_OF_RANGE, ZONE_BOUNDARY_ERROR, ZONE_INVALID_WRITE, ZONE_IS_FULL, ZONE_IS_READ_ONLY, ZONE_IS_OFFLINE, ZONE_HELD, TOO_MANY_OPEN_ZONES, TOO_MANY_ACTIVE_ZONES}
+use Rattle.zone_resources.specs.Admission.{open_admission, closing, zone_to_close, wanted_of}
+use Rattle.zone_resources.specs.Counts.{open_count, active_count}
+use Rattle.zone_resources.specs.Holds.{is_destination}
+use Rattle.zone_resources.specs.declared.admission.Limits.{Limits}
+use Rattle.zone_resources.specs.declared.admission.Wanted.{Wanted}
+use Rattle.zone_resources.specs.declared.admission.Wanted.TheVariants.{OpenOnly, OpenAndActive}
+use Rattle.zone_resources.specs.declared.holds.Holds.{Holds}
+use Rattle.nvme_entry.specs.declared.command.Command.TheVariants.{Write, Append}
+use Rattle.nvme_entry.specs.declared.command.TheConstants.{MOST_TRANSFER}
+use Rattle.nvme_entry.specs.Checks.{demand, or_else, first_refused}
+use Rattle.image_store.specs.Namespace.{ZonedNamespace, zone_at}
+use Rattle.zns_commands.specs.Address.{records, record_at, zone_number, block_total}
+use Rattle.zns_commands.specs.Answer.{Outcome, concluded}
+use Rattle.zns_commands.specs.Append.{append_checks, append_effect}
+use Rattle.zns_commands.specs.Resources.{room_by, room_for, why_not, closing_of}
+use Rattle.zns_commands.specs.Write.{write_checks, write_effect}
+use Rattle.zns_commands.specs.Meaning.{meaning}
+use Rattle.zns_commands.specs.Laws.{IsSound}
+
+-- checks of which none fails
+pub passed : (checks : List (Option Status)) (i : ℕ) → first_refused checks ≡ None → get_or checks i None ≡ None
+passed [] zero none = refl
+passed [] (suc i) none = refl
+passed (None ∷ checks) zero none = refl
+passed (None ∷ checks) (suc i) none = passed checks i none
+passed (Some status ∷ checks) i none = cc
+
+pub demanded : (test : Bool) (status : Status) → demand test status ≡ None → test ≡ true
+demanded true status none = refl
+demanded false status none = cc
+
+pub roomed : (room : Result (Option ℕ) Status) → why_not room ≡ None → room ≡ Ok (closing_of room)
+roomed (Ok gives) none = refl
+roomed (Err status) none = cc
+
+pub allowed : (r : Result Unit Status) → why_not r ≡ None → r ≡ Ok tt
+allowed (Ok done) none = refl
+allowed (Err status) none = cc
+
+-- an address of the namespace is in one of its zones
+pub zone_inside : (ns : ZonedNamespace) (lba : ℕ) → IsSound ns → lba < block_total ns → zone_number ns lba < length ns.zones
+zone_inside ns lba sound inside =
+    let some : 0 < ns.size = omega (arith, sound.namespace.shape.size_some) in
+    (div-lt_iff_lt-mul {k = ns.size} some).1 inside
+
+-- where a check fails, its status isn't success
+abbrev Fails : Option Status → Type 0
+Fails check = (status : Status) → check ≡ Some status → 1 ≤ status.code
+
+demand_fails : (test : Bool) (status : Status) → 1 ≤ status.code → Fails (demand test status)
+demand_fails true status some = λ other e. cc
+demand_fails false status some = λ other e.
+    let same : status ≡ other = cc in
+    subst (λ (s : Status). 1 ≤ s.code) same some
+
+first_fails : (check rest : Option Status) → Fails check → Fails rest → Fails (or_else check rest)
+first_fails None rest one others = others
+first_fails (Some status) rest one others = one
+
+none_fails : Fails None
+none_fails = λ other e. cc
+
+err_fails : (status : Status) → 1 ≤ status.code → Fails (Some status)
+err_fails status some = λ other e.
+    let same : status ≡ other = cc in
+    subst (λ (s : Status). 1 ≤ s.code) same some
+
+cond_fails : {X : Type 0} (test : Bool) (x y : Result X Status) → Fails (why_not x) → Fails (why_not y) → Fails (why_not (cond test x y))
+cond_fails true x y left right = left
+cond_fails false x y left right = right
+
+room_fails : (r : ZoneRecord) (at n : ℕ) → Fails (why_not (fits_room r at n))
+room_fails r at n =
+    cond_fails (nat_eq at r.written) (cond (nat_le (r.written + n) r.capacity) (Ok tt) (Err ZONE_BOUNDARY_ERROR)) (Err ZONE_INVALID_WRITE)
+    (cond_fails (nat_le (r.written + n) r.capacity) (Ok tt) (Err ZONE_BOUNDARY_ERROR) none_fails (err_fails ZONE_BOUNDARY_ERROR (omega arith)))
+    (err_fails ZONE_INVALID_WRITE (omega arith))
+
+refusal_fails : (s : ZoneState) (r : ZoneRecord) (at n : ℕ) → Fails (why_not (refusal_in s r at n))
+refusal_fails Full r at n = err_fails ZONE_IS_FULL (omega arith)
+refusal_fails ReadOnly r at n = err_fails ZONE_IS_READ_ONLY (omega arith)
+refusal_fails Offline r at n = err_fails ZONE_IS_OFFLINE (omega arith)
+refusal_fails s r at n = room_fails r at n
+
+closing_fails : (found : Option ℕ) → Fails (why_not (closing found))
+closing_fails None = err_fails TOO_MANY_OPEN_ZONES (omega arith)
+closing_fails (Some k) = none_fails
+
+open_fails : (zones : List ZoneRecord) (limits : Limits) (holds : Holds) → Fails (why_not (open_admission zones limits holds))
+open_fails zones limits holds =
+    cond_fails (nat_lt (open_count zones) limits.open_limit) (Ok None) (closing (zone_to_close holds zones))
+    none_fails (closing_fails (zone_to_close holds zones))
+
+wanted_fails : (ns : ZonedNamespace) (holds : Holds) (wanted : Option Wanted) → Fails (why_not (room_by ns holds wanted))
+wanted_fails ns holds None = none_fails
+wanted_fails ns holds (Some OpenOnly) = open_fails (records ns) ns.limits holds
+wanted_fails ns holds (Some OpenAndActive) =
+    cond_fails (nat_lt (active_count (records ns)) ns.limits.active_limit) (open_admission (records ns) ns.limits holds) (Err TOO_MANY_ACTIVE_ZONES)
+    (open_fails (records ns) ns.limits holds) (err_fails TOO_MANY_ACTIVE_ZONES (omega arith))
+
+all_fail : (a b c d e : Bool) (s : Status) (f g : Option Status) → 1 ≤ s.code → Fails f → Fails g
+    → Fails (first_refused (demand a INVALID_FIELD_IN_COMMAND ∷ demand b INVALID_FIELD_IN_COMMAND ∷ demand c LBA_OUT_OF_RANGE
+    ∷ demand d s ∷ demand e ZONE_HELD ∷ f ∷ g ∷ []))
+all_fail a b c d e s f g some six seven =
+    first_fails (demand a INVALID_FIELD_IN_COMMAND) _ (demand_fails a INVALID_FIELD_IN_COMMAND (omega arith))
+    (first_fails (demand b INVALID_FIELD_IN_COMMAND) _ (demand_fails b INVALID_FIELD_IN_COMMAND (omega arith))
+    (first_fails (demand c LBA_OUT_OF_RANGE) _ (demand_fails c LBA_OUT_OF_RANGE (omega arith))
+    (first_fails (demand d s) _ (demand_fails d s some)
+    (first_fails (demand e ZONE_HELD) _ (demand_fails e ZONE_HELD (omega arith))
+    (first_fails f _ six (first_fails g None seven (λ other none. cc)))))))
+
+-- a command that succeeds is one of which no check fails
+none_failed : (refusal : Option Status) (ns : ZonedNamespace) (effect : Outcome)
+    → Fails refusal → (concluded refusal ns effect).status ≡ SUCCESS → refusal ≡ None
+none_failed None ns effect fails done = refl
+none_failed (Some status) ns effect fails done =
+    let some = fails status refl in
+    let zero_code : status.code ≡ 0 = ap (λ (s : Status). s.code) done in
+    absurd (omega arith)
+
+pub append_passed : (ns : ZonedNamespace) (holds : Holds) (lba blocks : ℕ) (input : List ℕ)
+    → (meaning ns holds (Append lba blocks) input).status ≡ SUCCESS → first_refused (append_checks ns holds lba blocks input) ≡ None
+append_passed ns holds lba blocks input done =
+    let z = zone_number ns lba in
+    let zone = zone_at ns z in
+    none_failed (first_refused (append_checks ns holds lba blocks input)) ns (append_effect ns holds lba input)
+    (all_fail (nat_le (blocks * ns.block) MOST_TRANSFER) (nat_eq (length input) (blocks * ns.block)) (nat_lt lba (block_total ns))
+    (nat_eq (lba % ns.size) 0) (not (is_destination holds z)) INVALID_FIELD_IN_COMMAND
+    (why_not (refusal (record_at ns z) (length zone.blocks) blocks)) (why_not (room_for ns holds zone.state))
+    (omega arith)
+    (refusal_fails zone.state (record_at ns z) (length zone.blocks) blocks)
+    (wanted_fails ns holds (wanted_of zone.state)))
+    done
+
+pub write_passed : (ns : ZonedNamespace) (holds : Holds) (lba blocks : ℕ) (input : List ℕ)
+    → (meaning ns holds (Write lba blocks) input).status ≡ SUCCESS → first_refused (write_checks ns holds lba blocks input) ≡ None
+write_passed ns holds lba blocks input done =
+    let z = zone_number ns lba in
+    let zone = zone_at ns z in
+    none_failed (first_refused (write_checks ns holds lba blocks input)) ns (write_effect ns holds lba input)
+    (all_fail (nat_le (blocks * ns.block) MOST_TRANSFER) (nat_eq (length input) (blocks * ns.block)) (nat_le (lba + blocks) (block_total ns))
+    (nat_le (lba % ns.size + blocks) ns.size) (not (is_destination holds z)) ZONE_BOUNDARY_ERROR
+    (why_not (refusal (record_at ns z) (lba % ns.size) blocks)) (why_not (room_for ns holds zone.state))
+    (omega arith)
+    (refusal_fails zone.state (record_at ns z) (lba % ns.size) blocks)
+    (wanted_fails ns holds (wanted_of zone.state)))
+    done

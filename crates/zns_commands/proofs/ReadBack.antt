@@ -1,0 +1,232 @@
+-- That written and appended blocks read back, whatever comes in between.
+use Rattle.std.proofs.Common.{◌≡◌, ◌≢◌, ℕ, suc, ◌+◌, ◌*◌, ◌/◌, ◌%◌, ◌^◌, ◌<◌, ◌≤◌, Bool, true, false, cond, List, [], ◌∷◌, ◌++◌, length, set, take, drop, replicate, Option, Some, None, Ok, refl, ap, sym, subst, ◌∙◌, arith, append_assoc}
+use Rattle.std.specs.Prelude.{nat_lt, nat_le, nat_eq}
+use Rattle.std.proofs.lemmas.Bool.{ltb-true, leb-true, eqb-true, le-leb}
+use Rattle.std.proofs.lemmas.List.{append-nil, length-set, take_all, take_at, drop_at, get_or-set_same}
+use Rattle.std.proofs.lemmas.Nat.{div-mul-add, mod-mul-add}
+use Rattle.std.proofs.Math.Nat.{suc-mul, mul-le-mul_right, mul-div_cancel, mod-add-div'}
+use Rattle.zone_state.specs.Zone.{refusal, written_state}
+use Rattle.zone_state.specs.declared.state.ZoneState.{ZoneState}
+use Rattle.zone_state.specs.declared.state.ZoneState.TheVariants.{ExplicitlyOpened, Closed, Full}
+use Rattle.zone_state.specs.declared.status.Status.{Status}
+use Rattle.zone_resources.specs.declared.holds.Holds.{Holds}
+use Rattle.nvme_entry.specs.declared.command.TheConstants.{MOST_TRANSFER}
+use Rattle.nvme_entry.specs.Checks.{demand, first_refused}
+use Rattle.image_store.specs.Blocks.{as_blocks, block_count, bytes_of}
+use Rattle.image_store.specs.Geometry.{Shape}
+use Rattle.image_store.specs.Namespace.{ZoneBlocks, ZonedNamespace, no_zone, zone_at, grown}
+use Rattle.image_store.proofs.Images.{allowed_fits}
+use Rattle.image_store.proofs.Pieces.{bytes-blocks}
+use Rattle.zns_commands.specs.Address.{record_at, zone_number, block_total, write_pointer}
+use Rattle.zns_commands.specs.Answer.{Outcome, success, concluded}
+use Rattle.zns_commands.specs.Append.{append_checks, append_effect}
+use Rattle.zns_commands.specs.Read.{read_refusal, blocks_read, read_checks, read_effect, read_meaning}
+use Rattle.zns_commands.specs.Resources.{room_for, closing_of}
+use Rattle.zns_commands.specs.Write.{write_checks, write_effect, write_plan, written}
+use Rattle.zns_commands.specs.Laws.{Step, after_all, IsSound, NoneClears, AreRead, AppendedReadsBack, WrittenReadsBack}
+use Rattle.zns_commands.proofs.GivenWay.{has_room, written_is}
+use Rattle.zns_commands.proofs.WrittenZones.{brings, pointer_in}
+use Rattle.zns_commands.proofs.KeptBlocks.{Keeps, steps_keep, written_shape}
+use Rattle.zns_commands.proofs.PassedChecks.{passed, demanded, roomed, allowed, zone_inside, append_passed, write_passed}
+
+-- a namespace, once a zone is written
+written_zone : (ns : ZonedNamespace) (z : ℕ) (gives : Option ℕ) (input : List ℕ) → gives ≢ Some z → z < length ns.zones
+    → zone_at (written ns (record { zone = z; closing = gives }) input) z ≡ grown ns.capacity (zone_at ns z) (as_blocks ns.block input)
+written_zone ns z None input other inside =
+    get_or-set_same ns.zones z (grown ns.capacity (zone_at ns z) (as_blocks ns.block input)) no_zone inside
+written_zone ns z (Some k) input other inside =
+    let given : ZoneBlocks = record { state = Closed; blocks = (zone_at ns k).blocks } in
+    let zone = grown ns.capacity (zone_at ns z) (as_blocks ns.block input) in
+    let in_list : z < length (set ns.zones k given) = omega (arith, length-set ns.zones k given) in
+    ap (λ (m : ZonedNamespace). zone_at m z) (written_is ns z (Some k) input other)
+    ∙ get_or-set_same (set ns.zones k given) z zone no_zone in_list
+
+-- a zone that was written gives its blocks
+readable : (full : Bool) (s : ZoneState) → read_refusal (cond full Full (written_state s)) ≡ None
+readable true s = refl
+readable false ExplicitlyOpened = refl
+readable false s = refl
+
+-- blocks in a zone, from one of its blocks on
+record Lie (m : ZonedNamespace) (z w blocks : ℕ) (input : List ℕ) : Type 0 where
+  front : List (List ℕ)
+  more : List (List ℕ)
+  behind : List (List ℕ)
+  there : (zone_at m z).blocks ≡ front ++ (more ++ behind)
+  start : length front ≡ w
+  count : length more ≡ blocks
+  bytes : bytes_of more ≡ input
+  readable : read_refusal (zone_at m z).state ≡ None
+  inside : z < length m.zones
+  room : w + blocks ≤ m.size
+  some : 1 ≤ blocks
+  transfer : nat_le (blocks * m.block) MOST_TRANSFER ≡ true
+
+all_pass : (a b c : Bool) (r : Option Status) (s t u : Status) → a ≡ true → b ≡ true → c ≡ true → r ≡ None
+    → first_refused (demand a s ∷ None ∷ demand b t ∷ demand c u ∷ r ∷ []) ≡ None
+all_pass a b c r s t u ea eb ec er = rw (ea, eb, ec, er) refl
+
+read_back : (m : ZonedNamespace) (z w blocks : ℕ) (input : List ℕ) → Lie m z w blocks input
+    → read_meaning m (z * m.size + w) blocks [] ≡ success m 0 input
+read_back m z w blocks input h =
+    let lba = z * m.size + w in
+    let size = m.size in
+    let number : lba / size ≡ z = div-mul-add z size w (omega (arith, h.room, h.some)) in
+    let place : lba % size ≡ w = mod-mul-add z size w (omega (arith, h.room, h.some)) in
+    let below : suc z ≤ length m.zones = omega (arith, h.inside) in
+    let product : suc z * size ≤ length m.zones * size = mul-le-mul_right size below in
+    let end : lba + blocks ≤ block_total m = omega (arith, suc-mul z size, h.room) in
+    let one : lba % size + blocks ≤ size = omega (arith, h.room) in
+    let open_zone : read_refusal (zone_at m (lba / size)).state ≡ None = subst (λ (k : ℕ). read_refusal (zone_at m k).state ≡ None) (sym number) h.readable in
+    let none : first_refused (read_checks m lba blocks []) ≡ None =
+    all_pass (nat_le (blocks * m.block) MOST_TRANSFER) (nat_le (lba + blocks) (block_total m)) (nat_le (lba % size + blocks) size)
+    (read_refusal (zone_at m (lba / size)).state) _ _ _ h.transfer (le-leb _ _ end) (le-leb _ _ one) open_zone in
+    let zeros : List (List ℕ) = replicate blocks (replicate m.block 0) in
+    ap (λ (r : Option Status). concluded r m (read_effect m lba blocks)) none
+    ∙ (ap (λ (k : ℕ). success m 0 (bytes_of (blocks_read m.block (zone_at m k).blocks (lba % size) blocks))) number
+    ∙ (ap (λ (k : ℕ). success m 0 (bytes_of (blocks_read m.block (zone_at m z).blocks k blocks))) place
+    ∙ (ap (λ (all : List (List ℕ)). success m 0 (bytes_of (take blocks (drop w all ++ zeros)))) h.there
+    ∙ (ap (λ (all : List (List ℕ)). success m 0 (bytes_of (take blocks (all ++ zeros)))) (drop_at h.front (h.more ++ h.behind) w h.start)
+    ∙ (ap (λ (all : List (List ℕ)). success m 0 (bytes_of (take blocks all))) (append_assoc h.more h.behind zeros)
+    ∙ (ap (λ (all : List (List ℕ)). success m 0 (bytes_of all)) (take_at h.more (h.behind ++ zeros) blocks h.count)
+    ∙ ap (success m 0) h.bytes))))))
+
+-- they lie there as long as the zone isn't cleared
+lie_on : (ns m : ZonedNamespace) (z w blocks : ℕ) (input : List ℕ) → Lie ns z w blocks input → Keeps ns m z → Lie m z w blocks input
+lie_on ns m z w blocks input lie keeps =
+    let grows = keeps.blocks in
+    record {
+      front = lie.front;
+      more = lie.more;
+      behind = lie.behind ++ grows.more;
+      there =
+          grows.is
+          ∙ (ap (λ (all : List (List ℕ)). all ++ grows.more) lie.there
+          ∙ (append_assoc lie.front (lie.more ++ lie.behind) grows.more
+          ∙ ap (λ (all : List (List ℕ)). lie.front ++ all) (append_assoc lie.more lie.behind grows.more)));
+      start = lie.start;
+      count = lie.count;
+      bytes = lie.bytes;
+      readable = keeps.readable lie.readable;
+      inside = subst (λ (s : Shape). z < s.zones) (sym keeps.same_shape) lie.inside;
+      room = subst (λ (s : Shape). w + blocks ≤ s.size) (sym keeps.same_shape) lie.room;
+      some = lie.some;
+      transfer = subst (λ (s : Shape). nat_le (blocks * s.block) MOST_TRANSFER ≡ true) (sym keeps.same_shape) lie.transfer;
+    }
+
+whole_bytes : (block blocks : ℕ) (input : List ℕ) → 1 ≤ block → length input ≡ blocks * block → bytes_of (as_blocks block input) ≡ input
+whole_bytes block blocks input some size =
+    let n = block_count block input in
+    let is : n ≡ blocks = ap (λ (m : ℕ). m / block) size ∙ mul-div_cancel blocks (omega arith) in
+    let long : length input ≤ n * block = subst (λ (m : ℕ). length input ≤ m * block) (sym is) (omega arith) in
+    bytes-blocks block n input ∙ take_all (n * block) input long
+
+-- what holds of a write that isn't refused
+record Writes (ns : ZonedNamespace) (holds : Holds) (z blocks : ℕ) (input : List ℕ) : Type 0 where
+  inside : z < length ns.zones
+  some : 1 ≤ blocks
+  size : length input ≡ blocks * ns.block
+  transfer : nat_le (blocks * ns.block) MOST_TRANSFER ≡ true
+  fits : refusal (record_at ns z) (length (zone_at ns z).blocks) blocks ≡ Ok tt
+  room : room_for ns holds (zone_at ns z).state ≡ Ok (closing_of (room_for ns holds (zone_at ns z).state))
+
+written_lie : (ns : ZonedNamespace) (holds : Holds) (z blocks : ℕ) (input : List ℕ) → IsSound ns → Writes ns holds z blocks input
+    → Lie (written ns (write_plan ns holds z) input) z (length (zone_at ns z).blocks) blocks input
+written_lie ns holds z blocks input sound writes =
+    let zone = zone_at ns z in
+    let more = as_blocks ns.block input in
+    let plan = write_plan ns holds z in
+    let m = written ns plan input in
+    let has = has_room ns holds z plan.closing sound writes.inside writes.room in
+    let block_some : 1 ≤ ns.block = omega (arith, sound.namespace.shape.block_some) in
+    let bring = brings ns.block blocks input block_some writes.size in
+    let seen = written_zone ns z plan.closing input has.other writes.inside in
+    let form = written_shape ns plan input in
+    let end : length zone.blocks + blocks ≤ ns.capacity = allowed_fits (record_at ns z) (length zone.blocks) blocks writes.fits in
+    let reach : length zone.blocks + blocks ≤ ns.size = omega (arith, sound.namespace.shape.capacity_most) in
+    record {
+      front = zone.blocks;
+      more = more;
+      behind = [];
+      there = ap (λ (x : ZoneBlocks). x.blocks) seen ∙ ap (λ (all : List (List ℕ)). zone.blocks ++ all) (sym (append-nil more));
+      start = refl;
+      count = bring.count;
+      bytes = whole_bytes ns.block blocks input block_some writes.size;
+      readable =
+          subst (λ (x : ZoneBlocks). read_refusal x.state ≡ None) (sym seen)
+          (readable (nat_eq (length zone.blocks + length more) ns.capacity) zone.state);
+      inside = subst (λ (s : Shape). z < s.zones) (sym form) writes.inside;
+      room = subst (λ (s : Shape). length zone.blocks + blocks ≤ s.size) (sym form) reach;
+      some = writes.some;
+      transfer = subst (λ (s : Shape). nat_le (blocks * s.block) MOST_TRANSFER ≡ true) (sym form) writes.transfer;
+    }
+
+-- what was written is read, after whatever steps leave the zone uncleared
+reads_later : (ns : ZonedNamespace) (holds : Holds) (z blocks : ℕ) (input : List ℕ) (steps : List Step) → IsSound ns → Writes ns holds z blocks input
+    → let m = written ns (write_plan ns holds z) input in
+    NoneClears z steps m → AreRead (after_all steps m) (write_pointer ns z) blocks input
+reads_later ns holds z blocks input steps sound writes stays later =
+    let w = length (zone_at ns z).blocks in
+    let plan = write_plan ns holds z in
+    let m = written ns plan input in
+    let n = after_all steps m in
+    let keeps = steps_keep steps m z stays in
+    let lie = lie_on m n z w blocks input (written_lie ns holds z blocks input sound writes) keeps in
+    let same_size : n.size ≡ ns.size = ap (λ (s : Shape). s.size) (keeps.same_shape ∙ written_shape ns plan input) in
+    let address : z * ns.size + w ≡ z * n.size + w = ap (λ (k : ℕ). z * k + w) (sym same_size) in
+    ap (λ (k : ℕ). read_meaning n k blocks []) address ∙ read_back n z w blocks input lie
+
+-- what a Read gives later of the blocks that an outcome tells
+abbrev ReadsBack : ℕ → List Step → ℕ → List ℕ → Outcome → Type 0
+ReadsBack z steps blocks input done =
+    NoneClears z steps done.namespace → AreRead (after_all steps done.namespace) (done.dw0 + done.dw1 * 2 ^ 32) blocks input
+
+pub appended_reads_back : AppendedReadsBack
+appended_reads_back ns holds lba blocks input steps sound some done =
+    let none = append_passed ns holds lba blocks input done in
+    let checks = append_checks ns holds lba blocks input in
+    let z = zone_number ns lba in
+    let size = eqb-true (length input) (blocks * ns.block) (demanded (nat_eq (length input) (blocks * ns.block)) _ (passed checks 1 none)) in
+    let start = ltb-true lba (block_total ns) (demanded (nat_lt lba (block_total ns)) _ (passed checks 2 none)) in
+    let writes : Writes ns holds z blocks input = record {
+      inside = zone_inside ns lba sound start;
+      some = some;
+      size = size;
+      transfer = demanded (nat_le (blocks * ns.block) MOST_TRANSFER) _ (passed checks 0 none);
+      fits = allowed (refusal (record_at ns z) (length (zone_at ns z).blocks) blocks) (passed checks 5 none);
+      room = roomed (room_for ns holds (zone_at ns z).state) (passed checks 6 none);
+    } in
+    let pointer = write_pointer ns z in
+    let address : pointer % 2 ^ 32 + pointer / 2 ^ 32 * 2 ^ 32 ≡ pointer = mod-add-div' pointer (2 ^ 32) in
+    let m = written ns (write_plan ns holds z) input in
+    subst (λ (r : Option Status). ReadsBack z steps blocks input (concluded r ns (append_effect ns holds lba input))) (sym none)
+    (λ stays. subst (λ (k : ℕ). AreRead (after_all steps m) k blocks input) (sym address) (reads_later ns holds z blocks input steps sound writes stays))
+
+-- what a Read gives later of the blocks from an address on
+abbrev ReadsAt : ℕ → ℕ → List Step → ℕ → List ℕ → Outcome → Type 0
+ReadsAt z lba steps blocks input done = NoneClears z steps done.namespace → AreRead (after_all steps done.namespace) lba blocks input
+
+pub written_reads_back : WrittenReadsBack
+written_reads_back ns holds lba blocks input steps sound some done =
+    let none = write_passed ns holds lba blocks input done in
+    let checks = write_checks ns holds lba blocks input in
+    let z = zone_number ns lba in
+    let w = length (zone_at ns z).blocks in
+    let zone = zone_at ns z in
+    let size = eqb-true (length input) (blocks * ns.block) (demanded (nat_eq (length input) (blocks * ns.block)) _ (passed checks 1 none)) in
+    let end = leb-true (lba + blocks) (block_total ns) (demanded (nat_le (lba + blocks) (block_total ns)) _ (passed checks 2 none)) in
+    let start : lba < block_total ns = omega arith in
+    let fits = allowed (refusal (record_at ns z) (lba % ns.size) blocks) (passed checks 5 none) in
+    let at : lba % ns.size ≡ w = pointer_in zone.state (record_at ns z) (lba % ns.size) blocks fits in
+    let writes : Writes ns holds z blocks input = record {
+      inside = zone_inside ns lba sound start;
+      some = some;
+      size = size;
+      transfer = demanded (nat_le (blocks * ns.block) MOST_TRANSFER) _ (passed checks 0 none);
+      fits = subst (λ (k : ℕ). refusal (record_at ns z) k blocks ≡ Ok tt) at fits;
+      room = roomed (room_for ns holds zone.state) (passed checks 6 none);
+    } in
+    let address : write_pointer ns z ≡ lba = omega (arith, at, mod-add-div' lba ns.size) in
+    let m = written ns (write_plan ns holds z) input in
+    subst (λ (r : Option Status). ReadsAt z lba steps blocks input (concluded r ns (write_effect ns holds lba input))) (sym none)
+    (λ stays. subst (λ (k : ℕ). AreRead (after_all steps m) k blocks input) address (reads_later ns holds z blocks input steps sound writes stays))

@@ -1,0 +1,112 @@
+-- That Select All keeps a namespace sound.
+use Rattle.std.proofs.Common.{◌≡◌, ℕ, ◌+◌, ◌<◌, ◌≤◌, Bool, true, false, cond, List, [], ◌∷◌, length, map, refl, sym, subst, arith}
+use Rattle.std.specs.Prelude.{sum_by}
+use Rattle.std.proofs.lemmas.Bool.{leb-true}
+use Rattle.std.proofs.lemmas.List.{length-map, get_or-map}
+use Rattle.std.proofs.lemmas.List.Sums.{sum_by-cons}
+use Rattle.zone_state.specs.State.{is_open, is_active}
+use Rattle.zone_state.specs.Zone.{ZoneRecord, IsZone, kept}
+use Rattle.zone_state.specs.declared.action.Action.{Action}
+use Rattle.zone_state.specs.declared.action.Action.TheVariants as action
+use Rattle.zone_state.specs.declared.state.ZoneState.{ZoneState}
+use Rattle.zone_state.specs.declared.state.ZoneState.TheVariants.{Empty}
+use Rattle.zone_resources.specs.Admission.{IsWithin}
+use Rattle.zone_resources.specs.Counts.{open_count, one_if}
+use Rattle.image_store.specs.Namespace.{ZoneBlocks, ZonedNamespace, no_zone, zone_at, counted}
+use Rattle.zns_commands.specs.Address.{records}
+use Rattle.zns_commands.specs.Resources.{arrived}
+use Rattle.zns_commands.specs.Send.{all_effect, all_fit, takes, taken_among, swept}
+use Rattle.zns_commands.specs.Laws.{IsSound}
+use Rattle.zns_commands.proofs.Fits.{FitsIn, zone_fits, namespace_of_zones}
+use Rattle.zns_commands.proofs.MovedZones.{arrived_state, arrived_fits, after_action, action_fits}
+
+-- the state of a zone that Select All has gone over
+abbrev after_sweep : Action → ZoneState → ZoneState
+after_sweep a s = cond (takes a s) (after_action a s) s
+
+swept_by : (taken : Bool) (to : ZoneState) (zone : ZoneBlocks) → (cond taken (arrived to zone) zone).state ≡ cond taken to zone.state
+swept_by true to zone = arrived_state to zone
+swept_by false to zone = refl
+
+swept_state : (a : Action) (zone : ZoneBlocks) → (swept a zone).state ≡ after_sweep a zone.state
+swept_state a zone = swept_by (takes a zone.state) (after_action a zone.state) zone
+
+swept_fits_by : (b c : ℕ) (taken : Bool) (to : ZoneState) (zone : ZoneBlocks)
+    → FitsIn b c zone → IsZone to (kept to (length zone.blocks)) c → FitsIn b c (cond taken (arrived to zone) zone)
+swept_fits_by b c true to zone fits is = arrived_fits b c to zone fits is
+swept_fits_by b c false to zone fits is = fits
+
+swept_fits : (b c : ℕ) (a : Action) (zone : ZoneBlocks) → FitsIn b c zone → FitsIn b c (swept a zone)
+swept_fits b c a zone fits =
+    swept_fits_by b c (takes a zone.state) (after_action a zone.state) zone fits
+    (action_fits a zone.state (length zone.blocks) c fits.state)
+
+-- does Select All open a zone of this state?
+abbrev opens : Action → ZoneState → Bool
+opens action.Open s = takes action.Open s
+opens _ s = false
+
+-- a swept zone holds no more, except that it may be opened
+record SweepHolds (a : Action) (s : ZoneState) : Type 0 where
+  opened : one_if (is_open (after_sweep a s)) ≤ one_if (is_open s) + one_if (opens a s)
+  active : one_if (is_active (after_sweep a s)) ≤ one_if (is_active s) + one_if false
+
+sweep_holds : (a : Action) (s : ZoneState) → SweepHolds a s
+sweep_holds action.Close Empty = record { opened = omega arith; active = omega arith }
+sweep_holds action.Finish Empty = record { opened = omega arith; active = omega arith }
+sweep_holds action.Open Empty = record { opened = omega arith; active = omega arith }
+sweep_holds action.Reset Empty = record { opened = omega arith; active = omega arith }
+sweep_holds action.Offline Empty = record { opened = omega arith; active = omega arith }
+sweep_holds a s = record { opened = omega arith; active = omega arith }
+
+-- how many zones are of a state that passes a test
+abbrev pub count_in : (ZoneState → Bool) → List ZoneRecord → ℕ
+count_in test zones = sum_by (λ z. one_if (test z.state)) zones
+
+-- where each zone adds to a count no more than it did, but for some, the count grows by no more than these
+count_swept : (test more : ZoneState → Bool) (c : ℕ) (f : ZoneBlocks → ZoneBlocks) (zones : List ZoneBlocks)
+    → ((zone : ZoneBlocks) → one_if (test (f zone).state) ≤ one_if (test zone.state) + one_if (more zone.state))
+    → count_in test (map (counted c) (map f zones)) ≤ count_in test (map (counted c) zones) + count_in more (map (counted c) zones)
+count_swept test more c f [] each = omega arith
+count_swept test more c f (zone ∷ zones) each =
+    let rest = count_swept test more c f zones each in
+    let first = each zone in
+    let after_it = sum_by-cons (λ (z : ZoneRecord). one_if (test z.state)) (counted c (f zone)) (map (counted c) (map f zones)) in
+    let before_it = sum_by-cons (λ (z : ZoneRecord). one_if (test z.state)) (counted c zone) (map (counted c) zones) in
+    let more_it = sum_by-cons (λ (z : ZoneRecord). one_if (more z.state)) (counted c zone) (map (counted c) zones) in
+    omega arith
+
+count_none : (zones : List ZoneRecord) → count_in (λ s. false) zones ≡ 0
+count_none [] = refl
+count_none (zone ∷ zones) = count_none zones
+
+-- those that are opened have room
+opened_fit : (ns : ZonedNamespace) (a : Action) → IsWithin (records ns) ns.limits → all_fit ns a ≡ true
+    → open_count (records ns) + count_in (opens a) (records ns) ≤ ns.limits.open_limit
+opened_fit ns action.Open within fit = leb-true (open_count (records ns) + taken_among (records ns) action.Open) ns.limits.open_limit fit
+opened_fit ns action.Close within fit = omega (arith, count_none (records ns), within.opened)
+opened_fit ns action.Finish within fit = omega (arith, count_none (records ns), within.opened)
+opened_fit ns action.Reset within fit = omega (arith, count_none (records ns), within.opened)
+opened_fit ns action.Offline within fit = omega (arith, count_none (records ns), within.opened)
+
+swept_within : (ns : ZonedNamespace) (a : Action) → IsWithin (records ns) ns.limits → all_fit ns a ≡ true → IsWithin (records (all_effect ns a)) ns.limits
+swept_within ns a within fit =
+    let opened = count_swept is_open (opens a) ns.capacity (swept a) ns.zones
+    (λ zone. subst (λ (s : ZoneState). one_if (is_open s) ≤ one_if (is_open zone.state) + one_if (opens a zone.state)) (sym (swept_state a zone)) (sweep_holds a zone.state).opened) in
+    let active = count_swept is_active (λ s. false) ns.capacity (swept a) ns.zones
+    (λ zone. subst (λ (s : ZoneState). one_if (is_active s) ≤ one_if (is_active zone.state) + one_if false) (sym (swept_state a zone)) (sweep_holds a zone.state).active) in
+    record {
+      opened = omega (arith, opened, opened_fit ns a within fit);
+      active = omega (arith, active, count_none (records ns), within.active);
+    }
+
+pub all_sound : (ns : ZonedNamespace) (a : Action) → IsSound ns → all_fit ns a ≡ true → IsSound (all_effect ns a)
+all_sound ns a sound fit = record {
+  namespace =
+      namespace_of_zones ns (map (swept a) ns.zones) sound.namespace.shape (length-map ns.zones (swept a))
+      (λ z inside.
+      let in_list : z < length ns.zones = omega (arith, length-map ns.zones (swept a)) in
+      subst (FitsIn ns.block ns.capacity) (sym (get_or-map (swept a) ns.zones z no_zone no_zone in_list))
+      (swept_fits ns.block ns.capacity a (zone_at ns z) (zone_fits ns z sound.namespace in_list)));
+  within = swept_within ns a sound.within fit;
+}

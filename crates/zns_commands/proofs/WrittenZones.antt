@@ -1,0 +1,111 @@
+-- That a write keeps a namespace sound.
+use Rattle.std.proofs.Common.{◌≡◌, ℕ, zero, suc, ◌+◌, ◌*◌, ◌/◌, ◌<◌, ◌≤◌, Bool, true, false, cond, List, [], ◌∷◌, ◌++◌, length, get_or, drop, Option, None, Result, Ok, Err, refl, ap, sym, subst, ◌∙◌, arith, length-append, length-take, length-drop}
+use Rattle.std.specs.Prelude.{nat_le, nat_eq}
+use Rattle.std.proofs.lemmas.Bool.{eqb-true}
+use Rattle.std.proofs.Math.Nat.{suc-mul, mul-le-mul_right, mul-div_cancel}
+use Rattle.zone_state.specs.Zone.{ZoneRecord, IsZone, refusal, refusal_in, fits_room, after_write, written_state}
+use Rattle.zone_state.specs.declared.state.ZoneState.{ZoneState}
+use Rattle.zone_state.specs.declared.state.ZoneState.TheVariants.{Empty, ImplicitlyOpened, ExplicitlyOpened, Closed, ReadOnly, Full, Offline}
+use Rattle.zone_state.specs.declared.status.Status.{Status}
+use Rattle.zone_state.specs.declared.status.TheConstants.Status.{ZONE_BOUNDARY_ERROR, ZONE_INVALID_WRITE}
+use Rattle.zone_resources.specs.Admission.{wanted_of}
+use Rattle.zone_resources.specs.declared.holds.Holds.{Holds}
+use Rattle.image_store.specs.Blocks.{as_blocks, block_count, blocks_of}
+use Rattle.image_store.specs.Namespace.{ZoneBlocks, ZonedNamespace, zone_at, counted, grown}
+use Rattle.image_store.proofs.Pieces.{length-blocks}
+use Rattle.image_store.proofs.Sound.{block-at}
+use Rattle.image_store.proofs.States.{after_write_zone}
+use Rattle.zns_commands.specs.Address.{record_at}
+use Rattle.zns_commands.specs.Resources.{room_for}
+use Rattle.zns_commands.specs.Write.{written}
+use Rattle.zns_commands.specs.Laws.{IsSound}
+use Rattle.zns_commands.proofs.Fits.{FitsIn, zone_fits, HoldsNoMore}
+use Rattle.zns_commands.proofs.GivenWay.{has_room, written_is}
+
+-- blocks behind blocks
+each_append : (P : List ℕ → Type 0) (xs ys : List (List ℕ))
+    → ((i : ℕ) → i < length xs → P (get_or xs i [])) → ((i : ℕ) → i < length ys → P (get_or ys i []))
+    → (i : ℕ) → i < length (xs ++ ys) → P (get_or (xs ++ ys) i [])
+each_append P [] ys front back i h = back i h
+each_append P (x ∷ xs) ys front back zero h = front 0 (omega arith)
+each_append P (x ∷ xs) ys front back (suc i) h = each_append P xs ys (λ k in_list. front (suc k) (omega arith)) back i (omega arith)
+
+block_whole : (b n : ℕ) (bytes : List ℕ) → n * b ≤ length bytes → (i : ℕ) → i < n → length (get_or (blocks_of b n bytes) i []) ≡ b
+block_whole b n bytes long i h =
+    let below : suc i ≤ n = omega arith in
+    let product : suc i * b ≤ n * b = mul-le-mul_right b below in
+    ap length (block-at b n i bytes h) ∙ omega (arith, suc-mul i b, length-take b (drop (i * b) bytes), length-drop (i * b) bytes)
+
+-- the blocks that a write brings
+pub record Brings (block blocks : ℕ) (more : List (List ℕ)) : Type 0 where
+  pub count : length more ≡ blocks
+  pub whole : (i : ℕ) → i < length more → length (get_or more i []) ≡ block
+
+pub brings : (block blocks : ℕ) (input : List ℕ) → 1 ≤ block → length input ≡ blocks * block → Brings block blocks (as_blocks block input)
+brings block blocks input some size =
+    let n = block_count block input in
+    let is : n ≡ blocks = ap (λ (m : ℕ). m / block) size ∙ mul-div_cancel blocks (omega arith) in
+    let long : n * block ≤ length input = subst (λ (m : ℕ). m * block ≤ length input) (sym is) (omega arith) in
+    let count = length-blocks block n input in
+    record { count = count ∙ is; whole = λ i h. block_whole block n input long i (omega arith) }
+
+-- a write that isn't refused is at the write pointer
+fits_at : (r : ZoneRecord) (at n : ℕ) (here : Bool) (fits : Result Unit Status) (other : Status)
+    → nat_eq at r.written ≡ here → cond here fits (Err other) ≡ Ok tt → at ≡ r.written
+fits_at r at n true fits other is allowed = eqb-true at r.written is
+fits_at r at n false fits other is allowed = cc
+
+at_pointer : (r : ZoneRecord) (at n : ℕ) → fits_room r at n ≡ Ok tt → at ≡ r.written
+at_pointer r at n allowed =
+    fits_at r at n (nat_eq at r.written) (cond (nat_le (r.written + n) r.capacity) (Ok tt) (Err ZONE_BOUNDARY_ERROR)) ZONE_INVALID_WRITE refl allowed
+
+pub pointer_in : (s : ZoneState) (r : ZoneRecord) (at n : ℕ) → refusal_in s r at n ≡ Ok tt → at ≡ r.written
+pointer_in Empty r at n allowed = at_pointer r at n allowed
+pointer_in ImplicitlyOpened r at n allowed = at_pointer r at n allowed
+pointer_in ExplicitlyOpened r at n allowed = at_pointer r at n allowed
+pointer_in Closed r at n allowed = at_pointer r at n allowed
+pointer_in ReadOnly r at n allowed = cc
+pointer_in Full r at n allowed = cc
+pointer_in Offline r at n allowed = cc
+
+grown_fits : (b c : ℕ) (zone : ZoneBlocks) (more : List (List ℕ)) (at n : ℕ)
+    → FitsIn b c zone → 1 ≤ n → Brings b n more → refusal (counted c zone) at n ≡ Ok tt → FitsIn b c (grown c zone more)
+grown_fits b c zone more at n fits some bring allowed =
+    let pointer = pointer_in zone.state (counted c zone) at n allowed in
+    let here = subst (λ (k : ℕ). refusal (counted c zone) k n ≡ Ok tt) pointer allowed in
+    let long : length zone.blocks + n ≡ length (zone.blocks ++ more) = omega (arith, length-append zone.blocks more, bring.count) in
+    record {
+      state =
+          subst (λ (k : ℕ). IsZone (after_write (counted c zone) (length more)).state k c) long
+          (subst (λ (k : ℕ). IsZone (after_write (counted c zone) k).state (length zone.blocks + n) c) (sym bring.count)
+          (after_write_zone (counted c zone) n some here));
+      whole = each_append (λ block. length block ≡ b) zone.blocks more fits.whole bring.whole;
+    }
+
+-- a write opens no zone that wants nothing
+write_takes_none : (s : ZoneState) (r : ZoneRecord) (at n : ℕ) (full : Bool)
+    → refusal_in s r at n ≡ Ok tt → wanted_of s ≡ None → HoldsNoMore (cond full Full (written_state s)) s
+write_takes_none Empty r at n full fits none = cc
+write_takes_none Closed r at n full fits none = cc
+write_takes_none ReadOnly r at n full fits none = cc
+write_takes_none Full r at n full fits none = cc
+write_takes_none Offline r at n full fits none = cc
+write_takes_none ImplicitlyOpened r at n true fits none = record { opened = omega arith; active = omega arith }
+write_takes_none ImplicitlyOpened r at n false fits none = record { opened = omega arith; active = omega arith }
+write_takes_none ExplicitlyOpened r at n true fits none = record { opened = omega arith; active = omega arith }
+write_takes_none ExplicitlyOpened r at n false fits none = record { opened = omega arith; active = omega arith }
+
+pub written_sound : (ns : ZonedNamespace) (holds : Holds) (z at blocks : ℕ) (gives : Option ℕ) (input : List ℕ)
+    → IsSound ns → z < length ns.zones → 1 ≤ blocks → length input ≡ blocks * ns.block
+    → refusal (record_at ns z) at blocks ≡ Ok tt → room_for ns holds (zone_at ns z).state ≡ Ok gives
+    → IsSound (written ns (record { zone = z; closing = gives }) input)
+written_sound ns holds z at blocks gives input sound inside some size allowed room =
+    let has = has_room ns holds z gives sound inside room in
+    let block_some : 1 ≤ ns.block = omega (arith, sound.namespace.shape.block_some) in
+    let bring = brings ns.block blocks input block_some size in
+    let zone = zone_at ns z in
+    let more = as_blocks ns.block input in
+    subst IsSound (sym (written_is ns z gives input has.other))
+    (has.sound (grown ns.capacity zone more)
+    (grown_fits ns.block ns.capacity zone more at blocks (zone_fits ns z sound.namespace inside) some bring allowed)
+    (write_takes_none zone.state (record_at ns z) at blocks (nat_eq (length zone.blocks + length more) ns.capacity) allowed))
