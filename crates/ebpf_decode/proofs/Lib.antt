@@ -4,3 +4,4 @@ pub mod Takes
 pub mod Programs
 pub mod Bytes
 pub mod Again
+pub mod Flats

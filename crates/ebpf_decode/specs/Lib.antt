@@ -5,3 +5,4 @@ pub mod Opcodes
 pub mod Faults
 pub mod Reading
 pub mod Laws
+pub mod Flat

@@ -5,6 +5,7 @@ ghost use Rattle.std.specs.Int.{w32, cast_unsigned};
 ghost use Rattle.ebpf_decode.specs.Spelling.{program_bytes};
 ghost use Rattle.ebpf_decode.specs.Reading.{Gives, begins_wide, decoded, entry, fields_at, first_fault, has_more, has_no_register, has_unused, immediate_of, instruction, is_left_out, length_fault, read, read_slots, slots_at, source_of};
 
+use crate::flat::flatten;
 use crate::fault::{DecodeFault, Fault, FaultKind};
 use crate::fields::{Fields, from_bytes};
 use crate::insn::{Insn, Source};
@@ -279,5 +280,6 @@ pub fn decode(alloc: Global, bytes: &[u8]) -> Result<Program, DecodeFault>
         return Err(DecodeFault::Fault(Fault { slot: 0, kind }));
     }
     let slots = decode_slots(alloc, bytes)?;
-    Ok(Program::from_slots(slots))
+    let flats = flatten(alloc, &slots)?;
+    Ok(Program::from_slots(slots, flats))
 }

@@ -1,5 +1,6 @@
 pub mod CauseLemmas
 pub mod Entry
+pub mod Flats
 pub mod MapLemmas
 pub mod MemoryLemmas
 pub mod Running

@@ -1,6 +1,7 @@
 //! The machine.
 
 mod effect;
+mod flat;
 mod run;
 mod step;
 

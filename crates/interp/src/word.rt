@@ -51,35 +51,35 @@ macro_rules! operate {
     };
 }
 
-#[inline]
+#[inline(always)]
 fn operate64(operation: Operation, x: u64, y: u64) -> u64
     ensures { result ≡ result_of Width.Bits64 operation x y }
 {
     operate!(operation, x, y, 64)
 }
 
-#[inline]
+#[inline(always)]
 fn operate32(operation: Operation, x: u32, y: u32) -> u32
     ensures { result ≡ result_of Width.Bits32 operation x y }
 {
     operate!(operation, x, y, 32)
 }
 
-#[inline]
+#[inline(always)]
 fn low32(word: u64) -> u32
     ensures { result ≡ low_bits Width.Bits32 word }
 {
     (word % 0x1_0000_0000) as u32
 }
 
-#[inline]
+#[inline(always)]
 fn low16(word: u64) -> u16
     ensures { result ≡ word % 2 ^ 16 }
 {
     (word % 0x1_0000) as u16
 }
 
-#[inline]
+#[inline(always)]
 fn low8(word: u64) -> u8
     ensures { result ≡ word % 2 ^ 8 }
 {
@@ -87,7 +87,7 @@ fn low8(word: u64) -> u8
 }
 
 /// The low bits of a word, sign-extended.
-#[inline]
+#[inline(always)]
 pub fn extend(extension: SignExtension, word: u64) -> u64
     ensures { result ≡ extended extension word }
 {
@@ -104,7 +104,7 @@ pub fn extend(extension: SignExtension, word: u64) -> u64
     }
 }
 
-#[inline]
+#[inline(always)]
 fn reorder(swap: Swap, size: SwapSize, word: u64) -> u64
     ensures { result ≡ reordered swap size word }
 {
@@ -120,7 +120,7 @@ fn reorder(swap: Swap, size: SwapSize, word: u64) -> u64
 
 /// The destination's word after an arithmetic instruction, where it was `x` and the source is `y`
 /// (RFC 9669, 4.1 and 4.2).
-#[inline]
+#[inline(always)]
 pub fn alu(arithmetic: Arithmetic, x: u64, y: u64) -> u64
     ensures { result ≡ computed arithmetic x y }
 {
@@ -145,7 +145,7 @@ pub fn alu(arithmetic: Arithmetic, x: u64, y: u64) -> u64
 }
 
 /// Does a relation hold between two words, of which the last two are the signed values?
-#[inline]
+#[inline(always)]
 fn relate(relation: Relation, x: u64, y: u64, signed_x: i64, signed_y: i64) -> bool
     ensures { result ≡ relates relation x y signed_x signed_y }
 {
@@ -165,7 +165,7 @@ fn relate(relation: Relation, x: u64, y: u64, signed_x: i64, signed_y: i64) -> b
 }
 
 /// Is a conditional jump taken, where the destination is `x` and the source is `y` (RFC 9669, 4.3)?
-#[inline]
+#[inline(always)]
 pub fn taken(width: Width, relation: Relation, x: u64, y: u64) -> bool
     ensures { result ≡ is_taken width relation x y }
 {

@@ -46,10 +46,7 @@ impl Machine<'_> {
     {
         let mut slot = self.slot;
         'steps: for step in 0..fuel {
-            let Some(insn) = program.at(slot) else {
-                unreachable!()
-            };
-            match self.execute(program, slot, insn, limit, group) {
+            match self.advance(program, slot, limit, group) {
                 Flow::Next { slot: next } => slot = next,
                 Flow::Exit => {
                     self.slot = slot;

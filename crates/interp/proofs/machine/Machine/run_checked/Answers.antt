@@ -4,13 +4,13 @@ use Rattle.interp.proofs.machine.Machine.run_checked.Goals as goal
 
 pub steps-preserved : goal.steps-preserved
 steps-preserved c = record {
-  run = goes_on _ _ _ _ _ 0 _ _ _ _ c.steps-test.true c.in-Some.ensures.value c.in-Next.ensures.outcome c.steps.invariant.run;
+  run = goes_on _ _ _ _ _ 0 _ _ _ c.steps-test.true c.in-Next.ensures.outcome c.steps.invariant.run;
   at = search rules;
   steps = search rules;
   same_scratch = search rules;
-  grows = omega (arith, c.execute.ensures.extends.grows, c.steps.invariant.grows);
+  grows = omega (arith, c.advance.ensures.extends.grows, c.steps.invariant.grows);
   used = search rules;
-  beyond = c.execute.ensures.extends.beyond ∙ drop_later _ _ _ _ c.execute.ensures.extends.grows c.steps.invariant.beyond;
+  beyond = c.advance.ensures.extends.beyond ∙ drop_later _ _ _ _ c.advance.ensures.extends.grows c.steps.invariant.beyond;
 }
 
 pub returns-clause-run : goal.returns-clause-run
@@ -19,16 +19,16 @@ returns-clause-run c =
 
 pub returns-in-Exit-clause-run : goal.returns-in-Exit-clause-run
 returns-in-Exit-clause-run c =
-    ends _ _ _ _ _ _ _ _ _ _ _ (search rules) c.steps-test.true c.in-Some.ensures.value c.in-Exit.ensures.outcome c.steps.invariant.run
+    ends _ _ _ _ _ _ _ _ _ _ (search rules) c.steps-test.true c.in-Exit.ensures.outcome c.steps.invariant.run
 
 pub returns-in-Exit-clause-beyond : goal.returns-in-Exit-clause-beyond
 returns-in-Exit-clause-beyond c =
-    c.execute.ensures.extends.beyond ∙ drop_later _ _ _ _ c.execute.ensures.extends.grows c.steps.invariant.beyond
+    c.advance.ensures.extends.beyond ∙ drop_later _ _ _ _ c.advance.ensures.extends.grows c.steps.invariant.beyond
 
 pub returns-in-Trap-clause-run : goal.returns-in-Trap-clause-run
 returns-in-Trap-clause-run c =
-    sticks _ _ _ _ _ _ _ _ _ _ _ _ (search rules) c.steps-test.true c.in-Some.ensures.value c.in-Trap.ensures.outcome c.steps.invariant.run
+    sticks _ _ _ _ _ _ _ _ _ _ _ (search rules) c.steps-test.true c.in-Trap.ensures.outcome c.steps.invariant.run
 
 pub returns-in-Trap-clause-beyond : goal.returns-in-Trap-clause-beyond
 returns-in-Trap-clause-beyond c =
-    c.execute.ensures.extends.beyond ∙ drop_later _ _ _ _ c.execute.ensures.extends.grows c.steps.invariant.beyond
+    c.advance.ensures.extends.beyond ∙ drop_later _ _ _ _ c.advance.ensures.extends.grows c.steps.invariant.beyond
