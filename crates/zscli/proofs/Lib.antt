@@ -1,1 +1,4 @@
 pub mod EventLemmas
+pub mod FileLemmas
+pub mod LineLemmas
+pub mod WordLemmas

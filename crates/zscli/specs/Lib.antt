@@ -1,3 +1,7 @@
+pub mod CommandFile
 pub mod Events
+pub mod Failure
 pub mod Laws
+pub mod Lines
 pub mod Taken
+pub mod Words

@@ -5,12 +5,12 @@ use crate::words::decimal;
 use clap::ArgMatches;
 
 /// The value of a required argument. A command line without it is refused before this.
-pub fn required<'a>(matches: &ArgMatches<'a>, id: &str) -> &'a str {
+pub(crate) fn required<'a>(matches: &ArgMatches<'a>, id: &str) -> &'a str {
     matches.get_str(id).unwrap_or("")
 }
 
 /// The number that an argument spells, which is required or has a default: decimal digits alone.
-pub fn number<'a>(matches: &ArgMatches<'a>, id: &str) -> Result<u32, Failure<'a>> {
+pub(crate) fn number<'a>(matches: &ArgMatches<'a>, id: &str) -> Result<u32, Failure<'a>> {
     let text = required(matches, id);
     match decimal(text.as_bytes()) {
         Some(number) => Ok(number),

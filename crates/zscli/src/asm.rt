@@ -7,7 +7,7 @@ use clap::{Arg, ArgMatches, Command};
 use ebpf_asm::{AssembleError, assemble};
 use std::alloc::{AllocError, Global};
 
-pub const NAME: &str = "asm";
+pub(crate) const NAME: &str = "asm";
 
 const TEXT: &str = "TEXT";
 
@@ -32,7 +32,7 @@ Example: a program that emits the first 8 bytes of each block whose first byte i
   done: exit";
 
 /// How the command stands on the command line.
-pub fn subcommand<'a>(alloc: Global) -> Result<Command<'a>, AllocError> {
+pub(crate) fn subcommand<'a>(alloc: Global) -> Result<Command<'a>, AllocError> {
     let text = Arg::new(alloc, TEXT)
         .required(true)
         .help("The assembly text");
@@ -48,7 +48,7 @@ pub fn subcommand<'a>(alloc: Global) -> Result<Command<'a>, AllocError> {
 }
 
 /// Runs the command.
-pub fn asm<'a, F: Files>(
+pub(crate) fn asm<'a, F: Files>(
     alloc: Global,
     matches: &ArgMatches<'a>,
     files: &mut F,

@@ -1,5 +1,7 @@
 //! The words of a command line, and what they ask for.
 
+ghost use Rattle.std.specs.Prelude.{◌≡◌, ◌≤◌};
+
 use crate::failure::{Failure, STANDARD_OUTPUT};
 use crate::files::Files;
 use crate::{asm, disasm, exec, trace, unpack};
@@ -17,7 +19,10 @@ pub fn command<F: Files, O: Write, E: Write>(
     files: &mut F,
     out: &mut O,
     err: &mut E,
-) -> u8 {
+) -> u8
+    ensures known { result ≤ 3 }
+    ensures quiet { result ≡ 0 → err.new ≡ err.old }
+{
     match run(alloc, words, files, out) {
         Ok(()) => 0,
         Err(failure) => failure.tell(err),

@@ -7,17 +7,26 @@
 //! fault ZONE offline
 //! ```
 
+ghost use Rattle.std.specs.Prelude.{◌≡◌, ◌==◌, ◌<◌, ◌^◌, ◌∷◌, length, map, position, option_map, option_and_then, Ok, IfOk, IfErr, IfSome};
+ghost use Rattle.std.specs.List.{list_all};
+ghost use Rattle.std.specs.Char.{is_ascii};
+ghost use Rattle.std.specs.Str.Lines.{lines as text_lines, strip_carriage_return};
+ghost use Rattle.ebpf_asm.specs.Cut.{cut_at};
+ghost use Rattle.ebpf_asm.specs.Line.{uncommented};
+ghost use Rattle.zscli.specs.Words.{words_of, number_of};
+ghost use Rattle.zscli.specs.declared.command_file.ParseError.TheVariants.{OutOfMemory};
+ghost use Rattle.zscli.specs.CommandFile.{told_of, below, submission_of, turn_of, fault_of, state_named, event_named as named_event, line_told, events_in, reason_of, GivesEvent, GivesLine, RefusesFile};
+
 use crate::event::Event;
 use crate::words::{Words, decimal};
 use hex::{FromHex, FromHexError};
 use memchr::memchr;
 use std::alloc::{AllocFailed, Global};
-use std::str::FromStr;
 use zone_state::FaultState;
 
 /// Why a command file has no events.
 #[derive(Clone, Copy, Debug, PartialEq, Eq)]
-pub enum ParseError {
+pub(crate) enum ParseError {
     /// A line isn't of the form; the first line is 1.
     Line(usize),
     /// No memory for the events.
@@ -36,64 +45,115 @@ enum LineError {
 /// # Errors
 ///
 /// The lowest line that isn't of the form, or want of memory for a line before it.
-pub fn parse(alloc: Global, file: &[u8]) -> Result<Vec<Event>, ParseError> {
+#[tactic(auto, using(crate::proofs::FileLemmas::event_read, crate::proofs::FileLemmas::nothing_read, crate::proofs::FileLemmas::line_refused, crate::proofs::FileLemmas::all_read, crate::proofs::FileLemmas::none_read))]
+pub(crate) fn parse(alloc: Global, file: &[u8]) -> Result<Vec<Event>, ParseError>
+    ensures events { IfOk result (λ events. events_in file.now ≡ Ok (map told_of events.items)) }
+    ensures refused { IfErr result (λ error. RefusesFile error (events_in file.now)) }
+{
     let mut events = Vec::new(alloc);
-    for (index, line) in file.split_inclusive(|byte| *byte == b'\n').enumerate() {
+    let mut rest = file;
+    let mut number = 1;
+    while !rest.is_empty() {
+        let (line, behind) = first_line(rest);
         match event_of(alloc, line) {
             Ok(Some(event)) => events.push(event)?,
             Ok(None) => {}
-            Err(LineError::Malformed) => return Err(ParseError::Line(index + 1)),
+            Err(LineError::Malformed) => return Err(ParseError::Line(number)),
             Err(LineError::OutOfMemory) => return Err(ParseError::OutOfMemory),
         }
+        rest = behind;
+        number += 1;
     }
     Ok(events)
 }
 
-/// The event of a line with its end, or `None` where the line has no words.
-fn event_of(alloc: Global, line: &[u8]) -> Result<Option<Event>, LineError> {
-    let text = without_end(line);
-    if !text.is_ascii() {
+/// The first line without the `\n` or `\r\n` that ends it, and what stands behind it.
+fn first_line(text: &[u8]) -> (&[u8], &[u8])
+    requires { 0 < length text.now }
+    ensures lines { text_lines text.now ≡ result.0.now ∷ text_lines result.1.now }
+    ensures shorter { length result.1.now < length text.now }
+{
+    match cut(text, b'\n') {
+        Some((line, behind)) => (without_return(line), behind),
+        None => text.split_at(text.len()),
+    }
+}
+
+/// A line without the carriage return at its end.
+fn without_return(line: &[u8]) -> &[u8]
+    ensures { result.now ≡ strip_carriage_return line.now }
+{
+    match line {
+        [front @ .., b'\r'] => front,
+        _ => line,
+    }
+}
+
+/// The event of a line, or `None` where the line has no words.
+fn event_of(alloc: Global, line: &[u8]) -> Result<Option<Event>, LineError>
+    ensures { GivesLine result (line_told line.now) }
+{
+    if !is_all_ascii(line) {
         return Err(LineError::Malformed);
     }
-    let mut words = Words::new(without_comment(text));
+    let mut words = Words::new(without_comment(line));
     let Some(name) = words.next() else {
         return Ok(None);
     };
-    let event = match name {
-        b"submit" => submit(alloc, &mut words)?,
-        b"turn" => turn(&mut words)?,
-        b"fault" => fault(&mut words)?,
-        _ => return Err(LineError::Malformed),
-    };
-    match words.next() {
-        None => Ok(Some(event)),
-        Some(_) => Err(LineError::Malformed),
-    }
+    let event = event_named(alloc, name, words)?;
+    Ok(Some(event))
 }
 
-/// A line without the `\n` or `\r\n` that ends it.
-fn without_end(line: &[u8]) -> &[u8] {
-    match line.strip_suffix(b"\n") {
-        Some(text) => text.strip_suffix(b"\r").unwrap_or(text),
-        None => line,
-    }
+fn is_all_ascii(line: &[u8]) -> bool
+    ensures { result ≡ list_all is_ascii line.now }
+{
+    line.iter().all(|byte| byte.is_ascii())
 }
 
 /// What stands before a `;`.
-fn without_comment(text: &[u8]) -> &[u8] {
-    match memchr(b';', text) {
-        Some(end) => &text[..end],
+fn without_comment(text: &[u8]) -> &[u8]
+    ensures { result.now ≡ uncommented text.now }
+{
+    match cut(text, b';') {
+        Some((front, _)) => front,
         None => text,
     }
 }
 
-fn submit(alloc: Global, words: &mut Words<'_>) -> Result<Event, LineError> {
-    let queue = number(words)?;
-    let entry = <[u8; 64]>::from_hex(words.next().ok_or(LineError::Malformed)?)?;
-    let payload = match words.next() {
-        Some(digits) => hex::decode(alloc, digits)?,
-        None => Vec::new(alloc),
-    };
+/// The text before the first such byte and the text behind it.
+fn cut(text: &[u8], byte: u8) -> Option<(&[u8], &[u8])>
+    ensures { option_map (λ parts. (parts.0.now, parts.1.now)) result ≡ cut_at byte text.now }
+{
+    let at = first(text, byte)?;
+    Some((&text[..at], &text[at + 1..]))
+}
+
+fn first(text: &[u8], byte: u8) -> Option<usize>
+    ensures value { result ≡ position (λ b. b == byte) text.now }
+    ensures within { IfSome result (λ at. at < length text.now) }
+{
+    memchr(byte, text)
+}
+
+/// The event that a word names and the words behind it describe.
+fn event_named(alloc: Global, name: &[u8], words: Words<'_>) -> Result<Event, LineError>
+    ensures { GivesEvent result (named_event name.now (words_of words.entry.rest.now)) }
+{
+    match name {
+        b"submit" => submit(alloc, words),
+        b"turn" => turn(words),
+        b"fault" => fault(words),
+        _ => Err(LineError::Malformed),
+    }
+}
+
+fn submit(alloc: Global, words: Words<'_>) -> Result<Event, LineError>
+    ensures { GivesEvent result (submission_of (words_of words.entry.rest.now)) }
+{
+    let (queue, entry, payload) = words.three().ok_or(LineError::Malformed)?;
+    let queue = queue_number(queue).ok_or(LineError::Malformed)?;
+    let entry = <[u8; 64]>::from_hex(entry)?;
+    let payload = hex::decode(alloc, payload)?;
     Ok(Event::Submit {
         queue,
         entry,
@@ -101,30 +161,50 @@ fn submit(alloc: Global, words: &mut Words<'_>) -> Result<Event, LineError> {
     })
 }
 
-fn turn(words: &mut Words<'_>) -> Result<Event, LineError> {
-    let run = number(words)?;
+/// A number below 2^16.
+fn queue_number(word: &[u8]) -> Option<u16>
+    ensures { result ≡ option_and_then (below (2 ^ 16)) (number_of word.now) }
+{
+    u16::try_from(decimal(word)?).ok()
+}
+
+fn turn(words: Words<'_>) -> Result<Event, LineError>
+    ensures { GivesEvent result (turn_of (words_of words.entry.rest.now)) }
+{
+    let word = words.one().ok_or(LineError::Malformed)?;
+    let run = run_number(word).ok_or(LineError::Malformed)?;
     Ok(Event::Turn { run })
 }
 
-fn fault(words: &mut Words<'_>) -> Result<Event, LineError> {
-    let zone = number(words)?;
-    let state = match words.next() {
-        Some(b"readonly") => FaultState::ReadOnly,
-        Some(b"offline") => FaultState::Offline,
-        _ => return Err(LineError::Malformed),
-    };
+/// A number below 2^8.
+fn run_number(word: &[u8]) -> Option<u8>
+    ensures { result ≡ option_and_then (below (2 ^ 8)) (number_of word.now) }
+{
+    u8::try_from(decimal(word)?).ok()
+}
+
+fn fault(words: Words<'_>) -> Result<Event, LineError>
+    ensures { GivesEvent result (fault_of (words_of words.entry.rest.now)) }
+{
+    let (zone, state) = words.two().ok_or(LineError::Malformed)?;
+    let zone = decimal(zone).ok_or(LineError::Malformed)?;
+    let state = fault_state(state).ok_or(LineError::Malformed)?;
     Ok(Event::Fault { zone, state })
 }
 
-fn number<T: FromStr>(words: &mut Words<'_>) -> Result<T, LineError>
-where
-    T::Err: Drop,
+fn fault_state(word: &[u8]) -> Option<FaultState>
+    ensures { result ≡ state_named word.now }
 {
-    let word = words.next().ok_or(LineError::Malformed)?;
-    decimal(word).ok_or(LineError::Malformed)
+    match word {
+        b"readonly" => Some(FaultState::ReadOnly),
+        b"offline" => Some(FaultState::Offline),
+        _ => None,
+    }
 }
 
 impl From<FromHexError> for LineError {
+    ghost from_gives = { λ error reason. reason ≡ reason_of error };
+
     fn from(error: FromHexError) -> LineError {
         match error {
             FromHexError::OutOfMemory => LineError::OutOfMemory,
@@ -134,6 +214,8 @@ impl From<FromHexError> for LineError {
 }
 
 impl<T: Drop> From<AllocFailed<T>> for ParseError {
+    ghost from_gives = { λ _ error. error ≡ OutOfMemory };
+
     fn from(_error: AllocFailed<T>) -> ParseError {
         ParseError::OutOfMemory
     }

@@ -9,7 +9,7 @@ use ebpf_asm::disassemble;
 use std::alloc::{AllocError, Global};
 use std::io::Write;
 
-pub const NAME: &str = "disasm";
+pub(crate) const NAME: &str = "disasm";
 
 const PROGRAM: &str = "PROGRAM";
 
@@ -29,7 +29,7 @@ Example: the program of the bytes b700000000000000 9500000000000000.
   exit";
 
 /// How the command stands on the command line.
-pub fn subcommand<'a>(alloc: Global) -> Result<Command<'a>, AllocError> {
+pub(crate) fn subcommand<'a>(alloc: Global) -> Result<Command<'a>, AllocError> {
     let program = Arg::new(alloc, PROGRAM)
         .required(true)
         .help("The program, as instruction bytes");
@@ -41,7 +41,7 @@ pub fn subcommand<'a>(alloc: Global) -> Result<Command<'a>, AllocError> {
 }
 
 /// Runs the command.
-pub fn disasm<'a, F: Files, O: Write>(
+pub(crate) fn disasm<'a, F: Files, O: Write>(
     alloc: Global,
     matches: &ArgMatches<'a>,
     files: &mut F,

@@ -11,7 +11,7 @@ use std::alloc::{AllocError, Global};
 use std::io::Write;
 use zns_commands::{Geometry, Image, Limits, MOST_TRANSFER, Namespace};
 
-pub const NAME: &str = "exec";
+pub(crate) const NAME: &str = "exec";
 
 const NAMESPACE: &str = "NAMESPACE";
 
@@ -46,7 +46,7 @@ Example, in the folder of the sources:
   zscli exec g1 examples/append_and_read.cmd";
 
 /// How the command stands on the command line.
-pub fn subcommand<'a>(alloc: Global) -> Result<Command<'a>, AllocError> {
+pub(crate) fn subcommand<'a>(alloc: Global) -> Result<Command<'a>, AllocError> {
     let namespace = Arg::new(alloc, NAMESPACE).required(true).help(
         "g1: 4 zones of 8 blocks, 6 of them writable, at most 2 open and 3 active; g2: 2 zones of 64. A block has 512 bytes",
     );
@@ -62,7 +62,7 @@ pub fn subcommand<'a>(alloc: Global) -> Result<Command<'a>, AllocError> {
 }
 
 /// Runs the command.
-pub fn exec<'a, F: Files, O: Write>(
+pub(crate) fn exec<'a, F: Files, O: Write>(
     alloc: Global,
     matches: &ArgMatches<'a>,
     files: &mut F,

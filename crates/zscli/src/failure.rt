@@ -1,5 +1,8 @@
 //! Why a command ends before its work is done, and what the user is told.
 
+ghost use Rattle.std.specs.Prelude.{◌≡◌};
+ghost use Rattle.zscli.specs.Failure.{status_of};
+
 use crate::command_file::ParseError;
 use crate::files::FileError;
 use clap::error::ErrorKind;
@@ -9,11 +12,11 @@ use std::io::Write;
 use thiserror::Error;
 
 /// The name that standard output goes by.
-pub const STANDARD_OUTPUT: &str = "-";
+pub(crate) const STANDARD_OUTPUT: &str = "-";
 
 /// Why a command ended. Its text is the last on standard error.
 #[derive(Debug, Drop, Error)]
-pub enum Failure<'a> {
+pub(crate) enum Failure<'a> {
     #[error("{0}")]
     CommandLine(clap::Error),
     #[error("error: a word of the command line isn't text")]
@@ -42,7 +45,7 @@ pub enum Failure<'a> {
 
 impl<'a> Failure<'a> {
     /// That of reading the words of the command line.
-    pub fn of_words(error: io::Error) -> Failure<'a> {
+    pub(crate) fn of_words(error: io::Error) -> Failure<'a> {
         match error.kind() {
             io::ErrorKind::OutOfMemory => Failure::NoMemory,
             _ => Failure::NotText,
@@ -50,7 +53,10 @@ impl<'a> Failure<'a> {
     }
 
     /// That of reading a file.
-    pub fn of_reading(path: &'a str, error: FileError) -> Failure<'a> {
+    pub(crate) fn of_reading(path: &'a str, error: FileError) -> Failure<'a>
+        ensures failed { error ≡ FileError.Failed → result ≡ Failure.CannotRead path.entry }
+        ensures memory { error ≡ FileError.OutOfMemory → result ≡ Failure.NoMemory }
+    {
         match error {
             FileError::Failed => Failure::CannotRead(path),
             FileError::OutOfMemory => Failure::NoMemory,
@@ -58,7 +64,10 @@ impl<'a> Failure<'a> {
     }
 
     /// That of writing a file.
-    pub fn of_writing(path: &'a str, error: FileError) -> Failure<'a> {
+    pub(crate) fn of_writing(path: &'a str, error: FileError) -> Failure<'a>
+        ensures failed { error ≡ FileError.Failed → result ≡ Failure.CannotWrite path.entry }
+        ensures memory { error ≡ FileError.OutOfMemory → result ≡ Failure.NoMemory }
+    {
         match error {
             FileError::Failed => Failure::CannotWrite(path),
             FileError::OutOfMemory => Failure::NoMemory,
@@ -66,7 +75,9 @@ impl<'a> Failure<'a> {
     }
 
     /// Tells the user, and answers the exit status.
-    pub fn tell<E: Write>(self, err: &mut E) -> u8 {
+    pub(crate) fn tell<E: Write>(self, err: &mut E) -> u8
+        ensures { result ≡ status_of self.entry }
+    {
         let _ = match &self {
             // This text has a line end of its own.
             Failure::CommandLine(error) => write!(err, "{error}"),
@@ -77,7 +88,9 @@ impl<'a> Failure<'a> {
 
     /// 1 where a file failed or memory was wanting, 2 for a wrong command line, 3 for input that is
     /// refused.
-    fn status(&self) -> u8 {
+    fn status(&self) -> u8
+        ensures { result ≡ status_of self.now }
+    {
         match self {
             Failure::CannotRead(_) | Failure::CannotWrite(_) | Failure::NoMemory => 1,
             Failure::CommandLine(_)

@@ -1,6 +1,9 @@
 //! Replies as lines of text.
 
-ghost use Rattle.std.specs.Prelude.{◌≤◌, length, ◌≡◌, None, IfOk};
+ghost use Rattle.std.specs.Prelude.{◌≡◌, ◌≤◌, ◌++◌, length, None, IfOk, OnOk};
+ghost use Rattle.std.specs.Io.KnownBytes.{Appends};
+ghost use Rattle.hex.specs.Hex.{encode_lower};
+ghost use Rattle.zscli.specs.Lines.{line_text};
 
 use crate::out::{Out, Refusal};
 use crate::reply::Reply;
@@ -17,7 +20,7 @@ const CHUNK: usize = 128;
 
 /// Prints each reply on a line of its own, in one write.
 #[derive(Drop)]
-pub struct Lines<'a, W> {
+pub(crate) struct Lines<'a, W> {
     out: &'a mut W,
     line: Vec<u8>,
     refusals: u64,
@@ -25,7 +28,7 @@ pub struct Lines<'a, W> {
 
 impl<'a, W: Write> Lines<'a, W> {
     /// A printer of replies, with room for the longest line.
-    pub fn new(alloc: Global, out: &'a mut W) -> Result<Lines<'a, W>, AllocError>
+    pub(crate) fn new(alloc: Global, out: &'a mut W) -> Result<Lines<'a, W>, AllocError>
         ensures { IfOk result (λ lines. lines.refusals ≡ 0) }
     {
         let line = Vec::with_capacity(alloc, LINE_BYTES)?;
@@ -58,14 +61,18 @@ impl<W: Write> Out for Lines<'_, W> {
 }
 
 /// Prints the line of a reply in one write.
-fn print<W: Write>(out: &mut W, line: &mut Vec<u8>, reply: Reply, bytes: &[u8]) -> io::Result<()> {
+fn print<W: Write>(out: &mut W, line: &mut Vec<u8>, reply: Reply, bytes: &[u8]) -> io::Result<()>
+    ensures { OnOk result (Appends (W.contents out.old) (W.contents out.new) (line_text reply bytes.now)) }
+{
     line.clear();
     push_line(line, reply, bytes)?;
     out.write_all(line.as_slice())
 }
 
 /// Adds the line of a reply.
-fn push_line(line: &mut Vec<u8>, reply: Reply, bytes: &[u8]) -> io::Result<()> {
+fn push_line(line: &mut Vec<u8>, reply: Reply, bytes: &[u8]) -> io::Result<()>
+    ensures { OnOk result (line.new.items ≡ line.old.items ++ line_text reply bytes.now) }
+{
     match reply {
         Reply::Complete { queue, entry, .. } => {
             write!(line, "cpl {queue} ")?;
@@ -85,15 +92,21 @@ fn push_line(line: &mut Vec<u8>, reply: Reply, bytes: &[u8]) -> io::Result<()> {
 }
 
 /// Adds two lower case hexadecimal digits for each byte.
-fn push_hex(line: &mut Vec<u8>, bytes: &[u8]) -> Result<(), AllocError> {
-    for chunk in bytes.chunks(CHUNK) {
+fn push_hex(line: &mut Vec<u8>, bytes: &[u8]) -> Result<(), AllocError>
+    ensures { OnOk result (line.new.items ≡ line.old.items ++ encode_lower bytes.now) }
+{
+    let mut rest = bytes;
+    while !rest.is_empty() {
+        let (chunk, behind) = rest.split_at(rest.len().min(CHUNK));
         push_digits(line, chunk)?;
+        rest = behind;
     }
     Ok(())
 }
 
 fn push_digits(line: &mut Vec<u8>, chunk: &[u8]) -> Result<(), AllocError>
     requires { length chunk.now ≤ CHUNK }
+    ensures { OnOk result (line.new.items ≡ line.old.items ++ encode_lower chunk.now) }
 {
     let mut digits = [0; 2 * CHUNK];
     let digits = &mut digits[..2 * chunk.len()];

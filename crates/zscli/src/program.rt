@@ -6,7 +6,7 @@ use ebpf_decode::{DecodeFault, Program, decode};
 use std::alloc::Global;
 
 /// The program that the bytes of a file spell.
-pub fn read_program<'a, F: Files>(
+pub(crate) fn read_program<'a, F: Files>(
     alloc: Global,
     path: &'a str,
     files: &mut F,

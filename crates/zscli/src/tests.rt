@@ -6,6 +6,7 @@ use std::alloc::Global;
 use std::io::Write;
 use std::test::Fail;
 
+mod actions;
 mod command_files;
 mod command_lines;
 mod programs;

@@ -16,7 +16,7 @@ use interp::{Machine, Step};
 use std::alloc::{AllocError, Global};
 use std::io::{self, Write};
 
-pub const NAME: &str = "trace";
+pub(crate) const NAME: &str = "trace";
 
 const PROGRAM: &str = "PROGRAM";
 
@@ -53,7 +53,7 @@ fn option<'a>(alloc: Global, name: &'a str, letter: &'a str, default: &'a str) -
 }
 
 /// How the command stands on the command line.
-pub fn subcommand<'a>(alloc: Global) -> Result<Command<'a>, AllocError> {
+pub(crate) fn subcommand<'a>(alloc: Global) -> Result<Command<'a>, AllocError> {
     let program = Arg::new(alloc, PROGRAM)
         .required(true)
         .help("The program, as instruction bytes");
@@ -70,7 +70,7 @@ pub fn subcommand<'a>(alloc: Global) -> Result<Command<'a>, AllocError> {
 }
 
 /// Runs the command.
-pub fn trace<'a, F: Files, O: Write>(
+pub(crate) fn trace<'a, F: Files, O: Write>(
     alloc: Global,
     matches: &ArgMatches<'a>,
     files: &mut F,

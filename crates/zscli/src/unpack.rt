@@ -8,7 +8,7 @@ use emit_append::{UnpackFault, is_block_size, unpack as records_of};
 use std::alloc::{AllocError, Global};
 use std::io::Write;
 
-pub const NAME: &str = "unpack";
+pub(crate) const NAME: &str = "unpack";
 
 const FILE: &str = "FILE";
 
@@ -28,7 +28,7 @@ Example: a block that begins 0300616263 holds the record 616263.
   zscli unpack blocks.bin --block 512";
 
 /// How the command stands on the command line.
-pub fn subcommand<'a>(alloc: Global) -> Result<Command<'a>, AllocError> {
+pub(crate) fn subcommand<'a>(alloc: Global) -> Result<Command<'a>, AllocError> {
     let file = Arg::new(alloc, FILE)
         .required(true)
         .help("The output blocks");
@@ -47,7 +47,7 @@ pub fn subcommand<'a>(alloc: Global) -> Result<Command<'a>, AllocError> {
 }
 
 /// Runs the command.
-pub fn unpack<'a, F: Files, O: Write>(
+pub(crate) fn unpack<'a, F: Files, O: Write>(
     alloc: Global,
     matches: &ArgMatches<'a>,
     files: &mut F,

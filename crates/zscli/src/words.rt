@@ -1,42 +1,132 @@
 //! The words of a line.
 
+ghost use Rattle.std.specs.Prelude.{◌≡◌, ◌<◌, [], ◌∷◌, length, slice_index, true, false, MatchOption, option_copied, option_map};
+ghost use Rattle.std.specs.List.{list_all};
+ghost use Rattle.std.specs.Char.{is_ascii_digit};
+ghost use Rattle.ebpf_asm.specs.Cut.{is_blank_byte};
+ghost use Rattle.zscli.specs.Words.{words_of, one_of, two_of, three_of, number_of};
+
 use memchr::memchr2;
-use std::str::{self, FromStr};
+use std::str;
 
 /// The words of a line, which spaces and tabs separate.
 #[derive(Drop)]
-pub struct Words<'a> {
+pub(crate) struct Words<'a> {
     rest: &'a [u8],
 }
 
 impl<'a> Words<'a> {
     /// The words of a line, from its first on.
-    pub fn new(line: &'a [u8]) -> Words<'a> {
+    pub(crate) fn new(line: &'a [u8]) -> Words<'a>
+        ensures { result.rest.now ≡ line.now }
+    {
         Words { rest: line }
     }
 
     /// The next word, if there is one.
-    pub fn next(&mut self) -> Option<&'a [u8]> {
-        let start = self
-            .rest
-            .iter()
-            .position(|byte| *byte != b' ' && *byte != b'\t')?;
-        let text = &self.rest[start..];
-        let end = memchr2(b' ', b'\t', text).unwrap_or(text.len());
-        let (word, rest) = text.split_at(end);
+    pub(crate) fn next(&mut self) -> Option<&'a [u8]>
+        ensures { MatchOption result
+            (words_of self.old.rest.now ≡ [])
+            (λ word. words_of self.old.rest.now ≡ word.now ∷ words_of self.new.rest.now) }
+    {
+        let text = from_first_word(self.rest);
+        if text.is_empty() {
+            return None;
+        }
+        let (word, rest) = first_word(text);
         self.rest = rest;
         Some(word)
     }
+
+    /// The word that is left, if there is just one.
+    pub(crate) fn one(mut self) -> Option<&'a [u8]>
+        ensures { option_copied result ≡ one_of (words_of self.entry.rest.now) }
+    {
+        let word = self.next()?;
+        match self.next() {
+            None => Some(word),
+            Some(_) => None,
+        }
+    }
+
+    /// The two words that are left, if there are just two.
+    pub(crate) fn two(mut self) -> Option<(&'a [u8], &'a [u8])>
+        ensures { option_map (λ words. (words.0.now, words.1.now)) result ≡ two_of (words_of self.entry.rest.now) }
+    {
+        let first = self.next()?;
+        let second = self.one()?;
+        Some((first, second))
+    }
+
+    /// The two or three words that are left, if there are just so many. The third is empty where it
+    /// is missing.
+    pub(crate) fn three(mut self) -> Option<(&'a [u8], &'a [u8], &'a [u8])>
+        ensures { option_map (λ words. (words.0.now, words.1.now, words.2.now)) result ≡ three_of (words_of self.entry.rest.now) }
+    {
+        let first = self.next()?;
+        let second = self.next()?;
+        match self.next() {
+            None => Some((first, second, &[])),
+            Some(third) => match self.next() {
+                None => Some((first, second, third)),
+                Some(_) => None,
+            },
+        }
+    }
 }
 
-/// The number that decimal digits alone spell, leading zeros allowed, if it is a `T`.
-pub fn decimal<T: FromStr>(word: &[u8]) -> Option<T>
-where
-    T::Err: Drop,
+/// The text without the blanks in front.
+fn from_first_word(text: &[u8]) -> &[u8]
+    ensures words { words_of result.now ≡ words_of text.now }
+    ensures starts { 0 < length result.now → is_blank_byte (slice_index result.now 0) ≡ false }
 {
-    if word.iter().all(|digit| digit.is_ascii_digit()) {
-        str::from_utf8(word).ok()?.parse().ok()
+    let mut inside = text;
+    while let [byte, rest @ ..] = inside {
+        if !is_blank(*byte) {
+            return inside;
+        }
+        inside = rest;
+    }
+    inside
+}
+
+/// A space or a tab.
+fn is_blank(byte: u8) -> bool
+    ensures { result ≡ is_blank_byte byte }
+{
+    byte == b' ' || byte == b'\t'
+}
+
+/// The first word of a text that begins with it, and what stands behind it.
+fn first_word(text: &[u8]) -> (&[u8], &[u8])
+    requires some { 0 < length text.now }
+    requires starts { is_blank_byte (slice_index text.now 0) ≡ false }
+    ensures { words_of text.now ≡ result.0.now ∷ words_of result.1.now }
+{
+    text.split_at(memchr2(b' ', b'\t', text).unwrap_or(text.len()))
+}
+
+/// The number that decimal digits alone spell, leading zeros allowed, if it is below 2^32.
+pub(crate) fn decimal(word: &[u8]) -> Option<u32>
+    ensures { result ≡ number_of word.now }
+{
+    if is_all_digits(word) {
+        value_of(word)
     } else {
         None
     }
+}
+
+fn is_all_digits(word: &[u8]) -> bool
+    ensures { result ≡ list_all is_ascii_digit word.now }
+{
+    word.iter().all(|byte| byte.is_ascii_digit())
+}
+
+/// The number that digits spell, if there are any and it is below 2^32.
+fn value_of(digits: &[u8]) -> Option<u32>
+    requires { list_all is_ascii_digit digits.now ≡ true }
+    ensures { result ≡ number_of digits.now }
+{
+    str::from_utf8(digits).unwrap().parse().ok()
 }

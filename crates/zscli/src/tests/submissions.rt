@@ -6,13 +6,16 @@ use std::fmt::Write;
 use std::process::Abort;
 use std::test::Fail;
 
+/// What each byte of an append is.
+const WRITTEN: u8 = 0xa5;
+
 #[test]
 fn append_to_a_full_zone(rt: HostRuntime) -> Result<(), Fail> {
     let mut g1 = Submissions::new(rt.alloc());
     g1.append(1, 16, 6, "10000000000000000000010001000000")?;
     g1.append(4, 16, 1, "00000000000000000000010004007203")?;
-    g1.read(5, 22, 2, "00000000000000000000010005000000", 1024)?;
-    g1.read(6, 23, 2, "00000000000000000000010006007003", 0)?;
+    g1.read(5, 22, 2, "00000000000000000000010005000000", &[0; 1024])?;
+    g1.read(6, 23, 2, "00000000000000000000010006007003", b"")?;
     g1.check(&rt)
 }
 
@@ -28,21 +31,21 @@ fn append_past_the_capacity(rt: HostRuntime) -> Result<(), Fail> {
 #[test]
 fn entries_that_are_refused(rt: HostRuntime) -> Result<(), Fail> {
     let mut g1 = Submissions::new(rt.alloc());
-    g1.submit("03010600", 8, 1, 512, "00000000000000000000010006000200", 0)?;
+    g1.submit("0301", 6, "", b"", "00000000000000000000010006000200", b"")?;
     g1.append(6, 9, 1, "00000000000000000000010006000400")?;
     g1.check(&rt)
 }
 
-/// Entries for queue 1, and the lines that answer them.
+/// Entries for queue 1 and faults, and the lines that answer them.
 #[derive(Drop)]
-struct Submissions {
+pub(super) struct Submissions {
     alloc: Global,
     events: String,
     answers: String,
 }
 
 impl Submissions {
-    fn new(alloc: Global) -> Submissions {
+    pub(super) fn new(alloc: Global) -> Submissions {
         Submissions {
             alloc,
             events: String::new(alloc),
@@ -50,50 +53,84 @@ impl Submissions {
         }
     }
 
-    /// A Zone Append of zeros.
-    fn append(&mut self, cid: u8, lba: u8, blocks: u8, completion: &str) -> Result<(), Fail> {
-        let command = format!(in self.alloc; "7d00{cid:02x}00")?;
-        let beside = 512 * usize::from(blocks);
-        self.submit(command.as_str(), lba, blocks, beside, completion, 0)
-    }
-
-    /// A Read of so many bytes, all zero.
-    fn read(
+    /// A Zone Append of bytes a5h.
+    pub(super) fn append(
         &mut self,
         cid: u8,
         lba: u8,
         blocks: u8,
         completion: &str,
-        bytes: usize,
     ) -> Result<(), Fail> {
-        let command = format!(in self.alloc; "0200{cid:02x}00")?;
-        self.submit(command.as_str(), lba, blocks, 0, completion, bytes)
+        let count = blocks.saturating_sub(1);
+        let fields = format!(in self.alloc; "{lba:02x}00000000000000{count:02x}")?;
+        let beside = vec![in self.alloc; WRITTEN; 512 * usize::from(blocks)]?;
+        self.submit(
+            "7d00",
+            cid,
+            fields.as_str(),
+            beside.as_slice(),
+            completion,
+            b"",
+        )
     }
 
-    /// An entry with this Command Dword 0, with so many bytes beside it and so many in the answer.
-    fn submit(
+    /// A Read that gives these bytes.
+    pub(super) fn read(
         &mut self,
-        command: &str,
+        cid: u8,
         lba: u8,
         blocks: u8,
-        beside: usize,
         completion: &str,
-        bytes: usize,
+        bytes: &[u8],
     ) -> Result<(), Fail> {
-        let beside = zeros(self.alloc, beside)?;
-        let bytes = zeros(self.alloc, bytes)?;
         let count = blocks.saturating_sub(1);
+        let fields = format!(in self.alloc; "{lba:02x}00000000000000{count:02x}")?;
+        self.submit("0200", cid, fields.as_str(), b"", completion, bytes)
+    }
+
+    /// A Zone Management Send of an action, whose Command Dword 13 is `action`.
+    pub(super) fn send(
+        &mut self,
+        cid: u8,
+        lba: u8,
+        action: &str,
+        completion: &str,
+    ) -> Result<(), Fail> {
+        let fields = format!(in self.alloc; "{lba:02x}0000000000000000000000{action}")?;
+        self.submit("7900", cid, fields.as_str(), b"", completion, b"")
+    }
+
+    /// A fault, as its line tells it.
+    pub(super) fn fault(&mut self, line: &str, answer: &str) -> Result<(), Fail> {
+        writeln!(self.events, "{line}")?;
+        writeln!(self.answers, "{answer}")?;
+        Ok(())
+    }
+
+    /// An entry with this opcode (and the flags behind it), and these fields from Command Dword 10 on,
+    /// with the bytes beside it and in the answer.
+    fn submit(
+        &mut self,
+        opcode: &str,
+        cid: u8,
+        fields: &str,
+        beside: &[u8],
+        completion: &str,
+        bytes: &[u8],
+    ) -> Result<(), Fail> {
+        let beside = data(self.alloc, beside)?;
+        let bytes = data(self.alloc, bytes)?;
         let gap = 0;
         writeln!(
             self.events,
-            "submit 1 {command}01000000{gap:064}{lba:02x}{gap:014}{count:02x}{gap:030}{beside}"
+            "submit 1 {opcode}{cid:02x}0001000000{gap:064}{fields:0<48}{beside}"
         )?;
         writeln!(self.answers, "cpl 1 {completion}{bytes}")?;
         Ok(())
     }
 
     /// Submits the entries, one after another, where nothing is written.
-    fn check(&self, rt: &impl Abort) -> Result<(), Fail> {
+    pub(super) fn check(&self, rt: &impl Abort) -> Result<(), Fail> {
         let ended = run(self.alloc, "zscli exec g1 events", self.events.as_bytes())?;
         assert_eq!(rt; ended.out.as_str(), self.answers.as_str());
         assert_eq!(rt; ended.status, 0);
@@ -101,11 +138,11 @@ impl Submissions {
     }
 }
 
-/// A space and so many zero bytes, or nothing.
-fn zeros(alloc: Global, bytes: usize) -> Result<String, Fail> {
-    if bytes == 0 {
+/// A space and the bytes in hexadecimal, or nothing.
+fn data(alloc: Global, bytes: &[u8]) -> Result<String, Fail> {
+    if bytes.is_empty() {
         return Ok(String::new(alloc));
     }
-    let digits = hex::encode(alloc, vec![in alloc; 0; bytes]?.as_slice())?;
+    let digits = hex::encode(alloc, bytes)?;
     Ok(format!(in alloc; " {digits}")?)
 }

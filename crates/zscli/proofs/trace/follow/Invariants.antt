@@ -1,4 +1,4 @@
-use Rattle.std.proofs.Common.{◌≤◌, ◌≡◌, length}
+use Rattle.std.proofs.Common.{◌≤◌, length}
 use Rattle.interp.specs.Step.{IsAt}
 use Rattle.interp.specs.State.{slot_of, steps_of, group_length}
 use Rattle.zscli.proofs.trace.follow.Given as goal
