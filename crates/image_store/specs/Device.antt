@@ -1,5 +1,5 @@
--- What a source's reading does to the bytes that are to come.
-use Rattle.std.specs.Prelude.{ℕ, ◌≡◌, ◌≤◌, List, ◌++◌, length, take}
+-- What reading does to the bytes that are to come, and writing to those that were taken.
+use Rattle.std.specs.Prelude.{ℕ, ◌≡◌, ◌≤◌, ◌<◌, List, ◌++◌, length, take, Result, Ok, Err}
 
 -- the first n bytes that were to come are at the front of `to` now, at least one of them where there
 -- is one and `to` has room
@@ -11,3 +11,19 @@ pub record IsRead (before after to : List ℕ) (n : ℕ) : Type 0 where
 pub record Taken : Type 0 where
   pub bytes : List ℕ
   pub failures : ℕ
+
+-- of a text, a first part was taken, and the rest wasn't
+pub record IsBegun (before after text rest : List ℕ) : Type 0 where
+  pub part : List ℕ
+  pub whole : text ≡ part ++ rest
+  pub taken : after ≡ before ++ part
+
+-- the whole text was taken, or where that was refused a beginning of it
+abbrev pub Takes : {E : Type 0} → List ℕ → List ℕ → List ℕ → Result Unit E → Type 0
+Takes before after text (Ok done) = after ≡ before ++ text
+Takes before after text (Err fault) = (rest : List ℕ) × IsBegun before after text rest
+
+-- the count of failures stays, and grows where the device failed
+abbrev pub CountsFailure : {X E : Type 0} → ℕ → ℕ → Result X E → Type 0
+CountsFailure before after (Ok x) = after ≡ before
+CountsFailure before after (Err fault) = before < after

@@ -1,12 +1,20 @@
 //! A namespace's zones and the blocks written in them, over one flat vector of bytes.
 #![tactic(auto)]
 
+mod bytes;
 mod device;
 mod fault;
 mod geometry;
+mod header;
 mod image;
+pub mod laws;
+mod load;
 mod memory;
+mod record;
+mod save;
 mod slots;
+#[cfg(test)]
+mod tests;
 
 pub use device::{DeviceFault, Sink, Source};
 pub use fault::{LoadFault, SaveFault};
