@@ -1,0 +1,63 @@
+-- What a domain's operations give, and when they are sound: the words that belong to a fact before an
+-- instruction belong to what the operation gives for it after.
+use Rattle.std.specs.Prelude.{ℕ, ℤ, Bool, true, Option, Some, None, ◌≡◌, ◌<◌, ◌≤◌, ◌+◌, ◌%◌, ◌^◌}
+use Rattle.std.specs.Int.{w64, cast_unsigned}
+use Rattle.ebpf_decode.specs.declared.operation.Relation.{Relation}
+use Rattle.ebpf_decode.specs.declared.operation.SignedSize.{SignedSize}
+use Rattle.ebpf_decode.specs.declared.operation.Size.{Size}
+use Rattle.ebpf_decode.specs.declared.operation.Width.{Width}
+use Rattle.interp.specs.Effect.{sign_extended}
+use Rattle.interp.specs.Memory.{address_of, lies_in, size_of}
+use Rattle.interp.specs.Word.{computed, is_taken}
+use Rattle.interp.specs.declared.memory.Area.{Area}
+use Rattle.interp.specs.declared.word.Arithmetic.{Arithmetic}
+use Rattle.reg_domain.specs.declared.fact.Bounds.{Bounds}
+
+-- the operations of a domain, whose facts are of type D
+pub record Operations (D : Type 0) : Type 0 where
+  -- one word
+  pub constant : ℕ → D
+  -- every word
+  pub any : D
+  -- the address this far into an area
+  pub pointer : Area → ℕ → D
+  -- what a load can give, zero-extended or sign-extended
+  pub loaded : Size → D
+  pub loaded_signed : SignedSize → D
+  -- what belongs to either
+  pub join : D → D → D
+  -- what an arithmetic instruction makes of destination and source
+  pub alu : Arithmetic → D → D → D
+  -- destination and source along an edge of a compare, which is taken or not; the last says that both
+  -- are one register. None: there is no such edge
+  pub refine : Width → Relation → Bool → D → D → Bool → Option (D × D)
+  -- the area that holds this many bytes from each address on that is a word and an offset, beside a
+  -- block of this length
+  pub access : ℕ → D → ℤ → ℕ → Option Area
+  -- the lowest and the greatest word, or wider
+  pub bounds : D → Bounds
+
+-- the edge exists, and both words belong after it
+abbrev pub BelongAfter : {D : Type 0} → (D → ℕ → Type 0) → ℕ → ℕ → Option (D × D) → Type 0
+BelongAfter contains x y None = ⊥
+BelongAfter contains x y (Some facts) = contains facts.0 x × contains facts.1 y
+
+-- the laws of a domain
+pub record IsSound {D : Type 0} (contains : D → ℕ → Type 0) (operations : Operations D) : Type 0 where
+  pub constant : (w : ℕ) → w < 2 ^ 64 → contains (operations.constant w) w
+  pub any : (w : ℕ) → w < 2 ^ 64 → contains operations.any w
+  pub pointer : (area : Area) (k : ℕ) → address_of area + k < 2 ^ 64
+      → contains (operations.pointer area k) (address_of area + k)
+  pub loaded : (size : Size) (n : ℕ) → n < 256 ^ size_of size → contains (operations.loaded size) n
+  pub loaded_signed : (size : SignedSize) (n : ℕ) → contains (operations.loaded_signed size) (sign_extended size n)
+  pub join_first : (d e : D) (w : ℕ) → contains d w → contains (operations.join d e) w
+  pub join_second : (d e : D) (w : ℕ) → contains e w → contains (operations.join d e) w
+  pub alu : (arithmetic : Arithmetic) (d e : D) (x y : ℕ) → contains d x → contains e y
+      → contains (operations.alu arithmetic d e) (computed arithmetic x y)
+  pub refine : (width : Width) (relation : Relation) (taken : Bool) (d e : D) (same : Bool) (x y : ℕ)
+      → contains d x → contains e y → (same ≡ true → x ≡ y) → is_taken width relation x y ≡ taken
+      → BelongAfter contains x y (operations.refine width relation taken d e same)
+  pub access : (block : ℕ) (d : D) (offset : ℤ) (size : ℕ) (area : Area) (w : ℕ) → block < 2 ^ 32
+      → operations.access block d offset size ≡ Some area → contains d w
+      → lies_in block area ((w + cast_unsigned w64 offset) % 2 ^ 64) size ≡ true
+  pub bounds : (d : D) (w : ℕ) → contains d w → ((operations.bounds d).low ≤ w) × (w ≤ (operations.bounds d).high)

@@ -1,0 +1,15 @@
+pub mod Domain
+pub mod Fact
+pub mod Range
+pub mod Arithmetic
+pub mod Edge
+pub mod NumberLaws
+pub mod SignedLaws
+pub mod RangeLaws
+pub mod FactLaws
+pub mod PointerLaws
+pub mod PlaceLaws
+pub mod ArithmeticLaws
+pub mod EdgeLaws
+pub mod Intervals
+pub mod Constants

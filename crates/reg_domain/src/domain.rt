@@ -1,0 +1,77 @@
+//! A domain.
+
+ghost use Rattle.std.specs.Prelude.{◌≡◌, ◌+◌, ◌*◌, ◌<◌, ◌^◌, ℕ};
+ghost use Rattle.std.specs.Mem.{type_size};
+ghost use Rattle.reg_domain.specs.Domain.{Operations, IsSound};
+
+use crate::fact::Bounds;
+use ebpf_decode::{Relation, SignedSize, Size, Width};
+use interp::{Area, Arithmetic};
+
+/// A fact about a register: a set of words, to which the register's word belongs.
+pub trait Domain: Copy {
+    /// The words that belong to a fact.
+    ghost contains: { Self → ℕ → Type 0 };
+
+    /// What the operations give.
+    ghost operations: { Operations Self };
+
+    /// A row of facts, one for each register, fits in memory: a proof about rows of facts calls
+    /// this, which has no code.
+    fn row_fits()
+        ensures { 11 * type_size Self.row < 2 ^ 63 };
+
+    /// One word.
+    fn constant(word: u64) -> Self
+        ensures { result ≡ operations.constant word };
+
+    /// Every word.
+    fn any() -> Self
+        ensures { result ≡ operations.any };
+
+    /// The address `offset` bytes into an area.
+    fn pointer(area: Area, offset: u32) -> Self
+        ensures { result ≡ operations.pointer area offset };
+
+    /// What a load of this size can give, zero-extended (RFC 9669, 5.1).
+    fn loaded(size: Size) -> Self
+        ensures { result ≡ operations.loaded size };
+
+    /// What a load of this size can give, sign-extended (RFC 9669, 5.2).
+    fn loaded_signed(size: SignedSize) -> Self
+        ensures { result ≡ operations.loaded_signed size };
+
+    /// What belongs to either.
+    fn join(self, other: Self) -> Self
+        ensures { result ≡ operations.join self other };
+
+    /// What an arithmetic instruction makes of its destination and its source (RFC 9669, 4.1 and
+    /// 4.2). Where it takes one of them alone, the other counts for nothing.
+    fn alu(arithmetic: Arithmetic, dst: Self, source: Self) -> Self
+        ensures { result ≡ operations.alu arithmetic dst source };
+
+    /// The destination and the source along an edge of a compare (RFC 9669, 4.3), the one that is
+    /// taken or the other; `same` says that both are one register. None where there is no such
+    /// edge.
+    fn refine(
+        width: Width,
+        relation: Relation,
+        taken: bool,
+        dst: Self,
+        source: Self,
+        same: bool,
+    ) -> Option<(Self, Self)>
+        ensures { result ≡ operations.refine width relation taken dst source same };
+
+    /// The area, beside a block of this many bytes, that holds all `size` bytes from each address
+    /// on that is a word of the fact and the offset.
+    fn access(self, block: u32, offset: i16, size: u64) -> Option<Area>
+        ensures { result ≡ operations.access block self offset size };
+
+    /// The lowest and the greatest word, or wider.
+    fn bounds(self) -> Bounds
+        ensures { result ≡ operations.bounds self };
+
+    /// The operations are sound.
+    ghost sound: { IsSound contains operations };
+}
