@@ -12,7 +12,7 @@ use Rattle.zns_commands.specs.Read.{read_checks, read_effect}
 use Rattle.zns_commands.specs.Receive.{receive_checks, receive_effect}
 use Rattle.zns_commands.specs.Send.{send_checks, send_effect}
 use Rattle.zns_commands.specs.Write.{write_checks, write_effect}
-use Rattle.zns_commands.specs.Laws.{Passes, Case, TakesEffect, IsRefused, JustOneCase, ChangesNothing, RefusedChangesNothing}
+use Rattle.zns_commands.specs.Laws.{Passes, IsCase, TakesEffect, IsRefused, JustOneCase, ChangesNothing, RefusedChangesNothing}
 
 none_refused : (checks : List (Option Status)) → All Passes checks → first_refused checks ≡ None
 none_refused [] all = refl
@@ -32,19 +32,19 @@ one_more checks all zero other in_list = refl
 one_more checks all (suc k) other in_list = all k other (omega arith)
 
 behind_one : (ns : ZonedNamespace) (checks : List (Option Status)) (effect outcome : Outcome)
-    → Case ns checks effect outcome → Case ns (None ∷ checks) effect outcome
+    → IsCase ns checks effect outcome → IsCase ns (None ∷ checks) effect outcome
 behind_one ns checks effect outcome (TakesEffect all is) = TakesEffect (one_more checks all) is
 behind_one ns checks effect outcome (IsRefused passed rest status split all is) =
     IsRefused (None ∷ passed) rest status (ap (λ (others : List (Option Status)). None ∷ others) split) (one_more passed all) is
 
-some_case : (ns : ZonedNamespace) (checks : List (Option Status)) (effect : Outcome) → Case ns checks effect (concluded (first_refused checks) ns effect)
+some_case : (ns : ZonedNamespace) (checks : List (Option Status)) (effect : Outcome) → IsCase ns checks effect (concluded (first_refused checks) ns effect)
 some_case ns [] effect = TakesEffect (λ k other in_list. absurd (omega arith)) refl
 some_case ns (Some status ∷ checks) effect = IsRefused [] checks status refl (λ k other in_list. absurd (omega arith)) refl
 some_case ns (None ∷ checks) effect =
     behind_one ns checks effect (concluded (first_refused checks) ns effect) (some_case ns checks effect)
 
 one_case : (ns : ZonedNamespace) (checks : List (Option Status)) (effect outcome : Outcome)
-    → Case ns checks effect outcome → outcome ≡ concluded (first_refused checks) ns effect
+    → IsCase ns checks effect outcome → outcome ≡ concluded (first_refused checks) ns effect
 one_case ns checks effect outcome (TakesEffect all is) =
     is ∙ ap (λ (refusal : Option Status). concluded refusal ns effect) (sym (none_refused checks all))
 one_case ns checks effect outcome (IsRefused passed rest status split all is) =

@@ -85,17 +85,17 @@ Passes check = check ≡ None
 
 -- the cases of a command: each check passes and it takes effect, or one fails behind others that pass,
 -- and it is refused with that one's status
-pub data Case (ns : ZonedNamespace) (checks : List (Option Status)) (effect outcome : Outcome) : Type 0 where
-  TakesEffect : All Passes checks → outcome ≡ effect → Case ns checks effect outcome
+pub data IsCase (ns : ZonedNamespace) (checks : List (Option Status)) (effect outcome : Outcome) : Type 0 where
+  TakesEffect : All Passes checks → outcome ≡ effect → IsCase ns checks effect outcome
   IsRefused : (passed rest : List (Option Status)) (status : Status)
-      → checks ≡ passed ++ Some status ∷ rest → All Passes passed → outcome ≡ refused ns status → Case ns checks effect outcome
+      → checks ≡ passed ++ Some status ∷ rest → All Passes passed → outcome ≡ refused ns status → IsCase ns checks effect outcome
 
 -- the meaning of a command is one of its cases, and there is no other outcome in any of them
 abbrev pub JustOneCase : Type 0
 JustOneCase =
     (ns : ZonedNamespace) (holds : Holds) (command : Command) (input : List ℕ)
-    → Case ns (checks_of ns holds command input) (effect_of ns holds command input) (meaning ns holds command input)
-    × ((outcome : Outcome) → Case ns (checks_of ns holds command input) (effect_of ns holds command input) outcome
+    → IsCase ns (checks_of ns holds command input) (effect_of ns holds command input) (meaning ns holds command input)
+    × ((outcome : Outcome) → IsCase ns (checks_of ns holds command input) (effect_of ns holds command input) outcome
     → outcome ≡ meaning ns holds command input)
 
 -- an outcome that leaves the namespace as it was, and gives nothing

@@ -1,6 +1,6 @@
 //! Zone Management Receive.
 
-ghost use Rattle.std.specs.Prelude.{◌≡◌, ◌≤◌, ◌<◌, ◌*◌, ◌++◌, ◌^◌, length, take, drop};
+ghost use Rattle.std.specs.Prelude.{◌≡◌, ◌≤◌, ◌*◌, ◌++◌, ◌^◌, length, take, drop};
 ghost use Rattle.nvme_entry.specs.Checks.{first_refused, allowed};
 ghost use Rattle.nvme_entry.specs.Report.{report};
 ghost use Rattle.zns_commands.specs.Address.{zone_number, records};

@@ -17,19 +17,19 @@ fn transfers_hold_whole_descriptors(rt: HostRuntime) -> Result<(), Fail> {
         // A header, a descriptor and half of one.
         Step::Begin,
         Step::Report(0, 160, ZoneFilter::All, true, OK),
-        Step::Reports(160, 1, [zone(0x1, 0, 0), NONE, NONE, NONE]),
+        Step::Lists(160, 1, [zone(0x1, 0, 0), NONE, NONE, NONE]),
         Step::Report(0, 160, ZoneFilter::All, false, OK),
-        Step::Reports(160, 4, [zone(0x1, 0, 0), NONE, NONE, NONE]),
+        Step::Lists(160, 4, [zone(0x1, 0, 0), NONE, NONE, NONE]),
         // A part of the header.
         Step::Begin,
         Step::Report(0, 4, ZoneFilter::All, true, OK),
-        Step::Reports(4, 0, [NONE; 4]),
+        Step::Lists(4, 0, [NONE; 4]),
         Step::Report(0, 4, ZoneFilter::All, false, OK),
-        Step::Reports(4, 4, [NONE; 4]),
+        Step::Lists(4, 4, [NONE; 4]),
         // The largest transfer.
         Step::Begin,
         Step::Report(0, 131_072, ZoneFilter::All, false, OK),
-        Step::Reports(131_072, 4, all),
+        Step::Lists(131_072, 4, all),
     ];
     play(&rt, rt.alloc(), &steps)
 }
@@ -41,17 +41,17 @@ fn reports_begin_at_the_zone_of_an_address(rt: HostRuntime) -> Result<(), Fail> 
         Step::Begin,
         append(8, 1, OK),
         Step::Report(9, 256, ZoneFilter::Empty, false, OK),
-        Step::Reports(256, 2, [zone(0x1, 16, 16), zone(0x1, 24, 24), NONE, NONE]),
+        Step::Lists(256, 2, [zone(0x1, 16, 16), zone(0x1, 24, 24), NONE, NONE]),
         Step::Report(15, 256, ZoneFilter::ImplicitlyOpened, false, OK),
-        Step::Reports(256, 1, [zone(0x2, 8, 9), NONE, NONE, NONE]),
+        Step::Lists(256, 1, [zone(0x2, 8, 9), NONE, NONE, NONE]),
         Step::Report(16, 256, ZoneFilter::ImplicitlyOpened, false, OK),
-        Step::Reports(256, 0, [NONE; 4]),
+        Step::Lists(256, 0, [NONE; 4]),
         Step::Report(32, 256, ZoneFilter::All, false, Status::LBA_OUT_OF_RANGE),
         // A full zone, of which nothing is written.
         Step::Begin,
         send(24, Action::Finish, OK),
         Step::Report(24, 128, ZoneFilter::All, true, OK),
-        Step::Reports(128, 1, [zone(0xE, 24, u64::MAX), NONE, NONE, NONE]),
+        Step::Lists(128, 1, [zone(0xE, 24, u64::MAX), NONE, NONE, NONE]),
     ];
     play(&rt, rt.alloc(), &steps)
 }

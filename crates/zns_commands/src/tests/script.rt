@@ -54,7 +54,7 @@ pub enum Step {
     Gives(u16, u16, u16),
     /// The report of the last command: its bytes, the number of zones that it tells, and the
     /// descriptors that it gives.
-    Reports(usize, u64, [Descriptor; 4]),
+    Lists(usize, u64, [Descriptor; 4]),
     /// The states of the zones.
     Leaves([ZoneState; 4]),
     /// How many zones hold an open and an active resource.
@@ -180,7 +180,7 @@ impl Stage {
                 );
             }
             Step::Gives(from, written, zeros) => self.assert_given(rt, from, written, zeros),
-            Step::Reports(length, number, zones) => self.assert_report(rt, length, number, zones),
+            Step::Lists(length, number, zones) => self.assert_list(rt, length, number, zones),
             Step::Leaves(states) => self.assert_states(rt, states),
             Step::Uses(open, active) => {
                 let counts = self.namespace.image().counts();
@@ -235,7 +235,7 @@ impl Stage {
         assert!(rt; given.iter().skip(stored.len()).all(|byte| *byte == 0));
     }
 
-    fn assert_report(&self, rt: &impl Abort, length: usize, number: u64, zones: [Descriptor; 4]) {
+    fn assert_list(&self, rt: &impl Abort, length: usize, number: u64, zones: [Descriptor; 4]) {
         let given = self.output.get(..self.last.length).unwrap_or(&[]);
         assert_eq!(rt; given.len(), length, "step {}", self.number);
         for (place, byte) in given.iter().enumerate() {

@@ -22,6 +22,10 @@ fn appends_are_answered_and_read(rt: HostRuntime) -> Result<(), Fail> {
         read(20, 4, OK),
         Step::Gives(4, 2, 2),
         read(23, 2, Status::ZONE_BOUNDARY_ERROR),
+        // An append to a block that is not its zone's lowest.
+        Step::Begin,
+        append(9, 1, Status::INVALID_FIELD_IN_COMMAND),
+        Step::Completes(6, 0x00000000_00000000_00000100_06000400),
         // An append past the capacity.
         Step::Begin,
         append(0, 5, OK),
