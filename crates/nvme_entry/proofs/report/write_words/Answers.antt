@@ -5,4 +5,4 @@ use Rattle.nvme_entry.proofs.report.write_words.Goals as goal
 pub write_u64_into-requires : goal.write_u64_into-requires
 write_u64_into-requires c =
     let front = length-take-le 56 c.args.output.now c.requires in
-    first_of (omega arith, omega (arith, c.told-words), omega (arith, c.fits-words))
+    omega arith
