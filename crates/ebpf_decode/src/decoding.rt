@@ -5,9 +5,9 @@ ghost use Rattle.std.specs.Int.{w32, cast_unsigned};
 ghost use Rattle.ebpf_decode.specs.Spelling.{program_bytes};
 ghost use Rattle.ebpf_decode.specs.Reading.{Gives, begins_wide, decoded, entry, fields_at, first_fault, has_more, has_no_register, has_unused, immediate_of, instruction, is_left_out, length_fault, read, read_slots, slots_at, source_of};
 
-use crate::flat::flatten;
 use crate::fault::{DecodeFault, Fault, FaultKind};
 use crate::fields::{Fields, from_bytes};
+use crate::flat::flatten;
 use crate::insn::{Insn, Source};
 use crate::opcode::{Opcode, Operand, Uses};
 use crate::operation::{Operation, SignExtension, SwapSize, Width};
