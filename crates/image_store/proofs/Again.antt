@@ -16,11 +16,12 @@ use Rattle.image_store.specs.Blocks.{blocks_of, bytes_of}
 use Rattle.image_store.specs.Flat.{no_record, zone_seen}
 use Rattle.image_store.specs.Geometry.{Shape}
 use Rattle.image_store.specs.Namespace.{ZoneBlocks, ZonedNamespace, no_zone, counted, shape, IsNamespace}
-use Rattle.image_store.specs.Reading.{◌>>=◌, allows, zone_with, zone_in, zones_in, records_in, limits_kept, blocks_in, end_in, namespace_with, namespace_in}
+use Rattle.image_store.specs.Reading.{◌>>=◌, allows, zone_with, zone_in, zones_in, records_in, limits_kept, blocks_in, namespace_in}
 use Rattle.image_store.specs.Text.{record_text, records_text, blocks_text, text}
 use Rattle.image_store.proofs.Fills.{Split, bytes_whole}
 use Rattle.image_store.proofs.Headers.{word_again, header_read}
 use Rattle.image_store.proofs.Images.{within_capacity}
+use Rattle.image_store.proofs.Loads.{past_header, past_records, past_limits, past_blocks, past_end}
 
 -- the table of states as a test
 pub allows_true : (state : ZoneState) (written capacity : ℕ) → IsZone state written capacity → allows state written capacity ≡ true
@@ -115,13 +116,12 @@ can_spell ns sound k h =
     subst (CanSpell ns.capacity) (sym (at-counted ns.capacity ns.zones k there)) (record { same = refl; fits = sound.fits k there; small = omega arith })
 
 pub text_again : (ns : ZonedNamespace) → IsNamespace ns → IsWithin (map (counted ns.capacity) ns.zones) ns.limits → namespace_in (text ns) ≡ Ok ns
-unfolding namespace_in
 text_again ns sound within =
     let s = shape ns in
     let zs = map (counted ns.capacity) ns.zones in
     let last = blocks_text ns.zones in
     let blocks : blocks_in ns.block zs last ≡ Ok (ns.zones, []) = ap (blocks_in ns.block zs) (sym (append-nil last)) ∙ blocks_read ns.block ns.capacity ns.zones [] sound.whole in
-    ap (λ (r : Result (Shape × List ℕ) LoadFault). r >>= λ h. records_in h.0 h.1 >>= λ records. limits_kept h.0.limits records.0 >>= λ kept. blocks_in h.0.block records.0 records.1 >>= λ read. end_in read.1 >>= λ end. Ok (namespace_with h.0 read.0)) (header_read s (records_text zs ++ last) sound.shape)
-    ∙ (ap (λ (r : Result (List ZoneRecord × List ℕ) LoadFault). r >>= λ records. limits_kept ns.limits records.0 >>= λ kept. blocks_in ns.block records.0 records.1 >>= λ read. end_in read.1 >>= λ end. Ok (namespace_with s read.0)) (records_read s zs last (length-map ns.zones (counted ns.capacity)) (can_spell ns sound))
-    ∙ (ap (λ (r : Result Unit LoadFault). r >>= λ kept. blocks_in ns.block zs last >>= λ read. end_in read.1 >>= λ end. Ok (namespace_with s read.0)) (limits_read ns.limits zs within)
-    ∙ ap (λ (r : Result (List ZoneBlocks × List ℕ) LoadFault). r >>= λ read. end_in read.1 >>= λ end. Ok (namespace_with s read.0)) blocks))
+    past_header (text ns) (records_text zs ++ last) s (header_read s (records_text zs ++ last) sound.shape)
+    ∙ (past_records s (records_text zs ++ last) last zs (records_read s zs last (length-map ns.zones (counted ns.capacity)) (can_spell ns sound))
+    ∙ (past_limits s zs last (limits_read ns.limits zs within)
+    ∙ (past_blocks s zs last [] ns.zones blocks ∙ past_end s ns.zones [] refl)))

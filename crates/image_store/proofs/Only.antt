@@ -14,13 +14,14 @@ use Rattle.image_store.specs.Blocks.{blocks_of, bytes_of}
 use Rattle.image_store.specs.Flat.{no_record, zone_seen}
 use Rattle.image_store.specs.Geometry.{Shape, tested}
 use Rattle.image_store.specs.Laws.{AreBytes}
-use Rattle.image_store.specs.Namespace.{ZoneBlocks, ZonedNamespace, counted, shape}
+use Rattle.image_store.specs.Namespace.{ZoneBlocks, ZonedNamespace, counted}
 use Rattle.image_store.specs.Reading.{◌>>=◌, are_zeros, shape_told, shape_in, header_in, allows, zone_with, zone_in, zones_in, records_in, limits_kept, blocks_in, end_in, namespace_with, namespace_in, bytes_in}
 use Rattle.image_store.specs.Text.{magic, word, header, record_text, records_text, blocks_text, text}
 use Rattle.image_store.proofs.Answered.{bind_ok, ok_is, chosen, passed}
 use Rattle.image_store.proofs.Fills.{bytes_parts, bytes_size}
 use Rattle.image_store.proofs.HeaderTests.{decide}
 use Rattle.image_store.proofs.Images.{counted_seen}
+use Rattle.image_store.proofs.Loads.{after_header, after_records, after_limits, after_blocks}
 use Rattle.image_store.proofs.Pieces.{bytes-blocks}
 use Rattle.image_store.proofs.Spelled.{word_spelled, zeros_spelled, header_spelled}
 
@@ -152,45 +153,54 @@ blocks_only b capacity (z ∷ zs) xs got same e =
       counted = ap (λ (first : ZoneRecord). first ∷ map (counted capacity) c.0.0) (counted_seen b capacity z a.0.0 (same 0 (omega arith))) ∙ ap (λ (more : List ZoneRecord). z ∷ more) rest.counted;
     })
 
--- the shape of the namespace that is read is the one that was told
-shape_only : (s : Shape) (zs : List ZoneRecord) (zones : List ZoneBlocks) → length zs ≡ s.zones → map (counted s.capacity) zones ≡ zs → shape (namespace_with s zones) ≡ s
-shape_only s zs zones count same =
-    let size : length zones ≡ s.zones = sym (length-map zones (counted s.capacity)) ∙ (ap length same ∙ count) in
-    ap (λ (n : ℕ). let told : Shape = record { block = s.block; zones = n; size = s.size; capacity = s.capacity; limits = s.limits } in told) size
+-- records that are read stand in front, as many as were told
+record AreRecords (s : Shape) (bytes : List ℕ) (zs : List ZoneRecord) (rest : List ℕ) : Type 0 where
+  pub spelled : records_text zs ++ rest ≡ bytes
+  pub count : length zs ≡ s.zones
+  pub same : (k : ℕ) → k < length zs → (get_or zs k no_record).capacity ≡ s.capacity
+
+records_only : (s : Shape) (bytes : List ℕ) (got : List ZoneRecord × List ℕ) → AreBytes bytes → records_in s bytes ≡ Ok got → AreRecords s bytes got.0 got.1
+records_only s bytes got fit e =
+    let r = bind_ok (bytes_in (s.zones * 8) bytes) (λ front. zones_in s.capacity s.zones front.0 >>= λ all. Ok (all, front.1)) got e in
+    let q = bind_ok (zones_in s.capacity s.zones r.0.0) (λ all. Ok (all, r.0.1)) got r.2 in
+    let parts = bytes_parts (s.zones * 8) bytes r.0 r.1 in
+    let front = front_fit r.0.0 r.0.1 (subst AreBytes (sym parts) fit) in
+    let records = zones_only s.capacity s.zones r.0.0 q.0 (bytes_size (s.zones * 8) bytes r.0 r.1) front q.1 in
+    subst (λ (x : List ZoneRecord × List ℕ). AreRecords s bytes x.0 x.1) (ok_is (q.0, r.0.1) got q.2) (record {
+      spelled = ap (λ (xs : List ℕ). xs ++ r.0.1) records.spelled ∙ parts;
+      count = records.count;
+      same = records.same;
+    })
+
+-- header, records and blocks, one behind another
+joined : (s : Shape) (zs : List ZoneRecord) (zones : List ZoneBlocks) (bytes rest later last : List ℕ) → header s ++ rest ≡ bytes → records_text zs ++ later ≡ rest → blocks_text zones ++ last ≡ later → last ≡ []
+    → bytes ≡ header s ++ (records_text zs ++ blocks_text zones)
+joined s zs zones bytes rest later last start records blocks ended =
+    let written : later ≡ blocks_text zones = sym blocks ∙ (ap (λ (xs : List ℕ). blocks_text zones ++ xs) ended ∙ append-nil (blocks_text zones)) in
+    sym start
+    ∙ (ap (λ (xs : List ℕ). header s ++ xs) (sym records)
+    ∙ ap (λ (xs : List ℕ). header s ++ (records_text zs ++ xs)) written)
+
+-- the text of the namespace that is read
+text_with : (s : Shape) (zs : List ZoneRecord) (zones : List ZoneBlocks) → length zs ≡ s.zones → map (counted s.capacity) zones ≡ zs
+    → header s ++ (records_text zs ++ blocks_text zones) ≡ text (namespace_with s zones)
+text_with s zs zones count same =
+    let size : s.zones ≡ length zones = sym (sym (length-map zones (counted s.capacity)) ∙ (ap length same ∙ count)) in
+    ap (λ (all : List ZoneRecord). header s ++ (records_text all ++ blocks_text zones)) (sym same)
+    ∙ ap (λ (n : ℕ). let told : Shape = record { block = s.block; zones = n; size = s.size; capacity = s.capacity; limits = s.limits } in header told ++ (records_text (map (counted s.capacity) zones) ++ blocks_text zones)) size
 
 pub text_only : (bytes : List ℕ) (ns : ZonedNamespace) → AreBytes bytes → namespace_in bytes ≡ Ok ns → bytes ≡ text ns
 unfolding namespace_in
 text_only bytes ns fit e =
-    let a = bind_ok (header_in bytes) (λ h. records_in h.0 h.1 >>= λ records. limits_kept h.0.limits records.0 >>= λ kept. blocks_in h.0.block records.0 records.1 >>= λ blocks. end_in blocks.1 >>= λ end. Ok (namespace_with h.0 blocks.0)) ns e in
+    let a = bind_ok (header_in bytes) (λ h. after_header h.0 h.1) ns e in
     let s = a.0.0 in
-    let b = bind_ok (records_in s a.0.1) (λ records. limits_kept s.limits records.0 >>= λ kept. blocks_in s.block records.0 records.1 >>= λ blocks. end_in blocks.1 >>= λ end. Ok (namespace_with s blocks.0)) ns a.2 in
-    let zs = b.0.0 in
-    let c = bind_ok (limits_kept s.limits zs) (λ kept. blocks_in s.block zs b.0.1 >>= λ blocks. end_in blocks.1 >>= λ end. Ok (namespace_with s blocks.0)) ns b.2 in
-    let d = bind_ok (blocks_in s.block zs b.0.1) (λ blocks. end_in blocks.1 >>= λ end. Ok (namespace_with s blocks.0)) ns c.2 in
-    let zones = d.0.0 in
-    let f = bind_ok (end_in d.0.1) (λ end. Ok (namespace_with s zones)) ns d.2 in
+    let b = bind_ok (records_in s a.0.1) (λ records. after_records s records.0 records.1) ns a.2 in
+    let c = bind_ok (limits_kept s.limits b.0.0) (λ kept. after_limits s b.0.0 b.0.1) ns b.2 in
+    let d = bind_ok (blocks_in s.block b.0.0 b.0.1) (λ blocks. after_blocks s blocks.0 blocks.1) ns c.2 in
+    let f = bind_ok (end_in d.0.1) (λ end. Ok (namespace_with s d.0.0)) ns d.2 in
     let ended : d.0.1 ≡ [] = nil_from_length d.0.1 (eqb-true (length d.0.1) 0 (chosen (length d.0.1 == 0) tt f.0 fault.Trailing f.1).0) in
     let start = header_only bytes s a.0.1 fit a.1 in
-    let r = bind_ok (bytes_in (s.zones * 8) a.0.1) (λ front. zones_in s.capacity s.zones front.0 >>= λ all. Ok (all, front.1)) b.0 b.1 in
-    let q = bind_ok (zones_in s.capacity s.zones r.0.0) (λ all. Ok (all, r.0.1)) b.0 r.2 in
-    let parts = bytes_parts (s.zones * 8) a.0.1 r.0 r.1 in
-    let later = rest_fit (header s) a.0.1 (subst AreBytes (sym start) fit) in
-    let records = zones_only s.capacity s.zones r.0.0 q.0 (bytes_size (s.zones * 8) a.0.1 r.0 r.1) (front_fit r.0.0 r.0.1 (subst AreBytes (sym parts) later)) q.1 in
-    let both : (q.0, r.0.1) ≡ b.0 = ok_is (q.0, r.0.1) b.0 q.2 in
-    let zones_are : q.0 ≡ zs = ap (λ (x : List ZoneRecord × List ℕ). x.0) both in
-    let rest_is : r.0.1 ≡ b.0.1 = ap (λ (x : List ZoneRecord × List ℕ). x.1) both in
-    let count : length zs ≡ s.zones = ap length (sym zones_are) ∙ records.count in
-    let same : (k : ℕ) → k < length zs → (get_or zs k no_record).capacity ≡ s.capacity =
-    subst (λ (all : List ZoneRecord). (k : ℕ) → k < length all → (get_or all k no_record).capacity ≡ s.capacity) zones_are records.same in
-    let blocks = blocks_only s.block s.capacity zs b.0.1 d.0 same d.1 in
-    let made = ok_is (namespace_with s zones) ns f.2 in
-    sym start
-    ∙ (ap (λ (rest : List ℕ). header s ++ rest) (sym parts)
-    ∙ (ap (λ (front : List ℕ). header s ++ (front ++ r.0.1)) (sym records.spelled)
-    ∙ (ap (λ (x : List ZoneRecord × List ℕ). header s ++ (records_text x.0 ++ x.1)) both
-    ∙ (ap (λ (rest : List ℕ). header s ++ (records_text zs ++ rest)) (sym blocks.spelled)
-    ∙ (ap (λ (rest : List ℕ). header s ++ (records_text zs ++ (blocks_text zones ++ rest))) ended
-    ∙ (ap (λ (rest : List ℕ). header s ++ (records_text zs ++ rest)) (append-nil (blocks_text zones))
-    ∙ (ap (λ (all : List ZoneRecord). header s ++ (records_text all ++ blocks_text zones)) (sym blocks.counted)
-    ∙ (ap (λ (told : Shape). header told ++ (records_text (map (counted s.capacity) zones) ++ blocks_text zones)) (sym (shape_only s zs zones count blocks.counted))
-    ∙ ap text made))))))))
+    let records = records_only s a.0.1 b.0 (rest_fit (header s) a.0.1 (subst AreBytes (sym start) fit)) b.1 in
+    let blocks = blocks_only s.block s.capacity b.0.0 b.0.1 d.0 records.same d.1 in
+    joined s b.0.0 d.0.0 bytes a.0.1 b.0.1 d.0.1 start records.spelled blocks.spelled ended
+    ∙ (text_with s b.0.0 d.0.0 records.count blocks.counted ∙ ap text (ok_is (namespace_with s d.0.0) ns f.2))

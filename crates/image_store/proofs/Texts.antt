@@ -1,6 +1,6 @@
 -- The text of what an image's fields stand for.
 use Rattle.std.proofs.Common.{◌≡◌, ℕ, ◌+◌, ◌*◌, ◌<◌, List, ◌++◌, length, get_or, take, drop, refl, ap, sym, ◌∙◌, arith}
-use Rattle.std.proofs.lemmas.List.{take_all, at_drop_more}
+use Rattle.std.proofs.lemmas.List.{take_all, at_drop_more, get_or_default}
 use Rattle.zone_state.specs.Zone.{ZoneRecord}
 use Rattle.image_store.specs.Blocks.{bytes_of}
 use Rattle.image_store.specs.Flat.{namespace_of, zones_of, no_record, IsFlat}
@@ -22,16 +22,19 @@ text_seen s zs xs flat =
     ap (λ (known : Shape). header known ++ (records_text zs ++ blocks)) (shape_seen s zs xs (namespace_of s zs xs) refl flat)
     ∙ ap (λ (all : List ZoneRecord). header (shape (namespace_of s zs xs)) ++ (records_text all ++ blocks)) records
 
--- the blocks of one zone, and those of the zones behind it
-pub blocks_step : (s : Shape) (zs : List ZoneRecord) (xs : List ℕ) (i w : ℕ) → i < length zs → w ≡ (get_or zs i no_record).written
-    → blocks_text (drop i (zones_of s.block s.capacity zs xs))
-    ≡ bytes_of (take w (drop 0 (zone_at (namespace_of s zs xs) i).blocks)) ++ blocks_text (drop (i + 1) (zones_of s.block s.capacity zs xs))
-blocks_step s zs xs i w inside same =
+-- the blocks of one zone, as a call gave them, and those of the zones behind it
+pub blocks_step : (s : Shape) (zs : List ZoneRecord) (xs : List ℕ) (i w : ℕ) (z : ZoneRecord) (piece : List ℕ) → i < length zs → z ≡ get_or zs i z → w ≡ z.written
+    → piece ≡ bytes_of (take w (drop 0 (zone_at (namespace_of s zs xs) i).blocks))
+    → blocks_text (drop i (zones_of s.block s.capacity zs xs)) ≡ piece ++ blocks_text (drop (i + 1) (zones_of s.block s.capacity zs xs))
+blocks_step s zs xs i w z piece inside read same given =
     let zones = zones_of s.block s.capacity zs xs in
     let blocks = (get_or zones i no_zone).blocks in
     let there : i < length zones = omega (arith, length-zones s.block s.capacity zs xs) in
+    let known : z ≡ get_or zs i no_record = read ∙ get_or_default zs i z no_record inside in
+    let count : w ≡ (get_or zs i no_record).written = same ∙ ap (λ (x : ZoneRecord). x.written) known in
     let seen = ap (λ (zone : ZoneBlocks). length zone.blocks) (zone-at s.block s.capacity zs xs i inside)
     ∙ length-blocks s.block (get_or zs i no_record).written (drop (i * (s.capacity * s.block)) xs) in
     let whole : take w blocks ≡ blocks = take_all w blocks (omega arith) in
+    let all : bytes_of blocks ≡ piece = ap bytes_of (sym whole) ∙ sym given in
     at_drop_more blocks_text zones i no_zone there
-    ∙ ap (λ (bs : List (List ℕ)). bytes_of bs ++ blocks_text (drop (i + 1) zones)) (sym whole)
+    ∙ ap (λ (front : List ℕ). front ++ blocks_text (drop (i + 1) zones)) all

@@ -1,4 +1,4 @@
-//! Bytes.
+//! Bytes that have to be zero.
 
 ghost use Rattle.std.specs.Prelude.{◌≡◌};
 ghost use Rattle.image_store.specs.Reading.{are_zeros};

@@ -1,8 +1,8 @@
-use Rattle.std.proofs.Common.{◌≡◌, ◌+◌, ◌++◌, [], drop, ap, sym, subst, ◌∙◌, arith}
-use Rattle.std.proofs.lemmas.List.{drop_all, get_or_default}
+use Rattle.std.proofs.Common.{◌≡◌, ◌+◌, [], drop, subst, ◌∙◌, arith}
+use Rattle.std.proofs.lemmas.List.{drop_all}
 use Rattle.std.proofs.lemmas.Result.{err_from_is_err_and}
 use Rattle.image_store.specs.Device.{IsBegun}
-use Rattle.image_store.specs.Flat.{no_record, zones_of}
+use Rattle.image_store.specs.Flat.{zones_of}
 use Rattle.image_store.specs.Text.{blocks_text}
 use Rattle.image_store.proofs.Sinks.{goes_on, stops, ends}
 use Rattle.image_store.proofs.Texts.{blocks_step}
@@ -16,10 +16,8 @@ returns-in_err-write_all-clause-text g c =
     let s = c.args.geometry in
     let zones = zones_of s.block s.capacity c.args.zones.now c.args.blocks.now in
     let left = blocks_text (drop (l.number + 1) zones) in
-    let read = c.index-zones-number.is ∙ get_or_default c.args.zones.now l.number c.index-zones-number.result no_record c.loop-number-test.true in
-    let written = c.written-written.ensures ∙ ap (λ z. z.written) read in
-    let step : blocks_text (drop l.number zones) ≡ c.blocks-in-loop-number.result.now ++ left =
-    blocks_step s c.args.zones.now c.args.blocks.now l.number c.written-written.result c.loop-number-test.true written ∙ ap (λ first. first ++ left) (sym c.blocks-in-loop-number.ensures.value) in
+    let step = blocks_step s c.args.zones.now c.args.blocks.now l.number c.written-written.result c.index-zones-number.result c.blocks-in-loop-number.result.now
+    c.loop-number-test.true c.index-zones-number.is c.written-written.ensures c.blocks-in-loop-number.ensures.value in
     let before = g.W.Sink.taken c.args.sink.now in
     let mid = g.W.Sink.taken l.sink in
     rw p.1 (λ told. stops before mid (g.W.Sink.taken c.write_all.new.sink) (blocks_text zones) c.blocks-in-loop-number.result.now left
@@ -31,10 +29,8 @@ loop-number-preserved g c =
     let s = c.args.geometry in
     let zones = zones_of s.block s.capacity c.args.zones.now c.args.blocks.now in
     let left = blocks_text (drop (l.number + 1) zones) in
-    let read = c.index-zones-number.is ∙ get_or_default c.args.zones.now l.number c.index-zones-number.result no_record c.loop-number-test.true in
-    let written = c.written-written.ensures ∙ ap (λ z. z.written) read in
-    let step : blocks_text (drop l.number zones) ≡ c.blocks-in-loop-number.result.now ++ left =
-    blocks_step s c.args.zones.now c.args.blocks.now l.number c.written-written.result c.loop-number-test.true written ∙ ap (λ first. first ++ left) (sym c.blocks-in-loop-number.ensures.value) in
+    let step = blocks_step s c.args.zones.now c.args.blocks.now l.number c.written-written.result c.index-zones-number.result c.blocks-in-loop-number.result.now
+    c.loop-number-test.true c.index-zones-number.is c.written-written.ensures c.blocks-in-loop-number.ensures.value in
     let before = g.W.Sink.taken c.args.sink.now in
     let mid = g.W.Sink.taken l.sink in
     record {
