@@ -1,5 +1,5 @@
 -- Arithmetic on facts (profile).
-use Rattle.std.specs.Prelude.{ℕ, ℤ, Bool, Option, Some, None, pos, ◌-◌, ◌%◌, ◌^◌, ◌+ℤ◌, ◌-ℤ◌, ◌&&◌, ◌||◌, nat_lt, nat_le, if◌then◌else◌}
+use Rattle.std.specs.Prelude.{ℕ, ℤ, Bool, Option, Some, None, ◌-◌, ◌%◌, ◌^◌, ◌+ℤ◌, ◌-ℤ◌, ◌&&◌, ◌||◌, nat_lt, nat_le, if◌then◌else◌}
 use Rattle.ebpf_decode.specs.declared.operation.Operation.{Operation}
 use Rattle.ebpf_decode.specs.declared.operation.Operation.TheVariants.{Add, Subtract, Move}
 use Rattle.ebpf_decode.specs.declared.operation.SignExtension.{SignExtension}

@@ -1,12 +1,11 @@
 -- What an arithmetic instruction makes of words that belong to two facts belongs to the fact that its
 -- rule gives.
-use Rattle.std.proofs.Common.{ℕ, ℤ, pos, ◌≡◌, ◌+◌, ◌-◌, ◌%◌, ◌^◌, ◌<◌, ◌≤◌, Bool, true, false, cond, refl, sym, ap, subst, arith}
-use Rattle.std.proofs.Math.Nat.{mod-eq_of_lt}
-use Rattle.std.proofs.lemmas.Bool.{cond_both, ltb-true, eqb-true, and_parts}
+use Rattle.std.proofs.Common.{ℕ, ◌≡◌, ◌+◌, ◌-◌, ◌%◌, ◌^◌, ◌<◌, true, sym, ap, subst, arith}
+use Rattle.std.proofs.lemmas.Bool.{ltb-true, eqb-true, and_parts}
 use Rattle.std.proofs.lemmas.Int.{to_z_pos}
 use Rattle.std.proofs.lemmas.Nat.{mod_below, pow_pos}
-use Rattle.std.specs.Int.{w8, w16, w32, w64}
-use Rattle.std.specs.Prelude.{◌==◌, ◌&&◌, nat_lt}
+use Rattle.std.specs.Int.{w8, w16, w32}
+use Rattle.std.specs.Prelude.{◌&&◌, nat_lt}
 use Rattle.ebpf_decode.specs.declared.operation.Operation.{Operation}
 use Rattle.ebpf_decode.specs.declared.operation.Operation.TheVariants.{Add, Subtract, Multiply, Divide, SignedDivide, Or, And, LeftShift, RightShift, Modulo, SignedModulo, Xor, Move, ArithmeticShift}
 use Rattle.ebpf_decode.specs.declared.operation.SignExtension.{SignExtension}
@@ -25,7 +24,7 @@ use Rattle.reg_domain.specs.FactLaws.{any_law, bounds_law, constant_law, either_
 use Rattle.reg_domain.specs.PointerLaws.{moved_back_law, moved_on_law}
 use Rattle.reg_domain.specs.RangeLaws.{combined_law, either, top_law}
 use Rattle.reg_domain.specs.Arithmetic.{added, alu_of, are_known, combined_64, combined_of, cut, estimated, extended_of, is_known, operand_of, subtracted, swapped_of, unsigned_below, width_of}
-use Rattle.reg_domain.specs.Fact.{Contains, IsWithin, bounds_of, full, is_single, range, single}
+use Rattle.reg_domain.specs.Fact.{ContainsWord, IsWithin, bounds_of, is_single, single}
 use Rattle.reg_domain.specs.Range.{combined, limit, top}
 use Rattle.reg_domain.specs.declared.fact.Bounds.{Bounds}
 use Rattle.reg_domain.specs.declared.fact.Fact.{Fact}
@@ -44,7 +43,7 @@ cut_law b x within =
     (λ fits. let below = ltb-true b.high (2 ^ 32) fits in (omega arith, omega arith))
     (λ _. (omega arith, omega arith)))
 
-operand_law : (w : Width) (f : Fact) (x : ℕ) → Contains f x → IsWithin (operand_of w f) (low_bits w x)
+operand_law : (w : Width) (f : Fact) (x : ℕ) → ContainsWord f x → IsWithin (operand_of w f) (low_bits w x)
 operand_law Bits32 f x is = cut_law (bounds_of f) x (bounds_law f x is)
 operand_law Bits64 f x is = bounds_law f x is
 
@@ -54,33 +53,33 @@ low_fits Bits64 x h = h
 
 -- ---- two operands
 
-general_law : (w : Width) (operation : Operation) (d s : Fact) (x y : ℕ) → Contains d x → Contains s y
-    → Contains (Words (combined w operation (operand_of w d) (operand_of w s))) (computed (Binary w operation) x y)
+general_law : (w : Width) (operation : Operation) (d s : Fact) (x y : ℕ) → ContainsWord d x → ContainsWord s y
+    → ContainsWord (Words (combined w operation (operand_of w d) (operand_of w s))) (computed (Binary w operation) x y)
 general_law w operation d s x y hd hs = (
   combined_law w operation (operand_of w d) (operand_of w s) (low_bits w x) (low_bits w y) (operand_law w d x hd) (operand_law w s y hs)
       (low_fits w x (is_word d x hd)) (low_fits w y (is_word s y hs)),
   computed_fits (Binary w operation) x y (is_word d x hd) (is_word s y hs),
 )
 
-added_law : (d s : Fact) (x y : ℕ) → Contains d x → Contains s y → Contains (added d s) (computed (Binary Bits64 Add) x y)
+added_law : (d s : Fact) (x y : ℕ) → ContainsWord d x → ContainsWord s y → ContainsWord (added d s) (computed (Binary Bits64 Add) x y)
 added_law (Words b) (Words c) x y hd hs = general_law Bits64 Add (Words b) (Words c) x y hd hs
 added_law (Pointer area low high) (Words c) x y hd hs = moved_on_law area low high c x y hd hs
 added_law (Words b) (Pointer area low high) x y hd hs =
     let turned : y + x ≡ x + y = omega arith in
-    subst (λ n. Contains (added (Words b) (Pointer area low high)) (n % 2 ^ 64)) turned (moved_on_law area low high b y x hs hd)
+    subst (λ n. ContainsWord (added (Words b) (Pointer area low high)) (n % 2 ^ 64)) turned (moved_on_law area low high b y x hs hd)
 added_law (Pointer area low high) (Pointer area' low' high') x y hd hs =
     any_law ((x + y) % 2 ^ 64) (omega arith)
 
-subtracted_law : (d s : Fact) (x y : ℕ) → Contains d x → Contains s y
-    → Contains (subtracted d s) (computed (Binary Bits64 Subtract) x y)
+subtracted_law : (d s : Fact) (x y : ℕ) → ContainsWord d x → ContainsWord s y
+    → ContainsWord (subtracted d s) (computed (Binary Bits64 Subtract) x y)
 subtracted_law (Words b) (Words c) x y hd hs = general_law Bits64 Subtract (Words b) (Words c) x y hd hs
 subtracted_law (Pointer area low high) (Words c) x y hd hs = moved_back_law area low high c x y hd hs
 subtracted_law (Words b) (Pointer area low high) x y hd hs = any_law ((x + (2 ^ 64 - y)) % 2 ^ 64) (omega arith)
 subtracted_law (Pointer area low high) (Pointer area' low' high') x y hd hs =
     any_law ((x + (2 ^ 64 - y)) % 2 ^ 64) (omega arith)
 
-combined_64_law : (operation : Operation) (d s : Fact) (x y : ℕ) → Contains d x → Contains s y
-    → Contains (combined_64 operation d s) (computed (Binary Bits64 operation) x y)
+combined_64_law : (operation : Operation) (d s : Fact) (x y : ℕ) → ContainsWord d x → ContainsWord s y
+    → ContainsWord (combined_64 operation d s) (computed (Binary Bits64 operation) x y)
 combined_64_law Add d s x y hd hs = added_law d s x y hd hs
 combined_64_law Subtract d s x y hd hs = subtracted_law d s x y hd hs
 combined_64_law Move d s x y hd hs = hs
@@ -96,8 +95,8 @@ combined_64_law SignedModulo d s x y hd hs = general_law Bits64 SignedModulo d s
 combined_64_law Xor d s x y hd hs = general_law Bits64 Xor d s x y hd hs
 combined_64_law ArithmeticShift d s x y hd hs = general_law Bits64 ArithmeticShift d s x y hd hs
 
-combined_of_law : (w : Width) (operation : Operation) (d s : Fact) (x y : ℕ) → Contains d x → Contains s y
-    → Contains (combined_of w operation d s) (computed (Binary w operation) x y)
+combined_of_law : (w : Width) (operation : Operation) (d s : Fact) (x y : ℕ) → ContainsWord d x → ContainsWord s y
+    → ContainsWord (combined_of w operation d s) (computed (Binary w operation) x y)
 combined_of_law Bits32 operation d s x y hd hs = general_law Bits32 operation d s x y hd hs
 combined_of_law Bits64 operation d s x y hd hs = combined_64_law operation d s x y hd hs
 
@@ -150,8 +149,8 @@ swapped_law Reverse size x h = reversed_law size x h
 
 -- ---- all
 
-estimated_law : (a : Arithmetic) (d s : Fact) (x y : ℕ) → Contains d x → Contains s y
-    → Contains (estimated a d s) (computed a x y)
+estimated_law : (a : Arithmetic) (d s : Fact) (x y : ℕ) → ContainsWord d x → ContainsWord s y
+    → ContainsWord (estimated a d s) (computed a x y)
 estimated_law (Binary w operation) d s x y hd hs = combined_of_law w operation d s x y hd hs
 estimated_law (Negate w) d s x y hd hs = (negated_law w x, computed_fits (Negate w) x y (is_word d x hd) (is_word s y hs))
 estimated_law (MoveSigned extension) d s x y hd hs = (
@@ -161,17 +160,17 @@ estimated_law (MoveSigned extension) d s x y hd hs = (
 estimated_law (SwapBytes swap size) d s x y hd hs =
     (swapped_law swap size x (is_word d x hd), computed_fits (SwapBytes swap size) x y (is_word d x hd) (is_word s y hs))
 
-is_known_word : (f : Fact) (x : ℕ) → Contains f x → is_known f ≡ true → x ≡ (bounds_of f).low
+is_known_word : (f : Fact) (x : ℕ) → ContainsWord f x → is_known f ≡ true → x ≡ (bounds_of f).low
 is_known_word f x is one = known (bounds_of f) x (bounds_law f x is) one
 
 -- where each operand is known, the machine's word is that of the bounds
-both_known : (a : Arithmetic) (d s : Fact) (x y : ℕ) → Contains d x → Contains s y → (is_known d && is_known s) ≡ true
+both_known : (a : Arithmetic) (d s : Fact) (x y : ℕ) → ContainsWord d x → ContainsWord s y → (is_known d && is_known s) ≡ true
     → computed a x y ≡ computed a (bounds_of d).low (bounds_of s).low
 both_known a d s x y hd hs are =
     let both = and_parts (is_known d) (is_known s) are in
     rw (is_known_word d x hd both.0, is_known_word s y hs both.1)
 
-known_law : (a : Arithmetic) (d s : Fact) (x y : ℕ) → Contains d x → Contains s y → are_known a d s ≡ true
+known_law : (a : Arithmetic) (d s : Fact) (x y : ℕ) → ContainsWord d x → ContainsWord s y → are_known a d s ≡ true
     → computed a x y ≡ computed a (bounds_of d).low (bounds_of s).low
 known_law (Binary w Move) d s x y hd hs are = ap (low_bits w) (is_known_word s y hs are)
 known_law (Binary w Add) d s x y hd hs are = both_known (Binary w Add) d s x y hd hs are
@@ -191,12 +190,12 @@ known_law (Negate w) d s x y hd hs are = ap (λ n. computed (Negate w) n 0) (is_
 known_law (MoveSigned extension) d s x y hd hs are = ap (extended extension) (is_known_word s y hs are)
 known_law (SwapBytes swap size) d s x y hd hs are = ap (reordered swap size) (is_known_word d x hd are)
 
-pub alu_law : (a : Arithmetic) (d s : Fact) (x y : ℕ) → Contains d x → Contains s y
-    → Contains (alu_of a d s) (computed a x y)
+pub alu_law : (a : Arithmetic) (d s : Fact) (x y : ℕ) → ContainsWord d x → ContainsWord s y
+    → ContainsWord (alu_of a d s) (computed a x y)
 alu_law a d s x y hd hs =
     either_fact (are_known a d s) _ _ (computed a x y)
     (λ are.
     let is = known_law a d s x y hd hs are in
     let fits = computed_fits a x y (is_word d x hd) (is_word s y hs) in
-    subst (λ n. Contains (Words (single n)) (computed a x y)) is (constant_law (computed a x y) fits))
+    subst (λ n. ContainsWord (Words (single n)) (computed a x y)) is (constant_law (computed a x y) fits))
     (λ _. estimated_law a d s x y hd hs)

@@ -8,7 +8,7 @@ use Rattle.interp.specs.Word.{is_taken}
 use Rattle.reg_domain.specs.Fact.{IsFact, is_single, range}
 use Rattle.reg_domain.specs.declared.fact.Bounds.{Bounds}
 use Rattle.reg_domain.specs.declared.fact.Fact.{Fact}
-use Rattle.reg_domain.specs.declared.fact.Fact.TheVariants.{Words, Pointer}
+use Rattle.reg_domain.specs.declared.fact.Fact.TheVariants.{Words}
 
 abbrev pub OrderedPair : Bounds × Bounds → Type 0
 OrderedPair both = (both.0.low ≤ both.0.high) × (both.1.low ≤ both.1.high)

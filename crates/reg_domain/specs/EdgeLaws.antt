@@ -1,8 +1,7 @@
 -- Words that belong to two facts, and between which a relation holds, belong to what its edge keeps.
-use Rattle.std.proofs.Common.{ℕ, ℤ, ◌≡◌, ◌≢◌, ◌+◌, ◌-◌, ◌%◌, ◌^◌, ◌<◌, ◌≤◌, Bool, true, false, cond, not, min, max, Option, Some, None, inl, inr, refl, sym, ap, subst, arith}
+use Rattle.std.proofs.Common.{ℕ, ℤ, ◌≡◌, ◌≢◌, ◌+◌, ◌-◌, ◌^◌, ◌<◌, ◌≤◌, Bool, true, false, not, min, max, Option, Some, None, inl, inr, refl, subst, arith}
 use Rattle.std.proofs.lemmas.Bool.{cond_both, ltb-true, ltb-false, leb-true, leb-false, eqb-true, eqb-false, and_parts, or_cases, or_parts, not-true, not-false}
-use Rattle.std.proofs.lemmas.Bool.Decides.{nat_tests}
-use Rattle.std.specs.Prelude.{◌==◌, ◌&&◌, ◌||◌, nat_lt, nat_le}
+use Rattle.std.specs.Prelude.{◌==◌, ◌&&◌, ◌||◌}
 use Rattle.ebpf_decode.specs.declared.operation.Relation.{Relation}
 use Rattle.ebpf_decode.specs.declared.operation.Relation.TheVariants.{Equal, Greater, GreaterOrEqual, AnyBitSet, NotEqual, SignedGreater, SignedGreaterOrEqual, Less, LessOrEqual, SignedLess, SignedLessOrEqual}
 use Rattle.ebpf_decode.specs.declared.operation.Width.{Width}
@@ -11,7 +10,7 @@ use Rattle.interp.specs.Word.{is_taken, low_bits, relates, signed}
 use Rattle.reg_domain.specs.NumberLaws.{mod_below_is}
 use Rattle.reg_domain.specs.Domain.{BelongAfter}
 use Rattle.reg_domain.specs.Edge.{agrees, as_facts, at_most, different, edge_of, equal, exchanged, fits, is_empty, less, narrowed, refine_of, refine_words, without}
-use Rattle.reg_domain.specs.Fact.{Contains, IsWithin, is_single, range}
+use Rattle.reg_domain.specs.Fact.{ContainsWord, IsWithin, is_single, range}
 use Rattle.reg_domain.specs.declared.fact.Bounds.{Bounds}
 use Rattle.reg_domain.specs.declared.fact.Fact.{Fact}
 use Rattle.reg_domain.specs.declared.fact.Fact.TheVariants.{Words, Pointer}
@@ -91,7 +90,7 @@ narrowed_law SignedLess taken d s x y a b hd hs is = (hd, hs)
 narrowed_law SignedLessOrEqual taken d s x y a b hd hs is = (hd, hs)
 
 as_facts_law : (o : Option (Bounds × Bounds)) (x y : ℕ) → x < 2 ^ 64 → y < 2 ^ 64 → Keeps x y o
-    → BelongAfter Contains x y (as_facts o)
+    → BelongAfter ContainsWord x y (as_facts o)
 as_facts_law None x y fx fy kept = kept
 as_facts_law (Some both) x y fx fy kept = ((kept.0, fx), (kept.1, fy))
 
@@ -105,24 +104,24 @@ agreed false true is = cc
 agreed false false is = refl
 
 refine_words_law : (width : Width) (relation : Relation) (taken : Bool) (d s : Bounds) (same : Bool) (x y : ℕ)
-    → Contains (Words d) x → Contains (Words s) y → is_taken width relation x y ≡ taken
-    → BelongAfter Contains x y (refine_words width relation taken d s same)
+    → ContainsWord (Words d) x → ContainsWord (Words s) y → is_taken width relation x y ≡ taken
+    → BelongAfter ContainsWord x y (refine_words width relation taken d s same)
 refine_words_law width relation taken d s same x y hd hs is =
-    cond_both (is_single d && is_single s) _ _ (BelongAfter Contains x y)
+    cond_both (is_single d && is_single s) _ _ (BelongAfter ContainsWord x y)
     (λ single.
     let both = and_parts (is_single d) (is_single s) single in
     let first = eqb-true d.low d.high both.0 in
     let second = eqb-true s.low s.high both.1 in
     let dst : x ≡ d.low = omega arith in
     let source : y ≡ s.low = omega arith in
-    cond_both (agrees taken (is_taken width relation d.low s.low)) _ _ (BelongAfter Contains x y)
+    cond_both (agrees taken (is_taken width relation d.low s.low)) _ _ (BelongAfter ContainsWord x y)
     (λ _. (hd, hs))
     (λ disagrees.
     let agree : agrees taken (is_taken width relation d.low s.low) ≡ true =
     subst (λ n. agrees taken (is_taken width relation d.low n) ≡ true) source
     (subst (λ n. agrees taken (is_taken width relation n y) ≡ true) dst (agreed taken (is_taken width relation x y) is)) in
     (cc)))
-    (λ _. cond_both (same || not (fits width d) || not (fits width s)) _ _ (BelongAfter Contains x y)
+    (λ _. cond_both (same || not (fits width d) || not (fits width s)) _ _ (BelongAfter ContainsWord x y)
     (λ _. (hd, hs))
     (λ fit.
     let first = or_parts (same || not (fits width d)) (not (fits width s)) fit in
@@ -136,8 +135,8 @@ refine_words_law width relation taken d s same x y hd hs is =
     (narrowed_law relation taken d s x y (signed width (low_bits width x)) (signed width (low_bits width y)) hd.0 hs.0 related)))
 
 pub refine_law : (width : Width) (relation : Relation) (taken : Bool) (d s : Fact) (same : Bool) (x y : ℕ)
-    → Contains d x → Contains s y → is_taken width relation x y ≡ taken
-    → BelongAfter Contains x y (refine_of width relation taken d s same)
+    → ContainsWord d x → ContainsWord s y → is_taken width relation x y ≡ taken
+    → BelongAfter ContainsWord x y (refine_of width relation taken d s same)
 refine_law width relation taken (Words d) (Words s) same x y hd hs is = refine_words_law width relation taken d s same x y hd hs is
 refine_law width relation taken (Words d) (Pointer area low high) same x y hd hs is = (hd, hs)
 refine_law width relation taken (Pointer area low high) (Words s) same x y hd hs is = (hd, hs)

@@ -1,5 +1,5 @@
 -- Facts about a word, and what belongs to them (profile).
-use Rattle.std.specs.Prelude.{ℕ, ℤ, Bool, true, false, Option, Some, None, pos, ◌≡◌, ◌<◌, ◌≤◌, ◌-◌, ◌^◌, ◌+ℤ◌, ◌-ℤ◌, ◌≤ℤ◌, ◌==◌, ◌&&◌, int_le, min, max, if◌then◌else◌}
+use Rattle.std.specs.Prelude.{ℕ, ℤ, Bool, Option, Some, None, pos, ◌<◌, ◌≤◌, ◌-◌, ◌^◌, ◌+ℤ◌, ◌-ℤ◌, ◌≤ℤ◌, ◌==◌, ◌&&◌, int_le, min, max, if◌then◌else◌}
 use Rattle.std.specs.Int.{int_min, int_max}
 use Rattle.std.specs.Ordering.{int_eq}
 use Rattle.ebpf_decode.specs.declared.operation.SignedSize.{SignedSize}
@@ -17,9 +17,9 @@ IsWithin b n = (b.low ≤ n) × (n ≤ b.high)
 
 -- the words that belong to a fact: those within the bounds; those whose distance from the area's
 -- address is within the bounds
-abbrev pub Contains : Fact → ℕ → Type 0
-Contains (Words b) w = IsWithin b w × (w < 2 ^ 64)
-Contains (Pointer area low high) w =
+abbrev pub ContainsWord : Fact → ℕ → Type 0
+ContainsWord (Words b) w = IsWithin b w × (w < 2 ^ 64)
+ContainsWord (Pointer area low high) w =
     (low ≤ℤ (pos w -ℤ pos (address_of area))) × ((pos w -ℤ pos (address_of area)) ≤ℤ high) × (w < 2 ^ 64)
 
 -- how far from its area a pointer is known, either way

@@ -1,11 +1,10 @@
 -- What belongs to facts.
-use Rattle.std.proofs.Common.{ℕ, ℤ, pos, ◌≡◌, ◌+◌, ◌-◌, ◌%◌, ◌^◌, ◌<◌, ◌≤◌, ◌+ℤ◌, ◌-ℤ◌, Bool, true, false, cond, Option, Some, None, refl, sym, ap, subst, arith, min, max}
-use Rattle.std.proofs.lemmas.Bool.{cond_both, eqb-true, and_parts, and_from, le-leb}
-use Rattle.std.proofs.lemmas.Bool.Decides.{nat_tests}
+use Rattle.std.proofs.Common.{ℕ, ℤ, pos, ◌≡◌, ◌^◌, ◌<◌, ◌-ℤ◌, Bool, true, false, cond, arith}
+use Rattle.std.proofs.lemmas.Bool.{cond_both, eqb-true}
 use Rattle.std.proofs.lemmas.Int.{ints}
 use Rattle.std.specs.Int.{int_min, int_max}
 use Rattle.std.specs.Ordering.{int_eq}
-use Rattle.std.specs.Prelude.{◌==◌, ◌&&◌, ◌≤ℤ◌, int_le}
+use Rattle.std.specs.Prelude.{◌==◌, ◌≤ℤ◌}
 use Rattle.ebpf_decode.specs.declared.operation.SignedSize.{SignedSize}
 use Rattle.ebpf_decode.specs.declared.operation.SignedSize.TheVariants as signed
 use Rattle.ebpf_decode.specs.declared.operation.SignExtension.TheVariants.{Bits8To64, Bits16To64, Bits32To64}
@@ -14,44 +13,41 @@ use Rattle.ebpf_decode.specs.declared.operation.Size.TheVariants.{Byte, HalfWord
 use Rattle.interp.proofs.WordLemmas.{extended_fits}
 use Rattle.interp.specs.Effect.{sign_extended}
 use Rattle.interp.specs.Memory.{address_of, size_of}
-use Rattle.interp.specs.declared.memory.Area.{Area}
-use Rattle.interp.specs.declared.memory.Area.TheVariants.{Context, Block, Stack, Scratch}
-use Rattle.reg_domain.specs.Fact.{Contains, IsWithin, bounds_of, farthest, full, is_single, join_of, loaded_of, loaded_signed_of, pointer_to, range, single, widened}
-use Rattle.reg_domain.specs.declared.fact.Bounds.{Bounds}
+use Rattle.reg_domain.specs.Fact.{ContainsWord, IsWithin, bounds_of, full, is_single, join_of, loaded_of, loaded_signed_of, single, widened}
 use Rattle.reg_domain.specs.declared.fact.Fact.{Fact}
 use Rattle.reg_domain.specs.declared.fact.Fact.TheVariants.{Words, Pointer}
 
-pub is_word : (f : Fact) (w : ℕ) → Contains f w → w < 2 ^ 64
+pub is_word : (f : Fact) (w : ℕ) → ContainsWord f w → w < 2 ^ 64
 is_word (Words b) w is = is.1
 is_word (Pointer area low high) w is = is.2
 
-pub any_law : (w : ℕ) → w < 2 ^ 64 → Contains (Words full) w
+pub any_law : (w : ℕ) → w < 2 ^ 64 → ContainsWord (Words full) w
 any_law w fits = ((omega arith, omega arith), fits)
 
-pub constant_law : (w : ℕ) → w < 2 ^ 64 → Contains (Words (single w)) w
+pub constant_law : (w : ℕ) → w < 2 ^ 64 → ContainsWord (Words (single w)) w
 constant_law w fits = ((omega arith, omega arith), fits)
 
 -- a fact that a test chooses is right where both are
-pub either_fact : (test : Bool) (f g : Fact) (w : ℕ) → (test ≡ true → Contains f w) → (test ≡ false → Contains g w)
-    → Contains (cond test f g) w
-either_fact test f g w when unless = cond_both test f g (λ chosen. Contains chosen w) when unless
+pub either_fact : (test : Bool) (f g : Fact) (w : ℕ) → (test ≡ true → ContainsWord f w) → (test ≡ false → ContainsWord g w)
+    → ContainsWord (cond test f g) w
+either_fact test f g w when unless = cond_both test f g (λ chosen. ContainsWord chosen w) when unless
 
-pub bounds_law : (f : Fact) (w : ℕ) → Contains f w → IsWithin (bounds_of f) w
+pub bounds_law : (f : Fact) (w : ℕ) → ContainsWord f w → IsWithin (bounds_of f) w
 bounds_law (Words b) w is = is.0
 bounds_law (Pointer area low high) w is = (omega arith, omega arith)
 
-pub loaded_law : (size : Size) (n : ℕ) → n < 256 ^ size_of size → Contains (loaded_of size) n
+pub loaded_law : (size : Size) (n : ℕ) → n < 256 ^ size_of size → ContainsWord (loaded_of size) n
 loaded_law Byte n h = ((omega arith, omega arith), omega arith)
 loaded_law HalfWord n h = ((omega arith, omega arith), omega arith)
 loaded_law Word n h = ((omega arith, omega arith), omega arith)
 loaded_law DoubleWord n h = ((omega arith, omega arith), omega arith)
 
-pub loaded_signed_law : (size : SignedSize) (n : ℕ) → Contains (loaded_signed_of size) (sign_extended size n)
+pub loaded_signed_law : (size : SignedSize) (n : ℕ) → ContainsWord (loaded_signed_of size) (sign_extended size n)
 loaded_signed_law signed.Byte n = any_law (sign_extended signed.Byte n) (extended_fits Bits8To64 n)
 loaded_signed_law signed.HalfWord n = any_law (sign_extended signed.HalfWord n) (extended_fits Bits16To64 n)
 loaded_signed_law signed.Word n = any_law (sign_extended signed.Word n) (extended_fits Bits32To64 n)
 
-pub widened_law : (f : Fact) (w : ℕ) → Contains f w → Contains (widened f) w
+pub widened_law : (f : Fact) (w : ℕ) → ContainsWord f w → ContainsWord (widened f) w
 widened_law (Words b) w is = either_fact (is_single b) _ _ w (λ _. is) (λ _. any_law w is.1)
 widened_law (Pointer area low high) w is = either_fact (int_eq low high) _ _ w (λ _. is) (λ _. any_law w is.2)
 
@@ -64,7 +60,7 @@ same_address a b w low high low' high' same least most =
     let e = eqb-true a b same in
     (grind (arith, ints), grind (arith, ints))
 
-pub join_first : (f g : Fact) (w : ℕ) → Contains f w → Contains (join_of f g) w
+pub join_first : (f g : Fact) (w : ℕ) → ContainsWord f w → ContainsWord (join_of f g) w
 join_first (Words b) (Words c) w is = ((omega arith, omega arith), is.1)
 join_first (Words b) (Pointer area low high) w is = any_law w is.1
 join_first (Pointer area low high) (Words b) w is = any_law w is.2
@@ -73,7 +69,7 @@ join_first (Pointer area low high) (Pointer area' low' high') w is =
     (λ _. (grind (arith, ints), grind (arith, ints), is.2))
     (λ _. any_law w is.2)
 
-pub join_second : (f g : Fact) (w : ℕ) → Contains g w → Contains (join_of f g) w
+pub join_second : (f g : Fact) (w : ℕ) → ContainsWord g w → ContainsWord (join_of f g) w
 join_second (Words b) (Words c) w is = ((omega arith, omega arith), is.1)
 join_second (Words b) (Pointer area low high) w is = any_law w is.2
 join_second (Pointer area low high) (Words b) w is = any_law w is.1

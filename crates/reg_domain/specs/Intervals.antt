@@ -7,7 +7,7 @@ use Rattle.reg_domain.specs.PointerLaws.{access_law, pointer_law}
 use Rattle.reg_domain.specs.Arithmetic.{alu_of}
 use Rattle.reg_domain.specs.Domain.{Operations, IsSound}
 use Rattle.reg_domain.specs.Edge.{refine_of}
-use Rattle.reg_domain.specs.Fact.{Contains, access_of, bounds_of, full, join_of, loaded_of, loaded_signed_of, pointer_to, single}
+use Rattle.reg_domain.specs.Fact.{ContainsWord, access_of, bounds_of, full, join_of, loaded_of, loaded_signed_of, pointer_to, single}
 use Rattle.reg_domain.specs.declared.fact.Fact.{Fact}
 use Rattle.reg_domain.specs.declared.fact.Fact.TheVariants.{Words}
 
@@ -25,7 +25,7 @@ intervals = record {
   bounds = bounds_of;
 }
 
-pub intervals_sound : IsSound Contains intervals
+pub intervals_sound : IsSound ContainsWord intervals
 intervals_sound = record {
   constant = constant_law;
   any = any_law;

@@ -1,18 +1,15 @@
 -- Pointers: where they lead, moved by words, and which bytes they reach.
-use Rattle.std.proofs.Common.{ℕ, ℤ, suc, pos, negsuc, ◌≡◌, ◌+◌, ◌-◌, ◌%◌, ◌^◌, ◌<◌, ◌≤◌, ◌+ℤ◌, ◌-ℤ◌, Bool, true, false, cond, Option, Some, None, inl, inr, refl, sym, ap, subst, arith}
+use Rattle.std.proofs.Common.{ℕ, ℤ, suc, pos, negsuc, ◌≡◌, ◌+◌, ◌-◌, ◌%◌, ◌^◌, ◌<◌, ◌≤◌, ◌+ℤ◌, ◌-ℤ◌, Bool, true, false, cond, Some, None, inl, inr, refl, subst, arith}
 use Rattle.std.proofs.lemmas.Bool.{cond_both, and_parts, and_from, le-leb, le-ltb, or_cases, ltb-true, leb-true}
-use Rattle.std.proofs.lemmas.Bool.Decides.{nat_tests}
 use Rattle.std.proofs.lemmas.Int.{ints}
 use Rattle.std.specs.Int.{w64, cast_signed, cast_unsigned}
 use Rattle.std.specs.Prelude.{◌&&◌, ◌||◌, ◌≤ℤ◌, int_le, nat_lt, nat_le}
-use Rattle.ebpf_decode.specs.declared.operation.Width.TheVariants.{Bits64}
 use Rattle.interp.specs.Memory.{address_of, length_of, lies_in}
-use Rattle.interp.specs.Word.{signed}
 use Rattle.interp.specs.declared.memory.Area.{Area}
 use Rattle.interp.specs.declared.memory.Area.TheVariants.{Context, Block, Stack, Scratch}
 use Rattle.reg_domain.specs.FactLaws.{any_law, either_fact}
 use Rattle.reg_domain.specs.Arithmetic.{moved_back, moved_on, signed_bounds}
-use Rattle.reg_domain.specs.Fact.{Contains, IsWithin, access_of, farthest, full, pointer_to}
+use Rattle.reg_domain.specs.Fact.{ContainsWord, access_of, farthest, pointer_to}
 use Rattle.reg_domain.specs.declared.fact.Bounds.{Bounds}
 use Rattle.reg_domain.specs.declared.fact.Fact.{Fact}
 use Rattle.reg_domain.specs.declared.fact.Fact.TheVariants.{Words, Pointer}
@@ -34,7 +31,7 @@ int_le-true a b h = grind (arith, ints)
 pub pointer_to_law : (area : Area) (low high : ℤ) (w : ℕ) → w < 2 ^ 64
     → ((pos 0 -ℤ farthest) ≤ℤ low → high ≤ℤ farthest
     → (low ≤ℤ (pos w -ℤ pos (address_of area))) × ((pos w -ℤ pos (address_of area)) ≤ℤ high))
-    → Contains (pointer_to area low high) w
+    → ContainsWord (pointer_to area low high) w
 pointer_to_law area low high w fits between =
     either_fact (int_le (pos 0 -ℤ farthest) low && int_le high farthest) _ _ w
     (λ near.
@@ -44,7 +41,7 @@ pointer_to_law area low high w fits between =
     (λ _. any_law w fits)
 
 pub pointer_law : (area : Area) (k : ℕ) → address_of area + k < 2 ^ 64
-    → Contains (pointer_to area (pos k) (pos k)) (address_of area + k)
+    → ContainsWord (pointer_to area (pos k) (pos k)) (address_of area + k)
 pointer_law area k fits =
     pointer_to_law area (pos k) (pos k) (address_of area + k) fits (λ _ _. (omega (arith, ints), omega (arith, ints)))
 
@@ -94,11 +91,11 @@ back_negative address x y least most low high far fits small from to from' to' n
 mod_word : (n : ℕ) → n % 2 ^ 64 < 2 ^ 64
 mod_word n = omega arith
 
-pub moved_on_law : (area : Area) (low high : ℤ) (b : Bounds) (x y : ℕ) → Contains (Pointer area low high) x
-    → Contains (Words b) y → Contains (moved_on area low high (signed_bounds b)) ((x + y) % 2 ^ 64)
+pub moved_on_law : (area : Area) (low high : ℤ) (b : Bounds) (x y : ℕ) → ContainsWord (Pointer area low high) x
+    → ContainsWord (Words b) y → ContainsWord (moved_on area low high (signed_bounds b)) ((x + y) % 2 ^ 64)
 moved_on_law area low high b x y hx hy =
     let n = (x + y) % 2 ^ 64 in
-    cond_both (nat_lt b.high (2 ^ 63) || nat_le (2 ^ 63) b.low) _ _ (λ by. Contains (moved_on area low high by) n)
+    cond_both (nat_lt b.high (2 ^ 63) || nat_le (2 ^ 63) b.low) _ _ (λ by. ContainsWord (moved_on area low high by) n)
     (λ one_sign. pointer_to_law area (low +ℤ cast_signed w64 b.low) (high +ℤ cast_signed w64 b.high) n (mod_word (x + y))
     (λ least most. elim (or_cases (nat_lt b.high (2 ^ 63)) (nat_le (2 ^ 63) b.low) one_sign) [
       | inl positive ↦ on_positive (address_of area) x y b.low b.high low high (far_in area) hx.2 hx.0 hx.1 hy.0.0 hy.0.1 (ltb-true b.high (2 ^ 63) positive) most
@@ -106,11 +103,11 @@ moved_on_law area low high b x y hx hy =
     ]))
     (λ _. any_law n (mod_word (x + y)))
 
-pub moved_back_law : (area : Area) (low high : ℤ) (b : Bounds) (x y : ℕ) → Contains (Pointer area low high) x
-    → Contains (Words b) y → Contains (moved_back area low high (signed_bounds b)) ((x + (2 ^ 64 - y)) % 2 ^ 64)
+pub moved_back_law : (area : Area) (low high : ℤ) (b : Bounds) (x y : ℕ) → ContainsWord (Pointer area low high) x
+    → ContainsWord (Words b) y → ContainsWord (moved_back area low high (signed_bounds b)) ((x + (2 ^ 64 - y)) % 2 ^ 64)
 moved_back_law area low high b x y hx hy =
     let n = (x + (2 ^ 64 - y)) % 2 ^ 64 in
-    cond_both (nat_lt b.high (2 ^ 63) || nat_le (2 ^ 63) b.low) _ _ (λ by. Contains (moved_back area low high by) n)
+    cond_both (nat_lt b.high (2 ^ 63) || nat_le (2 ^ 63) b.low) _ _ (λ by. ContainsWord (moved_back area low high by) n)
     (λ one_sign. pointer_to_law area (low -ℤ cast_signed w64 b.high) (high -ℤ cast_signed w64 b.low) n (mod_word (x + (2 ^ 64 - y)))
     (λ least most. elim (or_cases (nat_lt b.high (2 ^ 63)) (nat_le (2 ^ 63) b.low) one_sign) [
       | inl positive ↦ back_positive (address_of area) x y b.low b.high low high (far_in area) hx.2 hx.0 hx.1 hy.0.0 hy.0.1 (ltb-true b.high (2 ^ 63) positive) least
@@ -140,7 +137,7 @@ some_area {test = true} e = (refl, (cc))
 some_area {test = false} e = (cc)
 
 pub access_law : (block : ℕ) (f : Fact) (offset : ℤ) (size : ℕ) (area : Area) (w : ℕ) → block < 2 ^ 32
-    → access_of block f offset size ≡ Some area → Contains f w
+    → access_of block f offset size ≡ Some area → ContainsWord f w
     → lies_in block area ((w + cast_unsigned w64 offset) % 2 ^ 64) size ≡ true
 access_law block (Words b) offset size area w fits told is = cc
 access_law block (Pointer area' low high) offset size area w fits told is =

@@ -1,18 +1,14 @@
 -- What an operation makes of numbers within bounds is within the bounds that its rule gives.
-use Rattle.std.proofs.Common.{ℕ, ℤ, pos, ◌≡◌, ◌+◌, ◌-◌, ◌*◌, ◌/◌, ◌%◌, ◌^◌, ◌<◌, ◌≤◌, ◌∙◌, min, Bool, true, false, cond, refl, sym, ap, subst, arith}
+use Rattle.std.proofs.Common.{ℕ, pos, ◌≡◌, ◌+◌, ◌-◌, ◌*◌, ◌/◌, ◌%◌, ◌^◌, ◌<◌, ◌≤◌, min, Bool, true, false, cond, sym, subst, arith}
 use Rattle.std.proofs.Math.Nat.{div-le_self, mod-le}
-use Rattle.std.proofs.lemmas.Bool.{cond_both, ltb-true, ltb-false, leb-true, leb-false, eqb-true, eqb-false, and_parts}
-use Rattle.std.proofs.lemmas.Bool.Decides.{nat_tests}
-use Rattle.std.proofs.lemmas.Int.{to_z_pos}
+use Rattle.std.proofs.lemmas.Bool.{cond_both, ltb-true, leb-true, eqb-true, eqb-false, and_parts}
 use Rattle.std.proofs.lemmas.Nat.{and_le_l, and_le_r, mod_below, mul-le, or_lt, xor_lt, pow_pos, shr_le}
-use Rattle.std.specs.Int.{w32, w64}
 use Rattle.std.specs.Prelude.{◌==◌, ◌&&◌, nat_lt, nat_le, bit_and, bit_or, bit_xor}
 use Rattle.std.proofs.Math.Pow.{shr_mono}
 use Rattle.ebpf_decode.specs.declared.operation.Operation.{Operation}
 use Rattle.ebpf_decode.specs.declared.operation.Operation.TheVariants.{Add, Subtract, Multiply, Divide, SignedDivide, Or, And, LeftShift, RightShift, Modulo, SignedModulo, Xor, Move, ArithmeticShift}
 use Rattle.ebpf_decode.specs.declared.operation.Width.{Width}
-use Rattle.ebpf_decode.specs.declared.operation.Width.TheVariants.{Bits32, Bits64}
-use Rattle.interp.specs.Word.{bits, count, result_of, signed, unsigned}
+use Rattle.interp.specs.Word.{bits, count, result_of, signed}
 use Rattle.reg_domain.specs.NumberLaws.{mod_below_is, quotient_grows, wraps_once}
 use Rattle.reg_domain.specs.SignedLaws.{signed_is, signed_quotient_fits, signed_remainder_fits, arithmetic_shift_fits}
 use Rattle.reg_domain.specs.Fact.{IsWithin, is_single, range, single}

@@ -1,5 +1,5 @@
 -- The bits of what signed arithmetic gives fit the width.
-use Rattle.std.proofs.Common.{ℕ, ℤ, zero, suc, pos, negsuc, ◌+◌, ◌-◌, ◌*◌, ◌/◌, ◌%◌, ◌^◌, ◌<◌, ◌≤◌, cond, arith}
+use Rattle.std.proofs.Common.{ℕ, ℤ, zero, suc, pos, negsuc, ◌/◌, ◌^◌, ◌<◌, ◌≤◌, arith}
 use Rattle.std.proofs.Math.Nat.{div-le_self}
 use Rattle.std.proofs.lemmas.Bool.{cond_both}
 use Rattle.std.proofs.lemmas.Int.{to_z_pos}
@@ -10,7 +10,7 @@ use lib.Signed.{mag, mag_rem, mag_shr}
 use Rattle.ebpf_decode.specs.declared.operation.Operation.TheVariants.{SignedDivide, SignedModulo, ArithmeticShift}
 use Rattle.ebpf_decode.specs.declared.operation.Width.{Width}
 use Rattle.ebpf_decode.specs.declared.operation.Width.TheVariants.{Bits32, Bits64}
-use Rattle.interp.specs.Word.{bits, count, result_of, signed, unsigned}
+use Rattle.interp.specs.Word.{count, result_of, signed, unsigned}
 use Rattle.reg_domain.specs.Range.{half, limit}
 
 -- a number below the half is its own signed value

@@ -30,10 +30,10 @@ impl Model for Constants {
 }
 
 impl Domain for Constants {
-    ghost use Rattle.reg_domain.specs.Fact.{Contains};
+    ghost use Rattle.reg_domain.specs.Fact.{ContainsWord};
     ghost use Rattle.reg_domain.specs.Constants.{constants, constants_sound};
 
-    ghost contains = { Contains };
+    ghost contains = { ContainsWord };
 
     ghost operations = { constants };
 

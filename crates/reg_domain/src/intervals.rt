@@ -30,10 +30,10 @@ impl Model for Intervals {
 }
 
 impl Domain for Intervals {
-    ghost use Rattle.reg_domain.specs.Fact.{Contains};
+    ghost use Rattle.reg_domain.specs.Fact.{ContainsWord};
     ghost use Rattle.reg_domain.specs.Intervals.{intervals, intervals_sound};
 
-    ghost contains = { Contains };
+    ghost contains = { ContainsWord };
 
     ghost operations = { intervals };
 

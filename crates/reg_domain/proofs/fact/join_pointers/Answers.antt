@@ -1,5 +1,5 @@
 -- The least and the greatest of 32-bit numbers are such numbers, and in order.
-use Rattle.std.proofs.Common.{arith, ◌≡◌, ◌≤ℤ◌}
+use Rattle.std.proofs.Common.{arith}
 use Rattle.std.proofs.lemmas.Int.{clamps, ints, to_z-of_z}
 use Rattle.reg_domain.proofs.fact.join_pointers.Goals as goal
 
