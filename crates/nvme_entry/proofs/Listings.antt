@@ -137,8 +137,8 @@ listed-begins option first size zones output =
       few = omega arith;
       number = omega (arith, ap (λ (n : ℕ). length (taken option (enumerate_from n zones))) same);
       bytes =
-        ap (λ (n : ℕ). listed size (length output - 0) (taken option (enumerate_from n zones))) same
-        ∙ ap (λ (n : ℕ). listed size n (taken option (enumerate_from first zones))) long;
+          ap (λ (n : ℕ). listed size (length output - 0) (taken option (enumerate_from n zones))) same
+          ∙ ap (λ (n : ℕ). listed size n (taken option (enumerate_from first zones))) long;
     }
 
 pub listed-not : (option : ZoneFilter) (first size : ℕ) (zones : List ZoneRecord) (start output : List ℕ) (index found at : ℕ) (zone : ZoneRecord)
@@ -169,9 +169,9 @@ listed-next option first size zones start output new index found at place lowest
       few = omega (arith, has.few);
       number = omega (arith, has.number, longer);
       bytes =
-        step-more (descriptor_at size) (first + index, zone) rest output new at place (length-descriptor zone ((first + index) * size)) same_length
-        (λ h. ((fits h).0, (fits h).1 ∙ ap (λ (n : ℕ). take at output ++ descriptor zone n) is_lowest)) full
-        ∙ (ap (λ (zs : List (ℕ × ZoneRecord)). take at output ++ listed size (length output - at) zs) (sym next) ∙ has.bytes);
+          step-more (descriptor_at size) (first + index, zone) rest output new at place (length-descriptor zone ((first + index) * size)) same_length
+          (λ h. ((fits h).0, (fits h).1 ∙ ap (λ (n : ℕ). take at output ++ descriptor zone n) is_lowest)) full
+          ∙ (ap (λ (zs : List (ℕ × ZoneRecord)). take at output ++ listed size (length output - at) zs) (sym next) ∙ has.bytes);
     }
 
 -- behind the last zone nothing is left to list

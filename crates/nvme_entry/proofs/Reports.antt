@@ -148,13 +148,13 @@ tells bytes partial size found given long few parts same_length =
     record {
       number = ap number_in parts ∙ (number-in-header number (whole f (bytes - 64) found) small ∙ sym (told partial room found));
       descriptors =
-        ap (λ (ys : List ℕ). pieces (min room (length found)) ys) back
-        ∙ (ap (λ (k : ℕ). pieces k (flat_map f shown ++ zeros)) (sym count)
-        ∙ (pieces-flat f (length-each size) shown zeros ∙ ap (λ (zs : List (ℕ × ZoneRecord)). map f zs) (sym (take_min room found))));
+          ap (λ (ys : List ℕ). pieces (min room (length found)) ys) back
+          ∙ (ap (λ (k : ℕ). pieces k (flat_map f shown ++ zeros)) (sym count)
+          ∙ (pieces-flat f (length-each size) shown zeros ∙ ap (λ (zs : List (ℕ × ZoneRecord)). map f zs) (sym (take_min room found))));
       rest =
-        sym (drop-drop (64 * min room (length found)) 64 given)
-        ∙ (ap (λ (ys : List ℕ). drop (64 * min room (length found)) ys) back
-        ∙ (drop_at (flat_map f shown) zeros (64 * min room (length found)) size_shown ∙ ap (λ (k : ℕ). replicate k 0) left));
+          sym (drop-drop (64 * min room (length found)) 64 given)
+          ∙ (ap (λ (ys : List ℕ). drop (64 * min room (length found)) ys) back
+          ∙ (drop_at (flat_map f shown) zeros (64 * min room (length found)) size_shown ∙ ap (λ (k : ℕ). replicate k 0) left));
     }
 
 pub gives_what_matches : GivesWhatMatches
@@ -181,9 +181,10 @@ lists_every_zone bytes zones size partial room few =
     let enough : length zones ≤ (bytes - 64) / 64 = le-div (length zones) (bytes - 64) 64 (omega arith) (omega arith) in
     let shown : min ((bytes - 64) / 64) (length found) ≡ length zones = omega arith in
     let told_all = (gives_what_matches bytes zones 0 size All partial (omega arith) few).1 in
-    let whole_list : take (length zones) found ≡ enumerate_from 0 zones = take_all (length zones) found (omega arith) ∙ all in
-    (same_number partial (min ((bytes - 64) / 64) (length found)) (length found) (number_in given) (shown ∙ sym count) told_all.number ∙ count,
-     ap (λ (k : ℕ). descriptors_in k given) (sym shown)
-     ∙ (told_all.descriptors
-     ∙ (ap (λ (k : ℕ). map (descriptor_at size) (take k found)) shown
-     ∙ ap (λ (zs : List (ℕ × ZoneRecord)). map (descriptor_at size) zs) whole_list)))
+    let whole_list : take (length zones) found ≡ enumerate_from 0 zones = take_all (length zones) found (omega arith) ∙ all in (
+      same_number partial (min ((bytes - 64) / 64) (length found)) (length found) (number_in given) (shown ∙ sym count) told_all.number ∙ count,
+      ap (λ (k : ℕ). descriptors_in k given) (sym shown)
+          ∙ (told_all.descriptors
+          ∙ (ap (λ (k : ℕ). map (descriptor_at size) (take k found)) shown
+          ∙ ap (λ (zs : List (ℕ × ZoneRecord)). map (descriptor_at size) zs) whole_list)),
+    )

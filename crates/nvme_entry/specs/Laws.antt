@@ -36,8 +36,8 @@ GivesWhatMatches =
     (bytes : ℕ) (zones : List ZoneRecord) (first size : ℕ) (option : ZoneFilter) (partial : Bool)
     → 64 ≤ bytes → length zones < 2 ^ 64
     → let given = report bytes zones first size option partial in
-      let found = matching zones first option in
-      (length given ≡ bytes) × Tells given partial size (min ((bytes - 64) / 64) (length found)) found
+    let found = matching zones first option in
+    (length given ≡ bytes) × Tells given partial size (min ((bytes - 64) / 64) (length found)) found
 
 -- A report of all zones from the first on, with room for all, lists every zone once, in order, and
 -- tells their number.
@@ -46,5 +46,5 @@ ListsEveryZone =
     (bytes : ℕ) (zones : List ZoneRecord) (size : ℕ) (partial : Bool)
     → 64 + 64 * length zones ≤ bytes → length zones < 2 ^ 64
     → let given = report bytes zones 0 size All partial in
-      (number_in given ≡ length zones)
-      × (descriptors_in (length zones) given ≡ map (descriptor_at size) (enumerate_from 0 zones))
+    (number_in given ≡ length zones)
+    × (descriptors_in (length zones) given ≡ map (descriptor_at size) (enumerate_from 0 zones))

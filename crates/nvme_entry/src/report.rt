@@ -44,7 +44,13 @@ impl Report<'_> {
         let start = output.len().min(HEADER_BYTES);
         let room = (output.len() - start) / DESCRIPTOR_BYTES;
         let zones = zones_from(self.zones, self.first);
-        let found = list(zones, self.first, self.size, self.filter, &mut output[start..]);
+        let found = list(
+            zones,
+            self.first,
+            self.size,
+            self.filter,
+            &mut output[start..],
+        );
         write_header(output, number_told(self.partial, room, found));
     }
 }

@@ -95,7 +95,10 @@ fn reports_are_refused(rt: HostRuntime) {
         entry(&[(0, 0x7A), (1, 1), (13, 0x0800)]),
     ];
     for bytes in cases {
-        assert_eq!(rt; Entry::decode(&bytes), Err(Status::INVALID_FIELD_IN_COMMAND));
+        assert_eq!(rt;
+            Entry::decode(&bytes),
+            Err(Status::INVALID_FIELD_IN_COMMAND)
+        );
     }
 }
 
@@ -184,13 +187,19 @@ fn reports_have_their_bytes(rt: HostRuntime) -> Result<(), Fail> {
     };
     let mut output = [0xFF; 160];
     report.write(&mut output);
-    assert_eq!(rt; output, zeros_but(&[(0, 1), (64, 0x02), (65, 0x10), (72, 6)]));
+    assert_eq!(rt;
+        output,
+        zeros_but(&[(0, 1), (64, 0x02), (65, 0x10), (72, 6)])
+    );
     let all = Report {
         partial: false,
         ..report
     };
     all.write(&mut output);
-    assert_eq!(rt; output, zeros_but(&[(0, 4), (64, 0x02), (65, 0x10), (72, 6)]));
+    assert_eq!(rt;
+        output,
+        zeros_but(&[(0, 4), (64, 0x02), (65, 0x10), (72, 6)])
+    );
     Ok(())
 }
 
