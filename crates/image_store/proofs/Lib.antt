@@ -3,3 +3,16 @@ pub mod Zones
 pub mod Images
 pub mod States
 pub mod Sound
+pub mod Sinks
+pub mod Texts
+pub mod Answered
+pub mod Fills
+pub mod Records
+pub mod SlotsRead
+pub mod Headers
+pub mod HeaderTests
+pub mod Faults
+pub mod Loads
+pub mod Again
+pub mod Spelled
+pub mod Only

@@ -1,9 +1,10 @@
 -- The shape of a namespace.
-use Rattle.std.specs.Prelude.{ℕ, Bool, ◌≤◌, ◌*◌, ◌/◌, ◌%◌, ◌==◌, ◌&&◌, ◌||◌, nat_le, nat_lt, List, [], ◌∷◌, Option, Some, None, Result, Ok, Err, if◌then◌else◌}
+use Rattle.std.specs.Prelude.{ℕ, Bool, true, ◌≡◌, ◌≤◌, ◌*◌, ◌/◌, ◌%◌, ◌==◌, ◌&&◌, ◌||◌, nat_le, nat_lt, List, [], ◌∷◌, Option, Some, None, Result, if◌then◌else◌}
 use Rattle.zone_resources.specs.declared.admission.Limits.{Limits}
 use Rattle.image_store.specs.declared.geometry.Place.{Place}
 use Rattle.image_store.specs.declared.geometry.GeometryFault.{GeometryFault}
 use Rattle.image_store.specs.declared.geometry.GeometryFault.TheVariants.{BlockSize, ZoneCount, ZoneSize, ZoneCapacity, ResourceLimits, TooLarge}
+use Rattle.image_store.specs.Checks.{demand, first_fault, unless_fault}
 
 -- bytes of a block, number of zones, blocks of a zone (zone size), how many of these can be written
 -- (zone capacity; ZNS 1.1, 2.1.1), and how many zones may be open and active (ZNS 1.1, Zone Resources)
@@ -35,17 +36,6 @@ number_of ZoneCapacity = 4
 number_of ResourceLimits = 5
 number_of TooLarge = 6
 
-abbrev pub or_else : Option GeometryFault → Option GeometryFault → Option GeometryFault
-or_else None next = next
-or_else (Some fault) next = Some fault
-
-abbrev pub demand : Bool → GeometryFault → Option GeometryFault
-demand test fault = if test then None else Some fault
-
-abbrev pub first_fault : List (Option GeometryFault) → Option GeometryFault
-first_fault [] = None
-first_fault (check ∷ checks) = or_else check (first_fault checks)
-
 -- the limits of a shape, in the order of the tests (profile)
 abbrev pub shape_checks : Shape → List (Option GeometryFault)
 shape_checks s =
@@ -60,16 +50,13 @@ shape_checks s =
 abbrev pub shape_of : ℕ → ℕ → ℕ → ℕ → Limits → Shape
 shape_of block zones size capacity limits = record { block = block; zones = zones; size = size; capacity = capacity; limits = limits }
 
-abbrev pub unless_fault : Option GeometryFault → Shape → Result Shape GeometryFault
-unless_fault None s = Ok s
-unless_fault (Some fault) s = Err fault
-
 -- the shape, or the first test that it fails
 abbrev pub tested : Shape → Result Shape GeometryFault
 tested s = unless_fault (first_fault (shape_checks s)) s
 
 -- what holds of each shape that is accepted
 pub record IsShape (s : Shape) : Type 0 where
+  pub block_size : is_block_size s.block ≡ true
   pub block_some : 512 ≤ s.block
   pub block_most : s.block ≤ 4096
   pub zones_some : 1 ≤ s.zones

@@ -1,4 +1,11 @@
 pub mod Blocks
+pub mod Checks
+pub mod Device
+pub mod Fault
 pub mod Flat
 pub mod Geometry
+pub mod Laws
+pub mod Loading
 pub mod Namespace
+pub mod Reading
+pub mod Text

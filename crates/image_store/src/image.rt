@@ -1,14 +1,21 @@
 //! The image.
 
-ghost use Rattle.std.specs.Prelude.{◌≡◌, ◌≤◌, ◌<◌, ◌+◌, ◌*◌, length, replicate, IfOk, map, take, drop, Ok};
+ghost use Rattle.std.specs.Prelude.{◌≡◌, ◌≤◌, ◌<◌, ◌+◌, ◌-◌, ◌*◌, ◌^◌, length, replicate, IfOk, IsOk, map, take, drop, Ok};
+ghost use Rattle.zone_resources.specs.Admission.{IsWithin};
 ghost use Rattle.zone_resources.specs.Counts.{counts_of};
 ghost use Rattle.zone_state.specs.Zone.{refusal, IsZone};
 ghost use Rattle.image_store.specs.Geometry.{IsShape};
 ghost use Rattle.image_store.specs.Blocks.{block_count, bytes_of};
+ghost use Rattle.image_store.specs.Device.{Takes, CountsFailure};
+ghost use Rattle.image_store.specs.Loading.{Gives, CountsLoad};
+ghost use Rattle.image_store.specs.Reading.{header_in, namespace_in};
+ghost use Rattle.image_store.specs.Text.{text};
 ghost use Rattle.image_store.specs.Namespace.{appended, in_zone_state, cleared, counted, zone_at, all_empty, shape, block_at, IsWritten, IsNamespace};
 
+use crate::device::{Sink, Source};
+use crate::fault::{LoadFault, SaveFault};
 use crate::geometry::Geometry;
-use crate::slots;
+use crate::{load, save, slots};
 use std::alloc::{AllocError, Global};
 use std::marker::Model;
 use zone_resources::Counts;
@@ -49,6 +56,41 @@ impl Image {
             counts,
             blocks: vec![in alloc; 0; geometry.room()]?,
         })
+    }
+
+    /// The image whose text comes from a source. Reading stops at the first fault.
+    ///
+    /// # Errors
+    ///
+    /// The first fault of the text from the left, or [`LoadFault::Device`] where the source fails, or
+    /// [`LoadFault::Memory`] where memory is refused: for the records once the header is accepted,
+    /// and for the blocks once the records are.
+    pub fn load<R: Source>(alloc: Global, source: &mut R) -> Result<Image, LoadFault>
+        requires { R.failures source.old < 2 ^ 64 - 1 }
+        ensures image { R.tells → Gives (IsOk (header_in (R.rest source.old))) (λ image. image) result (namespace_in (R.rest source.old)) }
+        ensures within { IfOk result (λ image. IsWithin (map (counted image.capacity) image.zones) image.limits) }
+        ensures failures { CountsLoad (R.failures source.old) (R.failures source.new) result }
+    {
+        let (geometry, zones, blocks) = load::load(alloc, source)?;
+        Ok(Image {
+            geometry,
+            counts: Counts::of(&zones),
+            zones,
+            blocks,
+        })
+    }
+
+    /// Hands the image's text to a sink.
+    ///
+    /// # Errors
+    ///
+    /// [`SaveFault::Device`] where the sink fails, which then has a beginning of the text.
+    pub fn save<W: Sink>(&self, sink: &mut W) -> Result<(), SaveFault>
+        requires { W.failures sink.old < 2 ^ 64 - 1 }
+        ensures text { W.tells → Takes (W.taken sink.old) (W.taken sink.new) (text self.now) result }
+        ensures failures { CountsFailure (W.failures sink.old) (W.failures sink.new) result }
+    {
+        save::save(self.geometry, &self.zones, &self.blocks, sink)
     }
 
     /// The shape of the image's namespace.

@@ -1,11 +1,25 @@
 //! A namespace's zones and the blocks written in them, over one flat vector of bytes.
 #![tactic(auto)]
 
+mod bytes;
+mod device;
+mod fault;
 mod geometry;
+mod header;
 mod image;
+pub mod laws;
+mod load;
+mod memory;
+mod record;
+mod save;
 mod slots;
+#[cfg(test)]
+mod tests;
 
+pub use device::{DeviceFault, Sink, Source};
+pub use fault::{LoadFault, SaveFault};
 pub use geometry::{Geometry, GeometryFault, Place};
 pub use image::Image;
+pub use memory::Buffer;
 pub use zone_resources::{Counts, Limits};
 pub use zone_state::{Status, Zone, ZoneState};

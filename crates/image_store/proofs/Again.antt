@@ -1,0 +1,127 @@
+-- The text of a namespace is read as that namespace.
+use Rattle.std.proofs.Common.{◌≡◌, ℕ, ◌*◌, ◌^◌, ◌<◌, zero, suc, Bool, true, cond, List, [], ◌∷◌, ◌++◌, length, get_or, map, drop, Some, Result, Ok, Err, refl, ap, sym, subst, ◌∙◌, append_assoc, arith, length-append}
+use Rattle.std.proofs.lemmas.Bool.{le-leb, lt-ltb}
+use Rattle.std.proofs.lemmas.List.{append-nil, take_at, drop_at, length-map}
+use Rattle.std.proofs.Math.Nat.{suc-mul}
+use Rattle.zone_state.specs.declared.state.ZoneState.{ZoneState}
+use Rattle.zone_state.specs.declared.state.ZoneState.TheVariants.{Empty, ImplicitlyOpened, ExplicitlyOpened, Closed, ReadOnly, Full, Offline}
+use Rattle.zone_state.specs.State.{code_of, state_of}
+use Rattle.zone_state.specs.Zone.{ZoneRecord, IsZone}
+use Rattle.zone_resources.specs.Admission.{IsWithin}
+use Rattle.zone_resources.specs.Counts.{open_count, active_count}
+use Rattle.zone_resources.specs.declared.admission.Limits.{Limits}
+use Rattle.image_store.specs.declared.fault.LoadFault.{LoadFault}
+use Rattle.image_store.specs.declared.fault.LoadFault.TheVariants as fault
+use Rattle.image_store.specs.Blocks.{blocks_of, bytes_of}
+use Rattle.image_store.specs.Flat.{no_record, zone_seen}
+use Rattle.image_store.specs.Geometry.{Shape}
+use Rattle.image_store.specs.Namespace.{ZoneBlocks, ZonedNamespace, no_zone, counted, shape, IsNamespace}
+use Rattle.image_store.specs.Reading.{◌>>=◌, allows, zone_with, zone_in, zones_in, records_in, limits_kept, blocks_in, end_in, namespace_with, namespace_in}
+use Rattle.image_store.specs.Text.{record_text, records_text, blocks_text, text}
+use Rattle.image_store.proofs.Fills.{Split, bytes_whole}
+use Rattle.image_store.proofs.Headers.{word_again, header_read}
+use Rattle.image_store.proofs.Images.{within_capacity}
+
+-- the table of states as a test
+pub allows_true : (state : ZoneState) (written capacity : ℕ) → IsZone state written capacity → allows state written capacity ≡ true
+allows_true Empty written capacity h = rw h.1 refl
+allows_true ImplicitlyOpened written capacity h = rw (le-leb 1 written h.1.0, lt-ltb written capacity h.1.1) refl
+allows_true ExplicitlyOpened written capacity h = lt-ltb written capacity h.1
+allows_true Closed written capacity h = lt-ltb written capacity h.1
+allows_true ReadOnly written capacity h = le-leb written capacity h.1
+allows_true Full written capacity h = le-leb written capacity h.1
+allows_true Offline written capacity h = rw h.1 refl
+
+code_again : (state : ZoneState) → state_of (code_of state) ≡ Some state
+code_again Empty = refl
+code_again ImplicitlyOpened = refl
+code_again ExplicitlyOpened = refl
+code_again Closed = refl
+code_again ReadOnly = refl
+code_again Full = refl
+code_again Offline = refl
+
+-- records that can be spelled
+pub record CanSpell (capacity : ℕ) (z : ZoneRecord) : Type 0 where
+  pub same : z.capacity ≡ capacity
+  pub fits : IsZone z.state z.written capacity
+  pub small : capacity < 2 ^ 32
+
+record_again : (capacity : ℕ) (z : ZoneRecord) → CanSpell capacity z → zone_in capacity (record_text z) ≡ Ok z
+record_again capacity z can =
+    let most = within_capacity z.state z.written capacity can.fits in
+    let small = can.small in
+    let number = word_again z.written [] (omega arith) in
+    ap (λ (n : ℕ). zone_with (state_of (code_of z.state)) n capacity) number
+    ∙ (ap (λ state. zone_with state z.written capacity) (code_again z.state)
+    ∙ (ap (λ (test : Bool). let r : Result ZoneRecord LoadFault = cond test (Ok (record { state = z.state; written = z.written; capacity = capacity })) (Err fault.ZoneRecord) in r) (allows_true z.state z.written capacity can.fits)
+    ∙ ap (λ (n : ℕ). let same : ZoneRecord = record { state = z.state; written = z.written; capacity = n } in let r : Result ZoneRecord LoadFault = Ok same in r) (sym can.same)))
+
+records_again : (capacity : ℕ) (zs : List ZoneRecord) → ((k : ℕ) → k < length zs → CanSpell capacity (get_or zs k no_record)) → zones_in capacity (length zs) (records_text zs) ≡ Ok zs
+records_again capacity [] can = refl
+records_again capacity (z ∷ zs) can =
+    ap (λ (r : Result ZoneRecord LoadFault). r >>= λ first. zones_in capacity (length zs) (records_text zs) >>= λ more. Ok (first ∷ more)) (record_again capacity z (can 0 (omega arith)))
+    ∙ ap (λ (r : Result (List ZoneRecord) LoadFault). r >>= λ more. Ok (z ∷ more)) (records_again capacity zs (λ k h. can (suc k) (omega arith)))
+
+pub length-records : (zs : List ZoneRecord) → length (records_text zs) ≡ length zs * 8
+length-records [] = refl
+length-records (z ∷ zs) = omega (arith, length-records zs, suc-mul (length zs) 8, length-append (record_text z) (records_text zs))
+
+pub records_read : (s : Shape) (zs : List ZoneRecord) (rest : List ℕ) → length zs ≡ s.zones → ((k : ℕ) → k < length zs → CanSpell s.capacity (get_or zs k no_record))
+    → records_in s (records_text zs ++ rest) ≡ Ok (zs, rest)
+records_read s zs rest count can =
+    ap (λ (r : Result Split LoadFault). r >>= λ front. zones_in s.capacity s.zones front.0 >>= λ all. Ok (all, front.1)) (bytes_whole (s.zones * 8) (records_text zs) rest (length-records zs ∙ ap (λ (n : ℕ). n * 8) count))
+    ∙ (ap (λ (n : ℕ). zones_in s.capacity n (records_text zs) >>= λ all. Ok (all, rest)) (sym count)
+    ∙ ap (λ (r : Result (List ZoneRecord) LoadFault). r >>= λ all. Ok (all, rest)) (records_again s.capacity zs can))
+
+limits_read : (limits : Limits) (zs : List ZoneRecord) → IsWithin zs limits → limits_kept limits zs ≡ Ok tt
+limits_read limits zs within = rw (le-leb (open_count zs) limits.open_limit within.opened, le-leb (active_count zs) limits.active_limit within.active) refl
+
+-- blocks that are whole are cut from their bytes again
+blocks_again : (b : ℕ) (blocks : List (List ℕ)) → ((i : ℕ) → i < length blocks → length (get_or blocks i []) ≡ b) → blocks_of b (length blocks) (bytes_of blocks) ≡ blocks
+blocks_again b [] whole = refl
+blocks_again b (x ∷ blocks) whole =
+    let size = whole 0 (omega arith) in
+    ap (λ (front : List ℕ). front ∷ blocks_of b (length blocks) (drop b (x ++ bytes_of blocks))) (take_at x (bytes_of blocks) b size)
+    ∙ (ap (λ (back : List ℕ). x ∷ blocks_of b (length blocks) back) (drop_at x (bytes_of blocks) b size)
+    ∙ ap (λ (more : List (List ℕ)). x ∷ more) (blocks_again b blocks (λ i h. whole (suc i) (omega arith))))
+
+length-bytes : (b : ℕ) (blocks : List (List ℕ)) → ((i : ℕ) → i < length blocks → length (get_or blocks i []) ≡ b) → length (bytes_of blocks) ≡ length blocks * b
+length-bytes b [] whole = omega arith
+length-bytes b (x ∷ blocks) whole =
+    omega (arith, whole 0 (omega arith), length-bytes b blocks (λ i h. whole (suc i) (omega arith)), suc-mul (length blocks) b, length-append x (bytes_of blocks))
+
+blocks_read : (b c : ℕ) (zones : List ZoneBlocks) (rest : List ℕ) → ((z i : ℕ) → i < length (get_or zones z no_zone).blocks → length (get_or (get_or zones z no_zone).blocks i []) ≡ b)
+    → blocks_in b (map (counted c) zones) (blocks_text zones ++ rest) ≡ Ok (zones, rest)
+blocks_read b c [] rest whole = refl
+blocks_read b c (zone ∷ zones) rest whole =
+    let size = length-bytes b zone.blocks (whole 0) in
+    let parts = append_assoc (bytes_of zone.blocks) (blocks_text zones) rest in
+    ap (blocks_in b (map (counted c) (zone ∷ zones))) parts
+    ∙ (ap (λ (r : Result Split LoadFault). r >>= λ front. blocks_in b (map (counted c) zones) front.1 >>= λ more. Ok (zone_seen b (counted c zone) front.0 ∷ more.0, more.1)) (bytes_whole (length zone.blocks * b) (bytes_of zone.blocks) (blocks_text zones ++ rest) size)
+    ∙ (ap (λ (r : Result (List ZoneBlocks × List ℕ) LoadFault). r >>= λ more. Ok (zone_seen b (counted c zone) (bytes_of zone.blocks) ∷ more.0, more.1)) (blocks_read b c zones rest (λ z i h. whole (suc z) i h))
+    ∙ ap (λ (bs : List (List ℕ)). let seen : ZoneBlocks = record { state = zone.state; blocks = bs } in let r : Result (List ZoneBlocks × List ℕ) LoadFault = Ok (seen ∷ zones, rest) in r) (blocks_again b zone.blocks (whole 0))))
+
+at-counted : (c : ℕ) (zones : List ZoneBlocks) (k : ℕ) → k < length zones → get_or (map (counted c) zones) k no_record ≡ counted c (get_or zones k no_zone)
+at-counted c [] k h = absurd (omega arith)
+at-counted c (zone ∷ zones) zero h = refl
+at-counted c (zone ∷ zones) (suc k) h = at-counted c zones k (omega arith)
+
+can_spell : (ns : ZonedNamespace) → IsNamespace ns → (k : ℕ) → k < length (map (counted ns.capacity) ns.zones) → CanSpell ns.capacity (get_or (map (counted ns.capacity) ns.zones) k no_record)
+can_spell ns sound k h =
+    let there : k < length ns.zones = omega (arith, length-map ns.zones (counted ns.capacity)) in
+    let most = sound.shape.capacity_most in
+    let size = sound.shape.size_most in
+    subst (CanSpell ns.capacity) (sym (at-counted ns.capacity ns.zones k there)) (record { same = refl; fits = sound.fits k there; small = omega arith })
+
+pub text_again : (ns : ZonedNamespace) → IsNamespace ns → IsWithin (map (counted ns.capacity) ns.zones) ns.limits → namespace_in (text ns) ≡ Ok ns
+unfolding namespace_in
+text_again ns sound within =
+    let s = shape ns in
+    let zs = map (counted ns.capacity) ns.zones in
+    let last = blocks_text ns.zones in
+    let blocks : blocks_in ns.block zs last ≡ Ok (ns.zones, []) = ap (blocks_in ns.block zs) (sym (append-nil last)) ∙ blocks_read ns.block ns.capacity ns.zones [] sound.whole in
+    ap (λ (r : Result (Shape × List ℕ) LoadFault). r >>= λ h. records_in h.0 h.1 >>= λ records. limits_kept h.0.limits records.0 >>= λ kept. blocks_in h.0.block records.0 records.1 >>= λ read. end_in read.1 >>= λ end. Ok (namespace_with h.0 read.0)) (header_read s (records_text zs ++ last) sound.shape)
+    ∙ (ap (λ (r : Result (List ZoneRecord × List ℕ) LoadFault). r >>= λ records. limits_kept ns.limits records.0 >>= λ kept. blocks_in ns.block records.0 records.1 >>= λ read. end_in read.1 >>= λ end. Ok (namespace_with s read.0)) (records_read s zs last (length-map ns.zones (counted ns.capacity)) (can_spell ns sound))
+    ∙ (ap (λ (r : Result Unit LoadFault). r >>= λ kept. blocks_in ns.block zs last >>= λ read. end_in read.1 >>= λ end. Ok (namespace_with s read.0)) (limits_read ns.limits zs within)
+    ∙ ap (λ (r : Result (List ZoneBlocks × List ℕ) LoadFault). r >>= λ read. end_in read.1 >>= λ end. Ok (namespace_with s read.0)) blocks))

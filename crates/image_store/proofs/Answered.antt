@@ -1,0 +1,56 @@
+-- What calls that read answer, one after another.
+use Rattle.std.proofs.Common.{◌≡◌, Bool, true, false, cond, Result, Ok, Err, refl, ap, sym, subst}
+use Rattle.image_store.specs.declared.fault.LoadFault.{LoadFault}
+use Rattle.image_store.specs.declared.fault.LoadFault.TheVariants.{Truncated, Magic, Geometry, ZoneRecord, Limits, Trailing, Device, Memory}
+use Rattle.image_store.specs.Loading.{Fails, Gives}
+use Rattle.image_store.specs.Reading.{◌>>=◌}
+
+-- a fault of the first call is one of both
+pub fails_then : {X Y : Type 0} (wanted may : Type 0) (fault : LoadFault) (read : Result X LoadFault) (next : X → Result Y LoadFault) → (wanted → may) → Fails wanted fault read → Fails may fault (read >>= next)
+fails_then wanted may Device read next up h = tt
+fails_then wanted may Memory read next up h = up h
+fails_then wanted may Truncated read next up h = ap (λ r. r >>= next) h
+fails_then wanted may Magic read next up h = ap (λ r. r >>= next) h
+fails_then wanted may Geometry read next up h = ap (λ r. r >>= next) h
+fails_then wanted may ZoneRecord read next up h = ap (λ r. r >>= next) h
+fails_then wanted may Limits read next up h = ap (λ r. r >>= next) h
+fails_then wanted may Trailing read next up h = ap (λ r. r >>= next) h
+
+-- the second call's answer is that of both
+pub gives_then : {X Y Z : Type 0} (may : Type 0) (view : Z → Y) (result : Result Z LoadFault) (read : Result X LoadFault) (x : X) (next : X → Result Y LoadFault) → read ≡ Ok x → Gives may view result (next x) → Gives may view result (read >>= next)
+gives_then may view result read x next e h =
+    subst (λ r. Gives may view result r) (sym (ap (λ r. r >>= next) e)) h
+
+-- what never fails itself has the fault of what it follows
+pub fails_before : {X Y : Type 0} (fault : LoadFault) (read : Result X LoadFault) (f : X → Y) → Fails ⊥ fault (read >>= λ x. Ok (f x)) → Fails ⊥ fault read
+fails_before Device read f h = tt
+fails_before Memory read f h = h
+fails_before Truncated (Ok x) f h = absurd cc
+fails_before Truncated (Err first) f h = cc
+fails_before Magic (Ok x) f h = absurd cc
+fails_before Magic (Err first) f h = cc
+fails_before Geometry (Ok x) f h = absurd cc
+fails_before Geometry (Err first) f h = cc
+fails_before ZoneRecord (Ok x) f h = absurd cc
+fails_before ZoneRecord (Err first) f h = cc
+fails_before Limits (Ok x) f h = absurd cc
+fails_before Limits (Err first) f h = cc
+fails_before Trailing (Ok x) f h = absurd cc
+fails_before Trailing (Err first) f h = cc
+
+-- what succeeds has succeeded in each part
+pub bind_ok : {X Y : Type 0} (read : Result X LoadFault) (next : X → Result Y LoadFault) (y : Y) → (read >>= next) ≡ Ok y → (x : X) × (read ≡ Ok x) × (next x ≡ Ok y)
+bind_ok (Ok x) next y e = (x, refl, e)
+bind_ok (Err first) next y e = absurd cc
+
+pub ok_is : {X : Type 0} (x y : X) → (let r : Result X LoadFault = Ok x in r) ≡ Ok y → x ≡ y
+ok_is x y e = cc
+
+-- what is only where a test holds
+pub chosen : {X : Type 0} (test : Bool) (x y : X) (first : LoadFault) → cond test (Ok x) (Err first) ≡ Ok y → (test ≡ true) × (x ≡ y)
+chosen true x y first e = (refl, cc)
+chosen false x y first e = absurd cc
+
+pub passed : {X : Type 0} (test : Bool) (r : Result X LoadFault) (y : X) (first : LoadFault) → cond test r (Err first) ≡ Ok y → (test ≡ true) × (r ≡ Ok y)
+passed true r y first e = (refl, e)
+passed false r y first e = absurd cc

@@ -1,0 +1,133 @@
+-- One part of an image read after another.
+use Rattle.std.proofs.Common.{◌≡◌, ℕ, ◌<◌, ◌≤◌, zero, suc, true, List, [], ◌∷◌, length, get_or, take, drop, Option, Some, None, Result, Ok, Err, refl, ap, sym, subst, arith}
+use Rattle.std.specs.Prelude.{IfOk, IsOk, nat_le, nat_lt}
+use Rattle.std.proofs.lemmas.Bool.{leb-true, ltb-true, eqb-true, and_parts}
+use Rattle.zone_state.specs.declared.state.ZoneState.{ZoneState}
+use Rattle.zone_state.specs.declared.state.ZoneState.TheVariants.{Empty, ImplicitlyOpened, ExplicitlyOpened, Closed, ReadOnly, Full, Offline}
+use Rattle.zone_state.specs.State.{state_of}
+use Rattle.zone_state.specs.Zone.{ZoneRecord, IsZone}
+use Rattle.image_store.specs.declared.fault.LoadFault.{LoadFault}
+use Rattle.image_store.specs.declared.fault.LoadFault.TheVariants as fault
+use Rattle.image_store.specs.Flat.{no_record}
+use Rattle.image_store.specs.Geometry.{Shape, IsShape}
+use Rattle.image_store.specs.Loading.{Fails, Gives, NoDeviceFails, AreZones}
+use Rattle.image_store.specs.Namespace.{ZoneBlocks, ZonedNamespace}
+use Rattle.image_store.specs.Reading.{◌>>=◌, are_zeros, number_at, allows, bytes_in, shape_in, header_in, zone_with, zone_in, zones_in, records_in, limits_kept, blocks_in, end_in, namespace_with, namespace_in}
+use Rattle.image_store.proofs.Answered.{bind_ok, ok_is, chosen, passed, fails_then}
+use Rattle.image_store.proofs.Faults.{no_device, fails_text, header_text_fault}
+use Rattle.image_store.proofs.Fills.{Split}
+
+told : (result : Result Shape LoadFault) (front rest : List ℕ) → result ≡ shape_in front → Gives {Y = Shape × List ℕ} ⊥ (λ (s : Shape). (s, rest)) result (shape_in front >>= λ s. Ok (s, rest))
+told (Ok s) front rest e = ap (λ (r : Result Shape LoadFault). r >>= λ x. let all : Result (Shape × List ℕ) LoadFault = Ok (x, rest) in all) (sym e)
+told (Err first) front rest e =
+    fails_then ⊥ ⊥ first (shape_in front) (λ (s : Shape). let all : Result (Shape × List ℕ) LoadFault = Ok (s, rest) in all) (λ no. no)
+    (fails_text ⊥ first (shape_in front) (header_text_fault front first (sym e)) (sym e))
+
+-- the header, of 64 bytes that were read
+pub header_given : (result : Result Shape LoadFault) (front rest all : List ℕ) → bytes_in 64 all ≡ Ok (front, rest) → result ≡ shape_in front → Gives {Y = Shape × List ℕ} ⊥ (λ (s : Shape). (s, rest)) result (header_in all)
+header_given result front rest all read given =
+    let step : header_in all ≡ (shape_in front >>= λ s. Ok (s, rest)) = ap (λ (r : Result Split LoadFault). r >>= λ part. shape_in part.0 >>= λ s. Ok (s, part.1)) read in
+    subst (λ (r : Result (Shape × List ℕ) LoadFault). Gives {Y = Shape × List ℕ} ⊥ (λ (s : Shape). (s, rest)) result r) (sym step) (told result front rest given)
+
+pub header_no_device : (result : Result Shape LoadFault) (front : List ℕ) → result ≡ shape_in front → NoDeviceFails result
+header_no_device (Ok s) front e = tt
+header_no_device (Err first) front e = no_device first (header_text_fault front first (sym e))
+
+-- the test of the state table says what the table does
+allows_zone : (state : ZoneState) (written capacity : ℕ) → 1 ≤ capacity → allows state written capacity ≡ true → IsZone state written capacity
+allows_zone Empty written capacity some h = (some, eqb-true written 0 h)
+allows_zone ImplicitlyOpened written capacity some h =
+    let p = and_parts (nat_le 1 written) (nat_lt written capacity) h in
+    (some, (leb-true 1 written p.0, ltb-true written capacity p.1))
+allows_zone ExplicitlyOpened written capacity some h = (some, ltb-true written capacity h)
+allows_zone Closed written capacity some h = (some, ltb-true written capacity h)
+allows_zone ReadOnly written capacity some h = (some, leb-true written capacity h)
+allows_zone Full written capacity some h = (some, leb-true written capacity h)
+allows_zone Offline written capacity some h = (some, eqb-true written 0 h)
+
+with_fits : (told : Option ZoneState) (written capacity : ℕ) (z : ZoneRecord) → 1 ≤ capacity → zone_with told written capacity ≡ Ok z → (z.capacity ≡ capacity) × IsZone z.state z.written capacity
+with_fits None written capacity z some e = absurd cc
+with_fits (Some state) written capacity z some e =
+    let made : ZoneRecord = record { state = state; written = written; capacity = capacity } in
+    let p = chosen (allows state written capacity) made z fault.ZoneRecord e in
+    (sym (ap (λ (x : ZoneRecord). x.capacity) p.1), subst (λ (x : ZoneRecord). IsZone x.state x.written capacity) p.1 (allows_zone state written capacity some p.0))
+
+zone_fits : (capacity : ℕ) (bytes : List ℕ) (z : ZoneRecord) → 1 ≤ capacity → zone_in capacity bytes ≡ Ok z → (z.capacity ≡ capacity) × IsZone z.state z.written capacity
+zone_fits capacity bytes z some e =
+    with_fits (state_of (get_or bytes 0 0)) (number_at bytes 4) capacity z some
+    (passed (are_zeros (take 3 (drop 1 bytes))) (zone_with (state_of (get_or bytes 0 0)) (number_at bytes 4) capacity) z fault.ZoneRecord e).1
+
+-- the zones of records, as many as were wanted
+record HaveFit (capacity n : ℕ) (zs : List ZoneRecord) : Type 0 where
+  pub count : length zs ≡ n
+  pub each : (k : ℕ) → k < length zs → ((get_or zs k no_record).capacity ≡ capacity) × IsZone (get_or zs k no_record).state (get_or zs k no_record).written capacity
+
+fit_more : (capacity : ℕ) (z : ZoneRecord) (zs : List ZoneRecord) → (z.capacity ≡ capacity) × IsZone z.state z.written capacity
+    → ((k : ℕ) → k < length zs → ((get_or zs k no_record).capacity ≡ capacity) × IsZone (get_or zs k no_record).state (get_or zs k no_record).written capacity)
+    → (k : ℕ) → k < suc (length zs) → ((get_or (z ∷ zs) k no_record).capacity ≡ capacity) × IsZone (get_or (z ∷ zs) k no_record).state (get_or (z ∷ zs) k no_record).written capacity
+fit_more capacity z zs first more zero h = first
+fit_more capacity z zs first more (suc k) h = more k (omega arith)
+
+zones_fit : (capacity n : ℕ) (bytes : List ℕ) (zs : List ZoneRecord) → 1 ≤ capacity → zones_in capacity n bytes ≡ Ok zs → HaveFit capacity n zs
+zones_fit capacity zero bytes zs some e = subst (HaveFit capacity 0) (ok_is [] zs e) (record { count = refl; each = λ k h. absurd (omega arith) })
+zones_fit capacity (suc n) bytes zs some e =
+    let a = bind_ok (zone_in capacity (take 8 bytes)) (λ z. zones_in capacity n (drop 8 bytes) >>= λ more. Ok (z ∷ more)) zs e in
+    let b = bind_ok (zones_in capacity n (drop 8 bytes)) (λ more. Ok (a.0 ∷ more)) zs a.2 in
+    let first = zone_fits capacity (take 8 bytes) a.0 some a.1 in
+    let more = zones_fit capacity n (drop 8 bytes) b.0 some b.1 in
+    subst (HaveFit capacity (suc n)) (ok_is (a.0 ∷ b.0) zs b.2) (record { count = ap suc more.count; each = fit_more capacity a.0 b.0 first more.each })
+
+pub records_fit : {X : Type 0} (view : X → List ZoneRecord) (s : Shape) (result : Result X LoadFault) (bytes : List ℕ) → IsShape s
+    → Gives (Unit {0}) view result (zones_in s.capacity s.zones bytes) → IfOk result (λ x. AreZones s (view x))
+records_fit view s (Ok x) bytes known e =
+    let fit = zones_fit s.capacity s.zones bytes (view x) known.capacity_some e in
+    λ room size. record {
+      shape = known;
+      count = fit.count;
+      room = size;
+      capacities = λ k h. (fit.each k h).0;
+      fits = λ k h. (fit.each k h).1;
+    }
+records_fit view s (Err first) bytes known e = tt
+
+-- what is still to be read, after each part
+abbrev pub after_blocks : Shape → List ZoneBlocks → List ℕ → Result ZonedNamespace LoadFault
+after_blocks s zones bytes = end_in bytes >>= λ end. Ok (namespace_with s zones)
+
+abbrev pub after_limits : Shape → List ZoneRecord → List ℕ → Result ZonedNamespace LoadFault
+after_limits s zs bytes = blocks_in s.block zs bytes >>= λ blocks. after_blocks s blocks.0 blocks.1
+
+abbrev pub after_records : Shape → List ZoneRecord → List ℕ → Result ZonedNamespace LoadFault
+after_records s zs bytes = limits_kept s.limits zs >>= λ kept. after_limits s zs bytes
+
+abbrev pub after_header : Shape → List ℕ → Result ZonedNamespace LoadFault
+after_header s bytes = records_in s bytes >>= λ records. after_records s records.0 records.1
+
+pub past_header : (all rest : List ℕ) (s : Shape) → header_in all ≡ Ok (s, rest) → namespace_in all ≡ after_header s rest
+unfolding namespace_in
+past_header all rest s e = ap (λ (r : Result (Shape × List ℕ) LoadFault). r >>= λ h. after_header h.0 h.1) e
+
+pub past_records : (s : Shape) (bytes rest : List ℕ) (zs : List ZoneRecord) → records_in s bytes ≡ Ok (zs, rest) → after_header s bytes ≡ after_records s zs rest
+past_records s bytes rest zs e = ap (λ (r : Result (List ZoneRecord × List ℕ) LoadFault). r >>= λ records. after_records s records.0 records.1) e
+
+pub past_limits : (s : Shape) (zs : List ZoneRecord) (bytes : List ℕ) → limits_kept s.limits zs ≡ Ok tt → after_records s zs bytes ≡ after_limits s zs bytes
+past_limits s zs bytes e = ap (λ (r : Result Unit LoadFault). r >>= λ kept. after_limits s zs bytes) e
+
+pub past_blocks : (s : Shape) (zs : List ZoneRecord) (bytes rest : List ℕ) (zones : List ZoneBlocks) → blocks_in s.block zs bytes ≡ Ok (zones, rest) → after_limits s zs bytes ≡ after_blocks s zones rest
+past_blocks s zs bytes rest zones e = ap (λ (r : Result (List ZoneBlocks × List ℕ) LoadFault). r >>= λ blocks. after_blocks s blocks.0 blocks.1) e
+
+pub past_end : (s : Shape) (zones : List ZoneBlocks) (bytes : List ℕ) → end_in bytes ≡ Ok tt → after_blocks s zones bytes ≡ Ok (namespace_with s zones)
+past_end s zones bytes e = ap (λ (r : Result Unit LoadFault). r >>= λ end. let all : Result ZonedNamespace LoadFault = Ok (namespace_with s zones) in all) e
+
+pub header_accepted : (all rest : List ℕ) (s : Shape) → header_in all ≡ Ok (s, rest) → IsOk (header_in all)
+header_accepted all rest s e = subst (λ (r : Result (Shape × List ℕ) LoadFault). IsOk r) (sym e) refl
+
+-- a part that fails, by what was still to be read
+pub fails_at : {X : Type 0} (wanted may : Type 0) (first : LoadFault) (part : Result X LoadFault) (next : X → Result ZonedNamespace LoadFault) (all : Result ZonedNamespace LoadFault)
+    → all ≡ (part >>= next) → (wanted → may) → Fails wanted first part → Fails may first all
+fails_at wanted may first part next all so_far up h =
+    subst (λ (r : Result ZonedNamespace LoadFault). Fails may first r) (sym so_far) (fails_then wanted may first part next up h)
+
+pub header_fails : (first : LoadFault) (all : List ℕ) → Fails ⊥ first (header_in all) → Fails (IsOk (header_in all)) first (namespace_in all)
+unfolding namespace_in
+header_fails first all h = fails_then ⊥ (IsOk (header_in all)) first (header_in all) (λ x. after_header x.0 x.1) (λ no. absurd no) h

@@ -1,0 +1,196 @@
+-- What is read as a namespace is that namespace's text.
+use Rattle.std.proofs.Common.{◌≡◌, ℕ, ◌*◌, ◌<◌, ◌≤◌, zero, suc, Bool, true, false, cond, List, [], ◌∷◌, ◌++◌, length, get_or, map, take, drop, Option, Some, None, Ok, refl, ap, sym, subst, ◌∙◌, append_assoc, arith, length-drop}
+use Rattle.std.proofs.lemmas.Bool.{eqb-true}
+use Rattle.std.proofs.lemmas.List.{append-nil, drop_all, length-map, length-take-le, nil_from_length, take_all, take-append-drop}
+use Rattle.std.proofs.Math.Nat.{suc-mul}
+use Rattle.std.specs.List.{find, starts_with}
+use Rattle.std.specs.Prelude.{◌==◌, is_ok}
+use Rattle.zone_state.specs.declared.state.ZoneState.{ZoneState}
+use Rattle.zone_state.specs.State.{code_of, state_of, states}
+use Rattle.zone_state.specs.Zone.{ZoneRecord}
+use Rattle.byteorder.specs.Endian.{little_number}
+use Rattle.image_store.specs.declared.fault.LoadFault.TheVariants as fault
+use Rattle.image_store.specs.Blocks.{blocks_of, bytes_of}
+use Rattle.image_store.specs.Flat.{no_record, zone_seen}
+use Rattle.image_store.specs.Geometry.{Shape, tested}
+use Rattle.image_store.specs.Laws.{AreBytes}
+use Rattle.image_store.specs.Namespace.{ZoneBlocks, ZonedNamespace, counted, shape}
+use Rattle.image_store.specs.Reading.{◌>>=◌, are_zeros, shape_told, shape_in, header_in, allows, zone_with, zone_in, zones_in, records_in, limits_kept, blocks_in, end_in, namespace_with, namespace_in, bytes_in}
+use Rattle.image_store.specs.Text.{magic, word, header, record_text, records_text, blocks_text, text}
+use Rattle.image_store.proofs.Answered.{bind_ok, ok_is, chosen, passed}
+use Rattle.image_store.proofs.Fills.{bytes_parts, bytes_size}
+use Rattle.image_store.proofs.HeaderTests.{decide}
+use Rattle.image_store.proofs.Images.{counted_seen}
+use Rattle.image_store.proofs.Pieces.{bytes-blocks}
+use Rattle.image_store.proofs.Spelled.{word_spelled, zeros_spelled, header_spelled}
+
+front_fit : (xs ys : List ℕ) → AreBytes (xs ++ ys) → AreBytes xs
+front_fit [] ys fit i = omega arith
+front_fit (x ∷ xs) ys fit zero = fit 0
+front_fit (x ∷ xs) ys fit (suc i) = front_fit xs ys (λ k. fit (suc k)) i
+
+rest_fit : (xs ys : List ℕ) → AreBytes (xs ++ ys) → AreBytes ys
+rest_fit [] ys fit = fit
+rest_fit (x ∷ xs) ys fit = rest_fit xs ys (λ k. fit (suc k))
+
+-- the tests that a header has passed
+record Passed (a c : Bool) (told s : Shape) : Type 0 where
+  pub begins : a ≡ true
+  pub zeros : c ≡ true
+  pub same : told ≡ s
+
+decided : (a b c : Bool) (told s : Shape) → decide a b c told ≡ Ok s → Passed a c told s
+decided true true true told s e = record { begins = refl; zeros = refl; same = ok_is told s e }
+decided false b c told s e = absurd cc
+decided true false c told s e = absurd cc
+decided true true false told s e = absurd cc
+
+header_only : (bytes : List ℕ) (s : Shape) (rest : List ℕ) → AreBytes bytes → header_in bytes ≡ Ok (s, rest) → header s ++ rest ≡ bytes
+header_only bytes s rest fit e =
+    let a = bind_ok (bytes_in 64 bytes) (λ front. shape_in front.0 >>= λ told. Ok (told, front.1)) (s, rest) e in
+    let b = bind_ok (shape_in a.0.0) (λ told. Ok (told, a.0.1)) (s, rest) a.2 in
+    let parts = bytes_parts 64 bytes a.0 a.1 in
+    let size = bytes_size 64 bytes a.0 a.1 in
+    let front = front_fit a.0.0 a.0.1 (subst AreBytes (sym parts) fit) in
+    let tests = decided (starts_with (λ x y. x == y) a.0.0 magic) (is_ok (tested (shape_told a.0.0))) (are_zeros (drop 32 a.0.0)) (shape_told a.0.0) b.0 b.1 in
+    let spelled = header_spelled a.0.0 size front tests.begins tests.zeros in
+    let both = ok_is (b.0, a.0.1) (s, rest) b.2 in
+    ap (λ (x : Shape × List ℕ). header x.0 ++ x.1) (sym both)
+    ∙ (ap (λ (x : Shape). header x ++ a.0.1) (sym tests.same)
+    ∙ (ap (λ (xs : List ℕ). xs ++ a.0.1) spelled ∙ parts))
+
+some_is : (x y : ZoneState) → Some x ≡ Some y → x ≡ y
+some_is x y e = cc
+
+-- a state that is found has the code
+found : (xs : List ZoneState) (n : ℕ) (s : ZoneState) → find (λ x. code_of x == n) xs ≡ Some s → code_of s ≡ n
+found [] n s e = absurd cc
+found (x ∷ xs) n s e =
+    let P : Bool → Type 0 = λ test. (code_of x == n) ≡ test → cond test (Some x) (find (λ y. code_of y == n) xs) ≡ Some s → code_of s ≡ n in
+    elim (code_of x == n) as P [ true ↦ λ here same. ap code_of (sym (some_is x s same)) ∙ eqb-true (code_of x) n here | false ↦ λ here later. found xs n s later ] refl e
+
+zone_with_only : (told : Option ZoneState) (written capacity : ℕ) (z : ZoneRecord) → zone_with told written capacity ≡ Ok z
+    → (told ≡ Some z.state) × (z.written ≡ written) × (z.capacity ≡ capacity)
+zone_with_only None written capacity z e = absurd cc
+zone_with_only (Some state) written capacity z e =
+    let made : ZoneRecord = record { state = state; written = written; capacity = capacity } in
+    let same = (chosen (allows state written capacity) made z fault.ZoneRecord e).1 in
+    (ap (λ (x : ZoneRecord). Some x.state) same, sym (ap (λ (x : ZoneRecord). x.written) same), sym (ap (λ (x : ZoneRecord). x.capacity) same))
+
+-- a record that is read is spelled so
+record_only : (capacity : ℕ) (xs : List ℕ) (z : ZoneRecord) → length xs ≡ 8 → AreBytes xs → zone_in capacity xs ≡ Ok z → (record_text z ≡ xs) × (z.capacity ≡ capacity)
+record_only capacity [] z size fit e = absurd (omega arith)
+record_only capacity (a ∷ []) z size fit e = absurd (omega arith)
+record_only capacity (a ∷ p ∷ []) z size fit e = absurd (omega arith)
+record_only capacity (a ∷ p ∷ q ∷ []) z size fit e = absurd (omega arith)
+record_only capacity (a ∷ p ∷ q ∷ r ∷ xs) z size fit e =
+    let few : length xs ≡ 4 = omega arith in
+    let tests = passed (are_zeros (p ∷ q ∷ r ∷ [])) (zone_with (state_of a) (little_number 4 xs) capacity) z fault.ZoneRecord e in
+    let told = zone_with_only (state_of a) (little_number 4 xs) capacity z tests.1 in
+    let zeros = zeros_spelled (p ∷ q ∷ r ∷ []) tests.0 in
+    let none : drop 4 xs ≡ [] = drop_all 4 xs (omega arith) in
+    let spelled : word (little_number 4 xs) ≡ xs =
+    sym (append-nil (word (little_number 4 xs))) ∙ (ap (λ (rest : List ℕ). word (little_number 4 xs) ++ rest) (sym none)
+    ∙ word_spelled xs (omega arith) (rest_fit (a ∷ p ∷ q ∷ r ∷ []) xs fit)) in (
+      ap (λ (code : ℕ). code ∷ 0 ∷ 0 ∷ 0 ∷ word z.written) (found states a z.state told.0)
+          ∙ (ap (λ (n : ℕ). a ∷ 0 ∷ 0 ∷ 0 ∷ word n) told.1
+          ∙ (ap (λ (rest : List ℕ). a ∷ 0 ∷ 0 ∷ 0 ∷ rest) spelled
+          ∙ ap (λ (front : List ℕ). a ∷ (front ++ xs)) zeros)),
+      told.2,
+    )
+
+-- records that are read are spelled so, and there are as many as were wanted
+record AreSpelled (capacity n : ℕ) (xs : List ℕ) (zs : List ZoneRecord) : Type 0 where
+  pub spelled : records_text zs ≡ xs
+  pub count : length zs ≡ n
+  pub same : (k : ℕ) → k < length zs → (get_or zs k no_record).capacity ≡ capacity
+
+same_more : (capacity : ℕ) (z : ZoneRecord) (zs : List ZoneRecord) → z.capacity ≡ capacity → ((k : ℕ) → k < length zs → (get_or zs k no_record).capacity ≡ capacity)
+    → (k : ℕ) → k < suc (length zs) → (get_or (z ∷ zs) k no_record).capacity ≡ capacity
+same_more capacity z zs first more zero h = first
+same_more capacity z zs first more (suc k) h = more k (omega arith)
+
+zones_only : (capacity n : ℕ) (xs : List ℕ) (zs : List ZoneRecord) → length xs ≡ n * 8 → AreBytes xs → zones_in capacity n xs ≡ Ok zs → AreSpelled capacity n xs zs
+zones_only capacity zero xs zs size fit e =
+    let none : xs ≡ [] = nil_from_length xs (omega arith) in
+    let same : [] ≡ zs = ok_is [] zs e in
+    subst (AreSpelled capacity 0 xs) same (record { spelled = sym none; count = refl; same = λ k h. absurd (omega arith) })
+zones_only capacity (suc n) xs zs size fit e =
+    let a = bind_ok (zone_in capacity (take 8 xs)) (λ z. zones_in capacity n (drop 8 xs) >>= λ more. Ok (z ∷ more)) zs e in
+    let b = bind_ok (zones_in capacity n (drop 8 xs)) (λ more. Ok (a.0 ∷ more)) zs a.2 in
+    let parts = take-append-drop 8 xs in
+    let all = subst AreBytes (sym parts) fit in
+    let long : 8 ≤ length xs = omega (arith, suc-mul n 8) in
+    let first = record_only capacity (take 8 xs) a.0 (length-take-le 8 xs long) (front_fit (take 8 xs) (drop 8 xs) all) a.1 in
+    let more = zones_only capacity n (drop 8 xs) b.0 (omega (arith, length-drop 8 xs, suc-mul n 8)) (rest_fit (take 8 xs) (drop 8 xs) all) b.1 in
+    let same : a.0 ∷ b.0 ≡ zs = ok_is (a.0 ∷ b.0) zs b.2 in
+    subst (AreSpelled capacity (suc n) xs) same (record {
+      spelled = ap (λ (front : List ℕ). front ++ records_text b.0) first.0 ∙ (ap (λ (rest : List ℕ). take 8 xs ++ rest) more.spelled ∙ parts);
+      count = ap suc more.count;
+      same = same_more capacity a.0 b.0 first.1 more.same;
+    })
+
+-- blocks that are read are spelled so
+record AreWritten (capacity : ℕ) (zs : List ZoneRecord) (xs : List ℕ) (got : List ZoneBlocks × List ℕ) : Type 0 where
+  pub spelled : blocks_text got.0 ++ got.1 ≡ xs
+  pub counted : map (counted capacity) got.0 ≡ zs
+
+blocks_only : (b capacity : ℕ) (zs : List ZoneRecord) (xs : List ℕ) (got : List ZoneBlocks × List ℕ) → ((k : ℕ) → k < length zs → (get_or zs k no_record).capacity ≡ capacity)
+    → blocks_in b zs xs ≡ Ok got → AreWritten capacity zs xs got
+blocks_only b capacity [] xs got same e =
+    subst (AreWritten capacity [] xs) (ok_is ([], xs) got e) (record { spelled = refl; counted = refl })
+blocks_only b capacity (z ∷ zs) xs got same e =
+    let a = bind_ok (bytes_in (z.written * b) xs) (λ front. blocks_in b zs front.1 >>= λ rest. Ok (zone_seen b z front.0 ∷ rest.0, rest.1)) got e in
+    let c = bind_ok (blocks_in b zs a.0.1) (λ rest. Ok (zone_seen b z a.0.0 ∷ rest.0, rest.1)) got a.2 in
+    let size = bytes_size (z.written * b) xs a.0 a.1 in
+    let front : bytes_of (blocks_of b z.written a.0.0) ≡ a.0.0 = bytes-blocks b z.written a.0.0 ∙ take_all (z.written * b) a.0.0 (omega arith) in
+    let rest = blocks_only b capacity zs a.0.1 c.0 (λ k h. same (suc k) (omega arith)) c.1 in
+    subst (AreWritten capacity (z ∷ zs) xs) (ok_is (zone_seen b z a.0.0 ∷ c.0.0, c.0.1) got c.2) (record {
+      spelled = append_assoc (bytes_of (blocks_of b z.written a.0.0)) (blocks_text c.0.0) c.0.1
+          ∙ (ap (λ (first : List ℕ). first ++ (blocks_text c.0.0 ++ c.0.1)) front
+          ∙ (ap (λ (more : List ℕ). a.0.0 ++ more) rest.spelled ∙ bytes_parts (z.written * b) xs a.0 a.1));
+      counted = ap (λ (first : ZoneRecord). first ∷ map (counted capacity) c.0.0) (counted_seen b capacity z a.0.0 (same 0 (omega arith))) ∙ ap (λ (more : List ZoneRecord). z ∷ more) rest.counted;
+    })
+
+-- the shape of the namespace that is read is the one that was told
+shape_only : (s : Shape) (zs : List ZoneRecord) (zones : List ZoneBlocks) → length zs ≡ s.zones → map (counted s.capacity) zones ≡ zs → shape (namespace_with s zones) ≡ s
+shape_only s zs zones count same =
+    let size : length zones ≡ s.zones = sym (length-map zones (counted s.capacity)) ∙ (ap length same ∙ count) in
+    ap (λ (n : ℕ). let told : Shape = record { block = s.block; zones = n; size = s.size; capacity = s.capacity; limits = s.limits } in told) size
+
+pub text_only : (bytes : List ℕ) (ns : ZonedNamespace) → AreBytes bytes → namespace_in bytes ≡ Ok ns → bytes ≡ text ns
+unfolding namespace_in
+text_only bytes ns fit e =
+    let a = bind_ok (header_in bytes) (λ h. records_in h.0 h.1 >>= λ records. limits_kept h.0.limits records.0 >>= λ kept. blocks_in h.0.block records.0 records.1 >>= λ blocks. end_in blocks.1 >>= λ end. Ok (namespace_with h.0 blocks.0)) ns e in
+    let s = a.0.0 in
+    let b = bind_ok (records_in s a.0.1) (λ records. limits_kept s.limits records.0 >>= λ kept. blocks_in s.block records.0 records.1 >>= λ blocks. end_in blocks.1 >>= λ end. Ok (namespace_with s blocks.0)) ns a.2 in
+    let zs = b.0.0 in
+    let c = bind_ok (limits_kept s.limits zs) (λ kept. blocks_in s.block zs b.0.1 >>= λ blocks. end_in blocks.1 >>= λ end. Ok (namespace_with s blocks.0)) ns b.2 in
+    let d = bind_ok (blocks_in s.block zs b.0.1) (λ blocks. end_in blocks.1 >>= λ end. Ok (namespace_with s blocks.0)) ns c.2 in
+    let zones = d.0.0 in
+    let f = bind_ok (end_in d.0.1) (λ end. Ok (namespace_with s zones)) ns d.2 in
+    let ended : d.0.1 ≡ [] = nil_from_length d.0.1 (eqb-true (length d.0.1) 0 (chosen (length d.0.1 == 0) tt f.0 fault.Trailing f.1).0) in
+    let start = header_only bytes s a.0.1 fit a.1 in
+    let r = bind_ok (bytes_in (s.zones * 8) a.0.1) (λ front. zones_in s.capacity s.zones front.0 >>= λ all. Ok (all, front.1)) b.0 b.1 in
+    let q = bind_ok (zones_in s.capacity s.zones r.0.0) (λ all. Ok (all, r.0.1)) b.0 r.2 in
+    let parts = bytes_parts (s.zones * 8) a.0.1 r.0 r.1 in
+    let later = rest_fit (header s) a.0.1 (subst AreBytes (sym start) fit) in
+    let records = zones_only s.capacity s.zones r.0.0 q.0 (bytes_size (s.zones * 8) a.0.1 r.0 r.1) (front_fit r.0.0 r.0.1 (subst AreBytes (sym parts) later)) q.1 in
+    let both : (q.0, r.0.1) ≡ b.0 = ok_is (q.0, r.0.1) b.0 q.2 in
+    let zones_are : q.0 ≡ zs = ap (λ (x : List ZoneRecord × List ℕ). x.0) both in
+    let rest_is : r.0.1 ≡ b.0.1 = ap (λ (x : List ZoneRecord × List ℕ). x.1) both in
+    let count : length zs ≡ s.zones = ap length (sym zones_are) ∙ records.count in
+    let same : (k : ℕ) → k < length zs → (get_or zs k no_record).capacity ≡ s.capacity =
+    subst (λ (all : List ZoneRecord). (k : ℕ) → k < length all → (get_or all k no_record).capacity ≡ s.capacity) zones_are records.same in
+    let blocks = blocks_only s.block s.capacity zs b.0.1 d.0 same d.1 in
+    let made = ok_is (namespace_with s zones) ns f.2 in
+    sym start
+    ∙ (ap (λ (rest : List ℕ). header s ++ rest) (sym parts)
+    ∙ (ap (λ (front : List ℕ). header s ++ (front ++ r.0.1)) (sym records.spelled)
+    ∙ (ap (λ (x : List ZoneRecord × List ℕ). header s ++ (records_text x.0 ++ x.1)) both
+    ∙ (ap (λ (rest : List ℕ). header s ++ (records_text zs ++ rest)) (sym blocks.spelled)
+    ∙ (ap (λ (rest : List ℕ). header s ++ (records_text zs ++ (blocks_text zones ++ rest))) ended
+    ∙ (ap (λ (rest : List ℕ). header s ++ (records_text zs ++ rest)) (append-nil (blocks_text zones))
+    ∙ (ap (λ (all : List ZoneRecord). header s ++ (records_text all ++ blocks_text zones)) (sym blocks.counted)
+    ∙ (ap (λ (told : Shape). header told ++ (records_text (map (counted s.capacity) zones) ++ blocks_text zones)) (sym (shape_only s zs zones count blocks.counted))
+    ∙ ap text made))))))))

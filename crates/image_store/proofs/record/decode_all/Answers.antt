@@ -1,0 +1,35 @@
+use Rattle.std.proofs.Common.{◌≡◌, take, Ok, Err, ap, sym, ◌∙◌, arith}
+use Rattle.std.proofs.lemmas.Result.{err_from_is_err_and}
+use Rattle.image_store.specs.Reading.{zone_in, zones_in}
+use Rattle.image_store.proofs.Faults.{no_device, zone_text_fault}
+use Rattle.image_store.proofs.Records.{goes_on, stops, fails_free}
+use Rattle.image_store.proofs.record.decode_all.Goals as goal
+
+pub returns-in_err-decode-clause-zones : goal.returns-in_err-decode-clause-zones
+returns-in_err-decode-clause-zones c =
+    let l = c.loop in
+    let p = err_from_is_err_and c.from_residual-in_err-decode.result c.from_residual-in_err-decode.ensures.1 in
+    let fault = c.in_err-decode.field-0.0 in
+    let read : zone_in c.args.capacity (take 8 l.rest.now) ≡ Err fault = ap (zone_in c.args.capacity) (sym c.split_at.ensures.front) ∙ sym c.in_err-decode.ensures in
+    let all = stops l.zones.items c.args.capacity c.args.count l.counter l.rest.now fault (zones_in c.args.capacity c.args.count c.args.bytes.now) c.loop-test.true read l.invariant.read in
+    rw (p.1, p.2) (fails_free fault (zones_in c.args.capacity c.args.count c.args.bytes.now) all)
+
+pub loop-preserved : goal.loop-preserved
+loop-preserved c =
+    let l = c.loop in
+    let z = c.in_ok-decode.field-0 in
+    let read : zone_in c.args.capacity (take 8 l.rest.now) ≡ Ok z = ap (zone_in c.args.capacity) (sym c.split_at.ensures.front) ∙ sym c.in_ok-decode.ensures in
+    let next = goes_on l.zones.items c.args.capacity c.args.count l.counter l.rest.now z (zones_in c.args.capacity c.args.count c.args.bytes.now) c.loop-test.true read l.invariant.read in
+    let size = l.invariant.left in
+    let more = c.loop-test.true in
+    record {
+      read = rw (c.in_ok-push.ensures.items, c.split_at.ensures.back) next;
+      left = omega (arith, c.split_at.ensures.back_len);
+    }
+
+pub returns-in_err-decode-clause-no_device : goal.returns-in_err-decode-clause-no_device
+returns-in_err-decode-clause-no_device c =
+    let p = err_from_is_err_and c.from_residual-in_err-decode.result c.from_residual-in_err-decode.ensures.1 in
+    let fault = c.in_err-decode.field-0.0 in
+    let read : zone_in c.args.capacity c.split_at.result.0.now ≡ Err fault = sym c.in_err-decode.ensures in
+    rw (p.1, p.2) (no_device fault (zone_text_fault c.args.capacity c.split_at.result.0.now fault read))

@@ -1,0 +1,10 @@
+use Rattle.std.proofs.Common.{◌≡◌, ◌*◌, ◌-◌, length}
+use Rattle.image_store.specs.Reading.{zones_in}
+use Rattle.image_store.proofs.Records.{with_front}
+use Rattle.image_store.proofs.record.decode_all.Given as goal
+
+abbrev pub invariant-loop : goal.invariant-loop
+invariant-loop l = record {
+  read : with_front l.zones.items (zones_in l.capacity (l.count - l.counter) l.rest) ≡ zones_in l.capacity l.count l.bytes;
+  left : length l.rest ≡ (l.count - l.counter) * 8;
+}

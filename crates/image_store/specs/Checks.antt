@@ -1,0 +1,20 @@
+-- Ordered lists of checks: the first that fails decides.
+use Rattle.std.specs.Prelude.{Bool, List, [], ◌∷◌, Option, Some, None, Result, Ok, Err, if◌then◌else◌}
+
+-- a check that fails with this fault where the test doesn't hold
+abbrev pub demand : {F : Type 0} → Bool → F → Option F
+demand test fault = if test then None else Some fault
+
+abbrev pub or_else : {F : Type 0} → Option F → Option F → Option F
+or_else None next = next
+or_else (Some fault) next = Some fault
+
+-- the fault of the first check that fails
+abbrev pub first_fault : {F : Type 0} → List (Option F) → Option F
+first_fault [] = None
+first_fault (check ∷ checks) = or_else check (first_fault checks)
+
+-- the value, where no check fails
+abbrev pub unless_fault : {X F : Type 0} → Option F → X → Result X F
+unless_fault None x = Ok x
+unless_fault (Some fault) x = Err fault

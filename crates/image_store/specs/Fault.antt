@@ -1,0 +1,21 @@
+-- The faults of loading and saving an image.
+use Rattle.std.specs.Prelude.{ℕ}
+use Rattle.image_store.specs.declared.fault.LoadFault.{LoadFault}
+use Rattle.image_store.specs.declared.fault.LoadFault.TheVariants.{Truncated, Magic, Geometry, ZoneRecord, Limits, Trailing, Device, Memory}
+use Rattle.image_store.specs.declared.fault.SaveFault.{SaveFault}
+use Rattle.image_store.specs.declared.fault.SaveFault.TheVariants as save
+
+-- the number by which a user is told of a fault of loading (profile)
+abbrev pub load_number : LoadFault → ℕ
+load_number Truncated = 10
+load_number Magic = 11
+load_number Geometry = 12
+load_number ZoneRecord = 13
+load_number Limits = 14
+load_number Trailing = 15
+load_number Device = 16
+load_number Memory = 17
+
+-- the number by which a user is told of a fault of saving (profile)
+abbrev pub save_number : SaveFault → ℕ
+save_number save.Device = 16

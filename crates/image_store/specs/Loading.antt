@@ -1,0 +1,52 @@
+-- What a call answers that reads from a source, over what reading the source's bytes gives.
+use Rattle.std.specs.Prelude.{ℕ, ◌≡◌, ◌<◌, ◌*◌, List, length, Result, Ok, Err}
+use Rattle.zone_state.specs.Zone.{ZoneRecord}
+use Rattle.image_store.specs.declared.fault.LoadFault.{LoadFault}
+use Rattle.image_store.specs.declared.fault.LoadFault.TheVariants.{Truncated, Magic, Geometry, ZoneRecord as BadRecord, Limits, Trailing, Device, Memory}
+use Rattle.image_store.specs.Flat.{IsFlat, spliced}
+use Rattle.image_store.specs.Geometry.{Shape}
+use Rattle.image_store.specs.Reading.{◌>>=◌, bytes_in}
+
+-- The fault is the one that reading gives. A device that fails says nothing of the bytes, and memory
+-- is wanted only where this holds.
+abbrev pub Fails : {Y : Type 0} → Type 0 → LoadFault → Result Y LoadFault → Type 0
+Fails wanted Device reading = Unit {0}
+Fails wanted Memory reading = wanted
+Fails wanted Truncated reading = reading ≡ Err Truncated
+Fails wanted Magic reading = reading ≡ Err Magic
+Fails wanted Geometry reading = reading ≡ Err Geometry
+Fails wanted BadRecord reading = reading ≡ Err BadRecord
+Fails wanted Limits reading = reading ≡ Err Limits
+Fails wanted Trailing reading = reading ≡ Err Trailing
+
+-- A call whose answer is seen by view gives what reading gives, unless the device failed or memory was
+-- wanted, which is only where this holds.
+abbrev pub Gives : {X Y : Type 0} → Type 0 → (X → Y) → Result X LoadFault → Result Y LoadFault → Type 0
+Gives wanted view (Ok x) reading = reading ≡ Ok (view x)
+Gives wanted view (Err fault) reading = Fails wanted fault reading
+
+-- the count of failures grows with the fault of a device, and stays with each other fault
+abbrev pub CountsFault : ℕ → ℕ → LoadFault → Type 0
+CountsFault before after Device = before < after
+CountsFault before after _ = after ≡ before
+
+abbrev pub CountsLoad : {X : Type 0} → ℕ → ℕ → Result X LoadFault → Type 0
+CountsLoad before after (Ok x) = after ≡ before
+CountsLoad before after (Err fault) = CountsFault before after fault
+
+-- no device has failed
+abbrev pub IsNoDevice : LoadFault → Type 0
+IsNoDevice Device = ⊥
+IsNoDevice _ = Unit {0}
+
+abbrev pub NoDeviceFails : {X : Type 0} → Result X LoadFault → Type 0
+NoDeviceFails (Ok x) = Unit {0}
+NoDeviceFails (Err fault) = IsNoDevice fault
+
+-- so many bytes, put into their place among others, and the rest
+abbrev pub spliced_in : ℕ → ℕ → List ℕ → List ℕ → Result (List ℕ × List ℕ) LoadFault
+spliced_in at n others bytes = bytes_in n bytes >>= λ part. Ok (spliced at part.0 others, part.1)
+
+-- zones that fit their shape, over any bytes that have room for all blocks
+abbrev pub AreZones : Shape → List ZoneRecord → Type 0
+AreZones s zones = (bytes : List ℕ) → length bytes ≡ s.zones * (s.capacity * s.block) → IsFlat s zones bytes

@@ -1,0 +1,121 @@
+-- Reading the text of an image, version 1 (profile): the namespace that it stands for, or its first
+-- fault from the left.
+use Rattle.std.specs.Prelude.{ℕ, zero, suc, Bool, ◌*◌, ◌==◌, ◌&&◌, nat_le, nat_lt, List, [], ◌∷◌, length, get_or, take, drop, Option, Some, None, Result, Ok, Err, is_ok, if◌then◌else◌}
+use Rattle.std.specs.List.{list_all, starts_with}
+use Rattle.byteorder.specs.Endian.{little_number}
+use Rattle.zone_state.specs.declared.state.ZoneState.{ZoneState}
+use Rattle.zone_state.specs.declared.state.ZoneState.TheVariants.{Empty, ImplicitlyOpened, ExplicitlyOpened, Closed, ReadOnly, Full, Offline}
+use Rattle.zone_state.specs.State.{state_of}
+use Rattle.zone_state.specs.Zone.{ZoneRecord}
+use Rattle.zone_resources.specs.declared.admission.Limits.{Limits}
+use Rattle.zone_resources.specs.Counts.{open_count, active_count}
+use Rattle.image_store.specs.declared.fault.LoadFault.{LoadFault}
+use Rattle.image_store.specs.declared.fault.LoadFault.TheVariants as fault
+use Rattle.image_store.specs.Checks.{demand, first_fault, unless_fault}
+use Rattle.image_store.specs.Flat.{zone_seen}
+use Rattle.image_store.specs.Geometry.{Shape, shape_of, tested}
+use Rattle.image_store.specs.Namespace.{ZoneBlocks, ZonedNamespace}
+use Rattle.image_store.specs.Text.{magic}
+
+infixl 10 ◌>>=◌
+abbrev pub ◌>>=◌ : {X Y : Type 0} → Result X LoadFault → (X → Result Y LoadFault) → Result Y LoadFault
+(Ok x) >>= next = next x
+(Err first) >>= next = Err first
+
+-- so many bytes, and the rest
+abbrev pub bytes_in : ℕ → List ℕ → Result (List ℕ × List ℕ) LoadFault
+bytes_in n bytes = if nat_le n (length bytes) then Ok (take n bytes, drop n bytes) else Err fault.Truncated
+
+abbrev pub are_zeros : List ℕ → Bool
+are_zeros bytes = list_all (λ byte. byte == 0) bytes
+
+-- the 32 bits at a place
+abbrev pub number_at : List ℕ → ℕ → ℕ
+number_at bytes at = little_number 4 (drop at bytes)
+
+-- the numbers of a header, as a shape
+abbrev pub shape_told : List ℕ → Shape
+shape_told bytes =
+    shape_of (number_at bytes 8) (number_at bytes 12) (number_at bytes 16) (number_at bytes 20)
+    (record { open_limit = number_at bytes 24; active_limit = number_at bytes 28 })
+
+abbrev pub header_checks : List ℕ → List (Option LoadFault)
+header_checks bytes =
+    demand (starts_with (λ a b. a == b) bytes magic) fault.Magic
+    ∷ demand (is_ok (tested (shape_told bytes))) fault.Geometry
+    ∷ demand (are_zeros (drop 32 bytes)) fault.Geometry
+    ∷ []
+
+-- the shape that 64 bytes tell
+abbrev pub shape_in : List ℕ → Result Shape LoadFault
+shape_in bytes = unless_fault (first_fault (header_checks bytes)) (shape_told bytes)
+
+abbrev pub header_in : List ℕ → Result (Shape × List ℕ) LoadFault
+header_in bytes = bytes_in 64 bytes >>= λ front. shape_in front.0 >>= λ s. Ok (s, front.1)
+
+-- may so many blocks be written in a zone of the state? (ZNS 1.1, Zone State Machine; that an
+-- implicitly opened zone has some and an offline one none: profile)
+abbrev pub allows : ZoneState → ℕ → ℕ → Bool
+allows Empty written capacity = written == 0
+allows ImplicitlyOpened written capacity = nat_le 1 written && nat_lt written capacity
+allows ExplicitlyOpened written capacity = nat_lt written capacity
+allows Closed written capacity = nat_lt written capacity
+allows ReadOnly written capacity = nat_le written capacity
+allows Full written capacity = nat_le written capacity
+allows Offline written capacity = written == 0
+
+-- the zone of the state that a code told, if it told one
+abbrev pub zone_with : Option ZoneState → ℕ → ℕ → Result ZoneRecord LoadFault
+zone_with None written capacity = Err fault.ZoneRecord
+zone_with (Some state) written capacity =
+    if allows state written capacity
+    then Ok (record { state = state; written = written; capacity = capacity })
+    else Err fault.ZoneRecord
+
+-- the zone that 8 bytes tell
+abbrev pub zone_in : ℕ → List ℕ → Result ZoneRecord LoadFault
+zone_in capacity bytes =
+    if are_zeros (take 3 (drop 1 bytes))
+    then zone_with (state_of (get_or bytes 0 0)) (number_at bytes 4) capacity
+    else Err fault.ZoneRecord
+
+abbrev pub zones_in : ℕ → ℕ → List ℕ → Result (List ZoneRecord) LoadFault
+zones_in capacity zero bytes = Ok []
+zones_in capacity (suc n) bytes =
+    zone_in capacity (take 8 bytes) >>= λ z. zones_in capacity n (drop 8 bytes) >>= λ zs. Ok (z ∷ zs)
+
+-- the zones of records, all of which are there before any is looked at
+abbrev pub records_in : Shape → List ℕ → Result (List ZoneRecord × List ℕ) LoadFault
+records_in s bytes =
+    bytes_in (s.zones * 8) bytes >>= λ front. zones_in s.capacity s.zones front.0 >>= λ zs. Ok (zs, front.1)
+
+-- no more zones are open or active than may be
+abbrev pub limits_kept : Limits → List ZoneRecord → Result Unit LoadFault
+limits_kept limits zs =
+    if nat_le (open_count zs) limits.open_limit && nat_le (active_count zs) limits.active_limit
+    then Ok tt
+    else Err fault.Limits
+
+-- the zones with their blocks, which lie one zone's behind another's
+abbrev pub blocks_in : ℕ → List ZoneRecord → List ℕ → Result (List ZoneBlocks × List ℕ) LoadFault
+blocks_in block [] bytes = Ok ([], bytes)
+blocks_in block (z ∷ zs) bytes =
+    bytes_in (z.written * block) bytes
+    >>= λ front. blocks_in block zs front.1
+    >>= λ rest. Ok (zone_seen block z front.0 ∷ rest.0, rest.1)
+
+abbrev pub end_in : List ℕ → Result Unit LoadFault
+end_in bytes = if length bytes == 0 then Ok tt else Err fault.Trailing
+
+abbrev pub namespace_with : Shape → List ZoneBlocks → ZonedNamespace
+namespace_with s zones = record { block = s.block; size = s.size; capacity = s.capacity; limits = s.limits; zones = zones }
+
+-- the namespace that a text stands for
+unfoldable pub namespace_in : List ℕ → Result ZonedNamespace LoadFault
+namespace_in bytes =
+    header_in bytes
+    >>= λ header. records_in header.0 header.1
+    >>= λ records. limits_kept header.0.limits records.0
+    >>= λ kept. blocks_in header.0.block records.0 records.1
+    >>= λ blocks. end_in blocks.1
+    >>= λ end. Ok (namespace_with header.0 blocks.0)

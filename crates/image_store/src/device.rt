@@ -1,0 +1,74 @@
+//! The devices that an image is read from and written to. Each counts its failures.
+
+ghost use Rattle.std.specs.Prelude.{◌≡◌, ℕ, List, ◌++◌, ◌^◌, ◌<◌, ◌≤◌, ◌-◌, length, take, IfOk, OnOk, OnErr};
+ghost use Rattle.image_store.specs.Device.{IsRead};
+
+use thiserror::Error;
+
+/// A call of a device failed.
+#[derive(Clone, Copy, Debug, PartialEq, Eq, Error)]
+#[error("the device failed")]
+pub struct DeviceFault;
+
+/// What bytes come from, in pieces of any size.
+pub trait Source {
+    /// Does the source tell which bytes come from it? Over memory it does, over a file it doesn't:
+    /// then nothing is known of the bytes that come.
+    ghost tells: { Type 0 };
+
+    /// The bytes that are still to come.
+    ghost rest: { Self → List ℕ };
+
+    /// How many calls have failed.
+    ghost failures: { Self → ℕ };
+
+    /// Reads some bytes to the front of `to`, and says how many. None come only at the end, or
+    /// where `to` is empty.
+    ///
+    /// # Errors
+    ///
+    /// [`DeviceFault`] where the device fails, which is counted. No byte is lost by it.
+    fn read(&mut self, to: &mut [u8]) -> Result<usize, DeviceFault>
+        requires { failures self.old < 2 ^ 64 - 1 }
+        ensures bound { IfOk result (λ n. n ≤ length to.new) }
+        ensures read { tells → IfOk result (IsRead (rest self.old) (rest self.new) to.new) }
+        ensures kept { tells → OnErr result (rest self.new ≡ rest self.old) }
+        ensures healthy { OnOk result (failures self.new ≡ failures self.old) }
+        ensures failed { OnErr result (failures self.old < failures self.new) };
+
+    /// How many calls have failed.
+    fn failures(&self) -> u64
+        ensures { result ≡ failures self.now };
+}
+
+/// What takes bytes, in pieces of any size.
+pub trait Sink {
+    /// Does the sink tell which bytes it has taken? Over memory it does, over a file it doesn't:
+    /// then nothing is known of the bytes that it has.
+    ghost tells: { Type 0 };
+
+    /// The bytes taken so far.
+    ghost taken: { Self → List ℕ };
+
+    /// How many calls have failed.
+    ghost failures: { Self → ℕ };
+
+    /// Takes some bytes from the front of `from`, and says how many: at least one of a slice that
+    /// isn't empty.
+    ///
+    /// # Errors
+    ///
+    /// [`DeviceFault`] where the device fails, which is counted. No byte is taken then.
+    fn write(&mut self, from: &[u8]) -> Result<usize, DeviceFault>
+        requires { failures self.old < 2 ^ 64 - 1 }
+        ensures bound { IfOk result (λ n. n ≤ length from.now) }
+        ensures some { IfOk result (λ n. 1 ≤ length from.now → 1 ≤ n) }
+        ensures taken { tells → IfOk result (λ n. taken self.new ≡ taken self.old ++ take n from.now) }
+        ensures kept { tells → OnErr result (taken self.new ≡ taken self.old) }
+        ensures healthy { OnOk result (failures self.new ≡ failures self.old) }
+        ensures failed { OnErr result (failures self.old < failures self.new) };
+
+    /// How many calls have failed.
+    fn failures(&self) -> u64
+        ensures { result ≡ failures self.now };
+}

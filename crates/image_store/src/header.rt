@@ -1,0 +1,69 @@
+//! The first part of an image: that it is one, and the shape of its namespace.
+
+ghost use Rattle.std.specs.Prelude.{◌≡◌, ◌+◌, ◌≤◌, length};
+ghost use Rattle.image_store.specs.Reading.{number_at, shape_in};
+ghost use Rattle.image_store.specs.Text.{header};
+
+use crate::bytes::are_zeros;
+use crate::fault::LoadFault;
+use crate::geometry::Geometry;
+use byteorder::{ByteOrder, LittleEndian};
+use zone_resources::Limits;
+
+/// Bytes of a header.
+pub const HEADER: usize = 64;
+
+/// The first bytes of a header.
+const MAGIC: [u8; 8] = *b"ZNSIMG01";
+
+/// The header of an image of this geometry.
+pub fn encode(geometry: Geometry) -> [u8; HEADER]
+    ensures { result ≡ header geometry }
+{
+    let limits = geometry.limits();
+    let numbers = [
+        geometry.block(),
+        geometry.zones(),
+        geometry.size(),
+        geometry.capacity(),
+        limits.open_limit,
+        limits.active_limit,
+    ];
+    let mut bytes = [0; HEADER];
+    bytes[..8].copy_from_slice(&MAGIC);
+    LittleEndian::write_u32_into(&numbers, &mut bytes[8..32]);
+    bytes
+}
+
+/// The geometry that a header tells.
+pub fn decode(bytes: &[u8]) -> Result<Geometry, LoadFault>
+    requires { length bytes.now ≡ 64 }
+    ensures { result ≡ shape_in bytes.now }
+{
+    if !bytes.starts_with(&MAGIC) {
+        return Err(LoadFault::Magic);
+    }
+    let limits = Limits {
+        open_limit: number(bytes, 24),
+        active_limit: number(bytes, 28),
+    };
+    let geometry = Geometry::new(
+        number(bytes, 8),
+        number(bytes, 12),
+        number(bytes, 16),
+        number(bytes, 20),
+        limits,
+    )?;
+    if !are_zeros(&bytes[32..]) {
+        return Err(LoadFault::Geometry);
+    }
+    Ok(geometry)
+}
+
+/// The number that begins at a byte.
+fn number(bytes: &[u8], at: usize) -> u32
+    requires { at + 4 ≤ length bytes.now }
+    ensures { result ≡ number_at bytes.now at }
+{
+    LittleEndian::read_u32(&bytes[at..])
+}

@@ -1,0 +1,162 @@
+//! Loading the fields of an image.
+
+ghost use Rattle.std.specs.Prelude.{◌≡◌, ◌≤◌, ◌<◌, ◌-◌, ◌+◌, ◌*◌, ◌^◌, length, IfOk, IsOk, OnOk};
+ghost use Rattle.zone_resources.specs.Admission.{IsWithin};
+ghost use Rattle.image_store.specs.Flat.{IsFlat, namespace_of, zones_of};
+ghost use Rattle.image_store.specs.Loading.{Gives, CountsLoad, AreZones, spliced_in};
+ghost use Rattle.image_store.specs.Reading.{bytes_in, header_in, records_in, limits_kept, blocks_in, end_in, namespace_in};
+
+use crate::device::Source;
+use crate::fault::LoadFault;
+use crate::geometry::Geometry;
+use crate::{header, record};
+use std::alloc::Global;
+use zone_resources::{Counts, Limits};
+use zone_state::Zone;
+
+/// The geometry, zones and blocks of the image whose text comes from a source.
+pub fn load<R: Source>(
+    alloc: Global,
+    source: &mut R,
+) -> Result<(Geometry, Vec<Zone>, Vec<u8>), LoadFault>
+    requires { R.failures source.old < 2 ^ 64 - 1 }
+    ensures parts { R.tells → Gives (IsOk (header_in (R.rest source.old))) (λ parts. namespace_of parts.0 parts.1.items parts.2.items) result (namespace_in (R.rest source.old)) }
+    ensures flat { IfOk result (λ parts. IsFlat parts.0 parts.1.items parts.2.items) }
+    ensures within { IfOk result (λ parts. IsWithin parts.1.items parts.0.limits) }
+    ensures failures { CountsLoad (R.failures source.old) (R.failures source.new) result }
+{
+    let geometry = read_header(source)?;
+    let zones = read_records(alloc, source, geometry)?;
+    check_limits(&zones, geometry.limits())?;
+    let blocks = read_blocks(alloc, source, geometry, &zones)?;
+    read_end(source)?;
+    Ok((geometry, zones, blocks))
+}
+
+/// Reads the header.
+fn read_header<R: Source>(source: &mut R) -> Result<Geometry, LoadFault>
+    requires { R.failures source.old < 2 ^ 64 - 1 }
+    ensures header { R.tells → Gives ⊥ (λ geometry. (geometry, R.rest source.new)) result (header_in (R.rest source.old)) }
+    ensures failures { CountsLoad (R.failures source.old) (R.failures source.new) result }
+{
+    let mut bytes = [0; header::HEADER];
+    fill(source, &mut bytes)?;
+    header::decode(&bytes)
+}
+
+/// Reads the records of the zones, all of them before any is looked at.
+fn read_records<R: Source>(
+    alloc: Global,
+    source: &mut R,
+    geometry: Geometry,
+) -> Result<Vec<Zone>, LoadFault>
+    requires { R.failures source.old < 2 ^ 64 - 1 }
+    ensures records { R.tells → Gives (Unit {0}) (λ zones. (zones.items, R.rest source.new)) result (records_in geometry (R.rest source.old)) }
+    ensures fit { IfOk result (λ zones. AreZones geometry zones.items) }
+    ensures failures { CountsLoad (R.failures source.old) (R.failures source.new) result }
+{
+    let count = geometry.zones();
+    let mut bytes = vec![in alloc; 0; count as usize * record::RECORD]?;
+    fill(source, &mut bytes)?;
+    record::decode_all(alloc, &bytes, count, geometry.capacity())
+}
+
+/// Refuses zones that hold more resources than may be held.
+fn check_limits(zones: &[Zone], limits: Limits) -> Result<(), LoadFault>
+    ensures value { result ≡ limits_kept limits zones.now }
+    ensures within { OnOk result (IsWithin zones.now limits) }
+{
+    let counts = Counts::of(zones);
+    let opened = counts.opened <= limits.open_limit as usize;
+    let active = counts.active <= limits.active_limit as usize;
+    if opened && active {
+        Ok(())
+    } else {
+        Err(LoadFault::Limits)
+    }
+}
+
+/// Reads the written blocks of the zones, each straight into its place.
+fn read_blocks<R: Source>(
+    alloc: Global,
+    source: &mut R,
+    geometry: Geometry,
+    zones: &[Zone],
+) -> Result<Vec<u8>, LoadFault>
+    requires fit { AreZones geometry zones.now }
+    requires few { R.failures source.old < 2 ^ 64 - 1 }
+    ensures blocks { R.tells → Gives (Unit {0}) (λ blocks. (zones_of geometry.block geometry.capacity zones.now blocks.items, R.rest source.new)) result (blocks_in geometry.block zones.now (R.rest source.old)) }
+    ensures flat { IfOk result (λ blocks. IsFlat geometry zones.now blocks.items) }
+    ensures failures { CountsLoad (R.failures source.old) (R.failures source.new) result }
+{
+    let mut blocks = vec![in alloc; 0; geometry.room()]?;
+    fill_slots(source, geometry, zones, &mut blocks)?;
+    Ok(blocks)
+}
+
+/// Reads the written blocks of each zone into its slot.
+fn fill_slots<R: Source>(
+    source: &mut R,
+    geometry: Geometry,
+    zones: &[Zone],
+    blocks: &mut [u8],
+) -> Result<(), LoadFault>
+    requires flat { IsFlat geometry zones.now blocks.old }
+    requires few { R.failures source.old < 2 ^ 64 - 1 }
+    ensures blocks { R.tells → Gives ⊥ (λ _. (zones_of geometry.block geometry.capacity zones.now blocks.new, R.rest source.new)) result (blocks_in geometry.block zones.now (R.rest source.old)) }
+    ensures failures { CountsLoad (R.failures source.old) (R.failures source.new) result }
+{
+    let block = geometry.block() as usize;
+    let slot = geometry.slot();
+    for (number, zone) in zones.iter().enumerate() {
+        let written = zone.written() as usize * block;
+        fill_part(source, blocks, number * slot, written)?;
+    }
+    Ok(())
+}
+
+/// Reads until a part of `to` is full.
+fn fill_part<R: Source>(
+    source: &mut R,
+    to: &mut [u8],
+    start: usize,
+    count: usize,
+) -> Result<(), LoadFault>
+    requires inside { start + count ≤ length to.old }
+    requires few { R.failures source.old < 2 ^ 64 - 1 }
+    ensures bytes { R.tells → Gives ⊥ (λ _. (to.new, R.rest source.new)) result (spliced_in start count to.old (R.rest source.old)) }
+    ensures failures { CountsLoad (R.failures source.old) (R.failures source.new) result }
+{
+    fill(source, &mut to[start..start + count])
+}
+
+/// Refuses bytes that still come.
+fn read_end<R: Source>(source: &mut R) -> Result<(), LoadFault>
+    requires { R.failures source.old < 2 ^ 64 - 1 }
+    ensures end { R.tells → Gives ⊥ (λ end. end) result (end_in (R.rest source.old)) }
+    ensures failures { CountsLoad (R.failures source.old) (R.failures source.new) result }
+{
+    let mut byte = [0; 1];
+    let count = source.read(&mut byte)?;
+    if count > 0 {
+        return Err(LoadFault::Trailing);
+    }
+    Ok(())
+}
+
+/// Reads until `to` is full.
+fn fill<R: Source>(source: &mut R, to: &mut [u8]) -> Result<(), LoadFault>
+    requires { R.failures source.old < 2 ^ 64 - 1 }
+    ensures bytes { R.tells → Gives ⊥ (λ _. (to.new, R.rest source.new)) result (bytes_in (length to.old) (R.rest source.old)) }
+    ensures failures { CountsLoad (R.failures source.old) (R.failures source.new) result }
+{
+    let mut at = 0;
+    while at < to.len() {
+        let count = source.read(&mut to[at..])?;
+        if count == 0 {
+            return Err(LoadFault::Truncated);
+        }
+        at += count;
+    }
+    Ok(())
+}

@@ -1,0 +1,77 @@
+//! The records of an image's zones.
+
+ghost use Rattle.std.specs.Prelude.{◌≡◌, ◌≤◌, ◌*◌, ◌<◌, ◌^◌, length};
+ghost use Rattle.image_store.specs.Loading.{Gives, NoDeviceFails};
+ghost use Rattle.image_store.specs.Reading.{zone_in, zone_with, zones_in};
+ghost use Rattle.image_store.specs.Text.{record_text};
+
+use crate::bytes::are_zeros;
+use crate::fault::LoadFault;
+use byteorder::{ByteOrder, LittleEndian};
+use std::alloc::Global;
+use zone_state::{Zone, ZoneState};
+
+/// Bytes of a record.
+pub const RECORD: usize = 8;
+
+/// The record of a zone.
+pub fn encode(zone: Zone) -> [u8; RECORD]
+    ensures { result ≡ record_text zone }
+{
+    let mut bytes = [0; RECORD];
+    LittleEndian::write_u32(&mut bytes[4..], zone.written());
+    bytes[0] = zone.state().code();
+    bytes
+}
+
+/// The zones that records tell, each of this capacity.
+pub fn decode_all(
+    alloc: Global,
+    bytes: &[u8],
+    count: u32,
+    capacity: u32,
+) -> Result<Vec<Zone>, LoadFault>
+    requires size { length bytes.now ≡ count * 8 }
+    requires some { 1 ≤ capacity }
+    ensures zones { Gives (Unit {0}) (λ zones. zones.items) result (zones_in capacity count bytes.now) }
+    ensures no_device { NoDeviceFails result }
+{
+    let mut zones = Vec::with_capacity(alloc, count as usize)?;
+    let mut rest = bytes;
+    for _ in 0..count {
+        let (record, after) = rest.split_at(RECORD);
+        zones.push(decode(record, capacity)?)?;
+        rest = after;
+    }
+    Ok(zones)
+}
+
+/// The zone that a record tells.
+fn decode(bytes: &[u8], capacity: u32) -> Result<Zone, LoadFault>
+    requires size { length bytes.now ≡ 8 }
+    requires some { 1 ≤ capacity }
+    ensures { result ≡ zone_in capacity bytes.now }
+{
+    if !are_zeros(&bytes[1..4]) {
+        return Err(LoadFault::ZoneRecord);
+    }
+    zone_of(
+        ZoneState::from_code(bytes[0]),
+        LittleEndian::read_u32(&bytes[4..]),
+        capacity,
+    )
+}
+
+/// The zone of a state, if its code was one.
+fn zone_of(state: Option<ZoneState>, written: u32, capacity: u32) -> Result<Zone, LoadFault>
+    requires { 1 ≤ capacity }
+    ensures { result ≡ zone_with state written capacity }
+{
+    let Some(state) = state else {
+        return Err(LoadFault::ZoneRecord);
+    };
+    match Zone::new(state, written, capacity) {
+        Some(zone) => Ok(zone),
+        None => Err(LoadFault::ZoneRecord),
+    }
+}

@@ -1,0 +1,77 @@
+//! Saving the fields of an image.
+
+ghost use Rattle.std.specs.Prelude.{◌≡◌, ◌<◌, ◌-◌, ◌^◌};
+ghost use Rattle.image_store.specs.Device.{Takes, CountsFailure};
+ghost use Rattle.image_store.specs.Flat.{IsFlat, namespace_of};
+ghost use Rattle.image_store.specs.Text.{text, records_text, blocks_text};
+
+use crate::device::Sink;
+use crate::fault::SaveFault;
+use crate::geometry::Geometry;
+use crate::{header, record, slots};
+use zone_state::Zone;
+
+/// Hands the text of an image to a sink.
+pub fn save<W: Sink>(
+    geometry: Geometry,
+    zones: &[Zone],
+    blocks: &[u8],
+    sink: &mut W,
+) -> Result<(), SaveFault>
+    requires flat { IsFlat geometry zones.now blocks.now }
+    requires few { W.failures sink.old < 2 ^ 64 - 1 }
+    ensures text { W.tells → Takes (W.taken sink.old) (W.taken sink.new) (text (namespace_of geometry zones.now blocks.now)) result }
+    ensures failures { CountsFailure (W.failures sink.old) (W.failures sink.new) result }
+{
+    write_all(sink, &header::encode(geometry))?;
+    write_records(sink, zones)?;
+    write_blocks(sink, geometry, zones, blocks)
+}
+
+/// Hands the record of each zone to a sink.
+fn write_records<W: Sink>(sink: &mut W, zones: &[Zone]) -> Result<(), SaveFault>
+    requires { W.failures sink.old < 2 ^ 64 - 1 }
+    ensures text { W.tells → Takes (W.taken sink.old) (W.taken sink.new) (records_text zones.now) result }
+    ensures failures { CountsFailure (W.failures sink.old) (W.failures sink.new) result }
+{
+    for zone in zones {
+        write_all(sink, &record::encode(*zone))?;
+    }
+    Ok(())
+}
+
+/// Hands the written blocks of each zone to a sink.
+fn write_blocks<W: Sink>(
+    sink: &mut W,
+    geometry: Geometry,
+    zones: &[Zone],
+    blocks: &[u8],
+) -> Result<(), SaveFault>
+    requires flat { IsFlat geometry zones.now blocks.now }
+    requires few { W.failures sink.old < 2 ^ 64 - 1 }
+    ensures text { W.tells → Takes (W.taken sink.old) (W.taken sink.new) (blocks_text (namespace_of geometry zones.now blocks.now).zones) result }
+    ensures failures { CountsFailure (W.failures sink.old) (W.failures sink.new) result }
+{
+    for (number, zone) in zones.iter().enumerate() {
+        let written = zone.written() as usize;
+        write_all(
+            sink,
+            slots::blocks(geometry, zones, blocks, number, 0, written),
+        )?;
+    }
+    Ok(())
+}
+
+/// Hands all bytes to a sink.
+fn write_all<W: Sink>(sink: &mut W, bytes: &[u8]) -> Result<(), SaveFault>
+    requires { W.failures sink.old < 2 ^ 64 - 1 }
+    ensures text { W.tells → Takes (W.taken sink.old) (W.taken sink.new) bytes.now result }
+    ensures failures { CountsFailure (W.failures sink.old) (W.failures sink.new) result }
+{
+    let mut rest = bytes;
+    while !rest.is_empty() {
+        let count = sink.write(rest)?;
+        rest = &rest[count..];
+    }
+    Ok(())
+}

@@ -1,0 +1,291 @@
+//! What no clause says: images that were written down byte by byte, and devices that give little at
+//! a time or fail.
+
+use crate::{
+    Buffer, DeviceFault, Geometry, GeometryFault, Image, Limits, LoadFault, SaveFault, Sink, Source,
+};
+use std::alloc::{AllocError, Global};
+use std::test::Fail;
+
+/// The image of four zones, of which nothing is written: blocks of 512 bytes, eight of them in a
+/// zone, of which six can be written; two zones may be open and three active.
+const EMPTY: [u8; 96] =
+    *b"ZNSIMG01\x00\x02\x00\x00\x04\x00\x00\x00\x08\x00\x00\x00\x06\x00\x00\x00\x02\x00\x00\x00\x03\x00\x00\x00\
+\x00\x00\x00\x00\x00\x00\x00\x00\x00\x00\x00\x00\x00\x00\x00\x00\x00\x00\x00\x00\x00\x00\x00\x00\x00\x00\x00\x00\x00\x00\x00\x00\
+\x01\x00\x00\x00\x00\x00\x00\x00\x01\x00\x00\x00\x00\x00\x00\x00\x01\x00\x00\x00\x00\x00\x00\x00\x01\x00\x00\x00\x00\x00\x00\x00";
+
+fn geometry() -> Result<Geometry, GeometryFault> {
+    let limits = Limits {
+        open_limit: 2,
+        active_limit: 3,
+    };
+    Geometry::new(512, 4, 8, 6, limits)
+}
+
+/// The empty image with some bytes changed.
+fn changed(changes: &[(usize, u8)]) -> [u8; 96] {
+    let mut image = EMPTY;
+    for (at, to) in changes {
+        if let Some(byte) = image.get_mut(*at) {
+            *byte = *to;
+        }
+    }
+    image
+}
+
+/// The image whose zone 1 is implicitly opened and has one block, all of it 5a.
+fn written(alloc: Global) -> Result<Vec<u8>, AllocError> {
+    let mut text = Vec::new(alloc);
+    text.extend_from_slice(&changed(&[(72, 2), (76, 1)]))?;
+    text.extend_from_slice(&[0x5a; 512])?;
+    Ok(text)
+}
+
+fn fault_of(alloc: Global, text: &[u8]) -> Option<LoadFault> {
+    let mut source = text;
+    match Image::load(alloc, &mut source) {
+        Ok(_) => None,
+        Err(fault) => Some(fault),
+    }
+}
+
+/// The same of the front of a text.
+fn fault_of_front(alloc: Global, text: &[u8], length: usize) -> Option<LoadFault> {
+    fault_of(alloc, &text[..length.min(text.len())])
+}
+
+#[test]
+fn an_empty_image_is_its_header_and_records(rt: HostRuntime) -> Result<(), Fail> {
+    let image = Image::empty(rt.alloc(), geometry()?)?;
+    let mut sink = Buffer::new(rt.alloc());
+    image.save(&mut sink)?;
+    assert_eq!(rt; sink.bytes(), EMPTY.as_slice());
+    assert_eq!(rt; sink.failures(), 0);
+    Ok(())
+}
+
+#[test]
+fn a_saved_image_loads_again(rt: HostRuntime) -> Result<(), Fail> {
+    let text = written(rt.alloc())?;
+    assert_eq!(rt; text.len(), 608);
+    let mut source = text.as_slice();
+    let image = Image::load(rt.alloc(), &mut source)?;
+    assert_eq!(rt; image.zones().len(), 4);
+    let zone = image.zone(1);
+    assert_eq!(rt; zone.written(), 1);
+    let mut sink = Buffer::new(rt.alloc());
+    image.save(&mut sink)?;
+    assert_eq!(rt; sink.into_bytes().as_slice(), text.as_slice());
+    Ok(())
+}
+
+#[test]
+fn each_damage_has_its_fault(rt: HostRuntime) -> Result<(), Fail> {
+    assert_eq!(rt; fault_of(rt.alloc(), &EMPTY), None);
+    assert_eq!(rt;
+        fault_of(rt.alloc(), &changed(&[(0, 0)])),
+        Some(LoadFault::Magic)
+    );
+    assert_eq!(rt;
+        fault_of(rt.alloc(), &changed(&[(7, 0x32)])),
+        Some(LoadFault::Magic)
+    );
+    assert_eq!(rt;
+        fault_of(rt.alloc(), &changed(&[(8, 1)])),
+        Some(LoadFault::Geometry)
+    );
+    assert_eq!(rt;
+        fault_of(rt.alloc(), &changed(&[(32, 1)])),
+        Some(LoadFault::Geometry)
+    );
+    assert_eq!(rt;
+        fault_of(rt.alloc(), &changed(&[(63, 1)])),
+        Some(LoadFault::Geometry)
+    );
+    Ok(())
+}
+
+#[test]
+fn each_bad_record_has_its_fault(rt: HostRuntime) -> Result<(), Fail> {
+    assert_eq!(rt;
+        fault_of(rt.alloc(), &changed(&[(64, 2)])),
+        Some(LoadFault::ZoneRecord)
+    );
+    assert_eq!(rt;
+        fault_of(rt.alloc(), &changed(&[(64, 5)])),
+        Some(LoadFault::ZoneRecord)
+    );
+    assert_eq!(rt;
+        fault_of(rt.alloc(), &changed(&[(64, 2), (68, 6)])),
+        Some(LoadFault::ZoneRecord)
+    );
+    assert_eq!(rt;
+        fault_of(rt.alloc(), &changed(&[(91, 1)])),
+        Some(LoadFault::ZoneRecord)
+    );
+    let many = changed(&[(64, 3), (72, 3), (80, 3)]);
+    assert_eq!(rt; fault_of(rt.alloc(), &many), Some(LoadFault::Limits));
+    Ok(())
+}
+
+#[test]
+fn the_first_fault_decides(rt: HostRuntime) -> Result<(), Fail> {
+    let no_image = changed(&[(0, 0), (8, 1)]);
+    assert_eq!(rt;
+        fault_of_front(rt.alloc(), &no_image, 63),
+        Some(LoadFault::Truncated)
+    );
+    assert_eq!(rt;
+        fault_of_front(rt.alloc(), &no_image, 64),
+        Some(LoadFault::Magic)
+    );
+    assert_eq!(rt;
+        fault_of_front(rt.alloc(), &EMPTY, 64),
+        Some(LoadFault::Truncated)
+    );
+    assert_eq!(rt;
+        fault_of_front(rt.alloc(), &changed(&[(8, 1)]), 64),
+        Some(LoadFault::Geometry)
+    );
+    assert_eq!(rt;
+        fault_of_front(rt.alloc(), &changed(&[(64, 5)]), 95),
+        Some(LoadFault::Truncated)
+    );
+    let many = changed(&[(64, 3), (68, 1), (72, 3), (80, 3)]);
+    assert_eq!(rt; fault_of(rt.alloc(), &many), Some(LoadFault::Limits));
+    Ok(())
+}
+
+#[test]
+fn a_text_cut_short_is_truncated(rt: HostRuntime) -> Result<(), Fail> {
+    let mut text = written(rt.alloc())?;
+    for length in 0..text.len() {
+        assert_eq!(rt;
+            fault_of_front(rt.alloc(), &text, length),
+            Some(LoadFault::Truncated)
+        );
+    }
+    assert_eq!(rt; fault_of(rt.alloc(), &text), None);
+    text.push(0)?;
+    assert_eq!(rt; fault_of(rt.alloc(), &text), Some(LoadFault::Trailing));
+    Ok(())
+}
+
+/// A source that gives a byte at a time, and fails after some calls.
+#[derive(Drop)]
+struct Slow<'a> {
+    rest: &'a [u8],
+    calls: u64,
+    failures: u64,
+}
+
+impl Source for Slow<'_> {
+    ghost tells = { ⊥ };
+
+    ghost rest = { λ s. s.rest.now };
+
+    ghost failures = { λ s. s.failures };
+
+    fn read(&mut self, to: &mut [u8]) -> Result<usize, DeviceFault> {
+        if self.calls == 0 {
+            self.failures += 1;
+            return Err(DeviceFault);
+        }
+        self.calls -= 1;
+        let Some((first, rest)) = self.rest.split_first() else {
+            return Ok(0);
+        };
+        let Some(byte) = to.first_mut() else {
+            return Ok(0);
+        };
+        *byte = *first;
+        self.rest = rest;
+        Ok(1)
+    }
+
+    fn failures(&self) -> u64 {
+        self.failures
+    }
+}
+
+#[test]
+fn a_slow_source_is_read_to_its_end(rt: HostRuntime) -> Result<(), Fail> {
+    let text = written(rt.alloc())?;
+    for calls in 0..609 {
+        let mut source = Slow {
+            rest: &text,
+            calls,
+            failures: 0,
+        };
+        match Image::load(rt.alloc(), &mut source) {
+            Ok(_) => assert!(rt; false, "call {calls} failed"),
+            Err(fault) => assert_eq!(rt; fault, LoadFault::Device),
+        }
+        assert_eq!(rt; source.failures(), 1);
+    }
+    let mut source = Slow {
+        rest: &text,
+        calls: 609,
+        failures: 0,
+    };
+    let image = Image::load(rt.alloc(), &mut source)?;
+    let mut sink = Buffer::new(rt.alloc());
+    image.save(&mut sink)?;
+    assert_eq!(rt; sink.bytes(), text.as_slice());
+    Ok(())
+}
+
+/// A sink that takes at most 100 bytes at a time, and fails after some calls.
+#[derive(Drop)]
+struct Narrow {
+    taken: Vec<u8>,
+    calls: u64,
+    failures: u64,
+}
+
+impl Sink for Narrow {
+    ghost tells = { ⊥ };
+
+    ghost taken = { λ s. s.taken.items };
+
+    ghost failures = { λ s. s.failures };
+
+    fn write(&mut self, from: &[u8]) -> Result<usize, DeviceFault> {
+        let count = from.len().min(100);
+        if self.calls == 0 || self.taken.extend_from_slice(&from[..count]).is_err() {
+            self.failures += 1;
+            return Err(DeviceFault);
+        }
+        self.calls -= 1;
+        Ok(count)
+    }
+
+    fn failures(&self) -> u64 {
+        self.failures
+    }
+}
+
+#[test]
+fn a_narrow_sink_has_a_beginning(rt: HostRuntime) -> Result<(), Fail> {
+    let text = written(rt.alloc())?;
+    let mut source = text.as_slice();
+    let image = Image::load(rt.alloc(), &mut source)?;
+    for calls in 0..11 {
+        let mut sink = Narrow {
+            taken: Vec::new(rt.alloc()),
+            calls,
+            failures: 0,
+        };
+        assert_eq!(rt; image.save(&mut sink), Err(SaveFault::Device));
+        assert_eq!(rt; sink.failures(), 1);
+        assert!(rt; text.starts_with(&sink.taken));
+    }
+    let mut sink = Narrow {
+        taken: Vec::new(rt.alloc()),
+        calls: 11,
+        failures: 0,
+    };
+    assert_eq!(rt; image.save(&mut sink), Ok(()));
+    assert_eq!(rt; sink.taken.as_slice(), text.as_slice());
+    Ok(())
+}
