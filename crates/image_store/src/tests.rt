@@ -65,6 +65,20 @@ fn an_empty_image_is_its_header_and_records(rt: HostRuntime) -> Result<(), Fail>
 }
 
 #[test]
+fn an_appended_block_is_saved(rt: HostRuntime) -> Result<(), Fail> {
+    let mut image = Image::empty(rt.alloc(), geometry()?)?;
+    assert_eq!(rt; image.zones().len(), 4);
+    assert_eq!(rt; image.geometry().block(), 512);
+    assert_eq!(rt; image.zone(1).written(), 0);
+    assert_eq!(rt; image.zone(1).check_write(0, 1), Ok(()));
+    image.append(1, &[0x5a; 512]);
+    let mut sink = Buffer::new(rt.alloc());
+    image.save(&mut sink)?;
+    assert_eq!(rt; sink.bytes(), written(rt.alloc())?.as_slice());
+    Ok(())
+}
+
+#[test]
 fn a_saved_image_loads_again(rt: HostRuntime) -> Result<(), Fail> {
     let text = written(rt.alloc())?;
     assert_eq!(rt; text.len(), 608);
@@ -80,8 +94,24 @@ fn a_saved_image_loads_again(rt: HostRuntime) -> Result<(), Fail> {
 }
 
 #[test]
+fn an_image_of_another_length_has_its_fault(rt: HostRuntime) -> Result<(), Fail> {
+    assert_eq!(rt; fault_of_front(rt.alloc(), &EMPTY, 96), None);
+    assert_eq!(rt;
+        fault_of_front(rt.alloc(), &EMPTY, 95),
+        Some(LoadFault::Truncated)
+    );
+    assert_eq!(rt;
+        fault_of_front(rt.alloc(), &EMPTY, 0),
+        Some(LoadFault::Truncated)
+    );
+    let mut longer = EMPTY.to_vec(rt.alloc())?;
+    longer.push(0)?;
+    assert_eq!(rt; fault_of(rt.alloc(), &longer), Some(LoadFault::Trailing));
+    Ok(())
+}
+
+#[test]
 fn each_damage_has_its_fault(rt: HostRuntime) -> Result<(), Fail> {
-    assert_eq!(rt; fault_of(rt.alloc(), &EMPTY), None);
     assert_eq!(rt;
         fault_of(rt.alloc(), &changed(&[(0, 0)])),
         Some(LoadFault::Magic)
