@@ -1,4 +1,4 @@
-; Appends a block to zone 1 of the namespace g1 and reads it back.
+; Appends a block to zone 1 of an image whose zones have 8 blocks of 512 bytes, and reads it back.
 ;
 ; An entry has 64 bytes, little-endian. The ones used here are
 ;   7d000100   Command Dword 0: the opcode, 7d for Zone Append and 02 for Read, and in the

@@ -4,7 +4,7 @@ ghost use Rattle.std.specs.Prelude.{◌≡◌, ◌≤◌};
 
 use crate::failure::{Failure, STANDARD_OUTPUT};
 use crate::files::Files;
-use crate::{asm, disasm, exec, trace, unpack};
+use crate::{asm, disasm, exec, format, trace, unpack, zones};
 use clap::Command;
 use clap::error::ErrorKind;
 use std::alloc::{AllocError, Global};
@@ -42,6 +42,8 @@ fn run<'a, F: Files, O: Write>(
         Err(error) => return Err(Failure::from(error)),
     };
     match matches.subcommand() {
+        Some((format::NAME, matches)) => format::format(alloc, matches, files),
+        Some((zones::NAME, matches)) => zones::zones(alloc, matches, files, out),
         Some((exec::NAME, matches)) => exec::exec(alloc, matches, files, out),
         Some((asm::NAME, matches)) => asm::asm(alloc, matches, files),
         Some((disasm::NAME, matches)) => disasm::disasm(alloc, matches, files, out),
@@ -60,6 +62,8 @@ fn command_line<'a>(alloc: Global) -> Result<Command<'a>, AllocError> {
         .about("Works on zoned namespaces, and on the programs that run beside their data")
         .subcommand_required(true)
         .arg_required_else_help(true)
+        .subcommand(format::subcommand(alloc)?)?
+        .subcommand(zones::subcommand(alloc)?)?
         .subcommand(exec::subcommand(alloc)?)?
         .subcommand(asm::subcommand(alloc)?)?
         .subcommand(disasm::subcommand(alloc)?)?

@@ -12,7 +12,7 @@ use crate::out::Out;
 use crate::reply::Reply;
 use nvme_entry::{Completion, Entry};
 use std::marker::Model;
-use zns_commands::{Answer, FaultRefused, FaultState, Holds, MOST_TRANSFER, Namespace};
+use zns_commands::{Answer, FaultRefused, FaultState, Holds, Image, MOST_TRANSFER, Namespace};
 
 /// A reply was refused. `done` events are done, the one that it answers being the last of them.
 #[derive(Clone, Copy, Debug, PartialEq, Eq)]
@@ -35,11 +35,19 @@ impl Model for Device {
 }
 
 impl Device {
-    /// A device with this namespace.
-    pub fn new(namespace: Namespace) -> Device
-        ensures { result ≡ namespace }
+    /// A device whose namespace an image holds.
+    pub fn new(image: Image) -> Device
+        ensures { result ≡ image }
     {
+        let namespace = Namespace::new(image);
         Device { namespace }
+    }
+
+    /// The namespace as an image.
+    pub fn image(&self) -> &Image
+        ensures { result.now ≡ self.now }
+    {
+        self.namespace.image()
     }
 
     /// Does one event. The data of the reply lies at the front of `data_out`.

@@ -1,11 +1,13 @@
 //! Why a command ends before its work is done, and what the user is told.
 
-ghost use Rattle.std.specs.Prelude.{◌≡◌};
+ghost use Rattle.std.specs.Prelude.{◌≡◌, ◌≢◌};
+ghost use Rattle.image_store.specs.Fault.{load_number};
 ghost use Rattle.zscli.specs.Failure.{status_of};
 
 use crate::command_file::ParseError;
 use crate::files::FileError;
 use clap::error::ErrorKind;
+use image_store::LoadFault;
 use std::alloc::AllocError;
 use std::io;
 use std::io::Write;
@@ -33,6 +35,8 @@ pub(crate) enum Failure<'a> {
     LineRefused(usize),
     #[error("geometry refused {0}")]
     GeometryRefused(u8),
+    #[error("image refused {0}")]
+    ImageRefused(u8),
     #[error("assembly refused {0} {1}")]
     AssemblyRefused(usize, u8),
     #[error("program refused {0} {1}")]
@@ -74,6 +78,19 @@ impl<'a> Failure<'a> {
         }
     }
 
+    /// That of loading an image from a file.
+    pub(crate) fn of_loading(path: &'a str, fault: LoadFault) -> Failure<'a>
+        ensures device { fault ≡ LoadFault.Device → result ≡ Failure.CannotRead path.entry }
+        ensures memory { fault ≡ LoadFault.Memory → result ≡ Failure.NoMemory }
+        ensures others { fault ≢ LoadFault.Device → fault ≢ LoadFault.Memory → result ≡ Failure.ImageRefused (load_number fault) }
+    {
+        match fault {
+            LoadFault::Device => Failure::CannotRead(path),
+            LoadFault::Memory => Failure::NoMemory,
+            _ => Failure::ImageRefused(fault.number()),
+        }
+    }
+
     /// Tells the user, and answers the exit status.
     pub(crate) fn tell<E: Write>(self, err: &mut E) -> u8
         ensures { result ≡ status_of self.entry }
@@ -99,6 +116,7 @@ impl<'a> Failure<'a> {
             | Failure::EmitExceedsBlock => 2,
             Failure::LineRefused(_)
             | Failure::GeometryRefused(_)
+            | Failure::ImageRefused(_)
             | Failure::AssemblyRefused(..)
             | Failure::ProgramRefused(..)
             | Failure::FrameRefused(_) => 3,

@@ -11,6 +11,8 @@ mod event;
 mod exec;
 mod failure;
 mod files;
+mod format;
+mod image_file;
 mod laws;
 mod lines;
 mod out;
@@ -21,6 +23,7 @@ mod tests;
 mod trace;
 mod unpack;
 mod words;
+mod zones;
 
 use crate::command::command;
 use crate::failure::Failure;

@@ -1,6 +1,6 @@
 //! How command lines end.
 
-use super::{run, run_into};
+use super::{run, run_into, with_events};
 use std::io;
 use std::io::Write;
 use std::test::Fail;
@@ -9,7 +9,6 @@ use std::test::Fail;
 fn statuses(rt: HostRuntime) -> Result<(), Fail> {
     let table = [
         ("zscli exec g1 events", 0, "idle\n", ""),
-        ("zscli exec g2 events", 0, "idle\n", ""),
         ("zscli exec g1 missing", 1, "", "cannot read missing\n"),
         ("zscli exec g3 missing", 1, "", "cannot read g3\n"),
     ];
@@ -49,8 +48,8 @@ fn wrong_words_and_help(rt: HostRuntime) -> Result<(), Fail> {
 
 /// A standard output that takes so many writes, and then none.
 #[derive(Drop)]
-struct Taking {
-    writes: u32,
+pub(super) struct Taking {
+    pub(super) writes: u32,
 }
 
 impl Write for Taking {
@@ -77,8 +76,8 @@ fn standard_output_fails(rt: HostRuntime) -> Result<(), Fail> {
     ];
     for (line, writes, status, err) in table {
         let mut out = Taking { writes };
-        let events = b"turn 0\nturn 1\nturn 2".as_slice();
-        let (ended, told) = run_into(rt.alloc(), line, events, &mut out)?;
+        let mut files = with_events(rt.alloc(), b"turn 0\nturn 1\nturn 2")?;
+        let (ended, told) = run_into(rt.alloc(), line, &mut files, &mut out)?;
         assert_eq!(rt; ended, status, "{line}");
         assert_eq!(rt; told.as_str(), err, "{line}");
     }

@@ -1,6 +1,6 @@
 //! Programs and output blocks in files.
 
-use super::run;
+use super::{run, run_on, with_events};
 use std::test::Fail;
 
 /// Emits the first 8 bytes of a block whose first byte is 7.
@@ -23,7 +23,7 @@ fn files_of_one_command(rt: HostRuntime) -> Result<(), Fail> {
     framed[..5].copy_from_slice(b"\x03\0abc");
     let mut spoiled = framed;
     spoiled[511] = 1;
-    let table: [(&str, &[u8], u8, &str, &str); 9] = [
+    let table: [(&str, &[u8], u8, &str, &str); 8] = [
         ("zscli disasm events", MATCHING, 0, LISTING, ""),
         ("zscli disasm events", b"", 3, "", "program refused 0 21\n"),
         (
@@ -56,13 +56,6 @@ fn files_of_one_command(rt: HostRuntime) -> Result<(), Fail> {
         ),
         (
             "zscli asm events made",
-            LISTING.as_bytes(),
-            1,
-            "",
-            "cannot write made\n",
-        ),
-        (
-            "zscli asm events made",
             b"jeq r1, 0, nowhere\nmov r11, 1\n",
             3,
             "",
@@ -76,5 +69,21 @@ fn files_of_one_command(rt: HostRuntime) -> Result<(), Fail> {
         assert_eq!(rt; ended.out.as_str(), out, "{line:?}");
         assert_eq!(rt; ended.err.as_str(), err, "{line:?}");
     }
+    Ok(())
+}
+
+#[test]
+fn assembles_to_a_file(rt: HostRuntime) -> Result<(), Fail> {
+    let mut files = with_events(rt.alloc(), LISTING.as_bytes())?;
+    let ended = run_on(rt.alloc(), "zscli asm events made", &mut files)?;
+    assert_eq!(rt; ended.status, 0);
+    assert_eq!(rt;
+        files.bytes("made").ok_or("no program")?,
+        MATCHING.as_slice()
+    );
+    files.room = 55;
+    let ended = run_on(rt.alloc(), "zscli asm events made", &mut files)?;
+    assert_eq!(rt; ended.status, 1);
+    assert_eq!(rt; ended.err.as_str(), "cannot write made\n");
     Ok(())
 }

@@ -8,7 +8,7 @@ use crate::out::{Out, Refusal};
 use crate::reply::Reply;
 use std::alloc::Global;
 use std::test::Fail;
-use zns_commands::{Geometry, Image, Limits, MOST_TRANSFER, Namespace};
+use zns_commands::{Geometry, Image, Limits, MOST_TRANSFER};
 
 #[derive(Debug, PartialEq, Eq, Drop)]
 struct Answer {
@@ -78,7 +78,7 @@ fn stops_where_a_reply_is_refused(rt: HostRuntime) -> Result<(), Fail> {
             active_limit: 1,
         };
         let geometry = Geometry::new(512, 1, 1, 1, limits).unwrap();
-        let mut device = Device::new(Namespace::new(Image::empty(alloc, geometry)?));
+        let mut device = Device::new(Image::empty(alloc, geometry)?);
         let mut data = vec![in alloc; 0; MOST_TRANSFER]?;
         let mut out = Kept::new(alloc, room);
         let served = device.serve(&events, data.as_mut_slice(), &mut out);

@@ -1,6 +1,7 @@
-//! Entries and their completions on the namespace `g1`.
+//! Entries and their completions on the image `g1`.
 
-use super::run;
+use super::memory::Memory;
+use super::{run_on, with_events};
 use std::alloc::Global;
 use std::fmt::Write;
 use std::process::Abort;
@@ -16,7 +17,7 @@ fn append_to_a_full_zone(rt: HostRuntime) -> Result<(), Fail> {
     g1.append(4, 16, 1, "00000000000000000000010004007203")?;
     g1.read(5, 22, 2, "00000000000000000000010005000000", &[0; 1024])?;
     g1.read(6, 23, 2, "00000000000000000000010006007003", b"")?;
-    g1.check(&rt)
+    g1.check(&rt, "0 empty 0\n1 empty 0\n2 full 6\n3 empty 0\n")
 }
 
 #[test]
@@ -25,7 +26,7 @@ fn append_past_the_capacity(rt: HostRuntime) -> Result<(), Fail> {
     g1.append(1, 0, 5, "00000000000000000000010001000000")?;
     g1.append(2, 0, 2, "00000000000000000000010002007003")?;
     g1.append(3, 0, 1, "05000000000000000000010003000000")?;
-    g1.check(&rt)
+    g1.check(&rt, "0 full 6\n1 empty 0\n2 empty 0\n3 empty 0\n")
 }
 
 #[test]
@@ -33,7 +34,7 @@ fn entries_that_are_refused(rt: HostRuntime) -> Result<(), Fail> {
     let mut g1 = Submissions::new(rt.alloc());
     g1.submit("0301", 6, "", b"", "00000000000000000000010006000200", b"")?;
     g1.append(6, 9, 1, "00000000000000000000010006000400")?;
-    g1.check(&rt)
+    g1.check(&rt, "0 empty 0\n1 empty 0\n2 empty 0\n3 empty 0\n")
 }
 
 /// Entries for queue 1 and faults, and the lines that answer them.
@@ -129,9 +130,19 @@ impl Submissions {
         Ok(())
     }
 
-    /// Submits the entries, one after another, where nothing is written.
-    pub(super) fn check(&self, rt: &impl Abort) -> Result<(), Fail> {
-        let ended = run(self.alloc, "zscli exec g1 events", self.events.as_bytes())?;
+    /// Submits the entries, one after another, where nothing is written. Then the zones are these.
+    pub(super) fn check(&self, rt: &impl Abort, zones: &str) -> Result<(), Fail> {
+        let mut files = with_events(self.alloc, b"")?;
+        self.check_on(rt, &mut files)?;
+        let ended = run_on(self.alloc, "zscli zones g1", &mut files)?;
+        assert_eq!(rt; ended.out.as_str(), zones);
+        Ok(())
+    }
+
+    /// Submits the entries to the image `g1` of these files.
+    pub(super) fn check_on(&self, rt: &impl Abort, files: &mut Memory) -> Result<(), Fail> {
+        files.put("events", self.events.as_bytes())?;
+        let ended = run_on(self.alloc, "zscli exec g1 events", files)?;
         assert_eq!(rt; ended.out.as_str(), self.answers.as_str());
         assert_eq!(rt; ended.status, 0);
         Ok(())

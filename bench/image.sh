@@ -1,0 +1,50 @@
+#!/bin/sh
+# Loading and saving an image of 256 MiB beside copies of it, and formatting the largest geometry
+# beside a fill of its room, all between files in memory. Prints four ratios, each of the best of
+# ROUNDS rounds: at least 0.5 is wanted of the first three, at least 1 of the last.
+set -eu
+cd "$(dirname "$0")/.."
+rounds=${ROUNDS:-10}
+work=$(mktemp -d /dev/shm/image.XXXXXX)
+trap 'rm -r "$work"' EXIT
+bytes=268435456
+geometry="--block 4096 --zones 16 --size 4096 --capacity 4096 --open 1 --active 1"
+
+./zscli --help > /dev/null
+zscli=crates/zscli/out/zscli
+
+# the zones Full: the header, a record of each, and the blocks
+"$zscli" format "$work/empty.img" $geometry
+{
+    head -c 64 "$work/empty.img"
+    for _ in $(seq 16); do printf '\016\0\0\0\0\020\0\0'; done
+    head -c "$bytes" /dev/urandom
+} > "$work/full.img"
+: > "$work/none.cmd"
+
+# the least nanoseconds of some rounds
+best() {
+    least=
+    for _ in $(seq "$rounds"); do
+        begin=$(date +%s%N)
+        "$@" > /dev/null
+        end=$(date +%s%N)
+        if [ -z "$least" ] || [ $((end - begin)) -lt "$least" ]; then least=$((end - begin)); fi
+    done
+    echo "$least"
+}
+
+fill() { head -c "$bytes" /dev/zero > "$work/filled"; }
+
+copy=$(best cp "$work/full.img" "$work/copy.img")
+load=$(best "$zscli" zones "$work/full.img")
+both=$(best "$zscli" exec "$work/full.img" "$work/none.cmd")
+cmp "$work/full.img" "$work/copy.img"
+fill=$(best fill)
+format=$(best "$zscli" format "$work/new.img" $geometry)
+awk "BEGIN {
+    printf \"load of 256 MiB: copy/zscli %.2f\n\", $copy / $load
+    printf \"save of 256 MiB: copy/zscli %.2f\n\", $copy / ($both - $load)
+    printf \"load and save of 256 MiB: two copies/zscli %.2f\n\", 2 * $copy / $both
+    printf \"format of 256 MiB: fill/zscli %.2f\n\", $fill / $format
+}"

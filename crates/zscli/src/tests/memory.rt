@@ -1,0 +1,168 @@
+//! Files in memory.
+
+ghost use Rattle.std.specs.Prelude.{◌≡◌, [], None};
+
+use crate::files::{FileError, Files};
+use image_store::{DeviceFault, Sink, Source};
+use std::alloc::{AllocError, Global};
+
+#[derive(Drop)]
+struct File {
+    name: String,
+    bytes: Vec<u8>,
+}
+
+/// Files in memory, each with its name. None is larger than there is room for.
+#[derive(Drop)]
+pub(super) struct Memory {
+    alloc: Global,
+    files: Vec<File>,
+    pub(super) room: usize,
+    /// Does reading fail behind the first bytes of a file?
+    pub(super) fails: bool,
+}
+
+impl Memory {
+    /// No files.
+    pub(super) fn new(alloc: Global) -> Memory {
+        Memory {
+            alloc,
+            files: Vec::new(alloc),
+            room: usize::MAX,
+            fails: false,
+        }
+    }
+
+    /// Puts a file of these bytes in the place of the one with this name.
+    pub(super) fn put(&mut self, name: &str, bytes: &[u8]) -> Result<(), AllocError> {
+        let file = File {
+            name: String::from_str(self.alloc, name)?,
+            bytes: Vec::from_slice(self.alloc, bytes)?,
+        };
+        self.files.retain(|file| file.name.as_str() != name);
+        self.files.push(file)?;
+        Ok(())
+    }
+
+    /// The bytes of the file with this name.
+    pub(super) fn bytes(&self, name: &str) -> Option<&[u8]> {
+        for file in self.files.iter() {
+            if file.name.as_str() == name {
+                return Some(file.bytes.as_slice());
+            }
+        }
+        None
+    }
+
+    fn copy(&self, name: &str) -> Result<Vec<u8>, FileError> {
+        let bytes = self.bytes(name).ok_or(FileError::Failed)?;
+        Vec::from_slice(self.alloc, bytes).map_err(|_| FileError::OutOfMemory)
+    }
+}
+
+impl Files for Memory {
+    type Reader = Reader;
+
+    type Writer = Writer;
+
+    ghost made = { λ _. None };
+
+    fn read(&mut self, path: &str) -> Result<Vec<u8>, FileError> {
+        self.copy(path)
+    }
+
+    fn write(&mut self, path: &str, bytes: &[u8]) -> Result<(), FileError> {
+        if bytes.len() > self.room {
+            return Err(FileError::Failed);
+        }
+        self.put(path, bytes).map_err(|_| FileError::OutOfMemory)
+    }
+
+    fn open(&mut self, path: &str) -> Result<Reader, FileError> {
+        Ok(Reader {
+            bytes: self.copy(path)?,
+            fails: self.fails,
+            at: 0,
+            failures: 0,
+        })
+    }
+
+    fn begin(&mut self, _path: &str) -> Result<Writer, FileError> {
+        Ok(Writer {
+            bytes: Vec::new(self.alloc),
+            room: self.room,
+            failures: 0,
+        })
+    }
+
+    fn finish(&mut self, path: &str, file: Writer) -> Result<(), FileError> {
+        self.put(path, file.bytes.as_slice())
+            .map_err(|_| FileError::OutOfMemory)
+    }
+
+    fn discard(&mut self, _file: Writer) {}
+}
+
+/// A file that is read, up to so many bytes at a time.
+#[derive(Drop)]
+pub(super) struct Reader {
+    bytes: Vec<u8>,
+    fails: bool,
+    at: usize,
+    failures: u64,
+}
+
+impl Source for Reader {
+    ghost tells = { ⊥ };
+
+    ghost rest = { λ _. [] };
+
+    ghost failures = { λ reader. reader.failures };
+
+    fn read(&mut self, to: &mut [u8]) -> Result<usize, DeviceFault> {
+        if self.fails && self.at > 0 {
+            self.failures += 1;
+            return Err(DeviceFault);
+        }
+        let mut count = 0;
+        for (byte, place) in self.bytes.iter().skip(self.at).zip(to.iter_mut()) {
+            *place = *byte;
+            count += 1;
+        }
+        self.at = self.at.saturating_add(count);
+        Ok(count)
+    }
+
+    fn failures(&self) -> u64 {
+        self.failures
+    }
+}
+
+/// A file that is written, with so much room.
+#[derive(Drop)]
+pub(super) struct Writer {
+    bytes: Vec<u8>,
+    room: usize,
+    failures: u64,
+}
+
+impl Sink for Writer {
+    ghost tells = { ⊥ };
+
+    ghost taken = { λ _. [] };
+
+    ghost failures = { λ writer. writer.failures };
+
+    fn write(&mut self, from: &[u8]) -> Result<usize, DeviceFault> {
+        if from.len() <= self.room && self.bytes.extend_from_slice(from).is_ok() {
+            self.room -= from.len();
+            return Ok(from.len());
+        }
+        self.failures += 1;
+        Err(DeviceFault)
+    }
+
+    fn failures(&self) -> u64 {
+        self.failures
+    }
+}
