@@ -103,7 +103,7 @@ impl Files for Memory {
     fn discard(&mut self, _file: Writer) {}
 }
 
-/// A file that is read, up to so many bytes at a time.
+/// A file that is read.
 #[derive(Drop)]
 pub(super) struct Reader {
     bytes: Vec<u8>,
@@ -124,12 +124,11 @@ impl Source for Reader {
             self.failures += 1;
             return Err(DeviceFault);
         }
-        let mut count = 0;
-        for (byte, place) in self.bytes.iter().skip(self.at).zip(to.iter_mut()) {
-            *place = *byte;
-            count += 1;
-        }
-        self.at = self.at.saturating_add(count);
+        let start = self.at.min(self.bytes.len());
+        let rest = &self.bytes.as_slice()[start..];
+        let count = rest.len().min(to.len());
+        to[..count].copy_from_slice(&rest[..count]);
+        self.at = start + count;
         Ok(count)
     }
 
