@@ -74,9 +74,10 @@ fn exec_writes_the_image(rt: HostRuntime) -> Result<(), Fail> {
     let mut first = Submissions::new(rt.alloc());
     first.append(1, 8, 1, "08000000000000000000010001000000")?;
     first.check_on(&rt, &mut files)?;
-    assert_eq!(rt; files.bytes("g1").ok_or("no image")?.len(), 608);
+    let image = files.bytes("g1").ok_or("no image")?;
+    assert_eq!(rt; image.len(), 608);
     assert_eq!(rt;
-        &files.bytes("g1").ok_or("no image")?[72..80],
+        image.get(72..80).ok_or("no record")?,
         b"\x02\0\0\0\x01\0\0\0".as_slice()
     );
     let zones = "0 empty 0\n1 implicit 1\n2 empty 0\n3 empty 0\n";
