@@ -4,6 +4,7 @@
 # ROUNDS rounds: at least 0.5 is wanted of the first three, at least 1 of the last.
 set -eu
 cd "$(dirname "$0")/.."
+. bench/best.sh
 rounds=${ROUNDS:-10}
 work=$(mktemp -d /dev/shm/image.XXXXXX)
 trap 'rm -r "$work"' EXIT
@@ -21,18 +22,6 @@ zscli=crates/zscli/out/zscli
     head -c "$bytes" /dev/urandom
 } > "$work/full.img"
 : > "$work/none.cmd"
-
-# the least nanoseconds of some rounds
-best() {
-    least=
-    for _ in $(seq "$rounds"); do
-        begin=$(date +%s%N)
-        "$@" > /dev/null
-        end=$(date +%s%N)
-        if [ -z "$least" ] || [ $((end - begin)) -lt "$least" ]; then least=$((end - begin)); fi
-    done
-    echo "$least"
-}
 
 fill() { head -c "$bytes" /dev/zero > "$work/filled"; }
 

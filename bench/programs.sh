@@ -4,6 +4,7 @@
 # least 1 is wanted.
 set -eu
 cd "$(dirname "$0")/.."
+. bench/best.sh
 rounds=${ROUNDS:-10}
 work=$(mktemp -d)
 trap 'rm -r "$work"' EXIT
@@ -22,18 +23,6 @@ awk 'BEGIN {
 llvm-mc -arch=bpfel -mcpu=v3 -filetype=obj "$work/llvm.s" -o "$work/program.o"
 llvm-objcopy -O binary --only-section=.text "$work/program.o" "$work/program.bin"
 ./zscli disasm "$work/program.bin" > "$work/program.s"
-
-# the least seconds of some rounds
-best() {
-    least=
-    for _ in $(seq "$rounds"); do
-        begin=$(date +%s%N)
-        "$@" > /dev/null
-        end=$(date +%s%N)
-        if [ -z "$least" ] || [ $((end - begin)) -lt "$least" ]; then least=$((end - begin)); fi
-    done
-    echo "$least"
-}
 
 theirs=$(best llvm-objdump -d "$work/program.o")
 ours=$(best ./zscli disasm "$work/program.bin")
