@@ -1,7 +1,8 @@
 #!/bin/sh
-# Loading and saving an image of 256 MiB beside copies of it, and formatting the largest geometry
-# beside a fill of its room, all between files in memory. Prints four ratios, each of the best of
-# ROUNDS rounds: at least 0.5 is wanted of the first three, at least 1 of the last.
+# Loading and saving an image of 256 MiB beside copies of it, all between files in memory, and
+# formatting the largest geometry beside one fill of its room, by a C program in memory and by head
+# into a file in memory. Prints five ratios, each of the best of ROUNDS rounds: at least 0.5 is
+# wanted of the first three, at least 1 of the fourth.
 set -eu
 cd "$(dirname "$0")/.."
 . bench/best.sh
@@ -23,17 +24,20 @@ zscli=crates/zscli/out/zscli
 } > "$work/full.img"
 : > "$work/none.cmd"
 
-fill() { head -c "$bytes" /dev/zero > "$work/filled"; }
+cc -O2 -o "$work/fill" bench/fill.c
+fill_file() { head -c "$bytes" /dev/zero > "$work/filled"; }
 
 copy=$(best cp "$work/full.img" "$work/copy.img")
 load=$(best "$zscli" zones "$work/full.img")
 both=$(best "$zscli" exec "$work/full.img" "$work/none.cmd")
 cmp "$work/full.img" "$work/copy.img"
-fill=$(best fill)
+fill=$(best "$work/fill" "$bytes")
+file=$(best fill_file)
 format=$(best "$zscli" format "$work/new.img" $geometry)
 awk "BEGIN {
     printf \"load of 256 MiB: copy/zscli %.2f\n\", $copy / $load
     printf \"save of 256 MiB: copy/zscli %.2f\n\", $copy / ($both - $load)
     printf \"load and save of 256 MiB: two copies/zscli %.2f\n\", 2 * $copy / $both
     printf \"format of 256 MiB: fill/zscli %.2f\n\", $fill / $format
+    printf \"format of 256 MiB: fill of a file/zscli %.2f\n\", $file / $format
 }"
