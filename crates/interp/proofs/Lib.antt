@@ -6,4 +6,5 @@ pub mod MemoryLemmas
 pub mod Running
 pub mod StateLemmas
 pub mod Stepping
+pub mod Verified
 pub mod WordLemmas

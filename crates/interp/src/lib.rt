@@ -5,11 +5,13 @@ mod cause;
 pub mod laws;
 mod machine;
 mod memory;
+mod trap_free;
 mod word;
 
 pub use cause::Cause;
-pub use machine::{End, Machine, Step};
+pub use machine::{End, Exit, Machine, Step};
 pub use memory::Area;
+pub use trap_free::TrapFree;
 pub use word::{Arithmetic, alu, taken};
 
 #[cfg(test)]

@@ -4,12 +4,14 @@ mod effect;
 mod flat;
 mod run;
 mod step;
+mod verified;
 
 ghost use Rattle.std.specs.Prelude.{◌<◌, ◌≤◌, ◌^◌, length};
 
 use crate::memory::Area;
 pub use run::End;
 pub use step::Step;
+pub use verified::Exit;
 
 /// A machine over one block: its registers, its stack, and what it borrows.
 #[derive(Drop)]
@@ -30,13 +32,15 @@ pub struct Machine<'a> {
 
 impl<'a> Machine<'a> {
     ghost use Rattle.std.specs.Prelude.{◌≡◌, ◌<◌, ◌^◌, ℕ, List, length};
-    ghost use Rattle.interp.specs.State.{entry, frames_of, group_length, scratch_name, slot_of, state_of, steps_of};
+    ghost use Rattle.interp.specs.State.{IsNew, block_length, entry, frames_of, group_length, scratch_name, slot_of, state_of, steps_of};
 
     /// A machine at the start of a block run, at slot 0: R1, R2 and R3 are the addresses of
     /// context, block and scratch, R10 is the end of the stack, all else is 0 (profile).
     pub fn new(block: &'a [u8], context: &'a [u8; 32], scratch: &'a mut [u8; 1024]) -> Machine<'a>
         requires { length block.now < 2 ^ 32 }
         ensures state { (group : List ℕ) → state_of result group ≡ entry block.now context.now scratch.old }
+        ensures new { IsNew result }
+        ensures block { block_length result ≡ length block.now }
         ensures slot { slot_of result ≡ 0 }
         ensures steps { steps_of result ≡ 0 }
         ensures group_len { group_length result ≡ 0 }
