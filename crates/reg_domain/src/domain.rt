@@ -1,6 +1,7 @@
 //! A domain.
 
-ghost use Rattle.std.specs.Prelude.{◌≡◌, ◌+◌, ◌*◌, ◌<◌, ◌^◌, ℕ};
+ghost use Rattle.std.specs.Prelude.{◌≡◌, ◌+◌, ◌<◌, ◌^◌, ℕ};
+ghost use Rattle.std.specs.Align.{type_align};
 ghost use Rattle.std.specs.Mem.{type_size};
 ghost use Rattle.reg_domain.specs.Domain.{Operations, IsSound};
 
@@ -16,10 +17,11 @@ pub trait Domain: Copy {
     /// What the operations give.
     ghost operations: { Operations Self };
 
-    /// A row of facts, one for each register, fits in memory: a proof about rows of facts calls
-    /// this, which has no code.
+    /// A row of facts, one for each register, fits in memory, with room for what stands beside it: a
+    /// proof about rows of facts calls this, which has no code.
     fn row_fits()
-        ensures { 11 * type_size Self.row < 2 ^ 63 };
+        ensures size { type_size Self.row < 2 ^ 32 }
+        ensures align { type_align Self.row < 2 ^ 32 };
 
     /// One word.
     fn constant(word: u64) -> Self

@@ -1,0 +1,122 @@
+-- What an instruction does that no reason refuses.
+use Rattle.std.proofs.Common.{ℕ, ℤ, ◌+◌, ◌≡◌, ◌<◌, ◌^◌, ◌<ℤ◌, ◌≤ℤ◌, zero, suc, Bool, true, false, List, [], ◌∷◌, length, slice_get, Option, Some, None, pos, negsuc, refl, sym, arith, IsSome, IfSome, is_some, not, nat_lt, ◌&&◌, if◌then◌else◌}
+use Rattle.std.specs.List.{find}
+use Rattle.std.proofs.Math.Facts.{yes_leb, yes_ltb}
+use Rattle.std.proofs.lemmas.Bool.Decides.{nat_tests}
+use Rattle.std.proofs.lemmas.Option.{slice_get_within}
+use Rattle.ebpf_decode.specs.Program.{instruction_in}
+use Rattle.ebpf_decode.specs.declared.insn.Insn.{Insn}
+use Rattle.ebpf_decode.specs.declared.insn.Insn.TheVariants.{LoadImmediate, Load, LoadSigned, StoreImmediate, StoreRegister, Arithmetic, Negate, MoveSigned, SwapBytes, Jump, JumpLong, Branch, Call, Exit}
+use Rattle.interp.specs.Cause.{is_emit}
+use Rattle.reg_domain.specs.Domain.{Operations}
+use Rattle.verifier.specs.Accepted.{all_reasons, begins_at, fails, leads_nowhere, most_emitted, reason_of, turns_away}
+use Rattle.verifier.specs.Answer.{HasRoom, StaysInside}
+use Rattle.verifier.specs.Facts.{distance_of, facts_behind, slot_behind, target}
+use Rattle.verifier.specs.declared.facts.Facts.{Facts}
+use Rattle.verifier.specs.declared.reason.Reason.{Reason}
+use Rattle.verifier.specs.declared.reason.Reason.TheVariants.{JumpOutside, FallsOff, UnknownHelper, EmitBudget}
+
+-- where none is found, none passes
+module _ {X : Type 0} (test : X → Bool) where
+  none_by : (y : X) (xs : List X) (passes : Bool) → test y ≡ passes → find test (y ∷ xs) ≡ None
+      → (test y ≡ false) × (find test xs ≡ None)
+  none_by y xs true is e = let h : Some y ≡ None = rw is at e in cc
+  none_by y xs false is e = (is, rw is at e)
+
+  none_found : (xs : List X) (k : ℕ) (x : X) → find test xs ≡ None → slice_get xs k ≡ Some x → test x ≡ false
+  none_found [] k x e at = cc
+  none_found (y ∷ xs) zero x e at =
+      let same : y ≡ x = cc in
+      rw (sym same) ((none_by y xs (test y) refl e).0)
+  none_found (y ∷ xs) (suc k) x e at = none_found xs k x ((none_by y xs (test y) refl e).1) at
+
+-- an instruction begins only inside a program
+inside_by : (program : List (Option Insn)) (n : ℕ) (entry : Option (Option Insn)) → slice_get program n ≡ entry
+    → is_some (instruction_in entry) ≡ true → n < length program
+inside_by program n None is e = cc
+inside_by program n (Some entry) is e = slice_get_within program n entry is
+
+inside : (program : List (Option Insn)) (n : ℕ) → begins_at program (pos n) ≡ true → n < length program
+inside program n e = inside_by program n (slice_get program n) refl e
+
+inside_first : (program : List (Option Insn)) (z : ℤ) → begins_at program z ≡ true → pos 0 ≤ℤ z
+inside_first program (pos n) e = record { le = yes_leb (omega arith) }
+inside_first program (negsuc n) e = cc
+
+inside_last : (program : List (Option Insn)) (z : ℤ) → begins_at program z ≡ true → z <ℤ pos (length program)
+inside_last program (pos n) e = record { lt = yes_ltb (inside program n e) }
+inside_last program (negsuc n) e = cc
+
+not_false : (b : Bool) → not b ≡ false → b ≡ true
+not_false true e = refl
+not_false false e = cc
+
+otherwise : (b c : Bool) → b ≡ false → (if b then false else c) ≡ false → c ≡ false
+otherwise true c is e = cc
+otherwise false c is e = e
+
+goes_first : (program : List (Option Insn)) (slot : ℕ) (distance : Option ℤ) → leads_nowhere program slot distance ≡ false
+    → IfSome distance (λ d. pos 0 ≤ℤ target slot d)
+goes_first program slot (Some d) e = inside_first program (target slot d) (not_false _ e)
+goes_first program slot None e = tt
+
+goes_last : (program : List (Option Insn)) (slot : ℕ) (distance : Option ℤ) → leads_nowhere program slot distance ≡ false
+    → IfSome distance (λ d. target slot d <ℤ pos (length program))
+goes_last program slot (Some d) e = inside_last program (target slot d) (not_false _ e)
+goes_last program slot None e = tt
+
+within_limit : (emit : Bool) (limit most : ℕ) → not emit ≡ false → (emit && nat_lt limit most) ≡ false → limit < 2 ^ 16
+    → most < 2 ^ 64
+within_limit true limit most is e fits = grind (arith, nat_tests, e, fits)
+within_limit false limit most is e fits = cc
+
+module _ {D : Type 0} (operations : Operations D) where
+  stays : (i : Insn) (facts : Facts D) → IsSome (facts_behind operations i facts) → turns_away i ≡ false
+  stays (LoadImmediate dst value) facts h = refl
+  stays (Load size dst src offset) facts h = refl
+  stays (LoadSigned size dst src offset) facts h = refl
+  stays (StoreImmediate size dst offset value) facts h = refl
+  stays (StoreRegister size dst src offset) facts h = refl
+  stays (Arithmetic width operation dst source) facts h = refl
+  stays (Negate width dst) facts h = refl
+  stays (MoveSigned extension dst src) facts h = refl
+  stays (SwapBytes swap size dst) facts h = refl
+  stays (Jump distance) facts h = cc
+  stays (JumpLong distance) facts h = cc
+  stays (Branch width relation dst source distance) facts h = refl
+  stays (Call helper) facts h = refl
+  stays Exit facts h = cc
+
+  module _ (program : List (Option Insn)) (limit block slot : ℕ) (facts : Facts D) (i : Insn)
+      (none : reason_of operations program limit block slot facts i ≡ None) where
+    free : (k : ℕ) (reason : Reason) → slice_get all_reasons k ≡ Some reason
+        → fails operations program limit block slot facts i reason ≡ false
+    free k reason at = none_found (fails operations program limit block slot facts i) all_reasons k reason none at
+
+    pub stays_inside : StaysInside operations (length program) slot i facts
+    stays_inside = record {
+      behind = λ some. inside program (slot_behind slot i)
+          (not_false _ (otherwise (turns_away i) _ (stays i facts some) (free 2 FallsOff refl)));
+      first = goes_first program slot (distance_of i) (free 1 JumpOutside refl);
+      last = goes_last program slot (distance_of i) (free 1 JumpOutside refl);
+    }
+
+  pub room_left : (program : List (Option Insn)) (limit block slot : ℕ) (facts : Facts D) (i : Insn)
+      → reason_of operations program limit block slot facts i ≡ None → limit < 2 ^ 16 → HasRoom operations i facts
+  room_left program limit block slot facts (Call helper) none fits =
+      within_limit (is_emit (Call helper)) limit (facts.emitted + 2 + most_emitted operations facts)
+      (free program limit block slot facts (Call helper) none 6 UnknownHelper refl)
+      (free program limit block slot facts (Call helper) none 9 EmitBudget refl) fits
+  room_left program limit block slot facts (LoadImmediate dst value) none fits = tt
+  room_left program limit block slot facts (Load size dst src offset) none fits = tt
+  room_left program limit block slot facts (LoadSigned size dst src offset) none fits = tt
+  room_left program limit block slot facts (StoreImmediate size dst offset value) none fits = tt
+  room_left program limit block slot facts (StoreRegister size dst src offset) none fits = tt
+  room_left program limit block slot facts (Arithmetic width operation dst source) none fits = tt
+  room_left program limit block slot facts (Negate width dst) none fits = tt
+  room_left program limit block slot facts (MoveSigned extension dst src) none fits = tt
+  room_left program limit block slot facts (SwapBytes swap size dst) none fits = tt
+  room_left program limit block slot facts (Jump distance) none fits = tt
+  room_left program limit block slot facts (JumpLong distance) none fits = tt
+  room_left program limit block slot facts (Branch width relation dst source distance) none fits = tt
+  room_left program limit block slot facts Exit none fits = tt

@@ -1,0 +1,50 @@
+-- Lists of facts that are made from the front.
+use Rattle.std.proofs.Common.{◌≡◌, ℕ, zero, suc, ◌+◌, ◌<◌, ◌++◌, List, [], ◌∷◌, length, get_or, set, drop, replicate, refl, ap, arith, add-one, subst}
+use Rattle.reg_domain.specs.Domain.{Operations}
+use Rattle.verifier.specs.Facts.{join_registers}
+
+module _ {D : Type 0} (operations : Operations D) where
+  -- ds, its first i joined with those of es
+  abbrev pub joined_upto : ℕ → List D → List D → List D
+  joined_upto zero ds es = ds
+  joined_upto (suc i) (d ∷ ds) (e ∷ es) = operations.join d e ∷ joined_upto i ds es
+  joined_upto (suc i) ds _ = ds
+
+  joined_suc : (i : ℕ) (ds es : List D) (x y : D) → i < length ds → length ds ≡ length es
+      → set (joined_upto i ds es) i (operations.join (get_or (joined_upto i ds es) i x) (get_or es i y)) ≡ joined_upto (suc i) ds es
+  joined_suc i [] es x y within same = absurd (omega arith)
+  joined_suc i (d ∷ ds) [] x y within same = absurd (omega arith)
+  joined_suc zero (d ∷ ds) (e ∷ es) x y within same = refl
+  joined_suc (suc i) (d ∷ ds) (e ∷ es) x y within same =
+      ap (λ l. operations.join d e ∷ l) (joined_suc i ds es x y (omega arith) (omega arith))
+
+  pub joined_more : (i : ℕ) (ds es : List D) (x y : D) → i < length ds → length ds ≡ length es
+      → set (joined_upto i ds es) i (operations.join (get_or (joined_upto i ds es) i x) (get_or es i y)) ≡ joined_upto (i + 1) ds es
+  joined_more i ds es x y within same = rw add-one (joined_suc i ds es x y within same)
+
+  pub joined_long : (i : ℕ) (ds es : List D) → length (joined_upto i ds es) ≡ length ds
+  joined_long zero ds es = refl
+  joined_long (suc i) [] es = refl
+  joined_long (suc i) (d ∷ ds) [] = refl
+  joined_long (suc i) (d ∷ ds) (e ∷ es) = ap suc (joined_long i ds es)
+
+  pub joined_all : (ds es : List D) → length ds ≡ length es → joined_upto (length ds) ds es ≡ join_registers operations ds es
+  joined_all [] es same = refl
+  joined_all (d ∷ ds) [] same = absurd (omega arith)
+  joined_all (d ∷ ds) (e ∷ es) same = ap (λ l. operations.join d e ∷ l) (joined_all ds es (omega arith))
+
+  pub joined_eleven : (ds es : List D) → length ds ≡ 11 → length es ≡ 11 → joined_upto 11 ds es ≡ join_registers operations ds es
+  joined_eleven ds es long same =
+      subst (λ n. joined_upto n ds es ≡ join_registers operations ds es) long (joined_all ds es (omega arith))
+
+module _ {D : Type 0} (d : D) where
+  filled_suc : (i : ℕ) (ds : List D) → i < length ds
+      → set (replicate i d ++ drop i ds) i d ≡ replicate (suc i) d ++ drop (suc i) ds
+  filled_suc i [] within = absurd (omega arith)
+  filled_suc zero (x ∷ xs) within = refl
+  filled_suc (suc i) (x ∷ xs) within = ap (λ l. d ∷ l) (filled_suc i xs (omega arith))
+
+  -- the first i + 1 replaced
+  pub filled_more : (i : ℕ) (ds : List D) → i < length ds
+      → set (replicate i d ++ drop i ds) i d ≡ replicate (i + 1) d ++ drop (i + 1) ds
+  filled_more i ds within = rw add-one (filled_suc i ds within)

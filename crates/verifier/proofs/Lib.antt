@@ -1,0 +1,5 @@
+pub mod Joins
+pub mod Checks
+pub mod Pushes
+pub mod Refusals
+pub mod Sizes

@@ -1,0 +1,123 @@
+-- Which programs are accepted, and why others aren't (profile).
+use Rattle.std.specs.Prelude.{ℕ, ℤ, zero, suc, Bool, true, false, not, is_some, is_none, ◌+◌, ◌==◌, ◌&&◌, ◌||◌, nat_lt, List, [], ◌∷◌, length, find, Option, Some, None, if◌then◌else◌, pos, int_lt}
+use Rattle.ebpf_decode.specs.Program.{instruction_at, instruction_in}
+use Rattle.ebpf_decode.specs.declared.insn.Insn.{Insn}
+use Rattle.ebpf_decode.specs.declared.insn.Insn.TheVariants.{Load, LoadSigned, StoreImmediate, StoreRegister, Jump, JumpLong, Exit}
+use Rattle.interp.specs.Cause.{calls_unknown, is_emit, slot_in, writes}
+use Rattle.interp.specs.Effect.{signed_size_of}
+use Rattle.interp.specs.Memory.{is_writable, size_of}
+use Rattle.interp.specs.declared.memory.Area.{Area}
+use Rattle.reg_domain.specs.Domain.{Operations}
+use Rattle.verifier.specs.Facts.{distance_of, fact, facts_at, slot_behind, target}
+use Rattle.verifier.specs.declared.facts.Facts.{Facts}
+use Rattle.verifier.specs.declared.reason.Reason.{Reason}
+use Rattle.verifier.specs.declared.reason.Reason.TheVariants.{JumpBack, JumpOutside, FallsOff, WriteToFramePointer, LoadOutside, StoreOutside, UnknownHelper, EmitAddress, EmitLength, EmitBudget}
+use Rattle.verifier.specs.declared.reason.Refusal.{Refusal}
+
+abbrev pub number_of : Reason → ℕ
+number_of JumpBack = 1
+number_of JumpOutside = 2
+number_of FallsOff = 3
+number_of WriteToFramePointer = 4
+number_of LoadOutside = 5
+number_of StoreOutside = 6
+number_of UnknownHelper = 7
+number_of EmitAddress = 8
+number_of EmitLength = 9
+number_of EmitBudget = 10
+
+abbrev pub all_reasons : List Reason
+all_reasons =
+    JumpBack ∷ JumpOutside ∷ FallsOff ∷ WriteToFramePointer ∷ LoadOutside ∷ StoreOutside ∷ UnknownHelper
+    ∷ EmitAddress ∷ EmitLength ∷ EmitBudget ∷ []
+
+-- does an instruction begin at this slot of a program?
+abbrev pub begins_at : List (Option Insn) → ℤ → Bool
+begins_at program slot = is_some (instruction_in (slot_in program slot))
+
+abbrev pub goes_back : Option ℤ → Bool
+goes_back (Some distance) = int_lt distance (pos 0)
+goes_back None = false
+
+abbrev pub leads_nowhere : List (Option Insn) → ℕ → Option ℤ → Bool
+leads_nowhere program slot (Some distance) = not (begins_at program (target slot distance))
+leads_nowhere program slot None = false
+
+-- does an instruction always leave the slots in a row?
+abbrev pub turns_away : Insn → Bool
+turns_away (Jump distance) = true
+turns_away (JumpLong distance) = true
+turns_away Exit = true
+turns_away _ = false
+
+-- may it be that an area can't be written, or that there is none?
+abbrev pub is_unwritable : Option Area → Bool
+is_unwritable None = true
+is_unwritable (Some area) = not (is_writable area)
+
+abbrev pub refused : ℕ → Option Reason → Option Refusal
+refused slot (Some reason) = Some (record { slot = slot; reason = reason })
+refused slot None = None
+
+-- the first of two refusals
+abbrev pub or_else : Option Refusal → Option Refusal → Option Refusal
+or_else (Some refusal) _ = Some refusal
+or_else None refusal = refusal
+
+module _ {D : Type 0} (operations : Operations D) where
+  -- the area that holds the bytes of an access, beside a block of this length
+  abbrev pub area_of : ℕ → Facts D → ℕ → ℤ → ℕ → Option Area
+  area_of block facts r offset size = operations.access block (fact operations facts r) offset size
+
+  abbrev pub loads_outside : ℕ → Facts D → Insn → Bool
+  loads_outside block facts (Load size dst src offset) = is_none (area_of block facts src offset (size_of size))
+  loads_outside block facts (LoadSigned size dst src offset) = is_none (area_of block facts src offset (signed_size_of size))
+  loads_outside block facts _ = false
+
+  abbrev pub stores_outside : ℕ → Facts D → Insn → Bool
+  stores_outside block facts (StoreImmediate size dst offset value) =
+      is_unwritable (area_of block facts dst offset (size_of size))
+  stores_outside block facts (StoreRegister size dst src offset) =
+      is_unwritable (area_of block facts dst offset (size_of size))
+  stores_outside block facts _ = false
+
+  -- the least and the most bytes that emit can take
+  abbrev pub least_emitted : Facts D → ℕ
+  least_emitted facts = (operations.bounds (fact operations facts 2)).low
+
+  abbrev pub most_emitted : Facts D → ℕ
+  most_emitted facts = (operations.bounds (fact operations facts 2)).high
+
+  module _ (program : List (Option Insn)) (limit block : ℕ) where
+    -- the reasons, each for itself; the limit is that of the group in bytes, the block has this length
+    abbrev pub fails : ℕ → Facts D → Insn → Reason → Bool
+    fails slot facts i JumpBack = goes_back (distance_of i)
+    fails slot facts i JumpOutside = leads_nowhere program slot (distance_of i)
+    fails slot facts i FallsOff = if turns_away i then false else not (begins_at program (pos (slot_behind slot i)))
+    fails slot facts i WriteToFramePointer = writes i 10
+    fails slot facts i LoadOutside = loads_outside block facts i
+    fails slot facts i StoreOutside = stores_outside block facts i
+    fails slot facts i UnknownHelper = calls_unknown i
+    fails slot facts i EmitAddress = is_emit i && is_none (area_of block facts 1 (pos 0) 0)
+    fails slot facts i EmitLength =
+        is_emit i && (least_emitted facts == 0 || is_none (area_of block facts 1 (pos 0) (most_emitted facts)))
+    fails slot facts i EmitBudget = is_emit i && nat_lt limit (facts.emitted + 2 + most_emitted facts)
+
+    -- the least reason to refuse an instruction at a slot with these facts
+    abbrev pub reason_of : ℕ → Facts D → Insn → Option Reason
+    reason_of slot facts i = find (fails slot facts i) all_reasons
+
+    -- the refusal of a slot; one with no facts isn't looked at
+    abbrev pub refusal_at : ℕ → Option Insn → Option (Facts D) → Option Refusal
+    refusal_at slot (Some i) (Some facts) = refused slot (reason_of slot facts i)
+    refusal_at slot _ _ = None
+
+    -- the first refusal at the slots below this one
+    abbrev pub refusal_below : ℕ → Option Refusal
+    refusal_below zero = None
+    refusal_below (suc slot) =
+        or_else (refusal_below slot) (refusal_at slot (instruction_at program slot) (facts_at operations program slot))
+
+    -- the first refusal of a program, which is accepted if there is none
+    abbrev pub refusal : Option Refusal
+    refusal = refusal_below (length program)

@@ -1,0 +1,27 @@
+-- What `verify` answers with.
+use Rattle.std.specs.Prelude.{ℕ, ◌≡◌, ◌<◌, ◌+◌, ◌^◌, ◌≤ℤ◌, ◌<ℤ◌, pos, Option, Some, IsSome, IfSome}
+use Rattle.ebpf_decode.specs.declared.insn.Insn.{Insn}
+use Rattle.ebpf_decode.specs.declared.insn.Insn.TheVariants.{Call}
+use Rattle.reg_domain.specs.Domain.{Operations}
+use Rattle.verifier.specs.Accepted.{most_emitted}
+use Rattle.verifier.specs.Facts.{distance_of, facts_behind, slot_behind, target}
+use Rattle.verifier.specs.declared.facts.Facts.{Facts}
+use Rattle.verifier.specs.declared.reason.Refusal.{Refusal}
+use Rattle.verifier.specs.declared.reason.VerifyFault.{VerifyFault}
+use Rattle.verifier.specs.declared.reason.VerifyFault.TheVariants.{Memory, Refused}
+
+-- the fault tells of this refusal, or that there was no memory, which tells nothing of the program
+abbrev pub IsFaultOf : Option Refusal → VerifyFault → Type 0
+IsFaultOf found Memory = Unit {0}
+IsFaultOf found (Refused refusal) = found ≡ Some refusal
+
+-- a call leaves the bound on the emitted bytes a number that can be counted
+abbrev pub HasRoom : {D : Type 0} → Operations D → Insn → Facts D → Type 0
+HasRoom operations (Call helper) facts = facts.emitted + 2 + most_emitted operations facts < 2 ^ 64
+HasRoom operations _ facts = Unit {0}
+
+-- an instruction leads to slots of a program of this many, and to no others
+pub record StaysInside {D : Type 0} (operations : Operations D) (slots slot : ℕ) (i : Insn) (facts : Facts D) : Type 0 where
+  pub behind : IsSome (facts_behind operations i facts) → slot_behind slot i < slots
+  pub first : IfSome (distance_of i) (λ distance. pos 0 ≤ℤ target slot distance)
+  pub last : IfSome (distance_of i) (λ distance. target slot distance <ℤ pos slots)

@@ -1,0 +1,12 @@
+pub mod Facts
+pub mod Accepted
+pub mod Answer
+pub mod Verified
+pub mod Meets
+pub mod Registers
+pub mod Moves
+pub mod Unhindered
+pub mod Flow
+pub mod Progress
+pub mod Laws
+pub mod Soundness

@@ -1,0 +1,35 @@
+-- When a state meets what is known of it.
+use Rattle.std.specs.Prelude.{ℕ, Bool, true, false, ◌≡◌, ◌<◌, ◌≤◌, List, [], ◌∷◌, length, Option, Some, None}
+use Rattle.ebpf_decode.specs.declared.insn.Insn.{Insn}
+use Rattle.interp.specs.State.{State}
+use Rattle.reg_domain.specs.Domain.{Operations}
+use Rattle.verifier.specs.Facts.{distance_of, facts_at_target, facts_behind, leads, slot_behind}
+use Rattle.verifier.specs.declared.facts.Facts.{Facts}
+
+module _ {D : Type 0} (contains : D → ℕ → Type 0) where
+  -- each word belongs to the fact at its place
+  abbrev pub Belong : List D → List ℕ → Type 0
+  Belong [] words = Unit {0}
+  Belong (d ∷ ds) [] = ⊥
+  Belong (d ∷ ds) (w ∷ ws) = contains d w × Belong ds ws
+
+  pub record Meets (facts : Facts D) (s : State) : Type 0 where
+    pub registers : Belong facts.registers s.registers
+    pub group : length s.group ≤ facts.emitted
+
+  abbrev pub MeetsSome : Option (Facts D) → State → Type 0
+  MeetsSome None s = ⊥
+  MeetsSome (Some facts) s = Meets facts s
+
+  module _ (operations : Operations D) (i : Insn) (facts : Facts D) (s s' : State) where
+    -- the second state is at the end of an edge of the instruction, taken or not, and meets what the edge
+    -- gives
+    abbrev pub IsAlong : Bool → Type 0
+    IsAlong false = (slot_behind s.slot i ≡ s'.slot) × MeetsSome (facts_behind operations i facts) s'
+    IsAlong true = (leads s.slot (distance_of i) s'.slot ≡ true) × MeetsSome (facts_at_target operations i facts) s'
+
+    -- a step led forward along an edge
+    pub record Moved : Type 0 where
+      pub taken : Bool
+      pub along : IsAlong taken
+      pub forward : s.slot < s'.slot

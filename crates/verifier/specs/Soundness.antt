@@ -1,0 +1,167 @@
+-- A program that is accepted over a sound domain never traps.
+use Rattle.std.specs.Prelude.{ℕ, zero, suc, ◌≡◌, ◌+◌, ◌^◌, ◌<◌, ◌≤◌, Bool, true, false, List, length, drop, count_by, is_some, Option, Some, None}
+use Rattle.std.proofs.Common.{arith, inl, inr, lit<, refl, subst, ◌∙◌}
+use Rattle.std.proofs.lemmas.Bool.{cases_lt}
+use Rattle.ebpf_decode.specs.Program.{instruction_at, instruction_count}
+use Rattle.ebpf_decode.specs.declared.insn.Insn.{Insn}
+use Rattle.interp.proofs.Entry.{begins}
+use Rattle.interp.proofs.StateLemmas.{kept, leads, within_limit}
+use Rattle.interp.specs.Cause.{is_exit, least_cause}
+use Rattle.interp.specs.Effect.{register}
+use Rattle.interp.specs.Run.{Run, continued, run_of}
+use Rattle.interp.specs.State.{IsState, State, entry}
+use Rattle.interp.specs.Step.{Ends, Goes, IsAt, after, decided, step_at, step_of}
+use Rattle.interp.specs.declared.cause.Cause.{Cause}
+use Rattle.interp.specs.declared.memory.Area.TheVariants.{Context, Block, Stack, Scratch}
+use Rattle.reg_domain.specs.Domain.{IsSound, Operations}
+use Rattle.verifier.specs.Accepted.{or_else, reason_of, refusal, refusal_at, refusal_below, refused}
+use Rattle.verifier.specs.Facts.{entry_facts, facts_at}
+use Rattle.verifier.specs.Flow.{arrives}
+use Rattle.verifier.specs.Laws.{AcceptedNeverTraps}
+use Rattle.verifier.specs.Meets.{Meets, MeetsSome, Moved}
+use Rattle.verifier.specs.Moves.{moved}
+use Rattle.verifier.specs.Progress.{begins_within, block_kept, fewer, some_left}
+use Rattle.interp.specs.TrapFree.{Exits, NeverTraps}
+use Rattle.verifier.specs.Unhindered.{unhindered}
+use Rattle.verifier.specs.declared.facts.Facts.{Facts}
+use Rattle.verifier.specs.declared.reason.Reason.{Reason}
+use Rattle.verifier.specs.declared.reason.Refusal.{Refusal}
+
+-- ---- a step that nothing hinders
+decided_goes : (s : State) (i : Insn) (least : Option Cause) → least ≡ None → is_exit i ≡ false
+    → decided s i least ≡ Goes (after s i)
+decided_goes s i None e runs_on = rw runs_on refl
+decided_goes s i (Some cause) e runs_on = cc
+
+decided_ends : (s : State) (i : Insn) (least : Option Cause) → least ≡ None → is_exit i ≡ true
+    → decided s i least ≡ Ends (register s 0) s
+decided_ends s i None e exits = rw exits refl
+decided_ends s i (Some cause) e exits = cc
+
+by_test : (P : Type 0) (b : Bool) → (b ≡ true → P) → (b ≡ false → P) → P
+by_test P true f g = f refl
+by_test P false f g = g refl
+
+module _ {D : Type 0} (contains : D → ℕ → Type 0) (operations : Operations D) where
+  -- what holds of each state of a run
+  record Stands (program : List (Option Insn)) (limit block : ℕ) (s : State) : Type 0 where
+    is : IsState s
+    block_long : length s.memory.block ≡ block
+    here : IsAt program s.slot
+    known : MeetsSome contains (facts_at operations program s.slot) s
+    group : length s.group ≤ limit
+
+module _ {D : Type 0} {contains : D → ℕ → Type 0} {operations : Operations D} (sound : IsSound contains operations) where
+  entry_meets : (bytes context scratch : List ℕ) → Meets contains (entry_facts operations) (entry bytes context scratch)
+  entry_meets bytes context scratch =
+      let none = sound.constant 0 (lit< tt) in
+      let context_at = sound.pointer Context 0 (lit< tt) in
+      let block_at = sound.pointer Block 0 (lit< tt) in
+      let scratch_at = sound.pointer Scratch 0 (lit< tt) in
+      let stack_end = sound.pointer Stack 512 (lit< tt) in
+      record {
+        registers =
+            (none, (context_at, (block_at, (scratch_at, (none, (none, (none, (none, (none, (none, (stack_end, tt)))))))))));
+        group = omega arith;
+      }
+
+  module _ (program : List (Option Insn)) (limit block : ℕ) (block_fits : block < 2 ^ 32)
+      (accepted : refusal operations program limit block ≡ None) where
+    -- ---- no refusal
+    refused_not : (slot : ℕ) (reason : Option Reason) → refused slot reason ≡ None
+        → reason ≡ None
+    refused_not slot None e = refl
+    refused_not slot (Some reason) e = cc
+
+    both_none : (a b : Option Refusal) → or_else a b ≡ None → (a ≡ None) × (b ≡ None)
+    both_none None b e = (refl, e)
+    both_none (Some first) b e = cc
+
+    abbrev at_slot : ℕ → Option Refusal
+    at_slot slot =
+        refusal_at operations program limit block slot (instruction_at program slot) (facts_at operations program slot)
+
+    none_at : (n slot : ℕ) → refusal_below operations program limit block n ≡ None → slot < n → at_slot slot ≡ None
+    none_at zero slot e within = absurd (omega arith)
+    none_at (suc n) slot e within =
+        let (before, last) = both_none (refusal_below operations program limit block n) (at_slot n) e in
+        elim (cases_lt slot n) [
+          | inl below ↦ none_at n slot before below
+          | inr from ↦
+              let same : n ≡ slot = omega arith in
+              let P : ℕ → Type 0 = λ k. at_slot k ≡ None in
+              subst P same last
+        ]
+
+    no_reason : (i : Insn) (facts : Facts D) (slot : ℕ) → IsAt program slot → instruction_at program slot ≡ Some i
+        → facts_at operations program slot ≡ Some facts → reason_of operations program limit block slot facts i ≡ None
+    no_reason i facts slot here begins known =
+        let none = none_at (length program) slot accepted (begins_within program slot here) in
+        refused_not slot (reason_of operations program limit block slot facts i) (rw (begins, known) at none)
+
+    -- ---- a step
+    abbrev Holds : State → Type 0
+    Holds s = Stands contains operations program limit block s
+
+    next : (i : Insn) (facts : Facts D) (s : State) → Holds s → step_of program limit s i ≡ Goes (after s i)
+        → instruction_at program s.slot ≡ Some i → facts_at operations program s.slot ≡ Some facts
+        → Moved contains operations i facts s (after s i) → Holds (after s i)
+    next i facts s holds goes begins known there = record {
+      is = kept program limit s (after s i) i holds.is goes;
+      block_long = block_kept s i holds.is ∙ holds.block_long;
+      here = leads program limit s (after s i) i goes;
+      known = arrives sound program i facts s (after s i) begins known there;
+      group = within_limit program limit s (after s i) i holds.group goes;
+    }
+
+    -- ---- a run, after n steps of at most so many
+    module _ (most n : ℕ) (s : State) (holds : Holds s) (one_left : n < most) (more : State → Run)
+        (rest : (s' : State) → Holds s' → s.slot < s'.slot → Exits most limit (more s')) where
+      abbrev Done : Option Insn → Type 0
+      Done at = Exits most limit (continued n s more (step_at program limit s at))
+
+      done_by : (i : Insn) (facts : Facts D) → instruction_at program s.slot ≡ Some i
+          → facts_at operations program s.slot ≡ Some facts → Meets contains facts s → Done (Some i)
+      done_by i facts begins known meets =
+          let reason = no_reason i facts s.slot holds.here begins known in
+          let none = unhindered sound program limit block i facts s block_fits holds.is holds.block_long meets reason in
+          by_test (Done (Some i)) (is_exit i)
+          (λ exits. rw (decided_ends s i (least_cause program limit s i) none exits)
+          (record { exit = tt; steps = omega arith; group = holds.group }))
+          (λ runs_on.
+          let goes = decided_goes s i (least_cause program limit s i) none runs_on in
+          let there = moved sound program limit block i facts s holds.is meets runs_on reason in
+          rw goes (rest (after s i) (next i facts s holds goes begins known there) there.forward))
+
+      done_at : (at : Option Insn) (known : Option (Facts D)) → instruction_at program s.slot ≡ at
+          → facts_at operations program s.slot ≡ known → is_some at ≡ true → MeetsSome contains known s → Done at
+      done_at (Some i) (Some facts) begins known here meets = done_by i facts begins known meets
+      done_at None known begins e here meets = cc
+      done_at (Some i) None begins known here meets = absurd meets
+
+    exits : (most fuel n : ℕ) (s : State) → Holds s → count_by is_some (drop s.slot program) ≤ fuel → n + fuel ≤ most
+        → Exits most limit (run_of program limit fuel n s)
+    unfolding run_of
+    exits most zero n s holds enough within =
+        let some = some_left program s.slot holds.here in absurd (omega (arith, some, enough))
+    exits most (suc fuel) n s holds enough within =
+        done_at most n s holds (omega (arith, within)) (λ s'. run_of program limit fuel (n + 1) s')
+        (λ s' holds' forward.
+        let less = fewer program s.slot s'.slot holds.here forward in
+        exits most fuel (n + 1) s' holds' (omega (arith, less, enough)) (omega (arith, within)))
+        (instruction_at program s.slot) (facts_at operations program s.slot) refl refl holds.here holds.known
+
+  -- ---- the theorem
+  pub never_traps : (program : List (Option Insn)) (limit block : ℕ) → block < 2 ^ 32
+      → is_some (instruction_at program 0) ≡ true
+      → refusal operations program limit block ≡ None
+      → NeverTraps program limit block
+  never_traps program limit block block_fits here accepted bytes context scratch long is =
+      let count = instruction_count program in
+      exits program limit block block_fits accepted count count 0 (entry bytes context scratch)
+      (record { is = is; block_long = long; here = here; known = entry_meets bytes context scratch; group = omega arith })
+      (omega arith) (omega arith)
+
+  pub accepted_never_traps : AcceptedNeverTraps operations
+  accepted_never_traps program is limit block block_fits accepted =
+      never_traps program limit block block_fits (begins program is) accepted

@@ -1,0 +1,68 @@
+//! What is known where a slot is reached.
+
+ghost use Rattle.std.specs.Prelude.{◌≡◌};
+ghost use Rattle.verifier.specs.Facts.{fact, with_fact, entry_facts, join_facts};
+
+use ebpf_decode::Register;
+use reg_domain::{Area, Domain};
+
+/// A fact about each register, and a bound on the bytes that were emitted.
+#[derive(Clone, Copy)]
+pub struct Facts<D> {
+    pub registers: [D; 11],
+    /// The group has at most so many bytes, frame lengths counted.
+    pub emitted: usize,
+}
+
+impl<D: Domain> Facts<D> {
+    /// What is known at the start of a block run.
+    pub(crate) fn entry() -> Facts<D>
+        ensures { result ≡ entry_facts D.operations }
+    {
+        let zero = D::constant(0);
+        Facts {
+            registers: [
+                zero,
+                D::pointer(Area::Context, 0),
+                D::pointer(Area::Block, 0),
+                D::pointer(Area::Scratch, 0),
+                zero,
+                zero,
+                zero,
+                zero,
+                zero,
+                zero,
+                D::pointer(Area::Stack, 512),
+            ],
+            emitted: 0,
+        }
+    }
+
+    /// The fact about a register.
+    #[inline]
+    pub(crate) fn get(&self, register: Register) -> D
+        ensures { result ≡ fact D.operations self.now register }
+    {
+        self.registers[register.index()]
+    }
+
+    /// Replaces the fact about a register.
+    #[inline]
+    pub(crate) fn set(&mut self, register: Register, fact: D)
+        ensures { self.new ≡ with_fact D.operations self.old register fact }
+    {
+        self.registers[register.index()] = fact;
+    }
+
+    /// Joins other facts into these.
+    #[tactic(auto, using(crate::proofs::Joins::joined_more, crate::proofs::Joins::joined_eleven))]
+    pub(crate) fn join(&mut self, other: &Facts<D>)
+        ensures { self.new ≡ join_facts D.operations self.old other.now }
+    {
+        for i in 0..11 {
+            let joined = self.registers[i].join(other.registers[i]);
+            self.registers[i] = joined;
+        }
+        self.emitted = self.emitted.max(other.emitted);
+    }
+}

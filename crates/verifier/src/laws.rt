@@ -1,0 +1,12 @@
+//! Laws of the definitions: each function's contract is one, and its body is empty.
+
+ghost use Rattle.verifier.specs.Laws.{AcceptedNeverTraps};
+
+use reg_domain::Domain;
+
+/// A program that is accepted over any domain never traps: over every block of the length that it was
+/// accepted for, every context and every scratch, a run of it ends by EXIT, after at most as many
+/// steps as it has instructions, with a group within the limit.
+pub fn accepted_never_traps<D: Domain>()
+    ensures { AcceptedNeverTraps D.operations }
+{}

@@ -1,0 +1,18 @@
+//! The verifier: says of a program that it never traps, over any domain of facts about registers.
+#![tactic(auto)]
+
+mod accept;
+mod check;
+mod edges;
+mod facts;
+pub mod laws;
+mod reason;
+mod rows;
+mod verified;
+
+pub use accept::verify;
+pub use reason::{Reason, Refusal, VerifyFault};
+pub use verified::Verified;
+
+#[cfg(test)]
+mod tests;

@@ -1,0 +1,71 @@
+//! What a verifier refuses.
+
+ghost use Rattle.std.specs.Prelude.{◌≡◌};
+ghost use Rattle.verifier.specs.Accepted.{number_of};
+
+use thiserror::Error;
+
+/// Why an instruction is refused. Where several reasons hold, the one with the least number is told
+/// (profile).
+#[derive(Clone, Copy, Debug, PartialEq, Eq)]
+pub enum Reason {
+    /// 1: a jump to a slot before the next one.
+    JumpBack,
+    /// 2: a jump to a slot where no instruction begins: outside the program, or the second slot of
+    /// a wide instruction.
+    JumpOutside,
+    /// 3: the program ends behind the instruction, which is no EXIT and no unconditional jump.
+    FallsOff,
+    /// 4: a write to R10, the read-only frame pointer (RFC 9669, 3).
+    WriteToFramePointer,
+    /// 5: a load whose bytes may not all lie in one area.
+    LoadOutside,
+    /// 6: a store whose bytes may not all lie in one writable area.
+    StoreOutside,
+    /// 7: a helper other than emit.
+    UnknownHelper,
+    /// 8: an emit from an address that may lie in no area.
+    EmitAddress,
+    /// 9: an emit that may be of no bytes, or whose bytes may not all lie in the area.
+    EmitLength,
+    /// 10: an emit that may take the group over its limit.
+    EmitBudget,
+}
+
+impl Reason {
+    /// The reason's number, 1 to 10.
+    pub fn number(self) -> u8
+        ensures { result ≡ number_of self }
+    {
+        match self {
+            Reason::JumpBack => 1,
+            Reason::JumpOutside => 2,
+            Reason::FallsOff => 3,
+            Reason::WriteToFramePointer => 4,
+            Reason::LoadOutside => 5,
+            Reason::StoreOutside => 6,
+            Reason::UnknownHelper => 7,
+            Reason::EmitAddress => 8,
+            Reason::EmitLength => 9,
+            Reason::EmitBudget => 10,
+        }
+    }
+}
+
+/// An instruction that is refused, by its first slot, and why.
+#[derive(Clone, Copy, Debug, PartialEq, Eq)]
+pub struct Refusal {
+    pub slot: usize,
+    pub reason: Reason,
+}
+
+/// Why a program isn't accepted.
+#[derive(Clone, Copy, Debug, PartialEq, Eq, Error)]
+pub enum VerifyFault {
+    /// There was no memory for the facts; it says nothing of the program.
+    #[error("no memory")]
+    Memory,
+    /// The lowest slot that fails, and its least reason.
+    #[error("refused")]
+    Refused(Refusal),
+}

@@ -1,0 +1,77 @@
+//! The facts for all slots, one slot visited after the other.
+
+ghost use Rattle.std.specs.Prelude.{◌≡◌, ◌+◌, ◌<◌, ◌≤◌, ◌^◌, ◌==◌, if◌then◌else◌, ℕ, length, get_or, Option, Some, None, IsSome, IfNone};
+ghost use Rattle.ebpf_decode.specs.Program.{instruction_at};
+ghost use Rattle.verifier.specs.Accepted.{refusal_at};
+ghost use Rattle.verifier.specs.Facts.{gives, merge};
+ghost use Rattle.verifier.specs.Answer.{HasRoom, StaysInside};
+
+use crate::check::{distance_of, find_reason, slot_behind, target};
+use crate::edges::{at_target, behind};
+use crate::facts::Facts;
+use crate::reason::Refusal;
+use ebpf_decode::{Insn, Program};
+use reg_domain::Domain;
+
+/// Joins facts, where there are some, into what a slot was given so far.
+fn give<D: Domain>(rows: &mut [Option<Facts<D>>], to: usize, facts: Option<Facts<D>>)
+    requires { IsSome facts → to < length rows.old }
+    ensures len { length rows.new ≡ length rows.old }
+    ensures given { (s : ℕ) → s < length rows.old → get_or rows.new s None ≡ merge D.operations (get_or rows.old s None) (if to == s then facts else None) }
+{
+    let Some(facts) = &facts else {
+        return;
+    };
+    match &mut rows[to] {
+        Some(earlier) => earlier.join(facts),
+        empty => *empty = Some(*facts),
+    }
+}
+
+/// Gives what an instruction leaves known to the slots that it leads to.
+fn push<D: Domain>(rows: &mut [Option<Facts<D>>], slot: usize, insn: &Insn, facts: &Facts<D>)
+    requires slot { slot < 4096 }
+    requires inside { StaysInside D.operations (length rows.old) slot insn.now facts.now }
+    requires room { HasRoom D.operations insn.now facts.now }
+    ensures len { length rows.new ≡ length rows.old }
+    ensures given { (s : ℕ) → s < length rows.old → get_or rows.new s None ≡ gives D.operations (Some insn.now) slot (Some facts.now) s (get_or rows.old s None) }
+{
+    give(rows, slot_behind(slot, insn), behind(insn, facts));
+    if let Some(distance) = distance_of(insn) {
+        give(
+            rows,
+            target(slot, distance).unsigned_abs() as usize,
+            at_target(insn, facts),
+        );
+    }
+}
+
+/// Looks at one slot, and gives what its instruction leaves known to the slots that it leads to.
+#[tactic(auto, using(crate::proofs::Checks::stays_inside, crate::proofs::Checks::room_left))]
+pub fn visit<D: Domain>(
+    rows: &mut [Option<Facts<D>>],
+    program: &Program,
+    limit: usize,
+    block: usize,
+    slot: usize,
+) -> Option<Refusal>
+    requires limit { limit < 2 ^ 16 }
+    requires block { block < 2 ^ 32 }
+    requires long { length rows.old ≡ length program.now }
+    requires within { slot < length program.now }
+    ensures len { length rows.new ≡ length rows.old }
+    ensures found { result ≡ refusal_at D.operations program.now limit block slot (instruction_at program.now slot) (get_or rows.old slot None) }
+    ensures given { IfNone result ((s : ℕ) → s < length rows.old → get_or rows.new s None ≡ gives D.operations (instruction_at program.now slot) slot (get_or rows.old slot None) s (get_or rows.old s None)) }
+{
+    let Some(insn) = program.at(slot) else {
+        return None;
+    };
+    let Some(facts) = rows[slot] else {
+        return None;
+    };
+    if let Some(reason) = find_reason(program, limit, block, slot, insn, &facts) {
+        return Some(Refusal { slot, reason });
+    }
+    push(rows, slot, insn, &facts);
+    None
+}

@@ -1,0 +1,106 @@
+//! Accepted programs end the same with every check and with none.
+
+ghost use Rattle.std.specs.Prelude.{◌≤◌};
+
+use super::{ADDRESS_OF_BLOCK, EMIT, EXIT, program};
+use crate::verify;
+use interp::{End, Machine};
+use reg_domain::Intervals;
+use std::alloc::Global;
+use std::process::Abort;
+use std::test::Fail;
+
+const MOVE_ZERO: u64 = 0xb700_0000_0000_0000; // mov r0, 0
+
+const FIRST_BYTE: u64 = 0x7126_0000_0000_0000; // ldxb r6, [r2+0]
+
+/// Emits the block's first 8 bytes where the first is 7.
+const MATCHING: [u64; 7] = [
+    FIRST_BYTE,
+    0x5506_0300_0700_0000, // jne r6, 7, +3
+    ADDRESS_OF_BLOCK,
+    0xb702_0000_0800_0000, // mov r2, 8
+    EMIT,
+    MOVE_ZERO,
+    EXIT,
+];
+
+/// Adds the block's first byte to a sum in scratch, and ends the run with its third block.
+const ADDING: [u64; 9] = [
+    0x7124_0000_0000_0000, // ldxb r4, [r2+0]
+    0x7935_0000_0000_0000, // ldxdw r5, [r3+0]
+    0x0f45_0000_0000_0000, // add r5, r4
+    0x7b53_0000_0000_0000, // stxdw [r3+0], r5
+    0x6116_0800_0000_0000, // ldxw r6, [r1+8]
+    MOVE_ZERO,
+    0x5506_0100_0200_0000, // jne r6, 2, +1
+    0xb700_0000_0100_0000, // mov r0, 1
+    EXIT,
+];
+
+/// Emits 1 to 8 of the block's bytes, as its first says.
+const GROWING: [u64; 8] = [
+    FIRST_BYTE,
+    0x5706_0000_0700_0000, // and r6, 7
+    0x0706_0000_0100_0000, // add r6, 1
+    ADDRESS_OF_BLOCK,
+    0xbf62_0000_0000_0000, // mov r2, r6
+    EMIT,
+    MOVE_ZERO,
+    EXIT,
+];
+
+/// Loads the byte that the block's first two tell.
+const INDEXED: [u64; 5] = [
+    0x6926_0000_0000_0000, // ldxh r6, [r2+0]
+    0x5706_0000_ff01_0000, // and r6, 511
+    0x0f62_0000_0000_0000, // add r2, r6
+    0x7120_0000_0000_0000, // ldxb r0, [r2+0]
+    EXIT,
+];
+
+/// Runs a program both ways on blocks that begin with these bytes, one block after the other.
+fn compare(
+    rt: &impl Abort,
+    alloc: Global,
+    slots: &[u64],
+    limit: usize,
+    firsts: &[u8],
+) -> Result<(), Fail>
+    requires { limit ≤ 16 }
+{
+    let checked = program(alloc, slots)?;
+    let verified = verify::<Intervals>(alloc, program(alloc, slots)?, limit, 512)?;
+    let (mut scratch, mut other_scratch) = ([0; 1024], [0; 1024]);
+    let mut index = 0;
+    for first in firsts {
+        let mut block = [0; 512];
+        block[0] = *first;
+        let mut context = [0; 32];
+        context[8] = index;
+        let (mut group, mut other_group) = ([9; 16], [9; 16]);
+        let mut machine = Machine::new(&block, &context, &mut scratch);
+        assert!(rt; checked.at(machine.slot()).is_some());
+        let end = machine.run_checked(&checked, limit, checked.len() as u64, &mut group);
+        let mut free = Machine::new(&block, &context, &mut other_scratch);
+        let exit = free.run_verified(&verified, &mut other_group);
+        assert_eq!(rt; end, End::Exit { r0: exit.r0 });
+        assert_eq!(rt; machine.steps(), exit.steps);
+        assert_eq!(rt; machine.group_len(), exit.group_len);
+        assert_eq!(rt; machine.frames(), exit.frames);
+        assert_eq!(rt; group, other_group);
+        index = index.wrapping_add(1u8);
+    }
+    assert_eq!(rt; scratch, other_scratch);
+    Ok(())
+}
+
+#[test]
+fn with_every_check_and_with_none(rt: HostRuntime) -> Result<(), Fail> {
+    let alloc = rt.alloc();
+    compare(&rt, alloc, &[MOVE_ZERO, EXIT], 0, &[0, 1])?;
+    compare(&rt, alloc, &MATCHING, 10, &[7, 8, 7])?;
+    compare(&rt, alloc, &ADDING, 0, &[1, 2, 3, 4])?;
+    compare(&rt, alloc, &GROWING, 10, &[3, 7, 0, 255])?;
+    compare(&rt, alloc, &INDEXED, 0, &[0, 9, 255])
+}
