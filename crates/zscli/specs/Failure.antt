@@ -1,7 +1,7 @@
 -- How the program ends (profile).
 use Rattle.std.specs.Prelude.{ℕ}
 use Rattle.zscli.specs.declared.failure.Failure.{Failure}
-use Rattle.zscli.specs.declared.failure.Failure.TheVariants.{CommandLine, NotText, NotNumber, CannotRead, CannotWrite, NoMemory, LineRefused, GeometryRefused, ImageRefused, AssemblyRefused, ProgramRefused, FrameRefused, EmitExceedsBlock}
+use Rattle.zscli.specs.declared.failure.Failure.TheVariants.{CommandLine, NotText, NotNumber, CannotRead, CannotWrite, NoMemory, LineRefused, GeometryRefused, ImageRefused, AssemblyRefused, ProgramRefused, FrameRefused, EmitExceedsBlock, NotAccepted}
 
 -- the exit status of a failure: 1 for a file or memory, 2 for the command line, 3 for input that is refused
 abbrev pub status_of : Failure → ℕ
@@ -18,3 +18,4 @@ status_of (ImageRefused kind) = 3
 status_of (AssemblyRefused line kind) = 3
 status_of (ProgramRefused slot kind) = 3
 status_of (FrameRefused byte) = 3
+status_of NotAccepted = 3

@@ -4,7 +4,7 @@ ghost use Rattle.std.specs.Prelude.{◌≡◌, ◌≤◌};
 
 use crate::failure::{Failure, STANDARD_OUTPUT};
 use crate::files::Files;
-use crate::{asm, disasm, exec, format, trace, unpack, zones};
+use crate::{asm, disasm, exec, format, trace, unpack, verify, zones};
 use clap::Command;
 use clap::error::ErrorKind;
 use std::alloc::{AllocError, Global};
@@ -12,7 +12,8 @@ use std::io::Write;
 
 /// Does what the words ask for, the program's name first, and answers the exit status: 0 where all
 /// was done, 1 where a file failed or memory was wanting, 2 for a wrong command line, 3 for input
-/// that is refused. For 1 and 3 the last line written to `err` says what it was.
+/// that is refused. For 1 and 3 the last line written to `err` says what it was; that a program isn't
+/// accepted stands on `out` alone.
 pub fn command<F: Files, O: Write, E: Write>(
     alloc: Global,
     words: &[String],
@@ -48,6 +49,7 @@ fn run<'a, F: Files, O: Write>(
         Some((asm::NAME, matches)) => asm::asm(alloc, matches, files),
         Some((disasm::NAME, matches)) => disasm::disasm(alloc, matches, files, out),
         Some((trace::NAME, matches)) => trace::trace(alloc, matches, files, out),
+        Some((verify::NAME, matches)) => verify::verify(alloc, matches, files, out),
         Some((unpack::NAME, matches)) => unpack::unpack(alloc, matches, files, out),
         _ => {
             let message = "a command is required";
@@ -68,6 +70,7 @@ fn command_line<'a>(alloc: Global) -> Result<Command<'a>, AllocError> {
         .subcommand(asm::subcommand(alloc)?)?
         .subcommand(disasm::subcommand(alloc)?)?
         .subcommand(trace::subcommand(alloc)?)?
+        .subcommand(verify::subcommand(alloc)?)?
         .subcommand(unpack::subcommand(alloc)?)
 }
 

@@ -45,6 +45,9 @@ pub(crate) enum Failure<'a> {
     FrameRefused(usize),
     #[error("emit exceeds block")]
     EmitExceedsBlock,
+    /// What a verifier says of a program stands on standard output alone.
+    #[error("")]
+    NotAccepted,
 }
 
 impl<'a> Failure<'a> {
@@ -98,6 +101,7 @@ impl<'a> Failure<'a> {
         let _ = match &self {
             // This text has a line end of its own.
             Failure::CommandLine(error) => write!(err, "{error}"),
+            Failure::NotAccepted => Ok(()),
             _ => writeln!(err, "{self}"),
         };
         self.status()
@@ -119,7 +123,8 @@ impl<'a> Failure<'a> {
             | Failure::ImageRefused(_)
             | Failure::AssemblyRefused(..)
             | Failure::ProgramRefused(..)
-            | Failure::FrameRefused(_) => 3,
+            | Failure::FrameRefused(_)
+            | Failure::NotAccepted => 3,
         }
     }
 }

@@ -22,6 +22,7 @@ mod reply;
 mod tests;
 mod trace;
 mod unpack;
+mod verify;
 mod words;
 mod zones;
 

@@ -13,6 +13,7 @@ mod memory;
 mod programs;
 mod serving;
 mod submissions;
+mod verifying;
 
 use memory::Memory;
 

@@ -23,7 +23,7 @@ fn files_of_one_command(rt: HostRuntime) -> Result<(), Fail> {
     framed[..5].copy_from_slice(b"\x03\0abc");
     let mut spoiled = framed;
     spoiled[511] = 1;
-    let table: [(&str, &[u8], u8, &str, &str); 8] = [
+    let table: [(&str, &[u8], u8, &str, &str); 13] = [
         ("zscli disasm events", MATCHING, 0, LISTING, ""),
         ("zscli disasm events", b"", 3, "", "program refused 0 21\n"),
         (
@@ -53,6 +53,41 @@ fn files_of_one_command(rt: HostRuntime) -> Result<(), Fail> {
             3,
             "",
             "geometry refused 1\n",
+        ),
+        (
+            "zscli verify events --block 512 --emit 10",
+            MATCHING,
+            0,
+            "accepted 7\n",
+            "",
+        ),
+        (
+            "zscli verify events --block 512 --emit 9",
+            MATCHING,
+            3,
+            "refused 4 10\n",
+            "",
+        ),
+        (
+            "zscli verify events --block 513 --emit 514",
+            b"",
+            3,
+            "",
+            "program refused 0 21\n",
+        ),
+        (
+            "zscli verify events --block 513 --emit 514",
+            MATCHING,
+            3,
+            "",
+            "geometry refused 1\n",
+        ),
+        (
+            "zscli verify events --block 512 --emit 513",
+            MATCHING,
+            2,
+            "",
+            "emit exceeds block\n",
         ),
         (
             "zscli asm events made",
