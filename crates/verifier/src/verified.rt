@@ -75,11 +75,11 @@ impl<D: Domain> TrapFree for Verified<D> {
     ghost block = { λ v. v.block };
 
     fn program(&self) -> &Program {
-        self.program()
+        Verified::program(self)
     }
 
     fn limit(&self) -> usize {
-        self.limit()
+        Verified::limit(self)
     }
 
     ghost never_traps = { λ v. never_traps D.sound v.program v.limit v.block v.block_fits v.begins v.accepted };
