@@ -1,11 +1,14 @@
 //! Programs that are accepted or refused, worked out by hand from the rules.
 
+ghost use Rattle.std.specs.Prelude.{◌<◌, ◌^◌};
+
 use crate::{VerifyFault, verify};
 use ebpf_decode::{Program, decode};
 use reg_domain::{Constants, Domain, Intervals};
 use std::alloc::Global;
 use std::test::Fail;
 
+mod domains;
 mod runs;
 
 const EXIT: u64 = 0x9500_0000_0000_0000;
@@ -13,6 +16,33 @@ const EXIT: u64 = 0x9500_0000_0000_0000;
 const EMIT: u64 = 0x8500_0000_0100_0000;
 
 const ADDRESS_OF_BLOCK: u64 = 0xbf21_0000_0000_0000; // mov r1, r2
+
+const MOVE_ZERO: u64 = 0xb700_0000_0000_0000; // mov r0, 0
+
+const FIRST_BYTE: u64 = 0x7126_0000_0000_0000; // ldxb r6, [r2+0]
+
+/// Emits the block's first 8 bytes where the first is 7.
+const MATCHING: [u64; 7] = [
+    FIRST_BYTE,
+    0x5506_0300_0700_0000, // jne r6, 7, +3
+    ADDRESS_OF_BLOCK,
+    0xb702_0000_0800_0000, // mov r2, 8
+    EMIT,
+    MOVE_ZERO,
+    EXIT,
+];
+
+/// Emits 1 to 8 of the block's bytes, as its first says.
+const GROWING: [u64; 8] = [
+    FIRST_BYTE,
+    0x5706_0000_0700_0000, // and r6, 7
+    0x0706_0000_0100_0000, // add r6, 1
+    ADDRESS_OF_BLOCK,
+    0xbf62_0000_0000_0000, // mov r2, r6
+    EMIT,
+    MOVE_ZERO,
+    EXIT,
+];
 
 /// The program of these slots, each with its bytes in order.
 fn program(alloc: Global, slots: &[u64]) -> Result<Program, Fail> {
@@ -23,20 +53,27 @@ fn program(alloc: Global, slots: &[u64]) -> Result<Program, Fail> {
     Ok(decode(alloc, &bytes)?)
 }
 
-/// The slot and the number of the reason that a program is refused for, beside blocks of 512 bytes
-/// and groups of at most 16.
-fn refusal<D: Domain>(alloc: Global, slots: &[u64]) -> Result<Option<(usize, u8)>, Fail> {
-    match verify::<D>(alloc, program(alloc, slots)?, 16, 512) {
+/// The slot and the number of the reason that a program is refused for.
+fn refusal<D: Domain>(
+    alloc: Global,
+    slots: &[u64],
+    limit: usize,
+    block: usize,
+) -> Result<Option<(usize, u8)>, Fail>
+    requires limit { limit < 2 ^ 16 }
+    requires block { block < 2 ^ 32 }
+{
+    match verify::<D>(alloc, program(alloc, slots)?, limit, block) {
         Ok(_) => Ok(None),
         Err(VerifyFault::Refused(refusal)) => Ok(Some((refusal.slot, refusal.reason.number()))),
         Err(VerifyFault::Memory) => Err(Fail::from("no memory")),
     }
 }
 
-/// The same over both domains, where they agree.
+/// The same over both domains, where they agree, beside blocks of 512 bytes and groups of at most 16.
 fn either_refusal(alloc: Global, slots: &[u64]) -> Result<Option<(usize, u8)>, Fail> {
-    let constants = refusal::<Constants>(alloc, slots)?;
-    if refusal::<Intervals>(alloc, slots)? == constants {
+    let constants = refusal::<Constants>(alloc, slots, 16, 512)?;
+    if refusal::<Intervals>(alloc, slots, 16, 512)? == constants {
         Ok(constants)
     } else {
         Err(Fail::from("the domains disagree"))
@@ -46,17 +83,16 @@ fn either_refusal(alloc: Global, slots: &[u64]) -> Result<Option<(usize, u8)>, F
 #[test]
 fn the_least_reason_of_the_first_slot(rt: HostRuntime) -> Result<(), Fail> {
     let alloc = rt.alloc();
-    let move_zero = 0xb700_0000_0000_0000;
-    assert_eq!(rt; either_refusal(alloc, &[move_zero, EXIT])?, None);
+    assert_eq!(rt; either_refusal(alloc, &[MOVE_ZERO, EXIT])?, None);
     // ja -2
     assert_eq!(rt;
-        either_refusal(alloc, &[move_zero, 0x0500_feff_0000_0000, EXIT])?,
+        either_refusal(alloc, &[MOVE_ZERO, 0x0500_feff_0000_0000, EXIT])?,
         Some((1, 1))
     );
     // ja +1, lddw r0, 0
     let into_wide = [0x0500_0100_0000_0000, 0x1800_0000_0000_0000, 0, EXIT];
     assert_eq!(rt; either_refusal(alloc, &into_wide)?, Some((0, 2)));
-    assert_eq!(rt; either_refusal(alloc, &[move_zero])?, Some((0, 3)));
+    assert_eq!(rt; either_refusal(alloc, &[MOVE_ZERO])?, Some((0, 3)));
     // mov r10, 0
     assert_eq!(rt;
         either_refusal(alloc, &[0xb70a_0000_0000_0000, EXIT])?,
@@ -97,7 +133,7 @@ fn a_slot_that_nothing_leads_to(rt: HostRuntime) -> Result<(), Fail> {
 /// Emits 8 bytes where the block's first is 7, and then these many more.
 fn two_frames(more: u64) -> [u64; 11] {
     [
-        0x7126_0000_0000_0000, // ldxb r6, [r2+0]
+        FIRST_BYTE,
         ADDRESS_OF_BLOCK,
         0xb702_0000_0800_0000, // mov r2, 8
         0x5506_0100_0700_0000, // jne r6, 7, +1
@@ -106,7 +142,7 @@ fn two_frames(more: u64) -> [u64; 11] {
         0x0701_0000_f8ff_ffff, // add r1, -8
         more,
         EMIT,
-        0xb700_0000_0000_0000, // mov r0, 0
+        MOVE_ZERO,
         EXIT,
     ]
 }
@@ -124,7 +160,7 @@ fn a_group_that_grows_along_one_of_two_ways(rt: HostRuntime) -> Result<(), Fail>
 
 #[test]
 fn what_was_accepted(rt: HostRuntime) -> Result<(), Fail> {
-    let program = program(rt.alloc(), &[0xb700_0000_0000_0000, EXIT])?;
+    let program = program(rt.alloc(), &[MOVE_ZERO, EXIT])?;
     let verified = verify::<Constants>(rt.alloc(), program, 16, 512)?;
     assert_eq!(rt; verified.program().slots(), 2);
     assert_eq!(rt; verified.limit(), 16);

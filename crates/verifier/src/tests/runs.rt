@@ -2,28 +2,13 @@
 
 ghost use Rattle.std.specs.Prelude.{◌≤◌};
 
-use super::{ADDRESS_OF_BLOCK, EMIT, EXIT, program};
+use super::{EXIT, GROWING, MATCHING, MOVE_ZERO, program};
 use crate::verify;
 use interp::{End, Machine};
 use reg_domain::Intervals;
 use std::alloc::Global;
 use std::process::Abort;
 use std::test::Fail;
-
-const MOVE_ZERO: u64 = 0xb700_0000_0000_0000; // mov r0, 0
-
-const FIRST_BYTE: u64 = 0x7126_0000_0000_0000; // ldxb r6, [r2+0]
-
-/// Emits the block's first 8 bytes where the first is 7.
-const MATCHING: [u64; 7] = [
-    FIRST_BYTE,
-    0x5506_0300_0700_0000, // jne r6, 7, +3
-    ADDRESS_OF_BLOCK,
-    0xb702_0000_0800_0000, // mov r2, 8
-    EMIT,
-    MOVE_ZERO,
-    EXIT,
-];
 
 /// Adds the block's first byte to a sum in scratch, and ends the run with its third block.
 const ADDING: [u64; 9] = [
@@ -35,18 +20,6 @@ const ADDING: [u64; 9] = [
     MOVE_ZERO,
     0x5506_0100_0200_0000, // jne r6, 2, +1
     0xb700_0000_0100_0000, // mov r0, 1
-    EXIT,
-];
-
-/// Emits 1 to 8 of the block's bytes, as its first says.
-const GROWING: [u64; 8] = [
-    FIRST_BYTE,
-    0x5706_0000_0700_0000, // and r6, 7
-    0x0706_0000_0100_0000, // add r6, 1
-    ADDRESS_OF_BLOCK,
-    0xbf62_0000_0000_0000, // mov r2, r6
-    EMIT,
-    MOVE_ZERO,
     EXIT,
 ];
 
@@ -103,4 +76,19 @@ fn with_every_check_and_with_none(rt: HostRuntime) -> Result<(), Fail> {
     compare(&rt, alloc, &ADDING, 0, &[1, 2, 3, 4])?;
     compare(&rt, alloc, &GROWING, 10, &[3, 7, 0, 255])?;
     compare(&rt, alloc, &INDEXED, 0, &[0, 9, 255])
+}
+
+#[test]
+fn a_frame_as_long_as_the_block_says(rt: HostRuntime) -> Result<(), Fail> {
+    let verified = verify::<Intervals>(rt.alloc(), program(rt.alloc(), &GROWING)?, 10, 512)?;
+    let mut block = [0; 512];
+    block[0] = 3;
+    let (context, mut scratch, mut group) = ([0; 32], [0; 1024], [9; 10]);
+    let exit = Machine::new(&block, &context, &mut scratch).run_verified(&verified, &mut group);
+    assert_eq!(rt;
+        (exit.r0, exit.steps, exit.group_len, exit.frames),
+        (0, 8, 6, 1)
+    );
+    assert_eq!(rt; group, [4, 0, 3, 0, 0, 0, 9, 9, 9, 9]);
+    Ok(())
 }
