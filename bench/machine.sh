@@ -1,32 +1,34 @@
 #!/bin/sh
 # Times the machine, with every check and as it runs accepted programs, against DPDK's interpreter
 # (Debian's libdpdk-dev) on the same instructions over a block of 4096 bytes, and prints the
-# picoseconds an instruction, the best of several rounds, with their ratios: at most 1.5 is wanted of
-# the first.
+# picoseconds an instruction, the best of several rounds and launches, with their ratios to DPDK's: at
+# most 1.5 is wanted of the first.
 set -e
 here=$(cd "$(dirname "$0")" && pwd)
+. "$here/least.sh"
 work=$(mktemp -d)
 trap 'rm -rf "$work"' EXIT
 cc -O2 -march=native -o "$work/dpdk" "$here/machine.c" $(pkg-config --cflags --libs libdpdk)
 "$work/dpdk" write "$work"
-cd "$here/../crates/bench_machine"
-rounds=30
-repeats=500
-# builds the program where it has to
-rt run -- "$work/straight.bin" "$work/block.bin" 0 0 >/dev/null
+checked=$here/../crates/bench_machine/out/bench_machine
+verified=$here/../crates/bench_verifier/out/bench_verifier
+rounds=60
+repeats=200
+# builds the programs where it has to
+for crate in bench_machine bench_verifier; do
+    (cd "$here/../crates/$crate" && rt run -- "$work/straight.bin" "$work/block.bin" 0 0 >/dev/null)
+done
 for name in straight branchy; do
-    out/bench_machine "$work/$name.bin" "$work/block.bin" $rounds $repeats >"$work/ours"
-    steps=$(sed -n '1s/.* //p' "$work/ours")
-    "$work/dpdk" time $name "$steps" $rounds $repeats >"$work/theirs"
-    wanted=$(sed -n 1p "$work/theirs")
-    if [ "$(head -n 2 "$work/ours")" != "$(printf '%s\n%s' "$wanted" "$wanted")" ]; then
+    wanted=$("$checked" "$work/$name.bin" "$work/block.bin" 0 0)
+    steps=${wanted#* }
+    if [ "$wanted" != "$("$work/dpdk" time $name "$steps" 0 1 | sed -n 1p)" ] ||
+        [ "$wanted" != "$("$verified" "$work/$name.bin" "$work/block.bin" 0 0 | sed -n 2p)" ]; then
         echo "$name: the answers differ" >&2
         exit 1
     fi
-    checked=$(sed -n '3s/ ps//p' "$work/ours")
-    verified=$(sed -n '4s/ ps//p' "$work/ours")
-    theirs=$(sed -n '2s/ ps//p' "$work/theirs")
+    theirs=$(least 2 "$work/dpdk" time $name "$steps" $rounds $repeats)
+    all=$(least 2 "$checked" "$work/$name.bin" "$work/block.bin" $rounds $repeats)
+    none=$(least 4 "$verified" "$work/$name.bin" "$work/block.bin" $rounds $repeats)
     ratio() { awk "BEGIN { printf \"%.2f\", $1 / $theirs }"; }
-    echo "$name: DPDK $theirs ps; checked $checked ps, ratio $(ratio "$checked");" \
-        "verified $verified ps, ratio $(ratio "$verified")"
+    echo "$name: DPDK $theirs ps; checked $all ps, ratio $(ratio "$all"); verified $none ps, ratio $(ratio "$none")"
 done

@@ -1,23 +1,31 @@
-//! Loads a program, that is decodes and verifies it for blocks of 4096 bytes and nothing emitted, and
-//! prints the answer and, after some rounds, the best time of a load in nanoseconds.
+//! Loads a program, that is decodes and verifies it for the block's length and nothing emitted, and
+//! runs it over the block. Prints the number of instructions, then R0 and the number of steps and,
+//! after some rounds, the best time of a load in nanoseconds and of an instruction in picoseconds.
 //!
-//! bench_verifier PROGRAM ROUNDS REPEATS
+//! bench_verifier PROGRAM BLOCK ROUNDS REPEATS
 #![tactic(auto)]
 
-use anyhow::{Context, Result, bail};
+ghost use Rattle.std.specs.Prelude.{◌≡◌, ◌≤◌, IfOk, length};
+ghost use Rattle.verifier.specs.Verified.{block_of, limit_of};
+
+use anyhow::{Context, Result, bail, ensure};
 use ebpf_decode::decode;
+use interp::Machine;
 use reg_domain::Intervals;
 use std::alloc::Global;
 use std::rt::{Clock, Env, Files};
 use std::time::Instant;
 use std::{env, fs};
-use verifier::{VerifyFault, verify};
+use verifier::{Verified, VerifyFault, verify};
 
-/// One load: the number of instructions.
-fn load(alloc: Global, bytes: &[u8]) -> Result<usize> {
-    let program = decode(alloc, bytes)?;
-    match verify::<Intervals>(alloc, program, 0, 4096) {
-        Ok(verified) => Ok(verified.program().len()),
+/// One load.
+fn load(alloc: Global, bytes: &[u8], block: usize) -> Result<Verified<Intervals>>
+    requires { block ≤ 4096 }
+    ensures limit { IfOk result (λ v. limit_of v ≡ 0) }
+    ensures block { IfOk result (λ v. block_of v ≡ block) }
+{
+    match verify::<Intervals>(alloc, decode(alloc, bytes)?, 0, block) {
+        Ok(verified) => Ok(verified),
         Err(VerifyFault::Refused(refusal)) => {
             bail!("refused at slot {}: {:?}", refusal.slot, refusal.reason)
         }
@@ -25,11 +33,49 @@ fn load(alloc: Global, bytes: &[u8]) -> Result<usize> {
     }
 }
 
+/// One run: R0 and the number of steps.
+fn run(program: &Verified<Intervals>, block: &[u8]) -> (u64, u64)
+    requires most { length block.now ≤ 4096 }
+    requires block { length block.now ≡ block_of program.now }
+    requires limit { limit_of program.now ≡ 0 }
+{
+    let context = [0; 32];
+    let mut scratch = [0; 1024];
+    let exit = Machine::new(block, &context, &mut scratch).run_verified(program, &mut []);
+    (exit.r0, exit.steps)
+}
+
 /// The nanoseconds of some loads.
-fn round(rt: &impl Clock, alloc: Global, bytes: &[u8], repeats: u32) -> Result<u128> {
+fn load_round(
+    rt: &impl Clock,
+    alloc: Global,
+    bytes: &[u8],
+    block: usize,
+    repeats: u32,
+) -> Result<u128>
+    requires { block ≤ 4096 }
+{
     let start = Instant::now(rt)?;
     for _ in 0..repeats {
-        load(alloc, bytes)?;
+        load(alloc, bytes, block)?;
+    }
+    Ok(start.elapsed(rt)?.as_nanos())
+}
+
+/// The nanoseconds of some runs.
+fn run_round(
+    rt: &impl Clock,
+    program: &Verified<Intervals>,
+    block: &[u8],
+    repeats: u32,
+) -> Result<u128>
+    requires most { length block.now ≤ 4096 }
+    requires block { length block.now ≡ block_of program.now }
+    requires limit { limit_of program.now ≡ 0 }
+{
+    let start = Instant::now(rt)?;
+    for _ in 0..repeats {
+        run(program, block);
     }
     Ok(start.elapsed(rt)?.as_nanos())
 }
@@ -38,16 +84,25 @@ fn main(rt: HostRuntime) -> Result<()> {
     let mut args = env::args(&rt)?;
     args.next();
     let program = args.next().context("no program")?;
+    let block = args.next().context("no block")?;
     let rounds = args.next().context("no rounds")?.parse::<u32>()?;
     let repeats = args.next().context("no repeats")?.parse::<u32>()?;
     let bytes = fs::read(&rt, &program)?;
-    println!(rt; "accepted {}", load(rt.alloc(), &bytes)?)?;
-    let mut best = u128::MAX;
+    let block = fs::read(&rt, &block)?;
+    ensure!(block.len() <= 4096, "the block is too long");
+    let program = load(rt.alloc(), &bytes, block.len())?;
+    println!(rt; "accepted {}", program.program().len())?;
+    let (r0, steps) = run(&program, &block);
+    println!(rt; "{r0} {steps}")?;
+    let (mut loading, mut running) = (u128::MAX, u128::MAX);
     for _ in 0..rounds {
-        best = best.min(round(&rt, rt.alloc(), &bytes, repeats)?);
+        loading = loading.min(load_round(&rt, rt.alloc(), &bytes, block.len(), repeats)?);
+        running = running.min(run_round(&rt, &program, &block, repeats)?);
     }
-    if rounds > 0 && repeats > 0 {
-        println!(rt; "{} ns", best / u128::from(repeats))?;
+    let instructions = u128::from(steps) * u128::from(repeats);
+    if rounds > 0 && instructions > 0 {
+        println!(rt; "{} ns", loading / u128::from(repeats))?;
+        println!(rt; "{} ps", running.saturating_mul(1000) / instructions)?;
     }
     Ok(())
 }
