@@ -1,6 +1,5 @@
 -- What an instruction does that no reason refuses.
-use Rattle.std.proofs.Common.{ℕ, ℤ, ◌+◌, ◌≡◌, ◌<◌, ◌^◌, ◌<ℤ◌, ◌≤ℤ◌, zero, suc, Bool, true, false, List, [], ◌∷◌, length, slice_get, Option, Some, None, pos, negsuc, refl, sym, arith, IsSome, IfSome, is_some, not, nat_lt, ◌&&◌, if◌then◌else◌}
-use Rattle.std.specs.List.{find}
+use Rattle.std.proofs.Common.{ℕ, ℤ, ◌+◌, ◌≡◌, ◌<◌, ◌^◌, ◌<ℤ◌, ◌≤ℤ◌, Bool, true, false, List, length, slice_get, Option, Some, None, pos, negsuc, refl, arith, IsSome, IfSome, is_some, not, nat_lt, ◌&&◌, if◌then◌else◌}
 use Rattle.std.proofs.Math.Facts.{yes_leb, yes_ltb}
 use Rattle.std.proofs.lemmas.Bool.Decides.{nat_tests}
 use Rattle.std.proofs.lemmas.Option.{slice_get_within}
@@ -12,23 +11,10 @@ use Rattle.reg_domain.specs.Domain.{Operations}
 use Rattle.verifier.specs.Accepted.{all_reasons, begins_at, fails, leads_nowhere, most_emitted, reason_of, turns_away}
 use Rattle.verifier.specs.Answer.{HasRoom, StaysInside}
 use Rattle.verifier.specs.Facts.{distance_of, facts_behind, slot_behind, target}
+use Rattle.verifier.specs.Unhindered.{all_fail, of_all}
 use Rattle.verifier.specs.declared.facts.Facts.{Facts}
 use Rattle.verifier.specs.declared.reason.Reason.{Reason}
 use Rattle.verifier.specs.declared.reason.Reason.TheVariants.{JumpOutside, FallsOff, UnknownHelper, EmitBudget}
-
--- where none is found, none passes
-module _ {X : Type 0} (test : X → Bool) where
-  none_by : (y : X) (xs : List X) (passes : Bool) → test y ≡ passes → find test (y ∷ xs) ≡ None
-      → (test y ≡ false) × (find test xs ≡ None)
-  none_by y xs true is e = let h : Some y ≡ None = rw is at e in cc
-  none_by y xs false is e = (is, rw is at e)
-
-  none_found : (xs : List X) (k : ℕ) (x : X) → find test xs ≡ None → slice_get xs k ≡ Some x → test x ≡ false
-  none_found [] k x e at = cc
-  none_found (y ∷ xs) zero x e at =
-      let same : y ≡ x = cc in
-      rw (sym same) ((none_by y xs (test y) refl e).0)
-  none_found (y ∷ xs) (suc k) x e at = none_found xs k x ((none_by y xs (test y) refl e).1) at
 
 -- an instruction begins only inside a program
 inside_by : (program : List (Option Insn)) (n : ℕ) (entry : Option (Option Insn)) → slice_get program n ≡ entry
@@ -89,24 +75,25 @@ module _ {D : Type 0} (operations : Operations D) where
 
   module _ (program : List (Option Insn)) (limit block slot : ℕ) (facts : Facts D) (i : Insn)
       (none : reason_of operations program limit block slot facts i ≡ None) where
-    free : (k : ℕ) (reason : Reason) → slice_get all_reasons k ≡ Some reason
-        → fails operations program limit block slot facts i reason ≡ false
-    free k reason at = none_found (fails operations program limit block slot facts i) all_reasons k reason none at
+    free : (reason : Reason) → fails operations program limit block slot facts i reason ≡ false
+    free reason =
+        let test = fails operations program limit block slot facts i in
+        of_all test (all_fail test all_reasons none) reason
 
     pub stays_inside : StaysInside operations (length program) slot i facts
     stays_inside = record {
       behind = λ some. inside program (slot_behind slot i)
-          (not_false _ (otherwise (turns_away i) _ (stays i facts some) (free 2 FallsOff refl)));
-      first = goes_first program slot (distance_of i) (free 1 JumpOutside refl);
-      last = goes_last program slot (distance_of i) (free 1 JumpOutside refl);
+          (not_false _ (otherwise (turns_away i) _ (stays i facts some) (free FallsOff)));
+      first = goes_first program slot (distance_of i) (free JumpOutside);
+      last = goes_last program slot (distance_of i) (free JumpOutside);
     }
 
   pub room_left : (program : List (Option Insn)) (limit block slot : ℕ) (facts : Facts D) (i : Insn)
       → reason_of operations program limit block slot facts i ≡ None → limit < 2 ^ 16 → HasRoom operations i facts
   room_left program limit block slot facts (Call helper) none fits =
       within_limit (is_emit (Call helper)) limit (facts.emitted + 2 + most_emitted operations facts)
-      (free program limit block slot facts (Call helper) none 6 UnknownHelper refl)
-      (free program limit block slot facts (Call helper) none 9 EmitBudget refl) fits
+      (free program limit block slot facts (Call helper) none UnknownHelper)
+      (free program limit block slot facts (Call helper) none EmitBudget) fits
   room_left program limit block slot facts (LoadImmediate dst value) none fits = tt
   room_left program limit block slot facts (Load size dst src offset) none fits = tt
   room_left program limit block slot facts (LoadSigned size dst src offset) none fits = tt

@@ -30,7 +30,7 @@ use Rattle.verifier.specs.declared.reason.Reason.TheVariants as reason
 
 module _ {X : Type 0} (test : X → Bool) where
   -- none of these passes
-  abbrev AllFail : List X → Type 0
+  abbrev pub AllFail : List X → Type 0
   AllFail [] = Unit {0}
   AllFail (x ∷ xs) = (test x ≡ false) × AllFail xs
 
@@ -39,7 +39,7 @@ module _ {X : Type 0} (test : X → Bool) where
   first_fails x xs true is e = let h : Some x ≡ None = rw is at e in cc
   first_fails x xs false is e = (is, rw is at e)
 
-  all_fail : (xs : List X) → find test xs ≡ None → AllFail xs
+  pub all_fail : (xs : List X) → find test xs ≡ None → AllFail xs
   all_fail [] e = tt
   all_fail (x ∷ xs) e = let first = first_fails x xs (test x) refl e in (first.0, all_fail xs first.1)
 
@@ -48,7 +48,7 @@ module _ {X : Type 0} (test : X → Bool) where
   none_passes (x ∷ xs) each = rw (each x) (none_passes xs each)
 
 -- what holds of all reasons holds of each
-of_all : (test : Reason → Bool) → AllFail test all_reasons → (r : Reason) → test r ≡ false
+pub of_all : (test : Reason → Bool) → AllFail test all_reasons → (r : Reason) → test r ≡ false
 of_all test fail reason.JumpBack = fail.0
 of_all test fail reason.JumpOutside = fail.1.0
 of_all test fail reason.FallsOff = fail.1.1.0
