@@ -5,11 +5,8 @@
 # most 1.5 is wanted of the first.
 set -e
 here=$(cd "$(dirname "$0")" && pwd)
-. "$here/least.sh"
-work=$(mktemp -d)
-trap 'rm -rf "$work"' EXIT
-cc -O2 -march=native -o "$work/dpdk" "$here/machine.c" $(pkg-config --cflags --libs libdpdk)
-"$work/dpdk" write "$work"
+program=machine
+. "$here/dpdk.sh"
 checked=$here/../crates/bench_machine/out/bench_machine
 verified=$here/../crates/bench_verifier/out/bench_verifier
 rounds=60

@@ -4,11 +4,8 @@
 # ratio: at most 1 is wanted.
 set -e
 here=$(cd "$(dirname "$0")" && pwd)
-. "$here/least.sh"
-work=$(mktemp -d)
-trap 'rm -rf "$work"' EXIT
-cc -O2 -march=native -o "$work/dpdk" "$here/verifier.c" $(pkg-config --cflags --libs libdpdk)
-"$work/dpdk" write "$work"
+program=verifier
+. "$here/dpdk.sh"
 head -c 4096 /dev/zero >"$work/block.bin"
 loads=$here/../crates/bench_verifier/out/bench_verifier
 rounds=10
