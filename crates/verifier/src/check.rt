@@ -3,14 +3,14 @@
 ghost use Rattle.std.specs.Prelude.{◌≡◌, ◌<◌, ◌≤◌, ◌^◌, ◌+◌, nat_lt, ◌&&◌, ◌||◌, ◌==◌, is_none, pos, not, false, if◌then◌else◌, Option, Some, None};
 ghost use Rattle.interp.specs.Cause.{calls_unknown as insn_calls_unknown, is_emit as insn_is_emit, writes};
 ghost use Rattle.interp.specs.Effect.{signed_size_of};
-ghost use Rattle.interp.specs.Memory.{size_of};
 ghost use Rattle.verifier.specs.Accepted.{area_of, begins_at, fails, goes_back as distance_goes_back, leads_nowhere as distance_leads_nowhere, least_emitted, most_emitted, loads_outside as insn_loads_outside, reason_of, stores_outside as insn_stores_outside, is_unwritable, turns_away as insn_turns_away};
 ghost use Rattle.verifier.specs.Facts.{distance_of as insn_distance_of, slot_behind as insn_slot_behind, target as target_of};
 ghost use Rattle.verifier.specs.declared.reason.Reason.TheVariants.{EmitAddress, EmitBudget, EmitLength, FallsOff};
 
 use crate::facts::Facts;
 use crate::reason::Reason;
-use ebpf_decode::{Insn, Program, Register, SignedSize, Size};
+use ebpf_decode::{Insn, Program, Register, SignedSize};
+use interp::bytes_in;
 use reg_domain::{Area, Domain};
 
 /// The distance of a jump.
@@ -108,19 +108,6 @@ fn writes_frame_pointer(insn: &Insn) -> bool
         | Insn::MoveSigned { dst, .. }
         | Insn::SwapBytes { dst, .. } => dst.index() == 10,
         _ => false,
-    }
-}
-
-/// The number of bytes in an access.
-#[inline]
-fn bytes_in(size: Size) -> u64
-    ensures { result ≡ size_of size }
-{
-    match size {
-        Size::Byte => 1,
-        Size::HalfWord => 2,
-        Size::Word => 4,
-        Size::DoubleWord => 8,
     }
 }
 
