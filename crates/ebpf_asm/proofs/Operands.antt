@@ -4,8 +4,8 @@ use Rattle.std.proofs.Math.Dec.{eqb-suc-zero}
 use Rattle.ebpf_asm.specs.declared.fault.FaultKind.{FaultKind}
 use Rattle.ebpf_asm.specs.declared.fault.FaultKind.TheVariants.{Operand}
 use Rattle.ebpf_asm.specs.Fault.{◌>>=◌}
-use Rattle.ebpf_asm.specs.Cut.{cut_at, trimmed}
-use Rattle.ebpf_asm.proofs.Parts.{HasFirst, split_whole, split_more, split_some}
+use Rattle.text_lines.specs.Cut.{cut_at, trimmed}
+use Rattle.text_lines.proofs.PartLemmas.{HasFirst, split_whole, split_more, split_some}
 use Rattle.ebpf_asm.specs.Statement.{operands_of, none_of, one_of, two_of, three_of}
 
 operands_of-one : (text : List ℕ) → cut_at 44 text ≡ None → operands_of text ≡ trimmed text ∷ []

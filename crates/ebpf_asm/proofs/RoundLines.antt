@@ -12,10 +12,10 @@ use Rattle.std.proofs.lemmas.List.{take_at, drop_at, append-nil, length-append}
 use Rattle.std.proofs.lemmas.List.Folds.{list_all-append}
 use Rattle.std.proofs.lemmas.Fmt.{decimal_is_IsNumeral, digits_is_IsNumeral}
 use Rattle.std.proofs.lemmas.Str.Parse.{digit_from_value}
-use Rattle.ebpf_asm.specs.Cut.{cut_at, is_blank_byte, without_first_blanks, without_end_blanks, trimmed}
+use Rattle.text_lines.specs.Cut.{cut_at, is_blank_byte, without_first_blanks, without_end_blanks, trimmed}
 use Rattle.ebpf_asm.specs.Statement.{operands_of}
 use Rattle.ebpf_asm.specs.Listing.{further_texts, operands_text, register_text, signed_text, memory_text, wide_text}
-use Rattle.ebpf_asm.proofs.Parts.{split_whole, split_more}
+use Rattle.text_lines.proofs.PartLemmas.{split_whole, split_more}
 use Rattle.ebpf_asm.proofs.RoundOperands.{place_behind, signed_text-parts}
 
 -- bytes of mnemonics and operands

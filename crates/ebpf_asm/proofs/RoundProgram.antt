@@ -21,12 +21,12 @@ use Rattle.ebpf_asm.specs.declared.fault.FaultKind.TheVariants.{UnknownMnemonic,
 use Rattle.ebpf_asm.specs.Fault.{◌>>=◌}
 use Rattle.ebpf_asm.specs.Mnemonic.{mnemonic_text, mnemonic_named}
 use Rattle.ebpf_asm.specs.Operand.{source_of, short_of, long_of}
-use Rattle.ebpf_asm.specs.Cut.{is_blank_byte, trimmed, without_end_blanks}
+use Rattle.text_lines.specs.Cut.{is_blank_byte, trimmed, uncommented, without_end_blanks}
 use Rattle.ebpf_asm.specs.Statement.{Statement, statement_of, statement_with, operands_of, one_of, two_of, three_of, none_of}
-use Rattle.ebpf_asm.specs.Line.{Line, line_of, line_in, labelled, behind_label, split_label, with_statement, uncommented, slots_in}
+use Rattle.ebpf_asm.specs.Line.{Line, line_of, line_in, labelled, behind_label, split_label, with_statement, slots_in}
 use Rattle.ebpf_asm.specs.Assembly.{LabelMap, lines_of, slot_count, first_fault, bytes_from, label_map, before_later, told_first, assembled, assembled_lines, unless_faulty}
 use Rattle.ebpf_asm.specs.Listing.{mnemonic_of, operand_texts, operands_text, further_texts, insn_text, line_text, listing, source_text}
-use Rattle.ebpf_asm.proofs.Lines.{lines-cut}
+use Rattle.text_lines.proofs.LineLemmas.{lines-cut}
 use Rattle.ebpf_asm.proofs.Passes.{slot_count-push}
 use Rattle.ebpf_asm.proofs.Names.{mnemonic_again, mnemonic_plain}
 use Rattle.ebpf_asm.proofs.Round.{register_again, immediate_again, wide_again}

@@ -2,7 +2,6 @@ pub mod Fault
 pub mod Mnemonic
 pub mod Operand
 pub mod Number
-pub mod Cut
 pub mod Statement
 pub mod Listing
 pub mod Line

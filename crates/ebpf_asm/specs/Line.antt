@@ -1,12 +1,12 @@
 -- Lines (profile): an optional label, an optional statement, an optional comment.
 use Rattle.std.specs.Prelude.{ℕ, ◌==◌, if◌then◌else◌, List, length, Option, Some, None, Result, Ok, Err}
-use Rattle.std.specs.List.{list_all, before_first}
+use Rattle.std.specs.List.{list_all}
 use Rattle.std.specs.Char.{is_ascii}
 use Rattle.ebpf_decode.specs.declared.insn.Insn.{Insn}
 use Rattle.ebpf_decode.specs.Program.{is_wide}
 use Rattle.ebpf_asm.specs.declared.fault.FaultKind.{FaultKind}
 use Rattle.ebpf_asm.specs.declared.fault.FaultKind.TheVariants.{NotAscii}
-use Rattle.ebpf_asm.specs.Cut.{cut_at, trimmed}
+use Rattle.text_lines.specs.Cut.{cut_at, trimmed, uncommented}
 use Rattle.ebpf_asm.specs.Operand.{is_label_name}
 use Rattle.ebpf_asm.specs.Statement.{Statement, statement_of}
 
@@ -29,9 +29,6 @@ with_statement label (Err kind) = record { label = label; insn = Err kind; targe
 abbrev pub labelled : Option (List ℕ) → List ℕ → Line
 labelled label text =
     if length text == 0 then record { label = label; insn = Ok None; target = None } else with_statement label (statement_of text)
-
-abbrev pub uncommented : List ℕ → List ℕ
-uncommented bytes = before_first (λ byte. byte == 59) bytes
 
 abbrev pub behind_label : Option (List ℕ) × List ℕ → Line
 behind_label parts = labelled parts.0 (trimmed parts.1)

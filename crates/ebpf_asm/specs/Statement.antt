@@ -10,7 +10,7 @@ use Rattle.ebpf_asm.specs.declared.fault.FaultKind.TheVariants.{UnknownMnemonic,
 use Rattle.ebpf_asm.specs.Fault.{◌>>=◌, read_both}
 use Rattle.ebpf_asm.specs.Mnemonic.{mnemonic_named}
 use Rattle.ebpf_asm.specs.Operand.{register_of, source_of, immediate_of, wide_of, memory_of, distance_of, label_of, short_of, long_of}
-use Rattle.ebpf_asm.specs.Cut.{is_blank_byte, trimmed}
+use Rattle.text_lines.specs.Cut.{is_blank_byte, trimmed}
 
 -- the operands: what stands between commas, without the blanks around
 unfoldable pub operands_of : List ℕ → List (List ℕ)

@@ -2,7 +2,6 @@
 #![tactic(auto)]
 
 mod assembly;
-mod cut;
 mod fault;
 mod label;
 pub mod laws;

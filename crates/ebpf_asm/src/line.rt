@@ -1,17 +1,15 @@
 //! Lines: an optional label, an optional statement, an optional comment.
 
 ghost use Rattle.std.specs.Prelude.{◌≡◌, option_copied};
-ghost use Rattle.std.specs.List.{list_all};
-ghost use Rattle.std.specs.Char.{is_ascii};
-ghost use Rattle.ebpf_asm.specs.Cut.{cut_at};
-ghost use Rattle.ebpf_asm.specs.Line.{line_of, split_label, uncommented, labelled as labelled_line, slots_of_insn};
+ghost use Rattle.text_lines.specs.Cut.{cut_at};
+ghost use Rattle.ebpf_asm.specs.Line.{line_of, split_label, labelled as labelled_line, slots_of_insn};
 ghost use Rattle.ebpf_asm.specs.LineView.{line_view};
 
-use crate::cut::{cut, trim};
 use crate::fault::FaultKind;
 use crate::operand::label;
 use crate::statement::read;
 use ebpf_decode::Insn;
+use text_lines::{cut, is_all_ascii, trim, without_comment};
 
 /// What a line has.
 #[derive(Clone, Copy, Debug, PartialEq, Eq)]
@@ -61,22 +59,6 @@ fn labelled<'a>(label: Option<&'a [u8]>, text: &'a [u8]) -> Line<'a>
             insn: Err(kind),
             target: None,
         },
-    }
-}
-
-fn is_all_ascii(bytes: &[u8]) -> bool
-    ensures { result ≡ list_all is_ascii bytes.now }
-{
-    bytes.iter().all(|byte| byte.is_ascii())
-}
-
-/// What stands before a `;`.
-fn without_comment(bytes: &[u8]) -> &[u8]
-    ensures { result.now ≡ uncommented bytes.now }
-{
-    match cut(bytes, b';') {
-        Some((text, _)) => text,
-        None => bytes,
     }
 }
 

@@ -5,7 +5,6 @@ ghost use Rattle.ebpf_asm.specs.declared.mnemonic.Mnemonic.TheVariants as mnemon
 ghost use Rattle.ebpf_asm.specs.Fault.{seen};
 ghost use Rattle.ebpf_asm.specs.Statement.{operands_of, none_of, one_of, two_of, three_of, statement_with, statement_of};
 
-use crate::cut::{cut, trim, word};
 use crate::fault::FaultKind;
 use crate::mnemonic::Mnemonic;
 use crate::number::{immediate, wide};
@@ -13,6 +12,7 @@ use crate::operand::{both, label, long_distance, memory, register, short_distanc
 use ebpf_decode::{
     Insn, Operation, Relation, SignExtension, SignedSize, Size, Swap, SwapSize, Width,
 };
+use text_lines::{cut, trim, word};
 
 /// An instruction. Where it jumps to a label, its distance is 0 and the label stands beside it.
 #[derive(Clone, Copy, Debug, PartialEq, Eq)]

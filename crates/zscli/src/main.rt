@@ -1,34 +1,10 @@
 //! The command line of Pifnjarl: files in, one command, text out.
 #![tactic(auto)]
 
-mod arguments;
-mod asm;
-mod command;
-mod command_file;
-mod device;
-mod disasm;
-mod event;
-mod exec;
-mod failure;
-mod files;
-mod format;
-mod image_file;
-mod laws;
-mod lines;
-mod out;
-mod program;
-mod reply;
 #[cfg(test)]
 mod tests;
-mod trace;
-mod unpack;
-mod verify;
-mod words;
-mod zones;
 
-use crate::command::command;
-use crate::failure::Failure;
-use crate::files::Disk;
+use command_line::{Disk, Failure, command};
 use std::env::{self, Env};
 use std::io;
 use std::process::ExitCode;

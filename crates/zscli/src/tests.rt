@@ -1,6 +1,6 @@
 //! Whole command lines over files in memory.
 
-use crate::command::command;
+use command_line::command;
 use std::alloc::Global;
 use std::io::Write;
 use std::test::Fail;

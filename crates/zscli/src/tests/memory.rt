@@ -2,7 +2,7 @@
 
 ghost use Rattle.std.specs.Prelude.{◌≡◌, [], None};
 
-use crate::files::{FileError, Files};
+use command_line::{FileError, Files};
 use image_store::{DeviceFault, Sink, Source};
 use std::alloc::{AllocError, Global};
 

@@ -2,10 +2,7 @@
 
 ghost use Rattle.std.specs.Prelude.{◌≡◌, map, Some};
 
-use crate::device::{Device, Stopped};
-use crate::event::Event;
-use crate::out::{Out, Refusal};
-use crate::reply::Reply;
+use runner::{Device, Event, Out, Refusal, Reply, Stopped};
 use std::alloc::Global;
 use std::test::Fail;
 use zns_commands::{Geometry, Image, Limits, MOST_TRANSFER};

@@ -1,0 +1,81 @@
+//! The command `asm`: text to a program.
+
+ghost use Rattle.std.specs.Prelude.{◌≡◌};
+ghost use Rattle.command_line.specs.Told.{told_of_assembly};
+
+use crate::arguments::required;
+use crate::failure::Failure;
+use crate::files::Files;
+use clap::{Arg, ArgMatches, Command};
+use ebpf_asm::{AssembleError, assemble};
+use std::alloc::{AllocError, Global};
+
+pub(crate) const NAME: &str = "asm";
+
+const TEXT: &str = "TEXT";
+
+const PROGRAM: &str = "PROGRAM";
+
+const LONG_ABOUT: &str = "\
+Assembles text to a program, a file of eBPF instructions (RFC 9669).
+
+A line has an optional label, as `next:`, and an optional instruction: a mnemonic, and operands \
+between commas. `;` begins a comment. Of text that isn't so, `assembly refused LINE KIND` tells the \
+first fault, and no file is written.";
+
+const EXAMPLE: &str = "\
+Example: a program that emits the first 8 bytes of each block whose first byte is 7.
+
+  ldxb r6, [r2]
+  jne r6, 7, done
+  mov r1, r2
+  mov r2, 8
+  call 1
+  mov r0, 0
+  done: exit";
+
+/// How the command stands on the command line.
+pub(crate) fn subcommand<'a>(alloc: Global) -> Result<Command<'a>, AllocError> {
+    let text = Arg::new(alloc, TEXT)
+        .required(true)
+        .help("The assembly text");
+    let program = Arg::new(alloc, PROGRAM)
+        .required(true)
+        .help("The program that is written");
+    Command::new(alloc, NAME)
+        .about("Assembles text to a program")
+        .long_about(LONG_ABOUT)
+        .after_help(EXAMPLE)
+        .arg(text)?
+        .arg(program)
+}
+
+/// Runs the command.
+pub(crate) fn asm<'a, F: Files>(
+    alloc: Global,
+    matches: &ArgMatches<'a>,
+    files: &mut F,
+) -> Result<(), Failure<'a>> {
+    let path = required(matches, TEXT);
+    let text = files
+        .read(path)
+        .map_err(|error| Failure::of_reading(path, error))?;
+    let bytes = assemble(alloc, text.as_slice())?;
+    let program = required(matches, PROGRAM);
+    files
+        .write(program, bytes.as_slice())
+        .map_err(|error| Failure::of_writing(program, error))
+}
+
+impl From<AssembleError> for Failure<'_> {
+    ghost from_gives = { λ error failure. failure ≡ told_of_assembly error };
+
+    fn from(error: AssembleError) -> Self {
+        match error {
+            AssembleError::Fault(fault) => {
+                Failure::AssemblyRefused(fault.line, fault.kind.number())
+            }
+            AssembleError::Memory => Failure::NoMemory,
+        }
+    }
+}

@@ -1,0 +1,113 @@
+//! The command `format`: a new image.
+
+ghost use Rattle.std.specs.Prelude.{◌≡◌};
+ghost use Rattle.command_line.specs.Told.{told_of_geometry};
+
+use crate::arguments::{number, required};
+use crate::failure::Failure;
+use crate::files::Files;
+use crate::image_file;
+use clap::{Arg, ArgAction, ArgMatches, Command};
+use std::alloc::{AllocError, Global};
+use zns_commands::{Geometry, GeometryFault, Image, Limits};
+
+pub(crate) const NAME: &str = "format";
+
+const IMAGE: &str = "IMAGE";
+
+const BLOCK: &str = "block";
+
+const ZONES: &str = "zones";
+
+const SIZE: &str = "size";
+
+const CAPACITY: &str = "capacity";
+
+const OPEN: &str = "open";
+
+const ACTIVE: &str = "active";
+
+const LONG_ABOUT: &str = "\
+Writes an image: a namespace of zones of which nothing is written.
+
+The blocks of a zone count towards its size; of these the first, as many as its capacity, can be \
+written. At most so many zones are open at a time, and so many active.
+
+Of numbers that are no namespace, `geometry refused N` tells what is wrong first: 1 the block size, 2 \
+the number of zones (1 to 1024), 3 the size (1 to 16777216), 4 the capacity (1 to the size), 5 the \
+limits (1 to the active limit, and that to the number of zones), 6 all in all more than 268435456 \
+bytes. No file is written then.";
+
+const EXAMPLE: &str = "\
+Example: 4 zones of 8 blocks, 6 of them writable, at most 2 of the zones open and 3 active.
+
+  zscli format zoned.img --block 512 --zones 4 --size 8 --capacity 6 --open 2 --active 3";
+
+fn option<'a>(alloc: Global, name: &'a str, letter: &'a str, help: &'a str) -> Arg<'a> {
+    Arg::new(alloc, name)
+        .long(name)
+        .value_name(letter)
+        .required(true)
+        .action(ArgAction::Set)
+        .help(help)
+}
+
+/// How the command stands on the command line.
+pub(crate) fn subcommand<'a>(alloc: Global) -> Result<Command<'a>, AllocError> {
+    let image = Arg::new(alloc, IMAGE)
+        .required(true)
+        .help("The image that is written");
+    Command::new(alloc, NAME)
+        .about("Writes an image of empty zones")
+        .long_about(LONG_ABOUT)
+        .after_help(EXAMPLE)
+        .arg(image)?
+        .arg(option(
+            alloc,
+            BLOCK,
+            "B",
+            "Bytes of a block: 512, 1024, 2048 or 4096",
+        ))?
+        .arg(option(alloc, ZONES, "N", "The number of zones"))?
+        .arg(option(alloc, SIZE, "S", "Blocks of a zone"))?
+        .arg(option(alloc, CAPACITY, "C", "Blocks of a zone that can be written"))?
+        .arg(option(alloc, OPEN, "O", "The most zones that are open at a time"))?
+        .arg(option(
+            alloc,
+            ACTIVE,
+            "A",
+            "The most zones that are active at a time",
+        ))
+}
+
+/// Runs the command.
+pub(crate) fn format<'a, F: Files>(
+    alloc: Global,
+    matches: &ArgMatches<'a>,
+    files: &mut F,
+) -> Result<(), Failure<'a>> {
+    let geometry = geometry(matches)?;
+    let image = Image::empty(alloc, geometry)?;
+    image_file::save(&image, required(matches, IMAGE), files)
+}
+
+/// The geometry that the options spell.
+fn geometry<'a>(matches: &ArgMatches<'a>) -> Result<Geometry, Failure<'a>> {
+    let block = number(matches, BLOCK)?;
+    let zones = number(matches, ZONES)?;
+    let size = number(matches, SIZE)?;
+    let capacity = number(matches, CAPACITY)?;
+    let limits = Limits {
+        open_limit: number(matches, OPEN)?,
+        active_limit: number(matches, ACTIVE)?,
+    };
+    Ok(Geometry::new(block, zones, size, capacity, limits)?)
+}
+
+impl From<GeometryFault> for Failure<'_> {
+    ghost from_gives = { λ fault failure. failure ≡ told_of_geometry fault };
+
+    fn from(fault: GeometryFault) -> Self {
+        Failure::GeometryRefused(fault.number())
+    }
+}

@@ -1,9 +1,0 @@
-use Rattle.std.proofs.Common.{◌≡◌, length}
-use Rattle.ebpf_asm.specs.Cut.{without_end_blanks}
-use Rattle.ebpf_asm.proofs.cut.trim_end.Given as goal
-
-abbrev pub invariant-loop-inside : goal.invariant-loop-inside
-invariant-loop-inside l = without_end_blanks l.inside ≡ without_end_blanks l.text
-
-abbrev pub decreases-loop-inside : goal.decreases-loop-inside
-decreases-loop-inside l = length l.inside

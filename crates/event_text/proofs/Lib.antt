@@ -1,0 +1,3 @@
+pub mod FileLemmas
+pub mod LineLemmas
+pub mod WordLemmas

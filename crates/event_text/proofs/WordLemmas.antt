@@ -1,0 +1,111 @@
+-- The words of a line, one after the other.
+use Rattle.std.proofs.Common.{◌≡◌, ℕ, ◌+◌, ◌<◌, ◌≤◌, zero, suc, not, Bool, true, false, cond, ltb, List, [], ◌∷◌, length, take, drop, get_or, filter, Some, None, Result, Ok, Err, ◌^◌, ◌&&◌, refl, sym, ap, ◌∙◌, subst, ◌⊎◌, inl, inr, arith, rules}
+use Rattle.std.specs.List.{slice_split, position_or_len, before_first}
+use Rattle.std.proofs.lemmas.Bool.{ltb-true, lt-ltb, cases_lt}
+use Rattle.std.proofs.lemmas.List.{drop_more, length-take-le, take_all, drop_all}
+use Rattle.std.proofs.lemmas.List.Splits.{slice_split_first, slice_split-cons_yes}
+use Rattle.std.proofs.lemmas.List.Sums.{passes_at_first, prefix_len-le-length}
+use Rattle.std.specs.List.{list_all}
+use Rattle.std.specs.Char.{is_ascii_digit}
+use Rattle.std.specs.Str.{IsUtf8}
+use Rattle.std.specs.Str.Parse.{digits_value, ParsesUnsigned}
+use Rattle.std.specs.Result.{IsOk, MatchResult, OkIff, result_ok}
+use Rattle.std.proofs.lemmas.Str.{IsUtf8-from_ascii}
+use Rattle.std.proofs.lemmas.Fmt.{IsAscii-from_digits}
+use Rattle.std.proofs.lemmas.Str.Parse.{IsNumeralModel, numerals_by_value, parse_digits}
+use Rattle.text_lines.specs.Cut.{is_blank_byte, without_first_blanks}
+use Rattle.text_lines.proofs.PartLemmas.{whole}
+use Rattle.event_text.specs.Words.{words_of, number_of}
+
+abbrev is_word : List ℕ → Bool
+is_word word = ltb 0 (length word)
+
+-- a blank in front belongs to no word
+pub words_of-blank : (b : ℕ) (text : List ℕ) → is_blank_byte b ≡ true → words_of (b ∷ text) ≡ words_of text
+words_of-blank b text e = ap (filter is_word) (slice_split-cons_yes is_blank_byte b text e)
+
+kept : (word : List ℕ) (parts : List (List ℕ)) → 0 < length word → filter is_word (word ∷ parts) ≡ word ∷ filter is_word parts
+kept word parts h = ap (λ c. cond c (word ∷ filter is_word parts) (filter is_word parts)) (lt-ltb 0 (length word) h)
+
+-- a text of one word
+only_word : (text : List ℕ) → 0 < length text → position_or_len is_blank_byte text ≡ length text → words_of text ≡ text ∷ []
+only_word text some e = ap (filter is_word) (whole is_blank_byte text (omega (arith, e))) ∙ kept text [] some
+
+-- a word ends at the first blank behind it
+word_before : (text : List ℕ) (k : ℕ) → 0 < k → k < length text → position_or_len is_blank_byte text ≡ k → is_blank_byte (get_or text k 0) ≡ true → words_of text ≡ take k text ∷ words_of (drop k text)
+word_before text k some h e blank =
+    ap (filter is_word) (slice_split_first is_blank_byte text 0 (omega (arith, e)))
+    ∙ ap (λ (n : ℕ). filter is_word (take n text ∷ slice_split is_blank_byte (drop (n + 1) text))) e
+    ∙ kept (take k text) (slice_split is_blank_byte (drop (k + 1) text)) (omega (arith, some, h, length-take-le k text (omega (arith, h))))
+    ∙ ap (λ ws. take k text ∷ ws) (sym (ap words_of (drop_more text k 0 h) ∙ words_of-blank (get_or text k 0) (drop (k + 1) text) blank))
+
+behind_zero : (text : List ℕ) (k : ℕ) → is_blank_byte (get_or text 0 0) ≡ false → is_blank_byte (get_or text k 0) ≡ true → 0 < k
+behind_zero text zero starts blank = absurd cc
+behind_zero text (suc k) starts blank = omega arith
+
+-- a text that begins with a word begins with what stands before its first blank
+first_at : (text : List ℕ) (k : ℕ) → 0 < length text → is_blank_byte (get_or text 0 0) ≡ false → position_or_len is_blank_byte text ≡ k → k < length text ⊎ length text ≤ k
+    → words_of text ≡ take k text ∷ words_of (drop k text)
+first_at text k some starts e (inl h) =
+    let blank : is_blank_byte (get_or text k 0) ≡ true = subst (λ (n : ℕ). is_blank_byte (get_or text n 0) ≡ true) e (passes_at_first is_blank_byte text 0 (omega (arith, e, h))) in
+    word_before text k (behind_zero text k starts blank) h e blank
+first_at text k some starts e (inr h) =
+    rw (take_all k text h, drop_all k text h) (only_word text some (omega (arith, e, h, prefix_len-le-length (λ b. not (is_blank_byte b)) text)))
+
+-- no blank is left in front
+starts_if : (b : ℕ) (text : List ℕ) (blank : Bool) → is_blank_byte b ≡ blank → (0 < length (without_first_blanks text) → is_blank_byte (get_or (without_first_blanks text) 0 0) ≡ false)
+    → 0 < length (cond blank (without_first_blanks text) (b ∷ text)) → is_blank_byte (get_or (cond blank (without_first_blanks text) (b ∷ text)) 0 0) ≡ false
+starts_if b text true e more h = more h
+starts_if b text false e more h = e
+
+starts : (text : List ℕ) → 0 < length (without_first_blanks text) → is_blank_byte (get_or (without_first_blanks text) 0 0) ≡ false
+starts [] h = absurd (omega (arith, h))
+starts (b ∷ text) h = starts_if b text (is_blank_byte b) refl (starts text) h
+
+trimmed_if : (b : ℕ) (text : List ℕ) (blank : Bool) → is_blank_byte b ≡ blank → words_of (without_first_blanks text) ≡ words_of text
+    → words_of (cond blank (without_first_blanks text) (b ∷ text)) ≡ words_of (b ∷ text)
+trimmed_if b text true e more = more ∙ sym (words_of-blank b text e)
+trimmed_if b text false e more = refl
+
+-- blanks in front belong to no word
+words_of-trimmed : (text : List ℕ) → words_of (without_first_blanks text) ≡ words_of text
+words_of-trimmed [] = refl
+words_of-trimmed (b ∷ text) = trimmed_if b text (is_blank_byte b) refl (words_of-trimmed text)
+
+-- a line with nothing but blanks has no words
+pub no_word : (line text : List ℕ) → text ≡ without_first_blanks line → length text ≡ 0 → words_of line ≡ []
+no_word line [] e none = sym (words_of-trimmed line) ∙ sym (ap words_of e)
+no_word line (b ∷ text) e none = absurd (omega (arith, none))
+
+-- else its first word stands behind the blanks in front, up to the next blank
+pub next_word : (line text word behind : List ℕ) → text ≡ without_first_blanks line → 0 < length text → word ≡ before_first is_blank_byte text → behind ≡ drop (position_or_len is_blank_byte text) text
+    → words_of line ≡ word ∷ words_of behind
+next_word line text word behind e some front rest =
+    let k = position_or_len is_blank_byte text in
+    let begins : is_blank_byte (get_or text 0 0) ≡ false = rw e (starts line (omega (arith, some, ap length e))) in
+    sym (words_of-trimmed line) ∙ sym (ap words_of e) ∙ first_at text k some begins refl (cases_lt k (length text)) ∙ rw (front, rest) refl
+
+-- digits and the number that they spell
+digits : IsNumeralModel (λ ds. list_all is_ascii_digit ds ≡ true) (digits_value 10)
+digits = numerals_by_value _ (search rules)
+
+pub IsUtf8-digits : (ds : List ℕ) → list_all is_ascii_digit ds ≡ true → IsUtf8 ds
+IsUtf8-digits ds all = IsUtf8-from_ascii ds (IsAscii-from_digits ds (digits.to ds all))
+
+none_unless : (a b : Bool) (n : ℕ) → (a ≡ true → b ≡ true → ⊥) → None ≡ cond (a && b) (Some n) None
+none_unless true true n h = absurd (h refl refl)
+none_unless true false n h = refl
+none_unless false b n h = refl
+
+number_if : {E : Type 0} (ds : List ℕ) (r : Result ℕ E) → list_all is_ascii_digit ds ≡ true → OkIff r ((0 < length ds) × (digits_value 10 ds < 2 ^ 32)) (digits_value 10 ds) → result_ok r ≡ number_of ds
+number_if ds (Ok n) all h = rw (all, lt-ltb 0 (length ds) h.0.0, lt-ltb (digits_value 10 ds) (2 ^ 32) h.0.1) (ap Some h.1)
+number_if ds (Err e) all h =
+    rw all (none_unless (ltb 0 (length ds)) (ltb (digits_value 10 ds) (2 ^ 32)) (digits_value 10 ds) (λ some small. h (ltb-true _ _ some, ltb-true _ _ small)))
+
+pub number_read : {E : Type 0} (ds : List ℕ) (r : Result ℕ E) → list_all is_ascii_digit ds ≡ true → ParsesUnsigned 32 10 ds r → result_ok r ≡ number_of ds
+number_read ds r all h = number_if ds r all (parse_digits digits 32 ds r h all)
+
+-- reading text fails at bytes that are none alone
+pub IsOk-utf8 : {X E : Type 0} (r : Result X E) (P : X → Type 0) (Q : E → Type 0) {bs : List ℕ} → IsUtf8 bs → MatchResult r P (λ e. (¬ IsUtf8 bs) × Q e) → IsOk r
+IsOk-utf8 (Ok x) P Q h m = refl
+IsOk-utf8 (Err e) P Q h m = absurd (m.0 h)

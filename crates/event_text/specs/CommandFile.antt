@@ -1,0 +1,121 @@
+-- Command files (profile): a list of events as text, one on a line.
+use Rattle.std.specs.Prelude.{◌≡◌, ℕ, ◌+◌, ◌^◌, nat_lt, if◌then◌else◌, List, [], ◌∷◌, Option, Some, None, option_and_then, option_map, Result, Ok, Err, codes}
+use Rattle.std.specs.List.{list_all}
+use Rattle.std.specs.Char.{is_ascii}
+use Rattle.std.specs.Str.{bytes_eq}
+use Rattle.std.specs.Str.Lines.{lines}
+use Rattle.std.specs.Result.{result_ok}
+use Rattle.hex.specs.Hex.{decode_of, decode_sized}
+use Rattle.hex.specs.declared.error.FromHexError.{FromHexError}
+use Rattle.hex.specs.declared.error.FromHexError.TheVariants as digits
+use Rattle.zone_state.specs.declared.state.FaultState.{FaultState}
+use Rattle.zone_state.specs.declared.state.FaultState.TheVariants.{ReadOnly, Offline}
+use Rattle.text_lines.specs.Cut.{uncommented}
+use Rattle.runner.specs.declared.event.Event.{Event}
+use Rattle.runner.specs.declared.event.Event.TheVariants as event
+use Rattle.event_text.specs.declared.command_file.ParseError.{ParseError}
+use Rattle.event_text.specs.declared.command_file.ParseError.TheVariants.{Line, OutOfMemory}
+use Rattle.event_text.specs.declared.command_file.LineError.{LineError}
+use Rattle.event_text.specs.declared.command_file.LineError.TheVariants as reasons
+use Rattle.event_text.specs.Words.{words_of, one_of, two_of, three_of, number_of}
+
+-- an event as a line tells it
+pub data Told : Type 0 where
+  Submitted : (queue : ℕ) (entry payload : List ℕ) → Told
+  Turned : (run : ℕ) → Told
+  Failed : (zone : ℕ) (state : FaultState) → Told
+
+-- an event without where its data lies in memory
+abbrev pub told_of : Event → Told
+told_of (event.Submit queue entry payload) = Submitted queue entry payload.items
+told_of (event.Turn run) = Turned run
+told_of (event.Fault zone state) = Failed zone state
+
+-- the number, where it is below a bound
+abbrev pub below : ℕ → ℕ → Option ℕ
+below bound number = if nat_lt number bound then Some number else None
+
+-- a queue, an entry of 64 bytes and the data beside it, which may be left out
+abbrev pub submission : Option ℕ → Option (List ℕ) → Option (List ℕ) → Option Told
+submission (Some queue) (Some entry) (Some payload) = Some (Submitted queue entry payload)
+submission _ _ _ = None
+
+abbrev pub submission_of : List (List ℕ) → Option Told
+submission_of words = option_and_then
+    (λ w. submission (option_and_then (below (2 ^ 16)) (number_of w.0)) (result_ok (decode_sized w.1 64)) (result_ok (decode_of w.2)))
+    (three_of words)
+
+-- a run
+abbrev pub turn_of : List (List ℕ) → Option Told
+turn_of words = option_and_then (λ word. option_map Turned (option_and_then (below (2 ^ 8)) (number_of word))) (one_of words)
+
+-- a zone, and the state that it fails to
+abbrev pub state_named : List ℕ → Option FaultState
+state_named word =
+    if bytes_eq word (codes "readonly") then Some ReadOnly else (if bytes_eq word (codes "offline") then Some Offline else None)
+
+abbrev pub failure : Option ℕ → Option FaultState → Option Told
+failure (Some zone) (Some state) = Some (Failed zone state)
+failure _ _ = None
+
+abbrev pub fault_of : List (List ℕ) → Option Told
+fault_of words = option_and_then (λ w. failure (number_of w.0) (state_named w.1)) (two_of words)
+
+-- the event that a word names and the words behind it describe
+abbrev pub event_named : List ℕ → List (List ℕ) → Option Told
+event_named name words =
+    if bytes_eq name (codes "submit") then submission_of words
+    else (if bytes_eq name (codes "turn") then turn_of words else (if bytes_eq name (codes "fault") then fault_of words else None))
+
+-- what words tell: no words, nothing; words that tell no event are refused
+abbrev pub words_told : List (List ℕ) → Option (Option Told)
+words_told [] = Some None
+words_told (name ∷ words) = option_map Some (event_named name words)
+
+-- what a line tells: a byte that is not ASCII refuses it, in its comment too; a `;` begins a comment
+abbrev pub line_told : List ℕ → Option (Option Told)
+line_told line = if list_all is_ascii line then words_told (words_of (uncommented line)) else None
+
+abbrev pub event_before : Told → Result (List Told) ℕ → Result (List Told) ℕ
+event_before first (Ok later) = Ok (first ∷ later)
+event_before first (Err line) = Err line
+
+abbrev pub line_before : ℕ → Option (Option Told) → Result (List Told) ℕ → Result (List Told) ℕ
+line_before number None later = Err number
+line_before number (Some None) later = later
+line_before number (Some (Some first)) later = event_before first later
+
+-- the events of lines that are counted from a number on, or the number of the lowest that is refused
+abbrev pub events_from : ℕ → List (List ℕ) → Result (List Told) ℕ
+events_from number [] = Ok []
+events_from number (line ∷ rest) = line_before number (line_told line) (events_from (number + 1) rest)
+
+-- the events of a file, or its lowest line that is refused
+abbrev pub events_in : List ℕ → Result (List Told) ℕ
+events_in file = events_from 1 (lines file)
+
+-- why digits that spell no bytes refuse their line
+abbrev pub reason_of : FromHexError → LineError
+reason_of digits.OutOfMemory = reasons.OutOfMemory
+reason_of _ = reasons.Malformed
+
+-- the event that is given, or the refusal, is the one that is told, unless memory ran out
+abbrev pub RefusesEvent : LineError → Option Told → Type 0
+RefusesEvent reasons.Malformed meant = meant ≡ None
+RefusesEvent reasons.OutOfMemory meant = Unit {0}
+
+abbrev pub GivesEvent : Result Event LineError → Option Told → Type 0
+GivesEvent (Ok event) meant = meant ≡ Some (told_of event)
+GivesEvent (Err error) meant = RefusesEvent error meant
+
+abbrev pub RefusesLine : LineError → Option (Option Told) → Type 0
+RefusesLine reasons.Malformed meant = meant ≡ None
+RefusesLine reasons.OutOfMemory meant = Unit {0}
+
+abbrev pub GivesLine : Result (Option Event) LineError → Option (Option Told) → Type 0
+GivesLine (Ok event) meant = meant ≡ Some (option_map told_of event)
+GivesLine (Err error) meant = RefusesLine error meant
+
+abbrev pub RefusesFile : ParseError → Result (List Told) ℕ → Type 0
+RefusesFile (Line number) meant = meant ≡ Err number
+RefusesFile OutOfMemory meant = Unit {0}

@@ -1,0 +1,3 @@
+pub mod CommandFile
+pub mod Lines
+pub mod Words

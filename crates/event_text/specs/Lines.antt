@@ -1,0 +1,21 @@
+-- The lines that replies are printed as (profile).
+use Rattle.std.specs.Prelude.{ℕ, ◌==◌, if◌then◌else◌, List, [], ◌∷◌, ◌++◌, length, codes}
+use Rattle.std.specs.Fmt.{decimal}
+use Rattle.hex.specs.Hex.{encode_lower}
+use Rattle.runner.specs.declared.reply.Reply.{Reply}
+use Rattle.runner.specs.declared.reply.Reply.TheVariants.{Complete, Pending, Idle, Done, FaultRefused}
+
+-- a space and the data, where there is any
+abbrev pub data_text : List ℕ → List ℕ
+data_text bytes = if length bytes == 0 then [] else 32 ∷ encode_lower bytes
+
+-- a reply without the end of its line
+abbrev pub reply_text : Reply → List ℕ → List ℕ
+reply_text (Complete queue entry length) bytes = codes "cpl " ++ decimal queue ++ codes " " ++ encode_lower entry ++ data_text bytes
+reply_text (Pending run) bytes = codes "pending " ++ decimal run
+reply_text Idle bytes = codes "idle"
+reply_text Done bytes = codes "done"
+reply_text FaultRefused bytes = codes "refused"
+
+abbrev pub line_text : Reply → List ℕ → List ℕ
+line_text reply bytes = reply_text reply bytes ++ 10 ∷ []

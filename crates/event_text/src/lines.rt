@@ -1,0 +1,119 @@
+//! Replies as lines of text.
+
+ghost use Rattle.std.specs.Prelude.{◌≡◌, ◌≤◌, ◌<◌, ◌+◌, ◌^◌, ◌++◌, length, None, IfOk, OnOk};
+ghost use Rattle.runner.specs.Taken.{CountsRefusals};
+ghost use Rattle.std.specs.Io.KnownBytes.{Appends};
+ghost use Rattle.hex.specs.Hex.{encode_lower};
+ghost use Rattle.event_text.specs.Lines.{line_text};
+
+use runner::{Out, Refusal, Reply};
+use std::alloc::{AllocError, Global};
+use std::io;
+use std::io::Write;
+use zns_commands::MOST_TRANSFER;
+
+/// The most bytes in a line: `cpl 65535 `, the completion, a space, the data and the line's end.
+const LINE_BYTES: usize = 10 + 32 + 1 + 2 * MOST_TRANSFER + 1;
+
+/// How many bytes are spelled at a time.
+const CHUNK: usize = 128;
+
+/// Prints each reply on a line of its own, in one write.
+#[derive(Drop)]
+pub struct Lines<'a, W> {
+    out: &'a mut W,
+    line: Vec<u8>,
+    refusals: u64,
+}
+
+impl<'a, W: Write> Lines<'a, W> {
+    /// A printer of replies, with room for the longest line.
+    pub fn new(alloc: Global, out: &'a mut W) -> Result<Lines<'a, W>, AllocError>
+        ensures { IfOk result (λ lines. ⟦<Lines<'a, W> as Out>⟧.refused lines ≡ 0) }
+    {
+        let line = Vec::with_capacity(alloc, LINE_BYTES)?;
+        Ok(Lines {
+            out,
+            line,
+            refusals: 0,
+        })
+    }
+}
+
+impl<W: Write> Out for Lines<'_, W> {
+    ghost taken = { λ _. None };
+
+    ghost refused = { λ lines. lines.refusals };
+
+    fn take(&mut self, reply: Reply, bytes: &[u8]) -> Result<(), Refusal>
+        requires { self.old.refusals + 1 < 2 ^ 64 }
+        ensures printed { OnOk result (Appends (W.contents self.old.out.now) (W.contents self.new.out.now) (line_text reply bytes.now)) }
+        ensures count { CountsRefusals self.old.refusals self.new.refusals result }
+    {
+        match print(self.out, &mut self.line, reply, bytes) {
+            Ok(()) => Ok(()),
+            Err(_) => {
+                self.refusals += 1;
+                Err(Refusal)
+            }
+        }
+    }
+
+    fn refusals(&self) -> u64 {
+        self.refusals
+    }
+}
+
+/// Prints the line of a reply in one write.
+fn print<W: Write>(out: &mut W, line: &mut Vec<u8>, reply: Reply, bytes: &[u8]) -> io::Result<()>
+    ensures { OnOk result (Appends (W.contents out.old) (W.contents out.new) (line_text reply bytes.now)) }
+{
+    line.clear();
+    push_line(line, reply, bytes)?;
+    out.write_all(line.as_slice())
+}
+
+/// Adds the line of a reply.
+fn push_line(line: &mut Vec<u8>, reply: Reply, bytes: &[u8]) -> io::Result<()>
+    ensures { OnOk result (line.new.items ≡ line.old.items ++ line_text reply bytes.now) }
+{
+    match reply {
+        Reply::Complete { queue, entry, .. } => {
+            write!(line, "cpl {queue} ")?;
+            push_hex(line, &entry)?;
+            if !bytes.is_empty() {
+                line.push(b' ')?;
+                push_hex(line, bytes)?;
+            }
+        }
+        Reply::Pending { run } => write!(line, "pending {run}")?,
+        Reply::Idle => write!(line, "idle")?,
+        Reply::Done => write!(line, "done")?,
+        Reply::FaultRefused => write!(line, "refused")?,
+    }
+    line.push(b'\n')?;
+    Ok(())
+}
+
+/// Adds two lower case hexadecimal digits for each byte.
+fn push_hex(line: &mut Vec<u8>, bytes: &[u8]) -> Result<(), AllocError>
+    ensures { OnOk result (line.new.items ≡ line.old.items ++ encode_lower bytes.now) }
+{
+    let mut rest = bytes;
+    while !rest.is_empty() {
+        let (chunk, behind) = rest.split_at(rest.len().min(CHUNK));
+        push_digits(line, chunk)?;
+        rest = behind;
+    }
+    Ok(())
+}
+
+fn push_digits(line: &mut Vec<u8>, chunk: &[u8]) -> Result<(), AllocError>
+    requires { length chunk.now ≤ CHUNK }
+    ensures { OnOk result (line.new.items ≡ line.old.items ++ encode_lower chunk.now) }
+{
+    let mut digits = [0; 2 * CHUNK];
+    let digits = &mut digits[..2 * chunk.len()];
+    hex::encode_to_slice(chunk, digits).unwrap();
+    line.extend_from_slice(digits)
+}

@@ -1,0 +1,101 @@
+//! The words of a line.
+
+ghost use Rattle.std.specs.Prelude.{◌≡◌, [], ◌∷◌, true, MatchOption, option_copied, option_map};
+ghost use Rattle.std.specs.List.{list_all};
+ghost use Rattle.std.specs.Char.{is_ascii_digit};
+ghost use Rattle.event_text.specs.Words.{words_of, one_of, two_of, three_of, number_of};
+
+use std::str;
+use text_lines::{trim_start, word};
+
+/// The words of a line, which spaces and tabs separate.
+#[derive(Drop)]
+pub(crate) struct Words<'a> {
+    rest: &'a [u8],
+}
+
+impl<'a> Words<'a> {
+    /// The words of a line, from its first on.
+    pub(crate) fn new(line: &'a [u8]) -> Words<'a>
+        ensures { result.rest.now ≡ line.now }
+    {
+        Words { rest: line }
+    }
+
+    /// The next word, if there is one.
+    #[tactic(auto, using(crate::proofs::WordLemmas::no_word, crate::proofs::WordLemmas::next_word))]
+    pub(crate) fn next(&mut self) -> Option<&'a [u8]>
+        ensures { MatchOption result
+            (words_of self.old.rest.now ≡ [])
+            (λ word. words_of self.old.rest.now ≡ word.now ∷ words_of self.new.rest.now) }
+    {
+        let text = trim_start(self.rest);
+        if text.is_empty() {
+            return None;
+        }
+        let (word, rest) = word(text);
+        self.rest = rest;
+        Some(word)
+    }
+
+    /// The word that is left, if there is just one.
+    pub(crate) fn one(mut self) -> Option<&'a [u8]>
+        ensures { option_copied result ≡ one_of (words_of self.entry.rest.now) }
+    {
+        let word = self.next()?;
+        match self.next() {
+            None => Some(word),
+            Some(_) => None,
+        }
+    }
+
+    /// The two words that are left, if there are just two.
+    pub(crate) fn two(mut self) -> Option<(&'a [u8], &'a [u8])>
+        ensures { option_map (λ words. (words.0.now, words.1.now)) result ≡ two_of (words_of self.entry.rest.now) }
+    {
+        let first = self.next()?;
+        let second = self.one()?;
+        Some((first, second))
+    }
+
+    /// The two or three words that are left, if there are just so many. The third is empty where it
+    /// is missing.
+    pub(crate) fn three(mut self) -> Option<(&'a [u8], &'a [u8], &'a [u8])>
+        ensures { option_map (λ words. (words.0.now, words.1.now, words.2.now)) result ≡ three_of (words_of self.entry.rest.now) }
+    {
+        let first = self.next()?;
+        let second = self.next()?;
+        match self.next() {
+            None => Some((first, second, &[])),
+            Some(third) => match self.next() {
+                None => Some((first, second, third)),
+                Some(_) => None,
+            },
+        }
+    }
+}
+
+/// The number that decimal digits alone spell, leading zeros allowed, if it is below 2^32.
+pub fn decimal(word: &[u8]) -> Option<u32>
+    ensures { result ≡ number_of word.now }
+{
+    if is_all_digits(word) {
+        value_of(word)
+    } else {
+        None
+    }
+}
+
+fn is_all_digits(word: &[u8]) -> bool
+    ensures { result ≡ list_all is_ascii_digit word.now }
+{
+    word.iter().all(|byte| byte.is_ascii_digit())
+}
+
+/// The number that digits spell, if there are any and it is below 2^32.
+fn value_of(digits: &[u8]) -> Option<u32>
+    requires { list_all is_ascii_digit digits.now ≡ true }
+    ensures { result ≡ number_of digits.now }
+{
+    str::from_utf8(digits).unwrap().parse().ok()
+}

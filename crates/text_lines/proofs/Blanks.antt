@@ -1,0 +1,32 @@
+-- Blanks at the end of a text.
+use Rattle.std.proofs.Common.{◌≡◌, ℕ, ◌-◌, ◌+◌, ◌≤◌, Bool, true, false, ◌&&◌, eqb, cond, List, [], ◌∷◌, ◌++◌, length, take, get_or, refl, sym, ap, ◌∙◌, arith}
+use Rattle.std.proofs.Math.Dec.{eqb-suc-zero}
+use Rattle.std.proofs.lemmas.List.{take_more, take_all}
+use Rattle.text_lines.specs.Cut.{is_blank_byte, without_end_blanks}
+
+-- a blank at the end goes
+without_end_blanks-push_blank : (text : List ℕ) (byte : ℕ) → is_blank_byte byte ≡ true → without_end_blanks (text ++ byte ∷ []) ≡ without_end_blanks text
+without_end_blanks-push_blank [] byte e = rw e refl
+without_end_blanks-push_blank (b ∷ text) byte e = rw (without_end_blanks-push_blank text byte e) refl
+
+not_empty : (b : Bool) (text : List ℕ) (byte : ℕ) (zs : List ℕ) → cond (b && eqb (length (text ++ byte ∷ [])) 0) [] zs ≡ zs
+not_empty true [] byte zs = refl
+not_empty true (t ∷ text) byte zs = ap (λ c. cond c [] zs) (eqb-suc-zero (length (text ++ byte ∷ [])))
+not_empty false text byte zs = refl
+
+-- with another byte there nothing goes
+without_end_blanks-push : (text : List ℕ) (byte : ℕ) → is_blank_byte byte ≡ false → without_end_blanks (text ++ byte ∷ []) ≡ text ++ byte ∷ []
+without_end_blanks-push [] byte e = rw e refl
+without_end_blanks-push (b ∷ text) byte e = rw (without_end_blanks-push text byte e) (not_empty (is_blank_byte b) text byte (b ∷ (text ++ byte ∷ [])))
+
+-- the last byte behind the others
+last : (text : List ℕ) → 1 ≤ length text → text ≡ take (length text - 1) text ++ get_or text (length text - 1) 0 ∷ []
+last text some =
+    let all : take (length text - 1 + 1) text ≡ text = take_all _ text (omega arith) in
+    sym all ∙ take_more text (length text - 1) 0 (omega arith)
+
+pub blank_last : (text : List ℕ) → 1 ≤ length text → is_blank_byte (get_or text (length text - 1) 0) ≡ true → without_end_blanks (take (length text - 1) text) ≡ without_end_blanks text
+blank_last text some e = sym (ap without_end_blanks (last text some) ∙ without_end_blanks-push_blank (take (length text - 1) text) _ e)
+
+pub other_last : (text : List ℕ) → 1 ≤ length text → is_blank_byte (get_or text (length text - 1) 0) ≡ false → text ≡ without_end_blanks text
+other_last text some e = last text some ∙ sym (ap without_end_blanks (last text some) ∙ without_end_blanks-push (take (length text - 1) text) _ e)

@@ -1,0 +1,4 @@
+pub mod Blanks
+pub mod LineLemmas
+pub mod PartLemmas
+pub mod Positions

@@ -1,4 +1,0 @@
-pub mod EventLemmas
-pub mod FileLemmas
-pub mod LineLemmas
-pub mod WordLemmas
