@@ -4,7 +4,6 @@ pub mod Range
 pub mod Arithmetic
 pub mod Edge
 pub mod NumberLaws
-pub mod SignedLaws
 pub mod RangeLaws
 pub mod FactLaws
 pub mod PointerLaws

@@ -2,15 +2,18 @@
 use Rattle.std.proofs.Common.{ℕ, pos, ◌≡◌, ◌+◌, ◌-◌, ◌*◌, ◌/◌, ◌%◌, ◌^◌, ◌<◌, ◌≤◌, min, Bool, true, false, cond, sym, subst, arith}
 use Rattle.std.proofs.Math.Nat.{div-le_self, mod-le}
 use Rattle.std.proofs.lemmas.Bool.{cond_both, ltb-true, leb-true, eqb-true, eqb-false, and_parts}
-use Rattle.std.proofs.lemmas.Nat.{and_le_l, and_le_r, mod_below, mul-le, or_lt, xor_lt, pow_pos, shr_le}
+use Rattle.std.proofs.lemmas.Nat.{and_le_l, and_le_r, mod_below, mul-le, pow_pos, shr_le}
 use Rattle.std.specs.Prelude.{◌==◌, ◌&&◌, nat_lt, nat_le, bit_and, bit_or, bit_xor}
 use Rattle.std.proofs.Math.Pow.{shr_mono}
+use Rattle.std.proofs.lemmas.Int.{to_z_pos}
+use Rattle.std.specs.Int.{w32, w64}
 use Rattle.ebpf_decode.specs.declared.operation.Operation.{Operation}
 use Rattle.ebpf_decode.specs.declared.operation.Operation.TheVariants.{Add, Subtract, Multiply, Divide, SignedDivide, Or, And, LeftShift, RightShift, Modulo, SignedModulo, Xor, Move, ArithmeticShift}
 use Rattle.ebpf_decode.specs.declared.operation.Width.{Width}
+use Rattle.ebpf_decode.specs.declared.operation.Width.TheVariants.{Bits32, Bits64}
 use Rattle.interp.specs.Word.{bits, count, result_of, signed}
+use Rattle.interp.proofs.WordLemmas.{result_fits}
 use Rattle.reg_domain.specs.NumberLaws.{mod_below_is, quotient_grows, wraps_once}
-use Rattle.reg_domain.specs.SignedLaws.{signed_is, signed_quotient_fits, signed_remainder_fits, arithmetic_shift_fits}
 use Rattle.reg_domain.specs.Fact.{IsWithin, is_single, range, single}
 use Rattle.reg_domain.specs.Range.{limit, half, top, sum, difference, product, quotient, remainder, if_positive, conjunction, shifted_left, shifted_left_by, shifted_right, shifted_right_by, combined}
 use Rattle.reg_domain.specs.declared.fact.Bounds.{Bounds}
@@ -105,6 +108,11 @@ remainder_law d s x y hd hs =
     (λ _. let small = mod_below x y (omega arith) in let less = mod-le x y in (omega arith, omega (arith, small, less))))
     (λ _. (omega arith, omega (arith, below))))
 
+-- a number below the half is its own signed value
+signed_is : (w : Width) (x : ℕ) → x < half w → signed w x ≡ pos x
+signed_is Bits32 x h = to_z_pos w32 x h
+signed_is Bits64 x h = to_z_pos w64 x h
+
 both_signed : (w : Width) (d s : Bounds) (x y : ℕ) → IsWithin d x → IsWithin s y
     → (nat_lt d.high (half w) && nat_lt s.high (half w)) ≡ true → (signed w x ≡ pos x) × (signed w y ≡ pos y)
 both_signed w d s x y hd hs positive =
@@ -120,7 +128,7 @@ signed_quotient_law w d s x y hd hs fx fy =
     (λ positive.
     let are = both_signed w d s x y hd hs positive in
     rw (are.0, are.1) (quotient_law d s x y hd hs))
-    (λ _. top_law w (result_of w SignedDivide x y) (signed_quotient_fits w x y fx))
+    (λ _. top_law w (result_of w SignedDivide x y) (result_fits w SignedDivide x y fx fy))
 
 signed_remainder_law : (w : Width) (d s : Bounds) (x y : ℕ) → IsWithin d x → IsWithin s y → x < limit w → y < limit w
     → IsWithin (if_positive w d s (remainder d s)) (result_of w SignedModulo x y)
@@ -129,7 +137,7 @@ signed_remainder_law w d s x y hd hs fx fy =
     (λ positive.
     let are = both_signed w d s x y hd hs positive in
     rw (are.0, are.1) (remainder_law d s x y hd hs))
-    (λ _. top_law w (result_of w SignedModulo x y) (signed_remainder_fits w x y fx))
+    (λ _. top_law w (result_of w SignedModulo x y) (result_fits w SignedModulo x y fx fy))
 
 conjunction_law : (d s : Bounds) (x y : ℕ) → IsWithin d x → IsWithin s y → IsWithin (conjunction d s) (bit_and x y)
 conjunction_law d s x y hd hs =
@@ -175,7 +183,7 @@ arithmetic_shift_law w d s x y hd hs fx fy =
     (λ positive.
     let below = ltb-true d.high (half w) positive in
     rw (signed_is w x (omega arith)) (shifted_right_law w d s x y hd hs))
-    (λ _. top_law w (result_of w ArithmeticShift x y) (arithmetic_shift_fits w x y fx))
+    (λ _. top_law w (result_of w ArithmeticShift x y) (result_fits w ArithmeticShift x y fx fy))
 
 pub combined_law : (w : Width) (operation : Operation) (d s : Bounds) (x y : ℕ) → IsWithin d x → IsWithin s y
     → x < limit w → y < limit w → IsWithin (combined w operation d s) (result_of w operation x y)
@@ -184,12 +192,12 @@ combined_law w Subtract d s x y hd hs fx fy = difference_law w d s x y hd hs fx 
 combined_law w Multiply d s x y hd hs fx fy = product_law w d s x y hd hs
 combined_law w Divide d s x y hd hs fx fy = quotient_law d s x y hd hs
 combined_law w SignedDivide d s x y hd hs fx fy = signed_quotient_law w d s x y hd hs fx fy
-combined_law w Or d s x y hd hs fx fy = top_law w (bit_or x y) (or_lt (bits w) x y fx fy)
+combined_law w Or d s x y hd hs fx fy = top_law w (bit_or x y) (result_fits w Or x y fx fy)
 combined_law w And d s x y hd hs fx fy = conjunction_law d s x y hd hs
 combined_law w LeftShift d s x y hd hs fx fy = shifted_left_law w d s x y hd hs
 combined_law w RightShift d s x y hd hs fx fy = shifted_right_law w d s x y hd hs
 combined_law w Modulo d s x y hd hs fx fy = remainder_law d s x y hd hs
 combined_law w SignedModulo d s x y hd hs fx fy = signed_remainder_law w d s x y hd hs fx fy
-combined_law w Xor d s x y hd hs fx fy = top_law w (bit_xor x y) (xor_lt (bits w) x y fx fy)
+combined_law w Xor d s x y hd hs fx fy = top_law w (bit_xor x y) (result_fits w Xor x y fx fy)
 combined_law w Move d s x y hd hs fx fy = hs
 combined_law w ArithmeticShift d s x y hd hs fx fy = arithmetic_shift_law w d s x y hd hs fx fy
