@@ -1,8 +1,24 @@
 //! The words that follow a command's name.
 
 use crate::failure::Failure;
-use clap::ArgMatches;
+use clap::{Arg, ArgAction, ArgMatches};
 use event_text::decimal;
+use std::alloc::Global;
+
+/// The option `--NAME LETTER`.
+pub(crate) fn option<'a>(alloc: Global, name: &'a str, letter: &'a str) -> Arg<'a> {
+    Arg::new(alloc, name)
+        .long(name)
+        .value_name(letter)
+        .action(ArgAction::Set)
+}
+
+/// The option that gives the bytes of a block, which is required.
+pub(crate) fn block_option<'a>(alloc: Global, name: &'a str) -> Arg<'a> {
+    option(alloc, name, "B")
+        .required(true)
+        .help("Bytes of a block: 512, 1024, 2048 or 4096")
+}
 
 /// The value of a required argument. A command line without it is refused before this.
 pub(crate) fn required<'a>(matches: &ArgMatches<'a>, id: &str) -> &'a str {

@@ -3,11 +3,11 @@
 ghost use Rattle.std.specs.Prelude.{◌≡◌};
 ghost use Rattle.command_line.specs.Told.{told_of_geometry};
 
-use crate::arguments::{number, required};
+use crate::arguments::{block_option, number, option, required};
 use crate::failure::Failure;
 use crate::files::Files;
 use crate::image_file;
-use clap::{Arg, ArgAction, ArgMatches, Command};
+use clap::{Arg, ArgMatches, Command};
 use std::alloc::{AllocError, Global};
 use zns_commands::{Geometry, GeometryFault, Image, Limits};
 
@@ -43,15 +43,6 @@ Example: 4 zones of 8 blocks, 6 of them writable, at most 2 of the zones open an
 
   zscli format zoned.img --block 512 --zones 4 --size 8 --capacity 6 --open 2 --active 3";
 
-fn option<'a>(alloc: Global, name: &'a str, letter: &'a str, help: &'a str) -> Arg<'a> {
-    Arg::new(alloc, name)
-        .long(name)
-        .value_name(letter)
-        .required(true)
-        .action(ArgAction::Set)
-        .help(help)
-}
-
 /// How the command stands on the command line.
 pub(crate) fn subcommand<'a>(alloc: Global) -> Result<Command<'a>, AllocError> {
     let image = Arg::new(alloc, IMAGE)
@@ -62,22 +53,21 @@ pub(crate) fn subcommand<'a>(alloc: Global) -> Result<Command<'a>, AllocError> {
         .long_about(LONG_ABOUT)
         .after_help(EXAMPLE)
         .arg(image)?
-        .arg(option(
-            alloc,
-            BLOCK,
-            "B",
-            "Bytes of a block: 512, 1024, 2048 or 4096",
-        ))?
-        .arg(option(alloc, ZONES, "N", "The number of zones"))?
-        .arg(option(alloc, SIZE, "S", "Blocks of a zone"))?
-        .arg(option(alloc, CAPACITY, "C", "Blocks of a zone that can be written"))?
-        .arg(option(alloc, OPEN, "O", "The most zones that are open at a time"))?
-        .arg(option(
+        .arg(block_option(alloc, BLOCK))?
+        .arg(count(alloc, ZONES, "N", "The number of zones"))?
+        .arg(count(alloc, SIZE, "S", "Blocks of a zone"))?
+        .arg(count(alloc, CAPACITY, "C", "Blocks of a zone that can be written"))?
+        .arg(count(alloc, OPEN, "O", "The most zones that are open at a time"))?
+        .arg(count(
             alloc,
             ACTIVE,
             "A",
             "The most zones that are active at a time",
         ))
+}
+
+fn count<'a>(alloc: Global, name: &'a str, letter: &'a str, help: &'a str) -> Arg<'a> {
+    option(alloc, name, letter).required(true).help(help)
 }
 
 /// Runs the command.

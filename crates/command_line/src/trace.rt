@@ -4,12 +4,12 @@ ghost use Rattle.std.specs.Prelude.{◌≡◌, ◌≤◌, ◌<◌, ◌+◌, ◌^
 ghost use Rattle.interp.specs.Step.{IsAt};
 ghost use Rattle.interp.specs.State.{slot_of, steps_of, group_length};
 
-use crate::arguments::{number, required};
+use crate::arguments::{number, option, required};
 use crate::failure::{Failure, STANDARD_OUTPUT};
 use crate::files::Files;
 use crate::program::read_program;
 use byteorder::{ByteOrder, LittleEndian};
-use clap::{Arg, ArgAction, ArgMatches, Command};
+use clap::{Arg, ArgMatches, Command};
 use ebpf_decode::Program;
 use emit_append::is_block_size;
 use interp::{Machine, Step};
@@ -44,29 +44,30 @@ Example:
 
   zscli trace program.bin block.bin --emit 10";
 
-fn option<'a>(alloc: Global, name: &'a str, letter: &'a str, default: &'a str) -> Arg<'a> {
-    Arg::new(alloc, name)
-        .long(name)
-        .value_name(letter)
-        .action(ArgAction::Set)
-        .default_value(default)
-}
-
 /// How the command stands on the command line.
 pub(crate) fn subcommand<'a>(alloc: Global) -> Result<Command<'a>, AllocError> {
     let program = Arg::new(alloc, PROGRAM)
         .required(true)
         .help("The program, as instruction bytes");
     let block = Arg::new(alloc, BLOCK).required(true).help("The block");
+    let emit = option(alloc, EMIT, "E")
+        .default_value("0")
+        .help("The most bytes that may be emitted");
+    let argument = option(alloc, ARGUMENT, "A")
+        .default_value("0")
+        .help("The argument of the run");
+    let fuel = option(alloc, FUEL, "F")
+        .default_value("65536")
+        .help("The most steps");
     Command::new(alloc, NAME)
         .about("Runs a program on one block, step by step")
         .long_about(LONG_ABOUT)
         .after_help(EXAMPLE)
         .arg(program)?
         .arg(block)?
-        .arg(option(alloc, EMIT, "E", "0").help("The most bytes that may be emitted"))?
-        .arg(option(alloc, ARGUMENT, "A", "0").help("The argument of the run"))?
-        .arg(option(alloc, FUEL, "F", "65536").help("The most steps"))
+        .arg(emit)?
+        .arg(argument)?
+        .arg(fuel)
 }
 
 /// Runs the command.

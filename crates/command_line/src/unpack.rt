@@ -3,10 +3,10 @@
 ghost use Rattle.std.specs.Prelude.{◌≡◌};
 ghost use Rattle.command_line.specs.Told.{told_of_frame};
 
-use crate::arguments::{number, required};
+use crate::arguments::{block_option, number, required};
 use crate::failure::{Failure, STANDARD_OUTPUT};
 use crate::files::Files;
-use clap::{Arg, ArgAction, ArgMatches, Command};
+use clap::{Arg, ArgMatches, Command};
 use emit_append::{UnpackFault, is_block_size, unpack as records_of};
 use std::alloc::{AllocError, Global};
 use std::io::Write;
@@ -35,12 +35,7 @@ pub(crate) fn subcommand<'a>(alloc: Global) -> Result<Command<'a>, AllocError> {
     let file = Arg::new(alloc, FILE)
         .required(true)
         .help("The output blocks");
-    let block = Arg::new(alloc, BLOCK)
-        .long(BLOCK)
-        .value_name("B")
-        .required(true)
-        .action(ArgAction::Set)
-        .help("Bytes of a block: 512, 1024, 2048 or 4096");
+    let block = block_option(alloc, BLOCK);
     Command::new(alloc, NAME)
         .about("Prints the records of output blocks")
         .long_about(LONG_ABOUT)

@@ -1,10 +1,10 @@
 //! The command `verify`: says whether a program is accepted.
 
-use crate::arguments::{number, required};
+use crate::arguments::{block_option, number, option, required};
 use crate::failure::{Failure, STANDARD_OUTPUT};
 use crate::files::Files;
 use crate::program::read_program;
-use clap::{Arg, ArgAction, ArgMatches, Command};
+use clap::{Arg, ArgMatches, Command};
 use emit_append::is_block_size;
 use reg_domain::Intervals;
 use std::alloc::{AllocError, Global};
@@ -37,21 +37,13 @@ Example:
 
   zscli verify program.bin --block 512 --emit 10";
 
-fn option<'a>(alloc: Global, name: &'a str, letter: &'a str) -> Arg<'a> {
-    Arg::new(alloc, name)
-        .long(name)
-        .value_name(letter)
-        .required(true)
-        .action(ArgAction::Set)
-}
-
 /// How the command stands on the command line.
 pub(crate) fn subcommand<'a>(alloc: Global) -> Result<Command<'a>, AllocError> {
     let program = Arg::new(alloc, PROGRAM)
         .required(true)
         .help("The program, as instruction bytes");
-    let block = option(alloc, BLOCK, "B").help("Bytes of a block: 512, 1024, 2048 or 4096");
-    let emit = option(alloc, EMIT, "E").help(
+    let block = block_option(alloc, BLOCK);
+    let emit = option(alloc, EMIT, "E").required(true).help(
         "The most bytes that may be emitted on a block, two for each frame counted: at most B",
     );
     Command::new(alloc, NAME)
