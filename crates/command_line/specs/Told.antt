@@ -1,6 +1,10 @@
 -- What a fault is told as: its number, and the line, slot or byte that has it (profile).
 use Rattle.std.specs.declared.io.ErrorKind.{ErrorKind}
 use Rattle.std.specs.declared.io.ErrorKind.TheVariants as system
+use Rattle.clap.specs.Words.{kind_of}
+use Rattle.clap.specs.declared.error.Error.{Error}
+use Rattle.clap.specs.declared.error.kind.ErrorKind as clap
+use Rattle.clap.specs.declared.error.kind.ErrorKind.TheVariants as kind
 use Rattle.image_store.specs.Geometry.{number_of}
 use Rattle.image_store.specs.declared.geometry.GeometryFault.{GeometryFault}
 use Rattle.event_text.specs.declared.command_file.ParseError.{ParseError}
@@ -16,12 +20,20 @@ use Rattle.emit_append.specs.declared.fault.UnpackFault.TheVariants as frame
 use Rattle.command_line.specs.declared.files.FileError.{FileError}
 use Rattle.command_line.specs.declared.files.FileError.TheVariants as file
 use Rattle.command_line.specs.declared.failure.Failure.{Failure}
-use Rattle.command_line.specs.declared.failure.Failure.TheVariants.{NotText, NoMemory, LineRefused, GeometryRefused, AssemblyRefused, ProgramRefused, FrameRefused}
+use Rattle.command_line.specs.declared.failure.Failure.TheVariants.{CommandLine, NotText, NoMemory, LineRefused, GeometryRefused, AssemblyRefused, ProgramRefused, FrameRefused}
 
 -- a word of the command line that can't be read
 abbrev pub told_of_words : ErrorKind → Failure
 told_of_words system.OutOfMemory = NoMemory
 told_of_words _ = NotText
+
+-- a command line that is wrong
+abbrev pub told_of_kind : Error → clap.ErrorKind → Failure
+told_of_kind error kind.OutOfMemory = NoMemory
+told_of_kind error _ = CommandLine error
+
+abbrev pub told_of_command_line : Error → Failure
+told_of_command_line error = told_of_kind error (kind_of error)
 
 -- a file that the system refuses
 abbrev pub told_of_file : ErrorKind → FileError

@@ -1,6 +1,8 @@
 //! The command `asm`: text to a program.
 
-ghost use Rattle.std.specs.Prelude.{◌≡◌};
+ghost use Rattle.std.specs.Prelude.{◌≡◌, OnOk, OnErr};
+ghost use Rattle.ebpf_asm.specs.Assembly.{assembled};
+ghost use Rattle.command_line.specs.Made.{MakesProgram};
 ghost use Rattle.command_line.specs.Told.{told_of_assembly};
 
 use crate::arguments::required;
@@ -55,16 +57,30 @@ pub(crate) fn asm<'a, F: Files>(
     alloc: Global,
     matches: &ArgMatches<'a>,
     files: &mut F,
-) -> Result<(), Failure<'a>> {
+) -> Result<(), Failure<'a>>
+    ensures { OnErr result (F.made files.new ≡ F.made files.old) }
+{
     let path = required(matches, TEXT);
     let text = files
         .read(path)
         .map_err(|error| Failure::of_reading(path, error))?;
-    let bytes = assemble(alloc, text.as_slice())?;
-    let program = required(matches, PROGRAM);
+    make(alloc, text.as_slice(), required(matches, PROGRAM), files)
+}
+
+/// Makes a file of the program that a text assembles to.
+fn make<'a, F: Files>(
+    alloc: Global,
+    text: &[u8],
+    path: &'a str,
+    files: &mut F,
+) -> Result<(), Failure<'a>>
+    ensures made { OnOk result (MakesProgram (F.made files.old) (F.made files.new) path.now (assembled text.now)) }
+    ensures kept { OnErr result (F.made files.new ≡ F.made files.old) }
+{
+    let program = assemble(alloc, text)?;
     files
-        .write(program, bytes.as_slice())
-        .map_err(|error| Failure::of_writing(program, error))
+        .write(path, program.as_slice())
+        .map_err(|error| Failure::of_writing(path, error))
 }
 
 impl From<AssembleError> for Failure<'_> {

@@ -1,5 +1,7 @@
 //! The command `disasm`: a program as text.
 
+ghost use Rattle.std.specs.Prelude.{◌≡◌};
+
 use crate::arguments::required;
 use crate::failure::{Failure, STANDARD_OUTPUT};
 use crate::files::Files;
@@ -46,7 +48,9 @@ pub(crate) fn disasm<'a, F: Files, O: Write>(
     matches: &ArgMatches<'a>,
     files: &mut F,
     out: &mut O,
-) -> Result<(), Failure<'a>> {
+) -> Result<(), Failure<'a>>
+    ensures { F.made files.new ≡ F.made files.old }
+{
     let program = read_program(alloc, required(matches, PROGRAM), files)?;
     let mut text = String::new(alloc);
     disassemble(&program, &mut text)?;

@@ -5,7 +5,7 @@ ghost use Rattle.std.specs.IoError.{error_kind};
 ghost use Rattle.image_store.specs.Fault.{load_number};
 ghost use Rattle.command_line.specs.Failure.{status_of};
 ghost use Rattle.command_line.specs.declared.failure.Failure.TheVariants.{NoMemory};
-ghost use Rattle.command_line.specs.Told.{told_of_line, told_of_words};
+ghost use Rattle.command_line.specs.Told.{told_of_command_line, told_of_line, told_of_words};
 
 use crate::files::FileError;
 use event_text::ParseError;
@@ -133,6 +133,8 @@ impl<'a> Failure<'a> {
 }
 
 impl From<clap::Error> for Failure<'_> {
+    ghost from_gives = { λ error failure. failure ≡ told_of_command_line error };
+
     fn from(error: clap::Error) -> Self {
         match error.kind() {
             clap::error::ErrorKind::OutOfMemory => Failure::NoMemory,

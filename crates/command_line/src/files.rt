@@ -28,7 +28,7 @@ pub trait Files {
     /// A file that is written in pieces.
     type Writer: Sink + Drop;
 
-    /// The files that were made in pieces, in order, or `None` where it doesn't tell.
+    /// The files that were made, in order, or `None` where it doesn't tell.
     ghost made: { Self → Option (List Made) };
 
     /// All bytes of a file.
@@ -36,7 +36,9 @@ pub trait Files {
         ensures { made self.new ≡ made self.old };
 
     /// Makes a file of these bytes, in place of the one with this name.
-    fn write(&mut self, path: &str, bytes: &[u8]) -> Result<(), FileError>;
+    fn write(&mut self, path: &str, bytes: &[u8]) -> Result<(), FileError>
+        ensures ok { OnOk result (made self.new ≡ then_made (made self.old) path.now bytes.now) }
+        ensures err { OnErr result (made self.new ≡ made self.old) };
 
     /// A file, from its first byte on.
     fn open(&mut self, path: &str) -> Result<Self::Reader, FileError>

@@ -1,6 +1,6 @@
 //! The command `format`: a new image.
 
-ghost use Rattle.std.specs.Prelude.{◌≡◌};
+ghost use Rattle.std.specs.Prelude.{◌≡◌, OnErr};
 ghost use Rattle.command_line.specs.Told.{told_of_geometry};
 
 use crate::arguments::{block_option, number, option, required};
@@ -75,7 +75,9 @@ pub(crate) fn format<'a, F: Files>(
     alloc: Global,
     matches: &ArgMatches<'a>,
     files: &mut F,
-) -> Result<(), Failure<'a>> {
+) -> Result<(), Failure<'a>>
+    ensures { OnErr result (F.made files.new ≡ F.made files.old) }
+{
     let geometry = geometry(matches)?;
     let image = Image::empty(alloc, geometry)?;
     image_file::save(&image, required(matches, IMAGE), files)

@@ -15,7 +15,7 @@ mod unpack;
 mod verify;
 mod zones;
 
-ghost use Rattle.std.specs.Prelude.{◌≡◌, ◌≤◌};
+ghost use Rattle.std.specs.Prelude.{◌≡◌, ◌≤◌, ◌<◌, OnErr};
 
 use crate::failure::STANDARD_OUTPUT;
 use clap::Command;
@@ -28,7 +28,7 @@ use std::io::Write;
 /// Does what the words ask for, the program's name first, and answers the exit status: 0 where all
 /// was done, 1 where a file failed or memory was wanting, 2 for a wrong command line, 3 for input
 /// that is refused. For 1 and 3 the last line written to `err` says what it was; that a program isn't
-/// accepted stands on `out` alone.
+/// accepted stands on `out` alone. No file is made then.
 pub fn command<F: Files, O: Write, E: Write>(
     alloc: Global,
     words: &[String],
@@ -38,6 +38,7 @@ pub fn command<F: Files, O: Write, E: Write>(
 ) -> u8
     ensures known { result ≤ 3 }
     ensures quiet { result ≡ 0 → err.new ≡ err.old }
+    ensures kept { 0 < result → F.made files.new ≡ F.made files.old }
 {
     match run(alloc, words, files, out) {
         Ok(()) => 0,
@@ -50,7 +51,9 @@ fn run<'a, F: Files, O: Write>(
     words: &'a [String],
     files: &mut F,
     out: &mut O,
-) -> Result<(), Failure<'a>> {
+) -> Result<(), Failure<'a>>
+    ensures { OnErr result (F.made files.new ≡ F.made files.old) }
+{
     let mut line = command_line(alloc)?;
     let matches = match line.try_get_matches_from_mut(words) {
         Ok(matches) => matches,

@@ -13,7 +13,9 @@ pub(crate) fn read_program<'a, F: Files>(
     alloc: Global,
     path: &'a str,
     files: &mut F,
-) -> Result<Program, Failure<'a>> {
+) -> Result<Program, Failure<'a>>
+    ensures { F.made files.new ≡ F.made files.old }
+{
     let file = files
         .read(path)
         .map_err(|error| Failure::of_reading(path, error))?;

@@ -76,7 +76,9 @@ pub(crate) fn trace<'a, F: Files, O: Write>(
     matches: &ArgMatches<'a>,
     files: &mut F,
     out: &mut O,
-) -> Result<(), Failure<'a>> {
+) -> Result<(), Failure<'a>>
+    ensures { F.made files.new ≡ F.made files.old }
+{
     let limit = number(matches, EMIT)?;
     let argument = number(matches, ARGUMENT)?;
     let fuel = number(matches, FUEL)?;

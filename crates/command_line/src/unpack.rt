@@ -50,7 +50,9 @@ pub(crate) fn unpack<'a, F: Files, O: Write>(
     matches: &ArgMatches<'a>,
     files: &mut F,
     out: &mut O,
-) -> Result<(), Failure<'a>> {
+) -> Result<(), Failure<'a>>
+    ensures { F.made files.new ≡ F.made files.old }
+{
     let block = number(matches, BLOCK)?;
     let path = required(matches, FILE);
     let file = files

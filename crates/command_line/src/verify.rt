@@ -1,5 +1,7 @@
 //! The command `verify`: says whether a program is accepted.
 
+ghost use Rattle.std.specs.Prelude.{◌≡◌};
+
 use crate::arguments::{block_option, number, option, required};
 use crate::failure::{Failure, STANDARD_OUTPUT};
 use crate::files::Files;
@@ -61,7 +63,9 @@ pub(crate) fn verify<'a, F: Files, O: Write>(
     matches: &ArgMatches<'a>,
     files: &mut F,
     out: &mut O,
-) -> Result<(), Failure<'a>> {
+) -> Result<(), Failure<'a>>
+    ensures { F.made files.new ≡ F.made files.old }
+{
     let block = number(matches, BLOCK)?;
     let limit = number(matches, EMIT)?;
     let program = read_program(alloc, required(matches, PROGRAM), files)?;

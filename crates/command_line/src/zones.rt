@@ -1,5 +1,7 @@
 //! The command `zones`: the states of an image's zones.
 
+ghost use Rattle.std.specs.Prelude.{◌≡◌};
+
 use crate::arguments::required;
 use crate::failure::{Failure, STANDARD_OUTPUT};
 use crate::files::Files;
@@ -43,7 +45,9 @@ pub(crate) fn zones<'a, F: Files, O: Write>(
     matches: &ArgMatches<'a>,
     files: &mut F,
     out: &mut O,
-) -> Result<(), Failure<'a>> {
+) -> Result<(), Failure<'a>>
+    ensures { F.made files.new ≡ F.made files.old }
+{
     let image = image_file::load(alloc, required(matches, IMAGE), files)?;
     match print(image.zones(), out) {
         Ok(()) => Ok(()),
