@@ -8,3 +8,4 @@ pub mod Padding
 pub mod Parts
 pub mod Puts
 pub mod ReadBack
+pub mod Wholes

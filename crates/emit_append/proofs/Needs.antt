@@ -2,14 +2,14 @@
 use Rattle.std.proofs.Common.{◌≡◌, ℕ, zero, suc, ◌+◌, ◌-◌, ◌*◌, ◌/◌, ◌≤◌, ◌<◌, List, [], ◌∷◌, length, refl, ap, ◌∙◌, arith, rules, inl, inr, ⊎_elim, ◌⊎◌}
 use Rattle.std.specs.Int.{div_ceil}
 use Rattle.std.specs.List.{AllByRecursion}
-use Rattle.std.proofs.Math.Nat.{div-mul-le_self, lt_of_mul-lt-mul_left, mul-suc, mul_comm, suc-mul}
+use Rattle.std.proofs.Math.Nat.{div-mul-le_self, lt_of_mul-lt-mul_left, lt_of_mul-lt-mul_right, mul-suc, mul_comm, suc-mul}
 use Rattle.std.proofs.lemmas.Bool.{cases_lt}
 use Rattle.std.proofs.lemmas.List.{length-map}
 use Rattle.std.proofs.lemmas.Nat.{le-div}
 use Rattle.std.proofs.lemmas.Bool.Decides.{nat_tests}
 use Rattle.std.proofs.lemmas.Grind.{div_ceil_times}
 use Rattle.emit_append.specs.Packing.{laid_out, filled, padded}
-use Rattle.emit_append.specs.Need.{NeedIsEnough, need}
+use Rattle.emit_append.specs.Need.{NeedGrows, NeedIsEnough, need}
 use Rattle.emit_append.proofs.Layouts.{laid-behind, laid-beginning, laid-empty}
 
 zero_or_more : (a l : ℕ) → (a * l ≡ 0) ⊎ (a ≤ a * l)
@@ -76,3 +76,15 @@ need_is_enough block (suc limit) groups within all =
     let some : 0 < block / suc limit = le-div 1 block (suc limit) (omega arith) (omega arith) in
     let few = filled-few block (suc limit) (block / suc limit) groups some (div-mul-le_self block (suc limit)) all in
     rw (need-some (length groups) limit block, length-map (filled block groups) (padded block)) few
+
+ceil_grows : (fewer more each : ℕ) → fewer ≤ more → div_ceil fewer each ≤ div_ceil more each
+ceil_grows fewer more zero less = omega arith
+ceil_grows fewer more (suc each) less =
+    let least = div_ceil_times fewer (suc each) (omega arith) in
+    let most = div_ceil_times more (suc each) (omega arith) in
+    let below : div_ceil fewer (suc each) * suc each < suc (div_ceil more (suc each)) * suc each = omega (arith, least.1, most.0, suc-mul (div_ceil more (suc each)) (suc each)) in
+    omega (arith, lt_of_mul-lt-mul_right (suc each) below)
+
+pub need_grows : NeedGrows
+need_grows zero block fewer more less = omega arith
+need_grows (suc limit) block fewer more less = rw (need-some fewer limit block, need-some more limit block) (ceil_grows fewer more (block / suc limit) less)

@@ -13,3 +13,7 @@ abbrev pub NeedIsEnough : Type 0
 NeedIsEnough =
     (block limit : ℕ) (groups : List (List ℕ)) → limit ≤ block → AllByRecursion (λ group. length group ≤ limit) groups →
     length (packed block groups) ≤ need (length groups) limit block
+
+-- More groups need no fewer blocks.
+abbrev pub NeedGrows : Type 0
+NeedGrows = (limit block fewer more : ℕ) → fewer ≤ more → need fewer limit block ≤ need more limit block
