@@ -1,5 +1,4 @@
 pub mod Answered
-pub mod BlockSizes
 pub mod Continuing
 pub mod FramesRead
 pub mod Layouts

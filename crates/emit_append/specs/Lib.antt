@@ -1,4 +1,3 @@
-pub mod BlockSize
 pub mod Frames
 pub mod GoingOn
 pub mod Need
