@@ -2,7 +2,7 @@
 
 ghost use Rattle.std.specs.Prelude.{◌≡◌, ◌≤◌, ◌<◌, ◌++◌, length, drop};
 
-use emit_append::{Full, Packer};
+use emit_append::{BlockSize, Full, Packer};
 
 const BLOCK: u32 = 4096;
 
@@ -12,7 +12,7 @@ pub(crate) fn pack_groups(bytes: &[u8], length: usize, target: &mut [u8]) -> usi
     requires some { 0 < length }
     requires fits { length ≤ 4096 }
 {
-    let mut packer = Packer::new(BLOCK);
+    let mut packer = Packer::new(BlockSize::new(BLOCK).unwrap());
     let mut filled = 0;
     let mut rest = bytes;
     while rest.len() >= length {
