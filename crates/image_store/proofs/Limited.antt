@@ -1,0 +1,23 @@
+-- The limits, of an image's zones and of the namespace that it stands for.
+use Rattle.std.proofs.Common.{◌≡◌, ℕ, ◌<◌, zero, suc, false, List, [], ◌∷◌, length, get_or, set, replicate, ap, sym, subst, arith}
+use Rattle.std.proofs.lemmas.List.Sums.{sum_by-cons}
+use Rattle.std.proofs.lemmas.Option.{slice_get_read}
+use Rattle.zone_state.specs.State.{is_open, is_active}
+use Rattle.zone_state.specs.Zone.{ZoneRecord}
+use Rattle.zone_state.specs.declared.state.ZoneState.{ZoneState}
+use Rattle.zone_resources.specs.Admission.{IsWithin}
+use Rattle.zone_resources.proofs.LimitLemmas.{release_keeps_limits, idle_holds_no_more}
+use Rattle.image_store.specs.Flat.{no_record, namespace_of, IsFlat}
+use Rattle.image_store.specs.Geometry.{Shape}
+use Rattle.image_store.specs.Namespace.{ZonedNamespace, IsWithinLimits}
+use Rattle.image_store.proofs.Images.{counted_zones}
+
+pub within_seen : (s : Shape) (zs : List ZoneRecord) (xs : List ℕ) → IsFlat s zs xs → IsWithin zs s.limits → IsWithinLimits (namespace_of s zs xs)
+within_seen s zs xs flat within =
+    subst (λ (all : List ZoneRecord). IsWithin all s.limits) (sym (counted_zones s.block s.capacity zs xs flat.capacities)) within
+
+-- the namespace that an image is to stand for tells whether its zones will be within the limits
+pub limits_seen : (s : Shape) (zs : List ZoneRecord) (xs : List ℕ) (ns : ZonedNamespace) → IsFlat s zs xs → namespace_of s zs xs ≡ ns → IsWithinLimits ns → IsWithin zs s.limits
+limits_seen s zs xs ns flat seen within =
+    subst (λ (all : List ZoneRecord). IsWithin all s.limits) (counted_zones s.block s.capacity zs xs flat.capacities)
+    (subst IsWithinLimits (sym seen) within)
