@@ -1,5 +1,5 @@
 -- Parts of bytes are bytes.
-use Rattle.std.proofs.Common.{◌≡◌, ℕ, ◌+◌, ◌*◌, ◌<◌, zero, suc, List, [], ◌∷◌, ◌++◌, length, get_or, take, drop, sym, subst, arith}
+use Rattle.std.proofs.Common.{ℕ, ◌+◌, ◌*◌, ◌<◌, zero, suc, List, [], ◌∷◌, ◌++◌, length, get_or, take, drop, sym, subst, arith}
 use Rattle.std.proofs.lemmas.List.{take-append-drop, get_or-drop}
 use Rattle.zone_state.specs.Zone.{ZoneRecord}
 use Rattle.image_store.specs.Blocks.{AreBytes, blocks_of}
@@ -22,7 +22,7 @@ pub bytes_to : (n : ℕ) (xs : List ℕ) → AreBytes xs → AreBytes (take n xs
 bytes_to n xs fit = front_fit (take n xs) (drop n xs) (subst AreBytes (sym (take-append-drop n xs)) fit)
 
 both_fit : (xs ys : List ℕ) → AreBytes xs → AreBytes ys → AreBytes (xs ++ ys)
-both_fit [] ys front back = back
+both_fit [] ys front back i = back i
 both_fit (x ∷ xs) ys front back zero = front 0
 both_fit (x ∷ xs) ys front back (suc i) = both_fit xs ys (λ k. front (suc k)) back i
 
@@ -32,12 +32,12 @@ spliced_fit at new xs brought fit =
     (both_fit new (drop (at + length new) xs) brought (bytes_from (at + length new) xs fit))
 
 pub blocks_fit : (b n : ℕ) (xs : List ℕ) → AreBytes xs → (i : ℕ) → AreBytes (get_or (blocks_of b n xs) i [])
-blocks_fit b zero xs fit i k = omega arith
+blocks_fit b zero xs fit i = λ k. omega arith
 blocks_fit b (suc n) xs fit zero = bytes_to b xs fit
 blocks_fit b (suc n) xs fit (suc i) = blocks_fit b n (drop b xs) (bytes_from b xs fit) i
 
 pub zones_fit : (b c : ℕ) (zs : List ZoneRecord) (xs : List ℕ) → AreBytes xs
     → (z i : ℕ) → AreBytes (get_or (get_or (zones_of b c zs xs) z no_zone).blocks i [])
-zones_fit b c [] xs fit z i k = omega arith
-zones_fit b c (r ∷ zs) xs fit zero = blocks_fit b r.written xs fit
-zones_fit b c (r ∷ zs) xs fit (suc z) = zones_fit b c zs (drop (c * b) xs) (bytes_from (c * b) xs fit) z
+zones_fit b c [] xs fit z i = λ k. omega arith
+zones_fit b c (r ∷ zs) xs fit zero i = blocks_fit b r.written xs fit i
+zones_fit b c (r ∷ zs) xs fit (suc z) i = zones_fit b c zs (drop (c * b) xs) (bytes_from (c * b) xs fit) z i

@@ -45,21 +45,21 @@ pub image_sound : (s : Shape) (zs : List ZoneRecord) (counts : Counts) (xs : Lis
 image_sound s zs counts xs image =
     let flat = image.flat in
     record {
-  shape = subst IsShape (shape_seen s zs xs (namespace_of s zs xs) refl flat) flat.shape;
-  fits = λ z h.
-      let r = get_or zs z no_record in
-      let inside : z < length zs = omega (arith, length-zones s.block s.capacity zs xs) in
-      subst (λ (zone : ZoneBlocks). IsZone zone.state (length zone.blocks) s.capacity) (sym (zone-at s.block s.capacity zs xs z inside))
-      (subst (λ (n : ℕ). IsZone r.state n s.capacity) (sym (length-blocks s.block r.written (drop (z * (s.capacity * s.block)) xs))) (flat.fits z inside));
-  whole = λ z i h.
-      let there : z < length (namespace_of s zs xs).zones = zone_with_blocks (namespace_of s zs xs).zones z i h in
-      let inside : z < length zs = omega (arith, length-zones s.block s.capacity zs xs) in
-      let count = ap (λ (zone : ZoneBlocks). length zone.blocks) (zone-at s.block s.capacity zs xs z inside) in
-      let written : i < (get_or zs z no_record).written = omega (arith, length-blocks s.block (get_or zs z no_record).written (drop (z * (s.capacity * s.block)) xs)) in
-      block_whole s zs xs z i flat inside written;
-  within = within_seen s zs xs flat image.within;
-  bytes = zones_fit s.block s.capacity zs xs image.are_bytes;
-}
+      shape = subst IsShape (shape_seen s zs xs (namespace_of s zs xs) refl flat) flat.shape;
+      fits = λ z h.
+          let r = get_or zs z no_record in
+          let inside : z < length zs = omega (arith, length-zones s.block s.capacity zs xs) in
+          subst (λ (zone : ZoneBlocks). IsZone zone.state (length zone.blocks) s.capacity) (sym (zone-at s.block s.capacity zs xs z inside))
+          (subst (λ (n : ℕ). IsZone r.state n s.capacity) (sym (length-blocks s.block r.written (drop (z * (s.capacity * s.block)) xs))) (flat.fits z inside));
+      whole = λ z i h.
+          let there : z < length (namespace_of s zs xs).zones = zone_with_blocks (namespace_of s zs xs).zones z i h in
+          let inside : z < length zs = omega (arith, length-zones s.block s.capacity zs xs) in
+          let count = ap (λ (zone : ZoneBlocks). length zone.blocks) (zone-at s.block s.capacity zs xs z inside) in
+          let written : i < (get_or zs z no_record).written = omega (arith, length-blocks s.block (get_or zs z no_record).written (drop (z * (s.capacity * s.block)) xs)) in
+          block_whole s zs xs z i flat inside written;
+      within = within_seen s zs xs flat image.within;
+      bytes = zones_fit s.block s.capacity zs xs image.are_bytes;
+    }
 
 pub sound : (s : Shape) (zs : List ZoneRecord) (counts : Counts) (xs : List ℕ) (ns : ZonedNamespace) → namespace_of s zs xs ≡ ns → IsImage s zs counts xs → IsNamespace ns
 sound s zs counts xs ns seen image = subst IsNamespace seen (image_sound s zs counts xs image)

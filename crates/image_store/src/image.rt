@@ -11,6 +11,7 @@ ghost use Rattle.image_store.specs.Reading.{header_in, namespace_in};
 ghost use Rattle.image_store.specs.Text.{text};
 ghost use Rattle.image_store.specs.Namespace.{appended, in_zone_state, cleared, counted, records, zone_at, all_empty, shape, block_at, IsWithinLimits, IsWritten, IsNamespace};
 
+use crate::bytes::are_bytes;
 use crate::device::{Sink, Source};
 use crate::fault::{LoadFault, SaveFault};
 use crate::geometry::Geometry;
@@ -70,10 +71,12 @@ impl Image {
         ensures failures { CountsLoad (R.failures source.old) (R.failures source.new) result }
     {
         let (geometry, zones, blocks) = load::load(alloc, source)?;
+        let counts = Counts::of(&zones);
+        are_bytes(&blocks);
         Ok(Image {
             geometry,
-            counts: Counts::of(&zones),
             zones,
+            counts,
             blocks,
         })
     }

@@ -2,7 +2,6 @@
 
 ghost use Rattle.std.specs.Prelude.{◌≡◌, ◌≤◌, ◌<◌, ◌-◌, ◌+◌, ◌*◌, ◌^◌, length, IfOk, IsOk, OnOk};
 ghost use Rattle.zone_resources.specs.Admission.{IsWithin};
-ghost use Rattle.image_store.specs.Blocks.{AreBytes};
 ghost use Rattle.image_store.specs.Flat.{IsFlat, namespace_of, zones_of};
 ghost use Rattle.image_store.specs.Loading.{Gives, CountsLoad, AreZones, spliced_in};
 ghost use Rattle.image_store.specs.Reading.{bytes_in, header_in, records_in, limits_kept, blocks_in, end_in, namespace_in};
@@ -24,7 +23,6 @@ pub fn load<R: Source>(
     ensures parts { R.tells → Gives (IsOk (header_in (R.rest source.old))) (λ parts. namespace_of parts.0 parts.1.items parts.2.items) result (namespace_in (R.rest source.old)) }
     ensures flat { IfOk result (λ parts. IsFlat parts.0 parts.1.items parts.2.items) }
     ensures within { IfOk result (λ parts. IsWithin parts.1.items parts.0.limits) }
-    ensures bytes { IfOk result (λ parts. AreBytes parts.2.items) }
     ensures failures { CountsLoad (R.failures source.old) (R.failures source.new) result }
 {
     let geometry = read_header(source)?;
