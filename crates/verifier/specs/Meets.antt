@@ -21,12 +21,12 @@ module _ {D : Type 0} (contains : D → ℕ → Type 0) where
   MeetsSome None s = ⊥
   MeetsSome (Some facts) s = Meets facts s
 
-  module _ (operations : Operations D) (i : Insn) (facts : Facts D) (s s' : State) where
+  module _ (operations : Operations D) (block : ℕ) (i : Insn) (facts : Facts D) (s s' : State) where
     -- the second state is at the end of an edge of the instruction, taken or not, and meets what the edge
     -- gives
     abbrev pub IsAlong : Bool → Type 0
-    IsAlong false = (slot_behind s.slot i ≡ s'.slot) × MeetsSome (facts_behind operations i facts) s'
-    IsAlong true = (leads s.slot (distance_of i) s'.slot ≡ true) × MeetsSome (facts_at_target operations i facts) s'
+    IsAlong false = (slot_behind s.slot i ≡ s'.slot) × MeetsSome (facts_behind operations block i facts) s'
+    IsAlong true = (leads s.slot (distance_of i) s'.slot ≡ true) × MeetsSome (facts_at_target operations block i facts) s'
 
     -- a step led forward along an edge
     pub record Moved : Type 0 where

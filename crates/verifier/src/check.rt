@@ -11,6 +11,7 @@ use crate::facts::Facts;
 use crate::reason::Reason;
 use ebpf_decode::{Insn, Program, Register, SignedSize};
 use interp::bytes_in;
+use program_interface::{BlockSize, RunSizes};
 use reg_domain::{Area, Domain};
 
 /// The distance of a jump.
@@ -126,21 +127,19 @@ fn signed_bytes_in(size: SignedSize) -> u64
 /// The area that holds the bytes of an access.
 #[inline]
 fn area<D: Domain>(
-    block: usize,
+    block: BlockSize,
     facts: &Facts<D>,
     register: Register,
     offset: i16,
     size: u64,
 ) -> Option<Area>
-    requires { block < 2 ^ 32 }
     ensures { result ≡ area_of D.operations block facts.now register offset size }
 {
-    facts.get(register).access(block as u32, offset, size)
+    facts.get(register).access(block, offset, size)
 }
 
 #[inline]
-fn loads_outside<D: Domain>(block: usize, facts: &Facts<D>, insn: &Insn) -> bool
-    requires { block < 2 ^ 32 }
+fn loads_outside<D: Domain>(block: BlockSize, facts: &Facts<D>, insn: &Insn) -> bool
     ensures { result ≡ insn_loads_outside D.operations block facts.now insn.now }
 {
     match *insn {
@@ -172,8 +171,7 @@ fn hinders_store(area: Option<Area>) -> bool
 }
 
 #[inline]
-fn stores_outside<D: Domain>(block: usize, facts: &Facts<D>, insn: &Insn) -> bool
-    requires { block < 2 ^ 32 }
+fn stores_outside<D: Domain>(block: BlockSize, facts: &Facts<D>, insn: &Insn) -> bool
     ensures { result ≡ insn_stores_outside D.operations block facts.now insn.now }
 {
     match *insn {
@@ -216,39 +214,37 @@ fn calls_unknown(insn: &Insn) -> bool
 
 /// May there be no bytes to emit, or more than the area has?
 #[inline]
-fn emits_amiss<D: Domain>(block: usize, facts: &Facts<D>) -> bool
-    requires { block < 2 ^ 32 }
+fn emits_amiss<D: Domain>(block: BlockSize, facts: &Facts<D>) -> bool
     ensures { result ≡ (least_emitted D.operations facts.now == 0 || is_none (area_of D.operations block facts.now 1 (pos 0) (most_emitted D.operations facts.now))) }
 {
     let bounds = facts.registers[2].bounds();
     bounds.low == 0
         || facts.registers[1]
-            .access(block as u32, 0, bounds.high)
+            .access(block, 0, bounds.high)
             .is_none()
 }
 
 /// May a frame take the group over its limit?
 #[inline]
-fn passes_limit<D: Domain>(limit: usize, facts: &Facts<D>) -> bool
+fn passes_limit<D: Domain>(limit: u32, facts: &Facts<D>) -> bool
     ensures { result ≡ nat_lt limit (facts.now.emitted + 2 + most_emitted D.operations facts.now) }
 {
     let most = u128::from(facts.registers[2].bounds().high);
-    facts.emitted as u128 + 2 + most > limit as u128
+    facts.emitted as u128 + 2 + most > u128::from(limit)
 }
 
 /// The least reason to refuse an instruction at a slot with these facts.
 pub fn find_reason<D: Domain>(
     program: &Program,
-    limit: usize,
-    block: usize,
+    sizes: RunSizes,
     slot: usize,
     insn: &Insn,
     facts: &Facts<D>,
 ) -> Option<Reason>
-    requires slot { slot < 4096 }
-    requires block { block < 2 ^ 32 }
-    ensures { result ≡ reason_of D.operations program.now limit block slot facts.now insn.now }
+    requires { slot < 4096 }
+    ensures { result ≡ reason_of D.operations program.now sizes slot facts.now insn.now }
 {
+    let block = sizes.block();
     let distance = distance_of(insn);
     let reason = if goes_back(distance) {
         Reason::JumpBack
@@ -266,11 +262,11 @@ pub fn find_reason<D: Domain>(
         Reason::UnknownHelper
     } else if !is_emit(insn) {
         return None;
-    } else if facts.registers[1].access(block as u32, 0, 0).is_none() {
+    } else if facts.registers[1].access(block, 0, 0).is_none() {
         Reason::EmitAddress
     } else if emits_amiss(block, facts) {
         Reason::EmitLength
-    } else if passes_limit(limit, facts) {
+    } else if passes_limit(sizes.limit(), facts) {
         Reason::EmitBudget
     } else {
         return None;

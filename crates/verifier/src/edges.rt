@@ -1,6 +1,6 @@
 //! What an instruction leaves known along its edges.
 
-ghost use Rattle.std.specs.Prelude.{◌≡◌, ◌+◌, ◌<◌, ◌^◌, IsSome, Bool, true};
+ghost use Rattle.std.specs.Prelude.{◌≡◌, ◌+◌, ◌<◌, ◌^◌, IsSome, Bool, true, ℕ};
 ghost use Rattle.interp.specs.Effect.{immediate as immediate_word};
 ghost use Rattle.verifier.specs.Facts.{source_fact, compared_fact, along, after_emit, facts_behind, facts_at_target, is_register as source_is, with_fact, with_source};
 ghost use Rattle.verifier.specs.Accepted.{most_emitted};
@@ -103,7 +103,7 @@ fn emitted<D: Domain>(facts: &Facts<D>) -> Facts<D>
 /// The facts at the slot behind an instruction; none where it doesn't go on there.
 pub fn behind<D: Domain>(insn: &Insn, facts: &Facts<D>) -> Option<Facts<D>>
     requires { HasRoom D.operations insn.now facts.now }
-    ensures { result ≡ facts_behind D.operations insn.now facts.now }
+    ensures { (block : ℕ) → result ≡ facts_behind D.operations block insn.now facts.now }
 {
     let (dst, fact) = match *insn {
         Insn::LoadImmediate { dst, value } => (dst, D::constant(value)),
@@ -164,7 +164,7 @@ pub fn behind<D: Domain>(insn: &Insn, facts: &Facts<D>) -> Option<Facts<D>>
 
 /// The facts at the target of a jump that is taken; none where there is no such edge.
 pub fn at_target<D: Domain>(insn: &Insn, facts: &Facts<D>) -> Option<Facts<D>>
-    ensures { result ≡ facts_at_target D.operations insn.now facts.now }
+    ensures { (block : ℕ) → result ≡ facts_at_target D.operations block insn.now facts.now }
 {
     match *insn {
         Insn::Jump { .. } | Insn::JumpLong { .. } => Some(*facts),
