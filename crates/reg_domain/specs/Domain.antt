@@ -2,12 +2,13 @@
 -- instruction belong to what the operation gives for it after.
 use Rattle.std.specs.Prelude.{ℕ, ℤ, Bool, true, Option, Some, None, IfSome, FitsSigned, ◌≡◌, ◌<◌, ◌≤◌, ◌+◌, ◌%◌, ◌^◌}
 use Rattle.std.specs.Int.{w16, w64, cast_unsigned}
+use Rattle.ebpf_decode.specs.Instruction.{signed_size_of, size_of}
 use Rattle.ebpf_decode.specs.declared.operation.Relation.{Relation}
 use Rattle.ebpf_decode.specs.declared.operation.SignedSize.{SignedSize}
 use Rattle.ebpf_decode.specs.declared.operation.Size.{Size}
 use Rattle.ebpf_decode.specs.declared.operation.Width.{Width}
-use Rattle.interp.specs.Effect.{sign_extended, signed_size_of}
-use Rattle.interp.specs.Memory.{address_of, lies_in, size_of}
+use Rattle.interp.specs.Effect.{sign_extended}
+use Rattle.interp.specs.Memory.{address_of, lies_in}
 use Rattle.interp.specs.Word.{computed, is_taken}
 use Rattle.interp.specs.declared.memory.Area.{Area}
 use Rattle.interp.specs.declared.word.Arithmetic.{Arithmetic}

@@ -3,9 +3,10 @@ use Rattle.std.proofs.Common.{ℕ, ℤ, ◌≡◌, ◌<◌, ◌==◌, List, leng
 use Rattle.std.specs.Ordering.{int_eq}
 use Rattle.std.specs.Prelude.{if◌then◌else◌}
 use Rattle.std.proofs.lemmas.Bool.Decides.{nat_tests}
+use Rattle.ebpf_decode.specs.Instruction.{distance_of, target}
 use Rattle.ebpf_decode.specs.declared.insn.Insn.{Insn}
 use Rattle.reg_domain.specs.Domain.{Operations}
-use Rattle.verifier.specs.Facts.{distance_of, facts_at_target, facts_behind, gives, leads, merge, slot_behind, target}
+use Rattle.verifier.specs.Facts.{facts_at_target, facts_behind, gives, leads, merge, slot_behind}
 use Rattle.verifier.specs.declared.facts.Facts.{Facts}
 
 same_place : (a b : ℕ) → int_eq (pos a) (pos b) ≡ (a == b)

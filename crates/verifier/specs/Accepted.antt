@@ -1,15 +1,15 @@
 -- Which programs are accepted, and why others aren't (profile).
 use Rattle.std.specs.Prelude.{ℕ, ℤ, zero, suc, Bool, true, false, not, is_some, is_none, ◌+◌, ◌==◌, ◌&&◌, ◌||◌, nat_lt, List, [], ◌∷◌, length, find, Option, Some, None, if◌then◌else◌, pos, int_lt}
+use Rattle.ebpf_decode.specs.Instruction.{distance_of, signed_size_of, size_of, target, writes}
 use Rattle.ebpf_decode.specs.Program.{instruction_at, instruction_in}
 use Rattle.ebpf_decode.specs.declared.insn.Insn.{Insn}
 use Rattle.ebpf_decode.specs.declared.insn.Insn.TheVariants.{Load, LoadSigned, StoreImmediate, StoreRegister, Jump, JumpLong, Exit}
-use Rattle.interp.specs.Cause.{calls_unknown, is_emit, slot_in, writes}
-use Rattle.interp.specs.Effect.{signed_size_of}
-use Rattle.interp.specs.Memory.{is_writable, size_of}
+use Rattle.interp.specs.Cause.{calls_unknown, is_emit, slot_in}
+use Rattle.interp.specs.Memory.{is_writable}
 use Rattle.interp.specs.declared.memory.Area.{Area}
 use Rattle.program_interface.specs.RunSizes.{Sizes}
 use Rattle.reg_domain.specs.Domain.{Operations}
-use Rattle.verifier.specs.Facts.{distance_of, fact, facts_at, slot_behind, target}
+use Rattle.verifier.specs.Facts.{fact, facts_at, slot_behind}
 use Rattle.verifier.specs.declared.facts.Facts.{Facts}
 use Rattle.verifier.specs.declared.reason.Reason.{Reason}
 use Rattle.verifier.specs.declared.reason.Reason.TheVariants.{JumpBack, JumpOutside, FallsOff, WriteToFramePointer, LoadOutside, StoreOutside, UnknownHelper, EmitAddress, EmitLength, EmitBudget}

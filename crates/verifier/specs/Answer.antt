@@ -1,13 +1,14 @@
 -- What `verify` answers with.
 use Rattle.std.specs.Prelude.{ℕ, ◌≡◌, ◌<◌, ◌+◌, ◌^◌, ◌≤ℤ◌, ◌<ℤ◌, pos, false, FitsSigned, List, Option, Some, IfSome}
 use Rattle.std.specs.Int.{w16}
+use Rattle.ebpf_decode.specs.Instruction.{distance_of, target}
 use Rattle.ebpf_decode.specs.Program.{instruction_at}
 use Rattle.ebpf_decode.specs.Spelling.{first_slot}
 use Rattle.ebpf_decode.specs.declared.insn.Insn.{Insn}
 use Rattle.ebpf_decode.specs.declared.insn.Insn.TheVariants.{Call}
 use Rattle.reg_domain.specs.Domain.{Operations}
 use Rattle.verifier.specs.Accepted.{most_emitted, turns_away}
-use Rattle.verifier.specs.Facts.{distance_of, slot_behind, target}
+use Rattle.verifier.specs.Facts.{slot_behind}
 use Rattle.verifier.specs.declared.facts.Facts.{Facts}
 use Rattle.verifier.specs.declared.reason.Refusal.{Refusal}
 use Rattle.verifier.specs.declared.reason.VerifyFault.{VerifyFault}

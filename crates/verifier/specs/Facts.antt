@@ -1,6 +1,7 @@
 -- What is known at each slot of a program, by the operations of a domain (profile).
 use Rattle.std.specs.Prelude.{ℕ, ℤ, zero, suc, Bool, true, false, ◌+◌, ◌%◌, ◌^◌, ◌==◌, ◌++◌, List, [], ◌∷◌, drop, replicate, get_or, set, max, Option, Some, None, if◌then◌else◌, pos, ◌+ℤ◌}
 use Rattle.std.specs.Ordering.{int_eq}
+use Rattle.ebpf_decode.specs.Instruction.{distance_of, immediate_word, target}
 use Rattle.ebpf_decode.specs.Program.{instruction_at}
 use Rattle.ebpf_decode.specs.declared.insn.Insn.{Insn}
 use Rattle.ebpf_decode.specs.declared.insn.Insn.TheVariants.{LoadImmediate, Load, LoadSigned, StoreImmediate, StoreRegister, Arithmetic, Negate, MoveSigned, SwapBytes, Jump, JumpLong, Branch, Call, Exit}
@@ -8,7 +9,6 @@ use Rattle.ebpf_decode.specs.declared.insn.Source.{Source}
 use Rattle.ebpf_decode.specs.declared.insn.Source.TheVariants.{Immediate, Register}
 use Rattle.ebpf_decode.specs.declared.operation.Relation.{Relation}
 use Rattle.ebpf_decode.specs.declared.operation.Width.{Width}
-use Rattle.interp.specs.Effect.{immediate}
 use Rattle.interp.specs.Word.{low_bits}
 use Rattle.interp.specs.declared.memory.Area.TheVariants.{Context, Block, Stack, Scratch}
 use Rattle.interp.specs.declared.word.Arithmetic.TheVariants as word
@@ -20,17 +20,6 @@ use Rattle.verifier.specs.declared.facts.Facts.{Facts}
 abbrev pub slot_behind : ℕ → Insn → ℕ
 slot_behind slot (LoadImmediate dst value) = slot + 2
 slot_behind slot _ = slot + 1
-
--- the distance of a jump
-abbrev pub distance_of : Insn → Option ℤ
-distance_of (Jump distance) = Some distance
-distance_of (JumpLong distance) = Some distance
-distance_of (Branch width relation dst source distance) = Some distance
-distance_of _ = None
-
--- the slot that a distance leads to (RFC 9669, 4.3)
-abbrev pub target : ℕ → ℤ → ℤ
-target slot distance = pos (slot + 1) +ℤ distance
 
 -- does a jump at one slot lead to another?
 abbrev pub leads : ℕ → Option ℤ → ℕ → Bool
@@ -63,12 +52,12 @@ module _ {D : Type 0} (operations : Operations D) where
   -- the source of an arithmetic instruction
   abbrev pub source_fact : Facts D → Source → D
   source_fact facts (Register r) = fact facts r
-  source_fact facts (Immediate z) = operations.constant (immediate z)
+  source_fact facts (Immediate z) = operations.constant (immediate_word z)
 
   -- the source of a compare, which at 32 bits takes an immediate's low half
   abbrev pub compared_fact : Width → Facts D → Source → D
   compared_fact width facts (Register r) = fact facts r
-  compared_fact width facts (Immediate z) = operations.constant (low_bits width (immediate z))
+  compared_fact width facts (Immediate z) = operations.constant (low_bits width (immediate_word z))
 
   -- an immediate has no fact to change
   abbrev pub with_source : Facts D → Source → D → Facts D

@@ -3,6 +3,7 @@ use Rattle.std.proofs.Common.{ℕ, zero, suc, ◌≡◌, ◌+◌, ◌<◌, ◌%�
 use Rattle.std.proofs.Math.Nat.{mod-lt}
 use Rattle.std.specs.List.{AllByRecursion}
 use Rattle.std.specs.Prelude.{◌==◌, if◌then◌else◌}
+use Rattle.ebpf_decode.specs.Instruction.{distance_of, immediate_word}
 use Rattle.ebpf_decode.specs.Program.{instruction_at}
 use Rattle.ebpf_decode.specs.declared.insn.Insn.{Insn}
 use Rattle.ebpf_decode.specs.declared.insn.Insn.TheVariants.{LoadImmediate, Load, LoadSigned, StoreImmediate, StoreRegister, Arithmetic, Negate, MoveSigned, SwapBytes, Jump, JumpLong, Branch, Call, Exit}
@@ -11,12 +12,11 @@ use Rattle.ebpf_decode.specs.declared.insn.Source.TheVariants.{Immediate, Regist
 use Rattle.ebpf_decode.specs.declared.operation.Relation.{Relation}
 use Rattle.ebpf_decode.specs.declared.operation.Width.{Width}
 use Rattle.ebpf_decode.specs.declared.operation.Width.TheVariants.{Bits32, Bits64}
-use Rattle.interp.specs.Effect.{immediate}
 use Rattle.interp.specs.Word.{low_bits}
 use Rattle.interp.specs.declared.memory.Area.TheVariants.{Context, Block, Stack, Scratch}
 use Rattle.interp.specs.declared.word.Arithmetic.TheVariants as word
 use Rattle.reg_domain.specs.Domain.{GiveFacts, Operations}
-use Rattle.verifier.specs.Facts.{after_emit, along, compared_fact, distance_of, entry_facts, fact, facts_at, facts_at_target, facts_behind, given_below, gives, is_register, join_registers, leads, merge, slot_behind, source_fact, with_both, with_fact}
+use Rattle.verifier.specs.Facts.{after_emit, along, compared_fact, entry_facts, fact, facts_at, facts_at_target, facts_behind, given_below, gives, is_register, join_registers, leads, merge, slot_behind, source_fact, with_both, with_fact}
 use Rattle.verifier.specs.declared.facts.Facts.{Facts}
 
 -- ---- the words of an instruction
@@ -24,7 +24,7 @@ pub low_fits : (width : Width) (w : ℕ) → w < 2 ^ 64 → low_bits width w < 2
 low_fits Bits32 w fits = omega arith
 low_fits Bits64 w fits = fits
 
-pub immediate_fits : (z : ℤ) → immediate z < 2 ^ 64
+pub immediate_fits : (z : ℤ) → immediate_word z < 2 ^ 64
 immediate_fits z = mod-lt _ (lit< tt)
 
 module _ {D : Type 0} (IsFact : D → Type 0) where
@@ -67,13 +67,13 @@ module _ {D : Type 0} {IsFact : D → Type 0} {operations : Operations D} (give 
 
   pub source_is : (facts : Facts D) (source : Source) → AreFacts IsFact facts → IsFact (source_fact operations facts source)
   source_is facts (Register r) are = fact_is facts r are
-  source_is facts (Immediate z) are = give.constant (immediate z) (immediate_fits z)
+  source_is facts (Immediate z) are = give.constant (immediate_word z) (immediate_fits z)
 
   pub compared_is : (facts : Facts D) (width : Width) (source : Source) → AreFacts IsFact facts
       → IsFact (compared_fact operations width facts source)
   compared_is facts width (Register r) are = fact_is facts r are
   compared_is facts width (Immediate z) are =
-      give.constant (low_bits width (immediate z)) (low_fits width (immediate z) (immediate_fits z))
+      give.constant (low_bits width (immediate_word z)) (low_fits width (immediate_word z) (immediate_fits z))
 
   -- ---- edges
   with_facts : (facts : Facts D) (r : ℕ) (d : D) → AreFacts IsFact facts → IsFact d

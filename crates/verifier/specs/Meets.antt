@@ -1,9 +1,10 @@
 -- When a state meets what is known of it.
 use Rattle.std.specs.Prelude.{ℕ, Bool, true, false, ◌≡◌, ◌<◌, ◌≤◌, List, [], ◌∷◌, length, Option, Some, None}
+use Rattle.ebpf_decode.specs.Instruction.{distance_of}
 use Rattle.ebpf_decode.specs.declared.insn.Insn.{Insn}
 use Rattle.interp.specs.State.{State}
 use Rattle.reg_domain.specs.Domain.{Operations}
-use Rattle.verifier.specs.Facts.{distance_of, facts_at_target, facts_behind, leads, slot_behind}
+use Rattle.verifier.specs.Facts.{facts_at_target, facts_behind, leads, slot_behind}
 use Rattle.verifier.specs.declared.facts.Facts.{Facts}
 
 module _ {D : Type 0} (contains : D → ℕ → Type 0) where

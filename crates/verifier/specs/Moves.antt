@@ -3,6 +3,7 @@ use Rattle.std.proofs.Common.{ℕ, ℤ, pos, negsuc, ◌+◌, ◌≡◌, ◌<◌
 use Rattle.std.proofs.Math.Nat.{mod-lt}
 use Rattle.std.proofs.lemmas.List.{length-take}
 use Rattle.std.proofs.lemmas.Cmp.{int_eq_equiv}
+use Rattle.ebpf_decode.specs.Instruction.{distance_of, signed_size_of, size_of, target}
 use Rattle.ebpf_decode.specs.declared.insn.Insn.{Insn}
 use Rattle.ebpf_decode.specs.declared.insn.Insn.TheVariants.{LoadImmediate, Load, LoadSigned, StoreImmediate, StoreRegister, Arithmetic, Negate, MoveSigned, SwapBytes, Jump, JumpLong, Branch, Call, Exit}
 use Rattle.ebpf_decode.specs.declared.insn.Source.{Source}
@@ -11,8 +12,8 @@ use Rattle.ebpf_decode.specs.declared.operation.Relation.{Relation}
 use Rattle.ebpf_decode.specs.declared.operation.Width.{Width}
 use Rattle.interp.proofs.MemoryLemmas.{loaded_fits}
 use Rattle.interp.specs.Cause.{is_exit, next_slot}
-use Rattle.interp.specs.Effect.{address_from, emitted, frame, operand, put, register, signed_size_of}
-use Rattle.interp.specs.Memory.{Memory, bytes_from, loaded, place_of, size_of}
+use Rattle.interp.specs.Effect.{address_from, emitted, frame, operand, put, register}
+use Rattle.interp.specs.Memory.{Memory, bytes_from, loaded, place_of}
 use Rattle.interp.specs.State.{IsState, State}
 use Rattle.interp.specs.Step.{after, slot_number}
 use Rattle.interp.specs.Word.{is_taken}
@@ -20,7 +21,7 @@ use Rattle.interp.specs.declared.word.Arithmetic.TheVariants as word
 use Rattle.program_interface.specs.RunSizes.{Sizes}
 use Rattle.reg_domain.specs.Domain.{BelongAfter, Belongs, IsSound, Operations}
 use Rattle.verifier.specs.Accepted.{goes_back, reason_of}
-use Rattle.verifier.specs.Facts.{after_emit, along, compared_fact, distance_of, fact, facts_at_target, facts_behind, is_register, slot_behind, target, with_both, with_fact}
+use Rattle.verifier.specs.Facts.{after_emit, along, compared_fact, fact, facts_at_target, facts_behind, is_register, slot_behind, with_both, with_fact}
 use Rattle.verifier.specs.KnownFacts.{AreFacts}
 use Rattle.verifier.specs.Meets.{Meets, MeetsSome, Moved}
 use Rattle.verifier.specs.Registers.{belong_drop, belong_refined, belong_replicate, belong_set, belongs, compared, compared_belongs, compares_low, constant_belongs, one_register, source_belongs}

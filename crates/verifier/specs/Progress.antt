@@ -3,12 +3,13 @@ use Rattle.std.specs.Prelude.{ℕ, zero, suc, ◌≡◌, ◌+◌, ◌<◌, ◌�
 use Rattle.std.proofs.Common.{arith, refl}
 use Rattle.std.proofs.Math.Nat.{le_of_lt}
 use Rattle.std.proofs.lemmas.List.Sums.{sum_by-cons}
+use Rattle.ebpf_decode.specs.Instruction.{immediate_word}
 use Rattle.ebpf_decode.specs.declared.insn.Insn.{Insn}
 use Rattle.ebpf_decode.specs.declared.insn.Insn.TheVariants.{LoadImmediate, Load, LoadSigned, StoreImmediate, StoreRegister, Arithmetic, Negate, MoveSigned, SwapBytes, Jump, JumpLong, Branch, Call, Exit}
 use Rattle.ebpf_decode.specs.declared.operation.Size.{Size}
 use Rattle.ebpf_decode.specs.declared.operation.Size.TheVariants.{Byte, HalfWord, Word, DoubleWord}
 use Rattle.interp.proofs.MemoryLemmas.{fits_area, length-written}
-use Rattle.interp.specs.Effect.{address_from, effect, immediate, register}
+use Rattle.interp.specs.Effect.{address_from, effect, register}
 use Rattle.interp.specs.Memory.{IsMemory, Memory, bytes_of, place_of, stored, stored_at, with_bytes, written}
 use Rattle.interp.specs.State.{IsState, State}
 use Rattle.interp.specs.Step.{IsAt}
@@ -41,7 +42,7 @@ block_stored m address DoubleWord word is = block_stored_at m (place_of (length 
 
 pub block_kept : (s : State) (i : Insn) → IsState s → length (effect s i).memory.block ≡ length s.memory.block
 block_kept s (StoreImmediate size dst offset value) is =
-    block_stored s.memory (address_from s.registers dst offset) size (immediate value) is.memory
+    block_stored s.memory (address_from s.registers dst offset) size (immediate_word value) is.memory
 block_kept s (StoreRegister size dst src offset) is =
     block_stored s.memory (address_from s.registers dst offset) size (register s src) is.memory
 block_kept s (LoadImmediate dst value) is = refl

@@ -3,12 +3,13 @@ use Rattle.std.proofs.Common.{ℕ, ℤ, zero, suc, ◌%◌, ◌≡◌, ◌<◌, 
 use Rattle.std.proofs.Math.Nat.{mod-lt}
 use Rattle.std.proofs.lemmas.Bool.{eqb-true}
 use Rattle.std.proofs.lemmas.List.{set-get_or}
+use Rattle.ebpf_decode.specs.Instruction.{immediate_word}
 use Rattle.ebpf_decode.specs.declared.insn.Source.{Source}
 use Rattle.ebpf_decode.specs.declared.insn.Source.TheVariants.{Immediate, Register}
 use Rattle.ebpf_decode.specs.declared.operation.Relation.{Relation}
 use Rattle.ebpf_decode.specs.declared.operation.Width.{Width}
 use Rattle.ebpf_decode.specs.declared.operation.Width.TheVariants.{Bits32, Bits64}
-use Rattle.interp.specs.Effect.{immediate, operand}
+use Rattle.interp.specs.Effect.{operand}
 use Rattle.interp.specs.Word.{is_taken, low_bits}
 use Rattle.reg_domain.specs.Domain.{Belongs, IsSound, Operations}
 use Rattle.verifier.specs.Facts.{compared_fact, fact, is_register, source_fact}
@@ -48,14 +49,14 @@ module _ {D : Type 0} (contains : D → ℕ → Type 0) where
 -- the source of a compare, which at 32 bits takes an immediate's low half
 abbrev pub compared : List ℕ → Width → Source → ℕ
 compared registers width (Register r) = get_or registers r 0
-compared registers width (Immediate z) = low_bits width (immediate z)
+compared registers width (Immediate z) = low_bits width (immediate_word z)
 
 -- a compare at 32 bits reads the low half of its source alone
 pub compares_low : (registers : List ℕ) (width : Width) (relation : Relation) (x : ℕ) (source : Source)
     → is_taken width relation x (compared registers width source) ≡ is_taken width relation x (operand registers source)
 compares_low registers width relation x (Register r) = refl
 compares_low registers Bits32 relation x (Immediate z) =
-    let same : immediate z % 2 ^ 32 % 2 ^ 32 ≡ immediate z % 2 ^ 32 = omega arith in
+    let same : immediate_word z % 2 ^ 32 % 2 ^ 32 ≡ immediate_word z % 2 ^ 32 = omega arith in
     rw same refl
 compares_low registers Bits64 relation x (Immediate z) = refl
 
@@ -94,10 +95,10 @@ module _ {D : Type 0} {IsFact : D → Type 0} {contains : D → ℕ → Type 0} 
 
     pub source_belongs : (source : Source) → Belongs IsFact contains (source_fact operations facts source) (operand ws source)
     source_belongs (Register r) = belongs r
-    source_belongs (Immediate z) = constant_belongs (immediate z) (immediate_fits z)
+    source_belongs (Immediate z) = constant_belongs (immediate_word z) (immediate_fits z)
 
     pub compared_belongs : (width : Width) (source : Source)
         → Belongs IsFact contains (compared_fact operations width facts source) (compared ws width source)
     compared_belongs width (Register r) = belongs r
     compared_belongs width (Immediate z) =
-        constant_belongs (low_bits width (immediate z)) (low_fits width (immediate z) (immediate_fits z))
+        constant_belongs (low_bits width (immediate_word z)) (low_fits width (immediate_word z) (immediate_fits z))

@@ -1,40 +1,16 @@
 //! The reasons to refuse an instruction, in the order of their numbers.
 
 ghost use Rattle.std.specs.Prelude.{◌≡◌, ◌<◌, ◌≤◌, ◌^◌, ◌+◌, nat_lt, ◌&&◌, ◌||◌, ◌==◌, is_none, pos, not, false, if◌then◌else◌, Option, Some, None};
-ghost use Rattle.interp.specs.Cause.{calls_unknown as insn_calls_unknown, is_emit as insn_is_emit, writes};
-ghost use Rattle.interp.specs.Effect.{signed_size_of};
+ghost use Rattle.interp.specs.Cause.{calls_unknown as insn_calls_unknown, is_emit as insn_is_emit};
 ghost use Rattle.verifier.specs.Accepted.{area_of, begins_at, fails, goes_back as distance_goes_back, leads_nowhere as distance_leads_nowhere, least_emitted, most_emitted, loads_outside as insn_loads_outside, reason_of, stores_outside as insn_stores_outside, is_unwritable, turns_away as insn_turns_away};
-ghost use Rattle.verifier.specs.Facts.{distance_of as insn_distance_of, slot_behind as insn_slot_behind, target as target_of};
+ghost use Rattle.verifier.specs.Facts.{slot_behind as insn_slot_behind};
 ghost use Rattle.verifier.specs.declared.reason.Reason.TheVariants.{EmitAddress, EmitBudget, EmitLength, FallsOff};
 
 use crate::facts::Facts;
 use crate::reason::Reason;
-use ebpf_decode::{Insn, Program, Register, SignedSize};
-use interp::bytes_in;
+use ebpf_decode::{Insn, Program, Register};
 use program_interface::{BlockSize, RunSizes};
 use reg_domain::{Area, Domain};
-
-/// The distance of a jump.
-#[inline]
-pub fn distance_of(insn: &Insn) -> Option<i32>
-    ensures { result ≡ insn_distance_of insn.now }
-{
-    match *insn {
-        Insn::Jump { distance } => Some(i32::from(distance)),
-        Insn::JumpLong { distance } => Some(distance),
-        Insn::Branch { distance, .. } => Some(i32::from(distance)),
-        _ => None,
-    }
-}
-
-/// The slot that a distance leads to.
-#[inline]
-pub fn target(slot: usize, distance: i32) -> i64
-    requires { slot < 4096 }
-    ensures { result ≡ target_of slot distance }
-{
-    slot as i64 + 1 + i64::from(distance)
-}
 
 /// The slot behind an instruction.
 #[inline]
@@ -72,7 +48,7 @@ fn leads_nowhere(program: &Program, slot: usize, distance: Option<i32>) -> bool
     ensures { result ≡ distance_leads_nowhere program.now slot distance }
 {
     match distance {
-        Some(distance) => !begins(program, target(slot, distance)),
+        Some(distance) => !begins(program, Insn::target(slot, distance)),
         None => false,
     }
 }
@@ -94,34 +70,6 @@ fn falls_off(program: &Program, slot: usize, insn: &Insn) -> bool
     ensures { result ≡ (if insn_turns_away insn.now then false else not (begins_at program.now (pos (insn_slot_behind slot insn.now)))) }
 {
     !turns_away(insn) && program.at(slot_behind(slot, insn)).is_none()
-}
-
-#[inline]
-fn writes_frame_pointer(insn: &Insn) -> bool
-    ensures { result ≡ writes insn.now 10 }
-{
-    match *insn {
-        Insn::LoadImmediate { dst, .. }
-        | Insn::Load { dst, .. }
-        | Insn::LoadSigned { dst, .. }
-        | Insn::Arithmetic { dst, .. }
-        | Insn::Negate { dst, .. }
-        | Insn::MoveSigned { dst, .. }
-        | Insn::SwapBytes { dst, .. } => dst.index() == 10,
-        _ => false,
-    }
-}
-
-/// The number of bytes in a sign-extending load.
-#[inline]
-fn signed_bytes_in(size: SignedSize) -> u64
-    ensures { result ≡ signed_size_of size }
-{
-    match size {
-        SignedSize::Byte => 1,
-        SignedSize::HalfWord => 2,
-        SignedSize::Word => 4,
-    }
 }
 
 /// The area that holds the bytes of an access.
@@ -148,13 +96,13 @@ fn loads_outside<D: Domain>(block: BlockSize, facts: &Facts<D>, insn: &Insn) -> 
             src,
             offset,
             ..
-        } => area(block, facts, src, offset, bytes_in(size)).is_none(),
+        } => area(block, facts, src, offset, size.bytes()).is_none(),
         Insn::LoadSigned {
             size,
             src,
             offset,
             ..
-        } => area(block, facts, src, offset, signed_bytes_in(size)).is_none(),
+        } => area(block, facts, src, offset, size.bytes()).is_none(),
         _ => false,
     }
 }
@@ -186,7 +134,7 @@ fn stores_outside<D: Domain>(block: BlockSize, facts: &Facts<D>, insn: &Insn) ->
             dst,
             offset,
             ..
-        } => hinders_store(area(block, facts, dst, offset, bytes_in(size))),
+        } => hinders_store(area(block, facts, dst, offset, size.bytes())),
         _ => false,
     }
 }
@@ -245,14 +193,14 @@ pub fn find_reason<D: Domain>(
     ensures { result ≡ reason_of D.operations program.now sizes slot facts.now insn.now }
 {
     let block = sizes.block();
-    let distance = distance_of(insn);
+    let distance = insn.distance();
     let reason = if goes_back(distance) {
         Reason::JumpBack
     } else if leads_nowhere(program, slot, distance) {
         Reason::JumpOutside
     } else if falls_off(program, slot, insn) {
         Reason::FallsOff
-    } else if writes_frame_pointer(insn) {
+    } else if insn.writes(Register::FRAME_POINTER) {
         Reason::WriteToFramePointer
     } else if loads_outside(block, facts, insn) {
         Reason::LoadOutside

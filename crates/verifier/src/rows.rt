@@ -6,7 +6,7 @@ ghost use Rattle.verifier.specs.Accepted.{refusal_at};
 ghost use Rattle.verifier.specs.Facts.{gives, merge};
 ghost use Rattle.verifier.specs.Answer.{HasRoom, StaysInside};
 
-use crate::check::{distance_of, find_reason, slot_behind, target};
+use crate::check::{find_reason, slot_behind};
 use crate::edges::{at_target, behind};
 use crate::facts::Facts;
 use crate::reason::Refusal;
@@ -38,10 +38,10 @@ fn push<D: Domain>(rows: &mut [Option<Facts<D>>], slot: usize, insn: &Insn, fact
     ensures given { (block s : ℕ) → s < length rows.old → get_or rows.new s None ≡ gives D.operations block (Some insn.now) slot (Some facts.now) s (get_or rows.old s None) }
 {
     give(rows, slot_behind(slot, insn), behind(insn, facts));
-    if let Some(distance) = distance_of(insn) {
+    if let Some(distance) = insn.distance() {
         give(
             rows,
-            target(slot, distance).unsigned_abs() as usize,
+            Insn::target(slot, distance).unsigned_abs() as usize,
             at_target(insn, facts),
         );
     }
