@@ -7,6 +7,7 @@ use crate::operation::{
     Operation, Relation, SignExtension, SignedSize, Size, Swap, SwapSize, Width,
 };
 use crate::register::Register;
+use program_interface::MOST_SLOTS;
 
 /// The second operand of an arithmetic or a compare (RFC 9669, 4.1).
 #[derive(Clone, Copy, Debug, PartialEq, Eq)]
@@ -135,7 +136,7 @@ impl Insn {
     /// The slot that a jump at `slot` leads to by its distance, which may be outside the program.
     #[inline(always)]
     pub fn target(slot: usize, distance: i32) -> i64
-        requires { slot < 4096 }
+        requires { slot < MOST_SLOTS }
         ensures { result ≡ target slot distance }
     {
         slot as i64 + 1 + i64::from(distance)

@@ -8,9 +8,10 @@ use Rattle.ebpf_decode.specs.declared.operation.SignedSize.{SignedSize}
 use Rattle.ebpf_decode.specs.declared.operation.Size.{Size}
 use Rattle.ebpf_decode.specs.declared.operation.Width.{Width}
 use Rattle.interp.specs.Effect.{sign_extended}
-use Rattle.interp.specs.Memory.{address_of, lies_in}
+use Rattle.interp.specs.Memory.{lies_in}
+use Rattle.program_interface.specs.Area.{address_of}
 use Rattle.interp.specs.Word.{computed, is_taken}
-use Rattle.interp.specs.declared.memory.Area.{Area}
+use Rattle.program_interface.specs.declared.area.Area.{Area}
 use Rattle.interp.specs.declared.word.Arithmetic.{Arithmetic}
 use Rattle.program_interface.specs.BlockSize.{IsBlockSize}
 use Rattle.reg_domain.specs.declared.fact.Bounds.{Bounds}

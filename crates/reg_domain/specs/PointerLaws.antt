@@ -5,9 +5,10 @@ use Rattle.std.proofs.lemmas.Bool.Decides.{nat_tests}
 use Rattle.std.proofs.lemmas.Int.{ints}
 use Rattle.std.specs.Int.{w64, cast_signed, cast_unsigned}
 use Rattle.std.specs.Prelude.{◌&&◌, ◌||◌, ◌≤ℤ◌, int_le, nat_lt, nat_le}
-use Rattle.interp.specs.Memory.{address_of, length_of, lies_in}
-use Rattle.interp.specs.declared.memory.Area.{Area}
-use Rattle.interp.specs.declared.memory.Area.TheVariants.{Context, Block, Stack, Scratch}
+use Rattle.interp.specs.Memory.{lies_in}
+use Rattle.program_interface.specs.Area.{address_of, length_of}
+use Rattle.program_interface.specs.declared.area.Area.{Area}
+use Rattle.program_interface.specs.declared.area.Area.TheVariants.{Context, Block, Stack, Scratch}
 use Rattle.program_interface.specs.BlockSize.{IsBlockSize}
 use Rattle.reg_domain.specs.FactLaws.{any_law, either_fact}
 use Rattle.reg_domain.specs.Arithmetic.{moved_back, moved_on, signed_bounds}

@@ -7,8 +7,8 @@ use crate::domain::Domain;
 use crate::edge::refine;
 use crate::fact::{Bounds, Fact, access, join, load, one, pointer_between, widen, words_of};
 use ebpf_decode::{Relation, SignedSize, Size, Width};
-use interp::{Area, Arithmetic};
-use program_interface::BlockSize;
+use interp::Arithmetic;
+use program_interface::{Area, BlockSize};
 use std::marker::Model;
 
 /// A word that is known, an address at a known distance from an area's, or any word.

@@ -7,8 +7,8 @@ ghost use Rattle.reg_domain.specs.Domain.{Operations, IsSound};
 
 use crate::fact::Bounds;
 use ebpf_decode::{Relation, SignedSize, Size, Width};
-use interp::{Area, Arithmetic};
-use program_interface::BlockSize;
+use interp::Arithmetic;
+use program_interface::{Area, BlockSize};
 
 /// A fact about a register: a set of words, to which the register's word belongs.
 pub trait Domain: Copy {

@@ -5,8 +5,7 @@ ghost use Rattle.std.specs.Int.{int_min, int_max};
 ghost use Rattle.reg_domain.specs.Fact.{IsFact, is_single, single, full, pointer_to, loaded_of, join_of, bounds_of, access_of, widened};
 
 use ebpf_decode::Size;
-use interp::Area;
-use program_interface::BlockSize;
+use program_interface::{Area, BlockSize};
 
 /// The lowest and the greatest of some numbers.
 #[derive(Clone, Copy, Debug, PartialEq, Eq)]

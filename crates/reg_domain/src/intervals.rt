@@ -7,8 +7,8 @@ use crate::domain::Domain;
 use crate::edge::refine;
 use crate::fact::{Bounds, Fact, access, join, load, one, pointer_between, words_of};
 use ebpf_decode::{Relation, SignedSize, Size, Width};
-use interp::{Area, Arithmetic};
-use program_interface::BlockSize;
+use interp::Arithmetic;
+use program_interface::{Area, BlockSize};
 use std::marker::Model;
 
 /// The words between two bounds, or the addresses between two distances from an area's.

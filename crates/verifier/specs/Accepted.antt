@@ -5,8 +5,8 @@ use Rattle.ebpf_decode.specs.Program.{instruction_at, instruction_in}
 use Rattle.ebpf_decode.specs.declared.insn.Insn.{Insn}
 use Rattle.ebpf_decode.specs.declared.insn.Insn.TheVariants.{Load, LoadSigned, StoreImmediate, StoreRegister, Jump, JumpLong, Exit}
 use Rattle.interp.specs.Cause.{calls_unknown, is_emit, slot_in}
-use Rattle.interp.specs.Memory.{is_writable}
-use Rattle.interp.specs.declared.memory.Area.{Area}
+use Rattle.program_interface.specs.Area.{is_writable}
+use Rattle.program_interface.specs.declared.area.Area.{Area}
 use Rattle.program_interface.specs.RunSizes.{Sizes}
 use Rattle.reg_domain.specs.Domain.{Operations}
 use Rattle.verifier.specs.Facts.{fact, facts_at, slot_behind}

@@ -31,6 +31,5 @@ pub record StaysInside (slots slot : ℕ) (i : Insn) : Type 0 where
   pub last : IfSome (distance_of i) (λ distance. target slot distance <ℤ pos slots)
 
 -- the offset of each instruction is a number of 16 bits (RFC 9669, 3.1)
-abbrev pub HasShortOffsets : List (Option Insn) → Type 0
-HasShortOffsets program = (slot : ℕ) (i : Insn) → instruction_at program slot ≡ Some i
-    → FitsSigned w16 (first_slot i).offset
+pub record HasShortOffsets (program : List (Option Insn)) : Type 0 where
+  pub offsets : (slot : ℕ) (i : Insn) → instruction_at program slot ≡ Some i → FitsSigned w16 (first_slot i).offset

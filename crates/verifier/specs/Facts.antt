@@ -10,7 +10,7 @@ use Rattle.ebpf_decode.specs.declared.insn.Source.TheVariants.{Immediate, Regist
 use Rattle.ebpf_decode.specs.declared.operation.Relation.{Relation}
 use Rattle.ebpf_decode.specs.declared.operation.Width.{Width}
 use Rattle.interp.specs.Word.{low_bits}
-use Rattle.interp.specs.declared.memory.Area.TheVariants.{Context, Block, Stack, Scratch}
+use Rattle.program_interface.specs.declared.area.Area.TheVariants.{Context, Block, Stack, Scratch}
 use Rattle.interp.specs.declared.word.Arithmetic.TheVariants as word
 use Rattle.program_interface.specs.declared.area.TheConstants.{STACK_BYTES}
 use Rattle.reg_domain.specs.Domain.{Operations}

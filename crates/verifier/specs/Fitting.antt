@@ -36,4 +36,4 @@ fits_at program is slot i at =
     all_fit is.instructions is.fits slot i (subst Q is.layout at)
 
 pub short_offsets : (program : List (Option Insn)) → IsProgram program → HasShortOffsets program
-short_offsets program is slot i at = (fits_at program is slot i at).offset
+short_offsets program is = record { offsets = λ slot i at. (fits_at program is slot i at).offset }

@@ -13,7 +13,7 @@ use Rattle.ebpf_decode.specs.declared.operation.Relation.{Relation}
 use Rattle.ebpf_decode.specs.declared.operation.Width.{Width}
 use Rattle.ebpf_decode.specs.declared.operation.Width.TheVariants.{Bits32, Bits64}
 use Rattle.interp.specs.Word.{low_bits}
-use Rattle.interp.specs.declared.memory.Area.TheVariants.{Context, Block, Stack, Scratch}
+use Rattle.program_interface.specs.declared.area.Area.TheVariants.{Context, Block, Stack, Scratch}
 use Rattle.interp.specs.declared.word.Arithmetic.TheVariants as word
 use Rattle.reg_domain.specs.Domain.{GiveFacts, Operations}
 use Rattle.verifier.specs.Facts.{after_emit, along, compared_fact, entry_facts, fact, facts_at, facts_at_target, facts_behind, given_below, gives, is_register, join_registers, leads, merge, slot_behind, source_fact, with_both, with_fact}

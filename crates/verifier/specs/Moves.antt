@@ -12,12 +12,13 @@ use Rattle.ebpf_decode.specs.declared.operation.Relation.{Relation}
 use Rattle.ebpf_decode.specs.declared.operation.Width.{Width}
 use Rattle.interp.proofs.MemoryLemmas.{loaded_fits}
 use Rattle.interp.specs.Cause.{is_exit, next_slot}
-use Rattle.interp.specs.Effect.{address_from, emitted, frame, operand, put, register}
+use Rattle.interp.specs.Effect.{address_from, bytes_at, emitted, operand, put, register}
 use Rattle.interp.specs.Memory.{Memory, bytes_from, loaded, place_of}
 use Rattle.interp.specs.State.{IsState, State}
 use Rattle.interp.specs.Step.{after, slot_number}
 use Rattle.interp.specs.Word.{is_taken}
 use Rattle.interp.specs.declared.word.Arithmetic.TheVariants as word
+use Rattle.program_interface.specs.Frame.{frame}
 use Rattle.program_interface.specs.RunSizes.{Sizes}
 use Rattle.reg_domain.specs.Domain.{BelongAfter, Belongs, IsSound, Operations}
 use Rattle.verifier.specs.Accepted.{goes_back, reason_of}
@@ -42,10 +43,11 @@ ahead_is : (slot : ℕ) (distance : ℤ) → goes_back (Some distance) ≡ false
 ahead_is slot (pos n) forth = (refl, omega arith)
 ahead_is slot (negsuc n) forth = cc
 
-frame_length : (m : Memory) (address n : ℕ) → length (frame m address n) ≤ 2 + n
+-- a frame of at most so many bytes
+frame_length : (m : Memory) (address n : ℕ) → length (frame (bytes_at m address n)) ≤ 2 + n
 frame_length m address n =
     let taken = length-take n (bytes_from m (place_of (length m.block) address n)) in
-    rw taken (omega arith)
+    omega (arith, taken)
 
 module _ {D : Type 0} {IsFact : D → Type 0} {contains : D → ℕ → Type 0} {operations : Operations D}
     (sound : IsSound IsFact contains operations) where

@@ -13,8 +13,8 @@ use Rattle.interp.specs.Effect.{address_from, effect, register}
 use Rattle.interp.specs.Memory.{IsMemory, Memory, bytes_of, place_of, stored, stored_at, with_bytes, written}
 use Rattle.interp.specs.State.{IsState, State}
 use Rattle.interp.specs.Step.{IsAt}
-use Rattle.interp.specs.declared.memory.Area.{Area}
-use Rattle.interp.specs.declared.memory.Area.TheVariants.{Context, Block, Stack, Scratch}
+use Rattle.program_interface.specs.declared.area.Area.{Area}
+use Rattle.program_interface.specs.declared.area.Area.TheVariants.{Context, Block, Stack, Scratch}
 use Rattle.interp.specs.declared.memory.Place.{Place}
 
 -- ---- a step keeps the block's length

@@ -12,7 +12,7 @@ use Rattle.interp.specs.Run.{Run, continued, run_of}
 use Rattle.interp.specs.State.{IsState, State, entry}
 use Rattle.interp.specs.Step.{Ends, Goes, IsAt, after, decided, step_at, step_of}
 use Rattle.interp.specs.declared.cause.Cause.{Cause}
-use Rattle.interp.specs.declared.memory.Area.TheVariants.{Context, Block, Stack, Scratch}
+use Rattle.program_interface.specs.declared.area.Area.TheVariants.{Context, Block, Stack, Scratch}
 use Rattle.program_interface.specs.RunSizes.{AreSizes, Sizes}
 use Rattle.reg_domain.specs.Domain.{IsSound, Operations}
 use Rattle.verifier.specs.Accepted.{or_else, reason_of, refusal, refusal_at, refusal_below, refused}
@@ -135,7 +135,7 @@ module _ {D : Type 0} {IsFact : D → Type 0} {contains : D → ℕ → Type 0} 
       done_by i facts begins known meets =
           let reason = no_reason i facts s.slot holds.here begins known in
           let are = known_facts sound.facts sizes.block program s.slot facts known in
-          let near = short s.slot i begins in
+          let near = short.offsets s.slot i begins in
           let none = unhindered sound program sizes i facts s are_sizes holds.is holds.block_long are meets near reason in
           by_test (Done (Some i)) (is_exit i)
           (λ exits. rw (decided_ends s i (least_cause program sizes.limit s i) none exits)

@@ -17,12 +17,13 @@ use Rattle.ebpf_decode.specs.declared.operation.Size.TheVariants.{Byte, HalfWord
 use Rattle.interp.specs.Cause as machine
 use Rattle.interp.specs.Cause.{causes_of_effect, emits_badly, emits_outside, holds, is_emit, is_inside_wide, is_not_writable, is_nowhere, is_outside, least_cause, next_slot, slot_in}
 use Rattle.interp.specs.Effect.{address_from, operand, register}
-use Rattle.interp.specs.Memory.{address_of, length_of, lies_in, place_of}
+use Rattle.interp.specs.Memory.{lies_in, place_of}
+use Rattle.program_interface.specs.Area.{address_of, length_of}
 use Rattle.interp.specs.State.{IsState, State}
 use Rattle.interp.specs.Word.{is_taken}
 use Rattle.interp.specs.declared.cause.Cause.{Cause}
 use Rattle.interp.specs.declared.cause.Cause.TheVariants as cause
-use Rattle.interp.specs.declared.memory.Area.{Area}
+use Rattle.program_interface.specs.declared.area.Area.{Area}
 use Rattle.program_interface.specs.RunSizes.{AreSizes, Sizes}
 use Rattle.reg_domain.specs.Domain.{Belongs, IsSound, Operations}
 use Rattle.reg_domain.specs.PlaceLaws.{placed}

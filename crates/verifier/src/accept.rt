@@ -64,7 +64,7 @@ fn find_refusal<D: Domain>(
 }
 
 /// Accepts a program, for runs of these sizes, or says where and why not.
-#[tactic(auto, using(crate::proofs::Sizes::facts_fit))]
+#[tactic(auto, using(crate::proofs::Sizes::facts_fit, crate::specs::Fitting::short_offsets))]
 pub fn verify<D: Domain>(
     alloc: Global,
     program: Program,

@@ -9,13 +9,13 @@ ghost use Rattle.verifier.specs.declared.reason.Reason.TheVariants.{EmitAddress,
 use crate::facts::Facts;
 use crate::reason::Reason;
 use ebpf_decode::{Insn, Program, Register};
-use program_interface::{BlockSize, RunSizes};
-use reg_domain::{Area, Domain};
+use program_interface::{Area, BlockSize, MOST_SLOTS, RunSizes};
+use reg_domain::Domain;
 
 /// The slot behind an instruction.
 #[inline]
 pub fn slot_behind(slot: usize, insn: &Insn) -> usize
-    requires { slot < 4096 }
+    requires { slot < MOST_SLOTS }
     ensures { result ≡ insn_slot_behind slot insn.now }
 {
     match *insn {
@@ -44,7 +44,7 @@ fn goes_back(distance: Option<i32>) -> bool
 
 #[inline]
 fn leads_nowhere(program: &Program, slot: usize, distance: Option<i32>) -> bool
-    requires { slot < 4096 }
+    requires { slot < MOST_SLOTS }
     ensures { result ≡ distance_leads_nowhere program.now slot distance }
 {
     match distance {
@@ -66,7 +66,7 @@ fn turns_away(insn: &Insn) -> bool
 
 #[inline]
 fn falls_off(program: &Program, slot: usize, insn: &Insn) -> bool
-    requires { slot < 4096 }
+    requires { slot < MOST_SLOTS }
     ensures { result ≡ (if insn_turns_away insn.now then false else not (begins_at program.now (pos (insn_slot_behind slot insn.now)))) }
 {
     !turns_away(insn) && program.at(slot_behind(slot, insn)).is_none()
@@ -113,8 +113,8 @@ fn hinders_store(area: Option<Area>) -> bool
     ensures { result ≡ is_unwritable area }
 {
     match area {
-        Some(Area::Stack | Area::Scratch) => false,
-        _ => true,
+        Some(area) => !area.is_writable(),
+        None => true,
     }
 }
 
@@ -189,7 +189,7 @@ pub fn find_reason<D: Domain>(
     insn: &Insn,
     facts: &Facts<D>,
 ) -> Option<Reason>
-    requires { slot < 4096 }
+    requires { slot < MOST_SLOTS }
     ensures { result ≡ reason_of D.operations program.now sizes slot facts.now insn.now }
 {
     let block = sizes.block();

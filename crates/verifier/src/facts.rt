@@ -4,8 +4,8 @@ ghost use Rattle.std.specs.Prelude.{◌≡◌};
 ghost use Rattle.verifier.specs.Facts.{fact, with_fact, entry_facts, join_facts};
 
 use ebpf_decode::Register;
-use program_interface::{REGISTERS, STACK_BYTES};
-use reg_domain::{Area, Domain};
+use program_interface::{Area, REGISTERS, STACK_BYTES};
+use reg_domain::Domain;
 
 /// A fact about each register, and a bound on the bytes that were emitted.
 #[derive(Clone, Copy)]

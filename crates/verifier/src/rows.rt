@@ -11,7 +11,7 @@ use crate::edges::{at_target, behind};
 use crate::facts::Facts;
 use crate::reason::Refusal;
 use ebpf_decode::{Insn, Program};
-use program_interface::RunSizes;
+use program_interface::{MOST_SLOTS, RunSizes};
 use reg_domain::Domain;
 
 /// Joins facts, where there are some, into what a slot was given so far.
@@ -31,7 +31,7 @@ fn give<D: Domain>(rows: &mut [Option<Facts<D>>], to: usize, facts: Option<Facts
 
 /// Gives what an instruction leaves known to the slots that it leads to.
 fn push<D: Domain>(rows: &mut [Option<Facts<D>>], slot: usize, insn: &Insn, facts: &Facts<D>)
-    requires slot { slot < 4096 }
+    requires slot { slot < MOST_SLOTS }
     requires inside { StaysInside (length rows.old) slot insn.now }
     requires room { HasRoom D.operations insn.now facts.now }
     ensures len { length rows.new ≡ length rows.old }
