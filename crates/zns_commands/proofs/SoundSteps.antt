@@ -12,7 +12,7 @@ use Rattle.zone_state.specs.declared.state.ZoneState.TheVariants.{Empty}
 use Rattle.zone_state.specs.declared.status.Status.{Status}
 use Rattle.zone_resources.specs.Counts.{one_if}
 use Rattle.zone_resources.specs.declared.holds.Holds.{Holds}
-use Rattle.nvme_entry.specs.declared.command.Command.TheVariants.{Write, Read, Send, Receive, Append}
+use Rattle.nvme_entry.specs.declared.command.StandardCommand.TheVariants.{Write, Read, Send, Receive, Append}
 use Rattle.nvme_entry.specs.Checks.{first_refused}
 use Rattle.image_store.specs.Geometry.{IsShape}
 use Rattle.image_store.specs.Namespace.{ZoneBlocks, ZonedNamespace, no_zone, zone_at, counted}

@@ -8,8 +8,8 @@ use Rattle.zone_state.specs.declared.status.Status.{Status}
 use Rattle.zone_state.specs.declared.status.TheConstants.Status.{SUCCESS}
 use Rattle.zone_resources.specs.Admission.{IsWithin}
 use Rattle.zone_resources.specs.declared.holds.Holds.{Holds}
-use Rattle.nvme_entry.specs.declared.command.Command.{Command}
-use Rattle.nvme_entry.specs.declared.command.Command.TheVariants.{Write, Read, Send, Receive, Append}
+use Rattle.nvme_entry.specs.declared.command.StandardCommand.{StandardCommand}
+use Rattle.nvme_entry.specs.declared.command.StandardCommand.TheVariants.{Write, Read, Send, Receive, Append}
 use Rattle.nvme_entry.specs.declared.command.TheConstants.{MOST_TRANSFER}
 use Rattle.nvme_entry.specs.declared.filter.ZoneFilter.TheVariants as filter
 use Rattle.nvme_entry.specs.Laws.{number_in, descriptors_in}
@@ -29,7 +29,7 @@ use Rattle.zns_commands.specs.Write.{write_checks, write_effect}
 -- what happens to a namespace, under the holds of the active runs: a command with the data beside its
 -- entry, or a fault of a zone
 pub data Step : Type 0 where
-  Commanded : (holds : Holds) (command : Command) (input : List ℕ) → Step
+  Commanded : (holds : Holds) (command : StandardCommand) (input : List ℕ) → Step
   Failed : (holds : Holds) (zone : ℕ) (fault : FaultState) → Step
 
 abbrev pub after : Step → ZonedNamespace → ZonedNamespace
@@ -65,7 +65,7 @@ abbrev pub EmptyIsSound : Type 0
 EmptyIsSound = (s : Shape) → IsShape s → IsSound (all_empty s)
 
 -- the checks of a command, in their order
-abbrev pub checks_of : ZonedNamespace → Holds → Command → List ℕ → List (Option Status)
+abbrev pub checks_of : ZonedNamespace → Holds → StandardCommand → List ℕ → List (Option Status)
 checks_of ns holds (Write lba blocks) input = write_checks ns holds lba blocks input
 checks_of ns holds (Read lba blocks) input = read_checks ns lba blocks input
 checks_of ns holds (Send lba action select_all) input = send_checks ns holds lba action select_all input
@@ -73,7 +73,7 @@ checks_of ns holds (Receive lba dwords filter partial) input = receive_checks ns
 checks_of ns holds (Append lba blocks) input = append_checks ns holds lba blocks input
 
 -- what a command comes to that is not refused
-abbrev pub effect_of : ZonedNamespace → Holds → Command → List ℕ → Outcome
+abbrev pub effect_of : ZonedNamespace → Holds → StandardCommand → List ℕ → Outcome
 effect_of ns holds (Write lba blocks) input = write_effect ns holds lba input
 effect_of ns holds (Read lba blocks) input = read_effect ns lba blocks
 effect_of ns holds (Send lba action select_all) input = success (send_effect ns holds lba action select_all) 0 []
@@ -93,7 +93,7 @@ pub data IsCase (ns : ZonedNamespace) (checks : List (Option Status)) (effect ou
 -- the meaning of a command is one of its cases, and there is no other outcome in any of them
 abbrev pub JustOneCase : Type 0
 JustOneCase =
-    (ns : ZonedNamespace) (holds : Holds) (command : Command) (input : List ℕ)
+    (ns : ZonedNamespace) (holds : Holds) (command : StandardCommand) (input : List ℕ)
     → IsCase ns (checks_of ns holds command input) (effect_of ns holds command input) (meaning ns holds command input)
     × ((outcome : Outcome) → IsCase ns (checks_of ns holds command input) (effect_of ns holds command input) outcome
     → outcome ≡ meaning ns holds command input)
@@ -108,7 +108,7 @@ pub record ChangesNothing (ns : ZonedNamespace) (outcome : Outcome) : Type 0 whe
 -- a command is done whole or not at all
 abbrev pub RefusedChangesNothing : Type 0
 RefusedChangesNothing =
-    (ns : ZonedNamespace) (holds : Holds) (command : Command) (input : List ℕ)
+    (ns : ZonedNamespace) (holds : Holds) (command : StandardCommand) (input : List ℕ)
     → (meaning ns holds command input).status ≢ SUCCESS
     → ChangesNothing ns (meaning ns holds command input)
 

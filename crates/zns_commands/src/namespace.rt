@@ -13,7 +13,7 @@ use crate::receive::receive;
 use crate::send::send;
 use crate::write::write;
 use image_store::Image;
-use nvme_entry::{Command, MOST_TRANSFER};
+use nvme_entry::{MOST_TRANSFER, StandardCommand};
 use std::marker::Model;
 use zone_resources::Holds;
 use zone_state::{FaultRefused, FaultState};
@@ -52,7 +52,7 @@ impl Namespace {
     /// behind it stays. A command that is refused changes nothing.
     pub fn execute(
         &mut self,
-        command: &Command,
+        command: &StandardCommand,
         input: &[u8],
         output: &mut [u8],
         holds: &Holds,
@@ -63,20 +63,28 @@ impl Namespace {
         ensures rest { drop result.length output.new ≡ drop result.length output.old }
     {
         match *command {
-            Command::Write { lba, blocks } => { write(&mut self.image, holds, lba, blocks, input) }
-            Command::Read { lba, blocks } => read(&self.image, lba, blocks, input, output),
-            Command::Send {
+            StandardCommand::Write { lba, blocks } => {
+                write(&mut self.image, holds, lba, blocks, input)
+            }
+            StandardCommand::Read { lba, blocks } => read(&self.image, lba, blocks, input, output),
+            StandardCommand::Send {
                 lba,
                 action,
                 select_all,
             } => send(&mut self.image, holds, lba, action, select_all, input),
-            Command::Receive {
+            StandardCommand::Receive {
                 lba,
                 dwords,
                 filter,
                 partial,
             } => receive(&self.image, lba, dwords, filter, partial, input, output),
-            Command::Append { lba, blocks } => append(&mut self.image, holds, lba, blocks, input),
+            StandardCommand::Append { lba, blocks } => append(
+                &mut self.image,
+                holds,
+                lba,
+                blocks,
+                input,
+            ),
         }
     }
 
