@@ -27,19 +27,29 @@ record_at ns z = counted ns.capacity (zone_at ns z)
 abbrev pub records : ZonedNamespace → List ZoneRecord
 records ns = map (counted ns.capacity) ns.zones
 
+-- a logical block is in the namespace
+abbrev pub address_check : ZonedNamespace → ℕ → Option Status
+address_check ns lba = demand (nat_lt lba (block_total ns)) LBA_OUT_OF_RANGE
+
+-- a logical block is the lowest of its zone
+abbrev pub lowest_check : ZonedNamespace → ℕ → Option Status
+lowest_check ns lba = demand (lba % ns.size == 0) INVALID_FIELD_IN_COMMAND
+
+-- a range of logical blocks is in the namespace
+abbrev pub range_check : ZonedNamespace → ℕ → ℕ → Option Status
+range_check ns lba blocks = demand (nat_le (lba + blocks) (block_total ns)) LBA_OUT_OF_RANGE
+
+-- a range of logical blocks is in one zone
+abbrev pub boundary_check : ZonedNamespace → ℕ → ℕ → Option Status
+boundary_check ns lba blocks = demand (nat_le (lba % ns.size + blocks) ns.size) ZONE_BOUNDARY_ERROR
+
 -- a zone is named by its lowest logical block
 abbrev pub lowest_checks : ZonedNamespace → ℕ → List (Option Status)
-lowest_checks ns lba =
-    demand (nat_lt lba (block_total ns)) LBA_OUT_OF_RANGE
-    ∷ demand (lba % ns.size == 0) INVALID_FIELD_IN_COMMAND
-    ∷ []
+lowest_checks ns lba = address_check ns lba ∷ lowest_check ns lba ∷ []
 
--- a range of logical blocks is in the namespace, and in one zone
+-- the range of a command lies in one zone
 abbrev pub range_checks : ZonedNamespace → ℕ → ℕ → List (Option Status)
-range_checks ns lba blocks =
-    demand (nat_le (lba + blocks) (block_total ns)) LBA_OUT_OF_RANGE
-    ∷ demand (nat_le (lba % ns.size + blocks) ns.size) ZONE_BOUNDARY_ERROR
-    ∷ []
+range_checks ns lba blocks = range_check ns lba blocks ∷ boundary_check ns lba blocks ∷ []
 
 -- the zone of a logical block, and the block's place in it
 abbrev pub place_in : ZonedNamespace → ℕ → Place
