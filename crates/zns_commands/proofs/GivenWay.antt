@@ -37,7 +37,7 @@ guarded : (b : Bool) (r : Result (Option ℕ) Status) (s : Status) (closed : Opt
 guarded true r s closed e = e
 guarded false r s closed e = cc
 
-admitted_closable : (zones : List ZoneRecord) (limits : Limits) (holds : Holds) (wanted : Wanted) (closed : Option ℕ)
+pub admitted_closable : (zones : List ZoneRecord) (limits : Limits) (holds : Holds) (wanted : Wanted) (closed : Option ℕ)
     → admission zones limits holds wanted ≡ Ok closed → ForSome closed (IsClosable holds zones)
 admitted_closable zones limits holds OpenOnly closed e =
     closing_closable zones holds (nat_lt (open_count zones) limits.open_limit) (zone_to_close holds zones) closed refl e

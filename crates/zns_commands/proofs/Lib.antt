@@ -1,7 +1,12 @@
+pub mod BlockParts
 pub mod Fits
 pub mod GivenWay
+pub mod HeldSources
+pub mod HeldZones
 pub mod KeptBlocks
+pub mod Meanings
 pub mod MovedZones
+pub mod OpenZones
 pub mod PassedChecks
 pub mod ReadBack
 pub mod ReadBytes
@@ -9,7 +14,8 @@ pub mod Refusals
 pub mod ReportedZones
 pub mod Rooms
 pub mod SoundSteps
-pub mod SweptZones
 pub mod Sweeps
+pub mod SweptZones
 pub mod Transfers
+pub mod Untouched
 pub mod WrittenZones

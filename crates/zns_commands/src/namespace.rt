@@ -1,7 +1,12 @@
 //! A namespace that takes commands.
 
-ghost use Rattle.std.specs.Prelude.{◌≡◌, ◌≤◌, length, drop};
+ghost use Rattle.std.specs.Prelude.{◌≡◌, ◌≤◌, ◌<◌, ◌*◌, length, drop};
+ghost use Rattle.zone_resources.specs.Holds.{no_holds};
+ghost use Rattle.image_store.specs.Geometry.{IsShape};
+ghost use Rattle.image_store.specs.Namespace.{appended, block_at, shape, IsNamespace, IsWritten};
+ghost use Rattle.zns_commands.specs.Address.{record_at};
 ghost use Rattle.zns_commands.specs.Answer.{outcome};
+ghost use Rattle.zns_commands.specs.Append.{append_effect, TakesBlocks};
 ghost use Rattle.zns_commands.specs.Fault.{fault_answer, faulted};
 ghost use Rattle.zns_commands.specs.Meaning.{meaning};
 
@@ -12,7 +17,7 @@ use crate::read::read;
 use crate::receive::receive;
 use crate::send::send;
 use crate::write::write;
-use image_store::Image;
+use image_store::{Geometry, Image, Zone};
 use nvme_entry::{MOST_TRANSFER, StandardCommand};
 use std::marker::Model;
 use zone_resources::Holds;
@@ -45,6 +50,43 @@ impl Namespace {
         ensures { result.now ≡ self.now }
     {
         &self.image
+    }
+
+    /// The shape of the namespace.
+    pub fn geometry(&self) -> Geometry
+        ensures value { result ≡ shape self.now }
+        ensures known { IsShape result }
+        ensures sound { IsNamespace self.now }
+    {
+        self.image.geometry()
+    }
+
+    /// The zone with this number, without its blocks.
+    pub fn zone(&self, zone: u32) -> Zone
+        requires { zone < length self.now.zones }
+        ensures { result ≡ record_at self.now zone }
+    {
+        self.image.zone(zone)
+    }
+
+    /// The bytes of a written block, by its address.
+    pub fn block(&self, lba: u64) -> &[u8]
+        requires { IsWritten self.now lba }
+        ensures value { result.now ≡ block_at self.now lba }
+        ensures size { length result.now ≡ self.now.block }
+    {
+        self.image.block(lba)
+    }
+
+    /// Writes whole blocks, one or more, at the write pointer of an open zone that has room for them.
+    /// That is what an Append to the zone leaves that no run holds.
+    pub fn append_blocks(&mut self, zone: u32, bytes: &[u8])
+        requires { TakesBlocks self.old zone bytes.now }
+        ensures blocks { self.new ≡ appended self.old zone bytes.now }
+        ensures append { self.new ≡ (append_effect self.old no_holds (zone * self.old.size) bytes.now).namespace }
+    {
+        let _ = self.geometry();
+        self.image.append(zone, bytes);
     }
 
     /// Executes a command, with the data that stands beside its entry. The data that the command

@@ -1,0 +1,15 @@
+use Rattle.std.proofs.Common.{ap, sym, ◌∙◌}
+use Rattle.zone_resources.specs.Holds.{no_holds}
+use Rattle.image_store.specs.Namespace.{ZonedNamespace, appended}
+use Rattle.zns_commands.specs.Write.{written}
+use Rattle.zns_commands.specs.declared.write.WritePlan.{WritePlan}
+use Rattle.zns_commands.proofs.OpenZones.{open_plan}
+use Rattle.zns_commands.proofs.namespace.Namespace.append_blocks.Goals as goal
+
+pub returns-clause-append : goal.returns-clause-append
+returns-clause-append c =
+    let ns = c.args.self.now in
+    c.append.ensures
+    ∙ (ap (λ (m : ZonedNamespace). appended m c.args.zone c.args.bytes.now) c.self.view_is
+    ∙ ap (λ (plan : WritePlan). written ns plan c.args.bytes.now)
+    (sym (open_plan ns no_holds c.args.zone c.geometry.ensures.sound.shape.size_some c.requires.opened)))
