@@ -10,29 +10,20 @@ use Rattle.zone_state.specs.State.{code_of, state_of, states}
 use Rattle.zone_state.specs.Zone.{ZoneRecord}
 use Rattle.byteorder.specs.Endian.{little_number}
 use Rattle.image_store.specs.declared.fault.LoadFault.TheVariants as fault
-use Rattle.image_store.specs.Blocks.{blocks_of, bytes_of}
+use Rattle.image_store.specs.Blocks.{AreBytes, blocks_of, bytes_of}
 use Rattle.image_store.specs.Flat.{no_record, zone_seen}
 use Rattle.image_store.specs.Geometry.{Shape, tested}
-use Rattle.image_store.specs.Laws.{AreBytes}
 use Rattle.image_store.specs.Namespace.{ZoneBlocks, ZonedNamespace, counted}
 use Rattle.image_store.specs.Reading.{◌>>=◌, are_zeros, shape_told, shape_in, header_in, allows, zone_with, zone_in, zones_in, records_in, limits_kept, blocks_in, end_in, namespace_with, namespace_in, bytes_in}
 use Rattle.image_store.specs.Text.{magic, word, header, record_text, records_text, blocks_text, text}
 use Rattle.image_store.proofs.Answered.{bind_ok, ok_is, chosen, passed}
+use Rattle.image_store.proofs.ByteParts.{front_fit, rest_fit}
 use Rattle.image_store.proofs.Fills.{bytes_parts, bytes_size}
 use Rattle.image_store.proofs.HeaderTests.{decide}
 use Rattle.image_store.proofs.Images.{counted_seen}
 use Rattle.image_store.proofs.Loads.{after_header, after_records, after_limits, after_blocks}
 use Rattle.image_store.proofs.Pieces.{bytes-blocks}
 use Rattle.image_store.proofs.Spelled.{word_spelled, zeros_spelled, header_spelled}
-
-front_fit : (xs ys : List ℕ) → AreBytes (xs ++ ys) → AreBytes xs
-front_fit [] ys fit i = omega arith
-front_fit (x ∷ xs) ys fit zero = fit 0
-front_fit (x ∷ xs) ys fit (suc i) = front_fit xs ys (λ k. fit (suc k)) i
-
-rest_fit : (xs ys : List ℕ) → AreBytes (xs ++ ys) → AreBytes ys
-rest_fit [] ys fit = fit
-rest_fit (x ∷ xs) ys fit = rest_fit xs ys (λ k. fit (suc k))
 
 -- the tests that a header has passed
 record Passed (a c : Bool) (told s : Shape) : Type 0 where

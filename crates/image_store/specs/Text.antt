@@ -1,12 +1,12 @@
 -- The text of an image, version 1 (profile).
-use Rattle.std.specs.Prelude.{ℕ, List, [], ◌∷◌, ◌++◌, replicate, map, codes}
+use Rattle.std.specs.Prelude.{ℕ, List, [], ◌∷◌, ◌++◌, replicate, codes}
 use Rattle.std.specs.List.{flat_map}
 use Rattle.byteorder.specs.Endian.{little_bytes}
 use Rattle.zone_state.specs.State.{code_of}
 use Rattle.zone_state.specs.Zone.{ZoneRecord}
 use Rattle.image_store.specs.Blocks.{bytes_of}
 use Rattle.image_store.specs.Geometry.{Shape}
-use Rattle.image_store.specs.Namespace.{ZoneBlocks, ZonedNamespace, counted, shape}
+use Rattle.image_store.specs.Namespace.{ZoneBlocks, ZonedNamespace, records, shape}
 
 -- the first eight bytes of each image
 abbrev pub magic : List ℕ
@@ -38,4 +38,4 @@ blocks_text zones = flat_map (λ zone. bytes_of zone.blocks) zones
 
 -- the header, the record of each zone, and the written blocks of each zone
 abbrev pub text : ZonedNamespace → List ℕ
-text ns = header (shape ns) ++ (records_text (map (counted ns.capacity) ns.zones) ++ blocks_text ns.zones)
+text ns = header (shape ns) ++ (records_text (records ns) ++ blocks_text ns.zones)

@@ -2,8 +2,7 @@
 
 ghost use Rattle.image_store.specs.Laws.{OnlyTextsLoad, SavedTextsLoad};
 
-/// What is saved loads again as the same namespace, where no more zones are open and active than
-/// may be.
+/// What is saved loads again as the same namespace.
 pub fn saved_texts_load()
     ensures { SavedTextsLoad }
 {}
