@@ -7,7 +7,6 @@ use Rattle.std.proofs.lemmas.Bool.{eqb-true}
 use Rattle.zone_state.specs.Zone.{ZoneRecord, fault_refusal}
 use Rattle.zone_state.specs.declared.action.Action.{Action}
 use Rattle.zone_state.specs.declared.action.Action.TheVariants as action
-use Rattle.zone_state.specs.declared.state.FaultState.{FaultState}
 use Rattle.zone_state.specs.declared.state.ZoneState.{ZoneState}
 use Rattle.zone_state.specs.declared.state.ZoneState.TheVariants.{Offline}
 use Rattle.zone_state.specs.declared.status.TheConstants.Status.{ZONE_HELD}
@@ -20,8 +19,8 @@ use Rattle.zone_resources.specs.declared.holds.Holds.{Holds}
 use Rattle.nvme_entry.specs.Checks.{first_refused}
 use Rattle.nvme_entry.specs.declared.command.StandardCommand.{StandardCommand}
 use Rattle.nvme_entry.specs.declared.command.StandardCommand.TheVariants.{Write, Read, Send, Receive, Append}
-use Rattle.image_store.specs.Namespace.{ZoneBlocks, ZonedNamespace, no_zone, zone_at, counted}
-use Rattle.zns_commands.specs.Address.{zone_number, records}
+use Rattle.image_store.specs.Namespace.{ZoneBlocks, ZonedNamespace, no_zone, zone_at, counted, records}
+use Rattle.zns_commands.specs.Address.{zone_number}
 use Rattle.zns_commands.specs.Append.{append_checks}
 use Rattle.zns_commands.specs.Fault.{fault_answer}
 use Rattle.zns_commands.specs.Kept.{is_either, touches, DestinationsAreLeft}

@@ -8,6 +8,7 @@ pub mod Meanings
 pub mod MovedZones
 pub mod OpenZones
 pub mod PassedChecks
+pub mod Planned
 pub mod ReadBack
 pub mod ReadBytes
 pub mod Refusals

@@ -1,5 +1,5 @@
 -- Logical blocks and zones.
-use Rattle.std.specs.Prelude.{ℕ, zero, suc, ◌≡◌, ◌<◌, ◌+◌, ◌*◌, ◌/◌, ◌%◌, ◌^◌, ◌==◌, nat_lt, nat_le, List, [], ◌∷◌, length, map, Option}
+use Rattle.std.specs.Prelude.{ℕ, zero, suc, ◌≡◌, ◌<◌, ◌+◌, ◌*◌, ◌/◌, ◌%◌, ◌^◌, ◌==◌, nat_lt, nat_le, List, [], ◌∷◌, length, Option}
 use Rattle.zone_state.specs.Zone.{ZoneRecord}
 use Rattle.zone_state.specs.declared.status.Status.{Status}
 use Rattle.zone_state.specs.declared.status.TheConstants.Status.{INVALID_FIELD_IN_COMMAND, LBA_OUT_OF_RANGE, ZONE_BOUNDARY_ERROR}
@@ -22,10 +22,6 @@ write_pointer ns z = z * ns.size + length (zone_at ns z).blocks
 -- a zone with its blocks only counted
 abbrev pub record_at : ZonedNamespace → ℕ → ZoneRecord
 record_at ns z = counted ns.capacity (zone_at ns z)
-
--- all zones so
-abbrev pub records : ZonedNamespace → List ZoneRecord
-records ns = map (counted ns.capacity) ns.zones
 
 -- so many blocks, one logical block after another from this one on
 abbrev pub blocks_from : ZonedNamespace → ℕ → ℕ → List (List ℕ)

@@ -1,5 +1,5 @@
 -- What commands and faults leave as it was.
-use Rattle.std.specs.Prelude.{ℕ, ◌≡◌, ◌≤◌, ◌+◌, ◌/◌, ◌%◌, ◌++◌, ◌==◌, ◌||◌, Bool, true, false, List, length, take, drop, Option}
+use Rattle.std.specs.Prelude.{ℕ, ◌≡◌, ◌≤◌, ◌+◌, ◌%◌, ◌++◌, ◌==◌, ◌||◌, Bool, true, false, List, length, take, drop, Option}
 use Rattle.zone_resources.specs.Holds.{names, is_source, is_destination}
 use Rattle.zone_resources.specs.declared.holds.Holds.{Holds}
 use Rattle.nvme_entry.specs.declared.command.StandardCommand.TheVariants.{Write, Read, Send, Receive, Append}

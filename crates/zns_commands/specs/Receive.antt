@@ -4,8 +4,8 @@ use Rattle.zone_state.specs.declared.status.Status.{Status}
 use Rattle.nvme_entry.specs.declared.filter.ZoneFilter.{ZoneFilter}
 use Rattle.nvme_entry.specs.Checks.{first_refused}
 use Rattle.nvme_entry.specs.Report.{report}
-use Rattle.image_store.specs.Namespace.{ZonedNamespace}
-use Rattle.zns_commands.specs.Address.{address_check, zone_number, records}
+use Rattle.image_store.specs.Namespace.{ZonedNamespace, records}
+use Rattle.zns_commands.specs.Address.{address_check, zone_number}
 use Rattle.zns_commands.specs.Answer.{Outcome, success, concluded}
 use Rattle.zns_commands.specs.Transfer.{transfer_checks}
 

@@ -2,13 +2,13 @@
 //! it ensures is the law.
 
 ghost use Rattle.zns_commands.specs.Kept.{BlocksAreAPart, DestinationsAreLeft, OthersAreLeft, ShapesAreKept, SourcesKeepBlocks};
-ghost use Rattle.zns_commands.specs.Laws.{AppendedReadsBack, EmptyIsSound, JustOneCase, RefusedChangesNothing, ReportsEveryZone, StepsKeepSound, WrittenReadsBack};
+ghost use Rattle.zns_commands.specs.Laws.{AppendedReadsBack, EmptyIsNamespace, JustOneCase, RefusedChangesNothing, ReportsEveryZone, StepsKeepNamespaces, WrittenReadsBack};
 
 /// In every namespace that commands and faults leave, starting from an empty one, the open and active
 /// zones are within the limits, and each zone's state fits its written blocks.
 pub fn commands_keep_namespaces_sound()
-    ensures kept { StepsKeepSound }
-    ensures start { EmptyIsSound }
+    ensures kept { StepsKeepNamespaces }
+    ensures start { EmptyIsNamespace }
 {}
 
 /// Just one case of a command holds: each check passes and it takes effect, or the first check that
