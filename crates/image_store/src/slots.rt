@@ -107,7 +107,7 @@ pub fn append(
     ensures state { namespace_of geometry zones.new blocks.new ≡ appended (namespace_of geometry zones.old blocks.old) zone bytes.now }
     ensures image { IsImage geometry zones.new counts.new blocks.new }
 {
-    let block = geometry.block() as usize;
+    let block = geometry.block().bytes() as usize;
     let mut is = zones[zone];
     splice(
         blocks,
@@ -133,7 +133,7 @@ pub fn blocks<'a>(
     ensures size { length result.now ≡ count * geometry.block }
     ensures value { result.now ≡ bytes_of (take count (drop first (zone_at (namespace_of geometry zones.now blocks.now) zone).blocks)) }
 {
-    let block = geometry.block() as usize;
+    let block = geometry.block().bytes() as usize;
     let start = zone * geometry.slot() + first * block;
     part(blocks, start, count * block)
 }
