@@ -71,6 +71,10 @@ fn an_appended_block_is_saved(rt: HostRuntime) -> Result<(), Fail> {
     assert_eq!(rt; image.geometry().block().bytes(), 512);
     assert_eq!(rt; image.zone(1).written(), 0);
     assert_eq!(rt; image.zone(1).check_write(0, 1), Ok(()));
+    let counts = image.counts();
+    let limits = image.geometry().limits();
+    assert!(rt; counts.opened < limits.open_limit as usize);
+    assert!(rt; counts.active < limits.active_limit as usize);
     image.append(1, &[0x5a; 512]);
     let mut sink = Buffer::new(rt.alloc());
     image.save(&mut sink)?;
