@@ -1,4 +1,4 @@
-/* What a program runs on. See docs/programs.md. */
+/* What a program runs on. See docs/programs.md; the crate program_interface says the same in Rattle. */
 #ifndef PIFNJARL_H
 #define PIFNJARL_H
 

@@ -15,7 +15,7 @@ use Rattle.image_store.specs.declared.fault.LoadFault.TheVariants as fault
 use Rattle.image_store.specs.Blocks.{blocks_of, bytes_of}
 use Rattle.image_store.specs.Flat.{no_record, zone_seen}
 use Rattle.image_store.specs.Geometry.{Shape}
-use Rattle.image_store.specs.Namespace.{ZoneBlocks, ZonedNamespace, no_zone, counted, shape, IsNamespace}
+use Rattle.image_store.specs.Namespace.{ZoneBlocks, ZonedNamespace, no_zone, counted, records, shape, IsNamespace}
 use Rattle.image_store.specs.Reading.{◌>>=◌, allows, zone_with, zone_in, zones_in, records_in, limits_kept, blocks_in, namespace_in}
 use Rattle.image_store.specs.Text.{record_text, records_text, blocks_text, text}
 use Rattle.image_store.proofs.Fills.{Split, bytes_whole}
@@ -108,20 +108,20 @@ at-counted c [] k h = absurd (omega arith)
 at-counted c (zone ∷ zones) zero h = refl
 at-counted c (zone ∷ zones) (suc k) h = at-counted c zones k (omega arith)
 
-can_spell : (ns : ZonedNamespace) → IsNamespace ns → (k : ℕ) → k < length (map (counted ns.capacity) ns.zones) → CanSpell ns.capacity (get_or (map (counted ns.capacity) ns.zones) k no_record)
+can_spell : (ns : ZonedNamespace) → IsNamespace ns → (k : ℕ) → k < length (records ns) → CanSpell ns.capacity (get_or (records ns) k no_record)
 can_spell ns sound k h =
     let there : k < length ns.zones = omega (arith, length-map ns.zones (counted ns.capacity)) in
     let most = sound.shape.capacity_most in
     let size = sound.shape.size_most in
     subst (CanSpell ns.capacity) (sym (at-counted ns.capacity ns.zones k there)) (record { same = refl; fits = sound.fits k there; small = omega arith })
 
-pub text_again : (ns : ZonedNamespace) → IsNamespace ns → IsWithin (map (counted ns.capacity) ns.zones) ns.limits → namespace_in (text ns) ≡ Ok ns
-text_again ns sound within =
+pub text_again : (ns : ZonedNamespace) → IsNamespace ns → namespace_in (text ns) ≡ Ok ns
+text_again ns sound =
     let s = shape ns in
-    let zs = map (counted ns.capacity) ns.zones in
+    let zs = records ns in
     let last = blocks_text ns.zones in
     let blocks : blocks_in ns.block zs last ≡ Ok (ns.zones, []) = ap (blocks_in ns.block zs) (sym (append-nil last)) ∙ blocks_read ns.block ns.capacity ns.zones [] sound.whole in
     past_header (text ns) (records_text zs ++ last) s (header_read s (records_text zs ++ last) sound.shape)
     ∙ (past_records s (records_text zs ++ last) last zs (records_read s zs last (length-map ns.zones (counted ns.capacity)) (can_spell ns sound))
-    ∙ (past_limits s zs last (limits_read ns.limits zs within)
+    ∙ (past_limits s zs last (limits_read ns.limits zs sound.within)
     ∙ (past_blocks s zs last [] ns.zones blocks ∙ past_end s ns.zones [] refl)))

@@ -12,7 +12,7 @@ use Rattle.image_store.specs.declared.fault.LoadFault.TheVariants.{Truncated, Ma
 use Rattle.image_store.specs.Geometry.{Shape, tested}
 use Rattle.image_store.specs.Loading.{Fails, CountsFault, CountsLoad, IsNoDevice, NoDeviceFails}
 use Rattle.image_store.specs.Reading.{are_zeros, number_at, shape_told, shape_in, allows, zone_with, zone_in, limits_kept}
-use Rattle.image_store.specs.Text.{magic}
+use Rattle.image_store.specs.Text.{magic, is_version_1_block}
 use Rattle.image_store.proofs.HeaderTests.{decide}
 
 abbrev pub IsOfText : LoadFault → Type 0
@@ -58,15 +58,16 @@ counts_last before after (Err fault) h e = counts_no_device before after fault h
 is_this : {X : Type 0} (x fault : LoadFault) → (let r : Result X LoadFault = Err x in r) ≡ Err fault → x ≡ fault
 is_this x fault e = cc
 
-decided_fault : (a b c : Bool) (told : Shape) (fault : LoadFault) → decide a b c told ≡ Err fault → IsOfText fault
-decided_fault true true true told fault e = absurd cc
-decided_fault false b c told fault e = subst IsOfText (is_this {X = Shape} Magic fault e) tt
-decided_fault true false c told fault e = subst IsOfText (is_this {X = Shape} Geometry fault e) tt
-decided_fault true true false told fault e = subst IsOfText (is_this {X = Shape} Geometry fault e) tt
+decided_fault : (a b c d : Bool) (told : Shape) (fault : LoadFault) → decide a b c d told ≡ Err fault → IsOfText fault
+decided_fault true true true true told fault e = absurd cc
+decided_fault false b c d told fault e = subst IsOfText (is_this {X = Shape} Magic fault e) tt
+decided_fault true false c d told fault e = subst IsOfText (is_this {X = Shape} Geometry fault e) tt
+decided_fault true true false d told fault e = subst IsOfText (is_this {X = Shape} Geometry fault e) tt
+decided_fault true true true false told fault e = subst IsOfText (is_this {X = Shape} Geometry fault e) tt
 
 pub header_text_fault : (bytes : List ℕ) (fault : LoadFault) → shape_in bytes ≡ Err fault → IsOfText fault
 header_text_fault bytes fault e =
-    decided_fault (starts_with (λ a b. a == b) bytes magic) (is_ok (tested (shape_told bytes))) (are_zeros (drop 32 bytes)) (shape_told bytes) fault e
+    decided_fault (starts_with (λ a b. a == b) bytes magic) (is_version_1_block (number_at bytes 8)) (is_ok (tested (shape_told bytes))) (are_zeros (drop 32 bytes)) (shape_told bytes) fault e
 
 allowed_fault : (test : Bool) (z : ZoneRecord) (fault : LoadFault) → cond test (Ok z) (Err BadRecord) ≡ Err fault → IsOfText fault
 allowed_fault true z fault e = absurd cc

@@ -1,6 +1,6 @@
 -- An image's fields and the namespace that they stand for.
 use Rattle.std.proofs.Common.{◌≡◌, ℕ, ◌+◌, ◌*◌, ◌<◌, ◌≤◌, zero, suc, List, [], ◌∷◌, ◌++◌, length, get_or, set, map, replicate, take, drop, refl, ap, sym, subst, ◌∙◌, arith, Ok}
-use Rattle.std.proofs.lemmas.List.{drop-drop, length-replicate, get_or-replicate}
+use Rattle.std.proofs.lemmas.List.{drop-drop}
 use Rattle.std.proofs.lemmas.Bool.Decides.{nat_tests}
 use Rattle.std.proofs.Math.Nat.{suc-mul, add-mul, mul-le-mul_right}
 use Rattle.zone_state.specs.declared.state.ZoneState.{ZoneState}
@@ -8,7 +8,7 @@ use Rattle.zone_state.specs.declared.state.ZoneState.TheVariants.{Empty, Implici
 use Rattle.zone_state.specs.Zone.{ZoneRecord, IsZone, refusal, refusal_in, after_write}
 use Rattle.image_store.specs.Blocks.{blocks_of, as_blocks, block_count, bytes_of}
 use Rattle.image_store.specs.Flat.{zones_of, zone_seen, spliced, no_record, empty_record, namespace_of, IsFlat}
-use Rattle.image_store.specs.Geometry.{Shape, IsShape}
+use Rattle.image_store.specs.Geometry.{Shape}
 use Rattle.image_store.specs.Namespace.{ZoneBlocks, ZonedNamespace, zone_at, counted, grown, appended, all_empty, shape}
 use Rattle.image_store.proofs.Pieces.{length-blocks, bytes-middle}
 use Rattle.image_store.proofs.Zones.{HasRoom, length-zones, zone-at, zones-append, write_end}
@@ -124,17 +124,6 @@ empty_seen s xs =
     let r = empty_record s.capacity in
     ap (λ (all : List ZoneBlocks). let ns : ZonedNamespace = record { block = s.block; size = s.size; capacity = s.capacity; limits = s.limits; zones = all } in ns)
     (empty_zones s.block s.capacity s.zones r xs refl)
-
-pub empty_flat : (s : Shape) → IsShape s → IsFlat s (replicate s.zones (empty_record s.capacity)) (replicate (s.zones * (s.capacity * s.block)) 0)
-empty_flat s known =
-    let r = empty_record s.capacity in
-    record {
-      shape = known;
-      count = length-replicate s.zones r;
-      room = length-replicate (s.zones * (s.capacity * s.block)) 0;
-      capacities = λ z h. let in_list : z < s.zones = omega (arith, length-replicate s.zones r) in ap (λ (x : ZoneRecord). x.capacity) (get_or-replicate s.zones z r no_record in_list);
-      fits = λ z h. let in_list : z < s.zones = omega (arith, length-replicate s.zones r) in subst (λ (x : ZoneRecord). IsZone x.state x.written s.capacity) (sym (get_or-replicate s.zones z r no_record in_list)) (known.capacity_some, refl);
-    }
 
 -- the zones without their blocks are the records
 pub counted_zones : (b c : ℕ) (zs : List ZoneRecord) (xs : List ℕ) → ((z : ℕ) → z < length zs → (get_or zs z no_record).capacity ≡ c) → map (counted c) (zones_of b c zs xs) ≡ zs

@@ -1,6 +1,8 @@
+pub mod ByteParts
 pub mod Pieces
 pub mod Zones
 pub mod Images
+pub mod Limited
 pub mod States
 pub mod Sound
 pub mod Sinks

@@ -10,14 +10,14 @@ use Rattle.zone_state.specs.State.{code_of, state_of, states}
 use Rattle.zone_state.specs.Zone.{ZoneRecord}
 use Rattle.byteorder.specs.Endian.{little_number}
 use Rattle.image_store.specs.declared.fault.LoadFault.TheVariants as fault
-use Rattle.image_store.specs.Blocks.{blocks_of, bytes_of}
+use Rattle.image_store.specs.Blocks.{AreBytes, blocks_of, bytes_of}
 use Rattle.image_store.specs.Flat.{no_record, zone_seen}
 use Rattle.image_store.specs.Geometry.{Shape, tested}
-use Rattle.image_store.specs.Laws.{AreBytes}
 use Rattle.image_store.specs.Namespace.{ZoneBlocks, ZonedNamespace, counted}
-use Rattle.image_store.specs.Reading.{◌>>=◌, are_zeros, shape_told, shape_in, header_in, allows, zone_with, zone_in, zones_in, records_in, limits_kept, blocks_in, end_in, namespace_with, namespace_in, bytes_in}
-use Rattle.image_store.specs.Text.{magic, word, header, record_text, records_text, blocks_text, text}
+use Rattle.image_store.specs.Reading.{◌>>=◌, are_zeros, number_at, shape_told, shape_in, header_in, allows, zone_with, zone_in, zones_in, records_in, limits_kept, blocks_in, end_in, namespace_with, namespace_in, bytes_in}
+use Rattle.image_store.specs.Text.{magic, is_version_1_block, word, header, record_text, records_text, blocks_text, text}
 use Rattle.image_store.proofs.Answered.{bind_ok, ok_is, chosen, passed}
+use Rattle.image_store.proofs.ByteParts.{front_fit, rest_fit}
 use Rattle.image_store.proofs.Fills.{bytes_parts, bytes_size}
 use Rattle.image_store.proofs.HeaderTests.{decide}
 use Rattle.image_store.proofs.Images.{counted_seen}
@@ -25,26 +25,18 @@ use Rattle.image_store.proofs.Loads.{after_header, after_records, after_limits, 
 use Rattle.image_store.proofs.Pieces.{bytes-blocks}
 use Rattle.image_store.proofs.Spelled.{word_spelled, zeros_spelled, header_spelled}
 
-front_fit : (xs ys : List ℕ) → AreBytes (xs ++ ys) → AreBytes xs
-front_fit [] ys fit i = omega arith
-front_fit (x ∷ xs) ys fit zero = fit 0
-front_fit (x ∷ xs) ys fit (suc i) = front_fit xs ys (λ k. fit (suc k)) i
-
-rest_fit : (xs ys : List ℕ) → AreBytes (xs ++ ys) → AreBytes ys
-rest_fit [] ys fit = fit
-rest_fit (x ∷ xs) ys fit = rest_fit xs ys (λ k. fit (suc k))
-
 -- the tests that a header has passed
-record Passed (a c : Bool) (told s : Shape) : Type 0 where
+record Passed (a d : Bool) (told s : Shape) : Type 0 where
   pub begins : a ≡ true
-  pub zeros : c ≡ true
+  pub zeros : d ≡ true
   pub same : told ≡ s
 
-decided : (a b c : Bool) (told s : Shape) → decide a b c told ≡ Ok s → Passed a c told s
-decided true true true told s e = record { begins = refl; zeros = refl; same = ok_is told s e }
-decided false b c told s e = absurd cc
-decided true false c told s e = absurd cc
-decided true true false told s e = absurd cc
+decided : (a b c d : Bool) (told s : Shape) → decide a b c d told ≡ Ok s → Passed a d told s
+decided true true true true told s e = record { begins = refl; zeros = refl; same = ok_is told s e }
+decided false b c d told s e = absurd cc
+decided true false c d told s e = absurd cc
+decided true true false d told s e = absurd cc
+decided true true true false told s e = absurd cc
 
 header_only : (bytes : List ℕ) (s : Shape) (rest : List ℕ) → AreBytes bytes → header_in bytes ≡ Ok (s, rest) → header s ++ rest ≡ bytes
 header_only bytes s rest fit e =
@@ -53,7 +45,7 @@ header_only bytes s rest fit e =
     let parts = bytes_parts 64 bytes a.0 a.1 in
     let size = bytes_size 64 bytes a.0 a.1 in
     let front = front_fit a.0.0 a.0.1 (subst AreBytes (sym parts) fit) in
-    let tests = decided (starts_with (λ x y. x == y) a.0.0 magic) (is_ok (tested (shape_told a.0.0))) (are_zeros (drop 32 a.0.0)) (shape_told a.0.0) b.0 b.1 in
+    let tests = decided (starts_with (λ x y. x == y) a.0.0 magic) (is_version_1_block (number_at a.0.0 8)) (is_ok (tested (shape_told a.0.0))) (are_zeros (drop 32 a.0.0)) (shape_told a.0.0) b.0 b.1 in
     let spelled = header_spelled a.0.0 size front tests.begins tests.zeros in
     let both = ok_is (b.0, a.0.1) (s, rest) b.2 in
     ap (λ (x : Shape × List ℕ). header x.0 ++ x.1) (sym both)

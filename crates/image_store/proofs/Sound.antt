@@ -4,11 +4,14 @@ use Rattle.std.proofs.lemmas.Bool.{lt-ltb}
 use Rattle.std.proofs.lemmas.List.{append-nil, drop-drop}
 use Rattle.std.proofs.Math.Nat.{suc-mul, mul-le-mul_right}
 use Rattle.zone_state.specs.Zone.{ZoneRecord, IsZone}
+use Rattle.zone_resources.specs.declared.counts.Counts.{Counts}
 use Rattle.image_store.specs.declared.geometry.Place.{Place}
 use Rattle.image_store.specs.Blocks.{blocks_of, bytes_of}
-use Rattle.image_store.specs.Flat.{no_record, namespace_of, IsFlat}
+use Rattle.image_store.specs.Flat.{no_record, namespace_of, IsFlat, IsImage}
 use Rattle.image_store.specs.Geometry.{Shape, IsShape, place_of}
 use Rattle.image_store.specs.Namespace.{ZoneBlocks, ZonedNamespace, no_zone, zone_at, shape, IsWritten, IsNamespace}
+use Rattle.image_store.proofs.ByteParts.{zones_fit}
+use Rattle.image_store.proofs.Limited.{within_seen}
 use Rattle.image_store.proofs.Pieces.{length-blocks}
 use Rattle.image_store.proofs.Zones.{length-zones, zone-at}
 use Rattle.image_store.proofs.Images.{slot_end, within, shape_seen}
@@ -38,24 +41,28 @@ block_whole s zs xs z i flat inside written =
     ∙ (ap length (block-at s.block (get_or zs z no_record).written i slot written)
     ∙ omega (arith, suc-mul i s.block, length-take s.block (drop (i * s.block) slot), length-drop (i * s.block) slot, length-drop (z * (s.capacity * s.block)) xs))
 
-pub flat_sound : (s : Shape) (zs : List ZoneRecord) (xs : List ℕ) → IsFlat s zs xs → IsNamespace (namespace_of s zs xs)
-flat_sound s zs xs flat = record {
-  shape = subst IsShape (shape_seen s zs xs (namespace_of s zs xs) refl flat) flat.shape;
-  fits = λ z h.
-      let r = get_or zs z no_record in
-      let inside : z < length zs = omega (arith, length-zones s.block s.capacity zs xs) in
-      subst (λ (zone : ZoneBlocks). IsZone zone.state (length zone.blocks) s.capacity) (sym (zone-at s.block s.capacity zs xs z inside))
-      (subst (λ (n : ℕ). IsZone r.state n s.capacity) (sym (length-blocks s.block r.written (drop (z * (s.capacity * s.block)) xs))) (flat.fits z inside));
-  whole = λ z i h.
-      let there : z < length (namespace_of s zs xs).zones = zone_with_blocks (namespace_of s zs xs).zones z i h in
-      let inside : z < length zs = omega (arith, length-zones s.block s.capacity zs xs) in
-      let count = ap (λ (zone : ZoneBlocks). length zone.blocks) (zone-at s.block s.capacity zs xs z inside) in
-      let written : i < (get_or zs z no_record).written = omega (arith, length-blocks s.block (get_or zs z no_record).written (drop (z * (s.capacity * s.block)) xs)) in
-      block_whole s zs xs z i flat inside written;
-}
+pub image_sound : (s : Shape) (zs : List ZoneRecord) (counts : Counts) (xs : List ℕ) → IsImage s zs counts xs → IsNamespace (namespace_of s zs xs)
+image_sound s zs counts xs image =
+    let flat = image.flat in
+    record {
+      shape = subst IsShape (shape_seen s zs xs (namespace_of s zs xs) refl flat) flat.shape;
+      fits = λ z h.
+          let r = get_or zs z no_record in
+          let inside : z < length zs = omega (arith, length-zones s.block s.capacity zs xs) in
+          subst (λ (zone : ZoneBlocks). IsZone zone.state (length zone.blocks) s.capacity) (sym (zone-at s.block s.capacity zs xs z inside))
+          (subst (λ (n : ℕ). IsZone r.state n s.capacity) (sym (length-blocks s.block r.written (drop (z * (s.capacity * s.block)) xs))) (flat.fits z inside));
+      whole = λ z i h.
+          let there : z < length (namespace_of s zs xs).zones = zone_with_blocks (namespace_of s zs xs).zones z i h in
+          let inside : z < length zs = omega (arith, length-zones s.block s.capacity zs xs) in
+          let count = ap (λ (zone : ZoneBlocks). length zone.blocks) (zone-at s.block s.capacity zs xs z inside) in
+          let written : i < (get_or zs z no_record).written = omega (arith, length-blocks s.block (get_or zs z no_record).written (drop (z * (s.capacity * s.block)) xs)) in
+          block_whole s zs xs z i flat inside written;
+      within = within_seen s zs xs flat image.within;
+      bytes = zones_fit s.block s.capacity zs xs image.are_bytes;
+    }
 
-pub sound : (s : Shape) (zs : List ZoneRecord) (xs : List ℕ) (ns : ZonedNamespace) → namespace_of s zs xs ≡ ns → IsFlat s zs xs → IsNamespace ns
-sound s zs xs ns seen flat = subst IsNamespace seen (flat_sound s zs xs flat)
+pub sound : (s : Shape) (zs : List ZoneRecord) (counts : Counts) (xs : List ℕ) (ns : ZonedNamespace) → namespace_of s zs xs ≡ ns → IsImage s zs counts xs → IsNamespace ns
+sound s zs counts xs ns seen image = subst IsNamespace seen (image_sound s zs counts xs image)
 
 -- an address of which the zone is one of the namespace's is within it
 address_inside : (zones size lba : ℕ) → 1 ≤ size → lba / size < zones → lba < zones * size

@@ -1,18 +1,16 @@
 -- The parts of a text that are read are those that are spelled.
-use Rattle.std.proofs.Common.{◌≡◌, ℕ, ◌+◌, ◌-◌, ◌*◌, ◌<◌, ◌≤◌, zero, suc, true, nat_eq, List, [], ◌∷◌, ◌++◌, length, replicate, take, drop, refl, ap, sym, subst, ◌∙◌, arith, length-drop}
+use Rattle.std.proofs.Common.{◌≡◌, ℕ, ◌+◌, ◌-◌, ◌*◌, ◌<◌, ◌≤◌, zero, suc, true, nat_eq, List, [], ◌∷◌, ◌++◌, length, replicate, take, drop, refl, ap, sym, ◌∙◌, arith, length-drop}
 use Rattle.std.proofs.lemmas.Bool.{eqb-true, and_parts}
-use Rattle.std.proofs.lemmas.List.{take-append-drop, drop-drop, get_or-drop}
+use Rattle.std.proofs.lemmas.List.{take-append-drop, drop-drop}
 use Rattle.std.proofs.lemmas.Nat.{le_bytes_4}
 use Rattle.std.proofs.lemmas.Slice.Eq.{bytes_eq-Decides}
 use Rattle.std.specs.List.{starts_with}
 use Rattle.std.specs.Prelude.{◌==◌}
 use Rattle.byteorder.specs.Endian.{little_number}
-use Rattle.image_store.specs.Laws.{AreBytes}
+use Rattle.image_store.specs.Blocks.{AreBytes}
 use Rattle.image_store.specs.Reading.{are_zeros, number_at, shape_told}
 use Rattle.image_store.specs.Text.{word, magic, header}
-
-pub bytes_from : (n : ℕ) (xs : List ℕ) → AreBytes xs → AreBytes (drop n xs)
-bytes_from n xs fit i = subst (λ (b : ℕ). b < 256) (sym (get_or-drop n xs i 0)) (fit (n + i))
+use Rattle.image_store.proofs.ByteParts.{bytes_from}
 
 four_fit : (a b c d : ℕ) → a < 256 → b < 256 → c < 256 → d < 256 → AreBytes (a ∷ b ∷ c ∷ d ∷ [])
 four_fit a b c d ha hb hc hd zero = ha

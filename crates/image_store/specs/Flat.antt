@@ -1,10 +1,11 @@
 -- Zones whose blocks lie in one list of bytes, in a slot of one size for each zone.
 use Rattle.std.specs.Prelude.{ℕ, ◌≡◌, ◌<◌, ◌+◌, ◌*◌, List, [], ◌∷◌, ◌++◌, length, get_or, take, drop}
 use Rattle.zone_state.specs.declared.state.ZoneState.TheVariants.{Empty, Offline}
+use Rattle.zone_resources.specs.Admission.{IsWithin}
 use Rattle.zone_resources.specs.Counts.{counts_of}
 use Rattle.zone_resources.specs.declared.counts.Counts.{Counts}
 use Rattle.zone_state.specs.Zone.{ZoneRecord, IsZone}
-use Rattle.image_store.specs.Blocks.{blocks_of}
+use Rattle.image_store.specs.Blocks.{AreBytes, blocks_of}
 use Rattle.image_store.specs.Geometry.{Shape, IsShape}
 use Rattle.image_store.specs.Namespace.{ZoneBlocks, ZonedNamespace}
 
@@ -36,10 +37,12 @@ pub record IsFlat (s : Shape) (zones : List ZoneRecord) (bytes : List ℕ) : Typ
   pub capacities : (z : ℕ) → z < length zones → (get_or zones z no_record).capacity ≡ s.capacity
   pub fits : (z : ℕ) → z < length zones → IsZone (get_or zones z no_record).state (get_or zones z no_record).written s.capacity
 
--- the parts of an image fit one another: the counts are those of the zones
+-- the parts of an image fit one another: the counts are those of the zones, and within the limits
 pub record IsImage (s : Shape) (zones : List ZoneRecord) (counts : Counts) (bytes : List ℕ) : Type 0 where
   pub flat : IsFlat s zones bytes
   pub counted : counts ≡ counts_of zones
+  pub within : IsWithin zones s.limits
+  pub are_bytes : AreBytes bytes
 
 -- bytes with others put in their place from one on
 abbrev pub spliced : ℕ → List ℕ → List ℕ → List ℕ

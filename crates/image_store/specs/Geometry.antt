@@ -1,5 +1,6 @@
 -- The shape of a namespace.
-use Rattle.std.specs.Prelude.{ℕ, Bool, true, ◌≡◌, ◌≤◌, ◌*◌, ◌/◌, ◌%◌, ◌==◌, ◌&&◌, ◌||◌, nat_le, nat_lt, List, [], ◌∷◌, Option, Some, None, Result, if◌then◌else◌}
+use Rattle.std.specs.Prelude.{ℕ, Bool, ◌≤◌, ◌*◌, ◌/◌, ◌%◌, ◌&&◌, nat_le, nat_lt, List, [], ◌∷◌, Option, Some, None, Result, if◌then◌else◌}
+use Rattle.program_interface.specs.BlockSize.{is_block_size, IsBlockSize}
 use Rattle.zone_resources.specs.declared.admission.Limits.{Limits}
 use Rattle.image_store.specs.declared.geometry.Place.{Place}
 use Rattle.image_store.specs.declared.geometry.GeometryFault.{GeometryFault}
@@ -14,10 +15,6 @@ pub record Shape : Type 0 where
   pub size : ℕ
   pub capacity : ℕ
   pub limits : Limits
-
--- the block sizes (profile)
-abbrev pub is_block_size : ℕ → Bool
-is_block_size block = block == 512 || block == 1024 || block == 2048 || block == 4096
 
 -- a number from 1 to a most
 abbrev pub is_counted : ℕ → ℕ → Bool
@@ -56,7 +53,7 @@ tested s = unless_fault (first_fault (shape_checks s)) s
 
 -- what holds of each shape that is accepted
 pub record IsShape (s : Shape) : Type 0 where
-  pub block_size : is_block_size s.block ≡ true
+  pub block_size : IsBlockSize s.block
   pub block_some : 512 ≤ s.block
   pub block_most : s.block ≤ 4096
   pub zones_some : 1 ≤ s.zones

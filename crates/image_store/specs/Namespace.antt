@@ -1,10 +1,11 @@
 -- A zoned namespace: its zones, each with the blocks that are written in it.
-use Rattle.std.specs.Prelude.{ℕ, ◌≡◌, ◌<◌, ◌/◌, ◌%◌, ◌++◌, List, [], length, get_or, set, replicate}
+use Rattle.std.specs.Prelude.{ℕ, ◌≡◌, ◌<◌, ◌/◌, ◌%◌, ◌++◌, List, [], length, get_or, map, set, replicate}
+use Rattle.zone_resources.specs.Admission.{IsWithin}
 use Rattle.zone_resources.specs.declared.admission.Limits.{Limits}
 use Rattle.zone_state.specs.declared.state.ZoneState.{ZoneState}
 use Rattle.zone_state.specs.declared.state.ZoneState.TheVariants.{Empty, Offline}
 use Rattle.zone_state.specs.Zone.{ZoneRecord, after_write, IsZone}
-use Rattle.image_store.specs.Blocks.{as_blocks}
+use Rattle.image_store.specs.Blocks.{AreBytes, as_blocks}
 use Rattle.image_store.specs.Geometry.{Shape, IsShape}
 
 -- a zone: its state, and its written blocks from its lowest logical block on (ZNS 1.1, 2.1.1)
@@ -35,6 +36,14 @@ with_zone ns z zone = record { block = ns.block; size = ns.size; capacity = ns.c
 -- a zone whose blocks are only counted
 abbrev pub counted : ℕ → ZoneBlocks → ZoneRecord
 counted capacity zone = record { state = zone.state; written = length zone.blocks; capacity = capacity }
+
+-- all zones so
+abbrev pub records : ZonedNamespace → List ZoneRecord
+records ns = map (counted ns.capacity) ns.zones
+
+-- no more zones are open or active than may be (ZNS 1.1, Zone Resources)
+abbrev pub IsWithinLimits : ZonedNamespace → Type 0
+IsWithinLimits ns = IsWithin (records ns) ns.limits
 
 -- a zone with more blocks written at its write pointer
 abbrev pub grown : ℕ → ZoneBlocks → List (List ℕ) → ZoneBlocks
@@ -78,8 +87,11 @@ abbrev pub block_at : ZonedNamespace → ℕ → List ℕ
 block_at ns lba = get_or (zone_at ns (lba / ns.size)).blocks (lba % ns.size) []
 
 -- what holds of each namespace that an image has: its shape is one that is accepted, each zone's
--- state allows its written blocks, and each block is whole
+-- state allows its written blocks, the open and active zones are within the limits, and each block is
+-- whole and of bytes
 pub record IsNamespace (ns : ZonedNamespace) : Type 0 where
   pub shape : IsShape (shape ns)
   pub fits : (z : ℕ) → z < length ns.zones → IsZone (zone_at ns z).state (length (zone_at ns z).blocks) ns.capacity
+  pub within : IsWithinLimits ns
   pub whole : (z i : ℕ) → i < length (zone_at ns z).blocks → length (get_or (zone_at ns z).blocks i []) ≡ ns.block
+  pub bytes : (z i : ℕ) → AreBytes (get_or (zone_at ns z).blocks i [])

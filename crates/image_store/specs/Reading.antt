@@ -15,7 +15,7 @@ use Rattle.image_store.specs.Checks.{demand, first_fault, unless_fault}
 use Rattle.image_store.specs.Flat.{zone_seen}
 use Rattle.image_store.specs.Geometry.{Shape, shape_of, tested}
 use Rattle.image_store.specs.Namespace.{ZoneBlocks, ZonedNamespace}
-use Rattle.image_store.specs.Text.{magic}
+use Rattle.image_store.specs.Text.{magic, is_version_1_block}
 
 infixl 10 ◌>>=◌
 abbrev pub ◌>>=◌ : {X Y : Type 0} → Result X LoadFault → (X → Result Y LoadFault) → Result Y LoadFault
@@ -42,6 +42,7 @@ shape_told bytes =
 abbrev pub header_checks : List ℕ → List (Option LoadFault)
 header_checks bytes =
     demand (starts_with (λ a b. a == b) bytes magic) fault.Magic
+    ∷ demand (is_version_1_block (number_at bytes 8)) fault.Geometry
     ∷ demand (is_ok (tested (shape_told bytes))) fault.Geometry
     ∷ demand (are_zeros (drop 32 bytes)) fault.Geometry
     ∷ []

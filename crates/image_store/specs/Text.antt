@@ -1,16 +1,21 @@
 -- The text of an image, version 1 (profile).
-use Rattle.std.specs.Prelude.{ℕ, List, [], ◌∷◌, ◌++◌, replicate, map, codes}
-use Rattle.std.specs.List.{flat_map}
+use Rattle.std.specs.Prelude.{ℕ, Bool, ◌==◌, List, [], ◌∷◌, ◌++◌, replicate, codes}
+use Rattle.std.specs.List.{flat_map, list_any}
 use Rattle.byteorder.specs.Endian.{little_bytes}
 use Rattle.zone_state.specs.State.{code_of}
 use Rattle.zone_state.specs.Zone.{ZoneRecord}
+use Rattle.image_store.specs.declared.header.TheConstants.{VERSION_1_BLOCK_SIZES}
 use Rattle.image_store.specs.Blocks.{bytes_of}
 use Rattle.image_store.specs.Geometry.{Shape}
-use Rattle.image_store.specs.Namespace.{ZoneBlocks, ZonedNamespace, counted, shape}
+use Rattle.image_store.specs.Namespace.{ZoneBlocks, ZonedNamespace, records, shape}
 
 -- the first eight bytes of each image
 abbrev pub magic : List ℕ
 magic = codes "ZNSIMG01"
+
+-- can an image of version 1 have blocks of this many bytes? (profile)
+abbrev pub is_version_1_block : ℕ → Bool
+is_version_1_block bytes = list_any (λ size. size == bytes) VERSION_1_BLOCK_SIZES
 
 -- 32 bits, the lowest byte first
 abbrev pub word : ℕ → List ℕ
@@ -38,4 +43,4 @@ blocks_text zones = flat_map (λ zone. bytes_of zone.blocks) zones
 
 -- the header, the record of each zone, and the written blocks of each zone
 abbrev pub text : ZonedNamespace → List ℕ
-text ns = header (shape ns) ++ (records_text (map (counted ns.capacity) ns.zones) ++ blocks_text ns.zones)
+text ns = header (shape ns) ++ (records_text (records ns) ++ blocks_text ns.zones)

@@ -1,6 +1,7 @@
-//! Bytes that have to be zero.
+//! What is said of bytes.
 
 ghost use Rattle.std.specs.Prelude.{◌≡◌};
+ghost use Rattle.image_store.specs.Blocks.{AreBytes};
 ghost use Rattle.image_store.specs.Reading.{are_zeros};
 
 /// Is each of these bytes zero?
@@ -9,3 +10,8 @@ pub fn are_zeros(bytes: &[u8]) -> bool
 {
     bytes.iter().all(|byte| *byte == 0)
 }
+
+/// Does nothing: what it ensures is what a list of bytes says of each.
+pub fn are_bytes(bytes: &[u8])
+    ensures { AreBytes bytes.now }
+{}

@@ -1,8 +1,9 @@
 //! The shape of a namespace.
 
 ghost use Rattle.std.specs.Prelude.{◌≡◌, ◌≤◌, ◌<◌, ◌*◌, ◌^◌, ◌+◌, IfSome, OnSome};
-ghost use Rattle.image_store.specs.Geometry.{tested, shape_of, place_of, number_of, is_block_size, is_counted, are_limits, IsShape};
+ghost use Rattle.image_store.specs.Geometry.{tested, shape_of, place_of, number_of, is_counted, are_limits, IsShape};
 
+use program_interface::BlockSize;
 use std::marker::Model;
 use thiserror::Error;
 use zone_resources::Limits;
@@ -50,7 +51,7 @@ pub struct Place {
 /// them can be written (ZNS 1.1, 2.1.1), and how many zones may hold resources.
 #[derive(Clone, Copy, Debug, PartialEq, Eq)]
 pub struct Geometry {
-    block: u32,
+    block: BlockSize,
     zones: u32,
     size: u32,
     capacity: u32,
@@ -84,9 +85,9 @@ impl Geometry {
     ) -> Result<Geometry, GeometryFault>
         ensures { result ≡ tested (shape_of block zones size capacity limits) }
     {
-        if !is_block_size(block) {
+        let Some(block) = BlockSize::new(block) else {
             return Err(GeometryFault::BlockSize);
-        }
+        };
         if !is_counted(zones, 1024) {
             return Err(GeometryFault::ZoneCount);
         }
@@ -99,7 +100,7 @@ impl Geometry {
         if !are_limits(limits, zones) {
             return Err(GeometryFault::ResourceLimits);
         }
-        if u64::from(zones) * u64::from(capacity) * u64::from(block) > MOST_BYTES {
+        if u64::from(zones) * u64::from(capacity) * u64::from(block.bytes()) > MOST_BYTES {
             return Err(GeometryFault::TooLarge);
         }
         Ok(Geometry {
@@ -111,8 +112,8 @@ impl Geometry {
         })
     }
 
-    /// Bytes of a block.
-    pub fn block(self) -> u32
+    /// The size of a block.
+    pub fn block(self) -> BlockSize
         ensures value { result ≡ self.block }
         ensures shape { IsShape self }
     {
@@ -176,7 +177,7 @@ impl Geometry {
     pub fn slot(self) -> usize
         ensures { result ≡ self.capacity * self.block }
     {
-        self.capacity as usize * self.block as usize
+        self.capacity as usize * self.block.bytes() as usize
     }
 
     /// Bytes that the blocks of all zones may take.
@@ -185,12 +186,6 @@ impl Geometry {
     {
         self.zones as usize * self.slot()
     }
-}
-
-fn is_block_size(block: u32) -> bool
-    ensures { result ≡ is_block_size block }
-{
-    block == 512 || block == 1024 || block == 2048 || block == 4096
 }
 
 fn is_counted(n: u32, most: u32) -> bool

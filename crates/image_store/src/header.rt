@@ -2,7 +2,7 @@
 
 ghost use Rattle.std.specs.Prelude.{◌≡◌, ◌+◌, ◌≤◌, length};
 ghost use Rattle.image_store.specs.Reading.{number_at, shape_in};
-ghost use Rattle.image_store.specs.Text.{header};
+ghost use Rattle.image_store.specs.Text.{header, is_version_1_block};
 
 use crate::bytes::are_zeros;
 use crate::fault::LoadFault;
@@ -16,13 +16,16 @@ pub const HEADER: usize = 64;
 /// The first bytes of a header.
 const MAGIC: [u8; 8] = *b"ZNSIMG01";
 
+/// The block sizes that an image of version 1 can have, in bytes (profile).
+const VERSION_1_BLOCK_SIZES: [u32; 4] = [512, 1024, 2048, 4096];
+
 /// The header of an image of this geometry.
 pub fn encode(geometry: Geometry) -> [u8; HEADER]
     ensures { result ≡ header geometry }
 {
     let limits = geometry.limits();
     let numbers = [
-        geometry.block(),
+        geometry.block().bytes(),
         geometry.zones(),
         geometry.size(),
         geometry.capacity(),
@@ -43,12 +46,16 @@ pub fn decode(bytes: &[u8]) -> Result<Geometry, LoadFault>
     if !bytes.starts_with(&MAGIC) {
         return Err(LoadFault::Magic);
     }
+    let block = number(bytes, 8);
+    if !is_version_1_block(block) {
+        return Err(LoadFault::Geometry);
+    }
     let limits = Limits {
         open_limit: number(bytes, 24),
         active_limit: number(bytes, 28),
     };
     let geometry = Geometry::new(
-        number(bytes, 8),
+        block,
         number(bytes, 12),
         number(bytes, 16),
         number(bytes, 20),
@@ -58,6 +65,13 @@ pub fn decode(bytes: &[u8]) -> Result<Geometry, LoadFault>
         return Err(LoadFault::Geometry);
     }
     Ok(geometry)
+}
+
+/// Can an image of version 1 have blocks of this many bytes?
+fn is_version_1_block(bytes: u32) -> bool
+    ensures { result ≡ is_version_1_block bytes }
+{
+    VERSION_1_BLOCK_SIZES.contains(&bytes)
 }
 
 /// The number that begins at a byte.

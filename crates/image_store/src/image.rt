@@ -1,7 +1,6 @@
 //! The image.
 
-ghost use Rattle.std.specs.Prelude.{◌≡◌, ◌≤◌, ◌<◌, ◌+◌, ◌-◌, ◌*◌, ◌^◌, length, replicate, IfOk, IsOk, map, take, drop, Ok};
-ghost use Rattle.zone_resources.specs.Admission.{IsWithin};
+ghost use Rattle.std.specs.Prelude.{◌≡◌, ◌≤◌, ◌<◌, ◌+◌, ◌-◌, ◌*◌, ◌^◌, length, replicate, IfOk, IsOk, take, drop, Ok};
 ghost use Rattle.zone_resources.specs.Counts.{counts_of};
 ghost use Rattle.zone_state.specs.Zone.{refusal, IsZone};
 ghost use Rattle.image_store.specs.Geometry.{IsShape};
@@ -10,8 +9,9 @@ ghost use Rattle.image_store.specs.Device.{Takes, CountsFailure};
 ghost use Rattle.image_store.specs.Loading.{Gives, CountsLoad};
 ghost use Rattle.image_store.specs.Reading.{header_in, namespace_in};
 ghost use Rattle.image_store.specs.Text.{text};
-ghost use Rattle.image_store.specs.Namespace.{appended, in_zone_state, cleared, counted, zone_at, all_empty, shape, block_at, IsWritten, IsNamespace};
+ghost use Rattle.image_store.specs.Namespace.{appended, in_zone_state, cleared, counted, records, zone_at, all_empty, shape, block_at, IsWithinLimits, IsWritten, IsNamespace};
 
+use crate::bytes::are_bytes;
 use crate::device::{Sink, Source};
 use crate::fault::{LoadFault, SaveFault};
 use crate::geometry::Geometry;
@@ -68,14 +68,15 @@ impl Image {
     pub fn load<R: Source>(alloc: Global, source: &mut R) -> Result<Image, LoadFault>
         requires { R.failures source.old < 2 ^ 64 - 1 }
         ensures image { R.tells → Gives (IsOk (header_in (R.rest source.old))) (λ image. image) result (namespace_in (R.rest source.old)) }
-        ensures within { IfOk result (λ image. IsWithin (map (counted image.capacity) image.zones) image.limits) }
         ensures failures { CountsLoad (R.failures source.old) (R.failures source.new) result }
     {
         let (geometry, zones, blocks) = load::load(alloc, source)?;
+        let counts = Counts::of(&zones);
+        are_bytes(&blocks);
         Ok(Image {
             geometry,
-            counts: Counts::of(&zones),
             zones,
+            counts,
             blocks,
         })
     }
@@ -104,14 +105,14 @@ impl Image {
 
     /// The zones, without their blocks.
     pub fn zones(&self) -> &[Zone]
-        ensures { result.now ≡ map (counted self.now.capacity) self.now.zones }
+        ensures { result.now ≡ records self.now }
     {
         &self.zones
     }
 
     /// How many zones hold resources.
     pub fn counts(&self) -> Counts
-        ensures { result ≡ counts_of (map (counted self.now.capacity) self.now.zones) }
+        ensures { result ≡ counts_of (records self.now) }
     {
         self.counts
     }
@@ -152,10 +153,12 @@ impl Image {
         self.blocks(place.zone, place.offset, 1)
     }
 
-    /// Puts a zone in another state, one that allows the zone's written blocks. They stay.
+    /// Puts a zone in another state, one that allows the zone's written blocks and that the limits
+    /// allow. The blocks stay.
     pub fn set_state(&mut self, zone: u32, to: ZoneState)
         requires inside { zone < length self.old.zones }
         requires fits { IsZone to (length (zone_at self.old zone).blocks) self.old.capacity }
+        requires allowed { IsWithinLimits (in_zone_state self.old zone to) }
         ensures { self.new ≡ in_zone_state self.old zone to }
     {
         slots::set_state(
@@ -198,12 +201,14 @@ impl Image {
         );
     }
 
-    /// Writes whole blocks, one or more, at the write pointer of a zone that takes them.
+    /// Writes whole blocks, one or more, at the write pointer of a zone that takes them, where the
+    /// limits allow that the zone is open.
     pub fn append(&mut self, zone: u32, bytes: &[u8])
         requires inside { zone < length self.old.zones }
         requires some { 1 ≤ block_count self.old.block bytes.now }
         requires whole { length bytes.now ≡ block_count self.old.block bytes.now * self.old.block }
         requires allowed { let z = counted self.old.capacity (zone_at self.old zone) in refusal z z.written (block_count self.old.block bytes.now) ≡ Ok tt }
+        requires limits { IsWithinLimits (appended self.old zone bytes.now) }
         ensures { self.new ≡ appended self.old zone bytes.now }
     {
         slots::append(

@@ -1,9 +1,8 @@
 //! Laws of the text of an image. Each function does nothing: what it ensures is the law.
 
-ghost use Rattle.image_store.specs.Laws.{OnlyTextsLoad, SavedTextsLoad};
+ghost use Rattle.image_store.specs.Laws.{OnlyTextsLoad, SavedTextsLoad, Version1BlocksAreKnown};
 
-/// What is saved loads again as the same namespace, where no more zones are open and active than
-/// may be.
+/// What is saved loads again as the same namespace.
 pub fn saved_texts_load()
     ensures { SavedTextsLoad }
 {}
@@ -11,4 +10,10 @@ pub fn saved_texts_load()
 /// Nothing else loads: what does is the text of the namespace that it stands for.
 pub fn only_texts_load()
     ensures { OnlyTextsLoad }
+{}
+
+/// The device has each block size that an image of version 1 can have: however the device's sizes grow,
+/// no such image is refused for its own.
+pub fn version_1_blocks_are_known()
+    ensures { Version1BlocksAreKnown }
 {}

@@ -106,7 +106,7 @@ fn fill_slots<R: Source>(
     ensures blocks { R.tells → Gives ⊥ (λ _. (zones_of geometry.block geometry.capacity zones.now blocks.new, R.rest source.new)) result (blocks_in geometry.block zones.now (R.rest source.old)) }
     ensures failures { CountsLoad (R.failures source.old) (R.failures source.new) result }
 {
-    let block = geometry.block() as usize;
+    let block = geometry.block().bytes() as usize;
     let slot = geometry.slot();
     for (number, zone) in zones.iter().enumerate() {
         let written = zone.written() as usize * block;

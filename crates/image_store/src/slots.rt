@@ -1,11 +1,12 @@
 //! The work on the fields of an image, over slices: its methods only call these.
 
-ghost use Rattle.std.specs.Prelude.{◌≡◌, ◌≤◌, ◌<◌, ◌+◌, ◌*◌, ◌^◌, length, get_or, set, take, drop, Ok};
+ghost use Rattle.std.specs.Prelude.{◌≡◌, ◌≤◌, ◌<◌, ◌+◌, ◌*◌, ◌^◌, length, get_or, set, take, drop, Ok, false};
 ghost use Rattle.zone_resources.specs.Counts.{counts_of};
+ghost use Rattle.zone_state.specs.State.{is_active};
 ghost use Rattle.zone_state.specs.Zone.{refusal, IsZone};
 ghost use Rattle.image_store.specs.Blocks.{block_count, bytes_of};
 ghost use Rattle.image_store.specs.Flat.{IsFlat, IsImage, namespace_of, spliced, empty_record, no_record};
-ghost use Rattle.image_store.specs.Namespace.{appended, in_zone_state, cleared, zone_at};
+ghost use Rattle.image_store.specs.Namespace.{appended, in_zone_state, cleared, zone_at, IsWithinLimits};
 
 use crate::geometry::Geometry;
 use zone_resources::Counts;
@@ -59,6 +60,7 @@ pub fn set_state(
     requires image { IsImage geometry zones.old counts.old blocks.now }
     requires inside { zone < length zones.old }
     requires fits { IsZone to (get_or zones.old zone no_record).written geometry.capacity }
+    requires allowed { IsWithinLimits (in_zone_state (namespace_of geometry zones.old blocks.now) zone to) }
     ensures state { namespace_of geometry zones.new blocks.now ≡ in_zone_state (namespace_of geometry zones.old blocks.now) zone to }
     ensures image { IsImage geometry zones.new counts.new blocks.now }
 {
@@ -67,7 +69,7 @@ pub fn set_state(
     replace(zones, counts, zone, is);
 }
 
-/// Puts a zone in another state, its written blocks forgotten.
+/// Puts a zone in another state, one without resources, its written blocks forgotten.
 pub fn clear(
     geometry: Geometry,
     zones: &mut [Zone],
@@ -79,6 +81,7 @@ pub fn clear(
     requires image { IsImage geometry zones.old counts.old blocks.now }
     requires inside { zone < length zones.old }
     requires fits { IsZone to 0 geometry.capacity }
+    requires idle { is_active to ≡ false }
     ensures state { namespace_of geometry zones.new blocks.now ≡ cleared (namespace_of geometry zones.old blocks.now) zone to }
     ensures image { IsImage geometry zones.new counts.new blocks.now }
 {
@@ -100,10 +103,11 @@ pub fn append(
     requires some { 1 ≤ block_count geometry.block bytes.now }
     requires whole { length bytes.now ≡ block_count geometry.block bytes.now * geometry.block }
     requires allowed { let z = get_or zones.old zone no_record in refusal z z.written (block_count geometry.block bytes.now) ≡ Ok tt }
+    requires limits { IsWithinLimits (appended (namespace_of geometry zones.old blocks.old) zone bytes.now) }
     ensures state { namespace_of geometry zones.new blocks.new ≡ appended (namespace_of geometry zones.old blocks.old) zone bytes.now }
     ensures image { IsImage geometry zones.new counts.new blocks.new }
 {
-    let block = geometry.block() as usize;
+    let block = geometry.block().bytes() as usize;
     let mut is = zones[zone];
     splice(
         blocks,
@@ -129,7 +133,7 @@ pub fn blocks<'a>(
     ensures size { length result.now ≡ count * geometry.block }
     ensures value { result.now ≡ bytes_of (take count (drop first (zone_at (namespace_of geometry zones.now blocks.now) zone).blocks)) }
 {
-    let block = geometry.block() as usize;
+    let block = geometry.block().bytes() as usize;
     let start = zone * geometry.slot() + first * block;
     part(blocks, start, count * block)
 }

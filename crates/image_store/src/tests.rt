@@ -68,9 +68,13 @@ fn an_empty_image_is_its_header_and_records(rt: HostRuntime) -> Result<(), Fail>
 fn an_appended_block_is_saved(rt: HostRuntime) -> Result<(), Fail> {
     let mut image = Image::empty(rt.alloc(), geometry()?)?;
     assert_eq!(rt; image.zones().len(), 4);
-    assert_eq!(rt; image.geometry().block(), 512);
+    assert_eq!(rt; image.geometry().block().bytes(), 512);
     assert_eq!(rt; image.zone(1).written(), 0);
     assert_eq!(rt; image.zone(1).check_write(0, 1), Ok(()));
+    let counts = image.counts();
+    let limits = image.geometry().limits();
+    assert!(rt; counts.opened < limits.open_limit as usize);
+    assert!(rt; counts.active < limits.active_limit as usize);
     image.append(1, &[0x5a; 512]);
     let mut sink = Buffer::new(rt.alloc());
     image.save(&mut sink)?;

@@ -12,7 +12,7 @@ use Rattle.zone_state.specs.declared.status.Status.{Status}
 use Rattle.zone_state.specs.declared.status.TheConstants.Status.{TOO_MANY_ACTIVE_ZONES}
 use Rattle.zone_resources.proofs.AdmissionLemmas.{closes_at}
 use Rattle.zone_resources.proofs.CountLemmas.{counts_follow_one}
-use Rattle.zone_resources.specs.Admission.{admission, open_admission, closing, zone_to_close, wanted_of, IsClosable, IsWithin, after_closing, AdmissionKeepsLimits}
+use Rattle.zone_resources.specs.Admission.{admission, open_admission, closing, zone_to_close, wanted_of, IsClosable, IsWithin, after_closing, AdmissionKeepsLimits, HoldsNoMore, ReleaseKeepsLimits, IdleHoldsNoMore}
 use Rattle.zone_resources.specs.Counts.{open_count, active_count, one_if}
 use Rattle.zone_resources.specs.declared.admission.Limits.{Limits}
 use Rattle.zone_resources.specs.declared.admission.Wanted.{Wanted}
@@ -131,3 +131,17 @@ admission_keeps_limits zones limits holds wanted closed within admitted =
                 follow.1 (rw room.active within.active) (λ both. rw room.active (tests.1 both)) want.was_active;
           },
     )
+
+pub release_keeps_limits : ReleaseKeepsLimits
+release_keeps_limits zones limits number was is within there less =
+    let follow = counts_follow_one zones number was is there in
+    record { opened = omega (arith, follow.0, less.opened, within.opened); active = omega (arith, follow.1, less.active, within.active) }
+
+pub idle_holds_no_more : IdleHoldsNoMore
+idle_holds_no_more Empty was idle = record { opened = omega arith; active = omega arith }
+idle_holds_no_more ImplicitlyOpened was idle = cc
+idle_holds_no_more ExplicitlyOpened was idle = cc
+idle_holds_no_more Closed was idle = cc
+idle_holds_no_more ReadOnly was idle = record { opened = omega arith; active = omega arith }
+idle_holds_no_more Full was idle = record { opened = omega arith; active = omega arith }
+idle_holds_no_more Offline was idle = record { opened = omega arith; active = omega arith }

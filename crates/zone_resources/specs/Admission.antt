@@ -1,12 +1,13 @@
 -- Whether a zone may take resources, and which zone gives way to it.
 use Rattle.std.specs.Prelude.{ℕ, Bool, true, false, Option, Some, None, Result, Ok, Err, List, ◌≡◌, ◌<◌, ◌≤◌, ◌&&◌, not, nat_lt, if◌then◌else◌, position, slice_get, slice_set, MatchOption}
 use Rattle.std.specs.List.{enumerate_from}
-use Rattle.zone_resources.specs.Counts.{open_count, active_count}
+use Rattle.zone_resources.specs.Counts.{open_count, active_count, one_if}
 use Rattle.zone_resources.specs.Holds.{is_destination}
 use Rattle.zone_resources.specs.declared.admission.Limits.{Limits}
 use Rattle.zone_resources.specs.declared.admission.Wanted.{Wanted}
 use Rattle.zone_resources.specs.declared.admission.Wanted.TheVariants.{OpenOnly, OpenAndActive}
 use Rattle.zone_resources.specs.declared.holds.Holds.{Holds}
+use Rattle.zone_state.specs.State.{is_open, is_active}
 use Rattle.zone_state.specs.Zone.{ZoneRecord, in_state}
 use Rattle.zone_state.specs.declared.state.ZoneState.{ZoneState}
 use Rattle.zone_state.specs.declared.state.ZoneState.TheVariants.{Empty, ImplicitlyOpened, Closed}
@@ -90,3 +91,20 @@ AdmissionKeepsLimits =
     × ((number : ℕ) (was is : ZoneRecord)
     → slice_get zones number ≡ Some was → wanted_of was.state ≡ Some wanted
     → IsWithin (slice_set (after_closing closing zones) number is) limits)
+
+-- a zone of the first state holds no resource that one of the second doesn't hold
+pub record HoldsNoMore (is was : ZoneState) : Type 0 where
+  pub opened : one_if (is_open is) ≤ one_if (is_open was)
+  pub active : one_if (is_active is) ≤ one_if (is_active was)
+
+-- zones within their limits stay so where one of them changes and holds no more than it did
+abbrev pub ReleaseKeepsLimits : Type 0
+ReleaseKeepsLimits =
+    (zones : List ZoneRecord) (limits : Limits) (number : ℕ) (was is : ZoneRecord)
+    → IsWithin zones limits → slice_get zones number ≡ Some was → HoldsNoMore is.state was.state
+    → IsWithin (slice_set zones number is) limits
+
+-- a zone of a state without resources holds no more than any other: a zone that is cleared, finished or
+-- lost raises no count
+abbrev pub IdleHoldsNoMore : Type 0
+IdleHoldsNoMore = (is was : ZoneState) → is_active is ≡ false → HoldsNoMore is was

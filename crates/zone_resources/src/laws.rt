@@ -1,7 +1,7 @@
 //! Laws of the definitions that the contracts of this crate cite. Each function does nothing: what
 //! it ensures is the law.
 
-ghost use Rattle.zone_resources.specs.Admission.{AdmissionKeepsLimits, ClosesTheLowest};
+ghost use Rattle.zone_resources.specs.Admission.{AdmissionKeepsLimits, ClosesTheLowest, IdleHoldsNoMore, ReleaseKeepsLimits};
 ghost use Rattle.zone_resources.specs.Counts.{CountsAreFew, CountsFollowOne};
 
 /// Where one zone changes, the counts lose what it was and gain what it is.
@@ -22,4 +22,11 @@ pub fn closes_the_lowest()
 /// Zones within their limits stay so where one gives way and another, admitted, changes its state.
 pub fn admission_keeps_limits()
     ensures { AdmissionKeepsLimits }
+{}
+
+/// Zones within their limits stay so where one of them comes into a state that holds no more than the
+/// one that it was in, as each does that is neither open nor Closed.
+pub fn release_keeps_limits()
+    ensures limits { ReleaseKeepsLimits }
+    ensures idle { IdleHoldsNoMore }
 {}

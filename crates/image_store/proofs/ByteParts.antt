@@ -1,0 +1,43 @@
+-- Parts of bytes are bytes.
+use Rattle.std.proofs.Common.{ℕ, ◌+◌, ◌*◌, ◌<◌, zero, suc, List, [], ◌∷◌, ◌++◌, length, get_or, take, drop, sym, subst, arith}
+use Rattle.std.proofs.lemmas.List.{take-append-drop, get_or-drop}
+use Rattle.zone_state.specs.Zone.{ZoneRecord}
+use Rattle.image_store.specs.Blocks.{AreBytes, blocks_of}
+use Rattle.image_store.specs.Flat.{zones_of, spliced}
+use Rattle.image_store.specs.Namespace.{no_zone}
+
+pub front_fit : (xs ys : List ℕ) → AreBytes (xs ++ ys) → AreBytes xs
+front_fit [] ys fit i = omega arith
+front_fit (x ∷ xs) ys fit zero = fit 0
+front_fit (x ∷ xs) ys fit (suc i) = front_fit xs ys (λ k. fit (suc k)) i
+
+pub rest_fit : (xs ys : List ℕ) → AreBytes (xs ++ ys) → AreBytes ys
+rest_fit [] ys fit = fit
+rest_fit (x ∷ xs) ys fit = rest_fit xs ys (λ k. fit (suc k))
+
+pub bytes_from : (n : ℕ) (xs : List ℕ) → AreBytes xs → AreBytes (drop n xs)
+bytes_from n xs fit i = subst (λ (b : ℕ). b < 256) (sym (get_or-drop n xs i 0)) (fit (n + i))
+
+pub bytes_to : (n : ℕ) (xs : List ℕ) → AreBytes xs → AreBytes (take n xs)
+bytes_to n xs fit = front_fit (take n xs) (drop n xs) (subst AreBytes (sym (take-append-drop n xs)) fit)
+
+both_fit : (xs ys : List ℕ) → AreBytes xs → AreBytes ys → AreBytes (xs ++ ys)
+both_fit [] ys front back i = back i
+both_fit (x ∷ xs) ys front back zero = front 0
+both_fit (x ∷ xs) ys front back (suc i) = both_fit xs ys (λ k. front (suc k)) back i
+
+pub spliced_fit : (at : ℕ) (new xs : List ℕ) → AreBytes new → AreBytes xs → AreBytes (spliced at new xs)
+spliced_fit at new xs brought fit =
+    both_fit (take at xs) (new ++ drop (at + length new) xs) (bytes_to at xs fit)
+    (both_fit new (drop (at + length new) xs) brought (bytes_from (at + length new) xs fit))
+
+pub blocks_fit : (b n : ℕ) (xs : List ℕ) → AreBytes xs → (i : ℕ) → AreBytes (get_or (blocks_of b n xs) i [])
+blocks_fit b zero xs fit i = λ k. omega arith
+blocks_fit b (suc n) xs fit zero = bytes_to b xs fit
+blocks_fit b (suc n) xs fit (suc i) = blocks_fit b n (drop b xs) (bytes_from b xs fit) i
+
+pub zones_fit : (b c : ℕ) (zs : List ZoneRecord) (xs : List ℕ) → AreBytes xs
+    → (z i : ℕ) → AreBytes (get_or (get_or (zones_of b c zs xs) z no_zone).blocks i [])
+zones_fit b c [] xs fit z i = λ k. omega arith
+zones_fit b c (r ∷ zs) xs fit zero i = blocks_fit b r.written xs fit i
+zones_fit b c (r ∷ zs) xs fit (suc z) i = zones_fit b c zs (drop (c * b) xs) (bytes_from (c * b) xs fit) z i

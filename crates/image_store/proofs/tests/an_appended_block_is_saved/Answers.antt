@@ -1,0 +1,42 @@
+use Rattle.std.proofs.Common.{◌≡◌, ℕ, ◌<◌, ◌≤◌, Bool, true, false, List, length, get_or, set, Some, arith, ap, sym, subst, ◌∙◌}
+use Rattle.std.specs.Prelude.{slice_get}
+use Rattle.std.proofs.lemmas.List.{length-map, map-set}
+use Rattle.std.proofs.lemmas.Option.{slice_get-get_or}
+use Rattle.zone_state.specs.State.{is_open, is_active}
+use Rattle.zone_state.specs.Zone.{ZoneRecord}
+use Rattle.zone_resources.specs.Admission.{IsWithin}
+use Rattle.zone_resources.specs.Counts.{open_count, active_count, one_if}
+use Rattle.zone_resources.specs.declared.admission.Limits.{Limits}
+use Rattle.zone_resources.specs.declared.counts.Counts.{Counts}
+use Rattle.zone_resources.proofs.CountLemmas.{counts_follow_one}
+use Rattle.image_store.specs.Blocks.{as_blocks}
+use Rattle.image_store.specs.Flat.{no_record}
+use Rattle.image_store.specs.Geometry.{Shape}
+use Rattle.image_store.specs.Namespace.{ZoneBlocks, counted, grown, records, zone_at}
+use Rattle.image_store.proofs.tests.an_appended_block_is_saved.Goals as goal
+
+most_one : (counted : Bool) → one_if counted ≤ 1
+most_one true = omega arith
+most_one false = omega arith
+
+-- where one more zone may be open and active, any one may change
+one_more : (zs : List ZoneRecord) (limits : Limits) (z : ℕ) (is : ZoneRecord)
+    → z < length zs → open_count zs < limits.open_limit → active_count zs < limits.active_limit → IsWithin (set zs z is) limits
+one_more zs limits z is inside opened active =
+    let was = get_or zs z no_record in
+    let follow = counts_follow_one zs z was is (slice_get-get_or zs z no_record inside) in
+    record {
+      opened = omega (arith, follow.0, most_one (is_open is.state));
+      active = omega (arith, follow.1, most_one (is_active is.state));
+    }
+
+pub append-requires-clause-limits : goal.append-requires-clause-limits
+append-requires-clause-limits g c =
+    let image = c.in_ok-image.image in
+    let zones : length c.zones.result.now ≡ length (records image) = ap length c.zones.ensures in
+    let inside : 1 < length (records image) = omega (arith, zones) in
+    let opened : open_count (records image) < image.limits.open_limit =
+    omega (arith, ap (λ (x : Counts). x.opened) c.counts-counts.ensures, ap (λ (x : Limits). x.open_limit) c.limits-limits.ensures, ap (λ (x : Shape). x.limits.open_limit) c.geometry-3.ensures.value) in
+    let active : active_count (records image) < image.limits.active_limit =
+    omega (arith, ap (λ (x : Counts). x.active) c.counts-counts.ensures, ap (λ (x : Limits). x.active_limit) c.limits-limits.ensures, ap (λ (x : Shape). x.limits.active_limit) c.geometry-3.ensures.value) in
+    rw map-set (one_more (records image) image.limits 1 _ inside opened active)

@@ -1,0 +1,30 @@
+//! The registers at entry.
+
+ghost use Rattle.std.specs.Prelude.{◌≡◌};
+ghost use Rattle.program_interface.specs.Entry.{registers_at_entry};
+
+use crate::area::{Area, STACK_BYTES};
+
+/// The number of registers, R0 to R10 (RFC 9669, 3).
+pub const REGISTERS: usize = 11;
+
+/// The registers at the start of a block's run: R1, R2 and R3 are the addresses of context, block and
+/// scratch, R10 is the end of the stack, and all others are 0 (profile).
+#[inline(always)]
+pub fn entry_registers() -> [u64; REGISTERS]
+    ensures { result ≡ registers_at_entry }
+{
+    [
+        0,
+        Area::Context.address(),
+        Area::Block.address(),
+        Area::Scratch.address(),
+        0,
+        0,
+        0,
+        0,
+        0,
+        0,
+        Area::Stack.address() + STACK_BYTES as u64,
+    ]
+}

@@ -1,0 +1,21 @@
+//! What the device promises a program: the sizes of a block and of what may be emitted for one, the
+//! areas of memory, the context, the registers at entry, and the form of what is emitted.
+//! `examples/pifnjarl.h` says the same to programs in C.
+#![tactic(auto)]
+
+mod area;
+mod block_size;
+mod context;
+mod entry;
+mod run_sizes;
+#[cfg(test)]
+mod tests;
+
+pub use area::{Area, CONTEXT_BYTES, SCRATCH_BYTES, STACK_BYTES};
+pub use block_size::{BLOCK_SIZES, BlockSize, LARGEST_BLOCK};
+pub use context::Context;
+pub use entry::{REGISTERS, entry_registers};
+pub use run_sizes::RunSizes;
+
+/// The most slots of 8 bytes that a program has (profile).
+pub const MOST_SLOTS: usize = 4096;
