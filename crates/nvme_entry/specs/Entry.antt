@@ -9,7 +9,8 @@ use Rattle.nvme_entry.specs.Checks.{demand, first_refused, allowed}
 use Rattle.nvme_entry.specs.declared.command.Opcode.{Opcode}
 use Rattle.nvme_entry.specs.declared.command.Opcode.TheVariants as opcode
 use Rattle.nvme_entry.specs.declared.command.Command.{Command}
-use Rattle.nvme_entry.specs.declared.command.Command.TheVariants.{Write, Read, Send, Receive, Append}
+use Rattle.nvme_entry.specs.declared.command.Command.TheVariants.{Standard}
+use Rattle.nvme_entry.specs.declared.command.StandardCommand.TheVariants.{Write, Read, Send, Receive, Append}
 use Rattle.nvme_entry.specs.declared.command.TheConstants.{MOST_TRANSFER}
 use Rattle.nvme_entry.specs.declared.filter.ZoneFilter.TheVariants as filter
 use Rattle.nvme_entry.specs.Filter.{filter_of}
@@ -74,12 +75,13 @@ is_partial entry = slice_index entry 54 % 2 == 1
 
 -- the command that the fields name
 abbrev pub command_of : Opcode → List ℕ → Command
-command_of opcode.Write entry = Write (starting_lba entry) (block_count entry)
-command_of opcode.Read entry = Read (starting_lba entry) (block_count entry)
-command_of opcode.ZoneManagementSend entry = Send (starting_lba entry) (unwrap_or (action_of (slice_index entry 52)) action.Close) (selects_all entry)
+command_of opcode.Write entry = Standard (Write (starting_lba entry) (block_count entry))
+command_of opcode.Read entry = Standard (Read (starting_lba entry) (block_count entry))
+command_of opcode.ZoneManagementSend entry =
+    Standard (Send (starting_lba entry) (unwrap_or (action_of (slice_index entry 52)) action.Close) (selects_all entry))
 command_of opcode.ZoneManagementReceive entry =
-    Receive (starting_lba entry) (unwrap_or (dwords_of (field entry 48 4)) 1) (unwrap_or (filter_of (slice_index entry 53)) filter.All) (is_partial entry)
-command_of opcode.ZoneAppend entry = Append (starting_lba entry) (block_count entry)
+    Standard (Receive (starting_lba entry) (unwrap_or (dwords_of (field entry 48 4)) 1) (unwrap_or (filter_of (slice_index entry 53)) filter.All) (is_partial entry))
+command_of opcode.ZoneAppend entry = Standard (Append (starting_lba entry) (block_count entry))
 
 -- the checks of the fields of a command (profile)
 abbrev pub field_checks : Opcode → List ℕ → List (Option Status)

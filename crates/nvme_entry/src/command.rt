@@ -118,9 +118,16 @@ impl DwordCount {
     }
 }
 
-/// A command with its fields. `lba` is a logical block address.
+/// What an entry asks for.
 #[derive(Clone, Copy, Debug, PartialEq, Eq)]
 pub enum Command {
+    /// A command of the NVM Command Set or of the Zoned Namespace Command Set.
+    Standard(StandardCommand),
+}
+
+/// A command of the standards, with its fields. `lba` is a logical block address.
+#[derive(Clone, Copy, Debug, PartialEq, Eq)]
+pub enum StandardCommand {
     /// Writes blocks from `lba` on, which is the write pointer of its zone
     /// (NVM Command Set 1.0, 3.2.6; ZNS 1.1, 3.3.6).
     Write {

@@ -4,7 +4,7 @@ ghost use Rattle.std.specs.Prelude.{◌≡◌, ◌+◌, ◌*◌, ◌^◌, ◌≤
 ghost use Rattle.nvme_entry.specs.Checks.{allowed, first_refused};
 ghost use Rattle.nvme_entry.specs.Entry.{decoded, command_of, field_checks, action_of, identifier_of, starting_lba, block_count, field, fuse_of, namespace_of};
 
-use crate::command::{BlockCount, Command, DwordCount, Opcode};
+use crate::command::{BlockCount, Command, DwordCount, Opcode, StandardCommand};
 use crate::filter::ZoneFilter;
 use byteorder::{ByteOrder, LittleEndian};
 use zone_state::{Action, Status};
@@ -51,9 +51,9 @@ impl Entry {
         let lba = Entry::lba(entry);
         let blocks = Entry::blocks(entry);
         match opcode {
-            Opcode::Write => Ok(Command::Write { lba, blocks }),
-            Opcode::Read => Ok(Command::Read { lba, blocks }),
-            Opcode::ZoneAppend => Ok(Command::Append { lba, blocks }),
+            Opcode::Write => Ok(Command::Standard(StandardCommand::Write { lba, blocks })),
+            Opcode::Read => Ok(Command::Standard(StandardCommand::Read { lba, blocks })),
+            Opcode::ZoneAppend => Ok(Command::Standard(StandardCommand::Append { lba, blocks })),
             Opcode::ZoneManagementSend => Entry::send(entry),
             Opcode::ZoneManagementReceive => Entry::receive(entry),
         }
@@ -74,11 +74,11 @@ impl Entry {
         let Some(action) = action(entry[52]) else {
             return Err(Status::INVALID_FIELD_IN_COMMAND);
         };
-        Ok(Command::Send {
+        Ok(Command::Standard(StandardCommand::Send {
             lba,
             action,
             select_all: entry[53] % 2 == 1,
-        })
+        }))
     }
 
     /// A Zone Management Receive.
@@ -95,12 +95,12 @@ impl Entry {
         let Some(filter) = ZoneFilter::from_code(entry[53]) else {
             return Err(Status::INVALID_FIELD_IN_COMMAND);
         };
-        Ok(Command::Receive {
+        Ok(Command::Standard(StandardCommand::Receive {
             lba,
             dwords,
             filter,
             partial: entry[54] % 2 == 1,
-        })
+        }))
     }
 
     fn fuse(entry: &[u8; 64]) -> u8

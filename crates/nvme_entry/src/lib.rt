@@ -11,7 +11,7 @@ mod report;
 #[cfg(test)]
 mod tests;
 
-pub use command::{BlockCount, Command, DwordCount, MOST_TRANSFER, Opcode};
+pub use command::{BlockCount, Command, DwordCount, MOST_TRANSFER, Opcode, StandardCommand};
 pub use completion::Completion;
 pub use entry::Entry;
 pub use filter::ZoneFilter;

@@ -21,21 +21,21 @@ fn entries_name_commands(rt: HostRuntime) {
     let cases = [
         (
             entry(&[(0, 0x0001_007D), (1, 1), (10, 8)]),
-            Command::Append {
+            StandardCommand::Append {
                 lba: 8,
                 blocks: one,
             },
         ),
         (
             entry(&[(0, 0x0002_0002), (1, 1), (10, 8), (11, 2)]),
-            Command::Read {
+            StandardCommand::Read {
                 lba: high,
                 blocks: one,
             },
         ),
         (
             entry(&[(0, 0x0009_0079), (1, 1), (10, 8), (13, 0x0000_0103)]),
-            Command::Send {
+            StandardCommand::Send {
                 lba: 8,
                 action: Action::Open,
                 select_all: true,
@@ -43,7 +43,7 @@ fn entries_name_commands(rt: HostRuntime) {
         ),
         (
             entry(&[(0, 0x0009_0079), (1, 1), (10, 8), (13, 0xFFFF_FE04)]),
-            Command::Send {
+            StandardCommand::Send {
                 lba: 8,
                 action: Action::Reset,
                 select_all: false,
@@ -51,12 +51,13 @@ fn entries_name_commands(rt: HostRuntime) {
         ),
     ];
     for (bytes, command) in cases {
-        assert_eq!(rt; Entry::decode(&bytes), Ok(command));
+        assert_eq!(rt; Entry::decode(&bytes), Ok(Command::Standard(command)));
     }
     let most = entry(&[(0, 0x02), (1, 1), (12, 0xFFFF_FFFF)]);
     let blocks = BlockCount::from_zero_based(0xFFFF);
     assert_eq!(rt; blocks.get(), 65536);
-    assert_eq!(rt; Entry::decode(&most), Ok(Command::Read { lba: 0, blocks }));
+    let read = StandardCommand::Read { lba: 0, blocks };
+    assert_eq!(rt; Entry::decode(&most), Ok(Command::Standard(read)));
 }
 
 #[test]
@@ -65,23 +66,23 @@ fn entries_name_reports(rt: HostRuntime) -> Result<(), Fail> {
     assert_eq!(rt; forty.bytes(), 160);
     assert_eq!(rt;
         Entry::decode(&entry(&[(0, 0x0001_007A), (1, 1), (12, 39), (13, 0x0001_0000)])),
-        Ok(Command::Receive {
+        Ok(Command::Standard(StandardCommand::Receive {
             lba: 0,
             dwords: forty,
             filter: ZoneFilter::All,
             partial: true,
-        })
+        }))
     );
     let most = DwordCount::from_zero_based(32767).ok_or("the most")?;
     assert_eq!(rt; most.bytes(), MOST_TRANSFER);
     assert_eq!(rt;
         Entry::decode(&entry(&[(0, 0x7A), (1, 1), (10, 9), (12, 32767), (13, 0xFFFE_0100)])),
-        Ok(Command::Receive {
+        Ok(Command::Standard(StandardCommand::Receive {
             lba: 9,
             dwords: most,
             filter: ZoneFilter::Empty,
             partial: false,
-        })
+        }))
     );
     Ok(())
 }

@@ -1,26 +1,27 @@
 -- Zones that fit a namespace, and the resources that they hold.
-use Rattle.std.proofs.Common.{◌≡◌, ℕ, zero, suc, ◌<◌, ◌≤◌, List, [], ◌∷◌, length, get_or, set, Some, ap, sym, subst, ◌∙◌, arith}
+use Rattle.std.proofs.Common.{◌≡◌, ℕ, zero, suc, ◌<◌, List, [], ◌∷◌, length, get_or, set, Some, ap, sym, subst, ◌∙◌, arith}
 use Rattle.std.specs.Prelude.{slice_get, slice_set}
 use Rattle.std.proofs.lemmas.List.{length-map, length-set, get_or-map, map-set}
 use Rattle.std.proofs.lemmas.Option.{slice_get-get_or}
-use Rattle.zone_state.specs.State.{is_open, is_active}
 use Rattle.zone_state.specs.Zone.{ZoneRecord, IsZone}
-use Rattle.zone_state.specs.declared.state.ZoneState.{ZoneState}
-use Rattle.zone_resources.specs.Admission.{IsWithin}
-use Rattle.zone_resources.specs.Counts.{one_if}
-use Rattle.zone_resources.proofs.CountLemmas.{counts_follow_one}
+use Rattle.zone_resources.specs.Admission.{HoldsNoMore, IsWithin}
+use Rattle.zone_resources.proofs.LimitLemmas.{release_keeps_limits}
+use Rattle.image_store.specs.Blocks.{AreBytes}
 use Rattle.image_store.specs.Geometry.{IsShape}
-use Rattle.image_store.specs.Namespace.{ZoneBlocks, ZonedNamespace, no_zone, zone_at, with_zone, counted, shape, IsNamespace}
-use Rattle.zns_commands.specs.Address.{records, record_at}
-use Rattle.zns_commands.specs.Laws.{IsSound}
+use Rattle.image_store.specs.Namespace.{ZoneBlocks, ZonedNamespace, no_zone, zone_at, with_zone, counted, shape, records, IsNamespace, IsWithinLimits}
+use Rattle.zns_commands.specs.Address.{record_at}
 
--- what holds of one zone: its state allows its blocks, and each of them is whole
+-- what holds of one zone: its state allows its blocks, and each of them is whole and of bytes
 pub record FitsIn (block capacity : ℕ) (zone : ZoneBlocks) : Type 0 where
   pub state : IsZone zone.state (length zone.blocks) capacity
   pub whole : (i : ℕ) → i < length zone.blocks → length (get_or zone.blocks i []) ≡ block
+  pub bytes : (i : ℕ) → AreBytes (get_or zone.blocks i [])
+
+pub no_bytes : AreBytes []
+no_bytes i = omega arith
 
 pub zone_fits : (ns : ZonedNamespace) (z : ℕ) → IsNamespace ns → z < length ns.zones → FitsIn ns.block ns.capacity (zone_at ns z)
-zone_fits ns z sound inside = record { state = sound.fits z inside; whole = sound.whole z }
+zone_fits ns z sound inside = record { state = sound.fits z inside; whole = sound.whole z; bytes = sound.bytes z }
 
 -- the same of each zone is the same of all of them
 pub each_fits : (b c : ℕ) (zones : List ZoneBlocks) → ((z : ℕ) → z < length zones → FitsIn b c (get_or zones z no_zone))
@@ -29,14 +30,26 @@ each_fits b c [] all z i h = absurd (omega arith)
 each_fits b c (zone ∷ zones) all zero i h = (all 0 (omega arith)).whole i h
 each_fits b c (zone ∷ zones) all (suc z) i h = each_fits b c zones (λ k inside. all (suc k) (omega arith)) z i h
 
+pub each_bytes : (b c : ℕ) (zones : List ZoneBlocks) → ((z : ℕ) → z < length zones → FitsIn b c (get_or zones z no_zone))
+    → (z i : ℕ) → AreBytes (get_or (get_or zones z no_zone).blocks i [])
+each_bytes b c [] all z i = no_bytes
+each_bytes b c (zone ∷ zones) all zero i = (all 0 (omega arith)).bytes i
+each_bytes b c (zone ∷ zones) all (suc z) i = each_bytes b c zones (λ k inside. all (suc k) (omega arith)) z i
+
+-- a namespace with other zones, as many of them
+abbrev with_zones : ZonedNamespace → List ZoneBlocks → ZonedNamespace
+with_zones ns zones = record { block = ns.block; size = ns.size; capacity = ns.capacity; limits = ns.limits; zones = zones }
+
 pub namespace_of_zones : (ns : ZonedNamespace) (zones : List ZoneBlocks)
     → IsShape (shape ns) → length zones ≡ length ns.zones
     → ((z : ℕ) → z < length zones → FitsIn ns.block ns.capacity (get_or zones z no_zone))
-    → IsNamespace (record { block = ns.block; size = ns.size; capacity = ns.capacity; limits = ns.limits; zones = zones })
-namespace_of_zones ns zones known count all = record {
+    → IsWithinLimits (with_zones ns zones) → IsNamespace (with_zones ns zones)
+namespace_of_zones ns zones known count all within = record {
   shape = subst (λ (n : ℕ). IsShape (record { block = ns.block; zones = n; size = ns.size; capacity = ns.capacity; limits = ns.limits })) (sym count) known;
   fits = λ z inside. (all z inside).state;
+  within = within;
   whole = each_fits ns.block ns.capacity zones all;
+  bytes = each_bytes ns.block ns.capacity zones all;
 }
 
 each_set : (P : ZoneBlocks → Type 0) (zones : List ZoneBlocks) (z : ℕ) (zone : ZoneBlocks)
@@ -48,17 +61,12 @@ each_set P (x ∷ zs) zero r all here (suc y) h = all (suc y) h
 each_set P (x ∷ zs) (suc z) r all here zero h = all 0 (omega arith)
 each_set P (x ∷ zs) (suc z) r all here (suc y) h = each_set P zs z r (λ k in_list. all (suc k) (omega arith)) here y (omega arith)
 
--- a zone that fits, in the place of another
+-- a zone that fits, in the place of another, where the limits allow it
 pub set_namespace : (ns : ZonedNamespace) (z : ℕ) (zone : ZoneBlocks)
-    → IsNamespace ns → FitsIn ns.block ns.capacity zone → IsNamespace (with_zone ns z zone)
-set_namespace ns z zone sound fits =
+    → IsNamespace ns → FitsIn ns.block ns.capacity zone → IsWithinLimits (with_zone ns z zone) → IsNamespace (with_zone ns z zone)
+set_namespace ns z zone sound fits within =
     namespace_of_zones ns (set ns.zones z zone) sound.shape (length-set ns.zones z zone)
-    (each_set (FitsIn ns.block ns.capacity) ns.zones z zone (λ y inside. zone_fits ns y sound inside) fits)
-
--- a state holds no more resources than another one
-pub record HoldsNoMore (is was : ZoneState) : Type 0 where
-  pub opened : one_if (is_open is) ≤ one_if (is_open was)
-  pub active : one_if (is_active is) ≤ one_if (is_active was)
+    (each_set (FitsIn ns.block ns.capacity) ns.zones z zone (λ y inside. zone_fits ns y sound inside) fits) within
 
 pub record_there : (ns : ZonedNamespace) (z : ℕ) → z < length ns.zones → slice_get (records ns) z ≡ Some (record_at ns z)
 record_there ns z inside =
@@ -70,16 +78,12 @@ pub records_with : (ns : ZonedNamespace) (z : ℕ) (zone : ZoneBlocks) → recor
 records_with ns z zone = map-set (counted ns.capacity) ns.zones z zone
 
 -- one zone that comes into a state which holds no more
-one_within : (ns : ZonedNamespace) (z : ℕ) (zone : ZoneBlocks) → z < length ns.zones → IsWithin (records ns) ns.limits
-    → HoldsNoMore zone.state (zone_at ns z).state → IsWithin (records (with_zone ns z zone)) ns.limits
+pub one_within : (ns : ZonedNamespace) (z : ℕ) (zone : ZoneBlocks) → z < length ns.zones → IsWithinLimits ns
+    → HoldsNoMore zone.state (zone_at ns z).state → IsWithinLimits (with_zone ns z zone)
 one_within ns z zone inside within less =
-    let follow = counts_follow_one (records ns) z (record_at ns z) (counted ns.capacity zone) (record_there ns z inside) in
     subst (λ (zones : List ZoneRecord). IsWithin zones ns.limits) (sym (records_with ns z zone))
-    (record { opened = omega (arith, follow.0, less.opened, within.opened); active = omega (arith, follow.1, less.active, within.active) })
+    (release_keeps_limits (records ns) ns.limits z (record_at ns z) (counted ns.capacity zone) within (record_there ns z inside) less)
 
-pub one_sound : (ns : ZonedNamespace) (z : ℕ) (zone : ZoneBlocks) → IsSound ns → z < length ns.zones
-    → FitsIn ns.block ns.capacity zone → HoldsNoMore zone.state (zone_at ns z).state → IsSound (with_zone ns z zone)
-one_sound ns z zone sound inside fits less = record {
-  namespace = set_namespace ns z zone sound.namespace fits;
-  within = one_within ns z zone inside sound.within less;
-}
+pub one_sound : (ns : ZonedNamespace) (z : ℕ) (zone : ZoneBlocks) → IsNamespace ns → z < length ns.zones
+    → FitsIn ns.block ns.capacity zone → HoldsNoMore zone.state (zone_at ns z).state → IsNamespace (with_zone ns z zone)
+one_sound ns z zone sound inside fits less = set_namespace ns z zone sound fits (one_within ns z zone inside sound.within less)

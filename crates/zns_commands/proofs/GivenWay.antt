@@ -1,13 +1,13 @@
 -- Namespaces in which a zone gave way to another.
-use Rattle.std.proofs.Common.{◌≡◌, ◌≢◌, ℕ, ◌<◌, Bool, true, false, cond, List, length, Option, Some, None, Result, Ok, Err, refl, ap, sym, subst, ◌∙◌, get_or-set_other}
+use Rattle.std.proofs.Common.{arith, ◌≡◌, ◌≢◌, ℕ, ◌<◌, Bool, true, false, cond, List, length, Option, Some, None, Result, Ok, Err, refl, ap, sym, subst, ◌∙◌, get_or-set_other}
 use Rattle.std.specs.Prelude.{slice_set, nat_lt}
 use Rattle.std.specs.Option.{ForSome}
 use Rattle.zone_state.specs.Zone.{ZoneRecord}
 use Rattle.zone_state.specs.declared.state.ZoneState.{ZoneState}
-use Rattle.zone_state.specs.declared.state.ZoneState.TheVariants.{Closed}
+use Rattle.zone_state.specs.declared.state.ZoneState.TheVariants.{Empty, ImplicitlyOpened, ExplicitlyOpened, Closed, ReadOnly, Full, Offline}
 use Rattle.zone_state.specs.declared.status.Status.{Status}
 use Rattle.zone_state.specs.declared.status.TheConstants.Status.{TOO_MANY_ACTIVE_ZONES}
-use Rattle.zone_resources.specs.Admission.{admission, open_admission, closing, zone_to_close, wanted_of, IsClosable, IsWithin, after_closing, closed_in}
+use Rattle.zone_resources.specs.Admission.{admission, open_admission, closing, zone_to_close, wanted_of, IsClosable, IsWithin, HoldsNoMore, after_closing, closed_in}
 use Rattle.zone_resources.specs.Counts.{open_count, active_count}
 use Rattle.zone_resources.specs.declared.admission.Limits.{Limits}
 use Rattle.zone_resources.specs.declared.admission.Wanted.{Wanted}
@@ -16,13 +16,12 @@ use Rattle.zone_resources.specs.declared.holds.Holds.{Holds}
 use Rattle.zone_resources.proofs.AdmissionLemmas.{closes_at}
 use Rattle.zone_resources.proofs.LimitLemmas.{admission_keeps_limits}
 use Rattle.image_store.specs.Blocks.{as_blocks}
-use Rattle.image_store.specs.Namespace.{ZoneBlocks, ZonedNamespace, no_zone, zone_at, with_zone, counted, grown, IsNamespace}
-use Rattle.zns_commands.specs.Address.{records, record_at}
+use Rattle.image_store.specs.Namespace.{ZoneBlocks, ZonedNamespace, no_zone, zone_at, with_zone, counted, grown, records, IsNamespace, IsWithinLimits}
+use Rattle.zns_commands.specs.Address.{record_at}
 use Rattle.zns_commands.specs.Resources.{room_by, room_for, closed, arrived, moved_to, CanGiveWay}
 use Rattle.zns_commands.specs.Write.{written}
-use Rattle.zns_commands.specs.Laws.{IsSound}
-use Rattle.zns_commands.proofs.Rooms.{can_give_way}
-use Rattle.zns_commands.proofs.Fits.{FitsIn, set_namespace, HoldsNoMore, record_there, records_with, one_sound}
+use Rattle.zns_commands.proofs.Rooms.{closable_zone, closable_state, other_zone, closed_fits}
+use Rattle.zns_commands.proofs.Fits.{FitsIn, set_namespace, record_there, records_with, one_within}
 
 -- the zone that gives way may be closed
 closing_closable : (zones : List ZoneRecord) (holds : Holds) (free : Bool) (found closed : Option ℕ)
@@ -37,7 +36,7 @@ guarded : (b : Bool) (r : Result (Option ℕ) Status) (s : Status) (closed : Opt
 guarded true r s closed e = e
 guarded false r s closed e = cc
 
-admitted_closable : (zones : List ZoneRecord) (limits : Limits) (holds : Holds) (wanted : Wanted) (closed : Option ℕ)
+pub admitted_closable : (zones : List ZoneRecord) (limits : Limits) (holds : Holds) (wanted : Wanted) (closed : Option ℕ)
     → admission zones limits holds wanted ≡ Ok closed → ForSome closed (IsClosable holds zones)
 admitted_closable zones limits holds OpenOnly closed e =
     closing_closable zones holds (nat_lt (open_count zones) limits.open_limit) (zone_to_close holds zones) closed refl e
@@ -60,46 +59,92 @@ closed_with_within ns z zone (Some k) inside within =
     ∙ sym (records_with (with_zone ns k given) z zone)))
     within
 
-closed_with_namespace : (ns : ZonedNamespace) (z : ℕ) (zone : ZoneBlocks) (gives : Option ℕ)
-    → IsNamespace ns → CanGiveWay ns z gives → FitsIn ns.block ns.capacity zone → IsNamespace (with_zone (closed ns gives) z zone)
-closed_with_namespace ns z zone None sound give fits = set_namespace ns z zone sound fits
-closed_with_namespace ns z zone (Some k) sound give fits =
-    let given : ZoneBlocks = record { state = Closed; blocks = (zone_at ns k).blocks } in
-    set_namespace (with_zone ns k given) z zone
-    (set_namespace ns k given sound (record { state = give.fits k refl; whole = sound.whole k })) fits
+-- that zone holds no less open than Closed
+closed_holds_no_more : (s : ZoneState) → s ≡ ImplicitlyOpened → HoldsNoMore Closed s
+closed_holds_no_more ImplicitlyOpened is = record { opened = omega arith; active = omega arith }
+closed_holds_no_more Empty is = cc
+closed_holds_no_more ExplicitlyOpened is = cc
+closed_holds_no_more Closed is = cc
+closed_holds_no_more ReadOnly is = cc
+closed_holds_no_more Full is = cc
+closed_holds_no_more Offline is = cc
 
--- room for a zone: any state that fits it then keeps the namespace sound
+closed_limits : (ns : ZonedNamespace) (holds : Holds) (gives : Option ℕ) → IsNamespace ns
+    → ForSome gives (IsClosable holds (records ns)) → IsWithinLimits (closed ns gives)
+closed_limits ns holds None sound closable = sound.within
+closed_limits ns holds (Some k) sound closable =
+    let may = closable k refl in
+    one_within ns k (record { state = Closed; blocks = (zone_at ns k).blocks }) (closable_zone ns holds k may) sound.within
+    (closed_holds_no_more (zone_at ns k).state (closable_state ns holds k may))
+
+can_give_way : (ns : ZonedNamespace) (holds : Holds) (zone : ℕ) (wanted : Wanted) (gives : Option ℕ) → IsNamespace ns
+    → wanted_of (zone_at ns zone).state ≡ Some wanted → ForSome gives (IsClosable holds (records ns)) → CanGiveWay ns zone gives
+can_give_way ns holds zone wanted gives sound wants closable = record {
+  inside = λ z is. closable_zone ns holds z (closable z is);
+  fits = λ z is.
+      closed_fits (zone_at ns z).state (length (zone_at ns z).blocks) ns.capacity (closable_state ns holds z (closable z is))
+      (sound.fits z (closable_zone ns holds z (closable z is)));
+  other = λ is. other_zone ns holds zone wanted zone wants (closable zone is) refl;
+  limits = closed_limits ns holds gives sound closable;
+}
+
+pub no_one_gives_way : (ns : ZonedNamespace) (zone : ℕ) → IsNamespace ns → CanGiveWay ns zone None
+no_one_gives_way ns zone sound = record {
+  inside = λ z is. cc;
+  fits = λ z is. cc;
+  other = λ is. cc;
+  limits = sound.within;
+}
+
+-- a namespace in which a zone gave way
+closed_namespace : (ns : ZonedNamespace) (z : ℕ) (gives : Option ℕ) → IsNamespace ns → CanGiveWay ns z gives → IsNamespace (closed ns gives)
+closed_namespace ns z None sound give = sound
+closed_namespace ns z (Some k) sound give =
+    set_namespace ns k (record { state = Closed; blocks = (zone_at ns k).blocks }) sound
+    (record { state = give.fits k refl; whole = sound.whole k; bytes = sound.bytes k }) give.limits
+
+closed_fit : (ns : ZonedNamespace) (gives : Option ℕ) (zone : ZoneBlocks) → FitsIn ns.block ns.capacity zone
+    → FitsIn (closed ns gives).block (closed ns gives).capacity zone
+closed_fit ns None zone fits = fits
+closed_fit ns (Some k) zone fits = fits
+
+-- room for a zone: the limits then allow it any state, or where it wants none, each that holds no more
 pub record HasRoom (ns : ZonedNamespace) (z : ℕ) (gives : Option ℕ) : Type 0 where
-  pub other : gives ≢ Some z
-  pub sound : (zone : ZoneBlocks) → FitsIn ns.block ns.capacity zone
+  pub give : CanGiveWay ns z gives
+  pub limits : (zone : ZoneBlocks)
       → (wanted_of (zone_at ns z).state ≡ None → HoldsNoMore zone.state (zone_at ns z).state)
-      → IsSound (with_zone (closed ns gives) z zone)
+      → IsWithinLimits (with_zone (closed ns gives) z zone)
 
 room_of_wanted : (ns : ZonedNamespace) (holds : Holds) (z : ℕ) (gives : Option ℕ) (wanted : Option Wanted)
-    → IsSound ns → z < length ns.zones → wanted_of (zone_at ns z).state ≡ wanted → room_by ns holds wanted ≡ Ok gives → HasRoom ns z gives
+    → IsNamespace ns → z < length ns.zones → wanted_of (zone_at ns z).state ≡ wanted → room_by ns holds wanted ≡ Ok gives → HasRoom ns z gives
 room_of_wanted ns holds z gives None sound inside wants room =
     let none : None ≡ gives = cc in
     subst (HasRoom ns z) none (record {
-      other = λ is. cc;
-      sound = λ zone fits less. one_sound ns z zone sound inside fits (less wants);
+      give = no_one_gives_way ns z sound;
+      limits = λ zone less. one_within ns z zone inside sound.within (less wants);
     })
 room_of_wanted ns holds z gives (Some wanted) sound inside wants room =
     let closable = admitted_closable (records ns) ns.limits holds wanted gives room in
-    let give = can_give_way ns holds z wanted gives sound.namespace wants closable in
+    let give = can_give_way ns holds z wanted gives sound wants closable in
     let keeps = admission_keeps_limits (records ns) ns.limits holds wanted gives sound.within room in
     record {
-      other = give.other;
-      sound = λ zone fits less. record {
-        namespace = closed_with_namespace ns z zone gives sound.namespace give fits;
-        within = closed_with_within ns z zone gives give.inside
-            (keeps.1 z (record_at ns z) (counted ns.capacity zone) (record_there ns z inside) wants);
-      };
+      give = give;
+      limits = λ zone less.
+          closed_with_within ns z zone gives give.inside
+          (keeps.1 z (record_at ns z) (counted ns.capacity zone) (record_there ns z inside) wants);
     }
 
 pub has_room : (ns : ZonedNamespace) (holds : Holds) (z : ℕ) (gives : Option ℕ)
-    → IsSound ns → z < length ns.zones → room_for ns holds (zone_at ns z).state ≡ Ok gives → HasRoom ns z gives
+    → IsNamespace ns → z < length ns.zones → room_for ns holds (zone_at ns z).state ≡ Ok gives → HasRoom ns z gives
 has_room ns holds z gives sound inside room =
     room_of_wanted ns holds z gives (wanted_of (zone_at ns z).state) sound inside refl room
+
+-- any state that fits the zone then leaves a namespace
+pub room_sound : (ns : ZonedNamespace) (z : ℕ) (gives : Option ℕ) (zone : ZoneBlocks) → IsNamespace ns → HasRoom ns z gives
+    → FitsIn ns.block ns.capacity zone → (wanted_of (zone_at ns z).state ≡ None → HoldsNoMore zone.state (zone_at ns z).state)
+    → IsNamespace (with_zone (closed ns gives) z zone)
+room_sound ns z gives zone sound has fits less =
+    set_namespace (closed ns gives) z zone (closed_namespace ns z gives sound has.give) (closed_fit ns gives zone fits) (has.limits zone less)
 
 -- the zone that gives way is another one
 closed_zone : (ns : ZonedNamespace) (z : ℕ) (gives : Option ℕ) → gives ≢ Some z → zone_at (closed ns gives) z ≡ zone_at ns z

@@ -9,7 +9,7 @@ use Rattle.zone_state.specs.declared.state.ZoneState.TheVariants.{Empty, Closed,
 use Rattle.zone_state.specs.declared.status.Status.{Status}
 use Rattle.zone_state.specs.declared.zone.FaultRefused.{FaultRefused}
 use Rattle.zone_resources.specs.declared.holds.Holds.{Holds}
-use Rattle.nvme_entry.specs.declared.command.Command.TheVariants.{Write, Read, Send, Receive, Append}
+use Rattle.nvme_entry.specs.declared.command.StandardCommand.TheVariants.{Write, Read, Send, Receive, Append}
 use Rattle.nvme_entry.specs.Checks.{first_refused}
 use Rattle.image_store.specs.Blocks.{as_blocks}
 use Rattle.image_store.specs.Geometry.{Shape}
@@ -24,18 +24,14 @@ use Rattle.zns_commands.specs.Resources.{closed, arrived, moved_to}
 use Rattle.zns_commands.specs.Receive.{receive_checks, receive_effect}
 use Rattle.zns_commands.specs.Send.{send_checks, send_effect, zone_plan, takes, swept}
 use Rattle.zns_commands.specs.Write.{write_checks, write_effect, write_plan, written}
+use Rattle.zns_commands.specs.Kept.{Grows}
 use Rattle.zns_commands.specs.Laws.{Step, Commanded, Failed, after, after_all, is_cleared, NoneClears}
 use Rattle.zns_commands.proofs.MovedZones.{after_action}
 
--- the blocks of before, and perhaps some behind them
-pub record Grows (before after : List (List ℕ)) : Type 0 where
-  pub more : List (List ℕ)
-  pub is : after ≡ before ++ more
-
-grows_not : (blocks : List (List ℕ)) → Grows blocks blocks
+pub grows_not : (blocks : List (List ℕ)) → Grows blocks blocks
 grows_not blocks = record { more = []; is = sym (append-nil blocks) }
 
-grows_on : (a b c : List (List ℕ)) → Grows a b → Grows b c → Grows a c
+pub grows_on : (a b c : List (List ℕ)) → Grows a b → Grows b c → Grows a c
 grows_on a b c first second = record {
   more = first.more ++ second.more;
   is = second.is ∙ (ap (λ (blocks : List (List ℕ)). blocks ++ second.more) first.is ∙ append_assoc a first.more second.more);
@@ -52,13 +48,13 @@ set_grows clears (x ∷ xs) zero (suc z) zone grows stays = grows_not (get_or xs
 set_grows clears (x ∷ xs) (suc y) zero zone grows stays = grows_not x.blocks
 set_grows clears (x ∷ xs) (suc y) (suc z) zone grows stays = set_grows clears xs y z zone grows stays
 
-closed_grows : (ns : ZonedNamespace) (gives : Option ℕ) (z : ℕ) → Grows (zone_at ns z).blocks (zone_at (closed ns gives) z).blocks
+pub closed_grows : (ns : ZonedNamespace) (gives : Option ℕ) (z : ℕ) → Grows (zone_at ns z).blocks (zone_at (closed ns gives) z).blocks
 closed_grows ns None z = grows_not (zone_at ns z).blocks
 closed_grows ns (Some k) z =
     let blocks = (zone_at ns k).blocks in
     set_grows (λ s. false) ns.zones k z (record { state = Closed; blocks = blocks }) (λ stays. grows_not blocks) refl
 
-written_grows : (ns : ZonedNamespace) (plan : WritePlan) (input : List ℕ) (z : ℕ)
+pub written_grows : (ns : ZonedNamespace) (plan : WritePlan) (input : List ℕ) (z : ℕ)
     → Grows (zone_at ns z).blocks (zone_at (written ns plan input) z).blocks
 written_grows ns plan input z =
     let m = closed ns plan.closing in
@@ -170,7 +166,7 @@ concluded_shape : (refusal : Option Status) (ns : ZonedNamespace) (effect : Outc
 concluded_shape None ns effect same = same
 concluded_shape (Some status) ns effect same = refl
 
-step_shape : (step : Step) (ns : ZonedNamespace) → shape (after step ns) ≡ shape ns
+pub step_shape : (step : Step) (ns : ZonedNamespace) → shape (after step ns) ≡ shape ns
 step_shape (Commanded holds (Write lba blocks) input) ns =
     concluded_shape (first_refused (write_checks ns holds lba blocks input)) ns (write_effect ns holds lba input)
     (written_shape ns (write_plan ns holds (zone_number ns lba)) input)

@@ -11,7 +11,7 @@ use Rattle.zone_state.specs.declared.state.FaultState.TheVariants as fault
 use Rattle.zone_state.specs.declared.state.ZoneState.{ZoneState}
 use Rattle.zone_state.specs.declared.state.ZoneState.TheVariants.{Empty, ImplicitlyOpened, ExplicitlyOpened, Closed, ReadOnly, Full, Offline}
 use Rattle.zone_state.specs.declared.zone.FaultRefused.{FaultRefused}
-use Rattle.zone_resources.specs.Admission.{wanted_of}
+use Rattle.zone_resources.specs.Admission.{wanted_of, HoldsNoMore}
 use Rattle.zone_resources.specs.Holds.{is_held}
 use Rattle.zone_resources.specs.declared.holds.Holds.{Holds}
 use Rattle.image_store.specs.Namespace.{ZoneBlocks, ZonedNamespace, zone_at, IsNamespace}
@@ -19,9 +19,8 @@ use Rattle.image_store.proofs.Images.{within_capacity}
 use Rattle.zns_commands.specs.Fault.{fault_answer, faulted_by, faulted}
 use Rattle.zns_commands.specs.Resources.{room_by, closed, arrived, moved_to}
 use Rattle.zns_commands.specs.Send.{room_of, led_to}
-use Rattle.zns_commands.specs.Laws.{IsSound}
-use Rattle.zns_commands.proofs.Fits.{FitsIn, zone_fits, HoldsNoMore, one_sound}
-use Rattle.zns_commands.proofs.GivenWay.{has_room, moved_is}
+use Rattle.zns_commands.proofs.Fits.{FitsIn, no_bytes, zone_fits, one_sound}
+use Rattle.zns_commands.proofs.GivenWay.{has_room, room_sound, moved_is}
 
 -- a zone that comes into a state
 pub arrived_state : (to : ZoneState) (zone : ZoneBlocks) → (arrived to zone).state ≡ to
@@ -31,9 +30,9 @@ arrived_state to zone = refl
 
 pub arrived_fits : (b c : ℕ) (to : ZoneState) (zone : ZoneBlocks)
     → FitsIn b c zone → IsZone to (kept to (length zone.blocks)) c → FitsIn b c (arrived to zone)
-arrived_fits b c Empty zone fits is = record { state = is; whole = λ i h. absurd (omega arith) }
-arrived_fits b c Offline zone fits is = record { state = is; whole = λ i h. absurd (omega arith) }
-arrived_fits b c to zone fits is = record { state = is; whole = fits.whole }
+arrived_fits b c Empty zone fits is = record { state = is; whole = λ i h. absurd (omega arith); bytes = λ i. no_bytes }
+arrived_fits b c Offline zone fits is = record { state = is; whole = λ i h. absurd (omega arith); bytes = λ i. no_bytes }
+arrived_fits b c to zone fits is = record { state = is; whole = fits.whole; bytes = fits.bytes }
 
 holds_arrived : (to was : ZoneState) (zone : ZoneBlocks) → HoldsNoMore to was → HoldsNoMore (arrived to zone).state was
 holds_arrived to was zone less = subst (λ (s : ZoneState). HoldsNoMore s was) (sym (arrived_state to zone)) less
@@ -88,23 +87,23 @@ takes_none action.Reset Empty none = record { opened = omega arith; active = ome
 takes_none action.Offline Empty none = record { opened = omega arith; active = omega arith }
 takes_none a s none = record { opened = omega arith; active = omega arith }
 
-no_room_sound : (ns : ZonedNamespace) (holds : Holds) (z : ℕ) (a : Action) (gives : Option ℕ) → IsSound ns → z < length ns.zones
-    → takes_resources a ≡ false → room_by ns holds None ≡ Ok gives → IsSound (moved_to (closed ns gives) z (after_action a (zone_at ns z).state))
+no_room_sound : (ns : ZonedNamespace) (holds : Holds) (z : ℕ) (a : Action) (gives : Option ℕ) → IsNamespace ns → z < length ns.zones
+    → takes_resources a ≡ false → room_by ns holds None ≡ Ok gives → IsNamespace (moved_to (closed ns gives) z (after_action a (zone_at ns z).state))
 no_room_sound ns holds z a gives sound inside none room =
     let zone = zone_at ns z in
     let same : None ≡ gives = cc in
-    subst (λ (g : Option ℕ). IsSound (moved_to (closed ns g) z (after_action a zone.state))) same
-    (one_sound ns z (arrived (after_action a zone.state) zone) sound inside (action_zone_fits ns z a sound.namespace inside)
+    subst (λ (g : Option ℕ). IsNamespace (moved_to (closed ns g) z (after_action a zone.state))) same
+    (one_sound ns z (arrived (after_action a zone.state) zone) sound inside (action_zone_fits ns z a sound inside)
     (holds_arrived (after_action a zone.state) zone.state zone (takes_none a zone.state none)))
 
-pub moved_sound : (ns : ZonedNamespace) (holds : Holds) (z : ℕ) (a : Action) (gives : Option ℕ) → IsSound ns → z < length ns.zones
-    → room_of ns holds a (zone_at ns z).state ≡ Ok gives → IsSound (moved_to (closed ns gives) z (after_action a (zone_at ns z).state))
+pub moved_sound : (ns : ZonedNamespace) (holds : Holds) (z : ℕ) (a : Action) (gives : Option ℕ) → IsNamespace ns → z < length ns.zones
+    → room_of ns holds a (zone_at ns z).state ≡ Ok gives → IsNamespace (moved_to (closed ns gives) z (after_action a (zone_at ns z).state))
 moved_sound ns holds z action.Open gives sound inside room =
     let zone = zone_at ns z in
     let to = after_action action.Open zone.state in
     let has = has_room ns holds z gives sound inside room in
-    subst IsSound (sym (moved_is ns z gives to has.other))
-    (has.sound (arrived to zone) (action_zone_fits ns z action.Open sound.namespace inside)
+    subst IsNamespace (sym (moved_is ns z gives to has.give.other))
+    (room_sound ns z gives (arrived to zone) sound has (action_zone_fits ns z action.Open sound inside)
     (λ none. holds_arrived to zone.state zone (open_takes_none zone.state none)))
 moved_sound ns holds z action.Close gives sound inside room = no_room_sound ns holds z action.Close gives sound inside refl room
 moved_sound ns holds z action.Finish gives sound inside room = no_room_sound ns holds z action.Finish gives sound inside refl room
@@ -112,7 +111,7 @@ moved_sound ns holds z action.Reset gives sound inside room = no_room_sound ns h
 moved_sound ns holds z action.Offline gives sound inside room = no_room_sound ns holds z action.Offline gives sound inside refl room
 
 -- a fault that isn't refused is of a zone
-answer_passed : (inside held : Bool) (answer : Result Unit FaultRefused) (done : Unit {0})
+pub answer_passed : (inside held : Bool) (answer : Result Unit FaultRefused) (done : Unit {0})
     → cond (inside && not held) answer (Err (record {})) ≡ Ok done → inside ≡ true
 answer_passed true held answer done e = refl
 answer_passed false held answer done e = cc
@@ -125,21 +124,21 @@ fault_holds : (fault : FaultState) (s : ZoneState) → HoldsNoMore (state_of_fau
 fault_holds fault.ReadOnly s = record { opened = omega arith; active = omega arith }
 fault_holds fault.Offline s = record { opened = omega arith; active = omega arith }
 
-lost_sound : (ns : ZonedNamespace) (z : ℕ) (fault : FaultState) → IsSound ns → z < length ns.zones → IsSound (moved_to ns z (state_of_fault fault))
+pub lost_sound : (ns : ZonedNamespace) (z : ℕ) (fault : FaultState) → IsNamespace ns → z < length ns.zones → IsNamespace (moved_to ns z (state_of_fault fault))
 lost_sound ns z fault sound inside =
     let zone = zone_at ns z in
     let to = state_of_fault fault in
     one_sound ns z (arrived to zone) sound inside
-    (arrived_fits ns.block ns.capacity to zone (zone_fits ns z sound.namespace inside)
-    (fault_fits fault zone.state (length zone.blocks) ns.capacity (sound.namespace.fits z inside)))
+    (arrived_fits ns.block ns.capacity to zone (zone_fits ns z sound inside)
+    (fault_fits fault zone.state (length zone.blocks) ns.capacity (sound.fits z inside)))
     (holds_arrived to zone.state zone (fault_holds fault zone.state))
 
 faulted_by_sound : (ns : ZonedNamespace) (z : ℕ) (fault : FaultState) (answer : Result Unit FaultRefused)
-    → IsSound ns → ((done : Unit {0}) → answer ≡ Ok done → z < length ns.zones) → IsSound (faulted_by answer ns z fault)
+    → IsNamespace ns → ((done : Unit {0}) → answer ≡ Ok done → z < length ns.zones) → IsNamespace (faulted_by answer ns z fault)
 faulted_by_sound ns z fault (Ok done) sound inside = lost_sound ns z fault sound (inside done refl)
 faulted_by_sound ns z fault (Err none) sound inside = sound
 
-pub fault_sound : (ns : ZonedNamespace) (holds : Holds) (z : ℕ) (fault : FaultState) → IsSound ns → IsSound (faulted ns holds z fault)
+pub fault_sound : (ns : ZonedNamespace) (holds : Holds) (z : ℕ) (fault : FaultState) → IsNamespace ns → IsNamespace (faulted ns holds z fault)
 fault_sound ns holds z fault sound =
     faulted_by_sound ns z fault (fault_answer ns holds z fault) sound
     (λ done e.

@@ -14,17 +14,16 @@ use Rattle.zone_resources.specs.declared.admission.Limits.{Limits}
 use Rattle.zone_resources.specs.declared.admission.Wanted.{Wanted}
 use Rattle.zone_resources.specs.declared.admission.Wanted.TheVariants.{OpenOnly, OpenAndActive}
 use Rattle.zone_resources.specs.declared.holds.Holds.{Holds}
-use Rattle.nvme_entry.specs.declared.command.Command.TheVariants.{Write, Append}
+use Rattle.nvme_entry.specs.declared.command.StandardCommand.TheVariants.{Write, Append}
 use Rattle.nvme_entry.specs.declared.command.TheConstants.{MOST_TRANSFER}
 use Rattle.nvme_entry.specs.Checks.{demand, or_else, first_refused}
-use Rattle.image_store.specs.Namespace.{ZonedNamespace, zone_at}
-use Rattle.zns_commands.specs.Address.{records, record_at, zone_number, block_total}
+use Rattle.image_store.specs.Namespace.{ZonedNamespace, zone_at, records, IsNamespace}
+use Rattle.zns_commands.specs.Address.{record_at, zone_number, block_total}
 use Rattle.zns_commands.specs.Answer.{Outcome, concluded}
 use Rattle.zns_commands.specs.Append.{append_checks, append_effect}
 use Rattle.zns_commands.specs.Resources.{room_by, room_for, why_not, closing_of}
 use Rattle.zns_commands.specs.Write.{write_checks, write_effect}
 use Rattle.zns_commands.specs.Meaning.{meaning}
-use Rattle.zns_commands.specs.Laws.{IsSound}
 
 -- checks of which none fails
 pub passed : (checks : List (Option Status)) (i : ℕ) → first_refused checks ≡ None → get_or checks i None ≡ None
@@ -47,9 +46,9 @@ allowed (Ok done) none = refl
 allowed (Err status) none = cc
 
 -- an address of the namespace is in one of its zones
-pub zone_inside : (ns : ZonedNamespace) (lba : ℕ) → IsSound ns → lba < block_total ns → zone_number ns lba < length ns.zones
+pub zone_inside : (ns : ZonedNamespace) (lba : ℕ) → IsNamespace ns → lba < block_total ns → zone_number ns lba < length ns.zones
 zone_inside ns lba sound inside =
-    let some : 0 < ns.size = omega (arith, sound.namespace.shape.size_some) in
+    let some : 0 < ns.size = omega (arith, sound.shape.size_some) in
     (div-lt_iff_lt-mul {k = ns.size} some).1 inside
 
 -- where a check fails, its status isn't success

@@ -14,7 +14,7 @@ use Rattle.nvme_entry.specs.declared.command.TheConstants.{MOST_TRANSFER}
 use Rattle.nvme_entry.specs.Checks.{demand, first_refused}
 use Rattle.image_store.specs.Blocks.{as_blocks, block_count, bytes_of}
 use Rattle.image_store.specs.Geometry.{Shape}
-use Rattle.image_store.specs.Namespace.{ZoneBlocks, ZonedNamespace, no_zone, zone_at, grown}
+use Rattle.image_store.specs.Namespace.{ZoneBlocks, ZonedNamespace, no_zone, zone_at, grown, IsNamespace}
 use Rattle.image_store.proofs.Images.{allowed_fits}
 use Rattle.image_store.proofs.Pieces.{bytes-blocks}
 use Rattle.zns_commands.specs.Address.{record_at, zone_number, block_total, write_pointer}
@@ -23,7 +23,7 @@ use Rattle.zns_commands.specs.Append.{append_checks, append_effect}
 use Rattle.zns_commands.specs.Read.{read_refusal, blocks_read, read_checks, read_effect, read_meaning}
 use Rattle.zns_commands.specs.Resources.{room_for, closing_of}
 use Rattle.zns_commands.specs.Write.{write_checks, write_effect, write_plan, written}
-use Rattle.zns_commands.specs.Laws.{Step, after_all, IsSound, NoneClears, AreRead, AppendedReadsBack, WrittenReadsBack}
+use Rattle.zns_commands.specs.Laws.{Step, after_all, NoneClears, AreRead, AppendedReadsBack, WrittenReadsBack}
 use Rattle.zns_commands.proofs.GivenWay.{has_room, written_is}
 use Rattle.zns_commands.proofs.WrittenZones.{brings, pointer_in}
 use Rattle.zns_commands.proofs.KeptBlocks.{Keeps, steps_keep, written_shape}
@@ -130,7 +130,7 @@ record Writes (ns : ZonedNamespace) (holds : Holds) (z blocks : ℕ) (input : Li
   fits : refusal (record_at ns z) (length (zone_at ns z).blocks) blocks ≡ Ok tt
   room : room_for ns holds (zone_at ns z).state ≡ Ok (closing_of (room_for ns holds (zone_at ns z).state))
 
-written_lie : (ns : ZonedNamespace) (holds : Holds) (z blocks : ℕ) (input : List ℕ) → IsSound ns → Writes ns holds z blocks input
+written_lie : (ns : ZonedNamespace) (holds : Holds) (z blocks : ℕ) (input : List ℕ) → IsNamespace ns → Writes ns holds z blocks input
     → Lie (written ns (write_plan ns holds z) input) z (length (zone_at ns z).blocks) blocks input
 written_lie ns holds z blocks input sound writes =
     let zone = zone_at ns z in
@@ -138,12 +138,12 @@ written_lie ns holds z blocks input sound writes =
     let plan = write_plan ns holds z in
     let m = written ns plan input in
     let has = has_room ns holds z plan.closing sound writes.inside writes.room in
-    let block_some : 1 ≤ ns.block = omega (arith, sound.namespace.shape.block_some) in
+    let block_some : 1 ≤ ns.block = omega (arith, sound.shape.block_some) in
     let bring = brings ns.block blocks input block_some writes.size in
-    let seen = written_zone ns z plan.closing input has.other writes.inside in
+    let seen = written_zone ns z plan.closing input has.give.other writes.inside in
     let form = written_shape ns plan input in
     let end : length zone.blocks + blocks ≤ ns.capacity = allowed_fits (record_at ns z) (length zone.blocks) blocks writes.fits in
-    let reach : length zone.blocks + blocks ≤ ns.size = omega (arith, sound.namespace.shape.capacity_most) in
+    let reach : length zone.blocks + blocks ≤ ns.size = omega (arith, sound.shape.capacity_most) in
     record {
       front = zone.blocks;
       more = more;
@@ -162,7 +162,7 @@ written_lie ns holds z blocks input sound writes =
     }
 
 -- what was written is read, after whatever steps leave the zone uncleared
-reads_later : (ns : ZonedNamespace) (holds : Holds) (z blocks : ℕ) (input : List ℕ) (steps : List Step) → IsSound ns → Writes ns holds z blocks input
+reads_later : (ns : ZonedNamespace) (holds : Holds) (z blocks : ℕ) (input : List ℕ) (steps : List Step) → IsNamespace ns → Writes ns holds z blocks input
     → let m = written ns (write_plan ns holds z) input in
     NoneClears z steps m → AreRead (after_all steps m) (write_pointer ns z) blocks input
 reads_later ns holds z blocks input steps sound writes stays later =

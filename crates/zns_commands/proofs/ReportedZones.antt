@@ -11,8 +11,8 @@ use Rattle.nvme_entry.specs.declared.filter.ZoneFilter.TheVariants as filter
 use Rattle.nvme_entry.specs.Checks.{demand, first_refused}
 use Rattle.nvme_entry.specs.Laws.{number_in, descriptors_in}
 use Rattle.nvme_entry.specs.Report.{report, descriptor_at}
-use Rattle.image_store.specs.Namespace.{counted}
-use Rattle.zns_commands.specs.Address.{records, block_total}
+use Rattle.image_store.specs.Namespace.{counted, records}
+use Rattle.zns_commands.specs.Address.{block_total}
 use Rattle.zns_commands.specs.Answer.{Outcome, success, concluded}
 use Rattle.zns_commands.specs.Receive.{receive_checks, receive_effect}
 use Rattle.zns_commands.specs.Laws.{ReportsEveryZone}
@@ -24,7 +24,7 @@ both_pass a b s t ea eb = rw (ea, eb) refl
 
 pub reports_every_zone : ReportsEveryZone
 reports_every_zone ns holds dwords partial sound room most =
-    let shape = sound.namespace.shape in
+    let shape = sound.shape in
     let size = ns.size in
     let zones = records ns in
     let count : length zones ≡ length ns.zones = length-map ns.zones (counted ns.capacity) in

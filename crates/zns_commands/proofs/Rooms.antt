@@ -1,7 +1,6 @@
--- Zones that give way, and zones that move.
-use Rattle.std.proofs.Common.{◌≡◌, ℕ, ◌<◌, length, Option, Some, None, Ok, refl, ap, sym, subst, ◌∙◌, arith}
+-- Zones that may give way.
+use Rattle.std.proofs.Common.{◌≡◌, ℕ, ◌<◌, length, Option, Some, None, Ok, ap, sym, subst, ◌∙◌, arith}
 use Rattle.std.specs.Prelude.{◌≢◌}
-use Rattle.std.specs.Option.{ForSome}
 use Rattle.std.proofs.lemmas.List.{length-map, get_or-map}
 use Rattle.std.proofs.lemmas.Option.{slice_get_within, get_or_from_slice_get}
 use Rattle.zone_state.specs.Zone.{ZoneRecord, IsZone}
@@ -10,11 +9,9 @@ use Rattle.zone_state.specs.declared.state.ZoneState.TheVariants.{Empty, Implici
 use Rattle.zone_resources.specs.Admission.{wanted_of, IsClosable}
 use Rattle.zone_resources.specs.declared.admission.Wanted.{Wanted}
 use Rattle.zone_resources.specs.declared.holds.Holds.{Holds}
-use Rattle.image_store.specs.Namespace.{ZonedNamespace, no_zone, zone_at, counted, IsNamespace}
+use Rattle.image_store.specs.Namespace.{ZonedNamespace, no_zone, zone_at, counted, records}
 use Rattle.zone_state.specs.declared.status.Status.{Status}
 use Rattle.nvme_entry.specs.Checks.{allowed}
-use Rattle.zns_commands.specs.Address.{records}
-use Rattle.zns_commands.specs.Resources.{CanGiveWay}
 
 -- a zone that may be closed is a zone, and implicitly opened
 pub closable_zone : (ns : ZonedNamespace) (holds : Holds) (z : ℕ) → IsClosable holds (records ns) z → z < length ns.zones
@@ -39,11 +36,11 @@ wants_none Full wanted e = cc
 wants_none Offline wanted e = cc
 
 -- a zone that wants room isn't the one that gives way, which can be Closed
-other_zone : (ns : ZonedNamespace) (holds : Holds) (zone : ℕ) (wanted : Wanted) (z : ℕ) → wanted_of (zone_at ns zone).state ≡ Some wanted → IsClosable holds (records ns) z → z ≢ zone
+pub other_zone : (ns : ZonedNamespace) (holds : Holds) (zone : ℕ) (wanted : Wanted) (z : ℕ) → wanted_of (zone_at ns zone).state ≡ Some wanted → IsClosable holds (records ns) z → z ≢ zone
 other_zone ns holds zone wanted z wants closable = λ (same : z ≡ zone).
     wants_none (zone_at ns zone).state wanted wants (subst (λ (k : ℕ). (zone_at ns k).state ≡ ImplicitlyOpened) same (closable_state ns holds z closable))
 
-closed_fits : (state : ZoneState) (w c : ℕ) → state ≡ ImplicitlyOpened → IsZone state w c → IsZone Closed w c
+pub closed_fits : (state : ZoneState) (w c : ℕ) → state ≡ ImplicitlyOpened → IsZone state w c → IsZone Closed w c
 closed_fits ImplicitlyOpened w c is h = (h.0, h.1.1)
 closed_fits Empty w c is h = cc
 closed_fits ExplicitlyOpened w c is h = cc
@@ -51,21 +48,6 @@ closed_fits Closed w c is h = cc
 closed_fits ReadOnly w c is h = cc
 closed_fits Full w c is h = cc
 closed_fits Offline w c is h = cc
-
-pub can_give_way : (ns : ZonedNamespace) (holds : Holds) (zone : ℕ) (wanted : Wanted) (closing : Option ℕ) → IsNamespace ns → wanted_of (zone_at ns zone).state ≡ Some wanted
-    → ForSome closing (IsClosable holds (records ns)) → CanGiveWay ns zone closing
-can_give_way ns holds zone wanted closing sound wants closable = record {
-  inside = λ z is. closable_zone ns holds z (closable z is);
-  fits = λ z is. closed_fits (zone_at ns z).state (length (zone_at ns z).blocks) ns.capacity (closable_state ns holds z (closable z is)) (sound.fits z (closable_zone ns holds z (closable z is)));
-  other = λ is. other_zone ns holds zone wanted zone wants (closable zone is) refl;
-}
-
-pub no_one_gives_way : (ns : ZonedNamespace) (zone : ℕ) → CanGiveWay ns zone None
-no_one_gives_way ns zone = record {
-  inside = λ z is. cc;
-  fits = λ z is. cc;
-  other = λ is. cc;
-}
 
 -- where checks pass, the value is what was to be given
 pub allowed_ok : {X : Type 0} (refusal : Option Status) (x y : X) → Ok y ≡ allowed refusal x → y ≡ x

@@ -5,17 +5,18 @@ use Rattle.std.proofs.lemmas.Bool.{ltb-true, leb-true, eqb-true}
 use Rattle.std.proofs.lemmas.List.{length-replicate, get_or-replicate}
 use Rattle.std.proofs.lemmas.List.Sums.{sum_by-cons}
 use Rattle.zone_state.specs.State.{is_open, is_active}
-use Rattle.zone_state.specs.Zone.{ZoneRecord, IsZone, refusal}
+use Rattle.zone_state.specs.Zone.{ZoneRecord, refusal}
 use Rattle.zone_state.specs.declared.action.Action.{Action}
 use Rattle.zone_state.specs.declared.state.ZoneState.{ZoneState}
 use Rattle.zone_state.specs.declared.state.ZoneState.TheVariants.{Empty}
 use Rattle.zone_state.specs.declared.status.Status.{Status}
 use Rattle.zone_resources.specs.Counts.{one_if}
 use Rattle.zone_resources.specs.declared.holds.Holds.{Holds}
-use Rattle.nvme_entry.specs.declared.command.Command.TheVariants.{Write, Read, Send, Receive, Append}
+use Rattle.nvme_entry.specs.declared.command.StandardCommand.TheVariants.{Write, Read, Send, Receive, Append}
 use Rattle.nvme_entry.specs.Checks.{first_refused}
+use Rattle.image_store.specs.Blocks.{AreBytes}
 use Rattle.image_store.specs.Geometry.{IsShape}
-use Rattle.image_store.specs.Namespace.{ZoneBlocks, ZonedNamespace, no_zone, zone_at, counted}
+use Rattle.image_store.specs.Namespace.{ZoneBlocks, ZonedNamespace, no_zone, zone_at, counted, IsNamespace, all_empty}
 use Rattle.zns_commands.specs.Address.{record_at, zone_number, block_total}
 use Rattle.zns_commands.specs.Answer.{Outcome, success, concluded}
 use Rattle.zns_commands.specs.Append.{append_checks, append_effect}
@@ -24,21 +25,21 @@ use Rattle.zns_commands.specs.Resources.{room_for, closing_of}
 use Rattle.zns_commands.specs.Receive.{receive_checks, receive_effect}
 use Rattle.zns_commands.specs.Send.{send_checks, send_effect, all_fit, room_of}
 use Rattle.zns_commands.specs.Write.{write_checks, write_effect}
-use Rattle.zns_commands.specs.Laws.{Step, Commanded, Failed, after, WritesSome, IsSound, StepsKeepSound, EmptyIsSound}
-use Rattle.zns_commands.proofs.Fits.{FitsIn, each_fits}
+use Rattle.zns_commands.specs.Laws.{Step, Commanded, Failed, after, IsSpelled, StepsKeepNamespaces, EmptyIsNamespace}
+use Rattle.zns_commands.proofs.Fits.{FitsIn, namespace_of_zones, no_bytes}
 use Rattle.zns_commands.proofs.WrittenZones.{written_sound}
 use Rattle.zns_commands.proofs.MovedZones.{moved_sound, fault_sound}
 use Rattle.zns_commands.proofs.SweptZones.{count_in, all_sound}
 use Rattle.zns_commands.proofs.PassedChecks.{passed, demanded, roomed, allowed, zone_inside}
 
 concluded_sound : (refusal : Option Status) (ns : ZonedNamespace) (effect : Outcome)
-    → IsSound ns → (refusal ≡ None → IsSound effect.namespace) → IsSound (concluded refusal ns effect).namespace
+    → IsNamespace ns → (refusal ≡ None → IsNamespace effect.namespace) → IsNamespace (concluded refusal ns effect).namespace
 concluded_sound None ns effect sound done = done refl
 concluded_sound (Some status) ns effect sound done = sound
 
-write_sound : (ns : ZonedNamespace) (holds : Holds) (lba blocks : ℕ) (input : List ℕ) → IsSound ns → 1 ≤ blocks
-    → first_refused (write_checks ns holds lba blocks input) ≡ None → IsSound (write_effect ns holds lba input).namespace
-write_sound ns holds lba blocks input sound some none =
+write_sound : (ns : ZonedNamespace) (holds : Holds) (lba blocks : ℕ) (input : List ℕ) → IsNamespace ns → (1 ≤ blocks) × AreBytes input
+    → first_refused (write_checks ns holds lba blocks input) ≡ None → IsNamespace (write_effect ns holds lba input).namespace
+write_sound ns holds lba blocks input sound spelled none =
     let checks = write_checks ns holds lba blocks input in
     let z = zone_number ns lba in
     let room = room_for ns holds (zone_at ns z).state in
@@ -46,25 +47,25 @@ write_sound ns holds lba blocks input sound some none =
     let size = eqb-true (length input) (blocks * ns.block) (demanded (nat_eq (length input) (blocks * ns.block)) _ (passed checks 1 none)) in
     let end = leb-true (lba + blocks) (block_total ns) (demanded (nat_le (lba + blocks) (block_total ns)) _ (passed checks 2 none)) in
     let start : lba < block_total ns = omega arith in
-    written_sound ns holds z at blocks (closing_of room) input sound (zone_inside ns lba sound start) some size
+    written_sound ns holds z at blocks (closing_of room) input sound (zone_inside ns lba sound start) spelled.0 size spelled.1
     (allowed (refusal (record_at ns z) at blocks) (passed checks 5 none))
     (roomed room (passed checks 6 none))
 
-append_sound : (ns : ZonedNamespace) (holds : Holds) (lba blocks : ℕ) (input : List ℕ) → IsSound ns → 1 ≤ blocks
-    → first_refused (append_checks ns holds lba blocks input) ≡ None → IsSound (append_effect ns holds lba input).namespace
-append_sound ns holds lba blocks input sound some none =
+append_sound : (ns : ZonedNamespace) (holds : Holds) (lba blocks : ℕ) (input : List ℕ) → IsNamespace ns → (1 ≤ blocks) × AreBytes input
+    → first_refused (append_checks ns holds lba blocks input) ≡ None → IsNamespace (append_effect ns holds lba input).namespace
+append_sound ns holds lba blocks input sound spelled none =
     let checks = append_checks ns holds lba blocks input in
     let z = zone_number ns lba in
     let room = room_for ns holds (zone_at ns z).state in
     let at = length (zone_at ns z).blocks in
     let size = eqb-true (length input) (blocks * ns.block) (demanded (nat_eq (length input) (blocks * ns.block)) _ (passed checks 1 none)) in
     let start = ltb-true lba (block_total ns) (demanded (nat_lt lba (block_total ns)) _ (passed checks 2 none)) in
-    written_sound ns holds z at blocks (closing_of room) input sound (zone_inside ns lba sound start) some size
+    written_sound ns holds z at blocks (closing_of room) input sound (zone_inside ns lba sound start) spelled.0 size spelled.1
     (allowed (refusal (record_at ns z) at blocks) (passed checks 5 none))
     (roomed room (passed checks 6 none))
 
-send_sound : (ns : ZonedNamespace) (holds : Holds) (lba : ℕ) (a : Action) (select_all : Bool) (input : List ℕ) → IsSound ns
-    → first_refused (send_checks ns holds lba a select_all input) ≡ None → IsSound (send_effect ns holds lba a select_all)
+send_sound : (ns : ZonedNamespace) (holds : Holds) (lba : ℕ) (a : Action) (select_all : Bool) (input : List ℕ) → IsNamespace ns
+    → first_refused (send_checks ns holds lba a select_all input) ≡ None → IsNamespace (send_effect ns holds lba a select_all)
 send_sound ns holds lba a true input sound none =
     all_sound ns a sound (demanded (all_fit ns a) _ (passed (send_checks ns holds lba a true input) 3 none))
 send_sound ns holds lba a false input sound none =
@@ -75,7 +76,7 @@ send_sound ns holds lba a false input sound none =
     moved_sound ns holds z a (closing_of room) sound (zone_inside ns lba sound start) (roomed room (passed checks 6 none))
 
 -- one step
-step_sound : (step : Step) (ns : ZonedNamespace) → IsSound ns → WritesSome step → IsSound (after step ns)
+step_sound : (step : Step) (ns : ZonedNamespace) → IsNamespace ns → IsSpelled step → IsNamespace (after step ns)
 step_sound (Commanded holds (Write lba blocks) input) ns sound some =
     concluded_sound (first_refused (write_checks ns holds lba blocks input)) ns (write_effect ns holds lba input) sound
     (write_sound ns holds lba blocks input sound some)
@@ -92,10 +93,10 @@ step_sound (Commanded holds (Send lba a select_all) input) ns sound some =
     (send_sound ns holds lba a select_all input sound)
 step_sound (Failed holds z fault) ns sound some = fault_sound ns holds z fault sound
 
-pub steps_keep_sound : StepsKeepSound
-steps_keep_sound [] ns sound some = sound
-steps_keep_sound (step ∷ steps) ns sound some =
-    steps_keep_sound steps (after step ns) (step_sound step ns sound (some 0 step (omega arith)))
+pub steps_keep_namespaces : StepsKeepNamespaces
+steps_keep_namespaces [] ns sound some = sound
+steps_keep_namespaces (step ∷ steps) ns sound some =
+    steps_keep_namespaces steps (after step ns) (step_sound step ns sound (some 0 step (omega arith)))
     (λ k other in_list. some (suc k) other (omega arith))
 
 empty_counts : (test : ZoneState → Bool) (c n : ℕ) → test Empty ≡ false
@@ -108,23 +109,18 @@ empty_counts test c (suc n) none =
     (map (counted c) (replicate n (record { state = Empty; blocks = [] }))) in
     omega arith
 
-pub empty_is_sound : EmptyIsSound
-empty_is_sound s known =
+pub empty_is_namespace : EmptyIsNamespace
+empty_is_namespace s known =
     let empty : ZoneBlocks = record { state = Empty; blocks = [] } in
     let count : length (replicate s.zones empty) ≡ s.zones = length-replicate s.zones empty in
-    record {
-      namespace = record {
-        shape = subst (λ (n : ℕ). IsShape (record { block = s.block; zones = n; size = s.size; capacity = s.capacity; limits = s.limits })) (sym count) known;
-        fits = λ z h.
-            let in_list : z < s.zones = omega arith in
-            subst (λ (x : ZoneBlocks). IsZone x.state (length x.blocks) s.capacity) (sym (get_or-replicate s.zones z empty no_zone in_list)) (known.capacity_some, refl);
-        whole = each_fits s.block s.capacity (replicate s.zones empty) (λ z h.
-            let in_list : z < s.zones = omega arith in
-            subst (FitsIn s.block s.capacity) (sym (get_or-replicate s.zones z empty no_zone in_list))
-            (record { state = (known.capacity_some, refl); whole = λ i none. absurd (omega arith) }));
-      };
-      within = record {
-        opened = omega (arith, empty_counts is_open s.capacity s.zones refl);
-        active = omega (arith, empty_counts is_active s.capacity s.zones refl);
-      };
-    }
+    namespace_of_zones (all_empty s) (replicate s.zones empty)
+    (subst (λ (n : ℕ). IsShape (record { block = s.block; zones = n; size = s.size; capacity = s.capacity; limits = s.limits })) (sym count) known)
+    refl
+    (λ z h.
+    let in_list : z < s.zones = omega arith in
+    subst (FitsIn s.block s.capacity) (sym (get_or-replicate s.zones z empty no_zone in_list))
+    (record { state = (known.capacity_some, refl); whole = λ i none. absurd (omega arith); bytes = λ i. no_bytes }))
+    (record {
+      opened = omega (arith, empty_counts is_open s.capacity s.zones refl);
+      active = omega (arith, empty_counts is_active s.capacity s.zones refl);
+    })

@@ -1,5 +1,5 @@
 -- That Select All keeps a namespace sound.
-use Rattle.std.proofs.Common.{◌≡◌, ℕ, ◌+◌, ◌<◌, ◌≤◌, Bool, true, false, cond, List, [], ◌∷◌, length, map, refl, sym, subst, arith}
+use Rattle.std.proofs.Common.{◌≡◌, ℕ, zero, suc, ◌+◌, ◌<◌, ◌≤◌, Bool, true, false, cond, List, [], ◌∷◌, length, map, refl, sym, subst, arith}
 use Rattle.std.specs.Prelude.{sum_by}
 use Rattle.std.proofs.lemmas.Bool.{leb-true}
 use Rattle.std.proofs.lemmas.List.{length-map, get_or-map}
@@ -12,12 +12,11 @@ use Rattle.zone_state.specs.declared.state.ZoneState.{ZoneState}
 use Rattle.zone_state.specs.declared.state.ZoneState.TheVariants.{Empty}
 use Rattle.zone_resources.specs.Admission.{IsWithin}
 use Rattle.zone_resources.specs.Counts.{open_count, one_if}
-use Rattle.image_store.specs.Namespace.{ZoneBlocks, ZonedNamespace, no_zone, zone_at, counted}
-use Rattle.zns_commands.specs.Address.{records}
+use Rattle.image_store.specs.Namespace.{ZoneBlocks, ZonedNamespace, no_zone, zone_at, counted, records, IsNamespace, IsWithinLimits}
 use Rattle.zns_commands.specs.Resources.{arrived}
-use Rattle.zns_commands.specs.Send.{all_effect, all_fit, takes, taken_among, swept}
-use Rattle.zns_commands.specs.Laws.{IsSound}
+use Rattle.zns_commands.specs.Send.{all_effect, all_fit, takes, taken_among, swept, swept_below}
 use Rattle.zns_commands.proofs.Fits.{FitsIn, zone_fits, namespace_of_zones}
+use Rattle.zns_commands.proofs.Sweeps.{mapped, mapped-all}
 use Rattle.zns_commands.proofs.MovedZones.{arrived_state, arrived_fits, after_action, action_fits}
 
 -- the state of a zone that Select All has gone over
@@ -63,15 +62,17 @@ sweep_holds a s = record { opened = omega arith; active = omega arith }
 abbrev pub count_in : (ZoneState → Bool) → List ZoneRecord → ℕ
 count_in test zones = sum_by (λ z. one_if (test z.state)) zones
 
--- where each zone adds to a count no more than it did, but for some, the count grows by no more than these
-count_swept : (test more : ZoneState → Bool) (c : ℕ) (f : ZoneBlocks → ZoneBlocks) (zones : List ZoneBlocks)
+-- where each of the first zones adds to a count no more than it did, but for some, the count grows by no more than these
+count_mapped : (test more : ZoneState → Bool) (c : ℕ) (f : ZoneBlocks → ZoneBlocks) (n : ℕ) (zones : List ZoneBlocks)
     → ((zone : ZoneBlocks) → one_if (test (f zone).state) ≤ one_if (test zone.state) + one_if (more zone.state))
-    → count_in test (map (counted c) (map f zones)) ≤ count_in test (map (counted c) zones) + count_in more (map (counted c) zones)
-count_swept test more c f [] each = omega arith
-count_swept test more c f (zone ∷ zones) each =
-    let rest = count_swept test more c f zones each in
+    → count_in test (map (counted c) (mapped f n zones)) ≤ count_in test (map (counted c) zones) + count_in more (map (counted c) zones)
+count_mapped test more c f zero [] each = omega arith
+count_mapped test more c f (suc n) [] each = omega arith
+count_mapped test more c f zero (zone ∷ zones) each = omega arith
+count_mapped test more c f (suc n) (zone ∷ zones) each =
+    let rest = count_mapped test more c f n zones each in
     let first = each zone in
-    let after_it = sum_by-cons (λ (z : ZoneRecord). one_if (test z.state)) (counted c (f zone)) (map (counted c) (map f zones)) in
+    let after_it = sum_by-cons (λ (z : ZoneRecord). one_if (test z.state)) (counted c (f zone)) (map (counted c) (mapped f n zones)) in
     let before_it = sum_by-cons (λ (z : ZoneRecord). one_if (test z.state)) (counted c zone) (map (counted c) zones) in
     let more_it = sum_by-cons (λ (z : ZoneRecord). one_if (more z.state)) (counted c zone) (map (counted c) zones) in
     omega arith
@@ -89,24 +90,28 @@ opened_fit ns action.Finish within fit = omega (arith, count_none (records ns), 
 opened_fit ns action.Reset within fit = omega (arith, count_none (records ns), within.opened)
 opened_fit ns action.Offline within fit = omega (arith, count_none (records ns), within.opened)
 
-swept_within : (ns : ZonedNamespace) (a : Action) → IsWithin (records ns) ns.limits → all_fit ns a ≡ true → IsWithin (records (all_effect ns a)) ns.limits
-swept_within ns a within fit =
-    let opened = count_swept is_open (opens a) ns.capacity (swept a) ns.zones
+-- the limits allow the first zones swept, and all of them
+pub swept_below_within : (ns : ZonedNamespace) (a : Action) (n : ℕ) → IsWithinLimits ns → all_fit ns a ≡ true → IsWithinLimits (swept_below ns a n)
+swept_below_within ns a n within fit =
+    let opened = count_mapped is_open (opens a) ns.capacity (swept a) n ns.zones
     (λ zone. subst (λ (s : ZoneState). one_if (is_open s) ≤ one_if (is_open zone.state) + one_if (opens a zone.state)) (sym (swept_state a zone)) (sweep_holds a zone.state).opened) in
-    let active = count_swept is_active (λ s. false) ns.capacity (swept a) ns.zones
+    let active = count_mapped is_active (λ s. false) ns.capacity (swept a) n ns.zones
     (λ zone. subst (λ (s : ZoneState). one_if (is_active s) ≤ one_if (is_active zone.state) + one_if false) (sym (swept_state a zone)) (sweep_holds a zone.state).active) in
     record {
       opened = omega (arith, opened, opened_fit ns a within fit);
       active = omega (arith, active, count_none (records ns), within.active);
     }
 
-pub all_sound : (ns : ZonedNamespace) (a : Action) → IsSound ns → all_fit ns a ≡ true → IsSound (all_effect ns a)
-all_sound ns a sound fit = record {
-  namespace =
-      namespace_of_zones ns (map (swept a) ns.zones) sound.namespace.shape (length-map ns.zones (swept a))
-      (λ z inside.
-      let in_list : z < length ns.zones = omega (arith, length-map ns.zones (swept a)) in
-      subst (FitsIn ns.block ns.capacity) (sym (get_or-map (swept a) ns.zones z no_zone no_zone in_list))
-      (swept_fits ns.block ns.capacity a (zone_at ns z) (zone_fits ns z sound.namespace in_list)));
-  within = swept_within ns a sound.within fit;
-}
+swept_within : (ns : ZonedNamespace) (a : Action) → IsWithinLimits ns → all_fit ns a ≡ true → IsWithinLimits (all_effect ns a)
+swept_within ns a within fit =
+    subst (λ (zones : List ZoneBlocks). IsWithin (map (counted ns.capacity) zones) ns.limits)
+    (mapped-all (swept a) (length ns.zones) ns.zones refl) (swept_below_within ns a (length ns.zones) within fit)
+
+pub all_sound : (ns : ZonedNamespace) (a : Action) → IsNamespace ns → all_fit ns a ≡ true → IsNamespace (all_effect ns a)
+all_sound ns a sound fit =
+    namespace_of_zones ns (map (swept a) ns.zones) sound.shape (length-map ns.zones (swept a))
+    (λ z inside.
+    let in_list : z < length ns.zones = omega (arith, length-map ns.zones (swept a)) in
+    subst (FitsIn ns.block ns.capacity) (sym (get_or-map (swept a) ns.zones z no_zone no_zone in_list))
+    (swept_fits ns.block ns.capacity a (zone_at ns z) (zone_fits ns z sound in_list)))
+    (swept_within ns a sound.within fit)

@@ -8,19 +8,19 @@ use Rattle.zone_state.specs.declared.state.ZoneState.{ZoneState}
 use Rattle.zone_state.specs.declared.state.ZoneState.TheVariants.{Empty, ImplicitlyOpened, ExplicitlyOpened, Closed, ReadOnly, Full, Offline}
 use Rattle.zone_state.specs.declared.status.Status.{Status}
 use Rattle.zone_state.specs.declared.status.TheConstants.Status.{ZONE_BOUNDARY_ERROR, ZONE_INVALID_WRITE}
-use Rattle.zone_resources.specs.Admission.{wanted_of}
+use Rattle.zone_resources.specs.Admission.{wanted_of, HoldsNoMore}
 use Rattle.zone_resources.specs.declared.holds.Holds.{Holds}
-use Rattle.image_store.specs.Blocks.{as_blocks, block_count, blocks_of}
-use Rattle.image_store.specs.Namespace.{ZoneBlocks, ZonedNamespace, zone_at, counted, grown}
+use Rattle.image_store.specs.Blocks.{AreBytes, as_blocks, block_count, blocks_of}
+use Rattle.image_store.specs.Namespace.{ZoneBlocks, ZonedNamespace, zone_at, counted, grown, IsNamespace, IsWithinLimits}
+use Rattle.image_store.proofs.ByteParts.{blocks_fit}
 use Rattle.image_store.proofs.Pieces.{length-blocks}
 use Rattle.image_store.proofs.Sound.{block-at}
 use Rattle.image_store.proofs.States.{after_write_zone}
 use Rattle.zns_commands.specs.Address.{record_at}
 use Rattle.zns_commands.specs.Resources.{room_for}
 use Rattle.zns_commands.specs.Write.{written}
-use Rattle.zns_commands.specs.Laws.{IsSound}
-use Rattle.zns_commands.proofs.Fits.{FitsIn, zone_fits, HoldsNoMore}
-use Rattle.zns_commands.proofs.GivenWay.{has_room, written_is}
+use Rattle.zns_commands.proofs.Fits.{FitsIn, zone_fits}
+use Rattle.zns_commands.proofs.GivenWay.{HasRoom, has_room, room_sound, written_is}
 
 -- blocks behind blocks
 each_append : (P : List ℕ → Type 0) (xs ys : List (List ℕ))
@@ -29,6 +29,12 @@ each_append : (P : List ℕ → Type 0) (xs ys : List (List ℕ))
 each_append P [] ys front back i h = back i h
 each_append P (x ∷ xs) ys front back zero h = front 0 (omega arith)
 each_append P (x ∷ xs) ys front back (suc i) h = each_append P xs ys (λ k in_list. front (suc k) (omega arith)) back i (omega arith)
+
+bytes_append : (xs ys : List (List ℕ)) → ((i : ℕ) → AreBytes (get_or xs i [])) → ((i : ℕ) → AreBytes (get_or ys i []))
+    → (i : ℕ) → AreBytes (get_or (xs ++ ys) i [])
+bytes_append [] ys front back i = back i
+bytes_append (x ∷ xs) ys front back zero = front 0
+bytes_append (x ∷ xs) ys front back (suc i) = bytes_append xs ys (λ k. front (suc k)) back i
 
 block_whole : (b n : ℕ) (bytes : List ℕ) → n * b ≤ length bytes → (i : ℕ) → i < n → length (get_or (blocks_of b n bytes) i []) ≡ b
 block_whole b n bytes long i h =
@@ -69,8 +75,9 @@ pointer_in Full r at n allowed = cc
 pointer_in Offline r at n allowed = cc
 
 grown_fits : (b c : ℕ) (zone : ZoneBlocks) (more : List (List ℕ)) (at n : ℕ)
-    → FitsIn b c zone → 1 ≤ n → Brings b n more → refusal (counted c zone) at n ≡ Ok tt → FitsIn b c (grown c zone more)
-grown_fits b c zone more at n fits some bring allowed =
+    → FitsIn b c zone → 1 ≤ n → Brings b n more → ((i : ℕ) → AreBytes (get_or more i [])) → refusal (counted c zone) at n ≡ Ok tt
+    → FitsIn b c (grown c zone more)
+grown_fits b c zone more at n fits some bring are allowed =
     let pointer = pointer_in zone.state (counted c zone) at n allowed in
     let here = subst (λ (k : ℕ). refusal (counted c zone) k n ≡ Ok tt) pointer allowed in
     let long : length zone.blocks + n ≡ length (zone.blocks ++ more) = omega (arith, length-append zone.blocks more, bring.count) in
@@ -80,6 +87,7 @@ grown_fits b c zone more at n fits some bring allowed =
           (subst (λ (k : ℕ). IsZone (after_write (counted c zone) k).state (length zone.blocks + n) c) (sym bring.count)
           (after_write_zone (counted c zone) n some here));
       whole = each_append (λ block. length block ≡ b) zone.blocks more fits.whole bring.whole;
+      bytes = bytes_append zone.blocks more fits.bytes are;
     }
 
 -- a write opens no zone that wants nothing
@@ -95,17 +103,28 @@ write_takes_none ImplicitlyOpened r at n false fits none = record { opened = ome
 write_takes_none ExplicitlyOpened r at n true fits none = record { opened = omega arith; active = omega arith }
 write_takes_none ExplicitlyOpened r at n false fits none = record { opened = omega arith; active = omega arith }
 
+-- the limits allow a write that isn't refused, whatever is written
+pub written_within : (ns : ZonedNamespace) (z at blocks : ℕ) (gives : Option ℕ) (input : List ℕ) → HasRoom ns z gives
+    → refusal (record_at ns z) at blocks ≡ Ok tt → IsWithinLimits (written ns (record { zone = z; closing = gives }) input)
+written_within ns z at blocks gives input has allowed =
+    let zone = zone_at ns z in
+    let more = as_blocks ns.block input in
+    subst IsWithinLimits (sym (written_is ns z gives input has.give.other))
+    (has.limits (grown ns.capacity zone more)
+    (write_takes_none zone.state (record_at ns z) at blocks (nat_eq (length zone.blocks + length more) ns.capacity) allowed))
+
 pub written_sound : (ns : ZonedNamespace) (holds : Holds) (z at blocks : ℕ) (gives : Option ℕ) (input : List ℕ)
-    → IsSound ns → z < length ns.zones → 1 ≤ blocks → length input ≡ blocks * ns.block
+    → IsNamespace ns → z < length ns.zones → 1 ≤ blocks → length input ≡ blocks * ns.block → AreBytes input
     → refusal (record_at ns z) at blocks ≡ Ok tt → room_for ns holds (zone_at ns z).state ≡ Ok gives
-    → IsSound (written ns (record { zone = z; closing = gives }) input)
-written_sound ns holds z at blocks gives input sound inside some size allowed room =
+    → IsNamespace (written ns (record { zone = z; closing = gives }) input)
+written_sound ns holds z at blocks gives input sound inside some size are allowed room =
     let has = has_room ns holds z gives sound inside room in
-    let block_some : 1 ≤ ns.block = omega (arith, sound.namespace.shape.block_some) in
+    let block_some : 1 ≤ ns.block = omega (arith, sound.shape.block_some) in
     let bring = brings ns.block blocks input block_some size in
     let zone = zone_at ns z in
     let more = as_blocks ns.block input in
-    subst IsSound (sym (written_is ns z gives input has.other))
-    (has.sound (grown ns.capacity zone more)
-    (grown_fits ns.block ns.capacity zone more at blocks (zone_fits ns z sound.namespace inside) some bring allowed)
+    subst IsNamespace (sym (written_is ns z gives input has.give.other))
+    (room_sound ns z gives (grown ns.capacity zone more) sound has
+    (grown_fits ns.block ns.capacity zone more at blocks (zone_fits ns z sound inside) some bring
+    (blocks_fit ns.block (block_count ns.block input) input are) allowed)
     (write_takes_none zone.state (record_at ns z) at blocks (nat_eq (length zone.blocks + length more) ns.capacity) allowed))

@@ -1,11 +1,11 @@
 -- Logical blocks and zones.
-use Rattle.std.specs.Prelude.{ℕ, ◌≡◌, ◌<◌, ◌+◌, ◌*◌, ◌/◌, ◌%◌, ◌^◌, ◌==◌, nat_lt, nat_le, List, [], ◌∷◌, length, map, Option}
+use Rattle.std.specs.Prelude.{ℕ, zero, suc, ◌≡◌, ◌<◌, ◌+◌, ◌*◌, ◌/◌, ◌%◌, ◌^◌, ◌==◌, nat_lt, nat_le, List, [], ◌∷◌, length, Option}
 use Rattle.zone_state.specs.Zone.{ZoneRecord}
 use Rattle.zone_state.specs.declared.status.Status.{Status}
 use Rattle.zone_state.specs.declared.status.TheConstants.Status.{INVALID_FIELD_IN_COMMAND, LBA_OUT_OF_RANGE, ZONE_BOUNDARY_ERROR}
 use Rattle.nvme_entry.specs.Checks.{demand}
 use Rattle.image_store.specs.declared.geometry.Place.{Place}
-use Rattle.image_store.specs.Namespace.{ZonedNamespace, zone_at, counted}
+use Rattle.image_store.specs.Namespace.{ZonedNamespace, zone_at, counted, block_at}
 
 -- the number of logical blocks
 abbrev pub block_total : ZonedNamespace → ℕ
@@ -23,23 +23,34 @@ write_pointer ns z = z * ns.size + length (zone_at ns z).blocks
 abbrev pub record_at : ZonedNamespace → ℕ → ZoneRecord
 record_at ns z = counted ns.capacity (zone_at ns z)
 
--- all zones so
-abbrev pub records : ZonedNamespace → List ZoneRecord
-records ns = map (counted ns.capacity) ns.zones
+-- so many blocks, one logical block after another from this one on
+abbrev pub blocks_from : ZonedNamespace → ℕ → ℕ → List (List ℕ)
+blocks_from ns lba zero = []
+blocks_from ns lba (suc count) = block_at ns lba ∷ blocks_from ns (lba + 1) count
+
+-- a logical block is in the namespace
+abbrev pub address_check : ZonedNamespace → ℕ → Option Status
+address_check ns lba = demand (nat_lt lba (block_total ns)) LBA_OUT_OF_RANGE
+
+-- a logical block is the lowest of its zone
+abbrev pub lowest_check : ZonedNamespace → ℕ → Option Status
+lowest_check ns lba = demand (lba % ns.size == 0) INVALID_FIELD_IN_COMMAND
+
+-- a range of logical blocks is in the namespace
+abbrev pub range_check : ZonedNamespace → ℕ → ℕ → Option Status
+range_check ns lba blocks = demand (nat_le (lba + blocks) (block_total ns)) LBA_OUT_OF_RANGE
+
+-- a range of logical blocks is in one zone
+abbrev pub boundary_check : ZonedNamespace → ℕ → ℕ → Option Status
+boundary_check ns lba blocks = demand (nat_le (lba % ns.size + blocks) ns.size) ZONE_BOUNDARY_ERROR
 
 -- a zone is named by its lowest logical block
 abbrev pub lowest_checks : ZonedNamespace → ℕ → List (Option Status)
-lowest_checks ns lba =
-    demand (nat_lt lba (block_total ns)) LBA_OUT_OF_RANGE
-    ∷ demand (lba % ns.size == 0) INVALID_FIELD_IN_COMMAND
-    ∷ []
+lowest_checks ns lba = address_check ns lba ∷ lowest_check ns lba ∷ []
 
--- a range of logical blocks is in the namespace, and in one zone
+-- the range of a command lies in one zone
 abbrev pub range_checks : ZonedNamespace → ℕ → ℕ → List (Option Status)
-range_checks ns lba blocks =
-    demand (nat_le (lba + blocks) (block_total ns)) LBA_OUT_OF_RANGE
-    ∷ demand (nat_le (lba % ns.size + blocks) ns.size) ZONE_BOUNDARY_ERROR
-    ∷ []
+range_checks ns lba blocks = range_check ns lba blocks ∷ boundary_check ns lba blocks ∷ []
 
 -- the zone of a logical block, and the block's place in it
 abbrev pub place_in : ZonedNamespace → ℕ → Place

@@ -1,8 +1,10 @@
 -- Zone Append (ZNS 1.1, 3.4.1).
-use Rattle.std.specs.Prelude.{ℕ, ◌*◌, ◌++◌, List, [], length, Option}
+use Rattle.std.specs.Prelude.{ℕ, true, ◌≡◌, ◌≤◌, ◌+◌, ◌*◌, ◌++◌, List, [], length, Option}
+use Rattle.zone_state.specs.State.{is_open}
 use Rattle.zone_state.specs.declared.status.Status.{Status}
 use Rattle.zone_resources.specs.declared.holds.Holds.{Holds}
 use Rattle.nvme_entry.specs.Checks.{first_refused}
+use Rattle.image_store.specs.Blocks.{block_count}
 use Rattle.image_store.specs.Namespace.{ZonedNamespace, zone_at}
 use Rattle.zns_commands.specs.Address.{zone_number, write_pointer, lowest_checks}
 use Rattle.zns_commands.specs.Answer.{Outcome, success, concluded}
@@ -26,3 +28,10 @@ append_effect ns holds lba input =
 abbrev pub append_meaning : ZonedNamespace → Holds → ℕ → ℕ → List ℕ → Outcome
 append_meaning ns holds lba blocks input =
     concluded (first_refused (append_checks ns holds lba blocks input)) ns (append_effect ns holds lba input)
+
+-- a zone takes whole blocks, one or more, without a further check: it is open and has room for them
+pub record TakesBlocks (ns : ZonedNamespace) (z : ℕ) (bytes : List ℕ) : Type 0 where
+  pub opened : is_open (zone_at ns z).state ≡ true
+  pub some : 1 ≤ block_count ns.block bytes
+  pub whole : length bytes ≡ block_count ns.block bytes * ns.block
+  pub room : length (zone_at ns z).blocks + block_count ns.block bytes ≤ ns.capacity

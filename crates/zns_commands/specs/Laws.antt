@@ -6,17 +6,17 @@ use Rattle.zone_state.specs.declared.state.ZoneState.{ZoneState}
 use Rattle.zone_state.specs.declared.state.ZoneState.TheVariants.{Empty, Offline}
 use Rattle.zone_state.specs.declared.status.Status.{Status}
 use Rattle.zone_state.specs.declared.status.TheConstants.Status.{SUCCESS}
-use Rattle.zone_resources.specs.Admission.{IsWithin}
 use Rattle.zone_resources.specs.declared.holds.Holds.{Holds}
-use Rattle.nvme_entry.specs.declared.command.Command.{Command}
-use Rattle.nvme_entry.specs.declared.command.Command.TheVariants.{Write, Read, Send, Receive, Append}
+use Rattle.nvme_entry.specs.declared.command.StandardCommand.{StandardCommand}
+use Rattle.nvme_entry.specs.declared.command.StandardCommand.TheVariants.{Write, Read, Send, Receive, Append}
 use Rattle.nvme_entry.specs.declared.command.TheConstants.{MOST_TRANSFER}
 use Rattle.nvme_entry.specs.declared.filter.ZoneFilter.TheVariants as filter
 use Rattle.nvme_entry.specs.Laws.{number_in, descriptors_in}
 use Rattle.nvme_entry.specs.Report.{descriptor_at}
+use Rattle.image_store.specs.Blocks.{AreBytes}
 use Rattle.image_store.specs.Geometry.{Shape, IsShape}
-use Rattle.image_store.specs.Namespace.{ZonedNamespace, zone_at, IsNamespace, all_empty}
-use Rattle.zns_commands.specs.Address.{records, zone_number}
+use Rattle.image_store.specs.Namespace.{ZonedNamespace, zone_at, IsNamespace, all_empty, records}
+use Rattle.zns_commands.specs.Address.{zone_number}
 use Rattle.zns_commands.specs.Answer.{Outcome, success, refused}
 use Rattle.zns_commands.specs.Append.{append_checks, append_effect}
 use Rattle.zns_commands.specs.Fault.{faulted}
@@ -29,7 +29,7 @@ use Rattle.zns_commands.specs.Write.{write_checks, write_effect}
 -- what happens to a namespace, under the holds of the active runs: a command with the data beside its
 -- entry, or a fault of a zone
 pub data Step : Type 0 where
-  Commanded : (holds : Holds) (command : Command) (input : List ℕ) → Step
+  Commanded : (holds : Holds) (command : StandardCommand) (input : List ℕ) → Step
   Failed : (holds : Holds) (zone : ℕ) (fault : FaultState) → Step
 
 abbrev pub after : Step → ZonedNamespace → ZonedNamespace
@@ -41,31 +41,26 @@ abbrev pub after_all : List Step → ZonedNamespace → ZonedNamespace
 after_all [] ns = ns
 after_all (step ∷ steps) ns = after_all steps (after step ns)
 
--- a command that an entry can spell writes at least one block
-abbrev pub WritesSome : Step → Type 0
-WritesSome (Commanded holds (Write lba blocks) input) = 1 ≤ blocks
-WritesSome (Commanded holds (Append lba blocks) input) = 1 ≤ blocks
-WritesSome (Commanded holds (Read lba blocks) input) = Unit {0}
-WritesSome (Commanded holds (Send lba action select_all) input) = Unit {0}
-WritesSome (Commanded holds (Receive lba dwords filter partial) input) = Unit {0}
-WritesSome (Failed holds zone fault) = Unit {0}
+-- what an entry and the bytes beside it can spell: a command that writes at least one block, and bytes
+abbrev pub IsSpelled : Step → Type 0
+IsSpelled (Commanded holds (Write lba blocks) input) = (1 ≤ blocks) × AreBytes input
+IsSpelled (Commanded holds (Append lba blocks) input) = (1 ≤ blocks) × AreBytes input
+IsSpelled (Commanded holds (Read lba blocks) input) = Unit {0}
+IsSpelled (Commanded holds (Send lba action select_all) input) = Unit {0}
+IsSpelled (Commanded holds (Receive lba dwords filter partial) input) = Unit {0}
+IsSpelled (Failed holds zone fault) = Unit {0}
 
--- the shape is one that is accepted, each zone's state allows its written blocks, each block is whole,
--- and the open and active zones are within the limits (ZNS 1.1, Zone State Machine and Zone Resources)
-pub record IsSound (ns : ZonedNamespace) : Type 0 where
-  pub namespace : IsNamespace ns
-  pub within : IsWithin (records ns) ns.limits
+-- a namespace stays one, its open and active zones within the limits, whatever commands and faults come
+-- (ZNS 1.1, Zone State Machine and Zone Resources)
+abbrev pub StepsKeepNamespaces : Type 0
+StepsKeepNamespaces = (steps : List Step) (ns : ZonedNamespace) → IsNamespace ns → All IsSpelled steps → IsNamespace (after_all steps ns)
 
--- what is sound stays so, whatever commands and faults come
-abbrev pub StepsKeepSound : Type 0
-StepsKeepSound = (steps : List Step) (ns : ZonedNamespace) → IsSound ns → All WritesSome steps → IsSound (after_all steps ns)
-
--- a namespace of which nothing is written is sound
-abbrev pub EmptyIsSound : Type 0
-EmptyIsSound = (s : Shape) → IsShape s → IsSound (all_empty s)
+-- one of which nothing is written is one
+abbrev pub EmptyIsNamespace : Type 0
+EmptyIsNamespace = (s : Shape) → IsShape s → IsNamespace (all_empty s)
 
 -- the checks of a command, in their order
-abbrev pub checks_of : ZonedNamespace → Holds → Command → List ℕ → List (Option Status)
+abbrev pub checks_of : ZonedNamespace → Holds → StandardCommand → List ℕ → List (Option Status)
 checks_of ns holds (Write lba blocks) input = write_checks ns holds lba blocks input
 checks_of ns holds (Read lba blocks) input = read_checks ns lba blocks input
 checks_of ns holds (Send lba action select_all) input = send_checks ns holds lba action select_all input
@@ -73,7 +68,7 @@ checks_of ns holds (Receive lba dwords filter partial) input = receive_checks ns
 checks_of ns holds (Append lba blocks) input = append_checks ns holds lba blocks input
 
 -- what a command comes to that is not refused
-abbrev pub effect_of : ZonedNamespace → Holds → Command → List ℕ → Outcome
+abbrev pub effect_of : ZonedNamespace → Holds → StandardCommand → List ℕ → Outcome
 effect_of ns holds (Write lba blocks) input = write_effect ns holds lba input
 effect_of ns holds (Read lba blocks) input = read_effect ns lba blocks
 effect_of ns holds (Send lba action select_all) input = success (send_effect ns holds lba action select_all) 0 []
@@ -93,7 +88,7 @@ pub data IsCase (ns : ZonedNamespace) (checks : List (Option Status)) (effect ou
 -- the meaning of a command is one of its cases, and there is no other outcome in any of them
 abbrev pub JustOneCase : Type 0
 JustOneCase =
-    (ns : ZonedNamespace) (holds : Holds) (command : Command) (input : List ℕ)
+    (ns : ZonedNamespace) (holds : Holds) (command : StandardCommand) (input : List ℕ)
     → IsCase ns (checks_of ns holds command input) (effect_of ns holds command input) (meaning ns holds command input)
     × ((outcome : Outcome) → IsCase ns (checks_of ns holds command input) (effect_of ns holds command input) outcome
     → outcome ≡ meaning ns holds command input)
@@ -108,7 +103,7 @@ pub record ChangesNothing (ns : ZonedNamespace) (outcome : Outcome) : Type 0 whe
 -- a command is done whole or not at all
 abbrev pub RefusedChangesNothing : Type 0
 RefusedChangesNothing =
-    (ns : ZonedNamespace) (holds : Holds) (command : Command) (input : List ℕ)
+    (ns : ZonedNamespace) (holds : Holds) (command : StandardCommand) (input : List ℕ)
     → (meaning ns holds command input).status ≢ SUCCESS
     → ChangesNothing ns (meaning ns holds command input)
 
@@ -132,7 +127,7 @@ AreRead ns lba blocks bytes = (holds : Holds) → meaning ns holds (Read lba blo
 abbrev pub AppendedReadsBack : Type 0
 AppendedReadsBack =
     (ns : ZonedNamespace) (holds : Holds) (lba blocks : ℕ) (input : List ℕ) (steps : List Step)
-    → IsSound ns → 1 ≤ blocks → (meaning ns holds (Append lba blocks) input).status ≡ SUCCESS
+    → IsNamespace ns → 1 ≤ blocks → (meaning ns holds (Append lba blocks) input).status ≡ SUCCESS
     → let done = meaning ns holds (Append lba blocks) input in
     NoneClears (zone_number ns lba) steps done.namespace
     → AreRead (after_all steps done.namespace) (done.dw0 + done.dw1 * 2 ^ 32) blocks input
@@ -141,7 +136,7 @@ AppendedReadsBack =
 abbrev pub WrittenReadsBack : Type 0
 WrittenReadsBack =
     (ns : ZonedNamespace) (holds : Holds) (lba blocks : ℕ) (input : List ℕ) (steps : List Step)
-    → IsSound ns → 1 ≤ blocks → (meaning ns holds (Write lba blocks) input).status ≡ SUCCESS
+    → IsNamespace ns → 1 ≤ blocks → (meaning ns holds (Write lba blocks) input).status ≡ SUCCESS
     → let done = meaning ns holds (Write lba blocks) input in
     NoneClears (zone_number ns lba) steps done.namespace
     → AreRead (after_all steps done.namespace) lba blocks input
@@ -151,7 +146,7 @@ WrittenReadsBack =
 abbrev pub ReportsEveryZone : Type 0
 ReportsEveryZone =
     (ns : ZonedNamespace) (holds : Holds) (dwords : ℕ) (partial : Bool)
-    → IsSound ns → 64 + 64 * length ns.zones ≤ 4 * dwords → 4 * dwords ≤ MOST_TRANSFER
+    → IsNamespace ns → 64 + 64 * length ns.zones ≤ 4 * dwords → 4 * dwords ≤ MOST_TRANSFER
     → let done = meaning ns holds (Receive 0 dwords filter.All partial) [] in
     (done.status ≡ SUCCESS)
     × (number_in done.output ≡ length ns.zones)

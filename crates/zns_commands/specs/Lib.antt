@@ -2,6 +2,7 @@ pub mod Address
 pub mod Answer
 pub mod Append
 pub mod Fault
+pub mod Kept
 pub mod Laws
 pub mod Meaning
 pub mod Read

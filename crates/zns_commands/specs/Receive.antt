@@ -1,12 +1,11 @@
 -- Zone Management Receive: Report Zones (ZNS 1.1, 3.4.2).
-use Rattle.std.specs.Prelude.{ℕ, Bool, ◌*◌, ◌++◌, nat_lt, List, [], ◌∷◌, Option}
+use Rattle.std.specs.Prelude.{ℕ, Bool, ◌*◌, ◌++◌, List, [], ◌∷◌, Option}
 use Rattle.zone_state.specs.declared.status.Status.{Status}
-use Rattle.zone_state.specs.declared.status.TheConstants.Status.{LBA_OUT_OF_RANGE}
 use Rattle.nvme_entry.specs.declared.filter.ZoneFilter.{ZoneFilter}
-use Rattle.nvme_entry.specs.Checks.{demand, first_refused}
+use Rattle.nvme_entry.specs.Checks.{first_refused}
 use Rattle.nvme_entry.specs.Report.{report}
-use Rattle.image_store.specs.Namespace.{ZonedNamespace}
-use Rattle.zns_commands.specs.Address.{block_total, zone_number, records}
+use Rattle.image_store.specs.Namespace.{ZonedNamespace, records}
+use Rattle.zns_commands.specs.Address.{address_check, zone_number}
 use Rattle.zns_commands.specs.Answer.{Outcome, success, concluded}
 use Rattle.zns_commands.specs.Transfer.{transfer_checks}
 
@@ -14,7 +13,7 @@ use Rattle.zns_commands.specs.Transfer.{transfer_checks}
 abbrev pub receive_checks : ZonedNamespace → ℕ → ℕ → List ℕ → List (Option Status)
 receive_checks ns lba dwords input =
     transfer_checks (4 * dwords) 0 input
-    ++ demand (nat_lt lba (block_total ns)) LBA_OUT_OF_RANGE
+    ++ address_check ns lba
     ∷ []
 
 -- the report begins at the zone that contains the address

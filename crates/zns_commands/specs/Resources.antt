@@ -8,8 +8,7 @@ use Rattle.zone_state.specs.declared.status.Status.{Status}
 use Rattle.zone_resources.specs.Admission.{admission, wanted_of}
 use Rattle.zone_resources.specs.declared.admission.Wanted.{Wanted}
 use Rattle.zone_resources.specs.declared.holds.Holds.{Holds}
-use Rattle.image_store.specs.Namespace.{ZoneBlocks, ZonedNamespace, zone_at, with_zone, in_zone_state}
-use Rattle.zns_commands.specs.Address.{records}
+use Rattle.image_store.specs.Namespace.{ZoneBlocks, ZonedNamespace, zone_at, with_zone, in_zone_state, records, IsWithinLimits}
 
 abbrev pub room_by : ZonedNamespace → Holds → Option Wanted → Result (Option ℕ) Status
 room_by ns holds None = Ok None
@@ -37,11 +36,12 @@ abbrev pub after_room : ZonedNamespace → Result (Option ℕ) Status → ZonedN
 after_room ns room = closed ns (closing_of room)
 
 -- what holds of the zone that gives way, if one does: it is another than the one that wants room, and
--- can be Closed
+-- can be Closed, which the limits allow
 pub record CanGiveWay (ns : ZonedNamespace) (zone : ℕ) (closing : Option ℕ) : Type 0 where
   pub inside : ForSome closing (λ z. z < length ns.zones)
   pub fits : ForSome closing (λ z. IsZone Closed (length (zone_at ns z).blocks) ns.capacity)
   pub other : closing ≢ Some zone
+  pub limits : IsWithinLimits (closed ns closing)
 
 -- a zone that comes into a state: Empty and Offline keep no blocks (ZNS 1.1, 2.1.1.3)
 abbrev pub arrived : ZoneState → ZoneBlocks → ZoneBlocks

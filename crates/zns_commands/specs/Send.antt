@@ -14,8 +14,8 @@ use Rattle.zone_resources.specs.Counts.{open_count}
 use Rattle.zone_resources.specs.Holds.{refuses}
 use Rattle.zone_resources.specs.declared.holds.Holds.{Holds}
 use Rattle.nvme_entry.specs.Checks.{demand, first_refused}
-use Rattle.image_store.specs.Namespace.{ZoneBlocks, ZonedNamespace, zone_at}
-use Rattle.zns_commands.specs.Address.{zone_number, records, lowest_checks}
+use Rattle.image_store.specs.Namespace.{ZoneBlocks, ZonedNamespace, zone_at, records, IsWithinLimits}
+use Rattle.zns_commands.specs.Address.{zone_number, lowest_checks}
 use Rattle.zns_commands.specs.Answer.{Outcome, success, concluded}
 use Rattle.zns_commands.specs.Resources.{room_for, why_not, closing_of, closed, arrived, moved_to, CanGiveWay}
 use Rattle.zns_commands.specs.declared.send.ZonePlan.{ZonePlan}
@@ -121,4 +121,5 @@ swept_below ns action n = record {
 pub record CanMove (ns : ZonedNamespace) (plan : ZonePlan) : Type 0 where
   pub inside : plan.zone < length ns.zones
   pub fits : IsZone plan.to (kept plan.to (length (zone_at ns plan.zone).blocks)) ns.capacity
-  pub room : CanGiveWay ns plan.zone plan.closing
+  pub gives : CanGiveWay ns plan.zone plan.closing
+  pub limits : IsWithinLimits (moved_to (closed ns plan.closing) plan.zone plan.to)

@@ -7,7 +7,7 @@ use Rattle.zone_resources.specs.Holds.{is_destination}
 use Rattle.zone_resources.specs.declared.holds.Holds.{Holds}
 use Rattle.nvme_entry.specs.Checks.{demand, first_refused}
 use Rattle.image_store.specs.Blocks.{block_count}
-use Rattle.image_store.specs.Namespace.{ZonedNamespace, zone_at, appended}
+use Rattle.image_store.specs.Namespace.{ZonedNamespace, zone_at, appended, IsWithinLimits}
 use Rattle.zns_commands.specs.declared.write.WritePlan.{WritePlan}
 use Rattle.zns_commands.specs.Address.{zone_number, record_at, range_checks}
 use Rattle.zns_commands.specs.Answer.{Outcome, success, concluded}
@@ -51,7 +51,8 @@ pub record CanWrite (ns : ZonedNamespace) (at blocks : ℕ) (plan : WritePlan) :
   pub inside : plan.zone < length ns.zones
   pub some : 1 ≤ blocks
   pub fits : refusal (record_at ns plan.zone) at blocks ≡ Ok tt
-  pub room : CanGiveWay ns plan.zone plan.closing
+  pub gives : CanGiveWay ns plan.zone plan.closing
+  pub limits : (bytes : List ℕ) → IsWithinLimits (written ns plan bytes)
 
 -- the data is whole blocks, as many as the command says
 pub record IsWhole (ns : ZonedNamespace) (blocks : ℕ) (input : List ℕ) : Type 0 where

@@ -1,13 +1,14 @@
 //! Laws of the definitions that the contracts of this crate cite. Each function does nothing: what
 //! it ensures is the law.
 
-ghost use Rattle.zns_commands.specs.Laws.{AppendedReadsBack, EmptyIsSound, JustOneCase, RefusedChangesNothing, ReportsEveryZone, StepsKeepSound, WrittenReadsBack};
+ghost use Rattle.zns_commands.specs.Kept.{BlocksAreAPart, DestinationsAreLeft, OthersAreLeft, ShapesAreKept, SourcesKeepBlocks};
+ghost use Rattle.zns_commands.specs.Laws.{AppendedReadsBack, EmptyIsNamespace, JustOneCase, RefusedChangesNothing, ReportsEveryZone, StepsKeepNamespaces, WrittenReadsBack};
 
 /// In every namespace that commands and faults leave, starting from an empty one, the open and active
 /// zones are within the limits, and each zone's state fits its written blocks.
 pub fn commands_keep_namespaces_sound()
-    ensures kept { StepsKeepSound }
-    ensures start { EmptyIsSound }
+    ensures kept { StepsKeepNamespaces }
+    ensures start { EmptyIsNamespace }
 {}
 
 /// Just one case of a command holds: each check passes and it takes effect, or the first check that
@@ -35,4 +36,31 @@ pub fn written_blocks_read_back()
 /// A report of all zones with room for all lists every zone once, in order, and tells their number.
 pub fn reports_list_every_zone()
     ensures { ReportsEveryZone }
+{}
+
+/// A command changes no zone but the one that it names, the one that gives way to that, and those that
+/// Select All takes; a fault none but the one that fails.
+pub fn other_zones_are_left()
+    ensures { OthersAreLeft }
+{}
+
+/// No command or fault changes the state or the blocks of a zone that an active run appends to.
+pub fn held_destinations_are_left()
+    ensures { DestinationsAreLeft }
+{}
+
+/// What is written in a zone that an active run reads from stays the beginning of what is, whatever
+/// command or fault comes.
+pub fn held_sources_keep_blocks()
+    ensures { SourcesKeepBlocks }
+{}
+
+/// No command or fault changes the shape of the namespace.
+pub fn shapes_are_kept()
+    ensures { ShapesAreKept }
+{}
+
+/// Written blocks that follow one another in a zone are a part of the list of its blocks.
+pub fn consecutive_blocks_are_a_part()
+    ensures { BlocksAreAPart }
 {}

@@ -19,6 +19,6 @@ mod write;
 pub use answer::Answer;
 pub use image_store::{Geometry, GeometryFault, Image};
 pub use namespace::Namespace;
-pub use nvme_entry::{BlockCount, Command, DwordCount, MOST_TRANSFER, Status, ZoneFilter};
+pub use nvme_entry::{BlockCount, DwordCount, MOST_TRANSFER, StandardCommand, Status, ZoneFilter};
 pub use zone_resources::{Holds, Limits};
 pub use zone_state::{FaultRefused, FaultState};

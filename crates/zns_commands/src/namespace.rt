@@ -1,7 +1,12 @@
 //! A namespace that takes commands.
 
-ghost use Rattle.std.specs.Prelude.{◌≡◌, ◌≤◌, length, drop};
+ghost use Rattle.std.specs.Prelude.{◌≡◌, ◌≤◌, ◌<◌, ◌*◌, length, drop};
+ghost use Rattle.zone_resources.specs.Holds.{no_holds};
+ghost use Rattle.image_store.specs.Geometry.{IsShape};
+ghost use Rattle.image_store.specs.Namespace.{appended, block_at, shape, IsNamespace, IsWritten};
+ghost use Rattle.zns_commands.specs.Address.{record_at};
 ghost use Rattle.zns_commands.specs.Answer.{outcome};
+ghost use Rattle.zns_commands.specs.Append.{append_effect, TakesBlocks};
 ghost use Rattle.zns_commands.specs.Fault.{fault_answer, faulted};
 ghost use Rattle.zns_commands.specs.Meaning.{meaning};
 
@@ -12,8 +17,8 @@ use crate::read::read;
 use crate::receive::receive;
 use crate::send::send;
 use crate::write::write;
-use image_store::Image;
-use nvme_entry::{Command, MOST_TRANSFER};
+use image_store::{Geometry, Image, Zone};
+use nvme_entry::{MOST_TRANSFER, StandardCommand};
 use std::marker::Model;
 use zone_resources::Holds;
 use zone_state::{FaultRefused, FaultState};
@@ -47,12 +52,49 @@ impl Namespace {
         &self.image
     }
 
+    /// The shape of the namespace.
+    pub fn geometry(&self) -> Geometry
+        ensures value { result ≡ shape self.now }
+        ensures known { IsShape result }
+        ensures sound { IsNamespace self.now }
+    {
+        self.image.geometry()
+    }
+
+    /// The zone with this number, without its blocks.
+    pub fn zone(&self, zone: u32) -> Zone
+        requires { zone < length self.now.zones }
+        ensures { result ≡ record_at self.now zone }
+    {
+        self.image.zone(zone)
+    }
+
+    /// The bytes of a written block, by its address.
+    pub fn block(&self, lba: u64) -> &[u8]
+        requires { IsWritten self.now lba }
+        ensures value { result.now ≡ block_at self.now lba }
+        ensures size { length result.now ≡ self.now.block }
+    {
+        self.image.block(lba)
+    }
+
+    /// Writes whole blocks, one or more, at the write pointer of an open zone that has room for them.
+    /// That is what an Append to the zone leaves that no run holds.
+    pub fn append_blocks(&mut self, zone: u32, bytes: &[u8])
+        requires { TakesBlocks self.old zone bytes.now }
+        ensures blocks { self.new ≡ appended self.old zone bytes.now }
+        ensures append { self.new ≡ (append_effect self.old no_holds (zone * self.old.size) bytes.now).namespace }
+    {
+        let _ = self.geometry();
+        self.image.append(zone, bytes);
+    }
+
     /// Executes a command, with the data that stands beside its entry. The data that the command
     /// gives goes to the front of `output`, which has room for the largest transfer; what lies
     /// behind it stays. A command that is refused changes nothing.
     pub fn execute(
         &mut self,
-        command: &Command,
+        command: &StandardCommand,
         input: &[u8],
         output: &mut [u8],
         holds: &Holds,
@@ -63,20 +105,28 @@ impl Namespace {
         ensures rest { drop result.length output.new ≡ drop result.length output.old }
     {
         match *command {
-            Command::Write { lba, blocks } => { write(&mut self.image, holds, lba, blocks, input) }
-            Command::Read { lba, blocks } => read(&self.image, lba, blocks, input, output),
-            Command::Send {
+            StandardCommand::Write { lba, blocks } => {
+                write(&mut self.image, holds, lba, blocks, input)
+            }
+            StandardCommand::Read { lba, blocks } => read(&self.image, lba, blocks, input, output),
+            StandardCommand::Send {
                 lba,
                 action,
                 select_all,
             } => send(&mut self.image, holds, lba, action, select_all, input),
-            Command::Receive {
+            StandardCommand::Receive {
                 lba,
                 dwords,
                 filter,
                 partial,
             } => receive(&self.image, lba, dwords, filter, partial, input, output),
-            Command::Append { lba, blocks } => append(&mut self.image, holds, lba, blocks, input),
+            StandardCommand::Append { lba, blocks } => append(
+                &mut self.image,
+                holds,
+                lba,
+                blocks,
+                input,
+            ),
         }
     }
 

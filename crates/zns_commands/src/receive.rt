@@ -3,7 +3,8 @@
 ghost use Rattle.std.specs.Prelude.{◌≡◌, ◌≤◌, ◌*◌, ◌++◌, ◌^◌, length, take, drop};
 ghost use Rattle.nvme_entry.specs.Checks.{first_refused, allowed};
 ghost use Rattle.nvme_entry.specs.Report.{report};
-ghost use Rattle.zns_commands.specs.Address.{zone_number, records};
+ghost use Rattle.zns_commands.specs.Address.{zone_number};
+ghost use Rattle.image_store.specs.Namespace.{records};
 ghost use Rattle.zns_commands.specs.Answer.{outcome};
 ghost use Rattle.zns_commands.specs.Receive.{receive_checks, receive_meaning};
 

@@ -1,8 +1,8 @@
 //! The open and active resources that a command takes.
 
-ghost use Rattle.std.specs.Prelude.{◌≡◌, ◌<◌, IfOk, length};
+ghost use Rattle.std.specs.Prelude.{◌≡◌, ◌<◌, length};
 ghost use Rattle.zone_state.specs.Zone.{IsZone, kept};
-ghost use Rattle.image_store.specs.Namespace.{zone_at};
+ghost use Rattle.image_store.specs.Namespace.{zone_at, IsWithinLimits};
 ghost use Rattle.zns_commands.specs.Resources.{room_for, closed, moved_to, CanGiveWay};
 
 use image_store::Image;
@@ -13,8 +13,7 @@ use zone_state::ZoneState;
 /// The zone to be closed so that this one can be open, if one has to be: never this one.
 pub fn room_for(image: &Image, holds: &Holds, zone: u32) -> Result<Option<u32>, Status>
     requires { zone < length image.now.zones }
-    ensures value { result ≡ room_for image.now holds.now (zone_at image.now zone).state }
-    ensures closable { IfOk result (CanGiveWay image.now zone) }
+    ensures { result ≡ room_for image.now holds.now (zone_at image.now zone).state }
 {
     match Wanted::of(image.zone(zone).state()) {
         None => Ok(None),
@@ -35,10 +34,11 @@ pub fn give_way(image: &mut Image, zone: u32, closing: Option<u32>)
     }
 }
 
-/// Brings a zone into a state that allows the blocks that it keeps there.
+/// Brings a zone into a state that allows the blocks that it keeps there, and that the limits allow.
 pub fn move_to(image: &mut Image, zone: u32, to: ZoneState)
     requires inside { zone < length image.old.zones }
     requires fits { IsZone to (kept to (length (zone_at image.old zone).blocks)) image.old.capacity }
+    requires limits { IsWithinLimits (moved_to image.old zone to) }
     ensures { image.new ≡ moved_to image.old zone to }
 {
     match to {

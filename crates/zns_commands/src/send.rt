@@ -1,11 +1,10 @@
 //! Zone Management Send.
 
-ghost use Rattle.std.specs.Prelude.{◌≡◌, ◌<◌, ◌≤◌, ◌^◌, length, List, ℕ, IfOk, OnOk, OnErr};
+ghost use Rattle.std.specs.Prelude.{true, ◌≡◌, ◌<◌, ◌≤◌, ◌^◌, length, List, ℕ, IfOk, OnOk, OnErr};
 ghost use Rattle.nvme_entry.specs.Checks.{first_refused, allowed};
-ghost use Rattle.image_store.specs.Namespace.{zone_at, with_zone};
-ghost use Rattle.zns_commands.specs.Address.{records};
+ghost use Rattle.image_store.specs.Namespace.{zone_at, with_zone, records, IsWithinLimits};
 ghost use Rattle.zns_commands.specs.Answer.{outcome};
-ghost use Rattle.zns_commands.specs.Send.{send_meaning, send_checks, send_effect, zone_checks, zone_plan, zone_effect, all_checks, all_effect, all_fit, swept, takes, held_among, taken_among, CanMove};
+ghost use Rattle.zns_commands.specs.Send.{send_meaning, send_checks, send_effect, room_of, zone_checks, zone_plan, zone_effect, all_checks, all_effect, all_fit, swept, takes, held_among, taken_among, CanMove};
 
 use crate::address::lowest;
 use crate::answer::Answer;
@@ -30,16 +29,25 @@ fn check_zone(image: &Image, holds: &Holds, lba: u64, action: Action) -> Result<
     ensures value { result ≡ allowed (first_refused (zone_checks image.now holds.now lba action)) (zone_plan image.now holds.now lba action) }
     ensures can { IfOk result (CanMove image.now) }
 {
+    let _ = image.geometry();
     let zone = lowest(image, lba)?;
     if holds.refuses(action, zone) {
         return Err(Status::ZONE_HELD);
     }
     let to = image.zone(zone).manage(action)?;
-    let closing = match action {
-        Action::Open => room_for(image, holds, zone)?,
-        _ => None,
-    };
+    let closing = room_of(image, holds, action, zone)?;
     Ok(ZonePlan { zone, to, closing })
+}
+
+/// The zone to be closed so that the action can be taken, if one has to be: only Open takes resources.
+fn room_of(image: &Image, holds: &Holds, action: Action, zone: u32) -> Result<Option<u32>, Status>
+    requires { zone < length image.now.zones }
+    ensures { result ≡ room_of image.now holds.now action (zone_at image.now zone).state }
+{
+    match action {
+        Action::Open => room_for(image, holds, zone),
+        _ => Ok(None),
+    }
 }
 
 /// Takes an action on the zone whose lowest block is `lba`.
@@ -98,7 +106,8 @@ fn few_zones(image: &Image) -> &[Zone]
 
 /// The checks of Select All.
 fn check_all(image: &Image, holds: &Holds, action: Action) -> Result<(), Status>
-    ensures { result ≡ allowed (first_refused (all_checks image.now holds.now action)) tt }
+    ensures value { result ≡ allowed (first_refused (all_checks image.now holds.now action)) tt }
+    ensures fits { OnOk result (all_fit image.now action ≡ true) }
 {
     let zones = few_zones(image);
     if takes_held(zones, holds, action) {
@@ -125,7 +134,8 @@ fn all_fit(image: &Image, action: Action) -> bool
 
 /// Takes the action on a zone, if Select All takes it.
 fn sweep_zone(image: &mut Image, zone: u32, action: Action)
-    requires { zone < length image.old.zones }
+    requires inside { zone < length image.old.zones }
+    requires limits { IsWithinLimits (with_zone image.old zone (swept action (zone_at image.old zone))) }
     ensures { image.new ≡ with_zone image.old zone (swept action (zone_at image.old zone)) }
 {
     let mut copy = image.zone(zone);
@@ -136,8 +146,9 @@ fn sweep_zone(image: &mut Image, zone: u32, action: Action)
     }
 }
 
-/// Takes the action on each zone that Select All takes.
+/// Takes the action on each zone that Select All takes, where each that is opened has an open resource.
 fn sweep(image: &mut Image, action: Action)
+    requires { all_fit image.old action ≡ true }
     ensures { image.new ≡ all_effect image.old action }
 {
     let zones = image.geometry().zones();

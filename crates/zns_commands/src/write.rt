@@ -44,6 +44,7 @@ pub fn check_zone(
     ensures value { result ≡ allowed (first_refused (zone_write_checks image.now holds.now zone at blocks)) (write_plan image.now holds.now zone) }
     ensures can { IfOk result (CanWrite image.now at blocks) }
 {
+    let _ = image.geometry();
     if holds.is_destination(zone) {
         return Err(Status::ZONE_HELD);
     }

@@ -41,7 +41,7 @@ pub enum Step {
     /// The zones that runs use from here on.
     Hold(Holds),
     /// A command with so many bytes of data beside it, and the status that it is answered.
-    Execute(Command, usize, Status),
+    Execute(StandardCommand, usize, Status),
     /// A Report Zones from an address on, with a transfer of so many bytes, by a filter and partial
     /// or not, and the status that it is answered.
     Report(u64, u32, ZoneFilter, bool, Status),
@@ -64,27 +64,27 @@ pub enum Step {
 /// An Append of blocks.
 pub fn append(lba: u64, blocks: u16, status: Status) -> Step {
     let count = BlockCount::from_zero_based(blocks.saturating_sub(1));
-    let command = Command::Append { lba, blocks: count };
+    let command = StandardCommand::Append { lba, blocks: count };
     Step::Execute(command, BLOCK * usize::from(blocks), status)
 }
 
 /// A Write of blocks.
 pub fn write(lba: u64, blocks: u16, status: Status) -> Step {
     let count = BlockCount::from_zero_based(blocks.saturating_sub(1));
-    let command = Command::Write { lba, blocks: count };
+    let command = StandardCommand::Write { lba, blocks: count };
     Step::Execute(command, BLOCK * usize::from(blocks), status)
 }
 
 /// A Read of blocks.
 pub fn read(lba: u64, blocks: u16, status: Status) -> Step {
     let count = BlockCount::from_zero_based(blocks.saturating_sub(1));
-    let command = Command::Read { lba, blocks: count };
+    let command = StandardCommand::Read { lba, blocks: count };
     Step::Execute(command, 0, status)
 }
 
 /// An action on the zone of an address.
 pub fn send(lba: u64, action: Action, status: Status) -> Step {
-    let command = Command::Send {
+    let command = StandardCommand::Send {
         lba,
         action,
         select_all: false,
@@ -94,7 +94,7 @@ pub fn send(lba: u64, action: Action, status: Status) -> Step {
 
 /// An action on all zones that it takes.
 pub fn send_all(action: Action, status: Status) -> Step {
-    let command = Command::Send {
+    let command = StandardCommand::Send {
         lba: 99,
         action,
         select_all: true,
@@ -204,7 +204,7 @@ impl Stage {
     fn execute(
         &mut self,
         rt: &impl Abort,
-        command: &Command,
+        command: &StandardCommand,
         beside: usize,
         status: Status,
     ) -> Result<(), Fail> {
@@ -257,9 +257,14 @@ impl Stage {
 }
 
 /// A Report Zones with a transfer of so many bytes.
-fn report(lba: u64, bytes: u32, filter: ZoneFilter, partial: bool) -> Result<Command, Fail> {
+fn report(
+    lba: u64,
+    bytes: u32,
+    filter: ZoneFilter,
+    partial: bool,
+) -> Result<StandardCommand, Fail> {
     let last = (bytes / 4).saturating_sub(1);
-    Ok(Command::Receive {
+    Ok(StandardCommand::Receive {
         lba,
         dwords: DwordCount::from_zero_based(last).ok_or("too large")?,
         filter,

@@ -1,7 +1,7 @@
 //! What is written, and what is read of it.
 
 use super::script::*;
-use crate::{BlockCount, Command, Status};
+use crate::{BlockCount, StandardCommand, Status};
 use std::test::Fail;
 
 #[test]
@@ -69,7 +69,7 @@ fn transfers_are_checked_before_addresses(rt: HostRuntime) -> Result<(), Fail> {
         // A block of which a byte is missing.
         Step::Begin,
         Step::Execute(
-            Command::Write {
+            StandardCommand::Write {
                 lba: 0,
                 blocks: one,
             },
@@ -84,7 +84,7 @@ fn transfers_are_checked_before_addresses(rt: HostRuntime) -> Result<(), Fail> {
         // Data beside a read.
         Step::Begin,
         Step::Execute(
-            Command::Read {
+            StandardCommand::Read {
                 lba: 0,
                 blocks: one,
             },

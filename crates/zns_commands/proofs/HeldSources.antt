@@ -1,0 +1,145 @@
+-- That a zone which a run reads from keeps its blocks, through every command and fault under the run's hold.
+use Rattle.std.proofs.Common.{◌≡◌, ℕ, zero, suc, Bool, true, false, cond, List, [], ◌∷◌, length, set, map, get_or, Option, None, Result, Ok, Err, refl, ap, sym, subst}
+use Rattle.std.specs.Prelude.{nat_lt, ◌&&◌, ◌||◌}
+use Rattle.zone_state.specs.Transition.{transition}
+use Rattle.zone_state.specs.Zone.{fault_refusal, state_of_fault}
+use Rattle.zone_state.specs.declared.action.Action.{Action}
+use Rattle.zone_state.specs.declared.action.Action.TheVariants as action
+use Rattle.zone_state.specs.declared.state.FaultState.{FaultState}
+use Rattle.zone_state.specs.declared.state.ZoneState.{ZoneState}
+use Rattle.zone_state.specs.declared.state.ZoneState.TheVariants.{Empty, Offline}
+use Rattle.zone_state.specs.declared.zone.FaultRefused.{FaultRefused}
+use Rattle.zone_resources.specs.Holds.{is_destination, is_source, is_held, refuses, forgets}
+use Rattle.zone_resources.specs.declared.holds.Holds.{Holds}
+use Rattle.nvme_entry.specs.Checks.{first_refused}
+use Rattle.nvme_entry.specs.declared.command.StandardCommand.{StandardCommand}
+use Rattle.nvme_entry.specs.declared.command.StandardCommand.TheVariants.{Write, Read, Send, Receive, Append}
+use Rattle.image_store.specs.Namespace.{ZoneBlocks, ZonedNamespace, no_zone, zone_at, with_zone}
+use Rattle.zns_commands.specs.Address.{zone_number}
+use Rattle.zns_commands.specs.Fault.{fault_answer, faulted_by}
+use Rattle.zns_commands.specs.Kept.{Grows, SourcesKeepBlocks}
+use Rattle.zns_commands.specs.Laws.{Commanded, Failed, is_cleared, checks_of, effect_of}
+use Rattle.zns_commands.specs.Resources.{why_not, closed, arrived, moved_to}
+use Rattle.zns_commands.specs.Send.{send_checks, send_effect, zone_plan, takes, swept}
+use Rattle.zns_commands.specs.Write.{write_plan}
+use Rattle.zns_commands.proofs.HeldZones.{not_taken, not_refused, not_held}
+use Rattle.zns_commands.proofs.KeptBlocks.{grows_not, grows_on, closed_grows, written_grows}
+use Rattle.zns_commands.proofs.Meanings.{after_command}
+use Rattle.zns_commands.proofs.MovedZones.{after_action}
+use Rattle.zns_commands.proofs.PassedChecks.{passed}
+use Rattle.zns_commands.proofs.Untouched.{neither, effect_left}
+
+set_grows_at : (zones : List ZoneBlocks) (y z : ℕ) (zone : ZoneBlocks)
+    → (y ≡ z → Grows (get_or zones z no_zone).blocks zone.blocks)
+    → Grows (get_or zones z no_zone).blocks (get_or (set zones y zone) z no_zone).blocks
+set_grows_at [] y z zone grows = grows_not (get_or [] z no_zone).blocks
+set_grows_at (x ∷ xs) zero zero zone grows = grows refl
+set_grows_at (x ∷ xs) zero (suc z) zone grows = grows_not (get_or xs z no_zone).blocks
+set_grows_at (x ∷ xs) (suc y) zero zone grows = grows_not x.blocks
+set_grows_at (x ∷ xs) (suc y) (suc z) zone grows = set_grows_at xs y z zone (λ same. grows (ap suc same))
+
+-- a zone that comes into a state that isn't cleared keeps its blocks
+arrived_keeps : (to : ZoneState) (zone : ZoneBlocks) → is_cleared to ≡ false → Grows zone.blocks (arrived to zone).blocks
+arrived_keeps Empty zone e = cc
+arrived_keeps Offline zone e = cc
+arrived_keeps to zone e = grows_not zone.blocks
+
+-- an action that forgets nothing clears no zone that it can be taken on
+leads_to : (a : Action) (from : ZoneState) → forgets a ≡ false → why_not (transition a from) ≡ None → is_cleared (after_action a from) ≡ false
+leads_to action.Reset from e can = cc
+leads_to action.Offline from e can = cc
+leads_to action.Close Empty e can = cc
+leads_to a Offline e can = cc
+leads_to a from e can = refl
+
+-- nor one that Select All takes
+taken_leads : (a : Action) (from : ZoneState) → forgets a ≡ false → takes a from ≡ true → is_cleared (after_action a from) ≡ false
+taken_leads action.Reset from e is = cc
+taken_leads action.Offline from e is = cc
+taken_leads a Empty e is = cc
+taken_leads a Offline e is = cc
+taken_leads a from e is = refl
+
+swept_one : (a : Action) (zone : ZoneBlocks) (taken : Bool) → forgets a ≡ false → takes a zone.state ≡ taken
+    → Grows zone.blocks (cond taken (arrived (after_action a zone.state) zone) zone).blocks
+swept_one a zone false e is = grows_not zone.blocks
+swept_one a zone true e is = arrived_keeps (after_action a zone.state) zone (taken_leads a zone.state e is)
+
+swept_keeps : (a : Action) (zones : List ZoneBlocks) (z : ℕ) → forgets a ≡ false
+    → Grows (get_or zones z no_zone).blocks (get_or (map (swept a) zones) z no_zone).blocks
+swept_keeps a [] z e = grows_not (get_or [] z no_zone).blocks
+swept_keeps a (x ∷ xs) zero e = swept_one a x (takes a x.state) e refl
+swept_keeps a (x ∷ xs) (suc z) e = swept_keeps a xs z e
+
+-- a source refuses just the actions that forget
+forgets_none : (b forgetting source : Bool) → source ≡ true → (b || (forgetting && source)) ≡ false → forgetting ≡ false
+forgets_none true forgetting source held free = cc
+forgets_none false false source held free = refl
+forgets_none false true source held free = cc
+
+refuses_it : (b forgetting source : Bool) → source ≡ true → forgetting ≡ true → (b || (forgetting && source)) ≡ true
+refuses_it true forgetting source held all = refl
+refuses_it false forgetting source held all = rw (all, held) refl
+
+module _ (ns : ZonedNamespace) (holds : Holds) (d : ℕ) (held : is_source holds d ≡ true) where
+  abbrev Kept : ZonedNamespace → Type 0
+  Kept m = Grows (zone_at ns d).blocks (zone_at m d).blocks
+
+  moved_kept : (gives : Option ℕ) (z : ℕ) (to : ZoneState) → (z ≡ d → is_cleared to ≡ false) → Kept (moved_to (closed ns gives) z to)
+  moved_kept gives z to keeps =
+      let m = closed ns gives in
+      let zone = arrived to (zone_at m z) in
+      grows_on (zone_at ns d).blocks (zone_at m d).blocks (zone_at (with_zone m z zone) d).blocks (closed_grows ns gives d)
+      (set_grows_at m.zones z d zone
+      (λ same. subst (λ (n : ℕ). Grows (zone_at m n).blocks zone.blocks) same (arrived_keeps to (zone_at m z) (keeps same))))
+
+  one_kept : (lba : ℕ) (a : Action) (input : List ℕ) → first_refused (send_checks ns holds lba a false input) ≡ None
+      → Kept (send_effect ns holds lba a false)
+  one_kept lba a input none =
+      let plan = zone_plan ns holds lba a in
+      let from = (zone_at ns (zone_number ns lba)).state in
+      let free = not_refused ns holds lba a input none in
+      moved_kept plan.closing plan.zone plan.to
+      (λ same.
+      let here = subst (λ (n : ℕ). refuses holds a n ≡ false) same free in
+      leads_to a from (forgets_none (is_destination holds d) (forgets a) (is_source holds d) held here)
+      (passed (send_checks ns holds lba a false input) 5 none))
+
+  all_kept : (lba : ℕ) (a : Action) (input : List ℕ) (forgetting : Bool) → forgets a ≡ forgetting
+      → first_refused (send_checks ns holds lba a true input) ≡ None → Kept (send_effect ns holds lba a true)
+  all_kept lba a input false is none = swept_keeps a ns.zones d is
+  all_kept lba a input true is none =
+      let refused = refuses_it (is_destination holds d) (forgets a) (is_source holds d) held is in
+      let same = effect_left ns d holds (Send lba a true) input (not_taken ns holds lba a input d none refused) in
+      subst (λ (zone : ZoneBlocks). Grows (zone_at ns d).blocks zone.blocks) (sym same) (grows_not (zone_at ns d).blocks)
+
+  sent_kept : (lba : ℕ) (a : Action) (select_all : Bool) (input : List ℕ) → first_refused (send_checks ns holds lba a select_all input) ≡ None
+      → Kept (send_effect ns holds lba a select_all)
+  sent_kept lba a false input none = one_kept lba a input none
+  sent_kept lba a true input none = all_kept lba a input (forgets a) refl none
+
+  effect_kept : (command : StandardCommand) (input : List ℕ) → first_refused (checks_of ns holds command input) ≡ None
+      → Kept (effect_of ns holds command input).namespace
+  effect_kept (Write lba blocks) input none = written_grows ns (write_plan ns holds (zone_number ns lba)) input d
+  effect_kept (Append lba blocks) input none = written_grows ns (write_plan ns holds (zone_number ns lba)) input d
+  effect_kept (Read lba blocks) input none = grows_not (zone_at ns d).blocks
+  effect_kept (Receive lba dwords filter partial) input none = grows_not (zone_at ns d).blocks
+  effect_kept (Send lba a select_all) input none = sent_kept lba a select_all input none
+
+  faulted_kept : (z : ℕ) (fault : FaultState) (answer : Result Unit FaultRefused)
+      → ((done : Unit {0}) → answer ≡ Ok done → is_held holds z ≡ false) → Kept (faulted_by answer ns z fault)
+  faulted_kept z fault (Err none) free = grows_not (zone_at ns d).blocks
+  faulted_kept z fault (Ok done) free =
+      moved_kept None z (state_of_fault fault)
+      (λ same.
+      let no_source = (neither (is_source holds z) (is_destination holds z) (free done refl)).0 in
+      let here : is_source holds d ≡ false = subst (λ (n : ℕ). is_source holds n ≡ false) same no_source in
+      cc)
+
+pub sources_keep_blocks : SourcesKeepBlocks
+sources_keep_blocks (Commanded holds command input) ns d held =
+    after_command (λ m. Grows (zone_at ns d).blocks (zone_at m d).blocks) ns holds command input (grows_not (zone_at ns d).blocks)
+    (effect_kept ns holds d held command input)
+sources_keep_blocks (Failed holds z fault) ns d held =
+    faulted_kept ns holds d held z fault (fault_answer ns holds z fault)
+    (λ done e. not_held (nat_lt z (length ns.zones)) (is_held holds z) (fault_refusal fault (zone_at ns z).state) done e)

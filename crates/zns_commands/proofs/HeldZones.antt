@@ -1,0 +1,164 @@
+-- That a zone which a run appends to is touched by no command and no fault under the run's hold.
+use Rattle.std.proofs.Common.{◌≡◌, ℕ, zero, suc, ◌+◌, Bool, true, false, cond, nat_eq, List, [], ◌∷◌, length, map, get_or, Option, Some, None, Result, Ok, Err, refl, ap, subst, arith}
+use Rattle.std.specs.Prelude.{nat_lt, not, ◌&&◌, ◌||◌}
+use Rattle.std.specs.List.{list_any, enumerate_from}
+use Rattle.std.specs.Option.{ForSome}
+use Rattle.std.proofs.lemmas.Bool.{eqb-true}
+use Rattle.zone_state.specs.Zone.{ZoneRecord, fault_refusal}
+use Rattle.zone_state.specs.declared.action.Action.{Action}
+use Rattle.zone_state.specs.declared.action.Action.TheVariants as action
+use Rattle.zone_state.specs.declared.state.ZoneState.{ZoneState}
+use Rattle.zone_state.specs.declared.state.ZoneState.TheVariants.{Offline}
+use Rattle.zone_state.specs.declared.status.TheConstants.Status.{ZONE_HELD}
+use Rattle.zone_state.specs.declared.status.Status.{Status}
+use Rattle.zone_state.specs.declared.zone.FaultRefused.{FaultRefused}
+use Rattle.zone_resources.specs.Admission.{wanted_of, IsClosable}
+use Rattle.zone_resources.specs.Holds.{names, is_destination, is_source, is_held, refuses, forgets}
+use Rattle.zone_resources.specs.declared.admission.Wanted.{Wanted}
+use Rattle.zone_resources.specs.declared.holds.Holds.{Holds}
+use Rattle.nvme_entry.specs.Checks.{first_refused}
+use Rattle.nvme_entry.specs.declared.command.StandardCommand.{StandardCommand}
+use Rattle.nvme_entry.specs.declared.command.StandardCommand.TheVariants.{Write, Read, Send, Receive, Append}
+use Rattle.image_store.specs.Namespace.{ZoneBlocks, ZonedNamespace, no_zone, zone_at, counted, records}
+use Rattle.zns_commands.specs.Address.{zone_number}
+use Rattle.zns_commands.specs.Append.{append_checks}
+use Rattle.zns_commands.specs.Fault.{fault_answer}
+use Rattle.zns_commands.specs.Kept.{is_either, touches, DestinationsAreLeft}
+use Rattle.zns_commands.specs.Laws.{Commanded, Failed, checks_of}
+use Rattle.zns_commands.specs.Resources.{room_by, room_for, closing_of}
+use Rattle.zns_commands.specs.Send.{send_checks, zone_plan, room_of, takes, held_among}
+use Rattle.zns_commands.specs.Write.{write_checks}
+use Rattle.zns_commands.proofs.GivenWay.{admitted_closable}
+use Rattle.zns_commands.proofs.Meanings.{after_command}
+use Rattle.zns_commands.proofs.PassedChecks.{passed, demanded, roomed}
+use Rattle.zns_commands.proofs.Untouched.{neither, effect_left, faulted_left}
+
+pub not_true : (b : Bool) → not b ≡ true → b ≡ false
+not_true true e = cc
+not_true false e = refl
+
+-- the zone that gives way may be closed
+wanted_closable : (ns : ZonedNamespace) (holds : Holds) (wanted : Option Wanted) (gives : Option ℕ)
+    → room_by ns holds wanted ≡ Ok gives → ForSome gives (IsClosable holds (records ns))
+wanted_closable ns holds None gives e = λ k is. cc
+wanted_closable ns holds (Some wanted) gives e = admitted_closable (records ns) ns.limits holds wanted gives e
+
+room_closable : (ns : ZonedNamespace) (holds : Holds) (a : Action) (state : ZoneState)
+    → room_of ns holds a state ≡ Ok (closing_of (room_of ns holds a state))
+    → ForSome (closing_of (room_of ns holds a state)) (IsClosable holds (records ns))
+room_closable ns holds action.Open state room = wanted_closable ns holds (wanted_of state) (closing_of (room_for ns holds state)) room
+room_closable ns holds action.Close state room = λ k is. cc
+room_closable ns holds action.Finish state room = λ k is. cc
+room_closable ns holds action.Reset state room = λ k is. cc
+room_closable ns holds action.Offline state room = λ k is. cc
+
+none_offline : (a : Action) → takes a Offline ≡ false
+none_offline action.Close = refl
+none_offline action.Finish = refl
+none_offline action.Open = refl
+none_offline action.Reset = refl
+none_offline action.Offline = refl
+
+not_both : (takes_it refuses_it more : Bool) → refuses_it ≡ true → ((takes_it && refuses_it) || more) ≡ false → takes_it ≡ false
+not_both true true more held e = cc
+not_both true false more held e = cc
+not_both false refuses_it more held e = refl
+
+-- is one of the zones held, of which the first has this number?
+abbrev held_from : Holds → ℕ → List ZoneRecord → Action → Bool
+held_from holds n zones a = list_any (λ p. takes a p.1.state && refuses holds a p.0) (enumerate_from n zones)
+
+not_taken_from : (holds : Holds) (a : Action) (c n at : ℕ) (zones : List ZoneBlocks) → refuses holds a (n + at) ≡ true
+    → held_from holds n (map (counted c) zones) a ≡ false → takes a (get_or zones at no_zone).state ≡ false
+not_taken_from holds a c n at [] held none = none_offline a
+not_taken_from holds a c n zero (x ∷ xs) held none =
+    let same : n + 0 ≡ n = omega arith in
+    not_both (takes a x.state) (refuses holds a n) (held_from holds (n + 1) (map (counted c) xs) a)
+    (subst (λ (k : ℕ). refuses holds a k ≡ true) same held) none
+not_taken_from holds a c n (suc at) (x ∷ xs) held none =
+    let same : n + suc at ≡ n + 1 + at = omega arith in
+    not_taken_from holds a c (n + 1) at xs (subst (λ (k : ℕ). refuses holds a k ≡ true) same held)
+    (neither (takes a x.state && refuses holds a n) (held_from holds (n + 1) (map (counted c) xs) a) none).1
+
+-- Select All takes no zone that is held against it
+pub not_taken : (ns : ZonedNamespace) (holds : Holds) (lba : ℕ) (a : Action) (input : List ℕ) (z : ℕ)
+    → first_refused (send_checks ns holds lba a true input) ≡ None → refuses holds a z ≡ true → takes a (zone_at ns z).state ≡ false
+not_taken ns holds lba a input z none held =
+    let same : z ≡ 0 + z = omega arith in
+    not_taken_from holds a ns.capacity 0 z ns.zones (subst (λ (k : ℕ). refuses holds a k ≡ true) same held)
+    (not_true (held_among (records ns) holds a)
+    (demanded (not (held_among (records ns) holds a)) ZONE_HELD (passed (send_checks ns holds lba a true input) 2 none)))
+
+-- an action on one zone is on one that isn't held against it
+pub not_refused : (ns : ZonedNamespace) (holds : Holds) (lba : ℕ) (a : Action) (input : List ℕ)
+    → first_refused (send_checks ns holds lba a false input) ≡ None → refuses holds a (zone_number ns lba) ≡ false
+not_refused ns holds lba a input none =
+    let z = zone_number ns lba in
+    not_true (refuses holds a z) (demanded (not (refuses holds a z)) ZONE_HELD (passed (send_checks ns holds lba a false input) 4 none))
+
+-- a fault that isn't refused is of a zone that no run uses
+pub not_held : (inside held : Bool) (answer : Result Unit FaultRefused) (done : Unit {0})
+    → cond (inside && not held) answer (Err (record {})) ≡ Ok done → held ≡ false
+not_held true false answer done e = refl
+not_held true true answer done e = cc
+not_held false held answer done e = cc
+
+module _ (ns : ZonedNamespace) (holds : Holds) (d : ℕ) (held : is_destination holds d ≡ true) where
+  -- a zone that is no destination is another
+  other_by : (z : ℕ) (same : Bool) → nat_eq z d ≡ same → is_destination holds z ≡ false → same ≡ false
+  other_by z true is free =
+      let clash : is_destination holds d ≡ false = subst (λ (n : ℕ). is_destination holds n ≡ false) (eqb-true z d is) free in cc
+  other_by z false is free = refl
+
+  other : (z : ℕ) → is_destination holds z ≡ false → nat_eq z d ≡ false
+  other z free = other_by z (nat_eq z d) refl free
+
+  other_gives : (gives : Option ℕ) → ForSome gives (IsClosable holds (records ns)) → names d gives ≡ false
+  other_gives None closable = refl
+  other_gives (Some k) closable = other k (closable k refl).free
+
+  neither_is : (z : ℕ) (gives : Option ℕ) → is_destination holds z ≡ false → ForSome gives (IsClosable holds (records ns)) → is_either z gives d ≡ false
+  neither_is z gives free closable = rw (other z free, other_gives gives closable) refl
+
+  free_of : (z : ℕ) (checks : List (Option Status)) → first_refused checks ≡ None
+      → (get_or checks 4 None ≡ None → not (is_destination holds z) ≡ true)
+      → (get_or checks 6 None ≡ None → room_for ns holds (zone_at ns z).state ≡ Ok (closing_of (room_for ns holds (zone_at ns z).state)))
+      → is_either z (closing_of (room_for ns holds (zone_at ns z).state)) d ≡ false
+  free_of z checks none is_free has_room =
+      let state = (zone_at ns z).state in
+      neither_is z (closing_of (room_for ns holds state)) (not_true (is_destination holds z) (is_free (passed checks 4 none)))
+      (wanted_closable ns holds (wanted_of state) (closing_of (room_for ns holds state)) (has_room (passed checks 6 none)))
+
+  sent_free : (lba : ℕ) (a : Action) (select_all : Bool) (input : List ℕ) → first_refused (send_checks ns holds lba a select_all input) ≡ None
+      → touches ns (Commanded holds (Send lba a select_all) input) d ≡ false
+  sent_free lba a true input none =
+      not_taken ns holds lba a input d none (ap (λ (b : Bool). b || (forgets a && is_source holds d)) held)
+  sent_free lba a false input none =
+      let z = zone_number ns lba in
+      let plan = zone_plan ns holds lba a in
+      let state = (zone_at ns z).state in
+      let free = neither (is_destination holds z) (forgets a && is_source holds z) (not_refused ns holds lba a input none) in
+      neither_is plan.zone plan.closing free.0
+      (room_closable ns holds a state (roomed (room_of ns holds a state) (passed (send_checks ns holds lba a false input) 6 none)))
+
+  free : (command : StandardCommand) (input : List ℕ) → first_refused (checks_of ns holds command input) ≡ None
+      → touches ns (Commanded holds command input) d ≡ false
+  free (Write lba blocks) input none =
+      let z = zone_number ns lba in
+      free_of z (write_checks ns holds lba blocks input) none (demanded (not (is_destination holds z)) ZONE_HELD) (roomed (room_for ns holds (zone_at ns z).state))
+  free (Append lba blocks) input none =
+      let z = zone_number ns lba in
+      free_of z (append_checks ns holds lba blocks input) none (demanded (not (is_destination holds z)) ZONE_HELD) (roomed (room_for ns holds (zone_at ns z).state))
+  free (Read lba blocks) input none = refl
+  free (Receive lba dwords filter partial) input none = refl
+  free (Send lba a select_all) input none = sent_free lba a select_all input none
+
+pub destinations_are_left : DestinationsAreLeft
+destinations_are_left (Commanded holds command input) ns d held =
+    after_command (λ m. zone_at m d ≡ zone_at ns d) ns holds command input refl
+    (λ none. effect_left ns d holds command input (free ns holds d held command input none))
+destinations_are_left (Failed holds z fault) ns d held =
+    faulted_left ns d z fault (fault_answer ns holds z fault)
+    (λ done e.
+    let no = not_held (nat_lt z (length ns.zones)) (is_held holds z) (fault_refusal fault (zone_at ns z).state) done e in
+    other ns holds d held z (neither (is_source holds z) (is_destination holds z) no).1)

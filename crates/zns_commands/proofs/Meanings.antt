@@ -1,0 +1,32 @@
+-- That each command comes to its effect, or is refused.
+use Rattle.std.proofs.Common.{◌≡◌, ℕ, List, Option, Some, None, refl, sym, subst}
+use Rattle.zone_state.specs.declared.status.Status.{Status}
+use Rattle.zone_resources.specs.declared.holds.Holds.{Holds}
+use Rattle.nvme_entry.specs.declared.command.StandardCommand.{StandardCommand}
+use Rattle.nvme_entry.specs.declared.command.StandardCommand.TheVariants.{Write, Read, Send, Receive, Append}
+use Rattle.nvme_entry.specs.Checks.{first_refused}
+use Rattle.image_store.specs.Namespace.{ZonedNamespace}
+use Rattle.zns_commands.specs.Answer.{Outcome, concluded}
+use Rattle.zns_commands.specs.Meaning.{meaning}
+use Rattle.zns_commands.specs.Laws.{checks_of, effect_of}
+
+meaning_is : (ns : ZonedNamespace) (holds : Holds) (command : StandardCommand) (input : List ℕ)
+    → meaning ns holds command input ≡ concluded (first_refused (checks_of ns holds command input)) ns (effect_of ns holds command input)
+meaning_is ns holds (Write lba blocks) input = refl
+meaning_is ns holds (Read lba blocks) input = refl
+meaning_is ns holds (Send lba action select_all) input = refl
+meaning_is ns holds (Receive lba dwords filter partial) input = refl
+meaning_is ns holds (Append lba blocks) input = refl
+
+concluded_so : (P : ZonedNamespace → Type 0) (refusal : Option Status) (ns : ZonedNamespace) (effect : Outcome)
+    → P ns → (refusal ≡ None → P effect.namespace) → P (concluded refusal ns effect).namespace
+concluded_so P None ns effect before done = done refl
+concluded_so P (Some status) ns effect before done = before
+
+-- what holds of the namespace before a command, and after its effect where no check fails
+pub after_command : (P : ZonedNamespace → Type 0) (ns : ZonedNamespace) (holds : Holds) (command : StandardCommand) (input : List ℕ)
+    → P ns → (first_refused (checks_of ns holds command input) ≡ None → P (effect_of ns holds command input).namespace)
+    → P (meaning ns holds command input).namespace
+after_command P ns holds command input before done =
+    subst (λ (outcome : Outcome). P outcome.namespace) (sym (meaning_is ns holds command input))
+    (concluded_so P (first_refused (checks_of ns holds command input)) ns (effect_of ns holds command input) before done)

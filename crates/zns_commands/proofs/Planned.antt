@@ -1,0 +1,67 @@
+-- What holds of an action that isn't refused.
+use Rattle.std.proofs.Common.{◌≡◌, ℕ, ◌<◌, Bool, true, false, [], ◌∷◌, length, Option, Some, None, Result, Ok, Err, refl, subst}
+use Rattle.std.specs.Prelude.{nat_lt, not, IfOk}
+use Rattle.std.proofs.lemmas.Bool.{ltb-true}
+use Rattle.zone_state.specs.declared.action.Action.{Action}
+use Rattle.zone_state.specs.declared.action.Action.TheVariants as action
+use Rattle.zone_state.specs.declared.state.ZoneState.{ZoneState}
+use Rattle.zone_state.specs.declared.status.Status.{Status}
+use Rattle.zone_state.specs.declared.status.TheConstants.Status.{ZONE_HELD}
+use Rattle.zone_resources.specs.declared.holds.Holds.{Holds}
+use Rattle.nvme_entry.specs.Checks.{demand, allowed, first_refused}
+use Rattle.image_store.specs.Namespace.{ZonedNamespace, zone_at, IsNamespace}
+use Rattle.zns_commands.specs.Address.{zone_number, block_total}
+use Rattle.zns_commands.specs.Resources.{room_for, why_not, closing_of, CanGiveWay}
+use Rattle.zns_commands.specs.Send.{room_of, led_to, zone_checks, zone_plan, CanMove}
+use Rattle.zns_commands.specs.declared.send.ZonePlan.{ZonePlan}
+use Rattle.zns_commands.proofs.GivenWay.{has_room, no_one_gives_way}
+use Rattle.zns_commands.proofs.MovedZones.{action_fits, moved_sound}
+use Rattle.zns_commands.proofs.PassedChecks.{passed, demanded, roomed, zone_inside}
+
+-- the checks of an action on one zone, all passed, and what they give
+pub zone_checked : (address lowest : Option Status) (refused : Bool) (moves : Result ZoneState Status) (room : Result (Option ℕ) Status)
+    (from : ZoneState) (z zone : ℕ) (to : ZoneState) (closing : Option ℕ)
+    → Ok zone ≡ allowed (first_refused (address ∷ lowest ∷ [])) z → refused ≡ false → Ok to ≡ moves → Ok closing ≡ room
+    → Ok (let plan : ZonePlan = record { zone = zone; to = to; closing = closing } in plan)
+    ≡ allowed (first_refused (address ∷ lowest ∷ demand (not refused) ZONE_HELD ∷ why_not moves ∷ why_not room ∷ []))
+    (let plan : ZonePlan = record { zone = z; to = led_to moves from; closing = closing_of room } in plan)
+zone_checked None None false (Ok s) (Ok gives) from z zone to closing is free moves room = cc
+zone_checked (Some status) lowest refused leads gives from z zone to closing is free moves room = cc
+zone_checked None (Some status) refused leads gives from z zone to closing is free moves room = cc
+zone_checked None None true leads gives from z zone to closing is free moves room = cc
+zone_checked None None false (Err status) gives from z zone to closing is free moves room = cc
+zone_checked None None false (Ok s) (Err status) from z zone to closing is free moves room = cc
+
+-- what holds of a value where no check fails holds of what is given
+pub if_allowed : {X : Type 0} (P : X → Type 0) (refusal : Option Status) (x : X) (r : Result X Status)
+    → r ≡ allowed refusal x → (refusal ≡ None → P x) → IfOk r P
+if_allowed P None x (Ok y) e holds =
+    let same : x ≡ y = cc in subst P same (holds refl)
+if_allowed P (Some status) x (Ok y) e holds = absurd cc
+if_allowed P refusal x (Err status) e holds = tt
+
+room_given : (ns : ZonedNamespace) (holds : Holds) (z : ℕ) (a : Action) → IsNamespace ns → z < length ns.zones
+    → room_of ns holds a (zone_at ns z).state ≡ Ok (closing_of (room_of ns holds a (zone_at ns z).state))
+    → CanGiveWay ns z (closing_of (room_of ns holds a (zone_at ns z).state))
+room_given ns holds z action.Open sound inside room =
+    (has_room ns holds z (closing_of (room_for ns holds (zone_at ns z).state)) sound inside room).give
+room_given ns holds z action.Close sound inside room = no_one_gives_way ns z sound
+room_given ns holds z action.Finish sound inside room = no_one_gives_way ns z sound
+room_given ns holds z action.Reset sound inside room = no_one_gives_way ns z sound
+room_given ns holds z action.Offline sound inside room = no_one_gives_way ns z sound
+
+pub can_move : (ns : ZonedNamespace) (holds : Holds) (lba : ℕ) (a : Action) → IsNamespace ns
+    → first_refused (zone_checks ns holds lba a) ≡ None → CanMove ns (zone_plan ns holds lba a)
+can_move ns holds lba a sound none =
+    let checks = zone_checks ns holds lba a in
+    let z = zone_number ns lba in
+    let state = (zone_at ns z).state in
+    let start = ltb-true lba (block_total ns) (demanded (nat_lt lba (block_total ns)) _ (passed checks 0 none)) in
+    let inside = zone_inside ns lba sound start in
+    let room = roomed (room_of ns holds a state) (passed checks 4 none) in
+    record {
+      inside = inside;
+      fits = action_fits a state (length (zone_at ns z).blocks) ns.capacity (sound.fits z inside);
+      gives = room_given ns holds z a sound inside room;
+      limits = (moved_sound ns holds z a (closing_of (room_of ns holds a state)) sound inside room).within;
+    }

@@ -1,0 +1,94 @@
+-- That commands and faults leave the zones that they do not touch.
+use Rattle.std.proofs.Common.{◌≡◌, ℕ, zero, suc, Bool, true, false, cond, nat_eq, List, [], ◌∷◌, get_or, map, Option, Some, None, Result, Ok, Err, refl, sym, ◌∙◌, get_or-set_other}
+use Rattle.std.specs.Prelude.{◌||◌}
+use Rattle.std.proofs.lemmas.Bool.{eqb-false}
+use Rattle.zone_state.specs.Transition.{transition}
+use Rattle.zone_state.specs.Zone.{state_of_fault}
+use Rattle.zone_state.specs.declared.action.Action.{Action}
+use Rattle.zone_state.specs.declared.state.FaultState.{FaultState}
+use Rattle.zone_state.specs.declared.state.ZoneState.{ZoneState}
+use Rattle.zone_state.specs.declared.state.ZoneState.TheVariants.{Closed}
+use Rattle.zone_state.specs.declared.zone.FaultRefused.{FaultRefused}
+use Rattle.zone_resources.specs.Holds.{names}
+use Rattle.zone_resources.specs.declared.holds.Holds.{Holds}
+use Rattle.nvme_entry.specs.declared.command.StandardCommand.{StandardCommand}
+use Rattle.nvme_entry.specs.declared.command.StandardCommand.TheVariants.{Write, Read, Send, Receive, Append}
+use Rattle.image_store.specs.Blocks.{as_blocks}
+use Rattle.image_store.specs.Namespace.{ZoneBlocks, ZonedNamespace, no_zone, zone_at, with_zone, grown}
+use Rattle.zns_commands.specs.Address.{zone_number}
+use Rattle.zns_commands.specs.Fault.{fault_answer, faulted_by}
+use Rattle.zns_commands.specs.Kept.{is_either, touches, OthersAreLeft}
+use Rattle.zns_commands.specs.Laws.{Commanded, Failed, effect_of}
+use Rattle.zns_commands.specs.Resources.{closed, arrived, moved_to}
+use Rattle.zns_commands.specs.Send.{send_effect, zone_plan, takes, swept, led_to}
+use Rattle.zns_commands.specs.Write.{write_plan, written}
+use Rattle.zns_commands.specs.declared.write.WritePlan.{WritePlan}
+use Rattle.zns_commands.proofs.Meanings.{after_command}
+
+-- of two, neither
+pub neither : (a b : Bool) → (a || b) ≡ false → (a ≡ false) × (b ≡ false)
+neither true b e = cc
+neither false b e = (refl, e)
+
+not_moved : (taken : Bool) (moved zone : ZoneBlocks) → taken ≡ false → cond taken moved zone ≡ zone
+not_moved true moved zone other = cc
+not_moved false moved zone other = refl
+
+swept_left : (a : Action) (zones : List ZoneBlocks) (z : ℕ) → takes a (get_or zones z no_zone).state ≡ false
+    → get_or (map (swept a) zones) z no_zone ≡ get_or zones z no_zone
+swept_left a [] z other = refl
+swept_left a (x ∷ xs) zero other =
+    not_moved (takes a x.state) (arrived (led_to (transition a x.state) x.state) x) x other
+swept_left a (x ∷ xs) (suc z) other = swept_left a xs z other
+
+module _ (ns : ZonedNamespace) (d : ℕ) where
+  abbrev Left : ZonedNamespace → Type 0
+  Left m = zone_at m d ≡ zone_at ns d
+
+  closed_left : (gives : Option ℕ) → names d gives ≡ false → Left (closed ns gives)
+  closed_left None other = refl
+  closed_left (Some k) other =
+      get_or-set_other ns.zones k d (record { state = Closed; blocks = (zone_at ns k).blocks }) no_zone
+      (λ (same : d ≡ k). eqb-false k d other (sym same))
+
+  set_left : (m : ZonedNamespace) (z : ℕ) (zone : ZoneBlocks) → nat_eq z d ≡ false → Left m → Left (with_zone m z zone)
+  set_left m z zone other left = get_or-set_other m.zones z d zone no_zone (λ (same : d ≡ z). eqb-false z d other (sym same)) ∙ left
+
+  written_left : (plan : WritePlan) (input : List ℕ) → is_either plan.zone plan.closing d ≡ false → Left (written ns plan input)
+  written_left plan input other =
+      let m = closed ns plan.closing in
+      let none = neither (nat_eq plan.zone d) (names d plan.closing) other in
+      set_left m plan.zone (grown m.capacity (zone_at m plan.zone) (as_blocks m.block input)) none.0 (closed_left plan.closing none.1)
+
+  moved_left : (gives : Option ℕ) (z : ℕ) (to : ZoneState) → is_either z gives d ≡ false → Left (moved_to (closed ns gives) z to)
+  moved_left gives z to other =
+      let m = closed ns gives in
+      let none = neither (nat_eq z d) (names d gives) other in
+      set_left m z (arrived to (zone_at m z)) none.0 (closed_left gives none.1)
+
+  sent_left : (holds : Holds) (lba : ℕ) (a : Action) (select_all : Bool) (input : List ℕ)
+      → touches ns (Commanded holds (Send lba a select_all) input) d ≡ false → Left (send_effect ns holds lba a select_all)
+  sent_left holds lba a true input other = swept_left a ns.zones d other
+  sent_left holds lba a false input other =
+      let plan = zone_plan ns holds lba a in moved_left plan.closing plan.zone plan.to other
+
+  pub effect_left : (holds : Holds) (command : StandardCommand) (input : List ℕ)
+      → touches ns (Commanded holds command input) d ≡ false → Left (effect_of ns holds command input).namespace
+  effect_left holds (Write lba blocks) input other = written_left (write_plan ns holds (zone_number ns lba)) input other
+  effect_left holds (Append lba blocks) input other = written_left (write_plan ns holds (zone_number ns lba)) input other
+  effect_left holds (Read lba blocks) input other = refl
+  effect_left holds (Receive lba dwords filter partial) input other = refl
+  effect_left holds (Send lba a select_all) input other = sent_left holds lba a select_all input other
+
+  either_none : (z : ℕ) → nat_eq z d ≡ false → is_either z None d ≡ false
+  either_none z other = rw other refl
+
+  pub faulted_left : (z : ℕ) (fault : FaultState) (answer : Result Unit FaultRefused)
+      → ((done : Unit {0}) → answer ≡ Ok done → nat_eq z d ≡ false) → Left (faulted_by answer ns z fault)
+  faulted_left z fault (Err none) other = refl
+  faulted_left z fault (Ok done) other = moved_left None z (state_of_fault fault) (either_none z (other done refl))
+
+pub others_are_left : OthersAreLeft
+others_are_left (Commanded holds command input) ns z other =
+    after_command (λ m. zone_at m z ≡ zone_at ns z) ns holds command input refl (λ none. effect_left ns z holds command input other)
+others_are_left (Failed holds y fault) ns z other = faulted_left ns z y fault (fault_answer ns holds y fault) (λ done e. other)
