@@ -21,7 +21,7 @@ fn check(image: &Image, lba: u64, blocks: BlockCount, input: &[u8]) -> Result<Pl
     ensures inside { IfOk result (λ place. place.zone < length image.now.zones) }
     ensures most { OnOk result (blocks * image.now.block ≤ MOST_TRANSFER) }
 {
-    let bytes = u64::from(blocks.get()) * u64::from(image.geometry().block());
+    let bytes = u64::from(blocks.get()) * u64::from(image.geometry().block().bytes());
     transfer::check(bytes, 0, input)?;
     let place = range(image, lba, blocks)?;
     if image.zone(place.zone).state() == ZoneState::Offline {
@@ -63,7 +63,7 @@ fn give_blocks(image: &Image, place: Place, blocks: BlockCount, output: &mut [u8
     ensures front { take result output.new ≡ bytes_of (blocks_read image.now.block (zone_at image.now place.zone).blocks place.offset blocks) }
     ensures rest { drop result output.new ≡ drop result output.old }
 {
-    let block = image.geometry().block() as usize;
+    let block = image.geometry().block().bytes() as usize;
     let written = image.zone(place.zone).written();
     let first = place.offset.min(written);
     let stored = blocks.get().min(written - first);

@@ -29,13 +29,13 @@ fn check_zone(image: &Image, holds: &Holds, lba: u64, action: Action) -> Result<
     ensures value { result ≡ allowed (first_refused (zone_checks image.now holds.now lba action)) (zone_plan image.now holds.now lba action) }
     ensures can { IfOk result (CanMove image.now) }
 {
-    let _ = image.geometry();
     let zone = lowest(image, lba)?;
     if holds.refuses(action, zone) {
         return Err(Status::ZONE_HELD);
     }
     let to = image.zone(zone).manage(action)?;
     let closing = room_of(image, holds, action, zone)?;
+    let _ = image.geometry();
     Ok(ZonePlan { zone, to, closing })
 }
 

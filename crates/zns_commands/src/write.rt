@@ -28,7 +28,7 @@ pub fn check_data(image: &Image, blocks: BlockCount, input: &[u8]) -> Result<(),
     ensures value { let bytes = blocks * image.now.block in result ≡ allowed (first_refused (transfer_checks bytes bytes input.now)) tt }
     ensures whole { OnOk result (IsWhole image.now blocks input.now) }
 {
-    let bytes = u64::from(blocks.get()) * u64::from(image.geometry().block());
+    let bytes = u64::from(blocks.get()) * u64::from(image.geometry().block().bytes());
     transfer::check(bytes, bytes, input)
 }
 
@@ -44,12 +44,12 @@ pub fn check_zone(
     ensures value { result ≡ allowed (first_refused (zone_write_checks image.now holds.now zone at blocks)) (write_plan image.now holds.now zone) }
     ensures can { IfOk result (CanWrite image.now at blocks) }
 {
-    let _ = image.geometry();
     if holds.is_destination(zone) {
         return Err(Status::ZONE_HELD);
     }
     image.zone(zone).check_write(at, blocks.get())?;
     let closing = room_for(image, holds, zone)?;
+    let _ = image.geometry();
     Ok(WritePlan { zone, closing })
 }
 

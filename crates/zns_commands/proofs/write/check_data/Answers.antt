@@ -11,6 +11,6 @@ returns-clause-whole c =
     on_ok_weaker c.check.result
     (λ whole.
     let size : length c.args.input.now ≡ c.args.blocks * c.args.image.now.block =
-    whole ∙ rw (c.from.ensures, c.get.ensures.value, c.from-2.ensures, c.block.ensures.value, block) refl in
+    whole ∙ rw (c.from.ensures, c.get.ensures.value, c.from-2.ensures, c.bytes.ensures.value, c.block.ensures.value, block) refl in
     record { count = count_of c.args.blocks c.args.image.now.block c.args.input.now some size; size = size })
     c.check.ensures.whole
