@@ -4,6 +4,7 @@
 pub mod asm;
 pub mod disasm;
 mod program;
+mod sizes;
 pub mod trace;
 pub mod unpack;
 pub mod verify;

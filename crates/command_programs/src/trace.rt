@@ -1,18 +1,19 @@
 //! The command `trace`: one block run, step by step.
 
-ghost use Rattle.std.specs.Prelude.{◌≡◌, ◌≤◌, ◌<◌, ◌+◌, ◌^◌, length, IfSome};
+ghost use Rattle.std.specs.Prelude.{◌≡◌, ◌≤◌, ◌<◌, ◌+◌, ◌^◌, length};
 ghost use Rattle.interp.specs.Step.{IsAt};
 ghost use Rattle.interp.specs.State.{slot_of, steps_of, group_length};
+ghost use Rattle.program_interface.specs.Context.{context_bytes};
 
 use crate::program::read_program;
-use byteorder::{ByteOrder, LittleEndian};
+use crate::sizes::{block_size, run_sizes};
 use clap::{Arg, ArgMatches, Command};
 use command_failure::{Failure, printed};
 use command_files::arguments::{number, option, required};
 use command_files::{Files, read};
 use ebpf_decode::Program;
-use emit_append::is_block_size;
 use interp::{Machine, Step};
+use program_interface::{BlockSize, CONTEXT_BYTES, Context, LARGEST_BLOCK, SCRATCH_BYTES};
 use std::alloc::{AllocError, Global};
 use std::io::{self, Write};
 
@@ -86,51 +87,40 @@ pub fn trace<'a, F: Files, O: Write>(
     let program = read_program(alloc, required(matches, PROGRAM), files)?;
     let block = read(required(matches, BLOCK), files)?;
     let block = block.as_slice();
-    let Some(size) = block_size(block) else {
-        return Err(Failure::GeometryRefused(1));
-    };
-    if limit > size {
-        return Err(Failure::EmitExceedsBlock);
-    }
-    let mut group = vec![in alloc; 0; limit as usize]?;
-    let context = context(size, argument);
+    let size = block_size(block.len())?;
+    let sizes = run_sizes(size, limit)?;
+    let mut group = vec![in alloc; 0; sizes.limit() as usize]?;
+    let context = first_and_only(size, argument);
     printed(run(&program, block, &context, fuel, group.as_mut_slice(), out))
 }
 
-/// The length of a block, where it is a block size.
-fn block_size(block: &[u8]) -> Option<u32>
-    ensures { IfSome result (λ size. (size ≡ length block.now) × (size ≤ 4096)) }
-{
-    let size = u32::try_from(block.len()).ok()?;
-    if is_block_size(size) {
-        Some(size)
-    } else {
-        None
-    }
-}
-
 /// The context of the first and only block of a run, at LBA 0.
-fn context(size: u32, argument: u32) -> [u8; 32] {
-    let mut context = [0; 32];
-    LittleEndian::write_u32(&mut context[12..], 1);
-    LittleEndian::write_u32(&mut context[16..], size);
-    LittleEndian::write_u32(&mut context[20..], argument);
-    context
+fn first_and_only(block: BlockSize, argument: u32) -> [u8; CONTEXT_BYTES]
+    ensures { result ≡ context_bytes (record { lba = 0; index = 0; count = 1; block = block; argument = argument }) }
+{
+    let context = Context {
+        lba: 0,
+        index: 0,
+        count: 1,
+        block,
+        argument,
+    };
+    context.encode()
 }
 
 /// Runs the program, and prints its steps and its end.
 fn run<O: Write>(
     program: &Program,
     block: &[u8],
-    context: &[u8; 32],
+    context: &[u8; CONTEXT_BYTES],
     fuel: u32,
     group: &mut [u8],
     out: &mut O,
 ) -> io::Result<()>
-    requires block { length block.now ≤ 4096 }
-    requires group { length group.old ≤ 4096 }
+    requires block { length block.now ≤ LARGEST_BLOCK }
+    requires group { length group.old ≤ LARGEST_BLOCK }
 {
-    let mut scratch = [0; 1024];
+    let mut scratch = [0; SCRATCH_BYTES];
     let mut machine = Machine::new(block, context, &mut scratch);
     let _ = program.slots();
     follow(&mut machine, program, fuel, group, out)
@@ -146,7 +136,7 @@ fn follow<O: Write>(
 ) -> io::Result<()>
     requires at { IsAt program.now (slot_of machine.old) }
     requires steps { steps_of machine.old ≡ 0 }
-    requires group { length group.old ≤ 4096 }
+    requires group { length group.old ≤ LARGEST_BLOCK }
     requires used { group_length machine.old ≤ length group.old }
 {
     let limit = group.len();

@@ -3,11 +3,12 @@
 ghost use Rattle.std.specs.Prelude.{◌≡◌};
 ghost use Rattle.command_programs.specs.Told.{told_of_frame};
 
+use crate::sizes::block_size;
 use clap::{Arg, ArgMatches, Command};
 use command_failure::{Failure, printed};
 use command_files::arguments::{block_option, number, required};
 use command_files::{Files, read};
-use emit_append::{UnpackFault, is_block_size, unpack as records_of};
+use emit_append::{UnpackFault, unpack as records_of};
 use std::alloc::{AllocError, Global};
 use std::io::Write;
 
@@ -56,9 +57,7 @@ pub fn unpack<'a, F: Files, O: Write>(
 {
     let block = number(matches, BLOCK)?;
     let file = read(required(matches, FILE), files)?;
-    if !is_block_size(block) {
-        return Err(Failure::GeometryRefused(1));
-    }
+    let block = block_size(block as usize)?;
     let records = records_of(alloc, file.as_slice(), block).map_err(|fault| refused(fault))?;
     let mut text = String::new(alloc);
     for record in records.iter() {

@@ -3,11 +3,11 @@
 ghost use Rattle.std.specs.Prelude.{◌≡◌};
 
 use crate::program::read_program;
+use crate::sizes::{block_size, run_sizes};
 use clap::{Arg, ArgMatches, Command};
 use command_failure::{Failure, printed};
 use command_files::Files;
 use command_files::arguments::{block_option, number, option, required};
-use emit_append::is_block_size;
 use reg_domain::Intervals;
 use std::alloc::{AllocError, Global};
 use std::io::Write;
@@ -70,14 +70,9 @@ pub fn verify<'a, F: Files, O: Write>(
     let block = number(matches, BLOCK)?;
     let limit = number(matches, EMIT)?;
     let program = read_program(alloc, required(matches, PROGRAM), files)?;
-    if !is_block_size(block) {
-        return Err(Failure::GeometryRefused(1));
-    }
-    if limit > block {
-        return Err(Failure::EmitExceedsBlock);
-    }
+    let sizes = run_sizes(block_size(block as usize)?, limit)?;
     let instructions = program.len();
-    match verify_over::<Intervals>(alloc, program, limit as usize, block as usize) {
+    match verify_over::<Intervals>(alloc, program, sizes) {
         Ok(_) => printed(writeln!(out, "accepted {instructions}")),
         Err(VerifyFault::Refused(refusal)) => Err(tell_refusal(refusal, out)),
         Err(VerifyFault::Memory) => Err(Failure::NoMemory),
