@@ -170,9 +170,19 @@ module _ {D : Type 0} {IsFact : D → Type 0} {operations : Operations D} (give 
   -- ---- slots
   entry_are : AreFacts IsFact (entry_facts operations)
   entry_are =
-      let none = give.constant 0 (lit< tt) in
-      (none, (give.pointer Context 0 (lit< tt), (give.pointer Block 0 (lit< tt), (give.pointer Scratch 0 (lit< tt),
-      (none, (none, (none, (none, (none, (none, (give.pointer Stack 512 (lit< tt), tt)))))))))))
+      let none = give.constant 0 (lit< tt) in (
+        none,
+        (
+          give.pointer Context 0 (lit< tt),
+          (
+            give.pointer Block 0 (lit< tt),
+            (
+              give.pointer Scratch 0 (lit< tt),
+              (none, (none, (none, (none, (none, (none, (give.pointer Stack 512 (lit< tt), tt))))))),
+            ),
+          ),
+        ),
+      )
 
   gives_facts : (block : ℕ) (i : Option Insn) (slot : ℕ) (facts : Option (Facts D)) (other : ℕ) (sofar : Option (Facts D))
       → SomeAreFacts IsFact facts → SomeAreFacts IsFact sofar
