@@ -7,21 +7,22 @@
 use anyhow::{Context, Result, bail, ensure};
 use ebpf_decode::{Program, decode};
 use interp::{End, Machine};
+use program_interface::{CONTEXT_BYTES, LARGEST_BLOCK, MOST_SLOTS, SCRATCH_BYTES};
 use std::rt::{Clock, Env, Files};
 use std::time::Instant;
 use std::{env, fs};
 
 /// One run: R0 and the number of steps.
 fn run(program: &Program, block: &[u8]) -> Result<(u64, u64)> {
-    ensure!(block.len() <= 4096, "the block is too long");
-    let context = [0; 32];
-    let mut scratch = [0; 1024];
+    ensure!(block.len() <= LARGEST_BLOCK, "the block is too long");
+    let context = [0; CONTEXT_BYTES];
+    let mut scratch = [0; SCRATCH_BYTES];
     let mut machine = Machine::new(block, &context, &mut scratch);
     ensure!(
         program.at(machine.slot()).is_some(),
         "no instruction begins at slot 0"
     );
-    match machine.run_checked(program, 0, 4096, &mut []) {
+    match machine.run_checked(program, 0, MOST_SLOTS as u64, &mut []) {
         End::Exit { r0 } => Ok((r0, machine.steps())),
         End::Trap { slot, cause } => bail!("trap at slot {slot}: {cause:?}"),
         End::OutOfFuel => bail!("out of fuel"),

@@ -8,7 +8,7 @@ mod work;
 use std::alloc::Global;
 use std::time::Instant;
 use std::{env, io};
-use work::{copy_all, copy_groups, pack_groups};
+use work::{BLOCK, copy_all, copy_groups, pack_groups};
 
 /// The lengths of the groups.
 const LENGTHS: [usize; 2] = [10, 510];
@@ -29,7 +29,7 @@ fn main(rt: HostRuntime) -> io::Result<()> {
     let source = bytes(rt.alloc(), IN_CACHE)?;
     let mut target = bytes(rt.alloc(), IN_CACHE + IN_CACHE / 8)?;
     for length in LENGTHS {
-        let blocks = pack_groups(&source, length, &mut target) / 4096;
+        let blocks = pack_groups(&source, length, &mut target) / BLOCK as usize;
         println!(rt; "groups of {length} bytes fill {blocks} blocks")?;
     }
     Ok(())
@@ -66,7 +66,7 @@ fn measure(
     rounds: u32,
 ) -> io::Result<()>
     requires some { 0 < group }
-    requires fits { group ≤ 4096 }
+    requires fits { group ≤ BLOCK }
     requires room { length source.now ≤ length target.old }
 {
     let mut packing = u64::MAX;

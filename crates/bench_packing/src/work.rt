@@ -2,17 +2,18 @@
 
 ghost use Rattle.std.specs.Prelude.{◌≡◌, ◌≤◌, ◌<◌, ◌++◌, length, drop};
 
-use emit_append::{Full, Packer};
+use emit_append::{BlockSize, Full, Packer};
 
-const BLOCK: u32 = 4096;
+/// The bytes of a block.
+pub(crate) const BLOCK: u32 = 4096;
 
 /// Packs the whole groups of this length in the bytes, puts each block into the target behind the
 /// one before, and answers how many bytes of the target the blocks fill.
 pub(crate) fn pack_groups(bytes: &[u8], length: usize, target: &mut [u8]) -> usize
     requires some { 0 < length }
-    requires fits { length ≤ 4096 }
+    requires fits { length ≤ BLOCK }
 {
-    let mut packer = Packer::new(BLOCK);
+    let mut packer = Packer::new(BlockSize::new(BLOCK).unwrap());
     let mut filled = 0;
     let mut rest = bytes;
     while rest.len() >= length {

@@ -6,11 +6,12 @@
 #![tactic(auto)]
 
 ghost use Rattle.std.specs.Prelude.{◌≡◌, ◌≤◌, IfOk, length};
-ghost use Rattle.verifier.specs.Verified.{block_of, limit_of};
+ghost use Rattle.verifier.specs.Verified.{sizes_of};
 
 use anyhow::{Context, Result, bail, ensure};
 use ebpf_decode::decode;
 use interp::Machine;
+use program_interface::{BlockSize, RunSizes};
 use reg_domain::Intervals;
 use std::alloc::Global;
 use std::rt::{Clock, Env, Files};
@@ -19,12 +20,10 @@ use std::{env, fs};
 use verifier::{Verified, VerifyFault, verify};
 
 /// One load.
-fn load(alloc: Global, bytes: &[u8], block: usize) -> Result<Verified<Intervals>>
-    requires { block ≤ 4096 }
-    ensures limit { IfOk result (λ v. limit_of v ≡ 0) }
-    ensures block { IfOk result (λ v. block_of v ≡ block) }
+fn load(alloc: Global, bytes: &[u8], sizes: RunSizes) -> Result<Verified<Intervals>>
+    ensures { IfOk result (λ v. sizes_of v ≡ sizes) }
 {
-    match verify::<Intervals>(alloc, decode(alloc, bytes)?, 0, block) {
+    match verify::<Intervals>(alloc, decode(alloc, bytes)?, sizes) {
         Ok(verified) => Ok(verified),
         Err(VerifyFault::Refused(refusal)) => {
             bail!("refused at slot {}: {:?}", refusal.slot, refusal.reason)
@@ -36,8 +35,8 @@ fn load(alloc: Global, bytes: &[u8], block: usize) -> Result<Verified<Intervals>
 /// One run: R0 and the number of steps.
 fn run(program: &Verified<Intervals>, block: &[u8]) -> (u64, u64)
     requires most { length block.now ≤ 4096 }
-    requires block { length block.now ≡ block_of program.now }
-    requires limit { limit_of program.now ≡ 0 }
+    requires block { length block.now ≡ (sizes_of program.now).block }
+    requires limit { (sizes_of program.now).limit ≡ 0 }
 {
     let context = [0; 32];
     let mut scratch = [0; 1024];
@@ -50,14 +49,12 @@ fn load_round(
     rt: &impl Clock,
     alloc: Global,
     bytes: &[u8],
-    block: usize,
+    sizes: RunSizes,
     repeats: u32,
-) -> Result<u128>
-    requires { block ≤ 4096 }
-{
+) -> Result<u128> {
     let start = Instant::now(rt)?;
     for _ in 0..repeats {
-        load(alloc, bytes, block)?;
+        load(alloc, bytes, sizes)?;
     }
     Ok(start.elapsed(rt)?.as_nanos())
 }
@@ -70,8 +67,8 @@ fn run_round(
     repeats: u32,
 ) -> Result<u128>
     requires most { length block.now ≤ 4096 }
-    requires block { length block.now ≡ block_of program.now }
-    requires limit { limit_of program.now ≡ 0 }
+    requires block { length block.now ≡ (sizes_of program.now).block }
+    requires limit { (sizes_of program.now).limit ≡ 0 }
 {
     let start = Instant::now(rt)?;
     for _ in 0..repeats {
@@ -90,13 +87,15 @@ fn main(rt: HostRuntime) -> Result<()> {
     let bytes = fs::read(&rt, &program)?;
     let block = fs::read(&rt, &block)?;
     ensure!(block.len() <= 4096, "the block is too long");
-    let program = load(rt.alloc(), &bytes, block.len())?;
+    let size = BlockSize::new(block.len() as u32).context("that is the size of no block")?;
+    let sizes = RunSizes::new(size, 0).context("nothing emitted fits no block")?;
+    let program = load(rt.alloc(), &bytes, sizes)?;
     println!(rt; "accepted {}", program.program().len())?;
     let (r0, steps) = run(&program, &block);
     println!(rt; "{r0} {steps}")?;
     let (mut loading, mut running) = (u128::MAX, u128::MAX);
     for _ in 0..rounds {
-        loading = loading.min(load_round(&rt, rt.alloc(), &bytes, block.len(), repeats)?);
+        loading = loading.min(load_round(&rt, rt.alloc(), &bytes, sizes, repeats)?);
         running = running.min(run_round(&rt, &program, &block, repeats)?);
     }
     let instructions = u128::from(steps) * u128::from(repeats);

@@ -1,34 +1,25 @@
 //! The words of a command line, and what they ask for.
 #![tactic(auto)]
 
-mod arguments;
-mod asm;
-mod disasm;
-mod exec;
-mod failure;
-mod files;
-mod format;
-mod image_file;
-mod program;
-mod trace;
-mod unpack;
-mod verify;
-mod zones;
+ghost use Rattle.std.specs.Prelude.{◌≡◌, ◌≢◌, ◌≤◌, ◌<◌, IfErr};
+ghost use Rattle.command_files.specs.Made.{MakesAtMostOne};
 
-ghost use Rattle.std.specs.Prelude.{◌≡◌, ◌≤◌, ◌<◌, OnErr};
-
-use crate::failure::STANDARD_OUTPUT;
-use clap::Command;
 use clap::error::ErrorKind;
-pub use failure::Failure;
-pub use files::{Disk, FileError, Files};
+use clap::{ArgMatches, Command};
+use command_exec::exec;
+pub use command_failure::Failure;
+use command_failure::printed;
+pub use command_files::{Disk, FileError, Files};
+use command_images::{format, zones};
+use command_programs::{asm, disasm, trace, unpack, verify};
 use std::alloc::{AllocError, Global};
 use std::io::Write;
 
 /// Does what the words ask for, the program's name first, and answers the exit status: 0 where all
 /// was done, 1 where a file failed or memory was wanting, 2 for a wrong command line, 3 for input
 /// that is refused. For 1 and 3 the last line written to `err` says what it was; that a program isn't
-/// accepted stands on `out` alone. No file is made then.
+/// accepted stands on `out` alone. At most one file is made, and none where this fails, but that
+/// `exec` saves an image where `out` fails.
 pub fn command<F: Files, O: Write, E: Write>(
     alloc: Global,
     words: &[String],
@@ -38,7 +29,8 @@ pub fn command<F: Files, O: Write, E: Write>(
 ) -> u8
     ensures known { result ≤ 3 }
     ensures quiet { result ≡ 0 → err.new ≡ err.old }
-    ensures kept { 0 < result → F.made files.new ≡ F.made files.old }
+    ensures one { MakesAtMostOne (F.made files.old) (F.made files.new) }
+    ensures kept { 1 < result → F.made files.new ≡ F.made files.old }
 {
     match run(alloc, words, files, out) {
         Ok(()) => 0,
@@ -46,20 +38,35 @@ pub fn command<F: Files, O: Write, E: Write>(
     }
 }
 
+/// Of the failures, that of standard output alone can leave a file that was made.
 fn run<'a, F: Files, O: Write>(
     alloc: Global,
     words: &'a [String],
     files: &mut F,
     out: &mut O,
 ) -> Result<(), Failure<'a>>
-    ensures { OnErr result (F.made files.new ≡ F.made files.old) }
+    ensures one { MakesAtMostOne (F.made files.old) (F.made files.new) }
+    ensures kept { IfErr result (λ failure. failure ≢ Failure.CannotPrint → F.made files.new ≡ F.made files.old) }
 {
     let mut line = command_line(alloc)?;
-    let matches = match line.try_get_matches_from_mut(words) {
-        Ok(matches) => matches,
-        Err(error) if error.kind() == ErrorKind::DisplayHelp => return show(&error, out),
-        Err(error) => return Err(Failure::from(error)),
-    };
+    match line.try_get_matches_from_mut(words) {
+        Ok(matches) => perform(alloc, &mut line, &matches, files, out),
+        Err(error) if error.kind() == ErrorKind::DisplayHelp => printed(write!(out, "{error}")),
+        Err(error) => Err(Failure::from(error)),
+    }
+}
+
+/// Does the command that a command line has.
+fn perform<'a, F: Files, O: Write>(
+    alloc: Global,
+    line: &mut Command<'a>,
+    matches: &ArgMatches<'a>,
+    files: &mut F,
+    out: &mut O,
+) -> Result<(), Failure<'a>>
+    ensures one { MakesAtMostOne (F.made files.old) (F.made files.new) }
+    ensures kept { IfErr result (λ failure. failure ≢ Failure.CannotPrint → F.made files.new ≡ F.made files.old) }
+{
     match matches.subcommand() {
         Some((format::NAME, matches)) => format::format(alloc, matches, files),
         Some((zones::NAME, matches)) => zones::zones(alloc, matches, files, out),
@@ -78,24 +85,24 @@ fn run<'a, F: Files, O: Write>(
 
 /// How a command line is written.
 fn command_line<'a>(alloc: Global) -> Result<Command<'a>, AllocError> {
-    Command::new(alloc, "zscli")
+    let line = Command::new(alloc, "zscli")
         .about("Works on zoned namespaces, and on the programs that run beside their data")
         .subcommand_required(true)
-        .arg_required_else_help(true)
-        .subcommand(format::subcommand(alloc)?)?
-        .subcommand(zones::subcommand(alloc)?)?
-        .subcommand(exec::subcommand(alloc)?)?
-        .subcommand(asm::subcommand(alloc)?)?
-        .subcommand(disasm::subcommand(alloc)?)?
-        .subcommand(trace::subcommand(alloc)?)?
-        .subcommand(verify::subcommand(alloc)?)?
-        .subcommand(unpack::subcommand(alloc)?)
+        .arg_required_else_help(true);
+    let line = and_command(line, format::subcommand(alloc))?;
+    let line = and_command(line, zones::subcommand(alloc))?;
+    let line = and_command(line, exec::subcommand(alloc))?;
+    let line = and_command(line, asm::subcommand(alloc))?;
+    let line = and_command(line, disasm::subcommand(alloc))?;
+    let line = and_command(line, trace::subcommand(alloc))?;
+    let line = and_command(line, verify::subcommand(alloc))?;
+    and_command(line, unpack::subcommand(alloc))
 }
 
-/// Prints the help that was asked for.
-fn show<'a, O: Write>(help: &clap::Error, out: &mut O) -> Result<(), Failure<'a>> {
-    match write!(out, "{help}") {
-        Ok(()) => Ok(()),
-        Err(_) => Err(Failure::CannotWrite(STANDARD_OUTPUT)),
-    }
+/// A command line that has this command too.
+fn and_command<'a>(
+    line: Command<'a>,
+    command: Result<Command<'a>, AllocError>,
+) -> Result<Command<'a>, AllocError> {
+    line.subcommand(command?)
 }

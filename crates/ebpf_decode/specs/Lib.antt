@@ -1,3 +1,4 @@
+pub mod Instruction
 pub mod Program
 pub mod Spelling
 pub mod Codes

@@ -23,6 +23,7 @@ use Rattle.ebpf_decode.specs.declared.operation.Operation.{Operation}
 use Rattle.ebpf_decode.specs.Codes.{extension_with, variant_with, swap_size_with}
 use Rattle.ebpf_decode.specs.Opcodes.{opcode_named, uses, or_else}
 use Rattle.ebpf_decode.specs.Program.{is_wide}
+use Rattle.program_interface.specs.declared.TheConstants.{MOST_SLOTS}
 
 -- the fields of the slot at the front of bytes (RFC 9669, 3.1)
 abbrev pub fields_at : List ℕ → Fields
@@ -156,7 +157,7 @@ read_slots second s (f ∷ rest) = then_read (entry second f (slice_get rest 0))
 -- the checks of a program's length, in order
 abbrev pub length_checks : ℕ → List (Bool × FaultKind)
 length_checks len =
-    (not (len % 8 == 0), kinds.Length) ∷ (len == 0, kinds.Empty) ∷ (nat_lt 4096 (len / 8), kinds.TooLong) ∷ []
+    (not (len % 8 == 0), kinds.Length) ∷ (len == 0, kinds.Empty) ∷ (nat_lt MOST_SLOTS (len / 8), kinds.TooLong) ∷ []
 
 abbrev pub length_fault : ℕ → Option FaultKind
 length_fault len = option_map (λ check. check.1) (find (λ check. check.0) (length_checks len))

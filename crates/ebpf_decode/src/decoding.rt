@@ -13,6 +13,7 @@ use crate::opcode::{Opcode, Operand, Uses};
 use crate::operation::{Operation, SignExtension, SwapSize, Width};
 use crate::program::Program;
 use crate::register::Register;
+use program_interface::MOST_SLOTS;
 use std::alloc::Global;
 
 fn is_left_out(opcode: Opcode, fields: &Fields) -> bool
@@ -206,7 +207,7 @@ fn read(fields: &Fields, next: Option<Fields>) -> Result<Insn, FaultKind>
 }
 
 fn slot_at(bytes: &[u8], slot: usize) -> Option<Fields>
-    requires { slot ≤ 4096 }
+    requires { slot ≤ MOST_SLOTS }
     ensures { result ≡ slice_get (slots_at (length bytes.now / 8) bytes.now) slot }
 {
     if slot < bytes.len() / 8 {
@@ -219,7 +220,7 @@ fn slot_at(bytes: &[u8], slot: usize) -> Option<Fields>
 /// What begins at a slot: nothing at a wide instruction's second.
 fn entry_at(bytes: &[u8], slot: usize, second: bool) -> Result<Option<Insn>, FaultKind>
     requires inside { slot < length bytes.now / 8 }
-    requires most { length bytes.now / 8 ≤ 4096 }
+    requires most { length bytes.now / 8 ≤ MOST_SLOTS }
     ensures { result ≡ entry second (fields_at (drop (8 * slot) bytes.now)) (slice_get (slots_at (length bytes.now / 8) bytes.now) (slot + 1)) }
 {
     if second {
@@ -237,7 +238,7 @@ fn begins_wide(entry: &Option<Insn>) -> bool
 }
 
 fn decode_slots(alloc: Global, bytes: &[u8]) -> Result<Vec<Option<Insn>>, DecodeFault>
-    requires { length bytes.now / 8 ≤ 4096 }
+    requires { length bytes.now / 8 ≤ MOST_SLOTS }
     ensures { Gives (λ slots. slots.items) result (read_slots false 0 (slots_at (length bytes.now / 8) bytes.now)) }
 {
     let count = bytes.len() / 8;
@@ -262,7 +263,7 @@ fn length_fault(len: usize) -> Option<FaultKind>
         Some(FaultKind::Length)
     } else if len == 0 {
         Some(FaultKind::Empty)
-    } else if len / 8 > 4096 {
+    } else if len / 8 > MOST_SLOTS {
         Some(FaultKind::TooLong)
     } else {
         None

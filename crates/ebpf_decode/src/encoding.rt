@@ -10,6 +10,7 @@ use crate::fields::{Fields, to_bytes};
 use crate::insn::{Insn, Source};
 use crate::operation::Width;
 use crate::program::Program;
+use program_interface::MOST_SLOTS;
 use std::alloc::{AllocError, Global};
 
 const IMM: u8 = 0;
@@ -243,7 +244,7 @@ pub fn push_instruction(bytes: &mut Vec<u8>, instruction: &Insn) -> Result<(), A
 }
 
 fn encode_slots(alloc: Global, slots: &[Option<Insn>]) -> Result<Vec<u8>, AllocError>
-    requires { length slots.now ≤ 4096 }
+    requires { length slots.now ≤ MOST_SLOTS }
     ensures { IfOk result (λ bytes. bytes.items ≡ program_bytes slots.now) }
 {
     let mut bytes = Vec::with_capacity(alloc, 8 * slots.len())?;

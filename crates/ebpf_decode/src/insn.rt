@@ -1,9 +1,13 @@
 //! Instructions.
 
+ghost use Rattle.std.specs.Prelude.{◌≡◌, ◌<◌};
+ghost use Rattle.ebpf_decode.specs.Instruction.{distance_of, immediate_word, target, writes};
+
 use crate::operation::{
     Operation, Relation, SignExtension, SignedSize, Size, Swap, SwapSize, Width,
 };
 use crate::register::Register;
+use program_interface::MOST_SLOTS;
 
 /// The second operand of an arithmetic or a compare (RFC 9669, 4.1).
 #[derive(Clone, Copy, Debug, PartialEq, Eq)]
@@ -95,4 +99,55 @@ pub enum Insn {
     },
     /// The end of the program (RFC 9669, 4.3).
     Exit,
+}
+
+impl Insn {
+    /// Is this register the instruction's destination?
+    #[inline(always)]
+    pub fn writes(&self, register: Register) -> bool
+        ensures { result ≡ writes self.now register }
+    {
+        match *self {
+            Insn::LoadImmediate { dst, .. }
+            | Insn::Load { dst, .. }
+            | Insn::LoadSigned { dst, .. }
+            | Insn::Arithmetic { dst, .. }
+            | Insn::Negate { dst, .. }
+            | Insn::MoveSigned { dst, .. }
+            | Insn::SwapBytes { dst, .. } => dst.index() == register.index(),
+            _ => false,
+        }
+    }
+
+    /// The distance of a jump, in slots from the slot after it, and `None` where the instruction is
+    /// no jump (RFC 9669, 4.3).
+    #[inline(always)]
+    pub fn distance(&self) -> Option<i32>
+        ensures { result ≡ distance_of self.now }
+    {
+        match *self {
+            Insn::Jump { distance } => Some(i32::from(distance)),
+            Insn::JumpLong { distance } => Some(distance),
+            Insn::Branch { distance, .. } => Some(i32::from(distance)),
+            _ => None,
+        }
+    }
+
+    /// The slot that a jump at `slot` leads to by its distance, which may be outside the program.
+    #[inline(always)]
+    pub fn target(slot: usize, distance: i32) -> i64
+        requires { slot < MOST_SLOTS }
+        ensures { result ≡ target slot distance }
+    {
+        slot as i64 + 1 + i64::from(distance)
+    }
+
+    /// An instruction's immediate as a word: sign-extended to 64 bits, also where the instruction is
+    /// unsigned (RFC 9669, 4.1).
+    #[inline(always)]
+    pub fn immediate_word(immediate: i32) -> u64
+        ensures { result ≡ immediate_word immediate }
+    {
+        i64::from(immediate).cast_unsigned()
+    }
 }

@@ -1,5 +1,8 @@
 //! The operations, relations and sizes that instructions are made of.
 
+ghost use Rattle.std.specs.Prelude.{◌≡◌};
+ghost use Rattle.ebpf_decode.specs.Instruction.{signed_size_of, size_of};
+
 /// The width of an arithmetic or a compare: classes ALU and JMP32, or ALU64 and JMP (RFC 9669, 4.1 and 4.3).
 #[derive(Clone, Copy, Debug, PartialEq, Eq)]
 pub enum Width {
@@ -64,12 +67,41 @@ pub enum Size {
     DoubleWord,
 }
 
+impl Size {
+    /// The number of bytes in an access.
+    #[inline(always)]
+    pub fn bytes(self) -> u64
+        ensures { result ≡ size_of self }
+    {
+        match self {
+            Size::Byte => 1,
+            Size::HalfWord => 2,
+            Size::Word => 4,
+            Size::DoubleWord => 8,
+        }
+    }
+}
+
 /// The size of a sign-extending load: 1, 2 or 4 bytes (RFC 9669, 5.2).
 #[derive(Clone, Copy, Debug, PartialEq, Eq)]
 pub enum SignedSize {
     Byte,
     HalfWord,
     Word,
+}
+
+impl SignedSize {
+    /// The number of bytes in a sign-extending load.
+    #[inline(always)]
+    pub fn bytes(self) -> u64
+        ensures { result ≡ signed_size_of self }
+    {
+        match self {
+            SignedSize::Byte => 1,
+            SignedSize::HalfWord => 2,
+            SignedSize::Word => 4,
+        }
+    }
 }
 
 /// The relation that a conditional jump tests (RFC 9669, 4.3).

@@ -23,6 +23,9 @@ impl Model for Register {
 }
 
 impl Register {
+    /// R10, the frame pointer, which programs only read (RFC 9669, 3).
+    pub const FRAME_POINTER: Register = Register { number: 10 };
+
     /// The register with this number, or `None` for a number over 10.
     pub fn new(number: u8) -> Option<Register>
         ensures found { IsSome result ↔ (number < 11) }

@@ -3,7 +3,7 @@ use Rattle.std.proofs.Common.{◌≡◌, ℕ, ◌-◌, ◌<◌, List, [], ◌∷
 use Rattle.std.proofs.lemmas.Bool.{cases_lt}
 use Rattle.std.proofs.lemmas.List.{map-append}
 use Rattle.std.specs.List.{AllByRecursion}
-use Rattle.emit_append.specs.Packed.{PackingGoesOn}
+use Rattle.emit_append.specs.GoingOn.{PackingGoesOn}
 use Rattle.emit_append.specs.Packing.{Layout, behind, beginning, laid_out, filled, packed, padded, released, pending_of, all_but_last, last_or_empty}
 use Rattle.emit_append.proofs.Layouts.{laid-behind, laid-beginning, laid-empty}
 
@@ -71,19 +71,13 @@ extended-is block [] after hold = ap (λ l. l.later) (sym (laid-empty block 0 af
 extended-is block (x ∷ []) after hold = sym (filled-first block x after hold.0)
 extended-is block (x ∷ y ∷ ys) after hold = ap (λ bs. x ∷ bs) (extended-is block (y ∷ ys) after hold.1)
 
-pub filled_goes_on : (block : ℕ) (before after : List (List ℕ)) → filled block (before ++ after) ≡ all_but_last (filled block before) ++ filled block (pending_of block before ∷ after)
+filled_goes_on : (block : ℕ) (before after : List (List ℕ)) → filled block (before ++ after) ≡ all_but_last (filled block before) ++ filled block (pending_of block before ∷ after)
 filled_goes_on block before after = filled-append block before after ∙ extended-is block (filled block before) after (later-hold block 0 before)
 
 map-all_but_last : (f : List ℕ → List ℕ) (xs : List (List ℕ)) → map f (all_but_last xs) ≡ all_but_last (map f xs)
 map-all_but_last f [] = refl
 map-all_but_last f (x ∷ []) = refl
 map-all_but_last f (x ∷ y ∷ ys) = ap (λ bs. f x ∷ bs) (map-all_but_last f (y ∷ ys))
-
-pub packing_goes_on : PackingGoesOn
-packing_goes_on block before after =
-    ap (map (padded block)) (filled_goes_on block before after)
-    ∙ map-append (padded block) (all_but_last (filled block before)) (filled block (pending_of block before ∷ after))
-    ∙ ap (λ bs. bs ++ packed block (pending_of block before ∷ after)) (map-all_but_last (padded block) (filled block before))
 
 last-holds : (x : List ℕ) (xs : List (List ℕ)) → HoldBytes (x ∷ xs) → 0 < length (last_or_empty (x ∷ xs))
 last-holds x [] hold = hold.0
@@ -118,7 +112,13 @@ module _ (block : ℕ) (before after : List (List ℕ)) where
   some_more : 0 < length (filled block before) → 0 < length (filled block (pending_of block before ∷ after))
   some_more some = goes_on_some block (filled block before) after (later-hold block 0 before) some
 
-  pub released_goes_on : released block (before ++ after) ≡ released block before ++ released block (pending_of block before ∷ after)
+  packed_goes_on : packed block (before ++ after) ≡ released block before ++ packed block (pending_of block before ∷ after)
+  packed_goes_on =
+      ap (map (padded block)) (filled_goes_on block before after)
+      ∙ map-append (padded block) (all_but_last (filled block before)) (filled block (pending_of block before ∷ after))
+      ∙ ap (λ bs. bs ++ packed block (pending_of block before ∷ after)) (map-all_but_last (padded block) (filled block before))
+
+  released_goes_on : released block (before ++ after) ≡ released block before ++ released block (pending_of block before ∷ after)
   released_goes_on =
       let rest = filled block (pending_of block before ∷ after) in
       ap (λ bs. all_but_last (map (padded block) bs)) (filled_goes_on block before after)
@@ -128,6 +128,13 @@ module _ (block : ℕ) (before after : List (List ℕ)) where
       ∙ ap (λ bs. bs ++ map (padded block) (all_but_last rest)) (map-all_but_last (padded block) (filled block before))
       ∙ ap (λ bs. released block before ++ bs) (map-all_but_last (padded block) rest)
 
-  pub pending_goes_on : pending_of block (before ++ after) ≡ pending_of block (pending_of block before ∷ after)
+  pending_goes_on : pending_of block (before ++ after) ≡ pending_of block (pending_of block before ∷ after)
   pending_goes_on =
       ap last_or_empty (filled_goes_on block before after) ∙ last-goes_on (filled block before) (filled block (pending_of block before ∷ after)) some_more
+
+pub packing_goes_on : PackingGoesOn
+packing_goes_on block before after = record {
+  blocks = packed_goes_on block before after;
+  released_blocks = released_goes_on block before after;
+  pending = pending_goes_on block before after;
+}

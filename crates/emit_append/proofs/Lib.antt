@@ -1,5 +1,4 @@
 pub mod Answered
-pub mod BlockSizes
 pub mod Continuing
 pub mod FramesRead
 pub mod Layouts
@@ -8,3 +7,4 @@ pub mod Padding
 pub mod Parts
 pub mod Puts
 pub mod ReadBack
+pub mod Wholes

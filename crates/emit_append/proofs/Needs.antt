@@ -2,14 +2,14 @@
 use Rattle.std.proofs.Common.{◌≡◌, ℕ, zero, suc, ◌+◌, ◌-◌, ◌*◌, ◌/◌, ◌≤◌, ◌<◌, List, [], ◌∷◌, length, refl, ap, ◌∙◌, arith, rules, inl, inr, ⊎_elim, ◌⊎◌}
 use Rattle.std.specs.Int.{div_ceil}
 use Rattle.std.specs.List.{AllByRecursion}
-use Rattle.std.proofs.Math.Nat.{div-mul-le_self, lt_of_mul-lt-mul_left, mul-suc, mul_comm, suc-mul}
+use Rattle.std.proofs.Math.Nat.{div-mul-le_self, lt_of_mul-lt-mul_left, lt_of_mul-lt-mul_right, mul-suc, mul_comm, suc-mul}
 use Rattle.std.proofs.lemmas.Bool.{cases_lt}
 use Rattle.std.proofs.lemmas.List.{length-map}
 use Rattle.std.proofs.lemmas.Nat.{le-div}
 use Rattle.std.proofs.lemmas.Bool.Decides.{nat_tests}
 use Rattle.std.proofs.lemmas.Grind.{div_ceil_times}
-use Rattle.emit_append.specs.Packing.{laid_out, filled, padded}
-use Rattle.emit_append.specs.Need.{NeedIsEnough, need}
+use Rattle.emit_append.specs.Packing.{laid_out, filled, packed, padded}
+use Rattle.emit_append.specs.Need.{NeedGrows, NeedIsEnough, need}
 use Rattle.emit_append.proofs.Layouts.{laid-behind, laid-beginning, laid-empty}
 
 zero_or_more : (a l : ℕ) → (a * l ≡ 0) ⊎ (a ≤ a * l)
@@ -67,12 +67,31 @@ filled-few block limit (suc e) groups some fits all =
     quotient_below (length (filled block groups)) (length groups) e (omega (arith, blocks-few block limit e 0 0 groups fits (omega arith) all))
 
 -- what `need` is where a group may have bytes
-need-some : (groups limit block : ℕ) → need groups (suc limit) block ≡ div_ceil groups (block / suc limit)
-need-some groups limit block = search (rules, nat_tests)
+need-some : (groups block limit : ℕ) → need groups (record { block = block; limit = suc limit }) ≡ div_ceil groups (block / suc limit)
+need-some groups block limit = search (rules, nat_tests)
 
-pub need_is_enough : NeedIsEnough
-need_is_enough block zero groups within all = omega (arith, length-map (filled block groups) (padded block), ap length (none_begun block 0 groups all))
-need_is_enough block (suc limit) groups within all =
+enough : (block limit : ℕ) (groups : List (List ℕ)) → limit ≤ block → AllByRecursion (λ group. length group ≤ limit) groups →
+    length (packed block groups) ≤ need (length groups) (record { block = block; limit = limit })
+enough block zero groups within all = omega (arith, length-map (filled block groups) (padded block), ap length (none_begun block 0 groups all))
+enough block (suc limit) groups within all =
     let some : 0 < block / suc limit = le-div 1 block (suc limit) (omega arith) (omega arith) in
     let few = filled-few block (suc limit) (block / suc limit) groups some (div-mul-le_self block (suc limit)) all in
-    rw (need-some (length groups) limit block, length-map (filled block groups) (padded block)) few
+    rw (need-some (length groups) block limit, length-map (filled block groups) (padded block)) few
+
+pub need_is_enough : NeedIsEnough
+need_is_enough sizes groups within all = enough sizes.block sizes.limit groups within all
+
+ceil_grows : (fewer more each : ℕ) → fewer ≤ more → div_ceil fewer each ≤ div_ceil more each
+ceil_grows fewer more zero less = omega arith
+ceil_grows fewer more (suc each) less =
+    let least = div_ceil_times fewer (suc each) (omega arith) in
+    let most = div_ceil_times more (suc each) (omega arith) in
+    let below : div_ceil fewer (suc each) * suc each < suc (div_ceil more (suc each)) * suc each = omega (arith, least.1, most.0, suc-mul (div_ceil more (suc each)) (suc each)) in
+    omega (arith, lt_of_mul-lt-mul_right (suc each) below)
+
+grows : (block limit fewer more : ℕ) → fewer ≤ more → need fewer (record { block = block; limit = limit }) ≤ need more (record { block = block; limit = limit })
+grows block zero fewer more less = omega arith
+grows block (suc limit) fewer more less = rw (need-some fewer block limit, need-some more block limit) (ceil_grows fewer more (block / suc limit) less)
+
+pub need_grows : NeedGrows
+need_grows sizes fewer more less = grows sizes.block sizes.limit fewer more less

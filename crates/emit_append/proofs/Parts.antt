@@ -1,9 +1,9 @@
 -- The packing of groups and its parts, the groups of each block.
-use Rattle.std.proofs.Common.{◌≡◌, ℕ, ◌+◌, ◌-◌, ◌≤◌, ◌<◌, List, [], ◌∷◌, ◌++◌, length, map, refl, ap, sym, ◌∙◌, arith, length-append, append_assoc, ⊎_elim}
+use Rattle.std.proofs.Common.{◌≡◌, ℕ, ◌+◌, ◌-◌, ◌≤◌, ◌<◌, List, [], ◌∷◌, ◌++◌, length, map, refl, ap, subst, sym, ◌∙◌, arith, length-append, append_assoc, ⊎_elim}
 use Rattle.std.specs.List.{AllByRecursion, concat, flat_map}
 use Rattle.std.proofs.lemmas.List.{append-nil}
 use Rattle.std.proofs.lemmas.Bool.{cases_lt}
-use Rattle.emit_append.specs.Packing.{Layout, behind, beginning, laid_out, packed, padded}
+use Rattle.emit_append.specs.Packing.{Layout, behind, beginning, filled, laid_out, packed, padded}
 use Rattle.emit_append.specs.Packed.{ArePacked, EachNextIsLonger, FitBlock, NextIsLonger, PackedAsDescribed, with_bytes}
 use Rattle.emit_append.proofs.Layouts.{laid-behind, laid-beginning, laid-empty}
 
@@ -139,3 +139,13 @@ packed_is block groups blocks are =
 pub packed_as_described : PackedAsDescribed
 packed_as_described block groups blocks fit =
     (packed_is block groups blocks, λ is. rw is (are_packed block groups (divided block 0 (with_bytes groups) (with_bytes-fit block groups fit))))
+
+joined_fit : (block : ℕ) (parts : List (List (List ℕ))) → AllByRecursion (λ part. length (concat part) ≤ block) parts → FitBlock block (map concat parts)
+joined_fit block [] fits = tt
+joined_fit block (part ∷ parts) fits = (fits.0, joined_fit block parts fits.1)
+
+-- what groups fill of each block fits into it
+pub filled_fits : (block : ℕ) (groups : List (List ℕ)) → FitBlock block groups → FitBlock block (filled block groups)
+filled_fits block groups fit =
+    let d = divided block 0 groups fit in
+    subst (λ (l : Layout). FitBlock block l.later) (sym d.is) (joined_fit block d.parts d.fits)

@@ -8,9 +8,10 @@ use Rattle.std.proofs.lemmas.List.{drop-drop, drop_at, take_at}
 use Rattle.std.proofs.Math.Nat.{mul-div_cancel, suc-mul}
 use Rattle.byteorder.specs.Endian.{little_number}
 use Rattle.byteorder.specs.Numbers.{little_number-reads_back}
+use Rattle.program_interface.specs.Frame.{frame, frames}
 use Rattle.emit_append.specs.Packed.{FitBlock}
 use Rattle.emit_append.specs.Packing.{Layout, behind, beginning, laid_out, packed, padded}
-use Rattle.emit_append.specs.Frames.{PackedFramesReadBack, block_at, blocks_at, frame_length, framed, group_of, then_read, unpacked, zeros_at}
+use Rattle.emit_append.specs.Frames.{PackedFramesReadBack, block_at, blocks_at, frame_length, then_read, unpacked, zeros_at}
 use Rattle.emit_append.proofs.Layouts.{laid-behind, laid-beginning}
 use Rattle.emit_append.proofs.Padding.{length-padded}
 use Rattle.emit_append.proofs.FramesRead.{block-frame, block-zeros}
@@ -31,27 +32,27 @@ zeros-read : (at count : ℕ) → zeros_at at (replicate count 0) ≡ Ok []
 zeros-read at zero = refl
 zeros-read at (suc count) = zeros-read (at + 1) count
 
-front_length : (bytes rest : List ℕ) → length bytes < 2 ^ 16 → frame_length (framed bytes ++ rest) ≡ length bytes
+front_length : (bytes rest : List ℕ) → length bytes < 2 ^ 16 → frame_length (frame bytes ++ rest) ≡ length bytes
 front_length bytes rest small = front_two _ _ (bytes ++ rest) ∙ little_number-reads_back 2 (length bytes) (bytes ++ rest) small
 
 -- a frame in front, and then what is read after it
 frame-read : (at : ℕ) (bytes rest : List ℕ) → 0 < length bytes → length bytes < 2 ^ 16 →
-    block_at at (framed bytes ++ rest) ≡ then_read (bytes ∷ []) (block_at (at + (2 + length bytes)) rest)
+    block_at at (frame bytes ++ rest) ≡ then_read (bytes ∷ []) (block_at (at + (2 + length bytes)) rest)
 frame-read at bytes rest some small =
     let front = front_length bytes rest small in
-    let long : 2 + length bytes ≤ length (framed bytes ++ rest) = omega (arith, length-append bytes rest) in
-    let one = block-frame at (framed bytes ++ rest) (rw front some) (rw front long) in
+    let long : 2 + length bytes ≤ length (frame bytes ++ rest) = omega (arith, length-append bytes rest) in
+    let one = block-frame at (frame bytes ++ rest) (rw front some) (rw front long) in
     let whole : take (length bytes) (bytes ++ rest) ≡ bytes = take_at bytes rest (length bytes) refl in
-    let after : drop (2 + length bytes) (framed bytes ++ rest) ≡ rest = sym (drop-drop (length bytes) 2 (framed bytes ++ rest)) ∙ drop_at bytes rest (length bytes) refl in
+    let after : drop (2 + length bytes) (frame bytes ++ rest) ≡ rest = sym (drop-drop (length bytes) 2 (frame bytes ++ rest)) ∙ drop_at bytes rest (length bytes) refl in
     (rw front at one)
-    ∙ ap (λ b. then_read (b ∷ []) (block_at (at + (2 + length bytes)) (drop (2 + length bytes) (framed bytes ++ rest)))) whole
+    ∙ ap (λ b. then_read (b ∷ []) (block_at (at + (2 + length bytes)) (drop (2 + length bytes) (frame bytes ++ rest)))) whole
     ∙ ap (λ left. then_read (bytes ∷ []) (block_at (at + (2 + length bytes)) left)) after
 
-group-read : (at count : ℕ) (records : List (List ℕ)) → AreRecords records → block_at at (group_of records ++ replicate count 0) ≡ Ok records
+group-read : (at count : ℕ) (records : List (List ℕ)) → AreRecords records → block_at at (frames records ++ replicate count 0) ≡ Ok records
 group-read at count [] are = block-zeros at (replicate count 0) (no_frame count) ∙ zeros-read at count
 group-read at count (bytes ∷ records) are =
-    ap (block_at at) (append_assoc (framed bytes) (group_of records) (replicate count 0))
-    ∙ frame-read at bytes (group_of records ++ replicate count 0) are.0.0 are.0.1
+    ap (block_at at) (append_assoc (frame bytes) (frames records) (replicate count 0))
+    ∙ frame-read at bytes (frames records ++ replicate count 0) are.0.0 are.0.1
     ∙ ap (then_read (bytes ∷ [])) (group-read (at + (2 + length bytes)) count records are.1)
 
 -- Groups of records as they are laid out: the records in the room that is left, and those of each block.
@@ -59,9 +60,9 @@ record Grouped (block room : ℕ) (groups : List (List (List ℕ))) (layout : La
   front : List (List ℕ)
   parts : List (List (List ℕ))
   in_order : front ++ flat_map (λ part. part) parts ≡ flat_map (λ group. group) groups
-  is : layout ≡ record { begun = group_of front; later = map group_of parts }
-  in_room : length (group_of front) ≤ room
-  fits : AllByRecursion (λ part. length (group_of part) ≤ block) parts
+  is : layout ≡ record { begun = frames front; later = map frames parts }
+  in_room : length (frames front) ≤ room
+  fits : AllByRecursion (λ part. length (frames part) ≤ block) parts
   front_records : AreRecords front
   records : AllByRecursion AreRecords parts
 
@@ -69,87 +70,87 @@ records-append : (xs ys : List (List ℕ)) → AreRecords xs → AreRecords ys �
 records-append [] ys first second = second
 records-append (x ∷ xs) ys first second = (first.0, records-append xs ys first.1 second)
 
-grouped-behind : (block room : ℕ) (group : List (List ℕ)) (groups : List (List (List ℕ))) (rest : Layout) → AreRecords group → length (group_of group) ≤ room →
-    Grouped block (room - length (group_of group)) groups rest → Grouped block room (group ∷ groups) (behind (group_of group) rest)
+grouped-behind : (block room : ℕ) (group : List (List ℕ)) (groups : List (List (List ℕ))) (rest : Layout) → AreRecords group → length (frames group) ≤ room →
+    Grouped block (room - length (frames group)) groups rest → Grouped block room (group ∷ groups) (behind (frames group) rest)
 grouped-behind block room group groups rest are fits d =
-    let joined : group_of (group ++ d.front) ≡ group_of group ++ group_of d.front = flat_map-append framed group d.front in
+    let joined : frames (group ++ d.front) ≡ frames group ++ frames d.front = flat_map-append frame group d.front in
     record {
       front = group ++ d.front;
       parts = d.parts;
       in_order = append_assoc group d.front (flat_map (λ part. part) d.parts) ∙ ap (λ rs. group ++ rs) d.in_order;
-      is = ap (behind (group_of group)) d.is ∙ ap (λ bytes. record { begun = bytes; later = map group_of d.parts }) (sym joined);
-      in_room = omega (arith, ap length joined, length-append (group_of group) (group_of d.front), d.in_room);
+      is = ap (behind (frames group)) d.is ∙ ap (λ bytes. record { begun = bytes; later = map frames d.parts }) (sym joined);
+      in_room = omega (arith, ap length joined, length-append (frames group) (frames d.front), d.in_room);
       fits = d.fits;
       front_records = records-append group d.front are d.front_records;
       records = d.records;
     }
 
-grouped-beginning : (block room : ℕ) (group : List (List ℕ)) (groups : List (List (List ℕ))) (rest : Layout) → AreRecords group → length (group_of group) ≤ block →
-    Grouped block (block - length (group_of group)) groups rest → Grouped block room (group ∷ groups) (beginning (group_of group) rest)
+grouped-beginning : (block room : ℕ) (group : List (List ℕ)) (groups : List (List (List ℕ))) (rest : Layout) → AreRecords group → length (frames group) ≤ block →
+    Grouped block (block - length (frames group)) groups rest → Grouped block room (group ∷ groups) (beginning (frames group) rest)
 grouped-beginning block room group groups rest are fits d =
-    let joined : group_of (group ++ d.front) ≡ group_of group ++ group_of d.front = flat_map-append framed group d.front in
+    let joined : frames (group ++ d.front) ≡ frames group ++ frames d.front = flat_map-append frame group d.front in
     record {
       front = [];
       parts = (group ++ d.front) ∷ d.parts;
       in_order = append_assoc group d.front (flat_map (λ part. part) d.parts) ∙ ap (λ rs. group ++ rs) d.in_order;
-      is = ap (beginning (group_of group)) d.is ∙ ap (λ bytes. record { begun = []; later = bytes ∷ map group_of d.parts }) (sym joined);
+      is = ap (beginning (frames group)) d.is ∙ ap (λ bytes. record { begun = []; later = bytes ∷ map frames d.parts }) (sym joined);
       in_room = omega arith;
-      fits = (omega (arith, ap length joined, length-append (group_of group) (group_of d.front), d.in_room), d.fits);
+      fits = (omega (arith, ap length joined, length-append (frames group) (frames d.front), d.in_room), d.fits);
       front_records = tt;
       records = (records-append group d.front are d.front_records, d.records);
     }
 
-grouped : (block room : ℕ) (groups : List (List (List ℕ))) → AllByRecursion AreRecords groups → FitBlock block (map group_of groups) →
-    Grouped block room groups (laid_out block room (map group_of groups))
+grouped : (block room : ℕ) (groups : List (List (List ℕ))) → AllByRecursion AreRecords groups → FitBlock block (map frames groups) →
+    Grouped block room groups (laid_out block room (map frames groups))
 grouped block room [] are fit = record { front = []; parts = []; in_order = refl; is = refl; in_room = omega arith; fits = tt; front_records = tt; records = tt }
 grouped block room (g ∷ gs) are fit =
     ⊎_elim
-    (λ large. rw (laid-beginning block room (group_of g) (map group_of gs) large) (grouped-beginning block room g gs _ are.0 fit.0 (grouped block (block - length (group_of g)) gs are.1 fit.1)))
-    (λ small. rw (laid-behind block room (group_of g) (map group_of gs) small) (grouped-behind block room g gs _ are.0 small (grouped block (room - length (group_of g)) gs are.1 fit.1)))
-    (cases_lt room (length (group_of g)))
+    (λ large. rw (laid-beginning block room (frames g) (map frames gs) large) (grouped-beginning block room g gs _ are.0 fit.0 (grouped block (block - length (frames g)) gs are.1 fit.1)))
+    (λ small. rw (laid-behind block room (frames g) (map frames gs) small) (grouped-behind block room g gs _ are.0 small (grouped block (room - length (frames g)) gs are.1 fit.1)))
+    (cases_lt room (length (frames g)))
 
 -- where there is no room, no frame stands in it
-none_in_front : (records : List (List ℕ)) → length (group_of records) ≤ 0 → records ≡ []
+none_in_front : (records : List (List ℕ)) → length (frames records) ≤ 0 → records ≡ []
 none_in_front [] none = refl
 none_in_front (bytes ∷ records) none = absurd (omega arith)
 
 -- blocks of frames, one after another
-blocks-read : (block at : ℕ) (parts : List (List (List ℕ))) → AllByRecursion AreRecords parts → AllByRecursion (λ part. length (group_of part) ≤ block) parts →
-    blocks_at (length parts) block at (concat (map (padded block) (map group_of parts))) ≡ Ok (flat_map (λ part. part) parts)
+blocks-read : (block at : ℕ) (parts : List (List (List ℕ))) → AllByRecursion AreRecords parts → AllByRecursion (λ part. length (frames part) ≤ block) parts →
+    blocks_at (length parts) block at (concat (map (padded block) (map frames parts))) ≡ Ok (flat_map (λ part. part) parts)
 unfolding blocks_at
 blocks-read block at [] are fits = refl
 blocks-read block at (part ∷ parts) are fits =
-    let bytes = group_of part in
-    let rest = concat (map (padded block) (map group_of parts)) in
+    let bytes = frames part in
+    let rest = concat (map (padded block) (map frames parts)) in
     let long = length-padded block bytes fits.0 in
     let first : block_at at (take block (padded block bytes ++ rest)) ≡ Ok part = ap (block_at at) (take_at (padded block bytes) rest block long) ∙ group-read at (block - length bytes) part are.0 in
     let others : blocks_at (length parts) block (at + block) (drop block (padded block bytes ++ rest)) ≡ Ok (flat_map (λ p. p) parts) =
     ap (blocks_at (length parts) block (at + block)) (drop_at (padded block bytes) rest block long) ∙ blocks-read block (at + block) parts are.1 fits.1 in
     rw (first, others) refl
 
-length-blocks : (block : ℕ) (parts : List (List (List ℕ))) → AllByRecursion (λ part. length (group_of part) ≤ block) parts →
-    length (concat (map (padded block) (map group_of parts))) ≡ length parts * block
+length-blocks : (block : ℕ) (parts : List (List (List ℕ))) → AllByRecursion (λ part. length (frames part) ≤ block) parts →
+    length (concat (map (padded block) (map frames parts))) ≡ length parts * block
 length-blocks block [] fits = omega arith
 length-blocks block (part ∷ parts) fits =
-    omega (arith, length-append (padded block (group_of part)) (concat (map (padded block) (map group_of parts))), length-padded block (group_of part) fits.0, length-blocks block parts fits.1, suc-mul (length parts) block)
+    omega (arith, length-append (padded block (frames part)) (concat (map (padded block) (map frames parts))), length-padded block (frames part) fits.0, length-blocks block parts fits.1, suc-mul (length parts) block)
 
 -- a record is shorter than its group
-bounded : (records : List (List ℕ)) → AllByRecursion (λ bytes. 0 < length bytes) records → length (group_of records) < 2 ^ 16 → AreRecords records
+bounded : (records : List (List ℕ)) → AllByRecursion (λ bytes. 0 < length bytes) records → length (frames records) < 2 ^ 16 → AreRecords records
 bounded [] some small = tt
 bounded (bytes ∷ records) some small =
-    let whole = length-append bytes (group_of records) in
+    let whole = length-append bytes (frames records) in
     ((some.0, omega (arith, whole)), bounded records some.1 (omega (arith, whole)))
 
-all_bounded : (block : ℕ) (groups : List (List (List ℕ))) → block < 2 ^ 16 → AllByRecursion (λ records. AllByRecursion (λ bytes. 0 < length bytes) records) groups → FitBlock block (map group_of groups) →
+all_bounded : (block : ℕ) (groups : List (List (List ℕ))) → block < 2 ^ 16 → AllByRecursion (λ records. AllByRecursion (λ bytes. 0 < length bytes) records) groups → FitBlock block (map frames groups) →
     AllByRecursion AreRecords groups
 all_bounded block [] small some fit = tt
 all_bounded block (g ∷ gs) small some fit = (bounded g some.0 (omega (arith, fit.0)), all_bounded block gs small some.1 fit.1)
 
-reads_back : (block : ℕ) (groups : List (List (List ℕ))) → 0 < block → Grouped block 0 groups (laid_out block 0 (map group_of groups)) →
-    unpacked block (concat (packed block (map group_of groups))) ≡ Ok (flat_map (λ records. records) groups)
+reads_back : (block : ℕ) (groups : List (List (List ℕ))) → 0 < block → Grouped block 0 groups (laid_out block 0 (map frames groups)) →
+    unpacked block (concat (packed block (map frames groups))) ≡ Ok (flat_map (λ records. records) groups)
 reads_back block groups positive d =
-    let blocks = concat (map (padded block) (map group_of d.parts)) in
-    let same : concat (packed block (map group_of groups)) ≡ blocks = ap (λ l. concat (map (padded block) l.later)) d.is in
+    let blocks = concat (map (padded block) (map frames d.parts)) in
+    let same : concat (packed block (map frames groups)) ≡ blocks = ap (λ l. concat (map (padded block) l.later)) d.is in
     let count : length blocks / block ≡ length d.parts = ap (λ n. n / block) (length-blocks block d.parts d.fits) ∙ mul-div_cancel (length d.parts) positive in
     let whole : flat_map (λ part. part) d.parts ≡ flat_map (λ group. group) groups = rw (none_in_front d.front d.in_room) at d.in_order in
     ap (unpacked block) same ∙ ap (λ n. blocks_at n block 0 blocks) count ∙ blocks-read block 0 d.parts d.records d.fits ∙ ap Ok whole

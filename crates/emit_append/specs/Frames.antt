@@ -1,17 +1,10 @@
--- Frames in output blocks, and how they are read back (profile).
+-- How frames in output blocks are read back (profile).
 use Rattle.std.specs.Prelude.{ℕ, zero, suc, ◌≡◌, ◌+◌, ◌/◌, ◌^◌, ◌<◌, ◌==◌, nat_lt, List, [], ◌∷◌, ◌++◌, length, map, take, drop, Result, Ok, Err, if◌then◌else◌}
 use Rattle.std.specs.List.{AllByRecursion, concat, flat_map}
-use Rattle.byteorder.specs.Endian.{little_bytes, little_number}
+use Rattle.byteorder.specs.Endian.{little_number}
+use Rattle.program_interface.specs.Frame.{frames}
 use Rattle.emit_append.specs.Packed.{FitBlock}
 use Rattle.emit_append.specs.Packing.{packed}
-
--- a record as a frame: its length in two bytes, the lower first, and its bytes
-abbrev pub framed : List ℕ → List ℕ
-framed bytes = little_bytes 2 (length bytes) ++ bytes
-
--- records as a group: their frames in order
-abbrev pub group_of : List (List ℕ) → List ℕ
-group_of records = flat_map framed records
 
 -- the records, or the place of the first byte that is refused
 abbrev pub Reading : Type 0
@@ -70,5 +63,5 @@ abbrev pub PackedFramesReadBack : Type 0
 PackedFramesReadBack =
     (block : ℕ) (groups : List (List (List ℕ))) → 0 < block → block < 2 ^ 16 →
     AllByRecursion (λ records. AllByRecursion (λ bytes. 0 < length bytes) records) groups →
-    FitBlock block (map group_of groups) →
-    unpacked block (concat (packed block (map group_of groups))) ≡ Ok (flat_map (λ records. records) groups)
+    FitBlock block (map frames groups) →
+    unpacked block (concat (packed block (map frames groups))) ≡ Ok (flat_map (λ records. records) groups)

@@ -2,14 +2,19 @@
 use Rattle.std.specs.Prelude.{ℕ, ◌≤◌, ◌/◌, ◌==◌, if◌then◌else◌, List, length}
 use Rattle.std.specs.Int.{div_ceil}
 use Rattle.std.specs.List.{AllByRecursion}
+use Rattle.program_interface.specs.RunSizes.{Sizes}
 use Rattle.emit_append.specs.Packing.{packed}
 
--- enough blocks for so many groups of at most limit bytes: as if each were that long
-abbrev pub need : ℕ → ℕ → ℕ → ℕ
-need groups limit block = if limit == 0 then 0 else div_ceil groups (block / limit)
+-- enough blocks for so many groups of at most the limit's bytes: as if each were that long
+abbrev pub need : ℕ → Sizes → ℕ
+need groups sizes = if sizes.limit == 0 then 0 else div_ceil groups (sizes.block / sizes.limit)
 
 -- No packing needs more.
 abbrev pub NeedIsEnough : Type 0
 NeedIsEnough =
-    (block limit : ℕ) (groups : List (List ℕ)) → limit ≤ block → AllByRecursion (λ group. length group ≤ limit) groups →
-    length (packed block groups) ≤ need (length groups) limit block
+    (sizes : Sizes) (groups : List (List ℕ)) → sizes.limit ≤ sizes.block → AllByRecursion (λ group. length group ≤ sizes.limit) groups →
+    length (packed sizes.block groups) ≤ need (length groups) sizes
+
+-- More groups need no fewer blocks.
+abbrev pub NeedGrows : Type 0
+NeedGrows = (sizes : Sizes) (fewer more : ℕ) → fewer ≤ more → need fewer sizes ≤ need more sizes

@@ -1,7 +1,7 @@
 -- What the packing of groups is, said of its blocks: the groups that have bytes stand in them whole and in order, at least one in each, the rest of a block is zeros, and the next group is longer than that rest.
-use Rattle.std.specs.Prelude.{◌≡◌, ◌↔◌, ℕ, ◌-◌, ◌≤◌, ◌<◌, Bool, true, false, List, [], ◌∷◌, ◌++◌, length, map, filter}
+use Rattle.std.specs.Prelude.{◌≡◌, ◌↔◌, ℕ, ◌-◌, ◌≤◌, ◌<◌, Bool, true, false, List, [], ◌∷◌, length, map, filter}
 use Rattle.std.specs.List.{AllByRecursion, concat, flat_map}
-use Rattle.emit_append.specs.Packing.{packed, padded, pending_of, released}
+use Rattle.emit_append.specs.Packing.{packed, padded}
 
 abbrev pub has_bytes : List ℕ → Bool
 has_bytes [] = false
@@ -36,9 +36,3 @@ abbrev pub PackedAsDescribed : Type 0
 PackedAsDescribed =
     (block : ℕ) (groups blocks : List (List ℕ)) → FitBlock block groups →
     ArePacked block groups blocks ↔ (blocks ≡ packed block groups)
-
--- Packing goes on from the pending bytes as from a first group, after the blocks released.
-abbrev pub PackingGoesOn : Type 0
-PackingGoesOn =
-    (block : ℕ) (before after : List (List ℕ)) →
-    packed block (before ++ after) ≡ released block before ++ packed block (pending_of block before ∷ after)

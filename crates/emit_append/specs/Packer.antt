@@ -1,8 +1,8 @@
 -- What a packer is seen as, and what its calls give, in the words of the packing.
 use Rattle.std.specs.Prelude.{◌≡◌, ℕ, ◌≤◌, List, [], ◌∷◌, ◌++◌, length, Option, None, Some}
 use Rattle.arrayvec.specs.ArrayVec.{ArrayVec}
-use Rattle.emit_append.specs.declared.block.TheConstants.{LARGEST_BLOCK}
-use Rattle.emit_append.specs.BlockSize.{IsBlockSize}
+use Rattle.program_interface.specs.declared.block_size.TheConstants.{LARGEST_BLOCK}
+use Rattle.program_interface.specs.BlockSize.{IsBlockSize}
 use Rattle.emit_append.specs.Packing.{packed, pending_of, released}
 
 -- the size of its blocks, and the bytes of the block that it hasn't released yet

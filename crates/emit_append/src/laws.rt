@@ -1,8 +1,10 @@
 //! Laws of the definitions: what they mean, in words of their own.
 
 ghost use Rattle.emit_append.specs.Frames.{PackedFramesReadBack};
-ghost use Rattle.emit_append.specs.Need.{NeedIsEnough};
-ghost use Rattle.emit_append.specs.Packed.{PackedAsDescribed, PackingGoesOn};
+ghost use Rattle.emit_append.specs.GoingOn.{OneGroupIsPending, PackingGoesOn};
+ghost use Rattle.emit_append.specs.Need.{NeedGrows, NeedIsEnough};
+ghost use Rattle.emit_append.specs.OutputBlocks.{OutputBlocksAreBytes, OutputBlocksAreWhole};
+ghost use Rattle.emit_append.specs.Packed.{PackedAsDescribed};
 ghost use Rattle.emit_append.specs.Packer.{PuttingIsPacking};
 
 /// The groups that have bytes stand in the blocks whole and in order, at least one in each, the
@@ -11,7 +13,24 @@ pub fn packed_as_described()
     ensures { PackedAsDescribed }
 {}
 
-/// Packing goes on from what is pending as from a first group.
+/// Each output block has the block size's bytes, and no more are pending, where each group fits into
+/// a block.
+pub fn output_blocks_are_whole()
+    ensures { OutputBlocksAreWhole }
+{}
+
+/// Groups of bytes come to blocks of bytes: what fills a block up is a byte too.
+pub fn output_blocks_are_bytes()
+    ensures { OutputBlocksAreBytes }
+{}
+
+/// One group alone releases no block, and all of it is pending.
+pub fn one_group_is_pending()
+    ensures { OneGroupIsPending }
+{}
+
+/// Packing goes on from what is pending as from a first group: the blocks, those released, and what
+/// is pending in the end.
 pub fn packing_goes_on()
     ensures { PackingGoesOn }
 {}
@@ -25,6 +44,11 @@ pub fn putting_is_packing()
 /// No packing of groups has more blocks than `need` tells.
 pub fn need_is_enough()
     ensures { NeedIsEnough }
+{}
+
+/// More groups need no fewer blocks.
+pub fn need_grows()
+    ensures { NeedGrows }
 {}
 
 /// What is packed of groups of frames reads back as the records of all of them, in order.

@@ -2,17 +2,16 @@
 //! they can come to.
 #![tactic(auto)]
 
-mod block;
+mod blocks_needed;
 mod fault;
 pub mod laws;
 mod packer;
 mod reader;
-mod room;
 #[cfg(test)]
 mod tests;
 
-pub use block::{BLOCK_SIZES, LARGEST_BLOCK, is_block_size};
+pub use blocks_needed::need;
 pub use fault::UnpackFault;
 pub use packer::{Full, Packer};
+pub use program_interface::{BlockSize, RunSizes};
 pub use reader::unpack;
-pub use room::need;

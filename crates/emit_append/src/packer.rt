@@ -2,12 +2,11 @@
 
 ghost use Rattle.std.specs.Prelude.{◌≡◌, ◌<◌, ◌≤◌, ◌+◌, [], ◌∷◌, ◌++◌, length, nat_le, take, IfSome};
 ghost use Rattle.arrayvec.specs.ArrayVec.{array_vec_len};
-ghost use Rattle.emit_append.specs.BlockSize.{IsBlockSize};
 ghost use Rattle.emit_append.specs.Packer.{after_put, blocks_of, given_by_finish, given_by_put, new_packer};
 ghost use Rattle.emit_append.specs.Packing.{padded};
 
-use crate::block::LARGEST_BLOCK;
 use arrayvec::ArrayVec;
+use program_interface::{BlockSize, LARGEST_BLOCK};
 use std::marker::Model;
 
 /// An output block that no later group can change: as many bytes as the packer's block size.
@@ -39,13 +38,12 @@ impl Model for Packer {
 }
 
 impl Packer {
-    /// A packer for blocks of `block` bytes, with nothing pending.
-    pub fn new(block: u32) -> Packer
-        requires { IsBlockSize block }
+    /// A packer for blocks of this size, with nothing pending.
+    pub fn new(block: BlockSize) -> Packer
         ensures { result ≡ new_packer block }
     {
         Packer {
-            block: block as usize,
+            block: block.bytes() as usize,
             pending: 0,
             bytes: ZEROS,
         }

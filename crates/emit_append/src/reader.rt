@@ -1,24 +1,23 @@
 //! Reading output blocks back.
 
 ghost use Rattle.std.specs.Prelude.{◌≡◌, ◌+◌, ◌^◌, ◌<◌, [], length};
-ghost use Rattle.emit_append.specs.BlockSize.{IsBlockSize};
 ghost use Rattle.emit_append.specs.Frames.{block_at, frame_length as length_in_front, then_read, unpacked, zeros_at};
 ghost use Rattle.emit_append.specs.Unpacking.{Gives, bytes_of};
 
 use crate::fault::UnpackFault;
 use byteorder::{ByteOrder, LittleEndian};
+use program_interface::BlockSize;
 use std::alloc::Global;
 
-/// The records of the frames in output blocks of `block` bytes each, in order.
+/// The records of the frames in output blocks of this size, in order.
 ///
 /// Frames stand at the front of a block: two bytes of length, the lower first, and as many bytes.
 /// Where the length is 0, or fewer than two bytes are left, the rest of the block is zeros.
 /// Otherwise the fault tells the lowest byte that is refused, counted from the first of `bytes`.
-pub fn unpack(alloc: Global, bytes: &[u8], block: u32) -> Result<Vec<Vec<u8>>, UnpackFault>
-    requires { IsBlockSize block }
+pub fn unpack(alloc: Global, bytes: &[u8], block: BlockSize) -> Result<Vec<Vec<u8>>, UnpackFault>
     ensures { Gives (λ records. bytes_of records.items) result (unpacked block bytes.now) }
 {
-    let size = block as usize;
+    let size = block.bytes() as usize;
     let mut records = Vec::new(alloc);
     let mut rest = bytes;
     while rest.len() >= size {

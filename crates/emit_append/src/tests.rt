@@ -2,7 +2,7 @@
 
 ghost use Rattle.std.specs.Prelude.{◌≤◌};
 
-use crate::{BLOCK_SIZES, Packer, UnpackFault, is_block_size, need, unpack};
+use crate::{BlockSize, Packer, RunSizes, UnpackFault, need, unpack};
 use std::alloc::{AllocError, Global};
 use std::test::Fail;
 
@@ -18,35 +18,28 @@ fn block_with(alloc: Global, front: &[u8], size: usize, last: u8) -> Result<Vec<
 
 #[test]
 fn bounds_the_blocks(rt: HostRuntime) {
-    for (groups, limit, blocks) in [
-        (52, 10, 2),
-        (3, 512, 3),
-        (7, 200, 4),
-        (4, 257, 4),
-        (65536, 1, 128),
-        (9, 0, 0),
+    for (groups, limit, block, blocks) in [
+        (52, 10, 512, 2),
+        (3, 512, 512, 3),
+        (7, 200, 512, 4),
+        (4, 257, 512, 4),
+        (65536, 1, 512, 128),
+        (9, 0, 512, 0),
+        (65536, 4096, 4096, 65536),
     ] {
+        let size = BlockSize::new(block).expect(&rt, "a block size");
+        let sizes = RunSizes::new(size, limit).expect(&rt, "a group that fits");
         assert_eq!(rt;
-            need(groups, limit, 512),
+            need(groups, sizes),
             blocks,
             "for {groups} groups of {limit}"
         );
     }
-    assert_eq!(rt; need(65536, 4096, 4096), 65536);
-}
-
-#[test]
-fn knows_the_block_sizes(rt: HostRuntime) {
-    for size in BLOCK_SIZES {
-        assert!(rt; is_block_size(size), "{size}");
-        assert!(rt; !is_block_size(size + 1), "{size} and one");
-    }
-    assert!(rt; !is_block_size(0));
 }
 
 #[test]
 fn releases_a_block_that_the_next_group_passes(rt: HostRuntime) -> Result<(), Fail> {
-    let mut packer = Packer::new(512);
+    let mut packer = Packer::new(BlockSize::new(512).unwrap());
     assert!(rt; packer.put(&[6; 300]).is_none());
     assert!(rt; packer.put(&[]).is_none());
     assert!(rt; packer.put(&[7; 212]).is_none());
@@ -63,7 +56,7 @@ fn releases_a_block_that_the_next_group_passes(rt: HostRuntime) -> Result<(), Fa
 
 #[test]
 fn packs_as_many_frames_as_fit(rt: HostRuntime) -> Result<(), Fail> {
-    let mut packer = Packer::new(512);
+    let mut packer = Packer::new(BlockSize::new(512).unwrap());
     let mut expected = Vec::new(rt.alloc());
     for frame in 0..51u8 {
         let group = [8, 0, 7, frame, 0, 0, 0, 0, 0, 0];
@@ -82,7 +75,7 @@ fn packs_as_many_frames_as_fit(rt: HostRuntime) -> Result<(), Fail> {
 
 #[test]
 fn packs_where_room_is_asked_for_first(rt: HostRuntime) -> Result<(), Fail> {
-    let mut packer = Packer::new(512);
+    let mut packer = Packer::new(BlockSize::new(512).unwrap());
     assert!(rt; packer.has_room(512));
     packer.add(&[6; 300]);
     assert!(rt; packer.has_room(212));
@@ -98,7 +91,7 @@ fn packs_where_room_is_asked_for_first(rt: HostRuntime) -> Result<(), Fail> {
 
 #[test]
 fn packs_the_largest_blocks(rt: HostRuntime) -> Result<(), Fail> {
-    let mut packer = Packer::new(4096);
+    let mut packer = Packer::new(BlockSize::new(4096).unwrap());
     assert!(rt; packer.put(&[1; 4096]).is_none());
     let first = packer.put(&[2]).expect(&rt, "a full block");
     assert_eq!(rt; first.as_slice(), [1; 4096].as_slice());
@@ -110,6 +103,7 @@ fn packs_the_largest_blocks(rt: HostRuntime) -> Result<(), Fail> {
 
 #[test]
 fn reads_what_fills_the_block(rt: HostRuntime) -> Result<(), Fail> {
+    let size = BlockSize::new(512).unwrap();
     for (front, last, records) in [
         ([0x03, 0x00, b'a', b'b', b'c'], 0, Ok(3)),
         ([0x03, 0x00, b'a', b'b', b'c'], 1, Err(UnpackFault::At(511))),
@@ -119,7 +113,7 @@ fn reads_what_fills_the_block(rt: HostRuntime) -> Result<(), Fail> {
         ([0xfd, 0x01, 5, 5, 5], 5, Err(UnpackFault::At(511))),
     ] {
         let block = block_with(rt.alloc(), &front, 512, last)?;
-        let read = unpack(rt.alloc(), &block, 512);
+        let read = unpack(rt.alloc(), &block, size);
         match read {
             Ok(read) => {
                 assert_eq!(rt; read.len(), 1);
@@ -135,10 +129,11 @@ fn reads_what_fills_the_block(rt: HostRuntime) -> Result<(), Fail> {
 
 #[test]
 fn reads_block_after_block(rt: HostRuntime) -> Result<(), Fail> {
-    assert_eq!(rt; unpack(rt.alloc(), &[], 512)?.len(), 0);
+    let size = BlockSize::new(4096).unwrap();
+    assert_eq!(rt; unpack(rt.alloc(), &[], size)?.len(), 0);
     let mut blocks = block_with(rt.alloc(), &[1, 0, 9, 2, 0, 8, 8], 4096, 0)?;
     blocks.extend_from_slice(block_with(rt.alloc(), &[1, 0, 7], 4096, 0)?.as_slice())?;
-    let records = unpack(rt.alloc(), &blocks, 4096)?;
+    let records = unpack(rt.alloc(), &blocks, size)?;
     assert_eq!(rt; records.len(), 3);
     assert_eq!(rt; records[0].as_slice(), [9].as_slice());
     assert_eq!(rt; records[1].as_slice(), [8, 8].as_slice());
@@ -150,7 +145,8 @@ fn reads_block_after_block(rt: HostRuntime) -> Result<(), Fail> {
 fn refuses_a_part_of_a_block(rt: HostRuntime) -> Result<(), Fail> {
     let mut bytes = block_with(rt.alloc(), &[3, 0, b'a', b'b', b'c'], 512, 0)?;
     bytes.push(0)?;
-    match unpack(rt.alloc(), &bytes, 512) {
+    let size = BlockSize::new(512).unwrap();
+    match unpack(rt.alloc(), &bytes, size) {
         Err(UnpackFault::At(place)) => assert_eq!(rt; place, 512),
         Err(UnpackFault::Memory) => return Err(AllocError)?,
         Ok(records) => panic!(rt; "{} records", records.len()),

@@ -11,13 +11,14 @@ use Rattle.hex.specs.declared.error.FromHexError.TheVariants as digits
 use Rattle.zone_state.specs.declared.state.FaultState.{FaultState}
 use Rattle.zone_state.specs.declared.state.FaultState.TheVariants.{ReadOnly, Offline}
 use Rattle.text_lines.specs.Cut.{uncommented}
+use Rattle.text_lines.specs.Number.{number_of}
 use Rattle.runner.specs.declared.event.Event.{Event}
 use Rattle.runner.specs.declared.event.Event.TheVariants as event
 use Rattle.event_text.specs.declared.command_file.ParseError.{ParseError}
 use Rattle.event_text.specs.declared.command_file.ParseError.TheVariants.{Line, OutOfMemory}
 use Rattle.event_text.specs.declared.command_file.LineError.{LineError}
 use Rattle.event_text.specs.declared.command_file.LineError.TheVariants as reasons
-use Rattle.event_text.specs.Words.{words_of, one_of, two_of, three_of, number_of}
+use Rattle.event_text.specs.Words.{words_of, one_of, two_of, three_of}
 
 -- an event as a line tells it
 pub data Told : Type 0 where

@@ -8,15 +8,16 @@
 //! ```
 
 ghost use Rattle.std.specs.Prelude.{◌≡◌, ◌^◌, map, option_and_then, Ok, IfOk, IfErr};
-ghost use Rattle.event_text.specs.Words.{words_of, number_of};
+ghost use Rattle.text_lines.specs.Number.{number_of};
+ghost use Rattle.event_text.specs.Words.{words_of};
 ghost use Rattle.event_text.specs.declared.command_file.ParseError.TheVariants.{OutOfMemory};
 ghost use Rattle.event_text.specs.CommandFile.{told_of, below, submission_of, turn_of, fault_of, state_named, event_named as named_event, line_told, events_in, reason_of, GivesEvent, GivesLine, RefusesFile};
 
-use crate::words::{Words, decimal};
+use crate::words::Words;
 use hex::{FromHex, FromHexError};
 use runner::Event;
 use std::alloc::{AllocFailed, Global};
-use text_lines::{first_line, is_all_ascii, without_comment};
+use text_lines::{decimal, first_line, is_all_ascii, without_comment};
 use zone_state::FaultState;
 
 /// Why a command file has no events.

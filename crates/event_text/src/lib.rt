@@ -8,4 +8,3 @@ mod words;
 
 pub use command_file::{ParseError, parse};
 pub use lines::Lines;
-pub use words::decimal;

@@ -103,7 +103,7 @@ blocks_read b c (zone ∷ zones) rest whole =
     ∙ (ap (λ (r : Result (List ZoneBlocks × List ℕ) LoadFault). r >>= λ more. Ok (zone_seen b (counted c zone) (bytes_of zone.blocks) ∷ more.0, more.1)) (blocks_read b c zones rest (λ z i h. whole (suc z) i h))
     ∙ ap (λ (bs : List (List ℕ)). let seen : ZoneBlocks = record { state = zone.state; blocks = bs } in let r : Result (List ZoneBlocks × List ℕ) LoadFault = Ok (seen ∷ zones, rest) in r) (blocks_again b zone.blocks (whole 0))))
 
-at-counted : (c : ℕ) (zones : List ZoneBlocks) (k : ℕ) → k < length zones → get_or (map (counted c) zones) k no_record ≡ counted c (get_or zones k no_zone)
+pub at-counted : (c : ℕ) (zones : List ZoneBlocks) (k : ℕ) → k < length zones → get_or (map (counted c) zones) k no_record ≡ counted c (get_or zones k no_zone)
 at-counted c [] k h = absurd (omega arith)
 at-counted c (zone ∷ zones) zero h = refl
 at-counted c (zone ∷ zones) (suc k) h = at-counted c zones k (omega arith)

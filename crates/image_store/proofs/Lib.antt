@@ -18,3 +18,4 @@ pub mod Loads
 pub mod Again
 pub mod Spelled
 pub mod Only
+pub mod Loaded

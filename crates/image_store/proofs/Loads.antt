@@ -58,7 +58,7 @@ zone_fits capacity bytes z some e =
     (passed (are_zeros (take 3 (drop 1 bytes))) (zone_with (state_of (get_or bytes 0 0)) (number_at bytes 4) capacity) z fault.ZoneRecord e).1
 
 -- the zones of records, as many as were wanted
-record HaveFit (capacity n : ℕ) (zs : List ZoneRecord) : Type 0 where
+pub record HaveFit (capacity n : ℕ) (zs : List ZoneRecord) : Type 0 where
   pub count : length zs ≡ n
   pub each : (k : ℕ) → k < length zs → ((get_or zs k no_record).capacity ≡ capacity) × IsZone (get_or zs k no_record).state (get_or zs k no_record).written capacity
 
@@ -68,7 +68,7 @@ fit_more : (capacity : ℕ) (z : ZoneRecord) (zs : List ZoneRecord) → (z.capac
 fit_more capacity z zs first more zero h = first
 fit_more capacity z zs first more (suc k) h = more k (omega arith)
 
-zones_fit : (capacity n : ℕ) (bytes : List ℕ) (zs : List ZoneRecord) → 1 ≤ capacity → zones_in capacity n bytes ≡ Ok zs → HaveFit capacity n zs
+pub zones_fit : (capacity n : ℕ) (bytes : List ℕ) (zs : List ZoneRecord) → 1 ≤ capacity → zones_in capacity n bytes ≡ Ok zs → HaveFit capacity n zs
 zones_fit capacity zero bytes zs some e = subst (HaveFit capacity 0) (ok_is [] zs e) (record { count = refl; each = λ k h. absurd (omega arith) })
 zones_fit capacity (suc n) bytes zs some e =
     let a = bind_ok (zone_in capacity (take 8 bytes)) (λ z. zones_in capacity n (drop 8 bytes) >>= λ more. Ok (z ∷ more)) zs e in

@@ -38,7 +38,7 @@ decided true false c d told s e = absurd cc
 decided true true false d told s e = absurd cc
 decided true true true false told s e = absurd cc
 
-header_only : (bytes : List ℕ) (s : Shape) (rest : List ℕ) → AreBytes bytes → header_in bytes ≡ Ok (s, rest) → header s ++ rest ≡ bytes
+pub header_only : (bytes : List ℕ) (s : Shape) (rest : List ℕ) → AreBytes bytes → header_in bytes ≡ Ok (s, rest) → header s ++ rest ≡ bytes
 header_only bytes s rest fit e =
     let a = bind_ok (bytes_in 64 bytes) (λ front. shape_in front.0 >>= λ told. Ok (told, front.1)) (s, rest) e in
     let b = bind_ok (shape_in a.0.0) (λ told. Ok (told, a.0.1)) (s, rest) a.2 in
@@ -124,11 +124,11 @@ zones_only capacity (suc n) xs zs size fit e =
     })
 
 -- blocks that are read are spelled so
-record AreWritten (capacity : ℕ) (zs : List ZoneRecord) (xs : List ℕ) (got : List ZoneBlocks × List ℕ) : Type 0 where
+pub record AreWritten (capacity : ℕ) (zs : List ZoneRecord) (xs : List ℕ) (got : List ZoneBlocks × List ℕ) : Type 0 where
   pub spelled : blocks_text got.0 ++ got.1 ≡ xs
   pub counted : map (counted capacity) got.0 ≡ zs
 
-blocks_only : (b capacity : ℕ) (zs : List ZoneRecord) (xs : List ℕ) (got : List ZoneBlocks × List ℕ) → ((k : ℕ) → k < length zs → (get_or zs k no_record).capacity ≡ capacity)
+pub blocks_only : (b capacity : ℕ) (zs : List ZoneRecord) (xs : List ℕ) (got : List ZoneBlocks × List ℕ) → ((k : ℕ) → k < length zs → (get_or zs k no_record).capacity ≡ capacity)
     → blocks_in b zs xs ≡ Ok got → AreWritten capacity zs xs got
 blocks_only b capacity [] xs got same e =
     subst (AreWritten capacity [] xs) (ok_is ([], xs) got e) (record { spelled = refl; counted = refl })
@@ -146,12 +146,12 @@ blocks_only b capacity (z ∷ zs) xs got same e =
     })
 
 -- records that are read stand in front, as many as were told
-record AreRecords (s : Shape) (bytes : List ℕ) (zs : List ZoneRecord) (rest : List ℕ) : Type 0 where
+pub record AreRecords (s : Shape) (bytes : List ℕ) (zs : List ZoneRecord) (rest : List ℕ) : Type 0 where
   pub spelled : records_text zs ++ rest ≡ bytes
   pub count : length zs ≡ s.zones
   pub same : (k : ℕ) → k < length zs → (get_or zs k no_record).capacity ≡ s.capacity
 
-records_only : (s : Shape) (bytes : List ℕ) (got : List ZoneRecord × List ℕ) → AreBytes bytes → records_in s bytes ≡ Ok got → AreRecords s bytes got.0 got.1
+pub records_only : (s : Shape) (bytes : List ℕ) (got : List ZoneRecord × List ℕ) → AreBytes bytes → records_in s bytes ≡ Ok got → AreRecords s bytes got.0 got.1
 records_only s bytes got fit e =
     let r = bind_ok (bytes_in (s.zones * 8) bytes) (λ front. zones_in s.capacity s.zones front.0 >>= λ all. Ok (all, front.1)) got e in
     let q = bind_ok (zones_in s.capacity s.zones r.0.0) (λ all. Ok (all, r.0.1)) got r.2 in

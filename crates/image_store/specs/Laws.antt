@@ -10,6 +10,10 @@ use Rattle.image_store.specs.Text.{text, is_version_1_block}
 abbrev pub SavedTextsLoad : Type 0
 SavedTextsLoad = (ns : ZonedNamespace) → IsNamespace ns → namespace_in (text ns) ≡ Ok ns
 
+-- what loads is a namespace that an image can have
+abbrev pub LoadedIsNamespace : Type 0
+LoadedIsNamespace = (bytes : List ℕ) (ns : ZonedNamespace) → AreBytes bytes → namespace_in bytes ≡ Ok ns → IsNamespace ns
+
 -- no other text loads: what does is the text of the namespace that it stands for
 abbrev pub OnlyTextsLoad : Type 0
 OnlyTextsLoad = (bytes : List ℕ) (ns : ZonedNamespace) → AreBytes bytes → namespace_in bytes ≡ Ok ns → bytes ≡ text ns

@@ -1,10 +1,16 @@
 //! Laws of the text of an image. Each function does nothing: what it ensures is the law.
 
-ghost use Rattle.image_store.specs.Laws.{OnlyTextsLoad, SavedTextsLoad, Version1BlocksAreKnown};
+ghost use Rattle.image_store.specs.Laws.{LoadedIsNamespace, OnlyTextsLoad, SavedTextsLoad, Version1BlocksAreKnown};
 
 /// What is saved loads again as the same namespace.
 pub fn saved_texts_load()
     ensures { SavedTextsLoad }
+{}
+
+/// What loads is a namespace that an image can have: its zones' states, their blocks and the limits fit
+/// one another.
+pub fn loaded_texts_are_namespaces()
+    ensures { LoadedIsNamespace }
 {}
 
 /// Nothing else loads: what does is the text of the namespace that it stands for.

@@ -1,6 +1,7 @@
 pub mod CauseLemmas
 pub mod Entry
 pub mod Flats
+pub mod Groups
 pub mod MapLemmas
 pub mod MemoryLemmas
 pub mod Running

@@ -1,6 +1,6 @@
 //! Laws of the definitions: each function's contract is one, and its body is empty.
 
-ghost use Rattle.interp.specs.Laws.{AccessIsMapped, BeginsAtInstruction, ChangesOnly, EndsWithMoreFuel, EntryIsState, KeepsGroupLimit, KeepsState, LeadsToInstruction, LoadsFromMap, StoresIntoMap, StuckByLeast};
+ghost use Rattle.interp.specs.Laws.{AccessIsMapped, BeginsAtInstruction, ChangesOnly, EmitsFromMap, EndsInRun, EndsWithMoreFuel, EntryIsInRun, EntryIsState, KeepsGroupLimit, KeepsState, LeadsToInstruction, LoadsFromMap, StoresIntoMap, StuckByLeast};
 
 /// Bytes lie in one area exactly where each of them is in the map from addresses to bytes.
 pub fn access_is_mapped()
@@ -57,4 +57,21 @@ pub fn leads_to_instruction()
 /// A step keeps the group within its limit.
 pub fn keeps_group_limit()
     ensures { KeepsGroupLimit }
+{}
+
+/// A call that goes on adds to the group the frame of the bytes that the map has from R1 on, as many as
+/// R2 says, and no other instruction changes the group.
+pub fn emits_from_map()
+    ensures { EmitsFromMap }
+{}
+
+/// At the start of a block run the group is empty: no frames, within any limit.
+pub fn entry_is_in_run()
+    ensures { EntryIsInRun }
+{}
+
+/// The state in which a block run ends, however it ends, is a state again, and its group is bytes that
+/// are as many whole frames as it counts, within the limit.
+pub fn ends_in_run()
+    ensures { EndsInRun }
 {}

@@ -10,7 +10,7 @@ mod word;
 
 pub use cause::Cause;
 pub use machine::{End, Exit, Machine, Step};
-pub use memory::{Area, bytes_in};
+pub use program_interface::Area;
 pub use trap_free::TrapFree;
 pub use word::{Arithmetic, alu, taken};
 

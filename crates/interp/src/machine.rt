@@ -8,7 +8,7 @@ mod verified;
 
 ghost use Rattle.std.specs.Prelude.{◌<◌, ◌≤◌, ◌^◌, length};
 
-use crate::memory::Area;
+use program_interface::{CONTEXT_BYTES, REGISTERS, SCRATCH_BYTES, STACK_BYTES, entry_registers};
 pub use run::End;
 pub use step::Step;
 pub use verified::Exit;
@@ -17,10 +17,10 @@ pub use verified::Exit;
 #[derive(Drop)]
 pub struct Machine<'a> {
     block: &'a [u8],
-    context: &'a [u8; 32],
-    scratch: &'a mut [u8; 1024],
-    stack: [u8; 512],
-    registers: [u64; 11],
+    context: &'a [u8; CONTEXT_BYTES],
+    scratch: &'a mut [u8; SCRATCH_BYTES],
+    stack: [u8; STACK_BYTES],
+    registers: [u64; REGISTERS],
     slot: usize,
     steps: u64,
     group_len: usize,
@@ -36,7 +36,11 @@ impl<'a> Machine<'a> {
 
     /// A machine at the start of a block run, at slot 0: R1, R2 and R3 are the addresses of
     /// context, block and scratch, R10 is the end of the stack, all else is 0 (profile).
-    pub fn new(block: &'a [u8], context: &'a [u8; 32], scratch: &'a mut [u8; 1024]) -> Machine<'a>
+    pub fn new(
+        block: &'a [u8],
+        context: &'a [u8; CONTEXT_BYTES],
+        scratch: &'a mut [u8; SCRATCH_BYTES],
+    ) -> Machine<'a>
         requires { length block.now < 2 ^ 32 }
         ensures state { (group : List ℕ) → state_of result group ≡ entry block.now context.now scratch.old }
         ensures new { IsNew result }
@@ -50,20 +54,8 @@ impl<'a> Machine<'a> {
             block,
             context,
             scratch,
-            stack: [0; 512],
-            registers: [
-                0,
-                Area::Context.address(),
-                Area::Block.address(),
-                Area::Scratch.address(),
-                0,
-                0,
-                0,
-                0,
-                0,
-                0,
-                Area::Stack.address() + 512,
-            ],
+            stack: [0; STACK_BYTES],
+            registers: entry_registers(),
             slot: 0,
             steps: 0,
             group_len: 0,

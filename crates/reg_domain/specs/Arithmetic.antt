@@ -9,7 +9,7 @@ use Rattle.ebpf_decode.specs.declared.operation.SwapSize.TheVariants as kept
 use Rattle.ebpf_decode.specs.declared.operation.Width.{Width}
 use Rattle.ebpf_decode.specs.declared.operation.Width.TheVariants.{Bits32, Bits64}
 use Rattle.interp.specs.Word.{computed, signed}
-use Rattle.interp.specs.declared.memory.Area.{Area}
+use Rattle.program_interface.specs.declared.area.Area.{Area}
 use Rattle.interp.specs.declared.word.Arithmetic.{Arithmetic}
 use Rattle.interp.specs.declared.word.Arithmetic.TheVariants.{Binary, Negate, MoveSigned, SwapBytes}
 use Rattle.reg_domain.specs.Fact.{bounds_of, full, is_single, pointer_to, range, single}

@@ -6,7 +6,7 @@ use Rattle.interp.specs.Word.{computed}
 use Rattle.reg_domain.specs.Domain.{BelongAfter, IsSound, Operations}
 use Rattle.reg_domain.specs.Fact.{ContainsWord, widened}
 use Rattle.reg_domain.specs.FactLaws.{widened_law}
-use Rattle.reg_domain.specs.Intervals.{intervals, intervals_sound}
+use Rattle.reg_domain.specs.Intervals.{EachIsFact, each_is_fact, intervals, intervals_sound}
 use Rattle.reg_domain.specs.declared.fact.Fact.{Fact}
 
 abbrev pub both_widened : Option (Fact × Fact) → Option (Fact × Fact)
@@ -27,16 +27,17 @@ both_widened_law : (o : Option (Fact × Fact)) (x y : ℕ) → BelongAfter Conta
 both_widened_law None x y kept = kept
 both_widened_law (Some facts) x y kept = (widened_law facts.0 x kept.0, widened_law facts.1 y kept.1)
 
-pub constants_sound : IsSound ContainsWord constants
+pub constants_sound : IsSound EachIsFact ContainsWord constants
 constants_sound = record {
+  facts = each_is_fact constants;
   constant = intervals_sound.constant;
   any = intervals_sound.any;
   pointer = intervals_sound.pointer;
   loaded = λ size n h. widened_law (intervals.loaded size) n (intervals_sound.loaded size n h);
-  loaded_signed = λ size n.
-      widened_law (intervals.loaded_signed size) (sign_extended size n) (intervals_sound.loaded_signed size n);
-  join_first = λ d e w is. widened_law (intervals.join d e) w (intervals_sound.join_first d e w is);
-  join_second = λ d e w is. widened_law (intervals.join d e) w (intervals_sound.join_second d e w is);
+  loaded_signed = λ size n h.
+      widened_law (intervals.loaded_signed size) (sign_extended size n) (intervals_sound.loaded_signed size n h);
+  join_first = λ d e w is other. widened_law (intervals.join d e) w (intervals_sound.join_first d e w is other);
+  join_second = λ d e w other is. widened_law (intervals.join d e) w (intervals_sound.join_second d e w other is);
   alu = λ arithmetic d e x y hd he.
       widened_law (intervals.alu arithmetic d e) (computed arithmetic x y) (intervals_sound.alu arithmetic d e x y hd he);
   refine = λ width relation taken d e same x y hd he one is.

@@ -5,8 +5,8 @@ use Rattle.std.specs.Ordering.{int_eq}
 use Rattle.ebpf_decode.specs.declared.operation.SignedSize.{SignedSize}
 use Rattle.ebpf_decode.specs.declared.operation.Size.{Size}
 use Rattle.ebpf_decode.specs.declared.operation.Size.TheVariants.{Byte, HalfWord, Word, DoubleWord}
-use Rattle.interp.specs.Memory.{address_of, length_of}
-use Rattle.interp.specs.declared.memory.Area.{Area}
+use Rattle.program_interface.specs.Area.{address_of, length_of}
+use Rattle.program_interface.specs.declared.area.Area.{Area}
 use Rattle.reg_domain.specs.declared.fact.Bounds.{Bounds}
 use Rattle.reg_domain.specs.declared.fact.Fact.{Fact}
 use Rattle.reg_domain.specs.declared.fact.Fact.TheVariants.{Words, Pointer}

@@ -5,6 +5,7 @@ use Rattle.std.proofs.lemmas.Int.{ints}
 use Rattle.std.specs.Int.{int_min, int_max}
 use Rattle.std.specs.Ordering.{int_eq}
 use Rattle.std.specs.Prelude.{◌==◌, ◌≤ℤ◌}
+use Rattle.ebpf_decode.specs.Instruction.{size_of}
 use Rattle.ebpf_decode.specs.declared.operation.SignedSize.{SignedSize}
 use Rattle.ebpf_decode.specs.declared.operation.SignedSize.TheVariants as signed
 use Rattle.ebpf_decode.specs.declared.operation.SignExtension.TheVariants.{Bits8To64, Bits16To64, Bits32To64}
@@ -12,7 +13,7 @@ use Rattle.ebpf_decode.specs.declared.operation.Size.{Size}
 use Rattle.ebpf_decode.specs.declared.operation.Size.TheVariants.{Byte, HalfWord, Word, DoubleWord}
 use Rattle.interp.proofs.WordLemmas.{extended_fits}
 use Rattle.interp.specs.Effect.{sign_extended}
-use Rattle.interp.specs.Memory.{address_of, size_of}
+use Rattle.program_interface.specs.Area.{address_of}
 use Rattle.reg_domain.specs.Fact.{ContainsWord, IsWithin, bounds_of, full, is_single, join_of, loaded_of, loaded_signed_of, single, widened}
 use Rattle.reg_domain.specs.declared.fact.Fact.{Fact}
 use Rattle.reg_domain.specs.declared.fact.Fact.TheVariants.{Words, Pointer}

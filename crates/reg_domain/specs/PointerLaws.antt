@@ -1,12 +1,15 @@
 -- Pointers: where they lead, moved by words, and which bytes they reach.
 use Rattle.std.proofs.Common.{ℕ, ℤ, suc, pos, negsuc, ◌≡◌, ◌+◌, ◌-◌, ◌%◌, ◌^◌, ◌<◌, ◌≤◌, ◌+ℤ◌, ◌-ℤ◌, Bool, true, false, cond, Some, None, inl, inr, refl, subst, arith}
 use Rattle.std.proofs.lemmas.Bool.{cond_both, and_parts, and_from, le-leb, le-ltb, or_cases, ltb-true, leb-true}
+use Rattle.std.proofs.lemmas.Bool.Decides.{nat_tests}
 use Rattle.std.proofs.lemmas.Int.{ints}
 use Rattle.std.specs.Int.{w64, cast_signed, cast_unsigned}
 use Rattle.std.specs.Prelude.{◌&&◌, ◌||◌, ◌≤ℤ◌, int_le, nat_lt, nat_le}
-use Rattle.interp.specs.Memory.{address_of, length_of, lies_in}
-use Rattle.interp.specs.declared.memory.Area.{Area}
-use Rattle.interp.specs.declared.memory.Area.TheVariants.{Context, Block, Stack, Scratch}
+use Rattle.interp.specs.Memory.{lies_in}
+use Rattle.program_interface.specs.Area.{address_of, length_of}
+use Rattle.program_interface.specs.declared.area.Area.{Area}
+use Rattle.program_interface.specs.declared.area.Area.TheVariants.{Context, Block, Stack, Scratch}
+use Rattle.program_interface.specs.BlockSize.{IsBlockSize}
 use Rattle.reg_domain.specs.FactLaws.{any_law, either_fact}
 use Rattle.reg_domain.specs.Arithmetic.{moved_back, moved_on, signed_bounds}
 use Rattle.reg_domain.specs.Fact.{ContainsWord, access_of, farthest, pointer_to}
@@ -40,9 +43,11 @@ pointer_to_law area low high w fits between =
     (is.0, is.1, fits))
     (λ _. any_law w fits)
 
-pub pointer_law : (area : Area) (k : ℕ) → address_of area + k < 2 ^ 64
+pub pointer_law : (area : Area) (k : ℕ) → k < 2 ^ 32
     → ContainsWord (pointer_to area (pos k) (pos k)) (address_of area + k)
-pointer_law area k fits =
+pointer_law area k small =
+    let far = far_in area in
+    let fits : address_of area + k < 2 ^ 64 = omega (arith, far, small) in
     pointer_to_law area (pos k) (pos k) (address_of area + k) fits (λ _ _. (omega (arith, ints), omega (arith, ints)))
 
 -- ---- moved by words
@@ -116,6 +121,10 @@ moved_back_law area low high b x y hx hy =
     (λ _. any_law n (mod_word (x + (2 ^ 64 - y))))
 
 -- ---- access
+
+-- a block's length is a small number
+pub block_small : (block : ℕ) → IsBlockSize block → block < 2 ^ 32
+block_small block is = grind (arith, nat_tests, is)
 
 pub length_fits : (block : ℕ) (area : Area) → block < 2 ^ 32 → length_of block area < 2 ^ 32
 length_fits block Context h = omega arith

@@ -9,7 +9,8 @@ ghost use Rattle.reg_domain.specs.Arithmetic.{signed_bounds, moved_on, moved_bac
 use crate::fact::{Bounds, Fact, is_one, one, pointer_between, words_of};
 use crate::range::{all, combine};
 use ebpf_decode::{Operation, SignExtension, SwapSize, Width};
-use interp::{Area, Arithmetic, alu};
+use interp::{Arithmetic, alu};
+use program_interface::Area;
 
 /// The bounds of words as signed numbers, where all have one sign.
 fn as_signed(words: Bounds) -> Option<(i64, i64)>

@@ -7,7 +7,8 @@ use crate::domain::Domain;
 use crate::edge::refine;
 use crate::fact::{Bounds, Fact, access, join, load, one, pointer_between, widen, words_of};
 use ebpf_decode::{Relation, SignedSize, Size, Width};
-use interp::{Area, Arithmetic};
+use interp::Arithmetic;
+use program_interface::{Area, BlockSize};
 use std::marker::Model;
 
 /// A word that is known, an address at a known distance from an area's, or any word.
@@ -32,6 +33,9 @@ impl Model for Constants {
 impl Domain for Constants {
     ghost use Rattle.reg_domain.specs.Fact.{ContainsWord};
     ghost use Rattle.reg_domain.specs.Constants.{constants, constants_sound};
+    ghost use Rattle.reg_domain.specs.Intervals.{EachIsFact};
+
+    ghost is_fact = { EachIsFact };
 
     ghost contains = { ContainsWord };
 
@@ -98,7 +102,7 @@ impl Domain for Constants {
         ))
     }
 
-    fn access(self, block: u32, offset: i16, size: u64) -> Option<Area> {
+    fn access(self, block: BlockSize, offset: i16, size: u64) -> Option<Area> {
         access(self.fact, block, offset, size)
     }
 

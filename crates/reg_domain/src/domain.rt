@@ -7,10 +7,14 @@ ghost use Rattle.reg_domain.specs.Domain.{Operations, IsSound};
 
 use crate::fact::Bounds;
 use ebpf_decode::{Relation, SignedSize, Size, Width};
-use interp::{Area, Arithmetic};
+use interp::Arithmetic;
+use program_interface::{Area, BlockSize};
 
 /// A fact about a register: a set of words, to which the register's word belongs.
 pub trait Domain: Copy {
+    /// The values that are facts: all that the operations give. A type may have others.
+    ghost is_fact: { Self → Type 0 };
+
     /// The words that belong to a fact.
     ghost contains: { Self → ℕ → Type 0 };
 
@@ -65,9 +69,9 @@ pub trait Domain: Copy {
     ) -> Option<(Self, Self)>
         ensures { result ≡ operations.refine width relation taken dst source same };
 
-    /// The area, beside a block of this many bytes, that holds all `size` bytes from each address
+    /// The area, beside a block of this size, that holds all `size` bytes from each address
     /// on that is a word of the fact and the offset.
-    fn access(self, block: u32, offset: i16, size: u64) -> Option<Area>
+    fn access(self, block: BlockSize, offset: i16, size: u64) -> Option<Area>
         ensures { result ≡ operations.access block self offset size };
 
     /// The lowest and the greatest word, or wider.
@@ -75,5 +79,5 @@ pub trait Domain: Copy {
         ensures { result ≡ operations.bounds self };
 
     /// The operations are sound.
-    ghost sound: { IsSound contains operations };
+    ghost sound: { IsSound is_fact contains operations };
 }

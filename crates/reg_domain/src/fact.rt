@@ -5,7 +5,7 @@ ghost use Rattle.std.specs.Int.{int_min, int_max};
 ghost use Rattle.reg_domain.specs.Fact.{IsFact, is_single, single, full, pointer_to, loaded_of, join_of, bounds_of, access_of, widened};
 
 use ebpf_decode::Size;
-use interp::Area;
+use program_interface::{Area, BlockSize};
 
 /// The lowest and the greatest of some numbers.
 #[derive(Clone, Copy, Debug, PartialEq, Eq)]
@@ -156,14 +156,14 @@ fn ends_inside(high: i32, offset: i16, size: u64, length: u64) -> bool
 }
 
 /// The area of a pointer, if it has all bytes of an access at this offset.
-pub fn access(fact: Fact, block: u32, offset: i16, size: u64) -> Option<Area>
+pub fn access(fact: Fact, block: BlockSize, offset: i16, size: u64) -> Option<Area>
     requires { IsFact fact }
     ensures { result ≡ access_of block fact offset size }
 {
     let Fact::Pointer { area, low, high } = fact else {
         return None;
     };
-    let length = area.length(block as usize) as u64;
+    let length = area.length(block.bytes() as usize) as u64;
     if starts_inside(low, offset) && ends_inside(high, offset, size, length) {
         Some(area)
     } else {

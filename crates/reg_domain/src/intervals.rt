@@ -7,7 +7,8 @@ use crate::domain::Domain;
 use crate::edge::refine;
 use crate::fact::{Bounds, Fact, access, join, load, one, pointer_between, words_of};
 use ebpf_decode::{Relation, SignedSize, Size, Width};
-use interp::{Area, Arithmetic};
+use interp::Arithmetic;
+use program_interface::{Area, BlockSize};
 use std::marker::Model;
 
 /// The words between two bounds, or the addresses between two distances from an area's.
@@ -31,7 +32,9 @@ impl Model for Intervals {
 
 impl Domain for Intervals {
     ghost use Rattle.reg_domain.specs.Fact.{ContainsWord};
-    ghost use Rattle.reg_domain.specs.Intervals.{intervals, intervals_sound};
+    ghost use Rattle.reg_domain.specs.Intervals.{EachIsFact, intervals, intervals_sound};
+
+    ghost is_fact = { EachIsFact };
 
     ghost contains = { ContainsWord };
 
@@ -91,7 +94,7 @@ impl Domain for Intervals {
         Some((Intervals { fact: dst }, Intervals { fact: source }))
     }
 
-    fn access(self, block: u32, offset: i16, size: u64) -> Option<Area> {
+    fn access(self, block: BlockSize, offset: i16, size: u64) -> Option<Area> {
         access(self.fact, block, offset, size)
     }
 

@@ -15,8 +15,9 @@ pub use ebpf_decode::{
     Operation, Relation, SignExtension, SignedSize, Size, Swap, SwapSize, Width,
 };
 pub use fact::Bounds;
-pub use interp::{Area, Arithmetic};
+pub use interp::Arithmetic;
 pub use intervals::Intervals;
+pub use program_interface::Area;
 
 #[cfg(test)]
 mod tests;

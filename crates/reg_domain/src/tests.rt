@@ -4,6 +4,7 @@ mod edges;
 mod words;
 
 use crate::{Area, Arithmetic, Bounds, Constants, Domain, Intervals, Operation, Size, Width};
+use program_interface::BlockSize;
 use std::process::Abort;
 
 fn between(low: u64, high: u64) -> Bounds {
@@ -21,22 +22,31 @@ fn span<D: Domain>(low: u64, high: u64) -> D {
     D::constant(low).join(D::constant(high))
 }
 
+/// A block of 512 bytes.
+fn small_block(rt: &impl Abort) -> BlockSize {
+    let Some(block) = BlockSize::new(512) else {
+        panic!(rt; "512 is a block size");
+    };
+    block
+}
+
 /// What any domain answers where it knows the words.
 fn check_domain<D: Domain>(rt: &impl Abort) {
+    let block = small_block(rt);
     let five = bits64(Operation::Add, D::constant(2), D::constant(3));
     assert_eq!(rt; five.bounds(), between(5, 5));
     assert_eq!(rt; D::any().bounds(), Bounds::FULL);
     assert_eq!(rt;
-        D::pointer(Area::Stack, 512).access(512, -8, 8),
+        D::pointer(Area::Stack, 512).access(block, -8, 8),
         Some(Area::Stack)
     );
-    assert_eq!(rt; D::pointer(Area::Stack, 512).access(512, -7, 8), None);
+    assert_eq!(rt; D::pointer(Area::Stack, 512).access(block, -7, 8), None);
     assert_eq!(rt;
-        D::pointer(Area::Block, 0).access(512, 511, 1),
+        D::pointer(Area::Block, 0).access(block, 511, 1),
         Some(Area::Block)
     );
-    assert_eq!(rt; D::pointer(Area::Block, 0).access(512, 511, 2), None);
-    assert_eq!(rt; D::constant(512).access(512, 0, 1), None);
+    assert_eq!(rt; D::pointer(Area::Block, 0).access(block, 511, 2), None);
+    assert_eq!(rt; D::constant(512).access(block, 0, 1), None);
 }
 
 #[test]
@@ -57,12 +67,13 @@ fn loads_tell_their_size(rt: HostRuntime) {
 
 #[test]
 fn pointers_move_by_an_index(rt: HostRuntime) {
+    let block = small_block(&rt);
     // a byte from 0 to 99, behind the block's first: the last byte that 512 have is 412 on
     let moved: Intervals = bits64(
         Operation::Add,
         Intervals::pointer(Area::Block, 0),
         span(0, 99),
     );
-    assert_eq!(rt; moved.access(512, 412, 1), Some(Area::Block));
-    assert_eq!(rt; moved.access(512, 413, 1), None);
+    assert_eq!(rt; moved.access(block, 412, 1), Some(Area::Block));
+    assert_eq!(rt; moved.access(block, 413, 1), None);
 }

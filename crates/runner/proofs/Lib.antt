@@ -1,1 +1,3 @@
+pub mod BlocksRead
 pub mod EventLemmas
+pub mod Steps

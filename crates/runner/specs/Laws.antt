@@ -1,15 +1,48 @@
 -- Laws of the definitions in `Events`.
-use Rattle.std.specs.Prelude.{◌≡◌, List, ◌++◌, length}
-use Rattle.image_store.specs.Namespace.{ZonedNamespace}
-use Rattle.runner.specs.Events.{answers_to, namespace_after}
+use Rattle.std.specs.Prelude.{ℕ, ◌≡◌, List, ◌++◌, length, All, Ok}
+use Rattle.image_store.specs.Blocks.{AreBytes}
+use Rattle.image_store.specs.Geometry.{Shape, IsShape}
+use Rattle.image_store.specs.Namespace.{ZonedNamespace, all_empty}
+use Rattle.image_store.specs.Reading.{namespace_in}
+use Rattle.image_store.specs.Text.{text}
+use Rattle.runner.specs.Events.{answers_to, state_after}
+use Rattle.runner.specs.State.{DeviceState, IsDevice, device_of}
 use Rattle.runner.specs.declared.event.Event.{Event}
+use Rattle.runner.specs.declared.event.Event.TheVariants as event
 
 abbrev pub OneAnswerEach : Type 0
-OneAnswerEach = (events : List Event) (ns : ZonedNamespace) → length (answers_to events ns) ≡ length events
+OneAnswerEach = (events : List Event) (state : DeviceState) → length (answers_to events state) ≡ length events
 
-pub record ServedInParts (first later : List Event) (ns : ZonedNamespace) : Type 0 where
-  pub answers : answers_to (first ++ later) ns ≡ answers_to first ns ++ answers_to later (namespace_after first ns)
-  pub namespace : namespace_after (first ++ later) ns ≡ namespace_after later (namespace_after first ns)
+pub record ServedInParts (first later : List Event) (state : DeviceState) : Type 0 where
+  pub answers : answers_to (first ++ later) state ≡ answers_to first state ++ answers_to later (state_after first state)
+  pub after : state_after (first ++ later) state ≡ state_after later (state_after first state)
 
 abbrev pub InParts : Type 0
-InParts = (first later : List Event) (ns : ZonedNamespace) → ServedInParts first later ns
+InParts = (first later : List Event) (state : DeviceState) → ServedInParts first later state
+
+-- the numbers beside an entry are bytes
+abbrev pub IsEvent : Event → Type 0
+IsEvent (event.Submit queue entry payload) = AreBytes payload.items
+IsEvent (event.Turn run) = Unit {0}
+IsEvent (event.Fault zone fault) = Unit {0}
+
+abbrev pub AreEvents : List Event → Type 0
+AreEvents events = All IsEvent events
+
+-- what holds of each device holds still, whatever events happen
+abbrev pub EventsKeepDevices : Type 0
+EventsKeepDevices = (events : List Event) (state : DeviceState) → IsDevice state → AreEvents events → IsDevice (state_after events state)
+
+-- a device begins so with a namespace of which nothing is written, and with one that was loaded
+abbrev pub EmptyIsDevice : Type 0
+EmptyIsDevice = (s : Shape) → IsShape s → IsDevice (device_of (all_empty s))
+
+abbrev pub LoadedIsDevice : Type 0
+LoadedIsDevice = (bytes : List ℕ) (ns : ZonedNamespace) → AreBytes bytes → namespace_in bytes ≡ Ok ns → IsDevice (device_of ns)
+
+-- what is saved loads again as the same namespace, whatever events happened before
+abbrev pub SavedDevicesLoad : Type 0
+SavedDevicesLoad =
+    (events : List Event) (state : DeviceState) → IsDevice state → AreEvents events
+    → let ns = (state_after events state).namespace in
+    namespace_in (text ns) ≡ Ok ns

@@ -1,16 +1,17 @@
-//! The device: a namespace that events happen to.
+//! The device, to which events happen.
 
 ghost use Rattle.std.specs.Prelude.{◌≡◌, ◌≤◌, ◌<◌, ◌+◌, ◌^◌, length, take, drop, OnOk, IfErr};
-ghost use Rattle.runner.specs.Events.{happens, answers_to, namespace_after, HasStopped, data_length, entry_outcome, complete_reply, fault_reply};
+ghost use Rattle.runner.specs.Events.{happens, answers_to, state_after, HasStopped, data_length, entry_outcome, complete_reply, fault_reply};
 ghost use Rattle.zone_resources.specs.Holds.{no_holds};
 ghost use Rattle.zns_commands.specs.Fault.{fault_answer, faulted};
 ghost use Rattle.nvme_entry.specs.Entry.{decoded};
+ghost use Rattle.runner.specs.State.{device_of};
 ghost use Rattle.runner.specs.Taken.{and_then, CountsRefusals};
 
 use crate::event::Event;
 use crate::out::Out;
 use crate::reply::Reply;
-use nvme_entry::{Completion, Entry};
+use nvme_entry::{Command, Completion, Entry};
 use std::marker::Model;
 use zns_commands::{Answer, FaultRefused, FaultState, Holds, Image, MOST_TRANSFER, Namespace};
 
@@ -20,24 +21,24 @@ pub struct Stopped {
     pub done: usize,
 }
 
-/// A device with one namespace, seen as that namespace.
+/// A device with one namespace. A clause sees its state.
 #[derive(Drop)]
 pub struct Device {
     namespace: Namespace,
 }
 
 impl Model for Device {
-    ghost use Rattle.image_store.specs.Namespace.{ZonedNamespace};
+    ghost use Rattle.runner.specs.State.{DeviceState};
 
-    ghost Value = { ZonedNamespace };
+    ghost Value = { DeviceState };
 
-    ghost view = { λ device. device.namespace };
+    ghost view = { λ device. record { namespace = device.namespace } };
 }
 
 impl Device {
     /// A device whose namespace an image holds.
     pub fn new(image: Image) -> Device
-        ensures { result ≡ image }
+        ensures { result ≡ device_of image }
     {
         let namespace = Namespace::new(image);
         Device { namespace }
@@ -45,7 +46,7 @@ impl Device {
 
     /// The namespace as an image.
     pub fn image(&self) -> &Image
-        ensures { result.now ≡ self.now }
+        ensures { result.now ≡ self.now.namespace }
     {
         self.namespace.image()
     }
@@ -54,7 +55,7 @@ impl Device {
     pub fn step(&mut self, event: &Event, data_out: &mut [u8]) -> Reply
         requires { MOST_TRANSFER ≤ length data_out.old }
         ensures reply { result ≡ (happens self.old event.now).answer.reply }
-        ensures namespace { self.new ≡ (happens self.old event.now).namespace }
+        ensures state { self.new ≡ (happens self.old event.now).state }
         ensures given { take (data_length result) data_out.new ≡ (happens self.old event.now).answer.bytes }
         ensures rest { drop (data_length result) data_out.new ≡ drop (data_length result) data_out.old }
         ensures within { data_length result ≤ length data_out.new }
@@ -72,8 +73,8 @@ impl Device {
 
     /// Brings a zone into the state of a fault.
     fn fault(&mut self, zone: u32, state: FaultState) -> Reply
-        ensures reply { result ≡ fault_reply (fault_answer self.old no_holds zone state) }
-        ensures namespace { self.new ≡ faulted self.old no_holds zone state }
+        ensures reply { result ≡ fault_reply (fault_answer self.old.namespace no_holds zone state) }
+        ensures state { self.new ≡ device_of (faulted self.old.namespace no_holds zone state) }
     {
         match self.namespace.fault(zone, state, &Holds::none()) {
             Ok(()) => Reply::Done,
@@ -84,14 +85,14 @@ impl Device {
     /// Does the command of an entry.
     fn submit(&mut self, queue: u16, entry: &[u8; 64], payload: &[u8], data_out: &mut [u8]) -> Reply
         requires { MOST_TRANSFER ≤ length data_out.old }
-        ensures reply { result ≡ complete_reply queue entry.now (entry_outcome self.old (decoded entry.now) payload.now) }
-        ensures namespace { self.new ≡ (entry_outcome self.old (decoded entry.now) payload.now).namespace }
-        ensures given { take (data_length result) data_out.new ≡ (entry_outcome self.old (decoded entry.now) payload.now).output }
+        ensures reply { result ≡ complete_reply queue entry.now (entry_outcome self.old.namespace (decoded entry.now) payload.now) }
+        ensures state { self.new ≡ device_of (entry_outcome self.old.namespace (decoded entry.now) payload.now).namespace }
+        ensures given { take (data_length result) data_out.new ≡ (entry_outcome self.old.namespace (decoded entry.now) payload.now).output }
         ensures rest { drop (data_length result) data_out.new ≡ drop (data_length result) data_out.old }
         ensures within { data_length result ≤ length data_out.new }
     {
         let answer = match Entry::decode(entry) {
-            Ok(command) => {
+            Ok(Command::Standard(command)) => {
                 self.namespace
                     .execute(&command, payload, data_out, &Holds::none())
             }
@@ -124,7 +125,7 @@ impl Device {
     ) -> Result<(), Stopped>
         requires room { MOST_TRANSFER ≤ length data_out.old }
         requires counts { O.refused out.old + 1 < 2 ^ 64 }
-        ensures namespace { OnOk result (self.new ≡ namespace_after events.now self.old) }
+        ensures state { OnOk result (self.new ≡ state_after events.now self.old) }
         ensures answers { OnOk result (O.taken out.new ≡ and_then (O.taken out.old) (answers_to events.now self.old)) }
         ensures stopped { IfErr result (λ stopped. HasStopped events.now self.old self.new (O.taken out.old) (O.taken out.new) stopped.done) }
         ensures refused { CountsRefusals (O.refused out.old) (O.refused out.new) result }

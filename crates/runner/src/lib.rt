@@ -1,4 +1,4 @@
-//! The device: events happen to a namespace, one after another, and each has its answer.
+//! The device: events happen to it, one after another, and each has its answer.
 #![tactic(auto)]
 
 mod device;

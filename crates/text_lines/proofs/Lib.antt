@@ -1,4 +1,5 @@
 pub mod Blanks
 pub mod LineLemmas
+pub mod NumberLemmas
 pub mod PartLemmas
 pub mod Positions

@@ -1,16 +1,18 @@
 -- What an instruction does that no reason refuses.
-use Rattle.std.proofs.Common.{ℕ, ℤ, ◌+◌, ◌≡◌, ◌<◌, ◌^◌, ◌<ℤ◌, ◌≤ℤ◌, Bool, true, false, List, length, slice_get, Option, Some, None, pos, negsuc, refl, arith, IsSome, IfSome, is_some, not, nat_lt, ◌&&◌, if◌then◌else◌}
+use Rattle.std.proofs.Common.{ℕ, ℤ, ◌+◌, ◌≡◌, ◌<◌, ◌≤◌, ◌^◌, ◌<ℤ◌, ◌≤ℤ◌, Bool, true, false, List, length, slice_get, Option, Some, None, pos, negsuc, refl, arith, IsSome, IfSome, is_some, not, nat_lt, ◌&&◌, if◌then◌else◌}
 use Rattle.std.proofs.Math.Facts.{yes_leb, yes_ltb}
 use Rattle.std.proofs.lemmas.Bool.Decides.{nat_tests}
 use Rattle.std.proofs.lemmas.Option.{slice_get_within}
+use Rattle.ebpf_decode.specs.Instruction.{distance_of, target}
 use Rattle.ebpf_decode.specs.Program.{instruction_in}
 use Rattle.ebpf_decode.specs.declared.insn.Insn.{Insn}
 use Rattle.ebpf_decode.specs.declared.insn.Insn.TheVariants.{LoadImmediate, Load, LoadSigned, StoreImmediate, StoreRegister, Arithmetic, Negate, MoveSigned, SwapBytes, Jump, JumpLong, Branch, Call, Exit}
 use Rattle.interp.specs.Cause.{is_emit}
+use Rattle.program_interface.specs.RunSizes.{Sizes}
 use Rattle.reg_domain.specs.Domain.{Operations}
 use Rattle.verifier.specs.Accepted.{all_reasons, begins_at, fails, leads_nowhere, most_emitted, reason_of, turns_away}
 use Rattle.verifier.specs.Answer.{HasRoom, StaysInside}
-use Rattle.verifier.specs.Facts.{distance_of, facts_behind, slot_behind, target}
+use Rattle.verifier.specs.Facts.{facts_behind, slot_behind}
 use Rattle.verifier.specs.Unhindered.{all_fail, of_all}
 use Rattle.verifier.specs.declared.facts.Facts.{Facts}
 use Rattle.verifier.specs.declared.reason.Reason.{Reason}
@@ -51,59 +53,60 @@ goes_last : (program : List (Option Insn)) (slot : ℕ) (distance : Option ℤ) 
 goes_last program slot (Some d) e = inside_last program (target slot d) (not_false _ e)
 goes_last program slot None e = tt
 
-within_limit : (emit : Bool) (limit most : ℕ) → not emit ≡ false → (emit && nat_lt limit most) ≡ false → limit < 2 ^ 16
+within_limit : (emit : Bool) (limit most : ℕ) → not emit ≡ false → (emit && nat_lt limit most) ≡ false → limit ≤ 4096
     → most < 2 ^ 64
 within_limit true limit most is e fits = grind (arith, nat_tests, e, fits)
 within_limit false limit most is e fits = cc
 
 module _ {D : Type 0} (operations : Operations D) where
-  stays : (i : Insn) (facts : Facts D) → IsSome (facts_behind operations i facts) → turns_away i ≡ false
-  stays (LoadImmediate dst value) facts h = refl
-  stays (Load size dst src offset) facts h = refl
-  stays (LoadSigned size dst src offset) facts h = refl
-  stays (StoreImmediate size dst offset value) facts h = refl
-  stays (StoreRegister size dst src offset) facts h = refl
-  stays (Arithmetic width operation dst source) facts h = refl
-  stays (Negate width dst) facts h = refl
-  stays (MoveSigned extension dst src) facts h = refl
-  stays (SwapBytes swap size dst) facts h = refl
-  stays (Jump distance) facts h = cc
-  stays (JumpLong distance) facts h = cc
-  stays (Branch width relation dst source distance) facts h = refl
-  stays (Call helper) facts h = refl
-  stays Exit facts h = cc
+  -- what turns away gives nothing to the slot behind it
+  pub stays : (block : ℕ) (i : Insn) (facts : Facts D) → IsSome (facts_behind operations block i facts) → turns_away i ≡ false
+  stays block (LoadImmediate dst value) facts h = refl
+  stays block (Load size dst src offset) facts h = refl
+  stays block (LoadSigned size dst src offset) facts h = refl
+  stays block (StoreImmediate size dst offset value) facts h = refl
+  stays block (StoreRegister size dst src offset) facts h = refl
+  stays block (Arithmetic width operation dst source) facts h = refl
+  stays block (Negate width dst) facts h = refl
+  stays block (MoveSigned extension dst src) facts h = refl
+  stays block (SwapBytes swap size dst) facts h = refl
+  stays block (Jump distance) facts h = cc
+  stays block (JumpLong distance) facts h = cc
+  stays block (Branch width relation dst source distance) facts h = refl
+  stays block (Call helper) facts h = refl
+  stays block Exit facts h = cc
 
-  module _ (program : List (Option Insn)) (limit block slot : ℕ) (facts : Facts D) (i : Insn)
-      (none : reason_of operations program limit block slot facts i ≡ None) where
-    free : (reason : Reason) → fails operations program limit block slot facts i reason ≡ false
+  module _ (program : List (Option Insn)) (sizes : Sizes) (slot : ℕ) (facts : Facts D) (i : Insn)
+      (none : reason_of operations program sizes slot facts i ≡ None) where
+    free : (reason : Reason) → fails operations program sizes slot facts i reason ≡ false
     free reason =
-        let test = fails operations program limit block slot facts i in
+        let test = fails operations program sizes slot facts i in
         of_all test (all_fail test all_reasons none) reason
 
-    pub stays_inside : StaysInside operations (length program) slot i facts
+    pub stays_inside : StaysInside (length program) slot i
     stays_inside = record {
-      behind = λ some. inside program (slot_behind slot i)
-          (not_false _ (otherwise (turns_away i) _ (stays i facts some) (free FallsOff)));
+      behind = λ goes_on. inside program (slot_behind slot i)
+          (not_false _ (otherwise (turns_away i) _ goes_on (free FallsOff)));
       first = goes_first program slot (distance_of i) (free JumpOutside);
       last = goes_last program slot (distance_of i) (free JumpOutside);
     }
 
-  pub room_left : (program : List (Option Insn)) (limit block slot : ℕ) (facts : Facts D) (i : Insn)
-      → reason_of operations program limit block slot facts i ≡ None → limit < 2 ^ 16 → HasRoom operations i facts
-  room_left program limit block slot facts (Call helper) none fits =
-      within_limit (is_emit (Call helper)) limit (facts.emitted + 2 + most_emitted operations facts)
-      (free program limit block slot facts (Call helper) none UnknownHelper)
-      (free program limit block slot facts (Call helper) none EmitBudget) fits
-  room_left program limit block slot facts (LoadImmediate dst value) none fits = tt
-  room_left program limit block slot facts (Load size dst src offset) none fits = tt
-  room_left program limit block slot facts (LoadSigned size dst src offset) none fits = tt
-  room_left program limit block slot facts (StoreImmediate size dst offset value) none fits = tt
-  room_left program limit block slot facts (StoreRegister size dst src offset) none fits = tt
-  room_left program limit block slot facts (Arithmetic width operation dst source) none fits = tt
-  room_left program limit block slot facts (Negate width dst) none fits = tt
-  room_left program limit block slot facts (MoveSigned extension dst src) none fits = tt
-  room_left program limit block slot facts (SwapBytes swap size dst) none fits = tt
-  room_left program limit block slot facts (Jump distance) none fits = tt
-  room_left program limit block slot facts (JumpLong distance) none fits = tt
-  room_left program limit block slot facts (Branch width relation dst source distance) none fits = tt
-  room_left program limit block slot facts Exit none fits = tt
+  pub room_left : (program : List (Option Insn)) (sizes : Sizes) (slot : ℕ) (facts : Facts D) (i : Insn)
+      → reason_of operations program sizes slot facts i ≡ None → sizes.limit ≤ 4096 → HasRoom operations i facts
+  room_left program sizes slot facts (Call helper) none fits =
+      within_limit (is_emit (Call helper)) sizes.limit (facts.emitted + 2 + most_emitted operations facts)
+      (free program sizes slot facts (Call helper) none UnknownHelper)
+      (free program sizes slot facts (Call helper) none EmitBudget) fits
+  room_left program sizes slot facts (LoadImmediate dst value) none fits = tt
+  room_left program sizes slot facts (Load size dst src offset) none fits = tt
+  room_left program sizes slot facts (LoadSigned size dst src offset) none fits = tt
+  room_left program sizes slot facts (StoreImmediate size dst offset value) none fits = tt
+  room_left program sizes slot facts (StoreRegister size dst src offset) none fits = tt
+  room_left program sizes slot facts (Arithmetic width operation dst source) none fits = tt
+  room_left program sizes slot facts (Negate width dst) none fits = tt
+  room_left program sizes slot facts (MoveSigned extension dst src) none fits = tt
+  room_left program sizes slot facts (SwapBytes swap size dst) none fits = tt
+  room_left program sizes slot facts (Jump distance) none fits = tt
+  room_left program sizes slot facts (JumpLong distance) none fits = tt
+  room_left program sizes slot facts (Branch width relation dst source distance) none fits = tt
+  room_left program sizes slot facts Exit none fits = tt

@@ -1,5 +1,6 @@
 -- Lists of facts that are made from the front.
 use Rattle.std.proofs.Common.{◌≡◌, ℕ, zero, suc, ◌+◌, ◌<◌, ◌++◌, List, [], ◌∷◌, length, get_or, set, drop, replicate, refl, ap, arith, add-one, subst}
+use Rattle.program_interface.specs.declared.entry.TheConstants.{REGISTERS}
 use Rattle.reg_domain.specs.Domain.{Operations}
 use Rattle.verifier.specs.Facts.{join_registers}
 
@@ -33,8 +34,10 @@ module _ {D : Type 0} (operations : Operations D) where
   joined_all (d ∷ ds) [] same = absurd (omega arith)
   joined_all (d ∷ ds) (e ∷ es) same = ap (λ l. operations.join d e ∷ l) (joined_all ds es (omega arith))
 
-  pub joined_eleven : (ds es : List D) → length ds ≡ 11 → length es ≡ 11 → joined_upto 11 ds es ≡ join_registers operations ds es
-  joined_eleven ds es long same =
+  -- rows of this length, joined to their end
+  pub joined_rows : (ds es : List D) → length ds ≡ REGISTERS → length es ≡ REGISTERS
+      → joined_upto REGISTERS ds es ≡ join_registers operations ds es
+  joined_rows ds es long same =
       subst (λ n. joined_upto n ds es ≡ join_registers operations ds es) long (joined_all ds es (omega arith))
 
 module _ {D : Type 0} (d : D) where

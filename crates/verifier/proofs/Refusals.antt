@@ -2,18 +2,21 @@
 use Rattle.std.proofs.Common.{◌≡◌, ℕ, zero, suc, ◌+◌, ◌-◌, ◌<◌, List, length, get_or, Option, Some, None, add-zero, add-one, add-suc, arith, subst, ap, ◌∙◌}
 use Rattle.ebpf_decode.specs.Program.{instruction_at}
 use Rattle.ebpf_decode.specs.declared.insn.Insn.{Insn}
+use Rattle.program_interface.specs.RunSizes.{Sizes}
 use Rattle.reg_domain.specs.Domain.{Operations}
-use Rattle.verifier.specs.Accepted.{or_else, refusal_at, refusal_below}
+use Rattle.verifier.specs.Accepted.{or_else, reason_of, refusal_at, refusal_below, refused}
+use Rattle.verifier.specs.Laws.{RefusalIsInside}
 use Rattle.verifier.specs.Facts.{facts_at, given_below, gives}
 use Rattle.verifier.specs.declared.facts.Facts.{Facts}
+use Rattle.verifier.specs.declared.reason.Reason.{Reason}
 use Rattle.verifier.specs.declared.reason.Refusal.{Refusal}
 
-module _ {D : Type 0} (operations : Operations D) (program : List (Option Insn)) (limit block : ℕ) where
+module _ {D : Type 0} (operations : Operations D) (program : List (Option Insn)) (sizes : Sizes) where
   abbrev below : ℕ → Option Refusal
-  below slot = refusal_below operations program limit block slot
+  below slot = refusal_below operations program sizes slot
 
   abbrev here : ℕ → Option Refusal
-  here slot = refusal_at operations program limit block slot (instruction_at program slot) (facts_at operations program slot)
+  here slot = refusal_at operations program sizes slot (instruction_at program slot) (facts_at operations sizes.block program slot)
 
   -- what is found first stays found
   found_stays : (k slot : ℕ) (refusal : Refusal) → below slot ≡ Some refusal → below (slot + k) ≡ Some refusal
@@ -32,9 +35,38 @@ module _ {D : Type 0} (operations : Operations D) (program : List (Option Insn))
 
   -- the facts after a visit are what the slots up to it give
   pub rows_more : (slot : ℕ) (rows later : List (Option (Facts D))) → slot < length rows
-      → ((s : ℕ) → s < length rows → get_or rows s None ≡ given_below operations program slot s)
-      → ((s : ℕ) → s < length rows → get_or later s None ≡ gives operations (instruction_at program slot) slot (get_or rows slot None) s (get_or rows s None))
-      → (s : ℕ) → s < length rows → get_or later s None ≡ given_below operations program (slot + 1) s
+      → ((s : ℕ) → s < length rows → get_or rows s None ≡ given_below operations sizes.block program slot s)
+      → ((s : ℕ) → s < length rows → get_or later s None ≡ gives operations sizes.block (instruction_at program slot) slot (get_or rows slot None) s (get_or rows s None))
+      → (s : ℕ) → s < length rows → get_or later s None ≡ given_below operations sizes.block program (slot + 1) s
   rows_more slot rows later inside old new s within = rw add-one
-      (new s within ∙ ap (λ r. gives operations (instruction_at program slot) slot r s (get_or rows s None)) (old slot inside)
-      ∙ ap (λ r. gives operations (instruction_at program slot) slot (facts_at operations program slot) s r) (old s within))
+      (new s within ∙ ap (λ r. gives operations sizes.block (instruction_at program slot) slot r s (get_or rows s None)) (old slot inside)
+      ∙ ap (λ r. gives operations sizes.block (instruction_at program slot) slot (facts_at operations sizes.block program slot) s r) (old s within))
+
+  -- ---- where a refusal is
+  told_here : (slot : ℕ) (reason : Option Reason) (r : Refusal) → refused slot reason ≡ Some r → r.slot ≡ slot
+  told_here slot None r e = cc
+  told_here slot (Some reason) r e = cc
+
+  at_its_slot : (slot : ℕ) (i : Option Insn) (facts : Option (Facts D)) (r : Refusal)
+      → refusal_at operations program sizes slot i facts ≡ Some r → r.slot ≡ slot
+  at_its_slot slot (Some i) (Some facts) r e = told_here slot (reason_of operations program sizes slot facts i) r e
+  at_its_slot slot (Some i) None r e = cc
+  at_its_slot slot None facts r e = cc
+
+  either_below : (n : ℕ) (before last : Option Refusal) (r : Refusal) → (before ≡ Some r → r.slot < n)
+      → (last ≡ Some r → r.slot ≡ n) → or_else before last ≡ Some r → r.slot < suc n
+  either_below n (Some first) last r earlier here e = let less = earlier e in omega (arith, less)
+  either_below n None last r earlier here e = let same = here e in omega (arith, same)
+
+  pub refused_below : (n : ℕ) (r : Refusal) → below n ≡ Some r → r.slot < n
+  refused_below zero r e = cc
+  refused_below (suc n) r e =
+      either_below n (below n) (here n) r (refused_below n r)
+      (at_its_slot n (instruction_at program n) (facts_at operations sizes.block program n) r) e
+
+module _ {D : Type 0} (operations : Operations D) where
+  pub refusal_inside : RefusalIsInside operations
+  refusal_inside program is sizes r e =
+      let inside = refused_below operations program sizes (length program) r e in
+      let most = is.most in
+      (inside, omega (arith, inside, most))

@@ -1,14 +1,15 @@
 -- Which programs are accepted, and why others aren't (profile).
 use Rattle.std.specs.Prelude.{ℕ, ℤ, zero, suc, Bool, true, false, not, is_some, is_none, ◌+◌, ◌==◌, ◌&&◌, ◌||◌, nat_lt, List, [], ◌∷◌, length, find, Option, Some, None, if◌then◌else◌, pos, int_lt}
+use Rattle.ebpf_decode.specs.Instruction.{distance_of, signed_size_of, size_of, target, writes}
 use Rattle.ebpf_decode.specs.Program.{instruction_at, instruction_in}
 use Rattle.ebpf_decode.specs.declared.insn.Insn.{Insn}
 use Rattle.ebpf_decode.specs.declared.insn.Insn.TheVariants.{Load, LoadSigned, StoreImmediate, StoreRegister, Jump, JumpLong, Exit}
-use Rattle.interp.specs.Cause.{calls_unknown, is_emit, slot_in, writes}
-use Rattle.interp.specs.Effect.{signed_size_of}
-use Rattle.interp.specs.Memory.{is_writable, size_of}
-use Rattle.interp.specs.declared.memory.Area.{Area}
+use Rattle.interp.specs.Cause.{calls_unknown, is_emit, slot_in}
+use Rattle.program_interface.specs.Area.{is_writable}
+use Rattle.program_interface.specs.declared.area.Area.{Area}
+use Rattle.program_interface.specs.RunSizes.{Sizes}
 use Rattle.reg_domain.specs.Domain.{Operations}
-use Rattle.verifier.specs.Facts.{distance_of, fact, facts_at, slot_behind, target}
+use Rattle.verifier.specs.Facts.{fact, facts_at, slot_behind}
 use Rattle.verifier.specs.declared.facts.Facts.{Facts}
 use Rattle.verifier.specs.declared.reason.Reason.{Reason}
 use Rattle.verifier.specs.declared.reason.Reason.TheVariants.{JumpBack, JumpOutside, FallsOff, WriteToFramePointer, LoadOutside, StoreOutside, UnknownHelper, EmitAddress, EmitLength, EmitBudget}
@@ -88,20 +89,20 @@ module _ {D : Type 0} (operations : Operations D) where
   abbrev pub most_emitted : Facts D → ℕ
   most_emitted facts = (operations.bounds (fact operations facts 2)).high
 
-  module _ (program : List (Option Insn)) (limit block : ℕ) where
-    -- the reasons, each for itself; the limit is that of the group in bytes, the block has this length
+  module _ (program : List (Option Insn)) (sizes : Sizes) where
+    -- the reasons, each for itself
     abbrev pub fails : ℕ → Facts D → Insn → Reason → Bool
     fails slot facts i JumpBack = goes_back (distance_of i)
     fails slot facts i JumpOutside = leads_nowhere program slot (distance_of i)
     fails slot facts i FallsOff = if turns_away i then false else not (begins_at program (pos (slot_behind slot i)))
     fails slot facts i WriteToFramePointer = writes i 10
-    fails slot facts i LoadOutside = loads_outside block facts i
-    fails slot facts i StoreOutside = stores_outside block facts i
+    fails slot facts i LoadOutside = loads_outside sizes.block facts i
+    fails slot facts i StoreOutside = stores_outside sizes.block facts i
     fails slot facts i UnknownHelper = calls_unknown i
-    fails slot facts i EmitAddress = is_emit i && is_none (area_of block facts 1 (pos 0) 0)
+    fails slot facts i EmitAddress = is_emit i && is_none (area_of sizes.block facts 1 (pos 0) 0)
     fails slot facts i EmitLength =
-        is_emit i && (least_emitted facts == 0 || is_none (area_of block facts 1 (pos 0) (most_emitted facts)))
-    fails slot facts i EmitBudget = is_emit i && nat_lt limit (facts.emitted + 2 + most_emitted facts)
+        is_emit i && (least_emitted facts == 0 || is_none (area_of sizes.block facts 1 (pos 0) (most_emitted facts)))
+    fails slot facts i EmitBudget = is_emit i && nat_lt sizes.limit (facts.emitted + 2 + most_emitted facts)
 
     -- the least reason to refuse an instruction at a slot with these facts
     abbrev pub reason_of : ℕ → Facts D → Insn → Option Reason
@@ -116,7 +117,7 @@ module _ {D : Type 0} (operations : Operations D) where
     abbrev pub refusal_below : ℕ → Option Refusal
     refusal_below zero = None
     refusal_below (suc slot) =
-        or_else (refusal_below slot) (refusal_at slot (instruction_at program slot) (facts_at operations program slot))
+        or_else (refusal_below slot) (refusal_at slot (instruction_at program slot) (facts_at operations sizes.block program slot))
 
     -- the first refusal of a program, which is accepted if there is none
     abbrev pub refusal : Option Refusal

@@ -1,10 +1,14 @@
 -- What `verify` answers with.
-use Rattle.std.specs.Prelude.{ℕ, ◌≡◌, ◌<◌, ◌+◌, ◌^◌, ◌≤ℤ◌, ◌<ℤ◌, pos, Option, Some, IsSome, IfSome}
+use Rattle.std.specs.Prelude.{ℕ, ◌≡◌, ◌<◌, ◌+◌, ◌^◌, ◌≤ℤ◌, ◌<ℤ◌, pos, false, FitsSigned, List, Option, Some, IfSome}
+use Rattle.std.specs.Int.{w16}
+use Rattle.ebpf_decode.specs.Instruction.{distance_of, target}
+use Rattle.ebpf_decode.specs.Program.{instruction_at}
+use Rattle.ebpf_decode.specs.Spelling.{first_slot}
 use Rattle.ebpf_decode.specs.declared.insn.Insn.{Insn}
 use Rattle.ebpf_decode.specs.declared.insn.Insn.TheVariants.{Call}
 use Rattle.reg_domain.specs.Domain.{Operations}
-use Rattle.verifier.specs.Accepted.{most_emitted}
-use Rattle.verifier.specs.Facts.{distance_of, facts_behind, slot_behind, target}
+use Rattle.verifier.specs.Accepted.{most_emitted, turns_away}
+use Rattle.verifier.specs.Facts.{slot_behind}
 use Rattle.verifier.specs.declared.facts.Facts.{Facts}
 use Rattle.verifier.specs.declared.reason.Refusal.{Refusal}
 use Rattle.verifier.specs.declared.reason.VerifyFault.{VerifyFault}
@@ -21,7 +25,11 @@ HasRoom operations (Call helper) facts = facts.emitted + 2 + most_emitted operat
 HasRoom operations _ facts = Unit {0}
 
 -- an instruction leads to slots of a program of this many, and to no others
-pub record StaysInside {D : Type 0} (operations : Operations D) (slots slot : ℕ) (i : Insn) (facts : Facts D) : Type 0 where
-  pub behind : IsSome (facts_behind operations i facts) → slot_behind slot i < slots
+pub record StaysInside (slots slot : ℕ) (i : Insn) : Type 0 where
+  pub behind : turns_away i ≡ false → slot_behind slot i < slots
   pub first : IfSome (distance_of i) (λ distance. pos 0 ≤ℤ target slot distance)
   pub last : IfSome (distance_of i) (λ distance. target slot distance <ℤ pos slots)
+
+-- the offset of each instruction is a number of 16 bits (RFC 9669, 3.1)
+pub record HasShortOffsets (program : List (Option Insn)) : Type 0 where
+  pub offsets : (slot : ℕ) (i : Insn) → instruction_at program slot ≡ Some i → FitsSigned w16 (first_slot i).offset

@@ -1,6 +1,7 @@
 -- What is known at each slot of a program, by the operations of a domain (profile).
 use Rattle.std.specs.Prelude.{ℕ, ℤ, zero, suc, Bool, true, false, ◌+◌, ◌%◌, ◌^◌, ◌==◌, ◌++◌, List, [], ◌∷◌, drop, replicate, get_or, set, max, Option, Some, None, if◌then◌else◌, pos, ◌+ℤ◌}
 use Rattle.std.specs.Ordering.{int_eq}
+use Rattle.ebpf_decode.specs.Instruction.{distance_of, immediate_word, target}
 use Rattle.ebpf_decode.specs.Program.{instruction_at}
 use Rattle.ebpf_decode.specs.declared.insn.Insn.{Insn}
 use Rattle.ebpf_decode.specs.declared.insn.Insn.TheVariants.{LoadImmediate, Load, LoadSigned, StoreImmediate, StoreRegister, Arithmetic, Negate, MoveSigned, SwapBytes, Jump, JumpLong, Branch, Call, Exit}
@@ -8,10 +9,10 @@ use Rattle.ebpf_decode.specs.declared.insn.Source.{Source}
 use Rattle.ebpf_decode.specs.declared.insn.Source.TheVariants.{Immediate, Register}
 use Rattle.ebpf_decode.specs.declared.operation.Relation.{Relation}
 use Rattle.ebpf_decode.specs.declared.operation.Width.{Width}
-use Rattle.interp.specs.Effect.{immediate}
 use Rattle.interp.specs.Word.{low_bits}
-use Rattle.interp.specs.declared.memory.Area.TheVariants.{Context, Block, Stack, Scratch}
+use Rattle.program_interface.specs.declared.area.Area.TheVariants.{Context, Block, Stack, Scratch}
 use Rattle.interp.specs.declared.word.Arithmetic.TheVariants as word
+use Rattle.program_interface.specs.declared.area.TheConstants.{STACK_BYTES}
 use Rattle.reg_domain.specs.Domain.{Operations}
 use Rattle.verifier.specs.declared.facts.Facts.{Facts}
 
@@ -19,17 +20,6 @@ use Rattle.verifier.specs.declared.facts.Facts.{Facts}
 abbrev pub slot_behind : ℕ → Insn → ℕ
 slot_behind slot (LoadImmediate dst value) = slot + 2
 slot_behind slot _ = slot + 1
-
--- the distance of a jump
-abbrev pub distance_of : Insn → Option ℤ
-distance_of (Jump distance) = Some distance
-distance_of (JumpLong distance) = Some distance
-distance_of (Branch width relation dst source distance) = Some distance
-distance_of _ = None
-
--- the slot that a distance leads to (RFC 9669, 4.3)
-abbrev pub target : ℕ → ℤ → ℤ
-target slot distance = pos (slot + 1) +ℤ distance
 
 -- does a jump at one slot lead to another?
 abbrev pub leads : ℕ → Option ℤ → ℕ → Bool
@@ -55,21 +45,19 @@ module _ {D : Type 0} (operations : Operations D) where
     registers =
         operations.constant 0 ∷ operations.pointer Context 0 ∷ operations.pointer Block 0 ∷ operations.pointer Scratch 0
         ∷ operations.constant 0 ∷ operations.constant 0 ∷ operations.constant 0 ∷ operations.constant 0
-        ∷ operations.constant 0 ∷ operations.constant 0 ∷ operations.pointer Stack 512 ∷ [];
+        ∷ operations.constant 0 ∷ operations.constant 0 ∷ operations.pointer Stack STACK_BYTES ∷ [];
     emitted = 0;
   }
 
   -- the source of an arithmetic instruction
   abbrev pub source_fact : Facts D → Source → D
   source_fact facts (Register r) = fact facts r
-  source_fact facts (Immediate z) = operations.constant (immediate z)
+  source_fact facts (Immediate z) = operations.constant (immediate_word z)
 
   -- the source of a compare, which at 32 bits takes an immediate's low half
   abbrev pub compared_fact : Width → Facts D → Source → D
   compared_fact width facts (Register r) = fact facts r
-  compared_fact width facts (Immediate z) = operations.constant (low_bits width (immediate z))
-
-  -- ---- what an instruction leaves known
+  compared_fact width facts (Immediate z) = operations.constant (low_bits width (immediate_word z))
 
   -- an immediate has no fact to change
   abbrev pub with_source : Facts D → Source → D → Facts D
@@ -92,35 +80,7 @@ module _ {D : Type 0} (operations : Operations D) where
     emitted = facts.emitted + 2 + (operations.bounds (fact facts 2)).high;
   }
 
-  -- at the slot behind an instruction; none where it doesn't go on there
-  abbrev pub facts_behind : Insn → Facts D → Option (Facts D)
-  facts_behind (LoadImmediate dst value) facts = Some (with_fact facts dst (operations.constant (value % 2 ^ 64)))
-  facts_behind (Load size dst src offset) facts = Some (with_fact facts dst (operations.loaded size))
-  facts_behind (LoadSigned size dst src offset) facts = Some (with_fact facts dst (operations.loaded_signed size))
-  facts_behind (StoreImmediate size dst offset value) facts = Some facts
-  facts_behind (StoreRegister size dst src offset) facts = Some facts
-  facts_behind (Arithmetic width operation dst source) facts =
-      Some (with_fact facts dst (operations.alu (word.Binary width operation) (fact facts dst) (source_fact facts source)))
-  facts_behind (Negate width dst) facts =
-      Some (with_fact facts dst (operations.alu (word.Negate width) (fact facts dst) (operations.constant 0)))
-  facts_behind (MoveSigned extension dst src) facts =
-      Some (with_fact facts dst (operations.alu (word.MoveSigned extension) (operations.constant 0) (fact facts src)))
-  facts_behind (SwapBytes swap size dst) facts =
-      Some (with_fact facts dst (operations.alu (word.SwapBytes swap size) (fact facts dst) (operations.constant 0)))
-  facts_behind (Jump distance) facts = None
-  facts_behind (JumpLong distance) facts = None
-  facts_behind (Branch width relation dst source distance) facts = along false width relation dst source facts
-  facts_behind (Call helper) facts = Some (after_emit facts)
-  facts_behind Exit facts = None
-
-  -- at the target of a jump that is taken; none where there is no such edge
-  abbrev pub facts_at_target : Insn → Facts D → Option (Facts D)
-  facts_at_target (Jump distance) facts = Some facts
-  facts_at_target (JumpLong distance) facts = Some facts
-  facts_at_target (Branch width relation dst source distance) facts = along true width relation dst source facts
-  facts_at_target _ facts = None
-
-  -- ---- what is known at a slot
+  -- ---- joins
 
   abbrev pub join_registers : List D → List D → List D
   join_registers (d ∷ ds) (e ∷ es) = operations.join d e ∷ join_registers ds es
@@ -138,22 +98,52 @@ module _ {D : Type 0} (operations : Operations D) where
   merge (Some a) None = Some a
   merge None b = b
 
-  -- what the instruction at one slot, with the facts there, gives to another: along the edge that isn't
-  -- taken, then along the taken one
-  abbrev pub gives : Option Insn → ℕ → Option (Facts D) → ℕ → Option (Facts D) → Option (Facts D)
-  gives (Some i) slot (Some facts) other sofar =
-      merge
-      (merge sofar (if slot_behind slot i == other then facts_behind i facts else None))
-      (if leads slot (distance_of i) other then facts_at_target i facts else None)
-  gives _ slot _ other sofar = sofar
+  -- ---- what is known at a slot, beside a block of this length: a fact about memory would rest on it
+  module _ (block : ℕ) where
+    -- at the slot behind an instruction; none where it doesn't go on there
+    abbrev pub facts_behind : Insn → Facts D → Option (Facts D)
+    facts_behind (LoadImmediate dst value) facts = Some (with_fact facts dst (operations.constant (value % 2 ^ 64)))
+    facts_behind (Load size dst src offset) facts = Some (with_fact facts dst (operations.loaded size))
+    facts_behind (LoadSigned size dst src offset) facts = Some (with_fact facts dst (operations.loaded_signed size))
+    facts_behind (StoreImmediate size dst offset value) facts = Some facts
+    facts_behind (StoreRegister size dst src offset) facts = Some facts
+    facts_behind (Arithmetic width operation dst source) facts =
+        Some (with_fact facts dst (operations.alu (word.Binary width operation) (fact facts dst) (source_fact facts source)))
+    facts_behind (Negate width dst) facts =
+        Some (with_fact facts dst (operations.alu (word.Negate width) (fact facts dst) (operations.constant 0)))
+    facts_behind (MoveSigned extension dst src) facts =
+        Some (with_fact facts dst (operations.alu (word.MoveSigned extension) (operations.constant 0) (fact facts src)))
+    facts_behind (SwapBytes swap size dst) facts =
+        Some (with_fact facts dst (operations.alu (word.SwapBytes swap size) (fact facts dst) (operations.constant 0)))
+    facts_behind (Jump distance) facts = None
+    facts_behind (JumpLong distance) facts = None
+    facts_behind (Branch width relation dst source distance) facts = along false width relation dst source facts
+    facts_behind (Call helper) facts = Some (after_emit facts)
+    facts_behind Exit facts = None
 
-  -- the join of what the slots below this one give to another, in their order; the first slot has the
-  -- facts of the start
-  abbrev pub given_below : List (Option Insn) → ℕ → ℕ → Option (Facts D)
-  given_below program zero other = if other == 0 then Some entry_facts else None
-  given_below program (suc slot) other =
-      gives (instruction_at program slot) slot (given_below program slot slot) other (given_below program slot other)
+    -- at the target of a jump that is taken; none where there is no such edge
+    abbrev pub facts_at_target : Insn → Facts D → Option (Facts D)
+    facts_at_target (Jump distance) facts = Some facts
+    facts_at_target (JumpLong distance) facts = Some facts
+    facts_at_target (Branch width relation dst source distance) facts = along true width relation dst source facts
+    facts_at_target _ facts = None
 
-  -- the facts at a slot: what all slots before it give to it; none where none leads to it
-  abbrev pub facts_at : List (Option Insn) → ℕ → Option (Facts D)
-  facts_at program slot = given_below program slot slot
+    -- what the instruction at one slot, with the facts there, gives to another: along the edge that isn't
+    -- taken, then along the taken one
+    abbrev pub gives : Option Insn → ℕ → Option (Facts D) → ℕ → Option (Facts D) → Option (Facts D)
+    gives (Some i) slot (Some facts) other sofar =
+        merge
+        (merge sofar (if slot_behind slot i == other then facts_behind i facts else None))
+        (if leads slot (distance_of i) other then facts_at_target i facts else None)
+    gives _ slot _ other sofar = sofar
+
+    -- the join of what the slots below this one give to another, in their order; the first slot has the
+    -- facts of the start
+    abbrev pub given_below : List (Option Insn) → ℕ → ℕ → Option (Facts D)
+    given_below program zero other = if other == 0 then Some entry_facts else None
+    given_below program (suc slot) other =
+        gives (instruction_at program slot) slot (given_below program slot slot) other (given_below program slot other)
+
+    -- the facts at a slot: what all slots before it give to it; none where none leads to it
+    abbrev pub facts_at : List (Option Insn) → ℕ → Option (Facts D)
+    facts_at program slot = given_below program slot slot

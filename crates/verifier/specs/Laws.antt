@@ -1,12 +1,20 @@
 -- Laws of the definitions.
-use Rattle.std.specs.Prelude.{ℕ, ◌≡◌, ◌<◌, ◌^◌, List, Option, None}
+use Rattle.std.specs.Prelude.{ℕ, ◌≡◌, ◌<◌, List, length, Option, Some, None}
 use Rattle.ebpf_decode.specs.Program.{IsProgram}
 use Rattle.ebpf_decode.specs.declared.insn.Insn.{Insn}
+use Rattle.interp.specs.TrapFree.{NeverTraps}
+use Rattle.program_interface.specs.RunSizes.{AreSizes, Sizes}
+use Rattle.program_interface.specs.declared.TheConstants.{MOST_SLOTS}
 use Rattle.reg_domain.specs.Domain.{Operations}
 use Rattle.verifier.specs.Accepted.{refusal}
-use Rattle.interp.specs.TrapFree.{NeverTraps}
+use Rattle.verifier.specs.declared.reason.Refusal.{Refusal}
 
 -- a program that these operations accept never traps
 abbrev pub AcceptedNeverTraps : {D : Type 0} → Operations D → Type 0
-AcceptedNeverTraps operations = (program : List (Option Insn)) → IsProgram program → (limit block : ℕ) → block < 2 ^ 32
-    → refusal operations program limit block ≡ None → NeverTraps program limit block
+AcceptedNeverTraps operations = (program : List (Option Insn)) → IsProgram program → (sizes : Sizes) → AreSizes sizes
+    → refusal operations program sizes ≡ None → NeverTraps program sizes.limit sizes.block
+
+-- the slot of a refusal is one of the program's, and so below the most slots of a program
+abbrev pub RefusalIsInside : {D : Type 0} → Operations D → Type 0
+RefusalIsInside operations = (program : List (Option Insn)) → IsProgram program → (sizes : Sizes) (r : Refusal)
+    → refusal operations program sizes ≡ Some r → (r.slot < length program) × (r.slot < MOST_SLOTS)

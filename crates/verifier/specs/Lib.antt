@@ -3,6 +3,8 @@ pub mod Accepted
 pub mod Answer
 pub mod Verified
 pub mod Meets
+pub mod Fitting
+pub mod KnownFacts
 pub mod Registers
 pub mod Moves
 pub mod Unhindered

@@ -1,9 +1,10 @@
 -- When a state meets what is known of it.
 use Rattle.std.specs.Prelude.{ℕ, Bool, true, false, ◌≡◌, ◌<◌, ◌≤◌, List, [], ◌∷◌, length, Option, Some, None}
+use Rattle.ebpf_decode.specs.Instruction.{distance_of}
 use Rattle.ebpf_decode.specs.declared.insn.Insn.{Insn}
 use Rattle.interp.specs.State.{State}
 use Rattle.reg_domain.specs.Domain.{Operations}
-use Rattle.verifier.specs.Facts.{distance_of, facts_at_target, facts_behind, leads, slot_behind}
+use Rattle.verifier.specs.Facts.{facts_at_target, facts_behind, leads, slot_behind}
 use Rattle.verifier.specs.declared.facts.Facts.{Facts}
 
 module _ {D : Type 0} (contains : D → ℕ → Type 0) where
@@ -21,12 +22,12 @@ module _ {D : Type 0} (contains : D → ℕ → Type 0) where
   MeetsSome None s = ⊥
   MeetsSome (Some facts) s = Meets facts s
 
-  module _ (operations : Operations D) (i : Insn) (facts : Facts D) (s s' : State) where
+  module _ (operations : Operations D) (block : ℕ) (i : Insn) (facts : Facts D) (s s' : State) where
     -- the second state is at the end of an edge of the instruction, taken or not, and meets what the edge
     -- gives
     abbrev pub IsAlong : Bool → Type 0
-    IsAlong false = (slot_behind s.slot i ≡ s'.slot) × MeetsSome (facts_behind operations i facts) s'
-    IsAlong true = (leads s.slot (distance_of i) s'.slot ≡ true) × MeetsSome (facts_at_target operations i facts) s'
+    IsAlong false = (slot_behind s.slot i ≡ s'.slot) × MeetsSome (facts_behind operations block i facts) s'
+    IsAlong true = (leads s.slot (distance_of i) s'.slot ≡ true) × MeetsSome (facts_at_target operations block i facts) s'
 
     -- a step led forward along an edge
     pub record Moved : Type 0 where

@@ -3,6 +3,7 @@ use Rattle.std.proofs.Common.{ℕ, ℤ, pos, negsuc, ◌+◌, ◌≡◌, ◌<◌
 use Rattle.std.proofs.Math.Nat.{mod-lt}
 use Rattle.std.proofs.lemmas.List.{length-take}
 use Rattle.std.proofs.lemmas.Cmp.{int_eq_equiv}
+use Rattle.ebpf_decode.specs.Instruction.{distance_of, signed_size_of, size_of, target}
 use Rattle.ebpf_decode.specs.declared.insn.Insn.{Insn}
 use Rattle.ebpf_decode.specs.declared.insn.Insn.TheVariants.{LoadImmediate, Load, LoadSigned, StoreImmediate, StoreRegister, Arithmetic, Negate, MoveSigned, SwapBytes, Jump, JumpLong, Branch, Call, Exit}
 use Rattle.ebpf_decode.specs.declared.insn.Source.{Source}
@@ -11,17 +12,20 @@ use Rattle.ebpf_decode.specs.declared.operation.Relation.{Relation}
 use Rattle.ebpf_decode.specs.declared.operation.Width.{Width}
 use Rattle.interp.proofs.MemoryLemmas.{loaded_fits}
 use Rattle.interp.specs.Cause.{is_exit, next_slot}
-use Rattle.interp.specs.Effect.{address_from, emitted, frame, operand, put, register, signed_size_of}
-use Rattle.interp.specs.Memory.{Memory, bytes_from, loaded, place_of, size_of}
+use Rattle.interp.specs.Effect.{address_from, bytes_at, emitted, operand, put, register}
+use Rattle.interp.specs.Memory.{Memory, bytes_from, loaded, place_of}
 use Rattle.interp.specs.State.{IsState, State}
 use Rattle.interp.specs.Step.{after, slot_number}
 use Rattle.interp.specs.Word.{is_taken}
 use Rattle.interp.specs.declared.word.Arithmetic.TheVariants as word
-use Rattle.reg_domain.specs.Domain.{BelongAfter, IsSound, Operations}
+use Rattle.program_interface.specs.Frame.{frame}
+use Rattle.program_interface.specs.RunSizes.{Sizes}
+use Rattle.reg_domain.specs.Domain.{BelongAfter, Belongs, IsSound, Operations}
 use Rattle.verifier.specs.Accepted.{goes_back, reason_of}
-use Rattle.verifier.specs.Facts.{after_emit, along, compared_fact, distance_of, fact, facts_at_target, facts_behind, is_register, slot_behind, target, with_both, with_fact}
+use Rattle.verifier.specs.Facts.{after_emit, along, compared_fact, fact, facts_at_target, facts_behind, is_register, slot_behind, with_both, with_fact}
+use Rattle.verifier.specs.KnownFacts.{AreFacts}
 use Rattle.verifier.specs.Meets.{Meets, MeetsSome, Moved}
-use Rattle.verifier.specs.Registers.{belong_drop, belong_refined, belong_replicate, belong_set, belongs, compared, compared_belongs, compares_low, one_register, source_belongs}
+use Rattle.verifier.specs.Registers.{belong_drop, belong_refined, belong_replicate, belong_set, belongs, compared, compared_belongs, compares_low, constant_belongs, one_register, source_belongs}
 use Rattle.verifier.specs.declared.facts.Facts.{Facts}
 
 -- what wasn't chosen first didn't pass
@@ -39,18 +43,21 @@ ahead_is : (slot : ℕ) (distance : ℤ) → goes_back (Some distance) ≡ false
 ahead_is slot (pos n) forth = (refl, omega arith)
 ahead_is slot (negsuc n) forth = cc
 
-frame_length : (m : Memory) (address n : ℕ) → length (frame m address n) ≤ 2 + n
+-- a frame of at most so many bytes
+frame_length : (m : Memory) (address n : ℕ) → length (frame (bytes_at m address n)) ≤ 2 + n
 frame_length m address n =
     let taken = length-take n (bytes_from m (place_of (length m.block) address n)) in
-    rw taken (omega arith)
+    omega (arith, taken)
 
-module _ {D : Type 0} {contains : D → ℕ → Type 0} {operations : Operations D} (sound : IsSound contains operations) where
-  module _ (facts : Facts D) (s : State) (is : IsState s) (meets : Meets contains facts s) where
+module _ {D : Type 0} {IsFact : D → Type 0} {contains : D → ℕ → Type 0} {operations : Operations D}
+    (sound : IsSound IsFact contains operations) where
+  module _ (block : ℕ) (facts : Facts D) (s : State) (is : IsState s) (are : AreFacts IsFact facts)
+      (meets : Meets contains facts s) where
     -- ---- where it leads
 
     behind : (i : Insn) → next_slot s.slot s.registers i ≡ pos (slot_behind s.slot i)
-        → MeetsSome contains (facts_behind operations i facts) (after s i)
-        → Moved contains operations i facts s (after s i)
+        → MeetsSome contains (facts_behind operations block i facts) (after s i)
+        → Moved contains operations block i facts s (after s i)
     behind i next met = record {
       taken = false;
       along = (sym (ap slot_number next), met);
@@ -59,8 +66,8 @@ module _ {D : Type 0} {contains : D → ℕ → Type 0} {operations : Operations
 
     ahead : (i : Insn) (distance : ℤ) → distance_of i ≡ Some distance → goes_back (Some distance) ≡ false
         → next_slot s.slot s.registers i ≡ target s.slot distance
-        → MeetsSome contains (facts_at_target operations i facts) (after s i)
-        → Moved contains operations i facts s (after s i)
+        → MeetsSome contains (facts_at_target operations block i facts) (after s i)
+        → Moved contains operations block i facts s (after s i)
     ahead i distance jumps forth next met =
         let there = ahead_is s.slot distance forth in
         record {
@@ -71,8 +78,11 @@ module _ {D : Type 0} {contains : D → ℕ → Type 0} {operations : Operations
 
     -- ---- what is known there
 
-    word_of : (r : ℕ) → contains (fact operations facts r) (register s r)
-    word_of r = belongs sound facts s.registers is.words meets.registers r
+    word_of : (r : ℕ) → Belongs IsFact contains (fact operations facts r) (register s r)
+    word_of r = belongs sound facts s.registers are is.words meets.registers r
+
+    zero_is : Belongs IsFact contains (operations.constant 0) 0
+    zero_is = constant_belongs sound 0 (lit< tt)
 
     same_registers : (memory : Memory) (slot : ℕ) → Meets contains facts (record s { memory = memory; slot = slot })
     same_registers memory slot = record { registers = meets.registers; group = meets.group }
@@ -106,7 +116,7 @@ module _ {D : Type 0} {contains : D → ℕ → Type 0} {operations : Operations
         both_meet dst width source slot _
         (sound.refine width relation taken (fact operations facts dst) (compared_fact operations width facts source)
         (is_register dst source) (register s dst) (compared s.registers width source) (word_of dst)
-        (compared_belongs sound facts s.registers is.words meets.registers width source)
+        (compared_belongs sound facts s.registers are is.words meets.registers width source)
         (one_register s.registers width dst source)
         (compares_low s.registers width relation (register s dst) source ∙ answer))
 
@@ -128,7 +138,7 @@ module _ {D : Type 0} {contains : D → ℕ → Type 0} {operations : Operations
     branches : (width : Width) (relation : Relation) (dst : ℕ) (source : Source) (distance : ℤ) (taken : Bool)
         → goes_back (Some distance) ≡ false
         → is_taken width relation (register s dst) (operand s.registers source) ≡ taken
-        → Moved contains operations (Branch width relation dst source distance) facts s
+        → Moved contains operations block (Branch width relation dst source distance) facts s
         (after s (Branch width relation dst source distance))
     branches width relation dst source distance true forth answer =
         ahead (Branch width relation dst source distance) distance refl forth
@@ -140,7 +150,7 @@ module _ {D : Type 0} {contains : D → ℕ → Type 0} {operations : Operations
         (along_meets false width relation dst source _ answer)
 
     moves : (i : Insn) → is_exit i ≡ false → goes_back (distance_of i) ≡ false
-        → Moved contains operations i facts s (after s i)
+        → Moved contains operations block i facts s (after s i)
     moves (LoadImmediate dst value) goes forth =
         behind (LoadImmediate dst value) refl
         (put_meets dst _ _ _ (sound.constant (value % 2 ^ 64) (mod-lt value (lit< tt))))
@@ -153,7 +163,8 @@ module _ {D : Type 0} {contains : D → ℕ → Type 0} {operations : Operations
     moves (LoadSigned size dst src offset) goes forth =
         behind (LoadSigned size dst src offset) refl
         (put_meets dst _ _ _
-        (sound.loaded_signed size (loaded s.memory (address_from s.registers src offset) (signed_size_of size))))
+        (sound.loaded_signed size (loaded s.memory (address_from s.registers src offset) (signed_size_of size))
+        (loaded_fits s.memory (address_from s.registers src offset) (signed_size_of size) is.memory)))
     moves (StoreImmediate size dst offset value) goes forth =
         behind (StoreImmediate size dst offset value) refl (same_registers _ _)
     moves (StoreRegister size dst src offset) goes forth =
@@ -162,19 +173,19 @@ module _ {D : Type 0} {contains : D → ℕ → Type 0} {operations : Operations
         behind (Arithmetic width operation dst source) refl
         (put_meets dst _ _ _
         (sound.alu (word.Binary width operation) _ _ (register s dst) (operand s.registers source) (word_of dst)
-        (source_belongs sound facts s.registers is.words meets.registers source)))
+        (source_belongs sound facts s.registers are is.words meets.registers source)))
     moves (Negate width dst) goes forth =
         behind (Negate width dst) refl
         (put_meets dst _ _ _
-        (sound.alu (word.Negate width) _ _ (register s dst) 0 (word_of dst) (sound.constant 0 (lit< tt))))
+        (sound.alu (word.Negate width) _ _ (register s dst) 0 (word_of dst) zero_is))
     moves (MoveSigned extension dst src) goes forth =
         behind (MoveSigned extension dst src) refl
         (put_meets dst _ _ _
-        (sound.alu (word.MoveSigned extension) _ _ 0 (register s src) (sound.constant 0 (lit< tt)) (word_of src)))
+        (sound.alu (word.MoveSigned extension) _ _ 0 (register s src) zero_is (word_of src)))
     moves (SwapBytes swap size dst) goes forth =
         behind (SwapBytes swap size dst) refl
         (put_meets dst _ _ _
-        (sound.alu (word.SwapBytes swap size) _ _ (register s dst) 0 (word_of dst) (sound.constant 0 (lit< tt))))
+        (sound.alu (word.SwapBytes swap size) _ _ (register s dst) 0 (word_of dst) zero_is))
     moves (Jump distance) goes forth =
         ahead (Jump distance) distance refl forth refl (same_registers _ _)
     moves (JumpLong distance) goes forth =
@@ -185,9 +196,9 @@ module _ {D : Type 0} {contains : D → ℕ → Type 0} {operations : Operations
     moves Exit goes forth = cc
 
   -- the theorem; of the reasons to refuse, a jump back alone bears on it
-  pub moved : (program : List (Option Insn)) (limit block : ℕ) (i : Insn) (facts : Facts D) (s : State)
-      → IsState s → Meets contains facts s → is_exit i ≡ false
-      → reason_of operations program limit block s.slot facts i ≡ None
-      → Moved contains operations i facts s (after s i)
-  moved program limit block i facts s is meets goes accepted =
-      moves facts s is meets i goes (not_chosen (goes_back (distance_of i)) _ _ accepted)
+  pub moved : (program : List (Option Insn)) (sizes : Sizes) (i : Insn) (facts : Facts D) (s : State)
+      → IsState s → AreFacts IsFact facts → Meets contains facts s → is_exit i ≡ false
+      → reason_of operations program sizes s.slot facts i ≡ None
+      → Moved contains operations sizes.block i facts s (after s i)
+  moved program sizes i facts s is are meets goes accepted =
+      moves sizes.block facts s is are meets i goes (not_chosen (goes_back (distance_of i)) _ _ accepted)

@@ -3,17 +3,18 @@ use Rattle.std.specs.Prelude.{ℕ, zero, suc, ◌≡◌, ◌+◌, ◌<◌, ◌�
 use Rattle.std.proofs.Common.{arith, refl}
 use Rattle.std.proofs.Math.Nat.{le_of_lt}
 use Rattle.std.proofs.lemmas.List.Sums.{sum_by-cons}
+use Rattle.ebpf_decode.specs.Instruction.{immediate_word}
 use Rattle.ebpf_decode.specs.declared.insn.Insn.{Insn}
 use Rattle.ebpf_decode.specs.declared.insn.Insn.TheVariants.{LoadImmediate, Load, LoadSigned, StoreImmediate, StoreRegister, Arithmetic, Negate, MoveSigned, SwapBytes, Jump, JumpLong, Branch, Call, Exit}
 use Rattle.ebpf_decode.specs.declared.operation.Size.{Size}
 use Rattle.ebpf_decode.specs.declared.operation.Size.TheVariants.{Byte, HalfWord, Word, DoubleWord}
 use Rattle.interp.proofs.MemoryLemmas.{fits_area, length-written}
-use Rattle.interp.specs.Effect.{address_from, effect, immediate, register}
+use Rattle.interp.specs.Effect.{address_from, effect, register}
 use Rattle.interp.specs.Memory.{IsMemory, Memory, bytes_of, place_of, stored, stored_at, with_bytes, written}
 use Rattle.interp.specs.State.{IsState, State}
 use Rattle.interp.specs.Step.{IsAt}
-use Rattle.interp.specs.declared.memory.Area.{Area}
-use Rattle.interp.specs.declared.memory.Area.TheVariants.{Context, Block, Stack, Scratch}
+use Rattle.program_interface.specs.declared.area.Area.{Area}
+use Rattle.program_interface.specs.declared.area.Area.TheVariants.{Context, Block, Stack, Scratch}
 use Rattle.interp.specs.declared.memory.Place.{Place}
 
 -- ---- a step keeps the block's length
@@ -41,7 +42,7 @@ block_stored m address DoubleWord word is = block_stored_at m (place_of (length 
 
 pub block_kept : (s : State) (i : Insn) → IsState s → length (effect s i).memory.block ≡ length s.memory.block
 block_kept s (StoreImmediate size dst offset value) is =
-    block_stored s.memory (address_from s.registers dst offset) size (immediate value) is.memory
+    block_stored s.memory (address_from s.registers dst offset) size (immediate_word value) is.memory
 block_kept s (StoreRegister size dst src offset) is =
     block_stored s.memory (address_from s.registers dst offset) size (register s src) is.memory
 block_kept s (LoadImmediate dst value) is = refl

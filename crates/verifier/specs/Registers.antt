@@ -3,15 +3,17 @@ use Rattle.std.proofs.Common.{ℕ, ℤ, zero, suc, ◌%◌, ◌≡◌, ◌<◌, 
 use Rattle.std.proofs.Math.Nat.{mod-lt}
 use Rattle.std.proofs.lemmas.Bool.{eqb-true}
 use Rattle.std.proofs.lemmas.List.{set-get_or}
+use Rattle.ebpf_decode.specs.Instruction.{immediate_word}
 use Rattle.ebpf_decode.specs.declared.insn.Source.{Source}
 use Rattle.ebpf_decode.specs.declared.insn.Source.TheVariants.{Immediate, Register}
 use Rattle.ebpf_decode.specs.declared.operation.Relation.{Relation}
 use Rattle.ebpf_decode.specs.declared.operation.Width.{Width}
 use Rattle.ebpf_decode.specs.declared.operation.Width.TheVariants.{Bits32, Bits64}
-use Rattle.interp.specs.Effect.{immediate, operand}
+use Rattle.interp.specs.Effect.{operand}
 use Rattle.interp.specs.Word.{is_taken, low_bits}
-use Rattle.reg_domain.specs.Domain.{IsSound, Operations}
+use Rattle.reg_domain.specs.Domain.{Belongs, IsSound, Operations}
 use Rattle.verifier.specs.Facts.{compared_fact, fact, is_register, source_fact}
+use Rattle.verifier.specs.KnownFacts.{AreFacts, fact_is, immediate_fits, low_fits}
 use Rattle.verifier.specs.Meets.{Belong}
 use Rattle.verifier.specs.declared.facts.Facts.{Facts}
 
@@ -47,14 +49,14 @@ module _ {D : Type 0} (contains : D → ℕ → Type 0) where
 -- the source of a compare, which at 32 bits takes an immediate's low half
 abbrev pub compared : List ℕ → Width → Source → ℕ
 compared registers width (Register r) = get_or registers r 0
-compared registers width (Immediate z) = low_bits width (immediate z)
+compared registers width (Immediate z) = low_bits width (immediate_word z)
 
 -- a compare at 32 bits reads the low half of its source alone
 pub compares_low : (registers : List ℕ) (width : Width) (relation : Relation) (x : ℕ) (source : Source)
     → is_taken width relation x (compared registers width source) ≡ is_taken width relation x (operand registers source)
 compares_low registers width relation x (Register r) = refl
 compares_low registers Bits32 relation x (Immediate z) =
-    let same : immediate z % 2 ^ 32 % 2 ^ 32 ≡ immediate z % 2 ^ 32 = omega arith in
+    let same : immediate_word z % 2 ^ 32 % 2 ^ 32 ≡ immediate_word z % 2 ^ 32 = omega arith in
     rw same refl
 compares_low registers Bits64 relation x (Immediate z) = refl
 
@@ -63,34 +65,40 @@ pub one_register : (registers : List ℕ) (width : Width) (dst : ℕ) (source : 
 one_register registers width dst (Register r) same = let e = eqb-true dst r same in rw e refl
 one_register registers width dst (Immediate z) same = cc
 
-low_fits : (width : Width) (w : ℕ) → w < 2 ^ 64 → low_bits width w < 2 ^ 64
-low_fits Bits32 w fits = omega arith
-low_fits Bits64 w fits = fits
-
-immediate_fits : (z : ℤ) → immediate z < 2 ^ 64
-immediate_fits z = mod-lt _ (lit< tt)
-
-module _ {D : Type 0} {contains : D → ℕ → Type 0} {operations : Operations D} (sound : IsSound contains operations) where
+module _ {D : Type 0} {IsFact : D → Type 0} {contains : D → ℕ → Type 0} {operations : Operations D}
+    (sound : IsSound IsFact contains operations) where
   -- past the row's end every word belongs
-  pub belong_get : (ds : List D) (ws : List ℕ) (r : ℕ) → ((k : ℕ) → get_or ws k 0 < 2 ^ 64) → Belong contains ds ws
+  belong_get : (ds : List D) (ws : List ℕ) (r : ℕ) → ((k : ℕ) → get_or ws k 0 < 2 ^ 64) → Belong contains ds ws
       → contains (get_or ds r operations.any) (get_or ws r 0)
   belong_get [] ws r words all = sound.any (get_or ws r 0) (words r)
   belong_get (d ∷ ds) [] r words all = absurd all
   belong_get (d ∷ ds) (w ∷ ws) zero words all = all.0
   belong_get (d ∷ ds) (w ∷ ws) (suc r) words all = belong_get ds ws r (λ k. words (suc k)) all.1
 
-  module _ (facts : Facts D) (ws : List ℕ) (words : (k : ℕ) → get_or ws k 0 < 2 ^ 64)
+  -- a word that is known belongs to its fact
+  pub constant_belongs : (w : ℕ) → w < 2 ^ 64 → Belongs IsFact contains (operations.constant w) w
+  constant_belongs w fits = record {
+    fact = sound.facts.constant w fits;
+    word = fits;
+    within = sound.constant w fits;
+  }
+
+  module _ (facts : Facts D) (ws : List ℕ) (are : AreFacts IsFact facts) (words : (k : ℕ) → get_or ws k 0 < 2 ^ 64)
       (all : Belong contains facts.registers ws) where
     -- a register's word belongs to its fact
-    pub belongs : (r : ℕ) → contains (fact operations facts r) (get_or ws r 0)
-    belongs r = belong_get facts.registers ws r words all
+    pub belongs : (r : ℕ) → Belongs IsFact contains (fact operations facts r) (get_or ws r 0)
+    belongs r = record {
+      fact = fact_is sound.facts facts r are;
+      word = words r;
+      within = belong_get facts.registers ws r words all;
+    }
 
-    pub source_belongs : (source : Source) → contains (source_fact operations facts source) (operand ws source)
+    pub source_belongs : (source : Source) → Belongs IsFact contains (source_fact operations facts source) (operand ws source)
     source_belongs (Register r) = belongs r
-    source_belongs (Immediate z) = sound.constant (immediate z) (immediate_fits z)
+    source_belongs (Immediate z) = constant_belongs (immediate_word z) (immediate_fits z)
 
     pub compared_belongs : (width : Width) (source : Source)
-        → contains (compared_fact operations width facts source) (compared ws width source)
+        → Belongs IsFact contains (compared_fact operations width facts source) (compared ws width source)
     compared_belongs width (Register r) = belongs r
     compared_belongs width (Immediate z) =
-        sound.constant (low_bits width (immediate z)) (low_fits width (immediate z) (immediate_fits z))
+        constant_belongs (low_bits width (immediate_word z)) (low_fits width (immediate_word z) (immediate_fits z))

@@ -12,11 +12,15 @@ use Rattle.interp.specs.Run.{Run, continued, run_of}
 use Rattle.interp.specs.State.{IsState, State, entry}
 use Rattle.interp.specs.Step.{Ends, Goes, IsAt, after, decided, step_at, step_of}
 use Rattle.interp.specs.declared.cause.Cause.{Cause}
-use Rattle.interp.specs.declared.memory.Area.TheVariants.{Context, Block, Stack, Scratch}
+use Rattle.program_interface.specs.declared.area.Area.TheVariants.{Context, Block, Stack, Scratch}
+use Rattle.program_interface.specs.RunSizes.{AreSizes, Sizes}
 use Rattle.reg_domain.specs.Domain.{IsSound, Operations}
 use Rattle.verifier.specs.Accepted.{or_else, reason_of, refusal, refusal_at, refusal_below, refused}
+use Rattle.verifier.specs.Answer.{HasShortOffsets}
 use Rattle.verifier.specs.Facts.{entry_facts, facts_at}
 use Rattle.verifier.specs.Flow.{arrives}
+use Rattle.verifier.specs.Fitting.{short_offsets}
+use Rattle.verifier.specs.KnownFacts.{known_facts}
 use Rattle.verifier.specs.Laws.{AcceptedNeverTraps}
 use Rattle.verifier.specs.Meets.{Meets, MeetsSome, Moved}
 use Rattle.verifier.specs.Moves.{moved}
@@ -44,14 +48,15 @@ by_test P false f g = g refl
 
 module _ {D : Type 0} (contains : D → ℕ → Type 0) (operations : Operations D) where
   -- what holds of each state of a run
-  record Stands (program : List (Option Insn)) (limit block : ℕ) (s : State) : Type 0 where
+  record Stands (program : List (Option Insn)) (sizes : Sizes) (s : State) : Type 0 where
     is : IsState s
-    block_long : length s.memory.block ≡ block
+    block_long : length s.memory.block ≡ sizes.block
     here : IsAt program s.slot
-    known : MeetsSome contains (facts_at operations program s.slot) s
-    group : length s.group ≤ limit
+    known : MeetsSome contains (facts_at operations sizes.block program s.slot) s
+    group : length s.group ≤ sizes.limit
 
-module _ {D : Type 0} {contains : D → ℕ → Type 0} {operations : Operations D} (sound : IsSound contains operations) where
+module _ {D : Type 0} {IsFact : D → Type 0} {contains : D → ℕ → Type 0} {operations : Operations D}
+    (sound : IsSound IsFact contains operations) where
   entry_meets : (bytes context scratch : List ℕ) → Meets contains (entry_facts operations) (entry bytes context scratch)
   entry_meets bytes context scratch =
       let none = sound.constant 0 (lit< tt) in
@@ -65,8 +70,8 @@ module _ {D : Type 0} {contains : D → ℕ → Type 0} {operations : Operations
         group = omega arith;
       }
 
-  module _ (program : List (Option Insn)) (limit block : ℕ) (block_fits : block < 2 ^ 32)
-      (accepted : refusal operations program limit block ≡ None) where
+  module _ (program : List (Option Insn)) (short : HasShortOffsets program) (sizes : Sizes) (are_sizes : AreSizes sizes)
+      (accepted : refusal operations program sizes ≡ None) where
     -- ---- no refusal
     refused_not : (slot : ℕ) (reason : Option Reason) → refused slot reason ≡ None
         → reason ≡ None
@@ -77,14 +82,17 @@ module _ {D : Type 0} {contains : D → ℕ → Type 0} {operations : Operations
     both_none None b e = (refl, e)
     both_none (Some first) b e = cc
 
+    abbrev known_at : ℕ → Option (Facts D)
+    known_at slot = facts_at operations sizes.block program slot
+
     abbrev at_slot : ℕ → Option Refusal
     at_slot slot =
-        refusal_at operations program limit block slot (instruction_at program slot) (facts_at operations program slot)
+        refusal_at operations program sizes slot (instruction_at program slot) (known_at slot)
 
-    none_at : (n slot : ℕ) → refusal_below operations program limit block n ≡ None → slot < n → at_slot slot ≡ None
+    none_at : (n slot : ℕ) → refusal_below operations program sizes n ≡ None → slot < n → at_slot slot ≡ None
     none_at zero slot e within = absurd (omega arith)
     none_at (suc n) slot e within =
-        let (before, last) = both_none (refusal_below operations program limit block n) (at_slot n) e in
+        let (before, last) = both_none (refusal_below operations program sizes n) (at_slot n) e in
         elim (cases_lt slot n) [
           | inl below ↦ none_at n slot before below
           | inr from ↦
@@ -94,74 +102,83 @@ module _ {D : Type 0} {contains : D → ℕ → Type 0} {operations : Operations
         ]
 
     no_reason : (i : Insn) (facts : Facts D) (slot : ℕ) → IsAt program slot → instruction_at program slot ≡ Some i
-        → facts_at operations program slot ≡ Some facts → reason_of operations program limit block slot facts i ≡ None
+        → known_at slot ≡ Some facts → reason_of operations program sizes slot facts i ≡ None
     no_reason i facts slot here begins known =
         let none = none_at (length program) slot accepted (begins_within program slot here) in
-        refused_not slot (reason_of operations program limit block slot facts i) (rw (begins, known) at none)
+        refused_not slot (reason_of operations program sizes slot facts i) (rw (begins, known) at none)
 
     -- ---- a step
     abbrev Holds : State → Type 0
-    Holds s = Stands contains operations program limit block s
+    Holds s = Stands contains operations program sizes s
 
-    next : (i : Insn) (facts : Facts D) (s : State) → Holds s → step_of program limit s i ≡ Goes (after s i)
-        → instruction_at program s.slot ≡ Some i → facts_at operations program s.slot ≡ Some facts
-        → Moved contains operations i facts s (after s i) → Holds (after s i)
-    next i facts s holds goes begins known there = record {
-      is = kept program limit s (after s i) i holds.is goes;
+    next : (i : Insn) (facts : Facts D) (s : State) → Holds s → step_of program sizes.limit s i ≡ Goes (after s i)
+        → instruction_at program s.slot ≡ Some i → known_at s.slot ≡ Some facts
+        → Moved contains operations sizes.block i facts s (after s i) → Holds (after s i)
+    next i facts s holds goes begins known there =
+        let stays = kept program sizes.limit s (after s i) i holds.is goes in
+        record {
+      is = stays;
       block_long = block_kept s i holds.is ∙ holds.block_long;
-      here = leads program limit s (after s i) i goes;
-      known = arrives sound program i facts s (after s i) begins known there;
-      group = within_limit program limit s (after s i) i holds.group goes;
+      here = leads program sizes.limit s (after s i) i goes;
+      known = arrives sound (after s i) stays sizes.block program i facts s begins known there;
+      group = within_limit program sizes.limit s (after s i) i holds.group goes;
     }
 
     -- ---- a run, after n steps of at most so many
     module _ (most n : ℕ) (s : State) (holds : Holds s) (one_left : n < most) (more : State → Run)
-        (rest : (s' : State) → Holds s' → s.slot < s'.slot → Exits most limit (more s')) where
+        (rest : (s' : State) → Holds s' → s.slot < s'.slot → Exits most sizes.limit (more s')) where
       abbrev Done : Option Insn → Type 0
-      Done at = Exits most limit (continued n s more (step_at program limit s at))
+      Done at = Exits most sizes.limit (continued n s more (step_at program sizes.limit s at))
 
       done_by : (i : Insn) (facts : Facts D) → instruction_at program s.slot ≡ Some i
-          → facts_at operations program s.slot ≡ Some facts → Meets contains facts s → Done (Some i)
+          → known_at s.slot ≡ Some facts → Meets contains facts s → Done (Some i)
       done_by i facts begins known meets =
           let reason = no_reason i facts s.slot holds.here begins known in
-          let none = unhindered sound program limit block i facts s block_fits holds.is holds.block_long meets reason in
+          let are = known_facts sound.facts sizes.block program s.slot facts known in
+          let near = short.offsets s.slot i begins in
+          let none = unhindered sound program sizes i facts s are_sizes holds.is holds.block_long are meets near reason in
           by_test (Done (Some i)) (is_exit i)
-          (λ exits. rw (decided_ends s i (least_cause program limit s i) none exits)
+          (λ exits. rw (decided_ends s i (least_cause program sizes.limit s i) none exits)
           (record { exit = tt; steps = omega arith; group = holds.group }))
           (λ runs_on.
-          let goes = decided_goes s i (least_cause program limit s i) none runs_on in
-          let there = moved sound program limit block i facts s holds.is meets runs_on reason in
+          let goes = decided_goes s i (least_cause program sizes.limit s i) none runs_on in
+          let there = moved sound program sizes i facts s holds.is are meets runs_on reason in
           rw goes (rest (after s i) (next i facts s holds goes begins known there) there.forward))
 
       done_at : (at : Option Insn) (known : Option (Facts D)) → instruction_at program s.slot ≡ at
-          → facts_at operations program s.slot ≡ known → is_some at ≡ true → MeetsSome contains known s → Done at
+          → known_at s.slot ≡ known → is_some at ≡ true → MeetsSome contains known s → Done at
       done_at (Some i) (Some facts) begins known here meets = done_by i facts begins known meets
       done_at None known begins e here meets = cc
       done_at (Some i) None begins known here meets = absurd meets
 
     exits : (most fuel n : ℕ) (s : State) → Holds s → count_by is_some (drop s.slot program) ≤ fuel → n + fuel ≤ most
-        → Exits most limit (run_of program limit fuel n s)
+        → Exits most sizes.limit (run_of program sizes.limit fuel n s)
     unfolding run_of
     exits most zero n s holds enough within =
         let some = some_left program s.slot holds.here in absurd (omega (arith, some, enough))
     exits most (suc fuel) n s holds enough within =
-        done_at most n s holds (omega (arith, within)) (λ s'. run_of program limit fuel (n + 1) s')
+        done_at most n s holds (omega (arith, within)) (λ s'. run_of program sizes.limit fuel (n + 1) s')
         (λ s' holds' forward.
         let less = fewer program s.slot s'.slot holds.here forward in
         exits most fuel (n + 1) s' holds' (omega (arith, less, enough)) (omega (arith, within)))
-        (instruction_at program s.slot) (facts_at operations program s.slot) refl refl holds.here holds.known
+        (instruction_at program s.slot) (known_at s.slot) refl refl holds.here holds.known
 
   -- ---- the theorem
-  pub never_traps : (program : List (Option Insn)) (limit block : ℕ) → block < 2 ^ 32
-      → is_some (instruction_at program 0) ≡ true
-      → refusal operations program limit block ≡ None
-      → NeverTraps program limit block
-  never_traps program limit block block_fits here accepted bytes context scratch long is =
+  pub never_traps : (program : List (Option Insn)) (sizes : Sizes) → is_some (instruction_at program 0) ≡ true
+      → HasShortOffsets program → AreSizes sizes → refusal operations program sizes ≡ None
+      → NeverTraps program sizes.limit sizes.block
+  never_traps program sizes here short are_sizes accepted bytes context scratch long starts =
       let count = instruction_count program in
-      exits program limit block block_fits accepted count count 0 (entry bytes context scratch)
-      (record { is = is; block_long = long; here = here; known = entry_meets bytes context scratch; group = omega arith })
+      exits program short sizes are_sizes accepted count count 0 (entry bytes context scratch)
+      (record {
+        is = starts;
+        block_long = long;
+        here = here;
+        known = entry_meets bytes context scratch;
+        group = omega arith;
+      })
       (omega arith) (omega arith)
 
   pub accepted_never_traps : AcceptedNeverTraps operations
-  accepted_never_traps program is limit block block_fits accepted =
-      never_traps program limit block block_fits (begins program is) accepted
+  accepted_never_traps program is sizes are_sizes accepted =
+      never_traps program sizes (begins program is) (short_offsets program is) are_sizes accepted

@@ -1,25 +1,36 @@
 -- An instruction that passes every check of a verifier has no cause to be stuck, in a state that meets
 -- the facts.
-use Rattle.std.proofs.Common.{ℕ, ℤ, pos, ◌≡◌, ◌+◌, ◌^◌, ◌<◌, ◌≤◌, Bool, true, false, not, ◌&&◌, ◌||◌, List, [], ◌∷◌, length, find, Option, Some, None, is_some, is_none, refl, sym, arith}
+use Rattle.std.proofs.Common.{ℕ, ℤ, pos, ◌≡◌, ◌+◌, ◌^◌, ◌<◌, ◌≤◌, Bool, true, false, not, ◌&&◌, ◌||◌, List, [], ◌∷◌, length, find, Option, Some, None, is_some, is_none, FitsSigned, lit<, refl, sym, arith}
 use Rattle.std.proofs.lemmas.Bool.{and_parts, and_from, and_right, cond_both, eqb-false, le-leb, le-ltb, leb-true, ltb-false, ne_eqb, or_from, or_parts}
 use Rattle.std.proofs.lemmas.Int.{ints}
+use Rattle.std.specs.Int.{w16}
 use Rattle.std.specs.Prelude.{◌==◌, if◌then◌else◌, nat_le, nat_lt, slice_index}
+use Rattle.ebpf_decode.specs.Instruction.{distance_of, signed_size_of, size_of, target}
 use Rattle.ebpf_decode.specs.Program.{instruction_in}
+use Rattle.ebpf_decode.specs.Spelling.{first_slot}
 use Rattle.ebpf_decode.specs.declared.insn.Insn.{Insn}
 use Rattle.ebpf_decode.specs.declared.insn.Insn.TheVariants.{LoadImmediate, Load, LoadSigned, StoreImmediate, StoreRegister, Arithmetic, Negate, MoveSigned, SwapBytes, Jump, JumpLong, Branch, Call, Exit}
+use Rattle.ebpf_decode.specs.declared.operation.SignedSize.{SignedSize}
+use Rattle.ebpf_decode.specs.declared.operation.SignedSize.TheVariants as signed
+use Rattle.ebpf_decode.specs.declared.operation.Size.{Size}
+use Rattle.ebpf_decode.specs.declared.operation.Size.TheVariants.{Byte, HalfWord, Word, DoubleWord}
 use Rattle.interp.specs.Cause as machine
 use Rattle.interp.specs.Cause.{causes_of_effect, emits_badly, emits_outside, holds, is_emit, is_inside_wide, is_not_writable, is_nowhere, is_outside, least_cause, next_slot, slot_in}
-use Rattle.interp.specs.Effect.{address_from, operand, register, signed_size_of}
-use Rattle.interp.specs.Memory.{address_of, length_of, lies_in, place_of, size_of}
+use Rattle.interp.specs.Effect.{address_from, operand, register}
+use Rattle.interp.specs.Memory.{lies_in, place_of}
+use Rattle.program_interface.specs.Area.{address_of, length_of}
 use Rattle.interp.specs.State.{IsState, State}
 use Rattle.interp.specs.Word.{is_taken}
 use Rattle.interp.specs.declared.cause.Cause.{Cause}
 use Rattle.interp.specs.declared.cause.Cause.TheVariants as cause
-use Rattle.interp.specs.declared.memory.Area.{Area}
-use Rattle.reg_domain.specs.Domain.{IsSound, Operations}
+use Rattle.program_interface.specs.declared.area.Area.{Area}
+use Rattle.program_interface.specs.RunSizes.{AreSizes, Sizes}
+use Rattle.reg_domain.specs.Domain.{Belongs, IsSound, Operations}
 use Rattle.reg_domain.specs.PlaceLaws.{placed}
+use Rattle.reg_domain.specs.PointerLaws.{block_small}
 use Rattle.verifier.specs.Accepted.{all_reasons, area_of, begins_at, fails, is_unwritable, leads_nowhere, least_emitted, loads_outside, most_emitted, reason_of, stores_outside, turns_away}
-use Rattle.verifier.specs.Facts.{distance_of, fact, slot_behind, target}
+use Rattle.verifier.specs.Facts.{fact, slot_behind}
+use Rattle.verifier.specs.KnownFacts.{AreFacts}
 use Rattle.verifier.specs.Meets.{Meets}
 use Rattle.verifier.specs.Registers.{belongs}
 use Rattle.verifier.specs.declared.facts.Facts.{Facts}
@@ -103,54 +114,78 @@ shorter block area address n most less lies =
     let last = leb-true (address + most) end both.1 in
     and_from (nat_le (address_of area) address) (nat_le (address + n) end) both.0 (le-leb (address + n) end (omega arith))
 
-module _ {D : Type 0} {contains : D → ℕ → Type 0} {operations : Operations D}
-    (sound : IsSound contains operations) where
-  module _ (block : ℕ) (facts : Facts D) (s : State) (fits : block < 2 ^ 32) (is : IsState s)
-      (long : length s.memory.block ≡ block) (meets : Meets contains facts s) where
+-- the offset 0 and the sizes of accesses are those of instructions
+no_offset_fits : FitsSigned w16 (pos 0)
+no_offset_fits = record { sfits = lit< tt }
+
+size_fits : (size : Size) → size_of size < 2 ^ 64
+size_fits Byte = lit< tt
+size_fits HalfWord = lit< tt
+size_fits Word = lit< tt
+size_fits DoubleWord = lit< tt
+
+signed_size_fits : (size : SignedSize) → signed_size_of size < 2 ^ 64
+signed_size_fits signed.Byte = lit< tt
+signed_size_fits signed.HalfWord = lit< tt
+signed_size_fits signed.Word = lit< tt
+
+module _ {D : Type 0} {IsFact : D → Type 0} {contains : D → ℕ → Type 0} {operations : Operations D}
+    (sound : IsSound IsFact contains operations) where
+  module _ (sizes : Sizes) (facts : Facts D) (s : State) (are_sizes : AreSizes sizes) (is : IsState s)
+      (long : length s.memory.block ≡ sizes.block) (are : AreFacts IsFact facts) (meets : Meets contains facts s) where
+    abbrev block : ℕ
+    block = sizes.block
+
+    fits : block < 2 ^ 32
+    fits = block_small block are_sizes.block_size
+
+    word_of : (r : ℕ) → Belongs IsFact contains (fact operations facts r) (register s r)
+    word_of r = belongs sound facts s.registers are is.words meets.registers r
+
     -- the bytes of an access lie in the area that its fact tells
-    lies : (area : Area) (r : ℕ) (offset : ℤ) (size : ℕ)
+    lies : (area : Area) (r : ℕ) (offset : ℤ) (size : ℕ) → FitsSigned w16 offset → size < 2 ^ 64
         → area_of operations block facts r offset size ≡ Some area
         → lies_in block area (address_from s.registers r offset) size ≡ true
-    lies area r offset size told =
-        sound.access block (fact operations facts r) offset size area (slice_index s.registers r) fits told
-        (belongs sound facts s.registers is.words meets.registers r)
+    lies area r offset size near counted told =
+        sound.access block (fact operations facts r) offset size area (slice_index s.registers r)
+        (record { beside = are_sizes.block_size; near = near; counted = counted }) told (word_of r)
 
     somewhere : (area : Area) (address n : ℕ) → lies_in block area address n ≡ true → is_nowhere s address n ≡ false
     somewhere area address n inside = rw (long, placed block area address n fits inside) refl
 
     -- the area that is told for an access is where its bytes are
-    found : (o : Option Area) (r : ℕ) (offset : ℤ) (size : ℕ)
+    found : (o : Option Area) (r : ℕ) (offset : ℤ) (size : ℕ) → FitsSigned w16 offset → size < 2 ^ 64
         → area_of operations block facts r offset size ≡ o
         → is_none o ≡ false → is_nowhere s (address_from s.registers r offset) size ≡ false
-    found None r offset size told some = cc
-    found (Some area) r offset size told some =
-        somewhere area (address_from s.registers r offset) size (lies area r offset size told)
+    found None r offset size near counted told some = cc
+    found (Some area) r offset size near counted told some =
+        somewhere area (address_from s.registers r offset) size (lies area r offset size near counted told)
 
-    writable : (o : Option Area) (r : ℕ) (offset : ℤ) (size : ℕ)
+    writable : (o : Option Area) (r : ℕ) (offset : ℤ) (size : ℕ) → FitsSigned w16 offset → size < 2 ^ 64
         → area_of operations block facts r offset size ≡ o → is_unwritable o ≡ false
         → is_not_writable (place_of (length s.memory.block) (address_from s.registers r offset) size) ≡ false
-    writable None r offset size told some = cc
-    writable (Some area) r offset size told some =
-        let inside = lies area r offset size told in
+    writable None r offset size near counted told some = cc
+    writable (Some area) r offset size near counted told some =
+        let inside = lies area r offset size near counted told in
         rw (long, placed block area (address_from s.registers r offset) size fits inside) some
 
-    accesses : (i : Insn) → loads_outside operations block facts i ≡ false
+    accesses : (i : Insn) → FitsSigned w16 (first_slot i).offset → loads_outside operations block facts i ≡ false
         → stores_outside operations block facts i ≡ false
         → (machine.loads_outside s i ≡ false) × (machine.stores_outside s i ≡ false)
-    accesses (LoadImmediate dst value) load store = (refl, refl)
-    accesses (Load size dst src offset) load store = (found _ src offset (size_of size) refl load, refl)
-    accesses (LoadSigned size dst src offset) load store = (found _ src offset (signed_size_of size) refl load, refl)
-    accesses (StoreImmediate size dst offset value) load store = (refl, writable _ dst offset (size_of size) refl store)
-    accesses (StoreRegister size dst src offset) load store = (refl, writable _ dst offset (size_of size) refl store)
-    accesses (Arithmetic width operation dst source) load store = (refl, refl)
-    accesses (Negate width dst) load store = (refl, refl)
-    accesses (MoveSigned extension dst src) load store = (refl, refl)
-    accesses (SwapBytes swap size dst) load store = (refl, refl)
-    accesses (Jump distance) load store = (refl, refl)
-    accesses (JumpLong distance) load store = (refl, refl)
-    accesses (Branch width relation dst source distance) load store = (refl, refl)
-    accesses (Call helper) load store = (refl, refl)
-    accesses Exit load store = (refl, refl)
+    accesses (LoadImmediate dst value) near load store = (refl, refl)
+    accesses (Load size dst src offset) near load store = (found _ src offset (size_of size) near (size_fits size) refl load, refl)
+    accesses (LoadSigned size dst src offset) near load store = (found _ src offset (signed_size_of size) near (signed_size_fits size) refl load, refl)
+    accesses (StoreImmediate size dst offset value) near load store = (refl, writable _ dst offset (size_of size) near (size_fits size) refl store)
+    accesses (StoreRegister size dst src offset) near load store = (refl, writable _ dst offset (size_of size) near (size_fits size) refl store)
+    accesses (Arithmetic width operation dst source) near load store = (refl, refl)
+    accesses (Negate width dst) near load store = (refl, refl)
+    accesses (MoveSigned extension dst src) near load store = (refl, refl)
+    accesses (SwapBytes swap size dst) near load store = (refl, refl)
+    accesses (Jump distance) near load store = (refl, refl)
+    accesses (JumpLong distance) near load store = (refl, refl)
+    accesses (Branch width relation dst source distance) near load store = (refl, refl)
+    accesses (Call helper) near load store = (refl, refl)
+    accesses Exit near load store = (refl, refl)
 
     -- ---- emit
 
@@ -158,61 +193,76 @@ module _ {D : Type 0} {contains : D → ℕ → Type 0} {operations : Operations
     no_offset = let small = is.words 1 in omega (arith, ints, small)
 
     emits_inside : (o : Option Area) (most : ℕ) → area_of operations block facts 1 (pos 0) most ≡ o
-        → is_none o ≡ false → register s 2 ≤ most → emits_outside s ≡ false
-    emits_inside None most told some less = cc
-    emits_inside (Some area) most told some less =
-        let all : lies_in block area (register s 1) most ≡ true = rw (sym no_offset) (lies area 1 (pos 0) most told) in
+        → is_none o ≡ false → register s 2 ≤ most → most < 2 ^ 64 → emits_outside s ≡ false
+    emits_inside None most told some less counted = cc
+    emits_inside (Some area) most told some less counted =
+        let all : lies_in block area (register s 1) most ≡ true =
+        rw (sym no_offset) (lies area 1 (pos 0) most no_offset_fits counted told) in
         let inside = shorter block area (register s 1) (register s 2) most less all in
         and_right (nat_le 1 (register s 2)) _ (somewhere area (register s 1) (register s 2) inside)
 
     -- R2 is within its bounds
     bounded : (least_emitted operations facts ≤ register s 2) × (register s 2 ≤ most_emitted operations facts)
-    bounded = sound.bounds (fact operations facts 2) (register s 2) (belongs sound facts s.registers is.words meets.registers 2)
+    bounded = sound.bounds (fact operations facts 2) (register s 2) (word_of 2)
 
-    emits_well : (limit : ℕ) → (least_emitted operations facts == 0) ≡ false
-        → nat_lt limit (facts.emitted + 2 + most_emitted operations facts) ≡ false → emits_badly limit s ≡ false
-    emits_well limit some within =
-        let (least, most) = bounded in
+    abbrev least : ℕ
+    least = least_emitted operations facts
+
+    abbrev most : ℕ
+    most = most_emitted operations facts
+
+    -- the bytes to emit are within the limit
+    counted : nat_lt sizes.limit (facts.emitted + 2 + most) ≡ false → most < 2 ^ 64
+    counted within =
+        let room = ltb-false sizes.limit (facts.emitted + 2 + most) within in
+        let group = are_sizes.fits in
+        let small = fits in
+        omega (arith, room, group, small)
+
+    emits_well : (least == 0) ≡ false → nat_lt sizes.limit (facts.emitted + 2 + most) ≡ false
+        → emits_badly sizes.limit s ≡ false
+    emits_well some within =
+        let (above, below) = bounded in
         let group = meets.group in
-        let positive = eqb-false (least_emitted operations facts) 0 some in
-        let room = ltb-false limit (facts.emitted + 2 + most_emitted operations facts) within in
-        or_from (register s 2 == 0) (nat_lt limit (length s.group + 2 + register s 2))
+        let positive = eqb-false least 0 some in
+        let room = ltb-false sizes.limit (facts.emitted + 2 + most) within in
+        or_from (register s 2 == 0) (nat_lt sizes.limit (length s.group + 2 + register s 2))
         (ne_eqb (register s 2) 0 (λ none. positive (omega arith)))
-        (le-ltb limit (length s.group + 2 + register s 2) (omega arith))
+        (le-ltb sizes.limit (length s.group + 2 + register s 2) (omega arith))
 
     -- what is checked where the instruction is emit
-    emits : (emit : Bool) (limit : ℕ)
-        → (emit && (least_emitted operations facts == 0
-        || is_none (area_of operations block facts 1 (pos 0) (most_emitted operations facts)))) ≡ false
-        → (emit && nat_lt limit (facts.emitted + 2 + most_emitted operations facts)) ≡ false
-        → ((emit && emits_outside s) ≡ false) × ((emit && emits_badly limit s) ≡ false)
-    emits false limit length budget = (refl, refl)
-    emits true limit length budget =
-        let (some, told) = or_parts (least_emitted operations facts == 0) _ length in
-        (emits_inside _ (most_emitted operations facts) refl told bounded.1, emits_well limit some budget)
+    emits : (emit : Bool)
+        → (emit && (least == 0 || is_none (area_of operations block facts 1 (pos 0) most))) ≡ false
+        → (emit && nat_lt sizes.limit (facts.emitted + 2 + most)) ≡ false
+        → ((emit && emits_outside s) ≡ false) × ((emit && emits_badly sizes.limit s) ≡ false)
+    emits false length budget = (refl, refl)
+    emits true length budget =
+        let (some, told) = or_parts (least == 0) _ length in
+        (emits_inside _ most refl told bounded.1 (counted budget), emits_well some budget)
 
-    module _ (program : List (Option Insn)) (limit : ℕ) (i : Insn)
-        (accepted : reason_of operations program limit block s.slot facts i ≡ None) where
+    module _ (program : List (Option Insn)) (i : Insn) (near : FitsSigned w16 (first_slot i).offset)
+        (accepted : reason_of operations program sizes s.slot facts i ≡ None) where
       -- each check passes, so no cause holds
-      passed : (r : Reason) → fails operations program limit block s.slot facts i r ≡ false
+      passed : (r : Reason) → fails operations program sizes s.slot facts i r ≡ false
       passed r =
-          let test = fails operations program limit block s.slot facts i in
+          let test = fails operations program sizes s.slot facts i in
           of_all test (all_fail test all_reasons accepted) r
 
-      free : (c : Cause) → holds program limit s i c ≡ false
-      free cause.NextOutside = (goes_on program limit s i (passed reason.JumpOutside) (passed reason.FallsOff)).0
-      free cause.NextInsideWide = (goes_on program limit s i (passed reason.JumpOutside) (passed reason.FallsOff)).1
+      free : (c : Cause) → holds program sizes.limit s i c ≡ false
+      free cause.NextOutside = (goes_on program sizes.limit s i (passed reason.JumpOutside) (passed reason.FallsOff)).0
+      free cause.NextInsideWide = (goes_on program sizes.limit s i (passed reason.JumpOutside) (passed reason.FallsOff)).1
       free cause.WriteToFramePointer = passed reason.WriteToFramePointer
-      free cause.LoadOutside = (accesses i (passed reason.LoadOutside) (passed reason.StoreOutside)).0
-      free cause.StoreOutside = (accesses i (passed reason.LoadOutside) (passed reason.StoreOutside)).1
+      free cause.LoadOutside = (accesses i near (passed reason.LoadOutside) (passed reason.StoreOutside)).0
+      free cause.StoreOutside = (accesses i near (passed reason.LoadOutside) (passed reason.StoreOutside)).1
       free cause.UnknownHelper = passed reason.UnknownHelper
-      free cause.EmitOutside = (emits (is_emit i) limit (passed reason.EmitLength) (passed reason.EmitBudget)).0
-      free cause.EmitLength = (emits (is_emit i) limit (passed reason.EmitLength) (passed reason.EmitBudget)).1
+      free cause.EmitOutside = (emits (is_emit i) (passed reason.EmitLength) (passed reason.EmitBudget)).0
+      free cause.EmitLength = (emits (is_emit i) (passed reason.EmitLength) (passed reason.EmitBudget)).1
 
   -- no cause hinders an instruction that passes all checks
-  pub unhindered : (program : List (Option Insn)) (limit block : ℕ) (i : Insn) (facts : Facts D) (s : State)
-      → block < 2 ^ 32 → IsState s → length s.memory.block ≡ block → Meets contains facts s
-      → reason_of operations program limit block s.slot facts i ≡ None → least_cause program limit s i ≡ None
-  unhindered program limit block i facts s fits is long meets accepted =
-      none_passes (holds program limit s i) (cause.NextOutside ∷ cause.NextInsideWide ∷ causes_of_effect)
-      (free block facts s fits is long meets program limit i accepted)
+  pub unhindered : (program : List (Option Insn)) (sizes : Sizes) (i : Insn) (facts : Facts D) (s : State)
+      → AreSizes sizes → IsState s → length s.memory.block ≡ sizes.block → AreFacts IsFact facts → Meets contains facts s
+      → FitsSigned w16 (first_slot i).offset → reason_of operations program sizes s.slot facts i ≡ None
+      → least_cause program sizes.limit s i ≡ None
+  unhindered program sizes i facts s are_sizes is long are meets near accepted =
+      none_passes (holds program sizes.limit s i) (cause.NextOutside ∷ cause.NextInsideWide ∷ causes_of_effect)
+      (free sizes facts s are_sizes is long are meets program i near accepted)

@@ -1,6 +1,7 @@
 -- What was accepted.
-use Rattle.std.specs.Prelude.{ℕ, List, Option}
+use Rattle.std.specs.Prelude.{List, Option}
 use Rattle.ebpf_decode.specs.declared.insn.Insn.{Insn}
+use Rattle.program_interface.specs.RunSizes.{Sizes}
 use Rattle.reg_domain.specs.declared.domain.Domain.{Ghosts}
 use Rattle.verifier.specs.declared.verified.Verified.{Verified}
 
@@ -9,10 +10,6 @@ module _ {D : Type 0} {domain : Ghosts D} where
   abbrev pub program_of : Verified D domain → List (Option Insn)
   program_of v = v.program
 
-  -- the most bytes of a group
-  abbrev pub limit_of : Verified D domain → ℕ
-  limit_of v = v.limit
-
-  -- the length of a block in bytes
-  abbrev pub block_of : Verified D domain → ℕ
-  block_of v = v.block
+  -- the sizes of the runs that it was accepted for
+  abbrev pub sizes_of : Verified D domain → Sizes
+  sizes_of v = v.sizes

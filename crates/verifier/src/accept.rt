@@ -5,13 +5,14 @@ ghost use Rattle.std.specs.Mem.{type_size};
 ghost use Rattle.verifier.specs.Accepted.{refusal, refusal_below};
 ghost use Rattle.verifier.specs.Answer.{IsFaultOf};
 ghost use Rattle.verifier.specs.Facts.{entry_facts, given_below};
-ghost use Rattle.verifier.specs.Verified.{program_of, limit_of, block_of};
+ghost use Rattle.verifier.specs.Verified.{program_of, sizes_of};
 
 use crate::facts::Facts;
 use crate::reason::{Refusal, VerifyFault};
 use crate::rows::visit;
 use crate::verified::Verified;
 use ebpf_decode::Program;
+use program_interface::RunSizes;
 use reg_domain::Domain;
 use std::alloc::{AllocError, Global};
 
@@ -34,17 +35,14 @@ fn first_rows<D: Domain>(
 fn first_refusal<D: Domain>(
     rows: &mut [Option<Facts<D>>],
     program: &Program,
-    limit: usize,
-    block: usize,
+    sizes: RunSizes,
 ) -> Option<Refusal>
-    requires limit { limit < 2 ^ 16 }
-    requires block { block < 2 ^ 32 }
     requires long { length rows.old ≡ length program.now }
-    requires rows { (s : ℕ) → s < length rows.old → get_or rows.old s None ≡ given_below D.operations program.now 0 s }
-    ensures { result ≡ refusal D.operations program.now limit block }
+    requires rows { (s : ℕ) → s < length rows.old → get_or rows.old s None ≡ given_below D.operations sizes.block program.now 0 s }
+    ensures { result ≡ refusal D.operations program.now sizes }
 {
     for slot in 0..program.slots() {
-        if let Some(refusal) = visit(rows, program, limit, block, slot) {
+        if let Some(refusal) = visit(rows, program, sizes, slot) {
             return Some(refusal);
         }
     }
@@ -55,39 +53,34 @@ fn first_refusal<D: Domain>(
 fn find_refusal<D: Domain>(
     alloc: Global,
     program: &Program,
-    limit: usize,
-    block: usize,
+    sizes: RunSizes,
     entry: Facts<D>,
 ) -> Result<Option<Refusal>, AllocError>
-    requires limit { limit < 2 ^ 16 }
-    requires block { block < 2 ^ 32 }
     requires entry { entry ≡ entry_facts D.operations }
-    ensures { IfOk result (λ found. found ≡ refusal D.operations program.now limit block) }
+    ensures { IfOk result (λ found. found ≡ refusal D.operations program.now sizes) }
 {
     let mut rows = first_rows(alloc, program.slots(), entry)?;
-    Ok(first_refusal(&mut rows, program, limit, block))
+    Ok(first_refusal(&mut rows, program, sizes))
 }
 
-/// Accepts a program, for groups of at most `limit` bytes and blocks of `block` bytes, or says
-/// where and why not.
-#[tactic(auto, using(crate::proofs::Sizes::facts_fit))]
+/// Accepts a program, for runs of these sizes, or says where and why not.
+#[tactic(auto, using(crate::proofs::Sizes::facts_fit, crate::specs::Fitting::short_offsets))]
 pub fn verify<D: Domain>(
     alloc: Global,
     program: Program,
-    limit: usize,
-    block: usize,
+    sizes: RunSizes,
 ) -> Result<Verified<D>, VerifyFault>
-    requires limit { limit < 2 ^ 16 }
-    requires block { block < 2 ^ 32 }
-    ensures accepted { IfOk result (λ v. (program_of v ≡ program) × (limit_of v ≡ limit) × (block_of v ≡ block) × (refusal D.operations program limit block ≡ None)) }
-    ensures refused { IfErr result (IsFaultOf (refusal D.operations program limit block)) }
+    ensures accepted { IfOk result (λ v. (program_of v ≡ program) × (sizes_of v ≡ sizes) × (refusal D.operations program sizes ≡ None)) }
+    ensures refused { IfErr result (IsFaultOf (refusal D.operations program sizes)) }
 {
     D::row_fits();
     // an instruction begins at the first slot
     let _slots = program.slots();
-    match find_refusal::<D>(alloc, &program, limit, block, Facts::entry()) {
+    // a group fits a block
+    let (_block, _limit) = (sizes.block().bytes(), sizes.limit());
+    match find_refusal::<D>(alloc, &program, sizes, Facts::entry()) {
         Err(_) => Err(VerifyFault::Memory),
         Ok(Some(refusal)) => Err(VerifyFault::Refused(refusal)),
-        Ok(None) => Ok(Verified::new(program, limit, block)),
+        Ok(None) => Ok(Verified::new(program, sizes)),
     }
 }

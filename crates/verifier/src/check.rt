@@ -1,44 +1,21 @@
 //! The reasons to refuse an instruction, in the order of their numbers.
 
 ghost use Rattle.std.specs.Prelude.{◌≡◌, ◌<◌, ◌≤◌, ◌^◌, ◌+◌, nat_lt, ◌&&◌, ◌||◌, ◌==◌, is_none, pos, not, false, if◌then◌else◌, Option, Some, None};
-ghost use Rattle.interp.specs.Cause.{calls_unknown as insn_calls_unknown, is_emit as insn_is_emit, writes};
-ghost use Rattle.interp.specs.Effect.{signed_size_of};
+ghost use Rattle.interp.specs.Cause.{calls_unknown as insn_calls_unknown, is_emit as insn_is_emit};
 ghost use Rattle.verifier.specs.Accepted.{area_of, begins_at, fails, goes_back as distance_goes_back, leads_nowhere as distance_leads_nowhere, least_emitted, most_emitted, loads_outside as insn_loads_outside, reason_of, stores_outside as insn_stores_outside, is_unwritable, turns_away as insn_turns_away};
-ghost use Rattle.verifier.specs.Facts.{distance_of as insn_distance_of, slot_behind as insn_slot_behind, target as target_of};
+ghost use Rattle.verifier.specs.Facts.{slot_behind as insn_slot_behind};
 ghost use Rattle.verifier.specs.declared.reason.Reason.TheVariants.{EmitAddress, EmitBudget, EmitLength, FallsOff};
 
 use crate::facts::Facts;
 use crate::reason::Reason;
-use ebpf_decode::{Insn, Program, Register, SignedSize};
-use interp::bytes_in;
-use reg_domain::{Area, Domain};
-
-/// The distance of a jump.
-#[inline]
-pub fn distance_of(insn: &Insn) -> Option<i32>
-    ensures { result ≡ insn_distance_of insn.now }
-{
-    match *insn {
-        Insn::Jump { distance } => Some(i32::from(distance)),
-        Insn::JumpLong { distance } => Some(distance),
-        Insn::Branch { distance, .. } => Some(i32::from(distance)),
-        _ => None,
-    }
-}
-
-/// The slot that a distance leads to.
-#[inline]
-pub fn target(slot: usize, distance: i32) -> i64
-    requires { slot < 4096 }
-    ensures { result ≡ target_of slot distance }
-{
-    slot as i64 + 1 + i64::from(distance)
-}
+use ebpf_decode::{Insn, Program, Register};
+use program_interface::{Area, BlockSize, MOST_SLOTS, RunSizes};
+use reg_domain::Domain;
 
 /// The slot behind an instruction.
 #[inline]
 pub fn slot_behind(slot: usize, insn: &Insn) -> usize
-    requires { slot < 4096 }
+    requires { slot < MOST_SLOTS }
     ensures { result ≡ insn_slot_behind slot insn.now }
 {
     match *insn {
@@ -67,11 +44,11 @@ fn goes_back(distance: Option<i32>) -> bool
 
 #[inline]
 fn leads_nowhere(program: &Program, slot: usize, distance: Option<i32>) -> bool
-    requires { slot < 4096 }
+    requires { slot < MOST_SLOTS }
     ensures { result ≡ distance_leads_nowhere program.now slot distance }
 {
     match distance {
-        Some(distance) => !begins(program, target(slot, distance)),
+        Some(distance) => !begins(program, Insn::target(slot, distance)),
         None => false,
     }
 }
@@ -89,58 +66,28 @@ fn turns_away(insn: &Insn) -> bool
 
 #[inline]
 fn falls_off(program: &Program, slot: usize, insn: &Insn) -> bool
-    requires { slot < 4096 }
+    requires { slot < MOST_SLOTS }
     ensures { result ≡ (if insn_turns_away insn.now then false else not (begins_at program.now (pos (insn_slot_behind slot insn.now)))) }
 {
     !turns_away(insn) && program.at(slot_behind(slot, insn)).is_none()
 }
 
-#[inline]
-fn writes_frame_pointer(insn: &Insn) -> bool
-    ensures { result ≡ writes insn.now 10 }
-{
-    match *insn {
-        Insn::LoadImmediate { dst, .. }
-        | Insn::Load { dst, .. }
-        | Insn::LoadSigned { dst, .. }
-        | Insn::Arithmetic { dst, .. }
-        | Insn::Negate { dst, .. }
-        | Insn::MoveSigned { dst, .. }
-        | Insn::SwapBytes { dst, .. } => dst.index() == 10,
-        _ => false,
-    }
-}
-
-/// The number of bytes in a sign-extending load.
-#[inline]
-fn signed_bytes_in(size: SignedSize) -> u64
-    ensures { result ≡ signed_size_of size }
-{
-    match size {
-        SignedSize::Byte => 1,
-        SignedSize::HalfWord => 2,
-        SignedSize::Word => 4,
-    }
-}
-
 /// The area that holds the bytes of an access.
 #[inline]
 fn area<D: Domain>(
-    block: usize,
+    block: BlockSize,
     facts: &Facts<D>,
     register: Register,
     offset: i16,
     size: u64,
 ) -> Option<Area>
-    requires { block < 2 ^ 32 }
     ensures { result ≡ area_of D.operations block facts.now register offset size }
 {
-    facts.get(register).access(block as u32, offset, size)
+    facts.get(register).access(block, offset, size)
 }
 
 #[inline]
-fn loads_outside<D: Domain>(block: usize, facts: &Facts<D>, insn: &Insn) -> bool
-    requires { block < 2 ^ 32 }
+fn loads_outside<D: Domain>(block: BlockSize, facts: &Facts<D>, insn: &Insn) -> bool
     ensures { result ≡ insn_loads_outside D.operations block facts.now insn.now }
 {
     match *insn {
@@ -149,13 +96,13 @@ fn loads_outside<D: Domain>(block: usize, facts: &Facts<D>, insn: &Insn) -> bool
             src,
             offset,
             ..
-        } => area(block, facts, src, offset, bytes_in(size)).is_none(),
+        } => area(block, facts, src, offset, size.bytes()).is_none(),
         Insn::LoadSigned {
             size,
             src,
             offset,
             ..
-        } => area(block, facts, src, offset, signed_bytes_in(size)).is_none(),
+        } => area(block, facts, src, offset, size.bytes()).is_none(),
         _ => false,
     }
 }
@@ -166,14 +113,13 @@ fn hinders_store(area: Option<Area>) -> bool
     ensures { result ≡ is_unwritable area }
 {
     match area {
-        Some(Area::Stack | Area::Scratch) => false,
-        _ => true,
+        Some(area) => !area.is_writable(),
+        None => true,
     }
 }
 
 #[inline]
-fn stores_outside<D: Domain>(block: usize, facts: &Facts<D>, insn: &Insn) -> bool
-    requires { block < 2 ^ 32 }
+fn stores_outside<D: Domain>(block: BlockSize, facts: &Facts<D>, insn: &Insn) -> bool
     ensures { result ≡ insn_stores_outside D.operations block facts.now insn.now }
 {
     match *insn {
@@ -188,7 +134,7 @@ fn stores_outside<D: Domain>(block: usize, facts: &Facts<D>, insn: &Insn) -> boo
             dst,
             offset,
             ..
-        } => hinders_store(area(block, facts, dst, offset, bytes_in(size))),
+        } => hinders_store(area(block, facts, dst, offset, size.bytes())),
         _ => false,
     }
 }
@@ -216,47 +162,45 @@ fn calls_unknown(insn: &Insn) -> bool
 
 /// May there be no bytes to emit, or more than the area has?
 #[inline]
-fn emits_amiss<D: Domain>(block: usize, facts: &Facts<D>) -> bool
-    requires { block < 2 ^ 32 }
+fn emits_amiss<D: Domain>(block: BlockSize, facts: &Facts<D>) -> bool
     ensures { result ≡ (least_emitted D.operations facts.now == 0 || is_none (area_of D.operations block facts.now 1 (pos 0) (most_emitted D.operations facts.now))) }
 {
     let bounds = facts.registers[2].bounds();
     bounds.low == 0
         || facts.registers[1]
-            .access(block as u32, 0, bounds.high)
+            .access(block, 0, bounds.high)
             .is_none()
 }
 
 /// May a frame take the group over its limit?
 #[inline]
-fn passes_limit<D: Domain>(limit: usize, facts: &Facts<D>) -> bool
+fn passes_limit<D: Domain>(limit: u32, facts: &Facts<D>) -> bool
     ensures { result ≡ nat_lt limit (facts.now.emitted + 2 + most_emitted D.operations facts.now) }
 {
     let most = u128::from(facts.registers[2].bounds().high);
-    facts.emitted as u128 + 2 + most > limit as u128
+    facts.emitted as u128 + 2 + most > u128::from(limit)
 }
 
 /// The least reason to refuse an instruction at a slot with these facts.
 pub fn find_reason<D: Domain>(
     program: &Program,
-    limit: usize,
-    block: usize,
+    sizes: RunSizes,
     slot: usize,
     insn: &Insn,
     facts: &Facts<D>,
 ) -> Option<Reason>
-    requires slot { slot < 4096 }
-    requires block { block < 2 ^ 32 }
-    ensures { result ≡ reason_of D.operations program.now limit block slot facts.now insn.now }
+    requires { slot < MOST_SLOTS }
+    ensures { result ≡ reason_of D.operations program.now sizes slot facts.now insn.now }
 {
-    let distance = distance_of(insn);
+    let block = sizes.block();
+    let distance = insn.distance();
     let reason = if goes_back(distance) {
         Reason::JumpBack
     } else if leads_nowhere(program, slot, distance) {
         Reason::JumpOutside
     } else if falls_off(program, slot, insn) {
         Reason::FallsOff
-    } else if writes_frame_pointer(insn) {
+    } else if insn.writes(Register::FRAME_POINTER) {
         Reason::WriteToFramePointer
     } else if loads_outside(block, facts, insn) {
         Reason::LoadOutside
@@ -266,11 +210,11 @@ pub fn find_reason<D: Domain>(
         Reason::UnknownHelper
     } else if !is_emit(insn) {
         return None;
-    } else if facts.registers[1].access(block as u32, 0, 0).is_none() {
+    } else if facts.registers[1].access(block, 0, 0).is_none() {
         Reason::EmitAddress
     } else if emits_amiss(block, facts) {
         Reason::EmitLength
-    } else if passes_limit(limit, facts) {
+    } else if passes_limit(sizes.limit(), facts) {
         Reason::EmitBudget
     } else {
         return None;

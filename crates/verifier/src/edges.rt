@@ -1,7 +1,6 @@
 //! What an instruction leaves known along its edges.
 
-ghost use Rattle.std.specs.Prelude.{◌≡◌, ◌+◌, ◌<◌, ◌^◌, IsSome, Bool, true};
-ghost use Rattle.interp.specs.Effect.{immediate as immediate_word};
+ghost use Rattle.std.specs.Prelude.{◌≡◌, ◌+◌, ◌<◌, ◌^◌, IsSome, Bool, true, ℕ};
 ghost use Rattle.verifier.specs.Facts.{source_fact, compared_fact, along, after_emit, facts_behind, facts_at_target, is_register as source_is, with_fact, with_source};
 ghost use Rattle.verifier.specs.Accepted.{most_emitted};
 ghost use Rattle.verifier.specs.Answer.{HasRoom};
@@ -10,14 +9,6 @@ use crate::facts::Facts;
 use ebpf_decode::{Insn, Register, Relation, Source, Width};
 use reg_domain::{Arithmetic, Domain};
 
-/// An immediate as a word.
-#[inline]
-fn immediate(value: i32) -> u64
-    ensures { result ≡ immediate_word value }
-{
-    i64::from(value).cast_unsigned()
-}
-
 /// The source of an arithmetic instruction.
 #[inline]
 fn source_of<D: Domain>(facts: &Facts<D>, source: Source) -> D
@@ -25,7 +16,7 @@ fn source_of<D: Domain>(facts: &Facts<D>, source: Source) -> D
 {
     match source {
         Source::Register(register) => facts.get(register),
-        Source::Immediate(value) => D::constant(immediate(value)),
+        Source::Immediate(value) => D::constant(Insn::immediate_word(value)),
     }
 }
 
@@ -37,8 +28,8 @@ fn compared<D: Domain>(width: Width, facts: &Facts<D>, source: &Source) -> D
     match *source {
         Source::Register(register) => facts.get(register),
         Source::Immediate(value) => match width {
-            Width::Bits32 => D::constant(immediate(value) % 0x1_0000_0000),
-            Width::Bits64 => D::constant(immediate(value)),
+            Width::Bits32 => D::constant(Insn::immediate_word(value) % 0x1_0000_0000),
+            Width::Bits64 => D::constant(Insn::immediate_word(value)),
         },
     }
 }
@@ -103,7 +94,7 @@ fn emitted<D: Domain>(facts: &Facts<D>) -> Facts<D>
 /// The facts at the slot behind an instruction; none where it doesn't go on there.
 pub fn behind<D: Domain>(insn: &Insn, facts: &Facts<D>) -> Option<Facts<D>>
     requires { HasRoom D.operations insn.now facts.now }
-    ensures { result ≡ facts_behind D.operations insn.now facts.now }
+    ensures { (block : ℕ) → result ≡ facts_behind D.operations block insn.now facts.now }
 {
     let (dst, fact) = match *insn {
         Insn::LoadImmediate { dst, value } => (dst, D::constant(value)),
@@ -164,7 +155,7 @@ pub fn behind<D: Domain>(insn: &Insn, facts: &Facts<D>) -> Option<Facts<D>>
 
 /// The facts at the target of a jump that is taken; none where there is no such edge.
 pub fn at_target<D: Domain>(insn: &Insn, facts: &Facts<D>) -> Option<Facts<D>>
-    ensures { result ≡ facts_at_target D.operations insn.now facts.now }
+    ensures { (block : ℕ) → result ≡ facts_at_target D.operations block insn.now facts.now }
 {
     match *insn {
         Insn::Jump { .. } | Insn::JumpLong { .. } => Some(*facts),

@@ -4,12 +4,13 @@ ghost use Rattle.std.specs.Prelude.{◌≡◌};
 ghost use Rattle.verifier.specs.Facts.{fact, with_fact, entry_facts, join_facts};
 
 use ebpf_decode::Register;
-use reg_domain::{Area, Domain};
+use program_interface::{Area, REGISTERS, STACK_BYTES};
+use reg_domain::Domain;
 
 /// A fact about each register, and a bound on the bytes that were emitted.
 #[derive(Clone, Copy)]
 pub struct Facts<D> {
-    pub registers: [D; 11],
+    pub registers: [D; REGISTERS],
     /// The group has at most so many bytes, frame lengths counted.
     pub emitted: usize,
 }
@@ -32,7 +33,7 @@ impl<D: Domain> Facts<D> {
                 zero,
                 zero,
                 zero,
-                D::pointer(Area::Stack, 512),
+                D::pointer(Area::Stack, STACK_BYTES as u32),
             ],
             emitted: 0,
         }
@@ -55,11 +56,11 @@ impl<D: Domain> Facts<D> {
     }
 
     /// Joins other facts into these.
-    #[tactic(auto, using(crate::proofs::Joins::joined_more, crate::proofs::Joins::joined_eleven))]
+    #[tactic(auto, using(crate::proofs::Joins::joined_more, crate::proofs::Joins::joined_rows))]
     pub(crate) fn join(&mut self, other: &Facts<D>)
         ensures { self.new ≡ join_facts D.operations self.old other.now }
     {
-        for i in 0..11 {
+        for i in 0..REGISTERS {
             let joined = self.registers[i].join(other.registers[i]);
             self.registers[i] = joined;
         }

@@ -1,6 +1,6 @@
 //! Laws of the definitions: each function's contract is one, and its body is empty.
 
-ghost use Rattle.verifier.specs.Laws.{AcceptedNeverTraps};
+ghost use Rattle.verifier.specs.Laws.{AcceptedNeverTraps, RefusalIsInside};
 
 use reg_domain::Domain;
 
@@ -9,4 +9,9 @@ use reg_domain::Domain;
 /// steps as it has instructions, with a group within the limit.
 pub fn accepted_never_traps<D: Domain>()
     ensures { AcceptedNeverTraps D.operations }
+{}
+
+/// The slot of a refusal is one of the program's, and so below the most slots that a program has.
+pub fn refusal_is_inside<D: Domain>()
+    ensures { RefusalIsInside D.operations }
 {}

@@ -6,11 +6,12 @@ ghost use Rattle.verifier.specs.Accepted.{refusal_at};
 ghost use Rattle.verifier.specs.Facts.{gives, merge};
 ghost use Rattle.verifier.specs.Answer.{HasRoom, StaysInside};
 
-use crate::check::{distance_of, find_reason, slot_behind, target};
+use crate::check::{find_reason, slot_behind};
 use crate::edges::{at_target, behind};
 use crate::facts::Facts;
 use crate::reason::Refusal;
 use ebpf_decode::{Insn, Program};
+use program_interface::{MOST_SLOTS, RunSizes};
 use reg_domain::Domain;
 
 /// Joins facts, where there are some, into what a slot was given so far.
@@ -30,17 +31,17 @@ fn give<D: Domain>(rows: &mut [Option<Facts<D>>], to: usize, facts: Option<Facts
 
 /// Gives what an instruction leaves known to the slots that it leads to.
 fn push<D: Domain>(rows: &mut [Option<Facts<D>>], slot: usize, insn: &Insn, facts: &Facts<D>)
-    requires slot { slot < 4096 }
-    requires inside { StaysInside D.operations (length rows.old) slot insn.now facts.now }
+    requires slot { slot < MOST_SLOTS }
+    requires inside { StaysInside (length rows.old) slot insn.now }
     requires room { HasRoom D.operations insn.now facts.now }
     ensures len { length rows.new ≡ length rows.old }
-    ensures given { (s : ℕ) → s < length rows.old → get_or rows.new s None ≡ gives D.operations (Some insn.now) slot (Some facts.now) s (get_or rows.old s None) }
+    ensures given { (block s : ℕ) → s < length rows.old → get_or rows.new s None ≡ gives D.operations block (Some insn.now) slot (Some facts.now) s (get_or rows.old s None) }
 {
     give(rows, slot_behind(slot, insn), behind(insn, facts));
-    if let Some(distance) = distance_of(insn) {
+    if let Some(distance) = insn.distance() {
         give(
             rows,
-            target(slot, distance).unsigned_abs() as usize,
+            Insn::target(slot, distance).unsigned_abs() as usize,
             at_target(insn, facts),
         );
     }
@@ -51,25 +52,24 @@ fn push<D: Domain>(rows: &mut [Option<Facts<D>>], slot: usize, insn: &Insn, fact
 pub fn visit<D: Domain>(
     rows: &mut [Option<Facts<D>>],
     program: &Program,
-    limit: usize,
-    block: usize,
+    sizes: RunSizes,
     slot: usize,
 ) -> Option<Refusal>
-    requires limit { limit < 2 ^ 16 }
-    requires block { block < 2 ^ 32 }
     requires long { length rows.old ≡ length program.now }
     requires within { slot < length program.now }
     ensures len { length rows.new ≡ length rows.old }
-    ensures found { result ≡ refusal_at D.operations program.now limit block slot (instruction_at program.now slot) (get_or rows.old slot None) }
-    ensures given { IfNone result ((s : ℕ) → s < length rows.old → get_or rows.new s None ≡ gives D.operations (instruction_at program.now slot) slot (get_or rows.old slot None) s (get_or rows.old s None)) }
+    ensures found { result ≡ refusal_at D.operations program.now sizes slot (instruction_at program.now slot) (get_or rows.old slot None) }
+    ensures given { IfNone result ((s : ℕ) → s < length rows.old → get_or rows.new s None ≡ gives D.operations sizes.block (instruction_at program.now slot) slot (get_or rows.old slot None) s (get_or rows.old s None)) }
 {
+    // what an instruction emits within the limit can be counted
+    let _limit = sizes.limit();
     let Some(insn) = program.at(slot) else {
         return None;
     };
     let Some(facts) = rows[slot] else {
         return None;
     };
-    if let Some(reason) = find_reason(program, limit, block, slot, insn, &facts) {
+    if let Some(reason) = find_reason(program, sizes, slot, insn, &facts) {
         return Some(Refusal { slot, reason });
     }
     push(rows, slot, insn, &facts);

@@ -1,9 +1,8 @@
 //! Programs that are accepted or refused, worked out by hand from the rules.
 
-ghost use Rattle.std.specs.Prelude.{◌<◌, ◌^◌};
-
 use crate::{VerifyFault, verify};
 use ebpf_decode::{Program, decode};
+use program_interface::{BlockSize, RunSizes};
 use reg_domain::{Constants, Domain, Intervals};
 use std::alloc::Global;
 use std::test::Fail;
@@ -53,17 +52,25 @@ fn program(alloc: Global, slots: &[u64]) -> Result<Program, Fail> {
     Ok(decode(alloc, &bytes)?)
 }
 
+/// The sizes of runs over blocks of so many bytes, with groups of at most `limit`.
+fn sizes(limit: u32, block: u32) -> Result<RunSizes, Fail> {
+    let Some(block) = BlockSize::new(block) else {
+        return Err(Fail::from("no block size"));
+    };
+    let Some(sizes) = RunSizes::new(block, limit) else {
+        return Err(Fail::from("a group that doesn't fit a block"));
+    };
+    Ok(sizes)
+}
+
 /// The slot and the number of the reason that a program is refused for.
 fn refusal<D: Domain>(
     alloc: Global,
     slots: &[u64],
-    limit: usize,
-    block: usize,
-) -> Result<Option<(usize, u8)>, Fail>
-    requires limit { limit < 2 ^ 16 }
-    requires block { block < 2 ^ 32 }
-{
-    match verify::<D>(alloc, program(alloc, slots)?, limit, block) {
+    limit: u32,
+    block: u32,
+) -> Result<Option<(usize, u8)>, Fail> {
+    match verify::<D>(alloc, program(alloc, slots)?, sizes(limit, block)?) {
         Ok(_) => Ok(None),
         Err(VerifyFault::Refused(refusal)) => Ok(Some((refusal.slot, refusal.reason.number()))),
         Err(VerifyFault::Memory) => Err(Fail::from("no memory")),
@@ -161,9 +168,9 @@ fn a_group_that_grows_along_one_of_two_ways(rt: HostRuntime) -> Result<(), Fail>
 #[test]
 fn what_was_accepted(rt: HostRuntime) -> Result<(), Fail> {
     let program = program(rt.alloc(), &[MOVE_ZERO, EXIT])?;
-    let verified = verify::<Constants>(rt.alloc(), program, 16, 512)?;
+    let verified = verify::<Constants>(rt.alloc(), program, sizes(16, 512)?)?;
     assert_eq!(rt; verified.program().slots(), 2);
-    assert_eq!(rt; verified.limit(), 16);
-    assert_eq!(rt; verified.block(), 512);
+    assert_eq!(rt; verified.sizes().limit(), 16);
+    assert_eq!(rt; verified.sizes().block().bytes(), 512);
     Ok(())
 }

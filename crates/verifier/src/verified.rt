@@ -1,44 +1,44 @@
 //! A program that was accepted.
 
-ghost use Rattle.std.specs.Prelude.{◌≡◌, ◌<◌, ◌^◌, is_some, true, None, Option};
+ghost use Rattle.std.specs.Prelude.{◌≡◌, is_some, true, None, Option};
 ghost use Rattle.ebpf_decode.specs.Program.{instruction_at};
+ghost use Rattle.program_interface.specs.RunSizes.{AreSizes};
 ghost use Rattle.verifier.specs.Accepted.{refusal};
+ghost use Rattle.verifier.specs.Answer.{HasShortOffsets};
 
 use ebpf_decode::Program;
 use interp::TrapFree;
+use program_interface::RunSizes;
 use reg_domain::Domain;
 use std::marker::PhantomData;
 
-/// A program that is accepted over a domain, for groups within a limit and blocks of one length.
+/// A program that is accepted over a domain, for runs of some sizes.
 #[derive(Drop)]
 pub struct Verified<D: Domain> {
     program: Program,
-    limit: usize,
-    block: usize,
+    sizes: RunSizes,
     domain: PhantomData<D>,
-    ghost limit_fits: { limit < 2 ^ 16 },
-    ghost block_fits: { block < 2 ^ 32 },
     ghost begins: { is_some (instruction_at program 0) ≡ true },
-    ghost accepted: { refusal D.operations program limit block ≡ None },
+    ghost short_offsets: { HasShortOffsets program },
+    ghost are_sizes: { AreSizes sizes },
+    ghost accepted: { refusal D.operations program sizes ≡ None },
 }
 
 impl<D: Domain> Verified<D> {
-    ghost use Rattle.verifier.specs.Verified.{program_of, limit_of, block_of};
+    ghost use Rattle.verifier.specs.Verified.{program_of, sizes_of};
 
     /// Keeps a program that is accepted.
-    pub(crate) fn new(program: Program, limit: usize, block: usize) -> Verified<D>
-        requires limit_fits { limit < 2 ^ 16 }
-        requires block_fits { block < 2 ^ 32 }
+    pub(crate) fn new(program: Program, sizes: RunSizes) -> Verified<D>
         requires begins { is_some (instruction_at program 0) ≡ true }
-        requires accepted { refusal D.operations program limit block ≡ None }
+        requires short_offsets { HasShortOffsets program }
+        requires are_sizes { AreSizes sizes }
+        requires accepted { refusal D.operations program sizes ≡ None }
         ensures program { program_of result ≡ program }
-        ensures limit { limit_of result ≡ limit }
-        ensures block { block_of result ≡ block }
+        ensures sizes { sizes_of result ≡ sizes }
     {
         Verified {
             program,
-            limit,
-            block,
+            sizes,
             domain: PhantomData,
         }
     }
@@ -50,18 +50,11 @@ impl<D: Domain> Verified<D> {
         &self.program
     }
 
-    /// The most bytes of a group.
-    pub fn limit(&self) -> usize
-        ensures { result ≡ limit_of self.now }
+    /// The sizes of the runs that it was accepted for.
+    pub fn sizes(&self) -> RunSizes
+        ensures { result ≡ sizes_of self.now }
     {
-        self.limit
-    }
-
-    /// The length of a block in bytes.
-    pub fn block(&self) -> usize
-        ensures { result ≡ block_of self.now }
-    {
-        self.block
+        self.sizes
     }
 }
 
@@ -70,17 +63,17 @@ impl<D: Domain> TrapFree for Verified<D> {
 
     ghost code = { λ v. v.program };
 
-    ghost limit = { λ v. v.limit };
+    ghost limit = { λ v. v.sizes.limit };
 
-    ghost block = { λ v. v.block };
+    ghost block = { λ v. v.sizes.block };
 
     fn program(&self) -> &Program {
         Verified::program(self)
     }
 
     fn limit(&self) -> usize {
-        Verified::limit(self)
+        Verified::sizes(self).limit() as usize
     }
 
-    ghost never_traps = { λ v. never_traps D.sound v.program v.limit v.block v.block_fits v.begins v.accepted };
+    ghost never_traps = { λ v. never_traps D.sound v.program v.sizes v.begins v.short_offsets v.are_sizes v.accepted };
 }

@@ -1,7 +1,5 @@
 //! What is refused over constants and over intervals.
 
-ghost use Rattle.std.specs.Prelude.{◌<◌, ◌^◌};
-
 use super::{EMIT, EXIT, FIRST_BYTE, GROWING, MATCHING, MOVE_ZERO, refusal};
 use reg_domain::{Constants, Intervals};
 use std::test::Fail;
@@ -41,12 +39,9 @@ fn bounded(load: u64) -> [u64; 6] {
 fn answers(
     rt: &HostRuntime,
     slots: &[u64],
-    limit: usize,
-    block: usize,
-) -> Result<(Answer, Answer), Fail>
-    requires limit { limit < 2 ^ 16 }
-    requires block { block < 2 ^ 32 }
-{
+    limit: u32,
+    block: u32,
+) -> Result<(Answer, Answer), Fail> {
     let constants = refusal::<Constants>(rt.alloc(), slots, limit, block)?;
     let intervals = refusal::<Intervals>(rt.alloc(), slots, limit, block)?;
     Ok((constants, intervals))

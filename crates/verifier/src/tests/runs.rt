@@ -2,7 +2,7 @@
 
 ghost use Rattle.std.specs.Prelude.{◌≤◌};
 
-use super::{EXIT, GROWING, MATCHING, MOVE_ZERO, program};
+use super::{EXIT, GROWING, MATCHING, MOVE_ZERO, program, sizes};
 use crate::verify;
 use interp::{End, Machine};
 use reg_domain::Intervals;
@@ -37,13 +37,13 @@ fn compare(
     rt: &impl Abort,
     alloc: Global,
     slots: &[u64],
-    limit: usize,
+    limit: u32,
     firsts: &[u8],
 ) -> Result<(), Fail>
     requires { limit ≤ 16 }
 {
     let checked = program(alloc, slots)?;
-    let verified = verify::<Intervals>(alloc, program(alloc, slots)?, limit, 512)?;
+    let verified = verify::<Intervals>(alloc, program(alloc, slots)?, sizes(limit, 512)?)?;
     let (mut scratch, mut other_scratch) = ([0; 1024], [0; 1024]);
     let mut index = 0;
     for first in firsts {
@@ -54,7 +54,7 @@ fn compare(
         let (mut group, mut other_group) = ([9; 16], [9; 16]);
         let mut machine = Machine::new(&block, &context, &mut scratch);
         assert!(rt; checked.at(machine.slot()).is_some());
-        let end = machine.run_checked(&checked, limit, checked.len() as u64, &mut group);
+        let end = machine.run_checked(&checked, limit as usize, checked.len() as u64, &mut group);
         let mut free = Machine::new(&block, &context, &mut other_scratch);
         let exit = free.run_verified(&verified, &mut other_group);
         assert_eq!(rt; end, End::Exit { r0: exit.r0 });
@@ -80,7 +80,7 @@ fn with_every_check_and_with_none(rt: HostRuntime) -> Result<(), Fail> {
 
 #[test]
 fn a_frame_as_long_as_the_block_says(rt: HostRuntime) -> Result<(), Fail> {
-    let verified = verify::<Intervals>(rt.alloc(), program(rt.alloc(), &GROWING)?, 10, 512)?;
+    let verified = verify::<Intervals>(rt.alloc(), program(rt.alloc(), &GROWING)?, sizes(10, 512)?)?;
     let mut block = [0; 512];
     block[0] = 3;
     let (context, mut scratch, mut group) = ([0; 32], [0; 1024], [9; 10]);

@@ -105,15 +105,36 @@ fn exec_that_ends_early_leaves_the_image(rt: HostRuntime) -> Result<(), Fail> {
         1,
         "",
         "cannot read missing\n",
-    )?;
-    files.put("events", b"fault 0 offline\nturn 0")?;
-    let (status, _) = run_into(
-        rt.alloc(),
-        "zscli exec g1 events",
-        &mut files,
-        &mut Taking { writes: 1 },
-    )?;
+    )
+}
+
+#[test]
+fn exec_saves_what_was_done_where_standard_output_fails(rt: HostRuntime) -> Result<(), Fail> {
+    let table = [
+        (0, "0 offline 0\n1 empty 0\n2 empty 0\n3 empty 0\n"),
+        (1, "0 offline 0\n1 offline 0\n2 empty 0\n3 empty 0\n"),
+        (2, "0 offline 0\n1 offline 0\n2 offline 0\n3 empty 0\n"),
+    ];
+    for (writes, zones) in table {
+        let events = b"fault 0 offline\nfault 1 offline\nfault 2 offline";
+        let mut files = with_events(rt.alloc(), events)?;
+        let line = "zscli exec g1 events";
+        let (status, err) = run_into(rt.alloc(), line, &mut files, &mut Taking { writes })?;
+        assert_eq!(rt; status, 1, "{writes}");
+        assert_eq!(rt; err.as_str(), "cannot write -\n", "{writes}");
+        assert_ends(&rt, rt.alloc(), "zscli zones g1", &mut files, 0, zones, "")?;
+    }
+    Ok(())
+}
+
+#[test]
+fn exec_that_can_write_nothing_leaves_the_image(rt: HostRuntime) -> Result<(), Fail> {
+    let mut files = with_events(rt.alloc(), b"fault 0 offline")?;
+    files.room = 80;
+    let line = "zscli exec g1 events";
+    let (status, err) = run_into(rt.alloc(), line, &mut files, &mut Taking { writes: 0 })?;
     assert_eq!(rt; status, 1);
+    assert_eq!(rt; err.as_str(), "cannot write g1\n");
     assert_eq!(rt; files.bytes("g1").ok_or("no image")?, G1.as_slice());
     Ok(())
 }

@@ -1,5 +1,5 @@
 use Rattle.std.proofs.Common.{◌≤◌, length, rules}
-use Rattle.emit_append.specs.declared.block.TheConstants.{LARGEST_BLOCK}
+use Rattle.program_interface.specs.declared.block_size.TheConstants.{LARGEST_BLOCK}
 use Rattle.emit_append.proofs.Padding.{padded-front}
 use Rattle.emit_append.proofs.packer.copy.Goals as goal
 

@@ -5,7 +5,7 @@ use Rattle.emit_append.proofs.reader.unpack.Given as goal
 
 abbrev pub invariant-loop-rest : goal.invariant-loop-rest
 invariant-loop-rest l = record {
-  read : then_read (bytes_of l.records.items) (blocks_at (length l.rest / l.block) l.block (length l.bytes - length l.rest) l.rest) ≡ unpacked l.block l.bytes;
+  read : then_read (bytes_of l.records.items) (blocks_at (length l.rest / l.size) l.size (length l.bytes - length l.rest) l.rest) ≡ unpacked l.fn.block l.bytes;
   within : length l.rest ≤ length l.bytes;
 }
 

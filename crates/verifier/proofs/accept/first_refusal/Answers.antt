@@ -11,9 +11,9 @@ returns-in-Some g c =
     let slot = c.loop-slot.slot in
     let inside : slot < length c.loop-slot.rows = omega (arith, c.loop-slot.invariant.long, c.slots-slot-end.ensures.value, c.loop-slot-test.true) in
     let facts = c.loop-slot.invariant.rows slot inside in
-    sym (first_found ops program c.args.limit c.args.block (length program) slot c.in-Some.refusal
+    sym (first_found ops program c.args.sizes (length program) slot c.in-Some.refusal
     (omega (arith, c.slots-slot-end.ensures.value, c.loop-slot-test.true)) c.loop-slot.invariant.none
-    (sym (ap (refusal_at ops program c.args.limit c.args.block slot (instruction_at program slot)) facts) ∙ sym c.visit.ensures.found ∙ c.in-Some.is))
+    (sym (ap (refusal_at ops program c.args.sizes slot (instruction_at program slot)) facts) ∙ sym c.visit.ensures.found ∙ c.in-Some.is))
 
 pub loop-slot-preserved : goal.loop-slot-preserved
 loop-slot-preserved g c =
@@ -25,8 +25,8 @@ loop-slot-preserved g c =
     let facts = rows slot inside in
     record {
       long = c.visit.ensures.len ∙ c.loop-slot.invariant.long;
-      rows = λ s within. rows_more ops program c.args.limit c.args.block slot c.loop-slot.rows c.visit.new.rows inside rows
+      rows = λ s within. rows_more ops program c.args.sizes slot c.loop-slot.rows c.visit.new.rows inside rows
           (rw c.in_default.is at c.visit.ensures.given) s (omega (arith, c.visit.ensures.len, within));
-      none = none_more ops program c.args.limit c.args.block slot c.loop-slot.invariant.none
-          (sym (ap (refusal_at ops program c.args.limit c.args.block slot (instruction_at program slot)) facts) ∙ sym c.visit.ensures.found ∙ c.in_default.is);
+      none = none_more ops program c.args.sizes slot c.loop-slot.invariant.none
+          (sym (ap (refusal_at ops program c.args.sizes slot (instruction_at program slot)) facts) ∙ sym c.visit.ensures.found ∙ c.in_default.is);
     }

@@ -6,6 +6,6 @@ use Rattle.verifier.proofs.accept.first_refusal.Given as goal
 abbrev pub invariant-loop-slot : goal.invariant-loop-slot
 invariant-loop-slot g l = record {
   long : length l.rows ≡ length l.program;
-  rows : (s : ℕ) → s < length l.rows → get_or l.rows s None ≡ given_below g.D.Domain.operations l.program l.slot s;
-  none : refusal_below g.D.Domain.operations l.program l.limit l.block l.slot ≡ None;
+  rows : (s : ℕ) → s < length l.rows → get_or l.rows s None ≡ given_below g.D.Domain.operations l.sizes.block l.program l.slot s;
+  none : refusal_below g.D.Domain.operations l.program l.sizes l.slot ≡ None;
 }

@@ -1,5 +1,5 @@
 use Rattle.std.proofs.Common.{arith, ◌≡◌, ◌+◌, ◌-◌, ◌∙◌}
-use Rattle.runner.proofs.EventLemmas.{namespace_step, answer_is, answers_step}
+use Rattle.runner.proofs.EventLemmas.{state_step, answer_is, answers_step}
 use Rattle.runner.proofs.device.Device.serve.Goals as goal
 
 pub loop-index-preserved : goal.loop-index-preserved
@@ -10,8 +10,8 @@ loop-index-preserved g c =
     let inv = c.loop-index.invariant in
     let step = c.step-reply.ensures in
     record {
-      namespace = namespace_step es i event.result c.args.self.now c.loop-index.self c.step-reply.new.self c.loop-index-test.true event.is inv.namespace step.namespace;
-      answers = answers_step es i event.result c.args.self.now c.loop-index.self _ _ _ _ c.loop-index-test.true event.is inv.namespace inv.answers
+      state = state_step es i event.result c.args.self.now c.loop-index.self c.step-reply.new.self c.loop-index-test.true event.is inv.state step.state;
+      answers = answers_step es i event.result c.args.self.now c.loop-index.self _ _ _ _ c.loop-index-test.true event.is inv.state inv.answers
           (answer_is _ _ _ _ c.data_length.ensures step.reply step.given) c.in-Ok.ensures.ok;
       refused = c.in-Ok.ensures.count ∙ inv.refused;
     }
@@ -26,6 +26,6 @@ returns-in-Err-clause-stopped g c =
     record {
       some = omega arith;
       within = omega arith;
-      namespace = namespace_step es i event.result c.args.self.now c.loop-index.self c.step-reply.new.self c.loop-index-test.true event.is inv.namespace c.step-reply.ensures.namespace;
+      state = state_step es i event.result c.args.self.now c.loop-index.self c.step-reply.new.self c.loop-index-test.true event.is inv.state c.step-reply.ensures.state;
       answers = rw last (c.in-Err.ensures.err ∙ inv.answers);
     }

@@ -1,0 +1,134 @@
+//! The command `exec`: the events of a command file, run on an image.
+
+ghost use Rattle.std.specs.Prelude.{◌≡◌, ◌≢◌, OnOk, IfErr};
+ghost use Rattle.image_store.specs.Text.{text};
+ghost use Rattle.runner.specs.Events.{namespace_after};
+ghost use Rattle.command_files.specs.Made.{MakesOne, then_made};
+ghost use Rattle.command_exec.specs.Saved.{SavesFirst};
+ghost use Rattle.command_exec.specs.Told.{told_of_line};
+
+use clap::{Arg, ArgMatches, Command};
+use command_failure::Failure;
+use command_files::arguments::required;
+use command_files::{Files, read};
+use command_images::image_file;
+use event_text::{Lines, ParseError};
+use runner::{Device, Event, Stopped};
+use std::alloc::{AllocError, Global};
+use std::io::Write;
+use zns_commands::{Image, MOST_TRANSFER};
+
+/// The command's name.
+pub const NAME: &str = "exec";
+
+const IMAGE: &str = "IMAGE";
+
+const COMMANDS: &str = "COMMANDS";
+
+const LONG_ABOUT: &str = "\
+Runs the events of a command file on an image, one after another, and prints a line for each. Then \
+it writes the image back, as the events left it.
+
+A command file is ASCII text with an event on each line. Words are separated by spaces or tabs, \
+and `;` begins a comment.
+
+  submit QUEUE ENTRY [DATA]   a submission queue entry, and the data that stands beside it
+  turn RUN                    a turn for a run
+  fault ZONE readonly         a fault of a zone, which can then only be read
+  fault ZONE offline          a fault of a zone, which is then lost
+
+QUEUE is from 0 to 65535, RUN from 0 to 255 and ZONE from 0 to 4294967295, in decimal. ENTRY is 64 bytes and DATA any number \
+of bytes, in hexadecimal. Where a line isn't of this form, no event happens.
+
+What is printed:
+
+  cpl QUEUE ENTRY [DATA]      a completion queue entry, and the data that was read
+  pending RUN                 the run has turns left
+  idle                        there is no such run
+  done                        a fault was taken
+  refused                     a fault was refused
+
+Where a line can't be printed, no later event happens, and the image is written as the events up to \
+then left it. Where anything else fails, the image is as it was: the image or the command file can't be \
+read or is refused, or the new image can't be written. The new image is written beside the old one, as \
+IMAGE.unfinished, and takes its place when it is whole.";
+
+const EXAMPLE: &str = "\
+Example, in the folder of the sources:
+
+  zscli format zoned.img --block 512 --zones 4 --size 8 --capacity 6 --open 2 --active 3
+  zscli exec zoned.img examples/append_and_read.cmd";
+
+/// How the command stands on the command line.
+pub fn subcommand<'a>(alloc: Global) -> Result<Command<'a>, AllocError> {
+    let image = Arg::new(alloc, IMAGE)
+        .required(true)
+        .help("The image, which `format` makes");
+    let commands = Arg::new(alloc, COMMANDS)
+        .required(true)
+        .help("The command file");
+    Command::new(alloc, NAME)
+        .about("Runs the events of a command file on an image")
+        .long_about(LONG_ABOUT)
+        .after_help(EXAMPLE)
+        .arg(image)?
+        .arg(commands)
+}
+
+/// Runs the command. Of the failures, that of standard output alone leaves a new image.
+pub fn exec<'a, F: Files, O: Write>(
+    alloc: Global,
+    matches: &ArgMatches<'a>,
+    files: &mut F,
+    out: &mut O,
+) -> Result<(), Failure<'a>>
+    ensures made { OnOk result (MakesOne (F.made files.old) (F.made files.new)) }
+    ensures stopped { result ≡ Err Failure.CannotPrint → MakesOne (F.made files.old) (F.made files.new) }
+    ensures kept { IfErr result (λ failure. failure ≢ Failure.CannotPrint → F.made files.new ≡ F.made files.old) }
+{
+    let path = required(matches, IMAGE);
+    let image = image_file::load(alloc, path, files)?;
+    let file = read(required(matches, COMMANDS), files)?;
+    match event_text::parse(alloc, file.as_slice()) {
+        Ok(events) => run(alloc, image, events.as_slice(), path, files, out),
+        Err(error) => Err(refused(error)),
+    }
+}
+
+/// What the user is told of a command file that isn't one.
+fn refused<'a>(error: ParseError) -> Failure<'a>
+    ensures told { result ≡ told_of_line error }
+    ensures elsewhere { result ≢ Failure.CannotPrint }
+{
+    match error {
+        ParseError::Line(line) => Failure::LineRefused(line),
+        ParseError::OutOfMemory => Failure::NoMemory,
+    }
+}
+
+/// Runs the events on an image, prints a line for each, and makes the image's file anew, as the events
+/// left it: all of them, or where standard output fails, those that were done by then.
+fn run<'a, F: Files, O: Write>(
+    alloc: Global,
+    image: Image,
+    events: &[Event],
+    path: &'a str,
+    files: &mut F,
+    out: &mut O,
+) -> Result<(), Failure<'a>>
+    ensures saved { OnOk result (F.Writer.tells → F.made files.new ≡ then_made (F.made files.old) path.now (text (namespace_after events.now image))) }
+    ensures stopped { result ≡ Err Failure.CannotPrint → F.Writer.tells → SavesFirst events.now image path.now (F.made files.old) (F.made files.new) }
+    ensures made { OnOk result (MakesOne (F.made files.old) (F.made files.new)) }
+    ensures one { result ≡ Err Failure.CannotPrint → MakesOne (F.made files.old) (F.made files.new) }
+    ensures kept { IfErr result (λ failure. failure ≢ Failure.CannotPrint → F.made files.new ≡ F.made files.old) }
+{
+    let mut lines = Lines::new(alloc, out)?;
+    let mut data = vec![in alloc; 0; MOST_TRANSFER]?;
+    let mut device = Device::new(image);
+    let served = device.serve(events, data.as_mut_slice(), &mut lines);
+    image_file::save(device.image(), path, files)?;
+    match served {
+        Ok(()) => Ok(()),
+        Err(Stopped { .. }) => Err(Failure::CannotPrint),
+    }
+}

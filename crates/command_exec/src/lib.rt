@@ -1,0 +1,4 @@
+//! The command that runs events on an image.
+#![tactic(auto)]
+
+pub mod exec;

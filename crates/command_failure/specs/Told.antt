@@ -1,0 +1,22 @@
+-- What an error of reading the command line is told as (profile).
+use Rattle.std.specs.declared.io.ErrorKind.{ErrorKind}
+use Rattle.std.specs.declared.io.ErrorKind.TheVariants as system
+use Rattle.clap.specs.Words.{kind_of}
+use Rattle.clap.specs.declared.error.Error.{Error}
+use Rattle.clap.specs.declared.error.kind.ErrorKind as clap
+use Rattle.clap.specs.declared.error.kind.ErrorKind.TheVariants as kind
+use Rattle.command_failure.specs.declared.failure.Failure.{Failure}
+use Rattle.command_failure.specs.declared.failure.Failure.TheVariants.{CommandLine, NotText, NoMemory}
+
+-- a word of the command line that can't be read
+abbrev pub told_of_words : ErrorKind → Failure
+told_of_words system.OutOfMemory = NoMemory
+told_of_words _ = NotText
+
+-- a command line that is wrong
+abbrev pub told_of_kind : Error → clap.ErrorKind → Failure
+told_of_kind error kind.OutOfMemory = NoMemory
+told_of_kind error _ = CommandLine error
+
+abbrev pub told_of_command_line : Error → Failure
+told_of_command_line error = told_of_kind error (kind_of error)

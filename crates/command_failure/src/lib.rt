@@ -1,0 +1,6 @@
+//! Why a command ends before its work is done, and what the user is told.
+#![tactic(auto)]
+
+mod failure;
+
+pub use failure::{Failure, printed};

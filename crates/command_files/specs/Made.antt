@@ -1,0 +1,21 @@
+-- The files that a command makes.
+use Rattle.std.specs.Prelude.{◌≡◌, ℕ, List, [], ◌∷◌, ◌++◌, ◌⊎◌, Option}
+use Rattle.std.specs.Option.{option_map}
+
+-- a file with its name
+pub record Made : Type 0 where
+  pub path : List ℕ
+  pub bytes : List ℕ
+
+-- what was made before, where that is told, and then this file
+abbrev pub then_made : Option (List Made) → List ℕ → List ℕ → Option (List Made)
+then_made before path bytes = option_map (λ files. files ++ record { path = path; bytes = bytes } ∷ []) before
+
+-- one file is made
+pub record MakesOne (before after : Option (List Made)) : Type 0 where
+  pub path : List ℕ
+  pub bytes : List ℕ
+  pub made : after ≡ then_made before path bytes
+
+abbrev pub MakesAtMostOne : Option (List Made) → Option (List Made) → Type 0
+MakesAtMostOne before after = (after ≡ before) ⊎ MakesOne before after

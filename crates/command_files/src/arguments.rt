@@ -1,0 +1,35 @@
+//! The words that follow a command's name.
+
+use clap::{Arg, ArgAction, ArgMatches};
+use command_failure::Failure;
+use std::alloc::Global;
+use text_lines::decimal;
+
+/// The option `--NAME LETTER`.
+pub fn option<'a>(alloc: Global, name: &'a str, letter: &'a str) -> Arg<'a> {
+    Arg::new(alloc, name)
+        .long(name)
+        .value_name(letter)
+        .action(ArgAction::Set)
+}
+
+/// The option that gives the bytes of a block, which is required.
+pub fn block_option<'a>(alloc: Global, name: &'a str) -> Arg<'a> {
+    option(alloc, name, "B")
+        .required(true)
+        .help("Bytes of a block: 512, 1024, 2048 or 4096")
+}
+
+/// The value of a required argument. A command line without it is refused before this.
+pub fn required<'a>(matches: &ArgMatches<'a>, id: &str) -> &'a str {
+    matches.get_str(id).unwrap_or("")
+}
+
+/// The number that an argument spells, which is required or has a default: decimal digits alone.
+pub fn number<'a>(matches: &ArgMatches<'a>, id: &str) -> Result<u32, Failure<'a>> {
+    let text = required(matches, id);
+    match decimal(text.as_bytes()) {
+        Some(number) => Ok(number),
+        None => Err(Failure::NotNumber(text)),
+    }
+}

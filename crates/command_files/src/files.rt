@@ -1,0 +1,81 @@
+//! Where names lead to bytes.
+
+ghost use Rattle.std.specs.Prelude.{◌≡◌, ℕ, List, [], ◌∷◌, IfOk, OnOk, OnErr, Option};
+ghost use Rattle.std.specs.IoError.{error_kind};
+ghost use Rattle.command_files.specs.Made.{Made, then_made};
+ghost use Rattle.command_files.specs.Told.{told_of_file};
+ghost use Rattle.command_files.specs.declared.files.FileError.TheVariants.{OutOfMemory};
+
+use image_store::{Sink, Source};
+use std::alloc::AllocError;
+use std::io::{self, ErrorKind};
+
+/// Why a file wasn't read or written.
+#[derive(Clone, Copy, Debug, PartialEq, Eq)]
+pub enum FileError {
+    /// It can't be opened, or reading or writing it failed.
+    Failed,
+    /// No memory for what it holds.
+    OutOfMemory,
+}
+
+/// Where names lead to bytes.
+pub trait Files {
+    /// A file that is read in pieces.
+    type Reader: Source + Drop;
+
+    /// A file that is written in pieces.
+    type Writer: Sink + Drop;
+
+    /// The files that were made, in order, or `None` where it doesn't tell.
+    ghost made: { Self → Option (List Made) };
+
+    /// All bytes of a file.
+    fn read(&mut self, path: &str) -> Result<Vec<u8>, FileError>
+        ensures { made self.new ≡ made self.old };
+
+    /// Makes a file of these bytes, in place of the one with this name.
+    fn write(&mut self, path: &str, bytes: &[u8]) -> Result<(), FileError>
+        ensures ok { OnOk result (made self.new ≡ then_made (made self.old) path.now bytes.now) }
+        ensures err { OnErr result (made self.new ≡ made self.old) };
+
+    /// A file, from its first byte on.
+    fn open(&mut self, path: &str) -> Result<Self::Reader, FileError>
+        ensures made { made self.new ≡ made self.old }
+        ensures healthy { IfOk result (λ file. Self.Reader.failures file ≡ 0) };
+
+    /// A file of no bytes yet. It has its name once it is finished: the file with this name is as
+    /// it was until then.
+    fn begin(&mut self, path: &str) -> Result<Self::Writer, FileError>
+        ensures made { made self.new ≡ made self.old }
+        ensures healthy { IfOk result (λ file. Self.Writer.failures file ≡ 0) }
+        ensures empty { Self.Writer.tells → IfOk result (λ file. Self.Writer.taken file ≡ []) };
+
+    /// Gives a file that was begun its name, in place of the file with this name.
+    fn finish(&mut self, path: &str, file: Self::Writer) -> Result<(), FileError>
+        ensures ok { OnOk result (made self.new ≡ then_made (made self.old) path.now (Self.Writer.taken file)) }
+        ensures err { OnErr result (made self.new ≡ made self.old) };
+
+    /// Forgets a file that was begun.
+    fn discard(&mut self, file: Self::Writer)
+        ensures { made self.new ≡ made self.old };
+}
+
+impl From<io::Error> for FileError {
+    ghost from_gives = { λ error reason. reason ≡ told_of_file (error_kind error) };
+
+    fn from(error: io::Error) -> FileError {
+        match error.kind() {
+            ErrorKind::OutOfMemory => FileError::OutOfMemory,
+            _ => FileError::Failed,
+        }
+    }
+}
+
+impl From<AllocError> for FileError {
+    ghost from_gives = { λ _ reason. reason ≡ OutOfMemory };
+
+    fn from(_error: AllocError) -> FileError {
+        FileError::OutOfMemory
+    }
+}

@@ -1,0 +1,53 @@
+//! Whole files, and what the user is told of one that fails.
+
+ghost use Rattle.std.specs.Prelude.{◌≡◌, ◌≢◌, OnOk, OnErr};
+ghost use Rattle.command_files.specs.Made.{then_made};
+
+use crate::files::{FileError, Files};
+use command_failure::Failure;
+
+/// All bytes of a file.
+pub fn read<'a, F: Files>(path: &'a str, files: &mut F) -> Result<Vec<u8>, Failure<'a>>
+    ensures made { F.made files.new ≡ F.made files.old }
+    ensures elsewhere { result ≢ Err Failure.CannotPrint }
+{
+    match files.read(path) {
+        Ok(bytes) => Ok(bytes),
+        Err(error) => Err(cannot_read(path, error)),
+    }
+}
+
+/// Makes a file of these bytes, in place of the one with this name.
+pub fn write<'a, F: Files>(path: &'a str, bytes: &[u8], files: &mut F) -> Result<(), Failure<'a>>
+    ensures made { OnOk result (F.made files.new ≡ then_made (F.made files.old) path.now bytes.now) }
+    ensures kept { OnErr result (F.made files.new ≡ F.made files.old) }
+{
+    match files.write(path, bytes) {
+        Ok(()) => Ok(()),
+        Err(error) => Err(cannot_write(path, error)),
+    }
+}
+
+/// The failure of reading a file.
+pub fn cannot_read<'a>(path: &'a str, error: FileError) -> Failure<'a>
+    ensures failed { error ≡ FileError.Failed → result ≡ Failure.CannotRead path.entry }
+    ensures memory { error ≡ FileError.OutOfMemory → result ≡ Failure.NoMemory }
+    ensures elsewhere { result ≢ Failure.CannotPrint }
+{
+    match error {
+        FileError::Failed => Failure::CannotRead(path),
+        FileError::OutOfMemory => Failure::NoMemory,
+    }
+}
+
+/// The failure of writing a file.
+pub fn cannot_write<'a>(path: &'a str, error: FileError) -> Failure<'a>
+    ensures failed { error ≡ FileError.Failed → result ≡ Failure.CannotWrite path.entry }
+    ensures memory { error ≡ FileError.OutOfMemory → result ≡ Failure.NoMemory }
+    ensures elsewhere { result ≢ Failure.CannotPrint }
+{
+    match error {
+        FileError::Failed => Failure::CannotWrite(path),
+        FileError::OutOfMemory => Failure::NoMemory,
+    }
+}

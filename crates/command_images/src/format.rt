@@ -1,0 +1,107 @@
+//! The command `format`: a new image.
+
+ghost use Rattle.std.specs.Prelude.{◌≡◌, OnOk, OnErr};
+ghost use Rattle.command_files.specs.Made.{MakesOne};
+ghost use Rattle.command_images.specs.Told.{told_of_geometry};
+
+use crate::image_file;
+use clap::{Arg, ArgMatches, Command};
+use command_failure::Failure;
+use command_files::Files;
+use command_files::arguments::{block_option, number, option, required};
+use image_store::{Geometry, GeometryFault, Image, Limits};
+use std::alloc::{AllocError, Global};
+
+/// The command's name.
+pub const NAME: &str = "format";
+
+const IMAGE: &str = "IMAGE";
+
+const BLOCK: &str = "block";
+
+const ZONES: &str = "zones";
+
+const SIZE: &str = "size";
+
+const CAPACITY: &str = "capacity";
+
+const OPEN: &str = "open";
+
+const ACTIVE: &str = "active";
+
+const LONG_ABOUT: &str = "\
+Writes an image: a namespace of zones of which nothing is written.
+
+The blocks of a zone count towards its size; of these the first, as many as its capacity, can be \
+written. At most so many zones are open at a time, and so many active.
+
+Of numbers that are no namespace, `geometry refused N` tells what is wrong first: 1 the block size, 2 \
+the number of zones (1 to 1024), 3 the size (1 to 16777216), 4 the capacity (1 to the size), 5 the \
+limits (1 to the active limit, and that to the number of zones), 6 all in all more than 268435456 \
+bytes. No file is written then.";
+
+const EXAMPLE: &str = "\
+Example: 4 zones of 8 blocks, 6 of them writable, at most 2 of the zones open and 3 active.
+
+  zscli format zoned.img --block 512 --zones 4 --size 8 --capacity 6 --open 2 --active 3";
+
+/// How the command stands on the command line.
+pub fn subcommand<'a>(alloc: Global) -> Result<Command<'a>, AllocError> {
+    let image = Arg::new(alloc, IMAGE)
+        .required(true)
+        .help("The image that is written");
+    Command::new(alloc, NAME)
+        .about("Writes an image of empty zones")
+        .long_about(LONG_ABOUT)
+        .after_help(EXAMPLE)
+        .arg(image)?
+        .arg(block_option(alloc, BLOCK))?
+        .arg(count(alloc, ZONES, "N", "The number of zones"))?
+        .arg(count(alloc, SIZE, "S", "Blocks of a zone"))?
+        .arg(count(alloc, CAPACITY, "C", "Blocks of a zone that can be written"))?
+        .arg(count(alloc, OPEN, "O", "The most zones that are open at a time"))?
+        .arg(count(
+            alloc,
+            ACTIVE,
+            "A",
+            "The most zones that are active at a time",
+        ))
+}
+
+fn count<'a>(alloc: Global, name: &'a str, letter: &'a str, help: &'a str) -> Arg<'a> {
+    option(alloc, name, letter).required(true).help(help)
+}
+
+/// Runs the command.
+pub fn format<'a, F: Files>(
+    alloc: Global,
+    matches: &ArgMatches<'a>,
+    files: &mut F,
+) -> Result<(), Failure<'a>>
+    ensures made { OnOk result (MakesOne (F.made files.old) (F.made files.new)) }
+    ensures kept { OnErr result (F.made files.new ≡ F.made files.old) }
+{
+    let geometry = geometry(matches)?;
+    let image = Image::empty(alloc, geometry)?;
+    image_file::save(&image, required(matches, IMAGE), files)
+}
+
+/// The geometry that the options spell.
+fn geometry<'a>(matches: &ArgMatches<'a>) -> Result<Geometry, Failure<'a>> {
+    let block = number(matches, BLOCK)?;
+    let zones = number(matches, ZONES)?;
+    let size = number(matches, SIZE)?;
+    let capacity = number(matches, CAPACITY)?;
+    let limits = Limits {
+        open_limit: number(matches, OPEN)?,
+        active_limit: number(matches, ACTIVE)?,
+    };
+    Geometry::new(block, zones, size, capacity, limits).map_err(|fault| refused(fault))
+}
+
+/// What the user is told of numbers that are no geometry.
+fn refused<'a>(fault: GeometryFault) -> Failure<'a>
+    ensures { result ≡ told_of_geometry fault }
+{
+    Failure::GeometryRefused(fault.number())
+}

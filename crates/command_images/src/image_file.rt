@@ -1,0 +1,62 @@
+//! Images in files.
+
+ghost use Rattle.std.specs.Prelude.{◌≡◌, ◌≢◌, OnOk, OnErr};
+ghost use Rattle.image_store.specs.Fault.{load_number};
+ghost use Rattle.image_store.specs.Text.{text};
+ghost use Rattle.command_files.specs.Made.{MakesOne, then_made};
+
+use command_failure::Failure;
+use command_files::{Files, cannot_read, cannot_write};
+use image_store::{Image, LoadFault};
+use std::alloc::Global;
+
+/// The image that a file holds.
+pub fn load<'a, F: Files>(alloc: Global, path: &'a str, files: &mut F) -> Result<Image, Failure<'a>>
+    ensures made { F.made files.new ≡ F.made files.old }
+    ensures elsewhere { result ≢ Err Failure.CannotPrint }
+{
+    let mut file = match files.open(path) {
+        Ok(file) => file,
+        Err(error) => return Err(cannot_read(path, error)),
+    };
+    match Image::load(alloc, &mut file) {
+        Ok(image) => Ok(image),
+        Err(fault) => Err(refused(path, fault)),
+    }
+}
+
+/// What the user is told of an image that was not loaded.
+fn refused<'a>(path: &'a str, fault: LoadFault) -> Failure<'a>
+    ensures device { fault ≡ LoadFault.Device → result ≡ Failure.CannotRead path.entry }
+    ensures memory { fault ≡ LoadFault.Memory → result ≡ Failure.NoMemory }
+    ensures others { fault ≢ LoadFault.Device → fault ≢ LoadFault.Memory → result ≡ Failure.ImageRefused (load_number fault) }
+    ensures elsewhere { result ≢ Failure.CannotPrint }
+{
+    match fault {
+        LoadFault::Device => Failure::CannotRead(path),
+        LoadFault::Memory => Failure::NoMemory,
+        _ => Failure::ImageRefused(fault.number()),
+    }
+}
+
+/// Makes a file of an image, in place of the one with this name. Where that fails, the file is as
+/// it was.
+pub fn save<'a, F: Files>(image: &Image, path: &'a str, files: &mut F) -> Result<(), Failure<'a>>
+    ensures saved { OnOk result (F.Writer.tells → F.made files.new ≡ then_made (F.made files.old) path.now (text image.now)) }
+    ensures made { OnOk result (MakesOne (F.made files.old) (F.made files.new)) }
+    ensures kept { OnErr result (F.made files.new ≡ F.made files.old) }
+    ensures elsewhere { result ≢ Err Failure.CannotPrint }
+{
+    let mut file = match files.begin(path) {
+        Ok(file) => file,
+        Err(error) => return Err(cannot_write(path, error)),
+    };
+    if image.save(&mut file).is_err() {
+        files.discard(file);
+        return Err(Failure::CannotWrite(path));
+    }
+    match files.finish(path, file) {
+        Ok(()) => Ok(()),
+        Err(error) => Err(cannot_write(path, error)),
+    }
+}

@@ -1,0 +1,76 @@
+//! The command `zones`: the states of an image's zones.
+
+ghost use Rattle.std.specs.Prelude.{◌≡◌};
+
+use crate::image_file;
+use clap::{Arg, ArgMatches, Command};
+use command_failure::{Failure, printed};
+use command_files::Files;
+use command_files::arguments::required;
+use std::alloc::{AllocError, Global};
+use std::io::{self, Write};
+use zone_state::{Zone, ZoneState};
+
+/// The command's name.
+pub const NAME: &str = "zones";
+
+const IMAGE: &str = "IMAGE";
+
+const LONG_ABOUT: &str = "\
+Prints the zones of an image, each on a line: its number, its state and how many of its blocks are \
+written.
+
+The states: empty, implicit and explicit (opened by a write, and by a command), closed, readonly, \
+full, offline.
+
+Of a file that is no image, `image refused N` tells the first fault.";
+
+const EXAMPLE: &str = "\
+Example:
+
+  zscli zones zoned.img";
+
+/// How the command stands on the command line.
+pub fn subcommand<'a>(alloc: Global) -> Result<Command<'a>, AllocError> {
+    let image = Arg::new(alloc, IMAGE).required(true).help("The image");
+    Command::new(alloc, NAME)
+        .about("Prints the states of an image's zones")
+        .long_about(LONG_ABOUT)
+        .after_help(EXAMPLE)
+        .arg(image)
+}
+
+/// Runs the command.
+pub fn zones<'a, F: Files, O: Write>(
+    alloc: Global,
+    matches: &ArgMatches<'a>,
+    files: &mut F,
+    out: &mut O,
+) -> Result<(), Failure<'a>>
+    ensures { F.made files.new ≡ F.made files.old }
+{
+    let image = image_file::load(alloc, required(matches, IMAGE), files)?;
+    printed(print(image.zones(), out))
+}
+
+/// Prints each zone on a line.
+fn print<O: Write>(zones: &[Zone], out: &mut O) -> io::Result<()> {
+    for (number, zone) in zones.iter().enumerate() {
+        let state = state_name(zone.state());
+        let written = zone.written();
+        writeln!(out, "{number} {state} {written}")?;
+    }
+    Ok(())
+}
+
+fn state_name(state: ZoneState) -> &'static str {
+    match state {
+        ZoneState::Empty => "empty",
+        ZoneState::ImplicitlyOpened => "implicit",
+        ZoneState::ExplicitlyOpened => "explicit",
+        ZoneState::Closed => "closed",
+        ZoneState::ReadOnly => "readonly",
+        ZoneState::Full => "full",
+        ZoneState::Offline => "offline",
+    }
+}

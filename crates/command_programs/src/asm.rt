@@ -1,0 +1,93 @@
+//! The command `asm`: text to a program.
+
+ghost use Rattle.std.specs.Prelude.{◌≡◌, OnOk, OnErr};
+ghost use Rattle.ebpf_asm.specs.Assembly.{assembled};
+ghost use Rattle.command_files.specs.Made.{MakesOne};
+ghost use Rattle.command_programs.specs.Made.{MakesProgram};
+ghost use Rattle.command_programs.specs.Told.{told_of_assembly};
+
+use clap::{Arg, ArgMatches, Command};
+use command_failure::Failure;
+use command_files::arguments::required;
+use command_files::{Files, read, write};
+use ebpf_asm::{AssembleError, assemble};
+use std::alloc::{AllocError, Global};
+
+/// The command's name.
+pub const NAME: &str = "asm";
+
+const TEXT: &str = "TEXT";
+
+const PROGRAM: &str = "PROGRAM";
+
+const LONG_ABOUT: &str = "\
+Assembles text to a program, a file of eBPF instructions (RFC 9669).
+
+A line has an optional label, as `next:`, and an optional instruction: a mnemonic, and operands \
+between commas. `;` begins a comment. Of text that isn't so, `assembly refused LINE KIND` tells the \
+first fault, and no file is written.";
+
+const EXAMPLE: &str = "\
+Example: a program that emits the first 8 bytes of each block whose first byte is 7.
+
+  ldxb r6, [r2]
+  jne r6, 7, done
+  mov r1, r2
+  mov r2, 8
+  call 1
+  mov r0, 0
+  done: exit";
+
+/// How the command stands on the command line.
+pub fn subcommand<'a>(alloc: Global) -> Result<Command<'a>, AllocError> {
+    let text = Arg::new(alloc, TEXT)
+        .required(true)
+        .help("The assembly text");
+    let program = Arg::new(alloc, PROGRAM)
+        .required(true)
+        .help("The program that is written");
+    Command::new(alloc, NAME)
+        .about("Assembles text to a program")
+        .long_about(LONG_ABOUT)
+        .after_help(EXAMPLE)
+        .arg(text)?
+        .arg(program)
+}
+
+/// Runs the command.
+pub fn asm<'a, F: Files>(
+    alloc: Global,
+    matches: &ArgMatches<'a>,
+    files: &mut F,
+) -> Result<(), Failure<'a>>
+    ensures made { OnOk result (MakesOne (F.made files.old) (F.made files.new)) }
+    ensures kept { OnErr result (F.made files.new ≡ F.made files.old) }
+{
+    let text = read(required(matches, TEXT), files)?;
+    make(alloc, text.as_slice(), required(matches, PROGRAM), files)
+}
+
+/// Makes a file of the program that a text assembles to.
+fn make<'a, F: Files>(
+    alloc: Global,
+    text: &[u8],
+    path: &'a str,
+    files: &mut F,
+) -> Result<(), Failure<'a>>
+    ensures program { OnOk result (MakesProgram (F.made files.old) (F.made files.new) path.now (assembled text.now)) }
+    ensures made { OnOk result (MakesOne (F.made files.old) (F.made files.new)) }
+    ensures kept { OnErr result (F.made files.new ≡ F.made files.old) }
+{
+    let program = assemble(alloc, text).map_err(|error| refused(error))?;
+    write(path, program.as_slice(), files)
+}
+
+/// What the user is told of text that is no program.
+fn refused<'a>(error: AssembleError) -> Failure<'a>
+    ensures { result ≡ told_of_assembly error }
+{
+    match error {
+        AssembleError::Fault(fault) => Failure::AssemblyRefused(fault.line, fault.kind.number()),
+        AssembleError::Memory => Failure::NoMemory,
+    }
+}

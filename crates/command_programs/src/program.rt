@@ -1,0 +1,31 @@
+//! Programs in files.
+
+ghost use Rattle.std.specs.Prelude.{◌≡◌};
+ghost use Rattle.command_programs.specs.Told.{told_of_program};
+
+use command_failure::Failure;
+use command_files::{Files, read};
+use ebpf_decode::{DecodeFault, Program, decode};
+use std::alloc::Global;
+
+/// The program that the bytes of a file spell.
+pub(crate) fn read_program<'a, F: Files>(
+    alloc: Global,
+    path: &'a str,
+    files: &mut F,
+) -> Result<Program, Failure<'a>>
+    ensures { F.made files.new ≡ F.made files.old }
+{
+    let file = read(path, files)?;
+    decode(alloc, file.as_slice()).map_err(|fault| refused(fault))
+}
+
+/// What the user is told of bytes that are no program.
+fn refused<'a>(fault: DecodeFault) -> Failure<'a>
+    ensures { result ≡ told_of_program fault }
+{
+    match fault {
+        DecodeFault::Fault(fault) => Failure::ProgramRefused(fault.slot, fault.kind.number()),
+        DecodeFault::Memory => Failure::NoMemory,
+    }
+}

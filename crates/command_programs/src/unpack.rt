@@ -1,0 +1,78 @@
+//! The command `unpack`: the records of output blocks.
+
+ghost use Rattle.std.specs.Prelude.{◌≡◌};
+ghost use Rattle.command_programs.specs.Told.{told_of_frame};
+
+use crate::sizes::block_size;
+use clap::{Arg, ArgMatches, Command};
+use command_failure::{Failure, printed};
+use command_files::arguments::{block_option, number, required};
+use command_files::{Files, read};
+use emit_append::{UnpackFault, unpack as records_of};
+use std::alloc::{AllocError, Global};
+use std::io::Write;
+
+/// The command's name.
+pub const NAME: &str = "unpack";
+
+const FILE: &str = "FILE";
+
+const BLOCK: &str = "block";
+
+const LONG_ABOUT: &str = "\
+Prints the records of a file of output blocks, each in hexadecimal on a line of its own.
+
+Programs emit records, which the device packs into whole blocks: each record is a frame, its length \
+in two bytes (the lower one first) and then its bytes. Frames lie from a block's front on, and what \
+lies behind the last is zeros. Of a file with a byte that isn't so, nothing is printed, and \
+`frame refused AT` tells the lowest such byte.";
+
+const EXAMPLE: &str = "\
+Example: a block that begins 0300616263 holds the record 616263.
+
+  zscli unpack blocks.bin --block 512";
+
+/// How the command stands on the command line.
+pub fn subcommand<'a>(alloc: Global) -> Result<Command<'a>, AllocError> {
+    let file = Arg::new(alloc, FILE)
+        .required(true)
+        .help("The output blocks");
+    let block = block_option(alloc, BLOCK);
+    Command::new(alloc, NAME)
+        .about("Prints the records of output blocks")
+        .long_about(LONG_ABOUT)
+        .after_help(EXAMPLE)
+        .arg(file)?
+        .arg(block)
+}
+
+/// Runs the command.
+pub fn unpack<'a, F: Files, O: Write>(
+    alloc: Global,
+    matches: &ArgMatches<'a>,
+    files: &mut F,
+    out: &mut O,
+) -> Result<(), Failure<'a>>
+    ensures { F.made files.new ≡ F.made files.old }
+{
+    let block = number(matches, BLOCK)?;
+    let file = read(required(matches, FILE), files)?;
+    let block = block_size(block as usize)?;
+    let records = records_of(alloc, file.as_slice(), block).map_err(|fault| refused(fault))?;
+    let mut text = String::new(alloc);
+    for record in records.iter() {
+        text.push_str(hex::encode(alloc, record.as_slice())?.as_str())?;
+        text.push_str("\n")?;
+    }
+    printed(out.write_all(text.as_bytes()))
+}
+
+/// What the user is told of bytes that are no output blocks.
+fn refused<'a>(fault: UnpackFault) -> Failure<'a>
+    ensures { result ≡ told_of_frame fault }
+{
+    match fault {
+        UnpackFault::At(byte) => Failure::FrameRefused(byte),
+        UnpackFault::Memory => Failure::NoMemory,
+    }
+}

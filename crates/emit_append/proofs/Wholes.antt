@@ -1,0 +1,72 @@
+-- Output blocks are whole, and hold bytes.
+use Rattle.std.proofs.Common.{◌≡◌, ℕ, zero, suc, ◌-◌, ◌≤◌, List, [], ◌∷◌, ◌++◌, length, map, replicate, arith, lit<, ⊎_elim}
+use Rattle.std.specs.List.{AllByRecursion}
+use Rattle.std.proofs.lemmas.Bool.{cases_lt}
+use Rattle.emit_append.specs.OutputBlocks.{AreAllBytes, AreBytes, AreWhole, OutputBlocksAreBytes, OutputBlocksAreWhole}
+use Rattle.emit_append.specs.Packed.{FitBlock}
+use Rattle.emit_append.specs.Packing.{all_but_last, filled, laid_out, last_or_empty, padded}
+use Rattle.emit_append.proofs.Layouts.{laid-behind, laid-beginning}
+use Rattle.emit_append.proofs.Padding.{length-padded}
+use Rattle.emit_append.proofs.Parts.{filled_fits}
+
+-- what holds of each in a list holds of all but the last, and of the last
+module _ (P : List ℕ → Type 0) where
+  but_last : (xs : List (List ℕ)) → AllByRecursion P xs → AllByRecursion P (all_but_last xs)
+  but_last [] all = tt
+  but_last (x ∷ []) all = tt
+  but_last (x ∷ y ∷ ys) all = (all.0, but_last (y ∷ ys) all.1)
+
+  of_last : (xs : List (List ℕ)) → P [] → AllByRecursion P xs → P (last_or_empty xs)
+  of_last [] none all = none
+  of_last (x ∷ []) none all = all.0
+  of_last (x ∷ y ∷ ys) none all = of_last (y ∷ ys) none all.1
+
+padded-whole : (block : ℕ) (blocks : List (List ℕ)) → FitBlock block blocks → AreWhole block (map (padded block) blocks)
+padded-whole block [] fit = tt
+padded-whole block (bytes ∷ blocks) fit = (length-padded block bytes fit.0, padded-whole block blocks fit.1)
+
+pub output_blocks_are_whole : OutputBlocksAreWhole
+output_blocks_are_whole block groups fit =
+    let fits = filled_fits block groups fit in
+    let whole = padded-whole block (filled block groups) fits in
+    record {
+      blocks = whole;
+      released_blocks = but_last (λ bytes. length bytes ≡ block) (map (padded block) (filled block groups)) whole;
+      pending = of_last (λ bytes. length bytes ≤ block) (filled block groups) (omega arith) fits;
+    }
+
+bytes-append : (xs ys : List ℕ) → AreBytes xs → AreBytes ys → AreBytes (xs ++ ys)
+bytes-append [] ys first second = second
+bytes-append (x ∷ xs) ys first second = (first.0, bytes-append xs ys first.1 second)
+
+zeros-bytes : (count : ℕ) → AreBytes (replicate count 0)
+zeros-bytes zero = tt
+zeros-bytes (suc count) = (lit< tt, zeros-bytes count)
+
+padded-bytes : (block : ℕ) (blocks : List (List ℕ)) → AreAllBytes blocks → AreAllBytes (map (padded block) blocks)
+padded-bytes block [] are = tt
+padded-bytes block (bytes ∷ blocks) are =
+    (bytes-append bytes (replicate (block - length bytes) 0) are.0 (zeros-bytes (block - length bytes)), padded-bytes block blocks are.1)
+
+-- a layout's bytes are those of its groups
+laid-bytes : (block room : ℕ) (groups : List (List ℕ)) → AreAllBytes groups → AreBytes (laid_out block room groups).begun × AreAllBytes (laid_out block room groups).later
+laid-bytes block room [] are = (tt, tt)
+laid-bytes block room (g ∷ gs) are =
+    ⊎_elim
+    (λ large.
+    let rest = laid-bytes block (block - length g) gs are.1 in
+    rw (laid-beginning block room g gs large) (tt, (bytes-append g _ are.0 rest.0, rest.1)))
+    (λ small.
+    let rest = laid-bytes block (room - length g) gs are.1 in
+    rw (laid-behind block room g gs small) (bytes-append g _ are.0 rest.0, rest.1))
+    (cases_lt room (length g))
+
+pub output_blocks_are_bytes : OutputBlocksAreBytes
+output_blocks_are_bytes block groups are =
+    let filling = (laid-bytes block 0 groups are).1 in
+    let whole = padded-bytes block (filled block groups) filling in
+    record {
+      blocks = whole;
+      released_blocks = but_last AreBytes (map (padded block) (filled block groups)) whole;
+      pending = of_last AreBytes (filled block groups) tt filling;
+    }
