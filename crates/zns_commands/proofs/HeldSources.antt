@@ -1,5 +1,5 @@
 -- That a zone which a run reads from keeps its blocks, through every command and fault under the run's hold.
-use Rattle.std.proofs.Common.{◌≡◌, ℕ, zero, suc, Bool, true, false, cond, List, [], ◌∷◌, length, set, map, get_or, Option, None, Result, Ok, Err, refl, ap, sym, subst}
+use Rattle.std.proofs.Common.{◌≡◌, ℕ, zero, suc, Bool, true, false, cond, List, [], ◌∷◌, length, map, get_or, Option, None, Result, Ok, Err, refl, sym, subst}
 use Rattle.std.specs.Prelude.{nat_lt, ◌&&◌, ◌||◌}
 use Rattle.zone_state.specs.Transition.{transition}
 use Rattle.zone_state.specs.Zone.{fault_refusal, state_of_fault}
@@ -23,20 +23,11 @@ use Rattle.zns_commands.specs.Resources.{why_not, closed, arrived, moved_to}
 use Rattle.zns_commands.specs.Send.{send_checks, send_effect, zone_plan, takes, swept}
 use Rattle.zns_commands.specs.Write.{write_plan}
 use Rattle.zns_commands.proofs.HeldZones.{not_taken, not_refused, not_held}
-use Rattle.zns_commands.proofs.KeptBlocks.{grows_not, grows_on, closed_grows, written_grows}
+use Rattle.zns_commands.proofs.KeptBlocks.{grows_not, grows_on, set_grows_at, closed_grows, written_grows}
 use Rattle.zns_commands.proofs.Meanings.{after_command}
 use Rattle.zns_commands.proofs.MovedZones.{after_action}
 use Rattle.zns_commands.proofs.PassedChecks.{passed}
 use Rattle.zns_commands.proofs.Untouched.{neither, effect_left}
-
-set_grows_at : (zones : List ZoneBlocks) (y z : ℕ) (zone : ZoneBlocks)
-    → (y ≡ z → Grows (get_or zones z no_zone).blocks zone.blocks)
-    → Grows (get_or zones z no_zone).blocks (get_or (set zones y zone) z no_zone).blocks
-set_grows_at [] y z zone grows = grows_not (get_or [] z no_zone).blocks
-set_grows_at (x ∷ xs) zero zero zone grows = grows refl
-set_grows_at (x ∷ xs) zero (suc z) zone grows = grows_not (get_or xs z no_zone).blocks
-set_grows_at (x ∷ xs) (suc y) zero zone grows = grows_not x.blocks
-set_grows_at (x ∷ xs) (suc y) (suc z) zone grows = set_grows_at xs y z zone (λ same. grows (ap suc same))
 
 -- a zone that comes into a state that isn't cleared keeps its blocks
 arrived_keeps : (to : ZoneState) (zone : ZoneBlocks) → is_cleared to ≡ false → Grows zone.blocks (arrived to zone).blocks
@@ -91,7 +82,7 @@ module _ (ns : ZonedNamespace) (holds : Holds) (d : ℕ) (held : is_source holds
       let zone = arrived to (zone_at m z) in
       grows_on (zone_at ns d).blocks (zone_at m d).blocks (zone_at (with_zone m z zone) d).blocks (closed_grows ns gives d)
       (set_grows_at m.zones z d zone
-      (λ same. subst (λ (n : ℕ). Grows (zone_at m n).blocks zone.blocks) same (arrived_keeps to (zone_at m z) (keeps same))))
+      (λ same is. subst (λ (n : ℕ). Grows (zone_at m n).blocks zone.blocks) same (arrived_keeps to (zone_at m z) (keeps same))))
 
   one_kept : (lba : ℕ) (a : Action) (input : List ℕ) → first_refused (send_checks ns holds lba a false input) ≡ None
       → Kept (send_effect ns holds lba a false)

@@ -1,5 +1,5 @@
 -- That a zone which isn't cleared keeps its blocks through each step.
-use Rattle.std.proofs.Common.{◌≡◌, ℕ, zero, suc, Bool, true, false, cond, List, [], ◌∷◌, ◌++◌, get_or, set, map, Option, Some, None, Result, Ok, Err, refl, ap, sym, ◌∙◌, append_assoc}
+use Rattle.std.proofs.Common.{◌≡◌, ℕ, zero, suc, Bool, true, false, cond, List, [], ◌∷◌, ◌++◌, get_or, set, map, Option, Some, None, Result, Ok, Err, refl, ap, sym, subst, ◌∙◌, append_assoc}
 use Rattle.std.proofs.lemmas.List.{append-nil, length-map, length-set}
 use Rattle.zone_state.specs.Zone.{state_of_fault}
 use Rattle.zone_state.specs.declared.action.Action.{Action}
@@ -37,16 +37,26 @@ grows_on a b c first second = record {
   is = second.is ∙ (ap (λ (blocks : List (List ℕ)). blocks ++ second.more) first.is ∙ append_assoc a first.more second.more);
 }
 
--- a zone in the place of one that it keeps the blocks of, unless its state says that it doesn't
+-- a zone in the place of one that it keeps the blocks of
+pub set_grows_at : (zones : List ZoneBlocks) (y z : ℕ) (zone : ZoneBlocks)
+    → (y ≡ z → get_or (set zones y zone) z no_zone ≡ zone → Grows (get_or zones z no_zone).blocks zone.blocks)
+    → Grows (get_or zones z no_zone).blocks (get_or (set zones y zone) z no_zone).blocks
+set_grows_at [] y z zone grows = grows_not (get_or [] z no_zone).blocks
+set_grows_at (x ∷ xs) zero zero zone grows = grows refl refl
+set_grows_at (x ∷ xs) zero (suc z) zone grows = grows_not (get_or xs z no_zone).blocks
+set_grows_at (x ∷ xs) (suc y) zero zone grows = grows_not x.blocks
+set_grows_at (x ∷ xs) (suc y) (suc z) zone grows = set_grows_at xs y z zone (λ same is. grows (ap suc same) is)
+
+-- the same of one whose state may say that it keeps none
 set_grows : (clears : ZoneState → Bool) (zones : List ZoneBlocks) (y z : ℕ) (zone : ZoneBlocks)
     → (clears zone.state ≡ false → Grows (get_or zones y no_zone).blocks zone.blocks)
     → clears (get_or (set zones y zone) z no_zone).state ≡ false
     → Grows (get_or zones z no_zone).blocks (get_or (set zones y zone) z no_zone).blocks
-set_grows clears [] y z zone grows stays = grows_not (get_or [] z no_zone).blocks
-set_grows clears (x ∷ xs) zero zero zone grows stays = grows stays
-set_grows clears (x ∷ xs) zero (suc z) zone grows stays = grows_not (get_or xs z no_zone).blocks
-set_grows clears (x ∷ xs) (suc y) zero zone grows stays = grows_not x.blocks
-set_grows clears (x ∷ xs) (suc y) (suc z) zone grows stays = set_grows clears xs y z zone grows stays
+set_grows clears zones y z zone grows stays =
+    set_grows_at zones y z zone
+    (λ same is.
+    subst (λ (n : ℕ). Grows (get_or zones n no_zone).blocks zone.blocks) same
+    (grows (subst (λ (x : ZoneBlocks). clears x.state ≡ false) is stays)))
 
 pub closed_grows : (ns : ZonedNamespace) (gives : Option ℕ) (z : ℕ) → Grows (zone_at ns z).blocks (zone_at (closed ns gives) z).blocks
 closed_grows ns None z = grows_not (zone_at ns z).blocks
