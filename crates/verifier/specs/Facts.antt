@@ -1,5 +1,5 @@
 -- What is known at each slot of a program, by the operations of a domain (profile).
-use Rattle.std.specs.Prelude.{ℕ, ℤ, zero, suc, Bool, true, false, ◌+◌, ◌%◌, ◌^◌, ◌==◌, ◌++◌, List, [], ◌∷◌, drop, replicate, get_or, set, max, Option, Some, None, if◌then◌else◌, pos, ◌+ℤ◌}
+use Rattle.std.specs.Prelude.{ℕ, ℤ, zero, suc, Bool, true, false, ◌+◌, ◌%◌, ◌^◌, ◌==◌, ◌++◌, List, [], ◌∷◌, drop, replicate, get_or, set, max, Option, Some, None, if◌then◌else◌, pos}
 use Rattle.std.specs.Ordering.{int_eq}
 use Rattle.ebpf_decode.specs.Instruction.{distance_of, immediate_word, target}
 use Rattle.ebpf_decode.specs.Program.{instruction_at}

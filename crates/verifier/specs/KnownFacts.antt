@@ -1,5 +1,5 @@
 -- What is known at a slot is made of facts.
-use Rattle.std.proofs.Common.{ℕ, zero, suc, ◌≡◌, ◌+◌, ◌<◌, ◌%◌, ℤ, ◌^◌, ◌++◌, Bool, true, false, List, [], ◌∷◌, drop, get_or, replicate, set, Option, Some, None, IfSome, arith, lit<, subst}
+use Rattle.std.proofs.Common.{ℕ, zero, suc, ◌≡◌, ◌<◌, ◌%◌, ℤ, ◌^◌, ◌++◌, Bool, true, false, List, [], ◌∷◌, drop, get_or, replicate, set, Option, Some, None, IfSome, arith, lit<, subst}
 use Rattle.std.proofs.Math.Nat.{mod-lt}
 use Rattle.std.specs.List.{AllByRecursion}
 use Rattle.std.specs.Prelude.{◌==◌, if◌then◌else◌}
@@ -16,7 +16,7 @@ use Rattle.interp.specs.Word.{low_bits}
 use Rattle.program_interface.specs.declared.area.Area.TheVariants.{Context, Block, Stack, Scratch}
 use Rattle.interp.specs.declared.word.Arithmetic.TheVariants as word
 use Rattle.reg_domain.specs.Domain.{GiveFacts, Operations}
-use Rattle.verifier.specs.Facts.{after_emit, along, compared_fact, entry_facts, fact, facts_at, facts_at_target, facts_behind, given_below, gives, is_register, join_registers, leads, merge, slot_behind, source_fact, with_both, with_fact}
+use Rattle.verifier.specs.Facts.{along, compared_fact, entry_facts, fact, facts_at, facts_at_target, facts_behind, given_below, gives, is_register, join_registers, leads, merge, slot_behind, source_fact, with_both, with_fact}
 use Rattle.verifier.specs.declared.facts.Facts.{Facts}
 
 -- ---- the words of an instruction
@@ -170,9 +170,19 @@ module _ {D : Type 0} {IsFact : D → Type 0} {operations : Operations D} (give 
   -- ---- slots
   entry_are : AreFacts IsFact (entry_facts operations)
   entry_are =
-      let none = give.constant 0 (lit< tt) in
-      (none, (give.pointer Context 0 (lit< tt), (give.pointer Block 0 (lit< tt), (give.pointer Scratch 0 (lit< tt),
-      (none, (none, (none, (none, (none, (none, (give.pointer Stack 512 (lit< tt), tt)))))))))))
+      let none = give.constant 0 (lit< tt) in (
+        none,
+        (
+          give.pointer Context 0 (lit< tt),
+          (
+            give.pointer Block 0 (lit< tt),
+            (
+              give.pointer Scratch 0 (lit< tt),
+              (none, (none, (none, (none, (none, (none, (give.pointer Stack 512 (lit< tt), tt))))))),
+            ),
+          ),
+        ),
+      )
 
   gives_facts : (block : ℕ) (i : Option Insn) (slot : ℕ) (facts : Option (Facts D)) (other : ℕ) (sofar : Option (Facts D))
       → SomeAreFacts IsFact facts → SomeAreFacts IsFact sofar

@@ -1,5 +1,5 @@
 -- Laws of the definitions.
-use Rattle.std.specs.Prelude.{ℕ, ◌≡◌, ◌<◌, List, length, Option, Some, None}
+use Rattle.std.specs.Prelude.{◌≡◌, ◌<◌, List, length, Option, Some, None}
 use Rattle.ebpf_decode.specs.Program.{IsProgram}
 use Rattle.ebpf_decode.specs.declared.insn.Insn.{Insn}
 use Rattle.interp.specs.TrapFree.{NeverTraps}

@@ -1,6 +1,5 @@
 -- Words that belong to the facts of their registers.
-use Rattle.std.proofs.Common.{ℕ, ℤ, zero, suc, ◌%◌, ◌≡◌, ◌<◌, ◌^◌, List, [], ◌∷◌, ◌++◌, get_or, set, drop, replicate, true, refl, subst, arith, lit<}
-use Rattle.std.proofs.Math.Nat.{mod-lt}
+use Rattle.std.proofs.Common.{ℕ, zero, suc, ◌%◌, ◌≡◌, ◌<◌, ◌^◌, List, [], ◌∷◌, ◌++◌, get_or, set, drop, replicate, true, refl, subst, arith}
 use Rattle.std.proofs.lemmas.Bool.{eqb-true}
 use Rattle.std.proofs.lemmas.List.{set-get_or}
 use Rattle.ebpf_decode.specs.Instruction.{immediate_word}

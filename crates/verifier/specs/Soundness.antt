@@ -1,5 +1,5 @@
 -- A program that is accepted over a sound domain never traps.
-use Rattle.std.specs.Prelude.{ℕ, zero, suc, ◌≡◌, ◌+◌, ◌^◌, ◌<◌, ◌≤◌, Bool, true, false, List, length, drop, count_by, is_some, Option, Some, None}
+use Rattle.std.specs.Prelude.{ℕ, zero, suc, ◌≡◌, ◌+◌, ◌<◌, ◌≤◌, Bool, true, false, List, length, drop, count_by, is_some, Option, Some, None}
 use Rattle.std.proofs.Common.{arith, inl, inr, lit<, refl, subst, ◌∙◌}
 use Rattle.std.proofs.lemmas.Bool.{cases_lt}
 use Rattle.ebpf_decode.specs.Program.{instruction_at, instruction_count}
@@ -117,12 +117,12 @@ module _ {D : Type 0} {IsFact : D → Type 0} {contains : D → ℕ → Type 0} 
     next i facts s holds goes begins known there =
         let stays = kept program sizes.limit s (after s i) i holds.is goes in
         record {
-      is = stays;
-      block_long = block_kept s i holds.is ∙ holds.block_long;
-      here = leads program sizes.limit s (after s i) i goes;
-      known = arrives sound (after s i) stays sizes.block program i facts s begins known there;
-      group = within_limit program sizes.limit s (after s i) i holds.group goes;
-    }
+          is = stays;
+          block_long = block_kept s i holds.is ∙ holds.block_long;
+          here = leads program sizes.limit s (after s i) i goes;
+          known = arrives sound (after s i) stays sizes.block program i facts s begins known there;
+          group = within_limit program sizes.limit s (after s i) i holds.group goes;
+        }
 
     -- ---- a run, after n steps of at most so many
     module _ (most n : ℕ) (s : State) (holds : Holds s) (one_left : n < most) (more : State → Run)

@@ -166,10 +166,7 @@ fn emits_amiss<D: Domain>(block: BlockSize, facts: &Facts<D>) -> bool
     ensures { result ≡ (least_emitted D.operations facts.now == 0 || is_none (area_of D.operations block facts.now 1 (pos 0) (most_emitted D.operations facts.now))) }
 {
     let bounds = facts.registers[2].bounds();
-    bounds.low == 0
-        || facts.registers[1]
-            .access(block, 0, bounds.high)
-            .is_none()
+    bounds.low == 0 || facts.registers[1].access(block, 0, bounds.high).is_none()
 }
 
 /// May a frame take the group over its limit?

@@ -1,5 +1,7 @@
 //! Programs that are accepted or refused, worked out by hand from the rules.
 
+ghost use Rattle.std.specs.Prelude.{◌≡◌, IfOk};
+
 use crate::{VerifyFault, verify};
 use ebpf_decode::{Program, decode};
 use program_interface::{BlockSize, RunSizes};
@@ -53,7 +55,9 @@ fn program(alloc: Global, slots: &[u64]) -> Result<Program, Fail> {
 }
 
 /// The sizes of runs over blocks of so many bytes, with groups of at most `limit`.
-fn sizes(limit: u32, block: u32) -> Result<RunSizes, Fail> {
+fn sizes(limit: u32, block: u32) -> Result<RunSizes, Fail>
+    ensures { IfOk result (λ sizes. (sizes.limit ≡ limit) × (sizes.block ≡ block)) }
+{
     let Some(block) = BlockSize::new(block) else {
         return Err(Fail::from("no block size"));
     };

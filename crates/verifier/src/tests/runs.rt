@@ -80,7 +80,11 @@ fn with_every_check_and_with_none(rt: HostRuntime) -> Result<(), Fail> {
 
 #[test]
 fn a_frame_as_long_as_the_block_says(rt: HostRuntime) -> Result<(), Fail> {
-    let verified = verify::<Intervals>(rt.alloc(), program(rt.alloc(), &GROWING)?, sizes(10, 512)?)?;
+    let verified = verify::<Intervals>(
+        rt.alloc(),
+        program(rt.alloc(), &GROWING)?,
+        sizes(10, 512)?,
+    )?;
     let mut block = [0; 512];
     block[0] = 3;
     let (context, mut scratch, mut group) = ([0; 32], [0; 1024], [9; 10]);

@@ -108,7 +108,7 @@ pub fn zone(code: u64, lowest: u64, pointer: u64) -> Descriptor {
 }
 
 /// Four zones of 8 blocks of 512 bytes, 6 of them writable; 2 zones may be open and 3 active.
-fn namespace(alloc: Global) -> Result<Namespace, Fail> {
+pub fn namespace(alloc: Global) -> Result<Namespace, Fail> {
     let limits = Limits {
         open_limit: 2,
         active_limit: 3,
