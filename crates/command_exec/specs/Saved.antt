@@ -2,7 +2,8 @@
 use Rattle.std.specs.Prelude.{◌≡◌, ◌≤◌, ℕ, List, length, take, Option}
 use Rattle.image_store.specs.Namespace.{ZonedNamespace}
 use Rattle.image_store.specs.Text.{text}
-use Rattle.runner.specs.Events.{namespace_after}
+use Rattle.runner.specs.Events.{state_after}
+use Rattle.runner.specs.State.{device_of}
 use Rattle.runner.specs.declared.event.Event.{Event}
 use Rattle.command_files.specs.Made.{Made, then_made}
 
@@ -11,4 +12,4 @@ pub record SavesFirst (events : List Event) (image : ZonedNamespace) (path : Lis
   pub done : ℕ
   pub some : 1 ≤ done
   pub within : done ≤ length events
-  pub made : after ≡ then_made before path (text (namespace_after (take done events) image))
+  pub made : after ≡ then_made before path (text (state_after (take done events) (device_of image)).namespace)

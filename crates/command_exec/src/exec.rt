@@ -2,7 +2,8 @@
 
 ghost use Rattle.std.specs.Prelude.{◌≡◌, ◌≢◌, OnOk, IfErr};
 ghost use Rattle.image_store.specs.Text.{text};
-ghost use Rattle.runner.specs.Events.{namespace_after};
+ghost use Rattle.runner.specs.Events.{state_after};
+ghost use Rattle.runner.specs.State.{device_of};
 ghost use Rattle.command_files.specs.Made.{MakesOne, then_made};
 ghost use Rattle.command_exec.specs.Saved.{SavesFirst};
 ghost use Rattle.command_exec.specs.Told.{told_of_line};
@@ -116,7 +117,7 @@ fn run<'a, F: Files, O: Write>(
     files: &mut F,
     out: &mut O,
 ) -> Result<(), Failure<'a>>
-    ensures saved { OnOk result (F.Writer.tells → F.made files.new ≡ then_made (F.made files.old) path.now (text (namespace_after events.now image))) }
+    ensures saved { OnOk result (F.Writer.tells → F.made files.new ≡ then_made (F.made files.old) path.now (text (state_after events.now (device_of image)).namespace)) }
     ensures stopped { result ≡ Err Failure.CannotPrint → F.Writer.tells → SavesFirst events.now image path.now (F.made files.old) (F.made files.new) }
     ensures made { OnOk result (MakesOne (F.made files.old) (F.made files.new)) }
     ensures one { result ≡ Err Failure.CannotPrint → MakesOne (F.made files.old) (F.made files.new) }

@@ -1,13 +1,16 @@
 use Rattle.std.proofs.Common.{ap, ◌∙◌, take}
-use Rattle.runner.specs.Events.{namespace_after}
+use Rattle.runner.specs.State.{DeviceState, device_of}
+use Rattle.runner.specs.Events.{state_after}
 use Rattle.command_exec.proofs.Saving.{saves}
 use Rattle.command_exec.proofs.exec.run.Goals as goal
 
 pub returns-in-Ok-clause-saved : goal.returns-in-Ok-clause-saved
 returns-in-Ok-clause-saved g c = λ tells.
-    saves (g.F.Files.made c.args.files.now) (g.F.Files.made c.save.new.files) c.args.path.now c.image-2.result.now (namespace_after c.args.events.now c.args.image)
+    saves (g.F.Files.made c.args.files.now) (g.F.Files.made c.save.new.files) c.args.path.now c.image-2.result.now (state_after c.args.events.now (device_of c.args.image)).namespace
     (c.in_ok-save.ensures.saved tells)
-    (c.image-2.ensures ∙ c.in-Ok.ensures.namespace ∙ ap (namespace_after c.args.events.now) c.new-device.ensures)
+    (c.image-2.ensures
+        ∙ ap (λ (device : DeviceState). device.namespace) c.in-Ok.ensures.state
+        ∙ ap (λ (device : DeviceState). (state_after c.args.events.now device).namespace) c.new-device.ensures)
 
 pub returns-clause-stopped : goal.returns-clause-stopped
 returns-clause-stopped g c = λ _ tells.
@@ -17,7 +20,9 @@ returns-clause-stopped g c = λ _ tells.
       done = done;
       some = stop.some;
       within = stop.within;
-      made = saves (g.F.Files.made c.args.files.now) (g.F.Files.made c.save.new.files) c.args.path.now c.image-2.result.now (namespace_after (take done c.args.events.now) c.args.image)
+      made = saves (g.F.Files.made c.args.files.now) (g.F.Files.made c.save.new.files) c.args.path.now c.image-2.result.now (state_after (take done c.args.events.now) (device_of c.args.image)).namespace
           (c.in_ok-save.ensures.saved tells)
-          (c.image-2.ensures ∙ stop.namespace ∙ ap (namespace_after (take done c.args.events.now)) c.new-device.ensures);
+          (c.image-2.ensures
+              ∙ ap (λ (device : DeviceState). device.namespace) stop.state
+              ∙ ap (λ (device : DeviceState). (state_after (take done c.args.events.now) device).namespace) c.new-device.ensures);
     }
