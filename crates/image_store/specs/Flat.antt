@@ -37,7 +37,8 @@ pub record IsFlat (s : Shape) (zones : List ZoneRecord) (bytes : List ℕ) : Typ
   pub capacities : (z : ℕ) → z < length zones → (get_or zones z no_record).capacity ≡ s.capacity
   pub fits : (z : ℕ) → z < length zones → IsZone (get_or zones z no_record).state (get_or zones z no_record).written s.capacity
 
--- the parts of an image fit one another: the counts are those of the zones, and within the limits
+-- the parts of an image fit one another: the counts are those of the zones, the open and active zones
+-- are within the limits, and the blocks are of bytes
 pub record IsImage (s : Shape) (zones : List ZoneRecord) (counts : Counts) (bytes : List ℕ) : Type 0 where
   pub flat : IsFlat s zones bytes
   pub counted : counts ≡ counts_of zones

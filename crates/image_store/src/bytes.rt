@@ -11,7 +11,7 @@ pub fn are_zeros(bytes: &[u8]) -> bool
     bytes.iter().all(|byte| *byte == 0)
 }
 
-/// Does nothing: what it ensures is what a list of bytes says of each.
+/// Does nothing: what it ensures is that each of them is a byte.
 pub fn are_bytes(bytes: &[u8])
     ensures { AreBytes bytes.now }
 {}

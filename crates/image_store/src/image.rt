@@ -153,8 +153,8 @@ impl Image {
         self.blocks(place.zone, place.offset, 1)
     }
 
-    /// Puts a zone in another state, one that allows the zone's written blocks and that the limits
-    /// allow. The blocks stay.
+    /// Puts a zone in another state, one that allows the zone's written blocks and with which the open
+    /// and active zones are within the limits. The blocks stay.
     pub fn set_state(&mut self, zone: u32, to: ZoneState)
         requires inside { zone < length self.old.zones }
         requires fits { IsZone to (length (zone_at self.old zone).blocks) self.old.capacity }
@@ -201,8 +201,8 @@ impl Image {
         );
     }
 
-    /// Writes whole blocks, one or more, at the write pointer of a zone that takes them, where the
-    /// limits allow that the zone is open.
+    /// Writes whole blocks, one or more, at the write pointer of a zone that takes them. With the
+    /// state in which the zone then is, the open and active zones have to be within the limits.
     pub fn append(&mut self, zone: u32, bytes: &[u8])
         requires inside { zone < length self.old.zones }
         requires some { 1 ≤ block_count self.old.block bytes.now }

@@ -70,10 +70,6 @@ abbrev pub state_after : List Event → DeviceState → DeviceState
 state_after [] state = state
 state_after (e ∷ es) state = state_after es (happens state e).state
 
--- the namespace after events that happen to a device which begins with this one
-abbrev pub namespace_after : List Event → ZonedNamespace → ZonedNamespace
-namespace_after events ns = (state_after events (device_of ns)).namespace
-
 -- so many events are done, and the answer to the last of them was refused; those before it were taken
 pub record HasStopped (events : List Event) (old new : DeviceState) (before taken : Option (List Taken)) (done : ℕ) : Type 0 where
   pub some : 1 ≤ done
