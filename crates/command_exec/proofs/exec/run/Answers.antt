@@ -9,8 +9,8 @@ returns-in-Ok-clause-saved g c = λ tells.
     saves (g.F.Files.made c.args.files.now) (g.F.Files.made c.save.new.files) c.args.path.now c.image-2.result.now (state_after c.args.events.now (device_of c.args.image)).namespace
     (c.in_ok-save.ensures.saved tells)
     (c.image-2.ensures
-        ∙ ap (λ (device : DeviceState). device.namespace) c.in-Ok.ensures.state
-        ∙ ap (λ (device : DeviceState). (state_after c.args.events.now device).namespace) c.new-device.ensures)
+    ∙ ap (λ (device : DeviceState). device.namespace) c.in-Ok.ensures.state
+    ∙ ap (λ (device : DeviceState). (state_after c.args.events.now device).namespace) c.new-device.ensures)
 
 pub returns-clause-stopped : goal.returns-clause-stopped
 returns-clause-stopped g c = λ _ tells.
@@ -23,6 +23,6 @@ returns-clause-stopped g c = λ _ tells.
       made = saves (g.F.Files.made c.args.files.now) (g.F.Files.made c.save.new.files) c.args.path.now c.image-2.result.now (state_after (take done c.args.events.now) (device_of c.args.image)).namespace
           (c.in_ok-save.ensures.saved tells)
           (c.image-2.ensures
-              ∙ ap (λ (device : DeviceState). device.namespace) stop.state
-              ∙ ap (λ (device : DeviceState). (state_after (take done c.args.events.now) device).namespace) c.new-device.ensures);
+          ∙ ap (λ (device : DeviceState). device.namespace) stop.state
+          ∙ ap (λ (device : DeviceState). (state_after (take done c.args.events.now) device).namespace) c.new-device.ensures);
     }
