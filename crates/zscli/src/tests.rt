@@ -6,8 +6,8 @@ use std::io::Write;
 use std::test::Fail;
 
 mod actions;
-mod command_files;
 mod command_lines;
+mod event_lines;
 mod images;
 mod memory;
 mod programs;
