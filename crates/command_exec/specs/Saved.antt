@@ -7,7 +7,8 @@ use Rattle.runner.specs.State.{device_of}
 use Rattle.runner.specs.declared.event.Event.{Event}
 use Rattle.command_files.specs.Made.{Made, then_made}
 
--- the file is made anew of the image that the first events leave, up to and with the one whose line could not be printed
+-- the file is made anew of the image that the first events leave, one or more of them. How many is not
+-- said: standard output doesn't tell what it took
 pub record SavesFirst (events : List Event) (image : ZonedNamespace) (path : List ℕ) (before after : Option (List Made)) : Type 0 where
   pub done : ℕ
   pub some : 1 ≤ done

@@ -38,7 +38,8 @@ pub fn command<F: Files, O: Write, E: Write>(
     }
 }
 
-/// Of the failures, that of standard output alone can leave a file that was made.
+/// Reads the words, and does the command that they name. Of the failures, that of standard output
+/// alone can leave a file that was made.
 fn run<'a, F: Files, O: Write>(
     alloc: Global,
     words: &'a [String],

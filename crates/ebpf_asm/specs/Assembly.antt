@@ -6,6 +6,7 @@ use Rattle.std.specs.Str.Lines.{lines}
 use Rattle.ebpf_decode.specs.declared.insn.Insn.{Insn}
 use Rattle.ebpf_decode.specs.declared.insn.Insn.TheVariants.{Jump, JumpLong, Branch}
 use Rattle.ebpf_decode.specs.Spelling.{spelling}
+use Rattle.program_interface.specs.declared.TheConstants.{MOST_SLOTS}
 use Rattle.ebpf_asm.specs.declared.fault.AsmFault.{AsmFault}
 use Rattle.ebpf_asm.specs.declared.fault.AssembleError.{AssembleError}
 use Rattle.ebpf_asm.specs.declared.fault.AssembleError.TheVariants as errors
@@ -42,7 +43,7 @@ label_map all name = slot_named (labels_from 0 all) name
 -- what is wrong with a line, apart from where its jump leads: its label is an earlier line's, or it can't be read, or its instruction ends behind slot 4095
 abbrev pub insn_fault : ℕ → Result (Option Insn) FaultKind → Option FaultKind
 insn_fault slots (Err kind) = Some kind
-insn_fault slots (Ok insn) = if nat_lt 4096 (slots + slots_of_insn (Ok insn)) then Some TooLong else None
+insn_fault slots (Ok insn) = if nat_lt MOST_SLOTS (slots + slots_of_insn (Ok insn)) then Some TooLong else None
 
 abbrev pub line_fault : Bool → ℕ → Result (Option Insn) FaultKind → Option FaultKind
 line_fault twice slots insn = if twice then Some LabelTwice else insn_fault slots insn

@@ -11,10 +11,9 @@ use crate::line::{Line, slots_of};
 use crate::number::{long, short};
 use crate::text::read_lines;
 use ebpf_decode::{Insn, push_instruction};
+use program_interface::MOST_SLOTS;
 use std::alloc::Global;
 use std::collections::BTreeMap;
-
-const MOST_SLOTS: usize = 4096;
 
 /// The bytes of the instructions that a text spells, in order; none for a text without instructions.
 ///
@@ -34,7 +33,7 @@ fn labels_of<'a>(alloc: Global, lines: &[Line<'a>]) -> Result<Labels<'a>, Assemb
     ensures fault { IfErr result (FaultIs (first_fault [] (line_views lines.now))) }
     ensures none { OnOk result (first_fault [] (line_views lines.now) ≡ None) }
     ensures labels { IfOk result (λ labels. (name : List ℕ) → label_in labels name ≡ label_map (line_views lines.now) name) }
-    ensures most { OnOk result (slot_count (line_views lines.now) ≤ 4096) }
+    ensures most { OnOk result (slot_count (line_views lines.now) ≤ MOST_SLOTS) }
 {
     let mut labels = BTreeMap::new(alloc);
     let mut slots = 0;
@@ -55,7 +54,7 @@ fn fault_of(
     slots: usize,
     insn: &Result<Option<Insn>, FaultKind>,
 ) -> Option<FaultKind>
-    requires { slots ≤ 4096 }
+    requires { slots ≤ MOST_SLOTS }
     ensures { result ≡ line_fault is_twice slots insn.now }
 {
     if is_twice {
@@ -87,7 +86,7 @@ fn bytes_of(
     lines: &[Line<'_>],
     labels: &Labels<'_>,
 ) -> Result<Vec<u8>, AssembleError>
-    requires { slot_count (line_views lines.now) ≤ 4096 }
+    requires { slot_count (line_views lines.now) ≤ MOST_SLOTS }
     ensures { Gives (λ bytes. bytes.items) result (bytes_from (label_in labels.now) 1 0 (line_views lines.now)) }
 {
     let mut bytes = Vec::new(alloc);

@@ -5,3 +5,4 @@ pub mod Programs
 pub mod Bytes
 pub mod Again
 pub mod Flats
+pub mod FaultSlots

@@ -10,6 +10,7 @@ use Rattle.ebpf_decode.specs.declared.insn.Insn.TheVariants.{LoadImmediate}
 use Rattle.ebpf_decode.specs.Program.{IsProgram, is_wide, slots_of}
 use Rattle.ebpf_decode.specs.Reading.{decoded, found_in, length_fault, read, read_slots, slots_at, then_read, unless_length, with_front}
 use Rattle.ebpf_decode.specs.Spelling.{Fits, first_slot, instructions_of, program_bytes, second_slot, slot_bytes, slots_spelled, spelling}
+use Rattle.program_interface.specs.declared.TheConstants.{MOST_SLOTS}
 use Rattle.std.proofs.lemmas.Bool.{eq-eqb, eqb-false, eqb-true, le-ltb, ltb-false, ne_eqb, not-false, not_from_true}
 use Rattle.std.proofs.lemmas.List.Concat.{flat_map-append}
 use Rattle.ebpf_decode.proofs.Again.{read-again}
@@ -118,14 +119,19 @@ three false true c p q r e = absurd cc
 three false false true p q r e = absurd cc
 three false false false p q r e = (refl, refl, refl)
 
+-- bytes whose length has no fault have no more slots than a program may
+pub few_slots : (bytes : List ℕ) → length_fault (length bytes) ≡ None → length bytes / 8 ≤ MOST_SLOTS
+few_slots bytes length_is =
+    ltb-false _ _ (three (not (eqb (length bytes % 8) 0)) (eqb (length bytes) 0) (ltb MOST_SLOTS (length bytes / 8)) _ _ _ length_is).2
+
 -- slots that are read from bytes are a program, spelled by the bytes
 pub program-read : (bytes : List ℕ) (slots : List (Option Insn)) → IsBytes bytes → length_fault (length bytes) ≡ None
     → read_slots false 0 (slots_at (length bytes / 8) bytes) ≡ Ok slots → IsProgram slots × (bytes ≡ program_bytes slots)
 program-read bytes slots fits length_is e =
     let count = length bytes / 8 in
-    let good = three (not (eqb (length bytes % 8) 0)) (eqb (length bytes) 0) (ltb 4096 count) _ _ _ length_is in
+    let good = three (not (eqb (length bytes % 8) 0)) (eqb (length bytes) 0) (ltb MOST_SLOTS count) _ _ _ length_is in
     let whole : length bytes % 8 ≡ 0 = eqb-true _ _ (not-false _ good.0) in
-    let few : count ≤ 4096 = ltb-false _ _ good.2 in
+    let few : count ≤ MOST_SLOTS = few_slots bytes length_is in
     let some : length bytes ≡ 0 → ⊥ = eqb-false _ _ good.1 in
     let spelled = slots-take (slots_at count bytes) slots (slots-fields count bytes fits) e in
     let long : length slots ≡ count =
@@ -184,7 +190,7 @@ program-again slots program =
     let most = program.most in
     let whole : not (eqb (length (flat_map slot_bytes fs) % 8) 0) ≡ false = not_from_true _ (eq-eqb _ _ (omega arith)) in
     let filled : eqb (length (flat_map slot_bytes fs)) 0 ≡ false = ne_eqb _ _ (λ none. omega arith) in
-    let few : ltb 4096 (length (flat_map slot_bytes fs) / 8) ≡ false = le-ltb _ _ (omega arith) in
+    let few : ltb MOST_SLOTS (length (flat_map slot_bytes fs) / 8) ≡ false = le-ltb _ _ (omega arith) in
     ap decoded bytes
     ∙ ap (λ k. unless_length k (read_slots false 0 (slots_at (length (flat_map slot_bytes fs) / 8) (flat_map slot_bytes fs)))) (three-none _ _ _ _ _ _ whole filled few)
     ∙ ap (λ n. read_slots false 0 (slots_at n (flat_map slot_bytes fs))) count

@@ -1,9 +1,11 @@
 -- Laws of spelling and decoding.
-use Rattle.std.specs.Prelude.{◌≡◌, ◌<◌, ℕ, List, Option, Ok, slice_index}
+use Rattle.std.specs.Prelude.{◌≡◌, ◌<◌, ℕ, List, Option, Ok, Err, slice_index}
+use Rattle.ebpf_decode.specs.declared.fault.Fault.{Fault}
 use Rattle.ebpf_decode.specs.declared.insn.Insn.{Insn}
 use Rattle.ebpf_decode.specs.Program.{IsProgram}
 use Rattle.ebpf_decode.specs.Reading.{decoded}
 use Rattle.ebpf_decode.specs.Spelling.{program_bytes}
+use Rattle.program_interface.specs.declared.TheConstants.{MOST_SLOTS}
 
 -- what a program spells decodes as the program
 abbrev pub SpelledIsDecoded : Type 0
@@ -18,3 +20,7 @@ abbrev pub DecodedIsSpelled : Type 0
 DecodedIsSpelled =
     (bytes : List ℕ) (slots : List (Option Insn)) → ((k : ℕ) → slice_index bytes k < 256) → decoded bytes ≡ Ok slots
     → IsProgram slots × (bytes ≡ program_bytes slots)
+
+-- the slot of a fault is below the most slots of a program
+abbrev pub FaultIsInside : Type 0
+FaultIsInside = (bytes : List ℕ) (fault : Fault) → decoded bytes ≡ Err fault → fault.slot < MOST_SLOTS

@@ -1,6 +1,6 @@
 //! Laws of spelling and decoding, for all programs.
 
-ghost use Rattle.ebpf_decode.specs.Laws.{DecodedIsSpelled, HasOneProgram, SpelledIsDecoded};
+ghost use Rattle.ebpf_decode.specs.Laws.{DecodedIsSpelled, FaultIsInside, HasOneProgram, SpelledIsDecoded};
 
 /// What a program spells decodes as the program.
 pub fn spelled_is_decoded()
@@ -15,4 +15,9 @@ pub fn decoded_is_spelled()
 /// Programs that are spelled alike are one.
 pub fn bytes_have_one_program()
     ensures { HasOneProgram }
+{}
+
+/// The slot of a fault is below the most slots of a program.
+pub fn fault_is_inside()
+    ensures { FaultIsInside }
 {}

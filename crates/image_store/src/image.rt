@@ -72,6 +72,7 @@ impl Image {
     {
         let (geometry, zones, blocks) = load::load(alloc, source)?;
         let counts = Counts::of(&zones);
+        // brings in that the blocks are of bytes
         are_bytes(&blocks);
         Ok(Image {
             geometry,

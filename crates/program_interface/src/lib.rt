@@ -1,5 +1,6 @@
 //! What the device promises a program: the sizes of a block and of what may be emitted for one, the
-//! areas of memory, the context, the registers at entry, and the form of what is emitted.
+//! areas of memory, the context, the registers at entry, the form of what is emitted, and the largest
+//! program.
 //! `examples/pifnjarl.h` says the same to programs in C.
 #![tactic(auto)]
 

@@ -60,12 +60,16 @@ reads state written command input events z lba blocks is none back =
 pub appended_blocks : AppendedReadsBack
 appended_blocks state written lba blocks input events device is succeeded none =
     let ns = state.namespace in
-    let done = meaning ns no_holds (Append lba blocks) input in
-    reads state written (Append lba blocks) input events (zone_number ns lba) (done.dw0 + done.dw1 * 2 ^ 32) blocks is none
-    (λ kept. appended_reads_back ns no_holds lba blocks input (all_steps events) device.namespace (some_of written (Append lba blocks) input is) succeeded kept)
+    let done = meaning ns no_holds (Append lba blocks) input in (
+      submitted written (Append lba blocks) input state is,
+      reads state written (Append lba blocks) input events (zone_number ns lba) (done.dw0 + done.dw1 * 2 ^ 32) blocks is none
+          (λ kept. appended_reads_back ns no_holds lba blocks input (all_steps events) device.namespace (some_of written (Append lba blocks) input is) succeeded kept),
+    )
 
 pub written_blocks : WrittenReadsBack
 written_blocks state written lba blocks input events device is succeeded none =
-    let ns = state.namespace in
-    reads state written (Write lba blocks) input events (zone_number ns lba) lba blocks is none
-    (λ kept. written_reads_back ns no_holds lba blocks input (all_steps events) device.namespace (some_of written (Write lba blocks) input is) succeeded kept)
+    let ns = state.namespace in (
+      submitted written (Write lba blocks) input state is,
+      reads state written (Write lba blocks) input events (zone_number ns lba) lba blocks is none
+          (λ kept. written_reads_back ns no_holds lba blocks input (all_steps events) device.namespace (some_of written (Write lba blocks) input is) succeeded kept),
+    )

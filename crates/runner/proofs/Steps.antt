@@ -19,7 +19,7 @@ use Rattle.zns_commands.proofs.SoundSteps.{steps_keep_namespaces}
 use Rattle.runner.specs.declared.event.Event.{Event}
 use Rattle.runner.specs.declared.event.Event.TheVariants as event
 use Rattle.runner.specs.Events.{entry_outcome, happens, state_after}
-use Rattle.runner.specs.Laws.{IsEvent, EventsKeepDevices}
+use Rattle.runner.specs.Laws.{CarriesBytes, EventsKeepDevices}
 use Rattle.runner.specs.ReadBack.{NoneClears}
 use Rattle.runner.specs.State.{DeviceState}
 
@@ -117,7 +117,7 @@ entry_kept (Ok (Standard command)) payload ns sound fit some =
     step_kept (Commanded no_holds command payload) ns sound (spelled command payload (some (Standard command) refl) fit)
 entry_kept (Err status) payload ns sound fit some = sound
 
-event_kept : (e : Event) (state : DeviceState) → IsNamespace state.namespace → IsEvent e → IsNamespace (happens state e).state.namespace
+event_kept : (e : Event) (state : DeviceState) → IsNamespace state.namespace → CarriesBytes e → IsNamespace (happens state e).state.namespace
 event_kept (event.Submit queue entry payload) state sound fit =
     entry_kept (decoded entry) payload.items state.namespace sound fit (λ command e. decoded_some entry command e)
 event_kept (event.Turn run) state sound fit = sound

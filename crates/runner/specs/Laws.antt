@@ -21,28 +21,30 @@ abbrev pub InParts : Type 0
 InParts = (first later : List Event) (state : DeviceState) → ServedInParts first later state
 
 -- the numbers beside an entry are bytes
-abbrev pub IsEvent : Event → Type 0
-IsEvent (event.Submit queue entry payload) = AreBytes payload.items
-IsEvent (event.Turn run) = Unit {0}
-IsEvent (event.Fault zone fault) = Unit {0}
+abbrev pub CarriesBytes : Event → Type 0
+CarriesBytes (event.Submit queue entry payload) = AreBytes payload.items
+CarriesBytes (event.Turn run) = Unit {0}
+CarriesBytes (event.Fault zone fault) = Unit {0}
 
-abbrev pub AreEvents : List Event → Type 0
-AreEvents events = All IsEvent events
+-- those of each event
+abbrev pub CarryBytes : List Event → Type 0
+CarryBytes events = All CarriesBytes events
 
 -- what holds of each device holds still, whatever events happen
 abbrev pub EventsKeepDevices : Type 0
-EventsKeepDevices = (events : List Event) (state : DeviceState) → IsDevice state → AreEvents events → IsDevice (state_after events state)
+EventsKeepDevices = (events : List Event) (state : DeviceState) → IsDevice state → CarryBytes events → IsDevice (state_after events state)
 
 -- a device begins so with a namespace of which nothing is written, and with one that was loaded
 abbrev pub EmptyIsDevice : Type 0
 EmptyIsDevice = (s : Shape) → IsShape s → IsDevice (device_of (all_empty s))
 
+-- bytes that load are the text of such a namespace
 abbrev pub LoadedIsDevice : Type 0
 LoadedIsDevice = (bytes : List ℕ) (ns : ZonedNamespace) → AreBytes bytes → namespace_in bytes ≡ Ok ns → IsDevice (device_of ns)
 
 -- what is saved loads again as the same namespace, whatever events happened before
 abbrev pub SavedDevicesLoad : Type 0
 SavedDevicesLoad =
-    (events : List Event) (state : DeviceState) → IsDevice state → AreEvents events
+    (events : List Event) (state : DeviceState) → IsDevice state → CarryBytes events
     → let ns = (state_after events state).namespace in
     namespace_in (text ns) ≡ Ok ns

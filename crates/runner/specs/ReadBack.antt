@@ -48,7 +48,8 @@ AppendedReadsBack =
     → let done = meaning state.namespace no_holds (Append lba blocks) input in
     let after = (happens state written).state in
     done.status ≡ SUCCESS → NoneClears (zone_number state.namespace lba) events after
-    → AreRead (state_after events after) (done.dw0 + done.dw1 * 2 ^ 32) blocks input
+    → IsCompleted written done (happens state written)
+    × AreRead (state_after events after) (done.dw0 + done.dw1 * 2 ^ 32) blocks input
 
 -- the same of a Write, which is read from its own address
 abbrev pub WrittenReadsBack : Type 0
@@ -58,4 +59,4 @@ WrittenReadsBack =
     → let done = meaning state.namespace no_holds (Write lba blocks) input in
     let after = (happens state written).state in
     done.status ≡ SUCCESS → NoneClears (zone_number state.namespace lba) events after
-    → AreRead (state_after events after) lba blocks input
+    → IsCompleted written done (happens state written) × AreRead (state_after events after) lba blocks input

@@ -5,7 +5,9 @@ ghost use Rattle.runner.specs.Events.{happens, answers_to, state_after, HasStopp
 ghost use Rattle.zone_resources.specs.Holds.{no_holds};
 ghost use Rattle.zns_commands.specs.Fault.{fault_answer, faulted};
 ghost use Rattle.nvme_entry.specs.Entry.{decoded};
-ghost use Rattle.runner.specs.State.{device_of};
+ghost use Rattle.image_store.specs.Blocks.{AreBytes};
+ghost use Rattle.runner.specs.Laws.{CarriesBytes};
+ghost use Rattle.runner.specs.State.{IsDevice, device_of};
 ghost use Rattle.runner.specs.Taken.{and_then, CountsRefusals};
 
 use crate::event::Event;
@@ -46,8 +48,11 @@ impl Device {
 
     /// The namespace as an image.
     pub fn image(&self) -> &Image
-        ensures { result.now ≡ self.now.namespace }
+        ensures value { result.now ≡ self.now.namespace }
+        ensures sound { IsDevice self.now }
     {
+        // brings in what holds of each namespace
+        let _ = self.namespace.geometry();
         self.namespace.image()
     }
 
@@ -59,6 +64,7 @@ impl Device {
         ensures given { take (data_length result) data_out.new ≡ (happens self.old event.now).answer.bytes }
         ensures rest { drop (data_length result) data_out.new ≡ drop (data_length result) data_out.old }
         ensures within { data_length result ≤ length data_out.new }
+        ensures carried { CarriesBytes event.now }
     {
         match event {
             Event::Submit {
@@ -90,6 +96,7 @@ impl Device {
         ensures given { take (data_length result) data_out.new ≡ (entry_outcome self.old.namespace (decoded entry.now) payload.now).output }
         ensures rest { drop (data_length result) data_out.new ≡ drop (data_length result) data_out.old }
         ensures within { data_length result ≤ length data_out.new }
+        ensures bytes { AreBytes payload.now }
     {
         let answer = match Entry::decode(entry) {
             Ok(Command::Standard(command)) => {

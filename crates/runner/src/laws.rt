@@ -13,8 +13,9 @@ pub fn served_in_parts()
     ensures { InParts }
 {}
 
-/// In every state that events leave, starting from an empty or a loaded image, the open and active zones are within the
-/// limits, each zone's state fits its written blocks, and each block is whole.
+/// In every state that events leave, starting from an empty or a loaded image, the open and active
+/// zones are within the limits, each zone's state fits its written blocks, and each block is whole
+/// and of bytes.
 pub fn events_keep_devices_sound()
     ensures kept { EventsKeepDevices }
     ensures empty { EmptyIsDevice }

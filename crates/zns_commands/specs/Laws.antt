@@ -55,7 +55,7 @@ IsSpelled (Failed holds zone fault) = Unit {0}
 abbrev pub StepsKeepNamespaces : Type 0
 StepsKeepNamespaces = (steps : List Step) (ns : ZonedNamespace) → IsNamespace ns → All IsSpelled steps → IsNamespace (after_all steps ns)
 
--- one of which nothing is written is one
+-- and so is one of which nothing is written
 abbrev pub EmptyIsNamespace : Type 0
 EmptyIsNamespace = (s : Shape) → IsShape s → IsNamespace (all_empty s)
 

@@ -31,10 +31,6 @@ abbrev pub closed : ZonedNamespace → Option ℕ → ZonedNamespace
 closed ns None = ns
 closed ns (Some z) = in_zone_state ns z Closed
 
--- what a command that opens a zone does to another one first
-abbrev pub after_room : ZonedNamespace → Result (Option ℕ) Status → ZonedNamespace
-after_room ns room = closed ns (closing_of room)
-
 -- what holds of the zone that gives way, if one does: it is another than the one that wants room, and
 -- can be Closed, which the limits allow
 pub record CanGiveWay (ns : ZonedNamespace) (zone : ℕ) (closing : Option ℕ) : Type 0 where

@@ -4,8 +4,9 @@
 ghost use Rattle.zns_commands.specs.Kept.{BlocksAreAPart, DestinationsAreLeft, OthersAreLeft, ShapesAreKept, SourcesKeepBlocks};
 ghost use Rattle.zns_commands.specs.Laws.{AppendedReadsBack, EmptyIsNamespace, JustOneCase, RefusedChangesNothing, ReportsEveryZone, StepsKeepNamespaces, WrittenReadsBack};
 
-/// In every namespace that commands and faults leave, starting from an empty one, the open and active
-/// zones are within the limits, and each zone's state fits its written blocks.
+/// A namespace stays one, whatever commands and faults come: its open and active zones are within the
+/// limits, each zone's state fits its written blocks, and each block is whole. One of which nothing is
+/// written is one.
 pub fn commands_keep_namespaces_sound()
     ensures kept { StepsKeepNamespaces }
     ensures start { EmptyIsNamespace }

@@ -21,4 +21,4 @@ pub use image_store::{Geometry, GeometryFault, Image};
 pub use namespace::Namespace;
 pub use nvme_entry::{BlockCount, DwordCount, MOST_TRANSFER, StandardCommand, Status, ZoneFilter};
 pub use zone_resources::{Holds, Limits};
-pub use zone_state::{FaultRefused, FaultState};
+pub use zone_state::{FaultRefused, FaultState, Zone};

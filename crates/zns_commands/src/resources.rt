@@ -10,7 +10,7 @@ use nvme_entry::Status;
 use zone_resources::{Holds, Wanted, admit};
 use zone_state::ZoneState;
 
-/// The zone to be closed so that this one can be open, if one has to be: never this one.
+/// The zone to be closed so that this one can be open, if one has to be.
 pub fn room_for(image: &Image, holds: &Holds, zone: u32) -> Result<Option<u32>, Status>
     requires { zone < length image.now.zones }
     ensures { result ≡ room_for image.now holds.now (zone_at image.now zone).state }

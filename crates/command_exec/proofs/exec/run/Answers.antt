@@ -8,7 +8,7 @@ pub returns-in-Ok-clause-saved : goal.returns-in-Ok-clause-saved
 returns-in-Ok-clause-saved g c = λ tells.
     saves (g.F.Files.made c.args.files.now) (g.F.Files.made c.save.new.files) c.args.path.now c.image-2.result.now (state_after c.args.events.now (device_of c.args.image)).namespace
     (c.in_ok-save.ensures.saved tells)
-    (c.image-2.ensures
+    (c.image-2.ensures.value
     ∙ ap (λ (device : DeviceState). device.namespace) c.in-Ok.ensures.state
     ∙ ap (λ (device : DeviceState). (state_after c.args.events.now device).namespace) c.new-device.ensures)
 
@@ -22,7 +22,7 @@ returns-clause-stopped g c = λ _ tells.
       within = stop.within;
       made = saves (g.F.Files.made c.args.files.now) (g.F.Files.made c.save.new.files) c.args.path.now c.image-2.result.now (state_after (take done c.args.events.now) (device_of c.args.image)).namespace
           (c.in_ok-save.ensures.saved tells)
-          (c.image-2.ensures
+          (c.image-2.ensures.value
           ∙ ap (λ (device : DeviceState). device.namespace) stop.state
           ∙ ap (λ (device : DeviceState). (state_after (take done c.args.events.now) device).namespace) c.new-device.ensures);
     }

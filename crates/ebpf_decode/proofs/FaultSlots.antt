@@ -1,0 +1,56 @@
+-- Where the faults of a program's bytes lie.
+use Rattle.std.proofs.Common.{◌≡◌, ℕ, suc, ◌+◌, ◌/◌, ◌<◌, ◌≤◌, Bool, false, List, [], ◌∷◌, length, Option, Some, None, Result, Ok, Err, refl, sym, ap, arith}
+use Rattle.ebpf_decode.specs.declared.fault.Fault.{Fault}
+use Rattle.ebpf_decode.specs.declared.fault.FaultKind.{FaultKind}
+use Rattle.ebpf_decode.specs.declared.fields.Fields.{Fields}
+use Rattle.ebpf_decode.specs.declared.insn.Insn.{Insn}
+use Rattle.ebpf_decode.specs.Laws.{FaultIsInside}
+use Rattle.ebpf_decode.specs.Reading.{begins_wide, entry, length_fault, read_slots, slots_at, then_read, unless_length, with_front}
+use Rattle.program_interface.specs.declared.TheConstants.{MOST_SLOTS}
+use Rattle.std.specs.List.{slice_get}
+use Rattle.ebpf_decode.proofs.Programs.{few_slots}
+use Rattle.ebpf_decode.proofs.Slots.{length-slots}
+
+-- the slot of a fault, if there is one
+slot_told : Result (List (Option Insn)) Fault → ℕ
+slot_told (Ok slots) = 0
+slot_told (Err fault) = fault.slot
+
+abbrev told_at : ℕ → FaultKind → Result (List (Option Insn)) Fault
+told_at slot kind = Err (record { slot = slot; kind = kind })
+
+same_slot : (slot : ℕ) (kind : FaultKind) (fault : Fault) → told_at slot kind ≡ Err fault → fault.slot ≡ slot
+unfolding slot_told
+same_slot slot kind fault e = sym (ap slot_told e)
+
+fault_behind : (front : List (Option Insn)) (read : Result (List (Option Insn)) Fault) (fault : Fault) → with_front front read ≡ Err fault → read ≡ Err fault
+fault_behind front (Ok slots) fault e = absurd cc
+fault_behind front (Err other) fault e = e
+
+-- a fault lies at the slot that is read, or behind it
+fault_from : (s count : ℕ) (fault : Fault) (after : Bool → Result (List (Option Insn)) Fault)
+    → ((wide : Bool) → after wide ≡ Err fault → fault.slot < s + 1 + count)
+    → (found : Result (Option Insn) FaultKind) → then_read found s after ≡ Err fault → fault.slot < s + suc count
+fault_from s count fault after later (Err kind) e = let at : fault.slot ≡ s = same_slot s kind fault e in omega arith
+fault_from s count fault after later (Ok found) e =
+    let behind : fault.slot < s + 1 + count = later (begins_wide found) (fault_behind (found ∷ []) (after (begins_wide found)) fault e) in
+    omega arith
+
+fault_within : (second : Bool) (s : ℕ) (fs : List Fields) (fault : Fault) → read_slots second s fs ≡ Err fault → fault.slot < s + length fs
+fault_within second s [] fault e = absurd cc
+fault_within second s (f ∷ rest) fault e =
+    fault_from s (length rest) fault (λ wide. read_slots wide (s + 1) rest)
+    (λ wide h. fault_within wide (s + 1) rest fault h)
+    (entry second f (slice_get rest 0)) e
+
+by_length : (bytes : List ℕ) (fault : Fault) (found : Option FaultKind) → length_fault (length bytes) ≡ found
+    → unless_length found (read_slots false 0 (slots_at (length bytes / 8) bytes)) ≡ Err fault → fault.slot < MOST_SLOTS
+by_length bytes fault (Some kind) is e = let at : fault.slot ≡ 0 = same_slot 0 kind fault e in omega arith
+by_length bytes fault None is e =
+    let within : fault.slot < 0 + length (slots_at (length bytes / 8) bytes) = fault_within false 0 (slots_at (length bytes / 8) bytes) fault e in
+    let few : length bytes / 8 ≤ MOST_SLOTS = few_slots bytes is in
+    let long : length (slots_at (length bytes / 8) bytes) ≡ length bytes / 8 = length-slots (length bytes / 8) bytes in
+    omega arith
+
+pub fault_is_inside : FaultIsInside
+fault_is_inside bytes fault e = by_length bytes fault (length_fault (length bytes)) refl e
