@@ -3,4 +3,5 @@ pub mod Completion
 pub mod Entry
 pub mod Filter
 pub mod Laws
+pub mod ProgramSlot
 pub mod Report

@@ -4,6 +4,7 @@ ghost use Rattle.std.specs.Prelude.{◌≡◌, ◌+◌, ◌*◌, ◌≤◌};
 ghost use Rattle.nvme_entry.specs.Entry.{opcode_of, dwords_of};
 
 use crate::filter::ZoneFilter;
+use crate::program_slot::ProgramSlot;
 use std::marker::Model;
 use zone_state::Action;
 
@@ -14,7 +15,7 @@ pub const MOST_TRANSFER: usize = 131_072;
 /// The bytes of a dword.
 const DWORD: usize = 4;
 
-/// The opcode of a command (NVM Command Set 1.0, 3.2; ZNS 1.1, 3.4).
+/// The opcode of a command (NVM Command Set 1.0, 3.2; ZNS 1.1, 3.4; Run, Load and Result are profile).
 #[derive(Clone, Copy, Debug, PartialEq, Eq)]
 pub enum Opcode {
     Write,
@@ -22,6 +23,9 @@ pub enum Opcode {
     ZoneManagementSend,
     ZoneManagementReceive,
     ZoneAppend,
+    Run,
+    Load,
+    Result,
 }
 
 impl Opcode {
@@ -35,6 +39,9 @@ impl Opcode {
             0x79 => Some(Opcode::ZoneManagementSend),
             0x7A => Some(Opcode::ZoneManagementReceive),
             0x7D => Some(Opcode::ZoneAppend),
+            0xC0 => Some(Opcode::Run),
+            0xC1 => Some(Opcode::Load),
+            0xC2 => Some(Opcode::Result),
             _ => None,
         }
     }
@@ -123,6 +130,12 @@ impl DwordCount {
 pub enum Command {
     /// A command of the NVM Command Set or of the Zoned Namespace Command Set.
     Standard(StandardCommand),
+    /// Starts a run of a program (profile).
+    Run(RunCommand),
+    /// Puts a program into a slot (profile).
+    Load(LoadCommand),
+    /// Gives the scratch bytes that the last successful run of a slot's program left (profile).
+    Result(ProgramSlot),
 }
 
 /// A command of the standards, with its fields. `lba` is a logical block address.
@@ -160,4 +173,31 @@ pub enum StandardCommand {
         lba: u64,
         blocks: BlockCount,
     },
+}
+
+/// A run that is asked for (profile): the program of a slot over blocks of one zone, what it emits being
+/// appended to another.
+#[derive(Clone, Copy, Debug, PartialEq, Eq)]
+pub struct RunCommand {
+    /// The logical block address of the first block that the program runs on.
+    pub lba: u64,
+    /// The number of these blocks.
+    pub blocks: BlockCount,
+    /// The slot of the program.
+    pub slot: ProgramSlot,
+    /// A number that the program is told.
+    pub argument: u32,
+    /// The lowest logical block address of the zone that is appended to.
+    pub destination: u64,
+}
+
+/// A program that is to be loaded (profile). Its bytes stand beside the entry.
+#[derive(Clone, Copy, Debug, PartialEq, Eq)]
+pub struct LoadCommand {
+    /// The slot that is to hold it.
+    pub slot: ProgramSlot,
+    /// The most bytes that it may emit for a block, the lengths of its frames counted.
+    pub limit: u32,
+    /// The number of its bytes.
+    pub bytes: u32,
 }

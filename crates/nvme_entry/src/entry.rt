@@ -1,11 +1,15 @@
 //! Submission queue entries.
 
-ghost use Rattle.std.specs.Prelude.{◌≡◌, ◌+◌, ◌*◌, ◌^◌, ◌≤◌, length};
+ghost use Rattle.std.specs.Prelude.{◌≡◌, ◌+◌, ◌*◌, ◌^◌, ◌<◌};
 ghost use Rattle.nvme_entry.specs.Checks.{allowed, first_refused};
-ghost use Rattle.nvme_entry.specs.Entry.{decoded, command_of, field_checks, action_of, identifier_of, starting_lba, block_count, field, fuse_of, namespace_of};
+ghost use Rattle.nvme_entry.specs.Entry.{decoded, command_of, field_checks, action_of, identifier_of, starting_lba, block_count, dword, fuse_of, namespace_of};
 
-use crate::command::{BlockCount, Command, DwordCount, Opcode, StandardCommand};
+use crate::command::{
+    BlockCount, Command, DwordCount, LoadCommand, MOST_TRANSFER, Opcode, RunCommand,
+    StandardCommand,
+};
 use crate::filter::ZoneFilter;
+use crate::program_slot::ProgramSlot;
 use byteorder::{ByteOrder, LittleEndian};
 use zone_state::{Action, Status};
 
@@ -26,7 +30,8 @@ impl Entry {
     /// The first that applies: Invalid Command Opcode for an opcode that isn't supported; Invalid
     /// Field in Command for a fused command; Invalid Namespace or Format for a namespace other than
     /// 1; Invalid Field in Command for a zone send action or a zone receive action that there
-    /// isn't, a filter of zones that there isn't, or a report of more than [`MOST_TRANSFER`] bytes.
+    /// isn't, a filter of zones or a program slot that there isn't, or a report or a program of more
+    /// than [`MOST_TRANSFER`] bytes.
     ///
     /// [`MOST_TRANSFER`]: crate::MOST_TRANSFER
     pub fn decode(entry: &[u8; 64]) -> Result<Command, Status>
@@ -56,6 +61,9 @@ impl Entry {
             Opcode::ZoneAppend => Ok(Command::Standard(StandardCommand::Append { lba, blocks })),
             Opcode::ZoneManagementSend => Entry::send(entry),
             Opcode::ZoneManagementReceive => Entry::receive(entry),
+            Opcode::Run => Entry::run(entry),
+            Opcode::Load => Entry::load(entry),
+            Opcode::Result => Entry::last_result(entry),
         }
     }
 
@@ -86,7 +94,7 @@ impl Entry {
         ensures { result ≡ allowed (first_refused (field_checks Opcode.ZoneManagementReceive entry.now)) (command_of Opcode.ZoneManagementReceive entry.now) }
     {
         let lba = Entry::lba(entry);
-        let Some(dwords) = DwordCount::from_zero_based(dword(entry, 48)) else {
+        let Some(dwords) = DwordCount::from_zero_based(dword(entry, 12)) else {
             return Err(Status::INVALID_FIELD_IN_COMMAND);
         };
         if entry[52] != REPORT_ZONES {
@@ -103,6 +111,50 @@ impl Entry {
         }))
     }
 
+    /// A Run.
+    fn run(entry: &[u8; 64]) -> Result<Command, Status>
+        ensures { result ≡ allowed (first_refused (field_checks Opcode.Run entry.now)) (command_of Opcode.Run entry.now) }
+    {
+        let Some(slot) = ProgramSlot::new(u32::from(entry[50])) else {
+            return Err(Status::INVALID_FIELD_IN_COMMAND);
+        };
+        Ok(Command::Run(RunCommand {
+            lba: Entry::lba(entry),
+            blocks: Entry::blocks(entry),
+            slot,
+            argument: dword(entry, 13),
+            destination: two_dwords(dword(entry, 14), dword(entry, 15)),
+        }))
+    }
+
+    /// A Load.
+    fn load(entry: &[u8; 64]) -> Result<Command, Status>
+        ensures { result ≡ allowed (first_refused (field_checks Opcode.Load entry.now)) (command_of Opcode.Load entry.now) }
+    {
+        let bytes = dword(entry, 12);
+        if bytes as usize > MOST_TRANSFER {
+            return Err(Status::INVALID_FIELD_IN_COMMAND);
+        }
+        let Some(slot) = ProgramSlot::new(dword(entry, 10)) else {
+            return Err(Status::INVALID_FIELD_IN_COMMAND);
+        };
+        Ok(Command::Load(LoadCommand {
+            slot,
+            limit: dword(entry, 11),
+            bytes,
+        }))
+    }
+
+    /// A Result.
+    fn last_result(entry: &[u8; 64]) -> Result<Command, Status>
+        ensures { result ≡ allowed (first_refused (field_checks Opcode.Result entry.now)) (command_of Opcode.Result entry.now) }
+    {
+        let Some(slot) = ProgramSlot::new(dword(entry, 10)) else {
+            return Err(Status::INVALID_FIELD_IN_COMMAND);
+        };
+        Ok(Command::Result(slot))
+    }
+
     fn fuse(entry: &[u8; 64]) -> u8
         ensures { result ≡ fuse_of entry.now }
     {
@@ -112,13 +164,13 @@ impl Entry {
     fn namespace(entry: &[u8; 64]) -> u32
         ensures { result ≡ namespace_of entry.now }
     {
-        dword(entry, 4)
+        dword(entry, 1)
     }
 
     fn lba(entry: &[u8; 64]) -> u64
         ensures { result ≡ starting_lba entry.now }
     {
-        two_dwords(dword(entry, 40), dword(entry, 44))
+        two_dwords(dword(entry, 10), dword(entry, 11))
     }
 
     fn blocks(entry: &[u8; 64]) -> BlockCount
@@ -142,12 +194,12 @@ fn action(code: u8) -> Option<Action>
     }
 }
 
-/// The dword that begins at a byte.
-fn dword(entry: &[u8], at: usize) -> u32
-    requires { at + 4 ≤ length entry.now }
-    ensures { result ≡ field entry.now at 4 }
+/// The dword with this number.
+fn dword(entry: &[u8; 64], number: usize) -> u32
+    requires { number < 16 }
+    ensures { result ≡ dword entry.now number }
 {
-    LittleEndian::read_u32(&entry[at..])
+    LittleEndian::read_u32(&entry[4 * number..])
 }
 
 /// The number of two dwords.

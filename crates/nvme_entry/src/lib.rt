@@ -7,13 +7,18 @@ mod completion;
 mod entry;
 mod filter;
 pub mod laws;
+mod program_slot;
 mod report;
 #[cfg(test)]
 mod tests;
 
-pub use command::{BlockCount, Command, DwordCount, MOST_TRANSFER, Opcode, StandardCommand};
+pub use command::{
+    BlockCount, Command, DwordCount, LoadCommand, MOST_TRANSFER, Opcode, RunCommand,
+    StandardCommand,
+};
 pub use completion::Completion;
 pub use entry::Entry;
 pub use filter::ZoneFilter;
+pub use program_slot::{PROGRAM_SLOTS, ProgramSlot};
 pub use report::Report;
 pub use zone_state::Status;

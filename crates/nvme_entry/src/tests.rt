@@ -1,11 +1,13 @@
 ghost use Rattle.std.specs.Prelude.{◌≡◌, length};
 
+mod programs;
+
 use super::*;
 use std::test::Fail;
 use zone_state::{Action, Zone, ZoneState};
 
 /// The 64 bytes of an entry with these dwords; the others are 0.
-fn entry(dwords: &[(usize, u32)]) -> [u8; 64] {
+fn entry_of(dwords: &[(usize, u32)]) -> [u8; 64] {
     let mut bytes = [0; 64];
     for (dword, value) in dwords {
         let at = 4 * (*dword % 16);
@@ -20,21 +22,21 @@ fn entries_name_commands(rt: HostRuntime) {
     let high = 0x0000_0002_0000_0008;
     let cases = [
         (
-            entry(&[(0, 0x0001_007D), (1, 1), (10, 8)]),
+            entry_of(&[(0, 0x0001_007D), (1, 1), (10, 8)]),
             StandardCommand::Append {
                 lba: 8,
                 blocks: one,
             },
         ),
         (
-            entry(&[(0, 0x0002_0002), (1, 1), (10, 8), (11, 2)]),
+            entry_of(&[(0, 0x0002_0002), (1, 1), (10, 8), (11, 2)]),
             StandardCommand::Read {
                 lba: high,
                 blocks: one,
             },
         ),
         (
-            entry(&[(0, 0x0009_0079), (1, 1), (10, 8), (13, 0x0000_0103)]),
+            entry_of(&[(0, 0x0009_0079), (1, 1), (10, 8), (13, 0x0000_0103)]),
             StandardCommand::Send {
                 lba: 8,
                 action: Action::Open,
@@ -42,7 +44,7 @@ fn entries_name_commands(rt: HostRuntime) {
             },
         ),
         (
-            entry(&[(0, 0x0009_0079), (1, 1), (10, 8), (13, 0xFFFF_FE04)]),
+            entry_of(&[(0, 0x0009_0079), (1, 1), (10, 8), (13, 0xFFFF_FE04)]),
             StandardCommand::Send {
                 lba: 8,
                 action: Action::Reset,
@@ -53,7 +55,7 @@ fn entries_name_commands(rt: HostRuntime) {
     for (bytes, command) in cases {
         assert_eq!(rt; Entry::decode(&bytes), Ok(Command::Standard(command)));
     }
-    let most = entry(&[(0, 0x02), (1, 1), (12, 0xFFFF_FFFF)]);
+    let most = entry_of(&[(0, 0x02), (1, 1), (12, 0xFFFF_FFFF)]);
     let blocks = BlockCount::from_zero_based(0xFFFF);
     assert_eq!(rt; blocks.get(), 65536);
     let read = StandardCommand::Read { lba: 0, blocks };
@@ -65,7 +67,7 @@ fn entries_name_reports(rt: HostRuntime) -> Result<(), Fail> {
     let forty = DwordCount::from_zero_based(39).ok_or("forty dwords")?;
     assert_eq!(rt; forty.bytes(), 160);
     assert_eq!(rt;
-        Entry::decode(&entry(&[(0, 0x0001_007A), (1, 1), (12, 39), (13, 0x0001_0000)])),
+        Entry::decode(&entry_of(&[(0, 0x0001_007A), (1, 1), (12, 39), (13, 0x0001_0000)])),
         Ok(Command::Standard(StandardCommand::Receive {
             lba: 0,
             dwords: forty,
@@ -76,7 +78,7 @@ fn entries_name_reports(rt: HostRuntime) -> Result<(), Fail> {
     let most = DwordCount::from_zero_based(32767).ok_or("the most")?;
     assert_eq!(rt; most.bytes(), MOST_TRANSFER);
     assert_eq!(rt;
-        Entry::decode(&entry(&[(0, 0x7A), (1, 1), (10, 9), (12, 32767), (13, 0xFFFE_0100)])),
+        Entry::decode(&entry_of(&[(0, 0x7A), (1, 1), (10, 9), (12, 32767), (13, 0xFFFE_0100)])),
         Ok(Command::Standard(StandardCommand::Receive {
             lba: 9,
             dwords: most,
@@ -90,10 +92,10 @@ fn entries_name_reports(rt: HostRuntime) -> Result<(), Fail> {
 #[test]
 fn reports_are_refused(rt: HostRuntime) {
     let cases = [
-        entry(&[(0, 0x7A), (1, 1), (12, 32768)]),
-        entry(&[(0, 0x7A), (1, 1), (12, 0xFFFF_FFFF)]),
-        entry(&[(0, 0x7A), (1, 1), (13, 0x01)]),
-        entry(&[(0, 0x7A), (1, 1), (13, 0x0800)]),
+        entry_of(&[(0, 0x7A), (1, 1), (12, 32768)]),
+        entry_of(&[(0, 0x7A), (1, 1), (12, 0xFFFF_FFFF)]),
+        entry_of(&[(0, 0x7A), (1, 1), (13, 0x01)]),
+        entry_of(&[(0, 0x7A), (1, 1), (13, 0x0800)]),
     ];
     for bytes in cases {
         assert_eq!(rt;
@@ -106,25 +108,25 @@ fn reports_are_refused(rt: HostRuntime) {
 #[test]
 fn entries_are_refused_in_order(rt: HostRuntime) {
     let cases = [
-        (entry(&[(0, 0x0103)]), Status::INVALID_COMMAND_OPCODE),
+        (entry_of(&[(0, 0x0103)]), Status::INVALID_COMMAND_OPCODE),
         (
-            entry(&[(0, 0x0006_0100), (1, 1)]),
+            entry_of(&[(0, 0x0006_0100), (1, 1)]),
             Status::INVALID_COMMAND_OPCODE,
         ),
         (
-            entry(&[(0, 0x0102), (1, 2)]),
+            entry_of(&[(0, 0x0102), (1, 2)]),
             Status::INVALID_FIELD_IN_COMMAND,
         ),
-        (entry(&[(0, 0x02)]), Status::INVALID_NAMESPACE_OR_FORMAT),
+        (entry_of(&[(0, 0x02)]), Status::INVALID_NAMESPACE_OR_FORMAT),
         (
-            entry(&[(0, 0x79), (1, 1), (10, 99), (13, 6)]),
+            entry_of(&[(0, 0x79), (1, 1), (10, 99), (13, 6)]),
             Status::INVALID_FIELD_IN_COMMAND,
         ),
     ];
     for (bytes, status) in cases {
         assert_eq!(rt; Entry::decode(&bytes), Err(status));
     }
-    assert_eq!(rt; Entry::cid(&entry(&[(0, 0xABCD_007D)])), 0xABCD);
+    assert_eq!(rt; Entry::cid(&entry_of(&[(0, 0xABCD_007D)])), 0xABCD);
 }
 
 #[test]
