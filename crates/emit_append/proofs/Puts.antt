@@ -1,11 +1,11 @@
 -- Groups put one after another come to the packing of the whole list.
-use Rattle.std.proofs.Common.{◌≡◌, ℕ, List, [], ◌∷◌, ◌++◌, map, refl, ap, sym, ◌∙◌}
+use Rattle.std.proofs.Common.{◌≡◌, ℕ, ◌+◌, ◌-◌, ◌<◌, ◌≤◌, List, [], ◌∷◌, ◌++◌, length, map, refl, ap, sym, ◌∙◌, arith}
 use Rattle.std.proofs.lemmas.List.{append-nil}
 use Rattle.emit_append.specs.Packing.{filled, packed, padded, released, pending_of, all_but_last, last_or_empty}
-use Rattle.emit_append.specs.Packer.{PuttingIsPacking, after_puts, given_by_puts, new_packer}
+use Rattle.emit_append.specs.Packer.{LendingIsFinishing, LendingIsPutting, PuttingIsPacking, after_put, after_puts, given_by_puts, new_packer}
 use Rattle.emit_append.specs.GoingOn.{OneGroupIsPending}
 use Rattle.emit_append.proofs.Continuing.{packing_goes_on}
-use Rattle.emit_append.proofs.Layouts.{filled-begins, filled-empty}
+use Rattle.emit_append.proofs.Layouts.{filled-begins, filled-empty, laid-beginning, laid-behind}
 
 -- bytes alone fill one block, or none
 filled-one : (block x : ℕ) (xs : List ℕ) → filled block ((x ∷ xs) ∷ []) ≡ (x ∷ xs) ∷ []
@@ -44,3 +44,62 @@ putting_is_packing block groups =
       pending = left;
       finished = rw (given, left) (sym whole);
     }
+
+-- a group that has room behind what is pending fills one block with it
+filled-room : (block x : ℕ) (xs group : List ℕ) → length (x ∷ xs) + length group ≤ block → filled block ((x ∷ xs) ∷ group ∷ []) ≡ ((x ∷ xs) ++ group) ∷ []
+filled-room block x xs group room =
+    filled-begins block x xs (group ∷ [])
+    ∙ ap (λ rest. ((x ∷ xs) ++ rest.begun) ∷ rest.later) (laid-behind block (block - length (x ∷ xs)) group [] (omega (arith, room)))
+    ∙ simp append-nil
+
+-- one that has none begins the next block
+filled-full : (block x : ℕ) (xs group : List ℕ) → length (x ∷ xs) ≤ block → block < length (x ∷ xs) + length group →
+    filled block ((x ∷ xs) ∷ group ∷ []) ≡ (x ∷ xs) ∷ group ∷ []
+filled-full block x xs group fits full =
+    filled-begins block x xs (group ∷ [])
+    ∙ ap (λ rest. ((x ∷ xs) ++ rest.begun) ∷ rest.later) (laid-beginning block (block - length (x ∷ xs)) group [] (omega (arith, fits, full)))
+    ∙ simp append-nil
+
+-- a packer of a new block, after one group
+put-first : (block : ℕ) (group : List ℕ) → after_put (new_packer block) group ≡ record { block = block; pending = group }
+put-first block group = ap (λ bs. record { block = block; pending = last_or_empty bs }) (filled-empty block (group ∷ [])) ∙ ap (λ bytes. record { block = block; pending = bytes }) (pending-one block group)
+
+put-none : (block : ℕ) (pending group : List ℕ) → length pending + length group ≤ block → released block (pending ∷ group ∷ []) ≡ []
+put-none block [] group room = ap (λ bs. all_but_last (map (padded block) bs)) (filled-empty block (group ∷ [])) ∙ released-one block group
+put-none block (x ∷ xs) group room = ap (λ bs. all_but_last (map (padded block) bs)) (filled-room block x xs group room)
+
+put-behind : (block : ℕ) (pending group : List ℕ) → length pending + length group ≤ block → pending_of block (pending ∷ group ∷ []) ≡ pending ++ group
+put-behind block [] group room = ap last_or_empty (filled-empty block (group ∷ [])) ∙ pending-one block group
+put-behind block (x ∷ xs) group room = ap last_or_empty (filled-room block x xs group room)
+
+put-block : (block : ℕ) (pending group : List ℕ) → length pending ≤ block → length group ≤ block → block < length pending + length group →
+    released block (pending ∷ group ∷ []) ≡ padded block pending ∷ []
+put-block block [] group fits whole full = absurd (omega (arith, whole, full))
+put-block block (x ∷ xs) group fits whole full = ap (λ bs. all_but_last (map (padded block) bs)) (filled-full block x xs group fits full)
+
+put-anew : (block : ℕ) (pending group : List ℕ) → length pending ≤ block → length group ≤ block → block < length pending + length group →
+    pending_of block (pending ∷ group ∷ []) ≡ group
+put-anew block [] group fits whole full = absurd (omega (arith, whole, full))
+put-anew block (x ∷ xs) group fits whole full = ap last_or_empty (filled-full block x xs group fits full)
+
+pub lending_is_putting : LendingIsPutting
+lending_is_putting packer group fits whole = record {
+  none = λ room. put-none packer.block packer.pending group room;
+  behind = λ room. ap (λ bytes. record packer { pending = bytes }) (put-behind packer.block packer.pending group room);
+  block = λ full. put-block packer.block packer.pending group fits whole full;
+  anew = λ full. ap (λ bytes. record packer { pending = bytes }) (put-anew packer.block packer.pending group fits whole full) ∙ sym (put-first packer.block group);
+}
+
+finish-none : (block : ℕ) (pending : List ℕ) → length pending ≡ 0 → packed block (pending ∷ []) ≡ []
+finish-none block [] empty = ap (map (padded block)) (filled-empty block [])
+finish-none block (x ∷ xs) empty = absurd (omega (arith, empty))
+
+finish-block : (block : ℕ) (pending : List ℕ) → 0 < length pending → packed block (pending ∷ []) ≡ padded block pending ∷ []
+finish-block block [] some = absurd (omega (arith, some))
+finish-block block (x ∷ xs) some = ap (map (padded block)) (filled-one block x xs)
+
+pub lending_is_finishing : LendingIsFinishing
+lending_is_finishing packer = record {
+  none = finish-none packer.block packer.pending;
+  block = finish-block packer.block packer.pending;
+}

@@ -1,9 +1,9 @@
 -- What a packer is seen as, and what its calls give, in the words of the packing.
-use Rattle.std.specs.Prelude.{◌≡◌, ℕ, ◌≤◌, List, [], ◌∷◌, ◌++◌, length, Option, None, Some}
+use Rattle.std.specs.Prelude.{◌≡◌, ℕ, ◌+◌, ◌<◌, ◌≤◌, List, [], ◌∷◌, ◌++◌, length, Option, None, Some}
 use Rattle.arrayvec.specs.ArrayVec.{ArrayVec}
 use Rattle.program_interface.specs.declared.block_size.TheConstants.{LARGEST_BLOCK}
 use Rattle.program_interface.specs.BlockSize.{IsBlockSize}
-use Rattle.emit_append.specs.Packing.{packed, pending_of, released}
+use Rattle.emit_append.specs.Packing.{packed, padded, pending_of, released}
 
 -- the size of its blocks, and the bytes of the block that it hasn't released yet
 pub record PackerState : Type 0 where
@@ -58,3 +58,25 @@ pub record ArePutsOf (block : ℕ) (groups : List (List ℕ)) : Type 0 where
 -- Packing group by group gives the packing of the whole list.
 abbrev pub PuttingIsPacking : Type 0
 PuttingIsPacking = (block : ℕ) (groups : List (List ℕ)) → ArePutsOf block groups
+
+-- what a caller does that asks for room first, and where there is none takes the pending block with its zeros and begins anew
+pub record IsPutByLending (packer : PackerState) (group : List ℕ) : Type 0 where
+  -- where there is room, no block is given, and the group stands behind what is pending;
+  pub none : length packer.pending + length group ≤ packer.block → given_by_put packer group ≡ []
+  pub behind : length packer.pending + length group ≤ packer.block → after_put packer group ≡ record packer { pending = packer.pending ++ group }
+  -- else the pending block is given, and the group is put into an empty one
+  pub block : packer.block < length packer.pending + length group → given_by_put packer group ≡ padded packer.block packer.pending ∷ []
+  pub anew : packer.block < length packer.pending + length group → after_put packer group ≡ after_put (new_packer packer.block) group
+
+-- Lending the pending block is putting, for a group that fits into a block.
+abbrev pub LendingIsPutting : Type 0
+LendingIsPutting = (packer : PackerState) (group : List ℕ) → length packer.pending ≤ packer.block → length group ≤ packer.block → IsPutByLending packer group
+
+-- what is left to do in the end: nothing where nothing is pending, else to take the pending block
+pub record IsFinishedByLending (packer : PackerState) : Type 0 where
+  pub none : length packer.pending ≡ 0 → given_by_finish packer ≡ []
+  pub block : 0 < length packer.pending → given_by_finish packer ≡ padded packer.block packer.pending ∷ []
+
+-- Lending the pending block in the end, where there is one, is finishing.
+abbrev pub LendingIsFinishing : Type 0
+LendingIsFinishing = (packer : PackerState) → IsFinishedByLending packer

@@ -5,7 +5,7 @@ ghost use Rattle.emit_append.specs.GoingOn.{OneGroupIsPending, PackingGoesOn};
 ghost use Rattle.emit_append.specs.Need.{NeedGrows, NeedIsEnough};
 ghost use Rattle.emit_append.specs.OutputBlocks.{OutputBlocksAreBytes, OutputBlocksAreWhole};
 ghost use Rattle.emit_append.specs.Packed.{PackedAsDescribed};
-ghost use Rattle.emit_append.specs.Packer.{PuttingIsPacking};
+ghost use Rattle.emit_append.specs.Packer.{LendingIsFinishing, LendingIsPutting, PuttingIsPacking};
 
 /// The groups that have bytes stand in the blocks whole and in order, at least one in each, the
 /// rest of a block is zeros and shorter than the next group. This holds of the packing alone.
@@ -39,6 +39,18 @@ pub fn packing_goes_on()
 /// that one too.
 pub fn putting_is_packing()
     ensures { PuttingIsPacking }
+{}
+
+/// A caller that adds a group where there is room, and else takes the pending block with its zeros,
+/// clears the packer and adds the group then, has put it: the blocks and the packer are those of
+/// putting.
+pub fn lending_is_putting()
+    ensures { LendingIsPutting }
+{}
+
+/// A caller that takes the pending block with its zeros, where something is pending, has finished.
+pub fn lending_is_finishing()
+    ensures { LendingIsFinishing }
 {}
 
 /// No packing of groups has more blocks than `need` tells.

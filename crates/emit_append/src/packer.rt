@@ -1,6 +1,6 @@
 //! The packer, which keeps one output block.
 
-ghost use Rattle.std.specs.Prelude.{◌≡◌, ◌<◌, ◌≤◌, ◌+◌, [], ◌∷◌, ◌++◌, length, nat_le, take, IfSome};
+ghost use Rattle.std.specs.Prelude.{◌≡◌, ◌<◌, ◌≤◌, ◌+◌, ◌==◌, [], ◌∷◌, ◌++◌, length, nat_le, take, IfSome};
 ghost use Rattle.arrayvec.specs.ArrayVec.{array_vec_len};
 ghost use Rattle.emit_append.specs.Packer.{after_put, blocks_of, given_by_finish, given_by_put, new_packer};
 ghost use Rattle.emit_append.specs.Packing.{padded};
@@ -38,6 +38,10 @@ impl Model for Packer {
 }
 
 impl Packer {
+    ghost use Rattle.std.specs.Borrow.{sem};
+    ghost use Rattle.std.specs.Io.BufRead.{Rests};
+    ghost use Rattle.emit_append.specs.contracts.packer.Packer.{the_row};
+
     /// A packer for blocks of this size, with nothing pending.
     pub fn new(block: BlockSize) -> Packer
         ensures { result ≡ new_packer block }
@@ -52,9 +56,35 @@ impl Packer {
     /// Is there room for a group of so many bytes behind what is pending?
     #[inline]
     pub fn has_room(&self, bytes: usize) -> bool
-        ensures { result ≡ nat_le (length self.now.pending + bytes) self.now.block }
+        ensures room { result ≡ nat_le (length self.now.pending + bytes) self.now.block }
+        ensures fits { length self.now.pending ≤ self.now.block }
     {
         bytes <= self.block - self.pending
+    }
+
+    /// Is nothing pending?
+    #[inline]
+    pub fn is_empty(&self) -> bool
+        ensures { result ≡ (length self.now.pending == 0) }
+    {
+        self.pending == 0
+    }
+
+    /// The pending block, the rest of it zeros, lent where it stands. What is pending stays.
+    pub fn padded(&mut self) -> &[u8]
+        ensures value { result.now ≡ padded self.old.block self.old.pending }
+        ensures whole { length result.now ≡ self.old.block }
+        ensures* unchanged { sem 𝓛 (Rests the_row self.entry (λ after. after ≡ self.old)) }
+    {
+        pad(&mut self.bytes, self.pending, self.block);
+        &self.bytes[..self.block]
+    }
+
+    /// Begins an empty block. What was pending is dropped.
+    pub fn clear(&mut self)
+        ensures { self.new ≡ new_packer self.old.block }
+    {
+        self.pending = 0;
     }
 
     /// Packs one more group into the pending block, which has room for it. A loop over small groups
@@ -82,8 +112,8 @@ impl Packer {
         ensures fits { length self.new.pending ≤ self.new.block }
     {
         let full = copy(&mut self.bytes, self.pending, self.block);
-        append(&mut self.bytes, 0, group);
-        self.pending = group.len();
+        self.clear();
+        self.add(group);
         full
     }
 
@@ -111,12 +141,12 @@ impl Packer {
         ensures state { self.new ≡ new_packer self.old.block }
         ensures whole { IfSome result (λ full. array_vec_len full ≡ self.old.block) }
     {
-        let pending = self.pending;
-        if pending == 0 {
+        if self.is_empty() {
             return None;
         }
-        self.pending = 0;
-        Some(copy(&mut self.bytes, pending, self.block))
+        let rest = copy(&mut self.bytes, self.pending, self.block);
+        self.clear();
+        Some(rest)
     }
 }
 
@@ -130,6 +160,18 @@ fn append(bytes: &mut [u8], first: usize, more: &[u8])
     bytes[first..first + more.len()].copy_from_slice(more);
 }
 
+/// Writes zeros behind so many of an array's first bytes, up to a block's end.
+fn pad(bytes: &mut [u8; LARGEST_BLOCK], pending: usize, block: usize)
+    requires fits { pending ≤ block }
+    requires small { block ≤ LARGEST_BLOCK }
+    ensures block { take block bytes.new ≡ padded block (take pending bytes.old) }
+    ensures whole { length (take block bytes.new) ≡ block }
+    ensures front { take pending bytes.new ≡ take pending bytes.old }
+    ensures size { length bytes.new ≡ LARGEST_BLOCK }
+{
+    bytes[pending..block].fill(0);
+}
+
 /// The pending bytes as a block, the rest of it zeros.
 fn copy(bytes: &mut [u8; LARGEST_BLOCK], pending: usize, block: usize) -> Full
     requires fits { pending ≤ block }
@@ -138,7 +180,7 @@ fn copy(bytes: &mut [u8; LARGEST_BLOCK], pending: usize, block: usize) -> Full
     ensures whole { array_vec_len result ≡ block }
     ensures size { length bytes.new ≡ LARGEST_BLOCK }
 {
-    append(bytes, pending, &ZEROS[..block - pending]);
+    pad(bytes, pending, block);
     let mut full = Full::from(*bytes);
     full.truncate(block);
     full

@@ -1,6 +1,8 @@
 //! The worked examples of packing and reading back.
 
-ghost use Rattle.std.specs.Prelude.{◌≤◌};
+ghost use Rattle.std.specs.Prelude.{◌≡◌, ◌≤◌, ◌++◌, length, OnOk};
+ghost use Rattle.std.specs.List.{concat};
+ghost use Rattle.emit_append.specs.Packer.{after_put, given_by_put};
 
 use crate::{BlockSize, Packer, RunSizes, UnpackFault, need, unpack};
 use std::alloc::{AllocError, Global};
@@ -86,6 +88,45 @@ fn packs_where_room_is_asked_for_first(rt: HostRuntime) -> Result<(), Fail> {
     assert_eq!(rt; full.as_slice(), expected.as_slice());
     assert!(rt; packer.has_room(299));
     assert!(rt; !packer.has_room(300));
+    Ok(())
+}
+
+/// Puts a group behind the blocks, by lending the pending one where the group doesn't fit.
+fn put(packer: &mut Packer, group: &[u8], blocks: &mut Vec<u8>) -> Result<(), AllocError>
+    requires fits { length packer.old.pending ≤ packer.old.block }
+    requires whole { length group.now ≤ packer.old.block }
+    ensures state { OnOk result (packer.new ≡ after_put packer.old group.now) }
+    ensures blocks { OnOk result (blocks.new.items ≡ blocks.old.items ++ concat (given_by_put packer.old group.now)) }
+{
+    if !packer.has_room(group.len()) {
+        blocks.extend_from_slice(packer.padded())?;
+        packer.clear();
+    }
+    packer.add(group);
+    Ok(())
+}
+
+#[test]
+fn lends_the_pending_block(rt: HostRuntime) -> Result<(), Fail> {
+    let mut packer = Packer::new(BlockSize::new(512).unwrap());
+    let mut blocks = Vec::new(rt.alloc());
+    assert!(rt; packer.is_empty());
+    put(&mut packer, &[6; 300], &mut blocks)?;
+    assert!(rt; !packer.is_empty());
+    put(&mut packer, &[7; 213], &mut blocks)?;
+    put(&mut packer, &[8; 299], &mut blocks)?;
+    let mut expected = Vec::from_slice(rt.alloc(), &[6; 300])?;
+    expected.resize(512, 0)?;
+    assert_eq!(rt; blocks.as_slice(), expected.as_slice());
+    let mut expected = Vec::from_slice(rt.alloc(), &[7; 213])?;
+    expected.extend_from_slice(&[8; 299])?;
+    assert_eq!(rt; packer.padded(), expected.as_slice());
+    packer.clear();
+    assert!(rt; packer.is_empty());
+    packer.add(&[9; 2]);
+    let expected = block_with(rt.alloc(), &[9; 2], 512, 0)?;
+    assert_eq!(rt; packer.padded(), expected.as_slice());
+    assert!(rt; packer.has_room(510));
     Ok(())
 }
 
