@@ -193,7 +193,7 @@ step_shape (Commanded holds (Send lba a select_all) input) ns =
 step_shape (Failed holds z fault) ns = faulted_shape (fault_answer ns holds z fault) ns z fault
 
 -- a zone that isn't cleared can be read
-uncleared_readable : (s : ZoneState) → is_cleared s ≡ false → read_refusal s ≡ None
+pub uncleared_readable : (s : ZoneState) → is_cleared s ≡ false → read_refusal s ≡ None
 uncleared_readable Offline stays = cc
 uncleared_readable s stays = refl
 

@@ -9,7 +9,9 @@ use Rattle.zone_state.specs.Zone.{refusal, written_state}
 use Rattle.zone_state.specs.declared.state.ZoneState.{ZoneState}
 use Rattle.zone_state.specs.declared.state.ZoneState.TheVariants.{ExplicitlyOpened, Closed, Full}
 use Rattle.zone_state.specs.declared.status.Status.{Status}
+use Rattle.zone_state.specs.declared.status.TheConstants.Status.{SUCCESS}
 use Rattle.zone_resources.specs.declared.holds.Holds.{Holds}
+use Rattle.nvme_entry.specs.declared.command.StandardCommand.TheVariants.{Write, Append}
 use Rattle.nvme_entry.specs.declared.command.TheConstants.{MOST_TRANSFER}
 use Rattle.nvme_entry.specs.Checks.{demand, first_refused}
 use Rattle.image_store.specs.Blocks.{as_blocks, block_count, bytes_of}
@@ -23,7 +25,8 @@ use Rattle.zns_commands.specs.Append.{append_checks, append_effect}
 use Rattle.zns_commands.specs.Read.{read_refusal, blocks_read, read_checks, read_effect, read_meaning}
 use Rattle.zns_commands.specs.Resources.{room_for, closing_of}
 use Rattle.zns_commands.specs.Write.{write_checks, write_effect, write_plan, written}
-use Rattle.zns_commands.specs.Laws.{Step, after_all, NoneClears, AreRead, AppendedReadsBack, WrittenReadsBack}
+use Rattle.zns_commands.specs.Laws.{after_all, AreRead, AppendedReadsBack, WrittenReadsBack}
+use Rattle.zns_commands.specs.Meaning.{meaning}
 use Rattle.zns_commands.proofs.GivenWay.{has_room, written_is}
 use Rattle.zns_commands.proofs.WrittenZones.{brings, pointer_in}
 use Rattle.zns_commands.proofs.KeptBlocks.{Keeps, steps_keep, written_shape}
@@ -48,25 +51,25 @@ readable false ExplicitlyOpened = refl
 readable false s = refl
 
 -- blocks in a zone, from one of its blocks on
-record Lie (m : ZonedNamespace) (z w blocks : ℕ) (input : List ℕ) : Type 0 where
-  front : List (List ℕ)
-  more : List (List ℕ)
-  behind : List (List ℕ)
-  there : (zone_at m z).blocks ≡ front ++ (more ++ behind)
-  start : length front ≡ w
-  count : length more ≡ blocks
-  bytes : bytes_of more ≡ input
-  readable : read_refusal (zone_at m z).state ≡ None
-  inside : z < length m.zones
-  room : w + blocks ≤ m.size
-  some : 1 ≤ blocks
-  transfer : nat_le (blocks * m.block) MOST_TRANSFER ≡ true
+pub record Lie (m : ZonedNamespace) (z w blocks : ℕ) (input : List ℕ) : Type 0 where
+  pub front : List (List ℕ)
+  pub more : List (List ℕ)
+  pub behind : List (List ℕ)
+  pub there : (zone_at m z).blocks ≡ front ++ (more ++ behind)
+  pub start : length front ≡ w
+  pub count : length more ≡ blocks
+  pub bytes : bytes_of more ≡ input
+  pub readable : read_refusal (zone_at m z).state ≡ None
+  pub inside : z < length m.zones
+  pub room : w + blocks ≤ m.size
+  pub some : 1 ≤ blocks
+  pub transfer : nat_le (blocks * m.block) MOST_TRANSFER ≡ true
 
 all_pass : (a b c : Bool) (r : Option Status) (s t u : Status) → a ≡ true → b ≡ true → c ≡ true → r ≡ None
     → first_refused (demand a s ∷ None ∷ demand b t ∷ demand c u ∷ r ∷ []) ≡ None
 all_pass a b c r s t u ea eb ec er = rw (ea, eb, ec, er) refl
 
-read_back : (m : ZonedNamespace) (z w blocks : ℕ) (input : List ℕ) → Lie m z w blocks input
+pub read_back : (m : ZonedNamespace) (z w blocks : ℕ) (input : List ℕ) → Lie m z w blocks input
     → read_meaning m (z * m.size + w) blocks [] ≡ success m 0 input
 read_back m z w blocks input h =
     let lba = z * m.size + w in
@@ -92,7 +95,7 @@ read_back m z w blocks input h =
     ∙ ap (success m 0) h.bytes))))))
 
 -- they lie there as long as the zone isn't cleared
-lie_on : (ns m : ZonedNamespace) (z w blocks : ℕ) (input : List ℕ) → Lie ns z w blocks input → Keeps ns m z → Lie m z w blocks input
+pub lie_on : (ns m : ZonedNamespace) (z w blocks : ℕ) (input : List ℕ) → Lie ns z w blocks input → Keeps ns m z → Lie m z w blocks input
 lie_on ns m z w blocks input lie keeps =
     let grows = keeps.blocks in
     record {
@@ -161,28 +164,28 @@ written_lie ns holds z blocks input sound writes =
       transfer = subst (λ (s : Shape). nat_le (blocks * s.block) MOST_TRANSFER ≡ true) (sym form) writes.transfer;
     }
 
--- what was written is read, after whatever steps leave the zone uncleared
-reads_later : (ns : ZonedNamespace) (holds : Holds) (z blocks : ℕ) (input : List ℕ) (steps : List Step) → IsNamespace ns → Writes ns holds z blocks input
+-- what was written is read of each later namespace that keeps the zone
+reads_later : (ns : ZonedNamespace) (holds : Holds) (z blocks : ℕ) (input : List ℕ) (later : ZonedNamespace) → IsNamespace ns
+    → Writes ns holds z blocks input
     → let m = written ns (write_plan ns holds z) input in
-    NoneClears z steps m → AreRead (after_all steps m) (write_pointer ns z) blocks input
-reads_later ns holds z blocks input steps sound writes stays later =
+    Keeps m later z → AreRead later (write_pointer ns z) blocks input
+reads_later ns holds z blocks input later sound writes keeps any =
     let w = length (zone_at ns z).blocks in
     let plan = write_plan ns holds z in
     let m = written ns plan input in
-    let n = after_all steps m in
-    let keeps = steps_keep steps m z stays in
-    let lie = lie_on m n z w blocks input (written_lie ns holds z blocks input sound writes) keeps in
-    let same_size : n.size ≡ ns.size = ap (λ (s : Shape). s.size) (keeps.same_shape ∙ written_shape ns plan input) in
-    let address : z * ns.size + w ≡ z * n.size + w = ap (λ (k : ℕ). z * k + w) (sym same_size) in
-    ap (λ (k : ℕ). read_meaning n k blocks []) address ∙ read_back n z w blocks input lie
+    let lie = lie_on m later z w blocks input (written_lie ns holds z blocks input sound writes) keeps in
+    let same_size : later.size ≡ ns.size = ap (λ (s : Shape). s.size) (keeps.same_shape ∙ written_shape ns plan input) in
+    let address : z * ns.size + w ≡ z * later.size + w = ap (λ (k : ℕ). z * k + w) (sym same_size) in
+    ap (λ (k : ℕ). read_meaning later k blocks []) address ∙ read_back later z w blocks input lie
 
 -- what a Read gives later of the blocks that an outcome tells
-abbrev ReadsBack : ℕ → List Step → ℕ → List ℕ → Outcome → Type 0
-ReadsBack z steps blocks input done =
-    NoneClears z steps done.namespace → AreRead (after_all steps done.namespace) (done.dw0 + done.dw1 * 2 ^ 32) blocks input
+abbrev ReadsBack : ℕ → ZonedNamespace → ℕ → List ℕ → Outcome → Type 0
+ReadsBack z later blocks input done = Keeps done.namespace later z → AreRead later (done.dw0 + done.dw1 * 2 ^ 32) blocks input
 
-pub appended_reads_back : AppendedReadsBack
-appended_reads_back ns holds lba blocks input steps sound some done =
+pub appended_stays : (ns : ZonedNamespace) (holds : Holds) (lba blocks : ℕ) (input : List ℕ) (later : ZonedNamespace) → IsNamespace ns → 1 ≤ blocks
+    → (meaning ns holds (Append lba blocks) input).status ≡ SUCCESS
+    → ReadsBack (zone_number ns lba) later blocks input (meaning ns holds (Append lba blocks) input)
+appended_stays ns holds lba blocks input later sound some done =
     let none = append_passed ns holds lba blocks input done in
     let checks = append_checks ns holds lba blocks input in
     let z = zone_number ns lba in
@@ -198,16 +201,22 @@ appended_reads_back ns holds lba blocks input steps sound some done =
     } in
     let pointer = write_pointer ns z in
     let address : pointer % 2 ^ 32 + pointer / 2 ^ 32 * 2 ^ 32 ≡ pointer = mod-add-div' pointer (2 ^ 32) in
-    let m = written ns (write_plan ns holds z) input in
-    subst (λ (r : Option Status). ReadsBack z steps blocks input (concluded r ns (append_effect ns holds lba input))) (sym none)
-    (λ stays. subst (λ (k : ℕ). AreRead (after_all steps m) k blocks input) (sym address) (reads_later ns holds z blocks input steps sound writes stays))
+    subst (λ (r : Option Status). ReadsBack z later blocks input (concluded r ns (append_effect ns holds lba input))) (sym none)
+    (λ keeps. subst (λ (k : ℕ). AreRead later k blocks input) (sym address) (reads_later ns holds z blocks input later sound writes keeps))
+
+pub appended_reads_back : AppendedReadsBack
+appended_reads_back ns holds lba blocks input steps sound some done stays =
+    let m = (meaning ns holds (Append lba blocks) input).namespace in
+    appended_stays ns holds lba blocks input (after_all steps m) sound some done (steps_keep steps m (zone_number ns lba) stays)
 
 -- what a Read gives later of the blocks from an address on
-abbrev ReadsAt : ℕ → ℕ → List Step → ℕ → List ℕ → Outcome → Type 0
-ReadsAt z lba steps blocks input done = NoneClears z steps done.namespace → AreRead (after_all steps done.namespace) lba blocks input
+abbrev ReadsAt : ℕ → ℕ → ZonedNamespace → ℕ → List ℕ → Outcome → Type 0
+ReadsAt z lba later blocks input done = Keeps done.namespace later z → AreRead later lba blocks input
 
-pub written_reads_back : WrittenReadsBack
-written_reads_back ns holds lba blocks input steps sound some done =
+pub written_stays : (ns : ZonedNamespace) (holds : Holds) (lba blocks : ℕ) (input : List ℕ) (later : ZonedNamespace) → IsNamespace ns → 1 ≤ blocks
+    → (meaning ns holds (Write lba blocks) input).status ≡ SUCCESS
+    → ReadsAt (zone_number ns lba) lba later blocks input (meaning ns holds (Write lba blocks) input)
+written_stays ns holds lba blocks input later sound some done =
     let none = write_passed ns holds lba blocks input done in
     let checks = write_checks ns holds lba blocks input in
     let z = zone_number ns lba in
@@ -227,6 +236,10 @@ written_reads_back ns holds lba blocks input steps sound some done =
       room = roomed (room_for ns holds zone.state) (passed checks 6 none);
     } in
     let address : write_pointer ns z ≡ lba = omega (arith, at, mod-add-div' lba ns.size) in
-    let m = written ns (write_plan ns holds z) input in
-    subst (λ (r : Option Status). ReadsAt z lba steps blocks input (concluded r ns (write_effect ns holds lba input))) (sym none)
-    (λ stays. subst (λ (k : ℕ). AreRead (after_all steps m) k blocks input) address (reads_later ns holds z blocks input steps sound writes stays))
+    subst (λ (r : Option Status). ReadsAt z lba later blocks input (concluded r ns (write_effect ns holds lba input))) (sym none)
+    (λ keeps. subst (λ (k : ℕ). AreRead later k blocks input) address (reads_later ns holds z blocks input later sound writes keeps))
+
+pub written_reads_back : WrittenReadsBack
+written_reads_back ns holds lba blocks input steps sound some done stays =
+    let m = (meaning ns holds (Write lba blocks) input).namespace in
+    written_stays ns holds lba blocks input (after_all steps m) sound some done (steps_keep steps m (zone_number ns lba) stays)

@@ -6,6 +6,7 @@ use Rattle.zone_state.specs.declared.state.ZoneState.{ZoneState}
 use Rattle.zone_state.specs.declared.state.ZoneState.TheVariants.{Empty, Offline}
 use Rattle.zone_state.specs.declared.status.Status.{Status}
 use Rattle.zone_state.specs.declared.status.TheConstants.Status.{SUCCESS}
+use Rattle.zone_resources.specs.Holds.{no_holds}
 use Rattle.zone_resources.specs.declared.holds.Holds.{Holds}
 use Rattle.nvme_entry.specs.declared.command.StandardCommand.{StandardCommand}
 use Rattle.nvme_entry.specs.declared.command.StandardCommand.TheVariants.{Write, Read, Send, Receive, Append}
@@ -15,10 +16,10 @@ use Rattle.nvme_entry.specs.Laws.{number_in, descriptors_in}
 use Rattle.nvme_entry.specs.Report.{descriptor_at}
 use Rattle.image_store.specs.Blocks.{AreBytes}
 use Rattle.image_store.specs.Geometry.{Shape, IsShape}
-use Rattle.image_store.specs.Namespace.{ZonedNamespace, zone_at, IsNamespace, all_empty, records}
+use Rattle.image_store.specs.Namespace.{ZonedNamespace, zone_at, appended, IsNamespace, all_empty, records}
 use Rattle.zns_commands.specs.Address.{zone_number}
 use Rattle.zns_commands.specs.Answer.{Outcome, success, refused}
-use Rattle.zns_commands.specs.Append.{append_checks, append_effect}
+use Rattle.zns_commands.specs.Append.{TakesBlocks, append_checks, append_effect}
 use Rattle.zns_commands.specs.Fault.{faulted}
 use Rattle.zns_commands.specs.Meaning.{meaning}
 use Rattle.zns_commands.specs.Read.{read_checks, read_effect}
@@ -55,7 +56,18 @@ IsSpelled (Failed holds zone fault) = Unit {0}
 abbrev pub StepsKeepNamespaces : Type 0
 StepsKeepNamespaces = (steps : List Step) (ns : ZonedNamespace) → IsNamespace ns → All IsSpelled steps → IsNamespace (after_all steps ns)
 
--- and so is one of which nothing is written
+-- and so it does where blocks of bytes are put into an open zone that has room for them,
+abbrev pub BlocksKeepNamespaces : Type 0
+BlocksKeepNamespaces =
+    (ns : ZonedNamespace) (z : ℕ) (bytes : List ℕ) → IsNamespace ns → TakesBlocks ns z bytes → AreBytes bytes → IsNamespace (appended ns z bytes)
+
+-- as by an Append to that zone that meets no hold
+abbrev pub BlocksAreAppended : Type 0
+BlocksAreAppended =
+    (ns : ZonedNamespace) (z : ℕ) (bytes : List ℕ) → IsNamespace ns → TakesBlocks ns z bytes
+    → appended ns z bytes ≡ (append_effect ns no_holds (z * ns.size) bytes).namespace
+
+-- one of which nothing is written is a namespace
 abbrev pub EmptyIsNamespace : Type 0
 EmptyIsNamespace = (s : Shape) → IsShape s → IsNamespace (all_empty s)
 

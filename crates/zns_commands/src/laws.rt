@@ -2,7 +2,7 @@
 //! it ensures is the law.
 
 ghost use Rattle.zns_commands.specs.Kept.{BlocksAreAPart, DestinationsAreLeft, OthersAreLeft, ShapesAreKept, SourcesKeepBlocks};
-ghost use Rattle.zns_commands.specs.Laws.{AppendedReadsBack, EmptyIsNamespace, JustOneCase, RefusedChangesNothing, ReportsEveryZone, StepsKeepNamespaces, WrittenReadsBack};
+ghost use Rattle.zns_commands.specs.Laws.{AppendedReadsBack, BlocksAreAppended, BlocksKeepNamespaces, EmptyIsNamespace, JustOneCase, RefusedChangesNothing, ReportsEveryZone, StepsKeepNamespaces, WrittenReadsBack};
 
 /// A namespace stays one, whatever commands and faults come: its open and active zones are within the
 /// limits, each zone's state fits its written blocks, and each block is whole. One of which nothing is
@@ -10,6 +10,17 @@ ghost use Rattle.zns_commands.specs.Laws.{AppendedReadsBack, EmptyIsNamespace, J
 pub fn commands_keep_namespaces_sound()
     ensures kept { StepsKeepNamespaces }
     ensures start { EmptyIsNamespace }
+{}
+
+/// A namespace stays one where blocks of bytes are put, without a check, into an open zone that has
+/// room for them.
+pub fn added_blocks_keep_namespaces_sound()
+    ensures { BlocksKeepNamespaces }
+{}
+
+/// Such blocks come to the zone as by an Append that meets no hold.
+pub fn added_blocks_are_appended()
+    ensures { BlocksAreAppended }
 {}
 
 /// Just one case of a command holds: each check passes and it takes effect, or the first check that
