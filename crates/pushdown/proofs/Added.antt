@@ -1,0 +1,96 @@
+-- What is added to a zone.
+use Rattle.std.proofs.Common.{◌≡◌, ◌≢◌, ℕ, zero, suc, ◌+◌, ◌*◌, ◌/◌, ◌<◌, ◌≤◌, Bool, true, false, cond, List, [], ◌∷◌, ◌++◌, length, get_or, drop, refl, ap, sym, subst, ◌∙◌, arith, length-append, get_or-set_other, get_or-set_same}
+use Rattle.std.specs.Prelude.{nat_eq}
+use Rattle.std.proofs.lemmas.List.{append-nil, length-set, take_at, drop_at}
+use Rattle.std.proofs.Math.Nat.{suc-mul, mul-div_cancel}
+use Rattle.zone_state.specs.State.{is_open}
+use Rattle.zone_state.specs.Zone.{written_state}
+use Rattle.zone_state.specs.declared.state.ZoneState.{ZoneState}
+use Rattle.zone_state.specs.declared.state.ZoneState.TheVariants.{Full, Offline}
+use Rattle.emit_append.specs.OutputBlocks.{AreBytes as AllAreBytes}
+use Rattle.image_store.specs.Blocks.{AreBytes, as_blocks, block_count, blocks_of, bytes_of}
+use Rattle.image_store.specs.Geometry.{Shape}
+use Rattle.image_store.specs.Namespace.{ZoneBlocks, ZonedNamespace, appended, grown, no_zone, shape, with_zone, zone_at}
+use Rattle.pushdown.specs.Machine.{added}
+use Rattle.pushdown.proofs.Bytes.{AreBlocks, all_append, by_index, from_index}
+
+-- a zone that isn't Offline is one of the namespace
+pub inside : (zones : List ZoneBlocks) (z : ℕ) → (get_or zones z no_zone).state ≢ Offline → z < length zones
+inside [] z is = absurd (is refl)
+inside (x ∷ xs) zero is = omega arith
+inside (x ∷ xs) (suc z) is = let less = inside xs z is in omega (arith, less)
+
+pub open_on : (s : ZoneState) → is_open s ≡ true → s ≢ Offline
+open_on s is off = let none = ap is_open off in cc
+
+written_on : (s : ZoneState) → written_state s ≢ Offline
+written_on Offline e = cc
+written_on s e = cc
+
+grown_on : (full : Bool) (s : ZoneState) → cond full Full (written_state s) ≢ Offline
+grown_on true s = λ e. cc
+grown_on false s = written_on s
+
+pub record IsAdded (ns : ZonedNamespace) (z : ℕ) (blocks : List (List ℕ)) : Type 0 where
+  pub blocks_is : (zone_at (added ns z blocks) z).blocks ≡ (zone_at ns z).blocks ++ blocks
+  pub on : (zone_at (added ns z blocks) z).state ≢ Offline
+
+pub is_added : (ns : ZonedNamespace) (z : ℕ) (blocks : List (List ℕ)) → (zone_at ns z).state ≢ Offline → IsAdded ns z blocks
+is_added ns z [] on = record { blocks_is = sym (append-nil (zone_at ns z).blocks); on = on }
+is_added ns z (b ∷ bs) on =
+    let zone = grown ns.capacity (zone_at ns z) (b ∷ bs) in
+    let here : zone_at (added ns z (b ∷ bs)) z ≡ zone = get_or-set_same ns.zones z zone no_zone (inside ns.zones z on) in
+    record {
+      blocks_is = ap (λ (x : ZoneBlocks). x.blocks) here;
+      on = subst (λ (x : ZoneBlocks). x.state ≢ Offline) (sym here)
+          (grown_on (nat_eq (length (zone_at ns z).blocks + length (b ∷ bs)) ns.capacity) (zone_at ns z).state);
+    }
+
+pub added_leaves : (ns : ZonedNamespace) (z other : ℕ) (blocks : List (List ℕ)) → other ≢ z → zone_at (added ns z blocks) other ≡ zone_at ns other
+added_leaves ns z other [] differs = refl
+added_leaves ns z other (b ∷ bs) differs = get_or-set_other ns.zones z other (grown ns.capacity (zone_at ns z) (b ∷ bs)) no_zone differs
+
+pub added_shape : (ns : ZonedNamespace) (z : ℕ) (blocks : List (List ℕ)) → shape (added ns z blocks) ≡ shape ns
+added_shape ns z [] = refl
+added_shape ns z (b ∷ bs) =
+    let of : ℕ → Shape = λ n. record { block = ns.block; zones = n; size = ns.size; capacity = ns.capacity; limits = ns.limits } in
+    ap of (length-set ns.zones z (grown ns.capacity (zone_at ns z) (b ∷ bs)))
+
+-- ---- whole blocks, and their bytes
+
+module _ (block : ℕ) where
+  pub bytes_long : (blocks : List (List ℕ)) → AreBlocks block blocks → length (bytes_of blocks) ≡ length blocks * block
+  bytes_long [] h = let none : 0 * block ≡ 0 = omega arith in sym none
+  bytes_long (b ∷ bs) h =
+      let rest = bytes_long bs h.1 in
+      let joined = length-append b (bytes_of bs) in
+      let product = suc-mul (length bs) block in
+      omega (arith, rest, joined, product, h.0.whole)
+
+  all_bytes : (blocks : List (List ℕ)) → AreBlocks block blocks → AllAreBytes (bytes_of blocks)
+  all_bytes [] h = tt
+  all_bytes (b ∷ bs) h = all_append (λ byte. byte < 256) b (bytes_of bs) (from_index b h.0.are) (all_bytes bs h.1)
+
+  pub bytes_are : (blocks : List (List ℕ)) → AreBlocks block blocks → AreBytes (bytes_of blocks)
+  bytes_are blocks h = by_index (bytes_of blocks) (all_bytes blocks h)
+
+  cut_again : (blocks : List (List ℕ)) → AreBlocks block blocks → blocks_of block (length blocks) (bytes_of blocks) ≡ blocks
+  cut_again [] h = refl
+  cut_again (b ∷ bs) h =
+      ap (λ (x : List ℕ). x ∷ blocks_of block (length bs) (drop block (b ++ bytes_of bs))) (take_at b (bytes_of bs) block h.0.whole)
+      ∙ ap (λ (xs : List ℕ). b ∷ blocks_of block (length bs) xs) (drop_at b (bytes_of bs) block h.0.whole)
+      ∙ ap (λ (yss : List (List ℕ)). b ∷ yss) (cut_again bs h.1)
+
+  pub bytes_count : (blocks : List (List ℕ)) → 1 ≤ block → AreBlocks block blocks → block_count block (bytes_of blocks) ≡ length blocks
+  bytes_count blocks some h =
+      ap (λ (n : ℕ). n / block) (bytes_long blocks h) ∙ mul-div_cancel (length blocks) (omega (arith, some))
+
+  pub bytes_cut : (blocks : List (List ℕ)) → 1 ≤ block → AreBlocks block blocks → as_blocks block (bytes_of blocks) ≡ blocks
+  bytes_cut blocks some h = ap (λ (n : ℕ). blocks_of block n (bytes_of blocks)) (bytes_count blocks some h) ∙ cut_again blocks h
+
+-- blocks that are added are written as their bytes
+pub added_bytes : (ns : ZonedNamespace) (z : ℕ) (blocks : List (List ℕ)) → blocks ≢ [] → 1 ≤ ns.block → AreBlocks ns.block blocks
+    → added ns z blocks ≡ appended ns z (bytes_of blocks)
+added_bytes ns z [] some one h = absurd (some refl)
+added_bytes ns z (b ∷ bs) some one h =
+    ap (λ (more : List (List ℕ)). with_zone ns z (grown ns.capacity (zone_at ns z) more)) (sym (bytes_cut ns.block (b ∷ bs) one h))

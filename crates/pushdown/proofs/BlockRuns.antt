@@ -1,0 +1,150 @@
+-- Block runs of a program that never traps.
+use Rattle.std.proofs.Common.{◌≡◌, ℕ, ◌+◌, ◌*◌, ◌^◌, ◌<◌, ◌≤◌, Bool, true, false, cond, List, [], ◌∷◌, ◌++◌, length, replicate, refl, ap, arith, lit<, length-append}
+use Rattle.std.proofs.lemmas.List.{length-replicate}
+use Rattle.std.proofs.Math.Nat.{suc-mul}
+use Rattle.std.specs.List.{AllByRecursion, flat_map}
+use Rattle.byteorder.specs.Endian.{little_bytes}
+use Rattle.ebpf_decode.specs.Program.{instruction_count}
+use Rattle.program_interface.specs.Frame.{frame, frames}
+use Rattle.program_interface.specs.RunSizes.{AreSizes}
+use Rattle.program_interface.specs.declared.area.Area.TheVariants.{Scratch}
+use Rattle.interp.specs.Laws.{IsInRun}
+use Rattle.interp.specs.Run.{Run}
+use Rattle.interp.specs.State.{IsState, entry}
+use Rattle.interp.specs.TrapFree.{Exits, NeverTraps}
+use Rattle.interp.proofs.Entry.{entry_is}
+use Rattle.interp.proofs.Groups.{ends, enters}
+use Rattle.emit_append.specs.OutputBlocks.{AreBytes as AllAreBytes}
+use Rattle.image_store.specs.Blocks.{AreBytes}
+use Rattle.pushdown.specs.BlockRuns.{Task, block_run, block_runs, context, frames_of, goes_on, no_scratch, runs_of, scratch_after, until_ended}
+use Rattle.pushdown.proofs.Bytes.{AreBlocks, IsBlock, all_append, all_same, by_index, little_are}
+
+-- ---- the start of a block run
+
+words_are : (words : List ℕ) → AllAreBytes (flat_map (little_bytes 4) words)
+words_are [] = tt
+words_are (x ∷ xs) = all_append (λ byte. byte < 2 ^ 8) (little_bytes 4 x) (flat_map (little_bytes 4) xs) (little_are 4 x) (words_are xs)
+
+context_are : (task : Task) (index : ℕ) → AllAreBytes (context task index)
+context_are task index =
+    let P : ℕ → Type 0 = λ byte. byte < 2 ^ 8 in
+    let words = flat_map (little_bytes 4) (index ∷ task.count ∷ task.sizes.block ∷ task.argument ∷ []) in
+    let zeros : List ℕ = replicate 8 0 in
+    all_append P (little_bytes 8 (task.lba + index)) (words ++ zeros) (little_are 8 (task.lba + index))
+    (all_append P words zeros (words_are (index ∷ task.count ∷ task.sizes.block ∷ task.argument ∷ [])) (all_same P 8 0 (lit< tt)))
+
+pub record IsScratch (scratch : List ℕ) : Type 0 where
+  pub long : length scratch ≡ 1024
+  pub are : AreBytes scratch
+
+pub no_scratch_is : IsScratch no_scratch
+no_scratch_is = record {
+  long = length-replicate {A = ℕ} 1024 0;
+  are = by_index no_scratch (all_same (λ byte. byte < 2 ^ 8) 1024 0 (lit< tt));
+}
+
+-- a program that never traps over blocks of this size
+pub record IsReady (task : Task) : Type 0 where
+  pub never : NeverTraps task.program task.sizes.limit task.sizes.block
+  pub sizes : AreSizes task.sizes
+  pub small : task.sizes.block < 2 ^ 32
+
+-- a block run that ends by EXIT, with a group of whole frames, and scratch bytes for the next
+pub record IsDone (task : Task) (run : Run) : Type 0 where
+  pub exits : Exits (instruction_count task.program) task.sizes.limit run
+  pub in_run : IsInRun task.sizes.limit run.state
+  pub scratch : IsScratch (scratch_after run)
+
+module _ (task : Task) (ready : IsReady task) where
+  starts : (index : ℕ) (scratch bytes : List ℕ) → IsScratch scratch → IsBlock task.sizes.block bytes → IsState (entry bytes (context task index) scratch)
+  starts index scratch bytes is block =
+      entry_is bytes (context task index) scratch (rw block.whole ready.small) refl is.long
+      block.are (by_index (context task index) (context_are task index)) is.are
+
+  pub one_done : (index : ℕ) (scratch bytes : List ℕ) → IsScratch scratch → IsBlock task.sizes.block bytes → IsDone task (block_run task index scratch bytes)
+  one_done index scratch bytes is block =
+      let limit = task.sizes.limit in
+      let told = context task index in
+      let start = starts index scratch bytes is block in
+      let last = ends task.program limit (instruction_count task.program) 0 (entry bytes told scratch) (enters limit bytes told scratch start) in
+      record {
+        exits = ready.never bytes told scratch block.whole start;
+        in_run = last;
+        scratch = record { long = last.is.memory.lengths Scratch; are = last.is.memory.bytes Scratch };
+      }
+
+  all_done : (blocks : List (List ℕ)) (index : ℕ) (scratch : List ℕ) → IsScratch scratch → AreBlocks task.sizes.block blocks
+      → AllByRecursion (IsDone task) (block_runs task index scratch blocks)
+  all_done [] index scratch is whole = tt
+  all_done (bytes ∷ blocks) index scratch is whole =
+      let done = one_done index scratch bytes is whole.0 in
+      (done, all_done blocks (index + 1) (scratch_after (block_run task index scratch bytes)) done.scratch whole.1)
+
+  until_by : (on : Bool) (runs : List Run) → AllByRecursion (IsDone task) runs → AllByRecursion (IsDone task) (cond on runs [])
+  until_by true runs h = h
+  until_by false runs h = tt
+
+  until : (runs : List Run) → AllByRecursion (IsDone task) runs → AllByRecursion (IsDone task) (until_ended runs)
+  until [] h = tt
+  until (run ∷ runs) h = (h.0, until_by (goes_on run.end) (until_ended runs) (until runs h.1))
+
+  pub runs_done : (blocks : List (List ℕ)) → AreBlocks task.sizes.block blocks → AllByRecursion (IsDone task) (runs_of task blocks)
+  runs_done blocks whole = until (block_runs task 0 no_scratch blocks) (all_done blocks 0 no_scratch no_scratch_is whole)
+
+-- ---- how many block runs
+
+fewer_by : (on : Bool) (runs : List Run) → length (cond on runs []) ≤ length runs
+fewer_by true runs = omega arith
+fewer_by false runs = omega arith
+
+fewer : (runs : List Run) → length (until_ended runs) ≤ length runs
+fewer [] = omega arith
+fewer (run ∷ runs) =
+    let tail = fewer_by (goes_on run.end) (until_ended runs) in
+    let less = fewer runs in
+    omega (arith, tail, less)
+
+one_each : (task : Task) (index : ℕ) (scratch : List ℕ) (blocks : List (List ℕ)) → length (block_runs task index scratch blocks) ≤ length blocks
+one_each task index scratch [] = omega arith
+one_each task index scratch (b ∷ bs) =
+    let less = one_each task (index + 1) (scratch_after (block_run task index scratch b)) bs in
+    omega (arith, less)
+
+-- no more than blocks
+pub few_runs : (task : Task) (index : ℕ) (scratch : List ℕ) (blocks : List (List ℕ))
+    → length (until_ended (block_runs task index scratch blocks)) ≤ length blocks
+few_runs task index scratch blocks =
+    let less = fewer (block_runs task index scratch blocks) in
+    let same = one_each task index scratch blocks in
+    omega (arith, less, same)
+
+-- and some where there are blocks
+pub some_runs : (task : Task) (blocks : List (List ℕ)) → 1 ≤ length blocks → 1 ≤ length (runs_of task blocks)
+some_runs task [] some = absurd (omega (arith, some))
+some_runs task (bytes ∷ blocks) some = omega arith
+
+-- ---- how many frames
+
+-- each frame has two bytes of length, and at least one more
+long_frames : (records : List (List ℕ)) → AllByRecursion (λ bytes. 0 < length bytes) records → 3 * length records ≤ length (frames records)
+long_frames [] some = omega arith
+long_frames (bytes ∷ records) some =
+    let rest = long_frames records some.1 in
+    let joined = length-append (frame bytes) (frames records) in
+    let front = length-append (little_bytes 2 (length bytes)) bytes in
+    omega (arith, rest, joined, front, some.0)
+
+frames_fit : (task : Task) (run : Run) → IsDone task run → 3 * run.state.frames ≤ task.sizes.limit
+frames_fit task run done =
+    let group = done.in_run.group in
+    let long = long_frames group.records group.some in
+    let same : length run.state.group ≡ length (frames group.records) = ap length group.whole in
+    omega (arith, long, same, group.number, group.within)
+
+pub few_frames : (task : Task) (runs : List Run) → AllByRecursion (IsDone task) runs → 3 * frames_of runs ≤ length runs * task.sizes.limit
+few_frames task [] done = omega arith
+few_frames task (run ∷ runs) done =
+    let first = frames_fit task run done.0 in
+    let rest = few_frames task runs done.1 in
+    let product = suc-mul (length runs) task.sizes.limit in
+    omega (arith, first, rest, product)

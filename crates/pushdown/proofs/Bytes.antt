@@ -1,0 +1,93 @@
+-- Lists of bytes, and of whole blocks of bytes.
+use Rattle.std.proofs.Common.{◌≡◌, ℕ, zero, suc, ◌/◌, ◌^◌, ◌<◌, List, [], ◌∷◌, ◌++◌, length, take, drop, set, get_or, replicate, arith, lit<, mod-lt}
+use Rattle.std.specs.List.{AllByRecursion}
+use Rattle.std.specs.Int.{bytes_low_first}
+use Rattle.byteorder.specs.Endian.{little_bytes}
+use Rattle.emit_append.specs.OutputBlocks.{AreAllBytes, AreWhole}
+use Rattle.emit_append.specs.OutputBlocks.{AreBytes as AllAreBytes}
+use Rattle.image_store.specs.Blocks.{AreBytes}
+
+module _ {X : Type 0} (P : X → Type 0) where
+  pub all_append : (xs ys : List X) → AllByRecursion P xs → AllByRecursion P ys → AllByRecursion P (xs ++ ys)
+  all_append [] ys h k = k
+  all_append (x ∷ xs) ys h k = (h.0, all_append xs ys h.1 k)
+
+  pub all_take : (n : ℕ) (xs : List X) → AllByRecursion P xs → AllByRecursion P (take n xs)
+  all_take zero xs h = tt
+  all_take (suc n) [] h = tt
+  all_take (suc n) (x ∷ xs) h = (h.0, all_take n xs h.1)
+
+  pub all_drop : (n : ℕ) (xs : List X) → AllByRecursion P xs → AllByRecursion P (drop n xs)
+  all_drop zero xs h = h
+  all_drop (suc n) [] h = tt
+  all_drop (suc n) (x ∷ xs) h = all_drop n xs h.1
+
+  pub all_same : (n : ℕ) (x : X) → P x → AllByRecursion P (replicate n x)
+  all_same zero x h = tt
+  all_same (suc n) x h = (h, all_same n x h)
+
+  pub all_set : (xs : List X) (i : ℕ) (x : X) → AllByRecursion P xs → P x → AllByRecursion P (set xs i x)
+  all_set [] i x h k = tt
+  all_set (y ∷ ys) zero x h k = (k, h.1)
+  all_set (y ∷ ys) (suc i) x h k = (h.0, all_set ys i x h.1 k)
+
+  pub all_at : (xs : List X) (i : ℕ) (d : X) → AllByRecursion P xs → P d → P (get_or xs i d)
+  all_at [] i d h k = k
+  all_at (x ∷ xs) zero d h k = h.0
+  all_at (x ∷ xs) (suc i) d h k = all_at xs i d h.1 k
+
+-- what holds of each, for a reason that takes it from each
+pub all_from : {X : Type 0} (P Q : X → Type 0) → ((x : X) → P x → Q x) → (xs : List X) → AllByRecursion P xs → AllByRecursion Q xs
+all_from P Q f [] h = tt
+all_from P Q f (x ∷ xs) h = (f x h.0, all_from P Q f xs h.1)
+
+-- ---- bytes
+
+pub by_index : (xs : List ℕ) → AllAreBytes xs → AreBytes xs
+by_index [] h k = lit< tt
+by_index (x ∷ xs) h zero = h.0
+by_index (x ∷ xs) h (suc k) = by_index xs h.1 k
+
+pub from_index : (xs : List ℕ) → AreBytes xs → AllAreBytes xs
+from_index [] f = tt
+from_index (x ∷ xs) f = (f zero, from_index xs (λ k. f (suc k)))
+
+low_first : (i n x : ℕ) → AreBytes (bytes_low_first i n x)
+low_first i zero x k = lit< tt
+low_first zero (suc n) x zero = mod-lt x (lit< tt)
+low_first (suc i) (suc n) x zero = mod-lt (x / 256 ^ suc i) (lit< tt)
+low_first i (suc n) x (suc k) = low_first (suc i) n x k
+
+pub little_are : (n x : ℕ) → AllAreBytes (little_bytes n x)
+little_are n x = from_index (little_bytes n x) (low_first 0 n x)
+
+-- ---- blocks
+
+-- so many bytes
+pub record IsBlock (block : ℕ) (bytes : List ℕ) : Type 0 where
+  pub whole : length bytes ≡ block
+  pub are : AreBytes bytes
+
+abbrev pub AreBlocks : ℕ → List (List ℕ) → Type 0
+AreBlocks block blocks = AllByRecursion (IsBlock block) blocks
+
+pub both_blocks : (block : ℕ) (blocks : List (List ℕ)) → AreWhole block blocks → AreAllBytes blocks → AreBlocks block blocks
+both_blocks block [] whole are = tt
+both_blocks block (b ∷ bs) whole are = (record { whole = whole.0; are = by_index b are.0 }, both_blocks block bs whole.1 are.1)
+
+-- the same by their places
+pub blocks_by_place : (block : ℕ) (blocks : List (List ℕ)) → ((i : ℕ) → i < length blocks → length (get_or blocks i []) ≡ block)
+    → ((i : ℕ) → AreBytes (get_or blocks i [])) → AreBlocks block blocks
+blocks_by_place block [] whole are = tt
+blocks_by_place block (b ∷ bs) whole are =
+    (record { whole = whole 0 (omega arith); are = are 0 }, blocks_by_place block bs (λ i less. whole (suc i) (omega (arith, less))) (λ i. are (suc i)))
+
+pub whole_at : (block : ℕ) (blocks : List (List ℕ)) → AreBlocks block blocks → (i : ℕ) → i < length blocks → length (get_or blocks i []) ≡ block
+whole_at block [] h i less = absurd (omega (arith, less))
+whole_at block (b ∷ bs) h zero less = h.0.whole
+whole_at block (b ∷ bs) h (suc i) less = whole_at block bs h.1 i (omega (arith, less))
+
+pub bytes_at : (block : ℕ) (blocks : List (List ℕ)) → AreBlocks block blocks → (i : ℕ) → AreBytes (get_or blocks i [])
+bytes_at block [] h i = λ k. lit< tt
+bytes_at block (b ∷ bs) h zero = h.0.are
+bytes_at block (b ∷ bs) h (suc i) = bytes_at block bs h.1 i

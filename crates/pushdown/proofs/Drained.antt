@@ -1,0 +1,70 @@
+-- Turns of the lowest active run come to an end.
+use Rattle.std.proofs.Common.{◌≡◌, ℕ, zero, suc, ◌+◌, ◌≤◌, true, List, [], ◌∷◌, length, set, get_or, Option, Some, None, refl, ap, subst, arith}
+use Rattle.std.specs.Prelude.{is_some}
+use Rattle.std.proofs.lemmas.List.Quantifiers.{position-Some}
+use Rattle.reg_domain.specs.Domain.{Operations}
+use Rattle.verifier.specs.Laws.{AcceptedNeverTraps}
+use Rattle.pushdown.specs.Answers.{Happening}
+use Rattle.pushdown.specs.Draining.{Drains, lowest_run, turns_left, turns_left_at}
+use Rattle.pushdown.specs.Events.{state_after}
+use Rattle.pushdown.specs.Laws.{DrainingEnds}
+use Rattle.pushdown.specs.Machine.{place_left, turned}
+use Rattle.pushdown.specs.Outcome.{Ending, Turn}
+use Rattle.pushdown.specs.State.{Place, State, new_state, place_at}
+use Rattle.pushdown.proofs.Foreign.{turned_is}
+use Rattle.pushdown.proofs.States.{AreTurns, IsFine, PlaceIsFine, place_fine, reached, turn_fine}
+
+less_left : (place : Place) (later : List Turn) (ending : Option Ending) → turns_left_at (place_left place later ending) ≤ length later
+less_left place later None = omega arith
+less_left place later (Some ending) = omega arith
+
+left_after : (places : List (Option Place)) (run : ℕ) (place : Place) (new : Option Place) → get_or places run None ≡ Some place
+    → turns_left_at new + 1 ≤ length place.turns → turns_left (set places run new) + 1 ≤ turns_left places
+left_after [] run place new at less = cc
+left_after (p ∷ ps) zero place new at less = omega (arith, less, ap turns_left_at at)
+left_after (p ∷ ps) (suc run) place new at less =
+    let rest = left_after ps run place new at less in omega (arith, rest)
+
+abbrev Ends : State → Type 0
+Ends s = (runs : List ℕ) × Drains s runs
+
+one_more : (s : State) (run : ℕ) → lowest_run s ≡ Some run → turns_left (turned s run).state.places + 1 ≤ turns_left s.places
+    → Ends (turned s run).state → Ends s
+one_more s run is less rest =
+    (run ∷ rest.0, record { lowest = (is, rest.1.lowest); none_left = rest.1.none_left; few = omega (arith, less, rest.1.few) })
+
+module _ {D : Type 0} (operations : Operations D) (never : AcceptedNeverTraps operations) (block : ℕ) where
+  abbrev Fine : State → Type 0
+  Fine s = IsFine operations never block s
+
+  taken_less : (s : State) (run : ℕ) (place : Place) (turns : List Turn) → place_at s run ≡ Some place → place.turns ≡ turns
+      → AreTurns operations never block turns → turns_left (turned s run).state.places + 1 ≤ turns_left s.places
+  taken_less s run place [] here first are = absurd are.ends
+  taken_less s run place (turn ∷ later) here first are =
+      let left = place_left place later turn.ending in
+      let gone = left_after s.places run place left here (omega (arith, less_left place later turn.ending, ap length first)) in
+      let is = ap (λ (h : Happening). turns_left h.state.places) (turned_is s run place turn later here first) in
+      omega (arith, gone, is)
+
+  -- a turn of an active run leaves fewer turns
+  pub found_less : (s : State) (run : ℕ) (at : Option Place) → Fine s → place_at s run ≡ at → is_some at ≡ true
+      → turns_left (turned s run).state.places + 1 ≤ turns_left s.places
+  found_less s run None h here some = cc
+  found_less s run (Some place) h here some =
+      taken_less s run place place.turns here refl (subst (PlaceIsFine operations never block) here (place_fine operations never block s run h))
+
+  by_lowest : (n : ℕ) (s : State) (low : Option ℕ) → Fine s → turns_left s.places ≤ n → lowest_run s ≡ low
+      → ((t : State) → Fine t → turns_left t.places + 1 ≤ n → Ends t) → Ends s
+  by_lowest n s None h few is more = ([], record { lowest = tt; none_left = is; few = omega arith })
+  by_lowest n s (Some run) h few is more =
+      let less = found_less s run (place_at s run) h refl ((position-Some is_some s.places run None is).1) in
+      one_more s run is less (more (turned s run).state (turn_fine operations never block s run h) (omega (arith, less, few)))
+
+  drains : (n : ℕ) (s : State) → Fine s → turns_left s.places ≤ n → Ends s
+  drains zero s h few = by_lowest zero s (lowest_run s) h few refl (λ t fine none. absurd (omega (arith, none)))
+  drains (suc n) s h few = by_lowest (suc n) s (lowest_run s) h few refl (λ t fine less. drains n t fine (omega (arith, less)))
+
+pub draining_ends : {D : Type 0} (operations : Operations D) → AcceptedNeverTraps operations → DrainingEnds operations
+draining_ends operations never ns events is are =
+    let s = state_after operations events (new_state ns) in
+    drains operations never ns.block (turns_left s.places) s (reached operations never ns events is are) (omega arith)

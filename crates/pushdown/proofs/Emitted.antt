@@ -1,0 +1,64 @@
+-- What a run appends reads back as the records that its block runs emit.
+use Rattle.std.proofs.Common.{ℕ, ◌<◌, List, [], ◌∷◌, length, refl, ap, subst, ◌∙◌, arith, length-append}
+use Rattle.std.specs.List.{AllByRecursion, concat, flat_map}
+use Rattle.program_interface.specs.Frame.{frames}
+use Rattle.interp.specs.Run.{Run}
+use Rattle.reg_domain.specs.Domain.{Operations}
+use Rattle.verifier.specs.Laws.{AcceptedNeverTraps}
+use Rattle.emit_append.specs.Frames.{unpacked}
+use Rattle.emit_append.specs.Packed.{FitBlock}
+use Rattle.emit_append.specs.Packing.{packed}
+use Rattle.emit_append.proofs.ReadBack.{packed_frames_read_back}
+use Rattle.pushdown.specs.Admission.{source_blocks, task_of}
+use Rattle.pushdown.specs.BlockRuns.{Task, groups_of, runs_of}
+use Rattle.pushdown.specs.Events.{state_after}
+use Rattle.pushdown.specs.Laws.{AreEmitted, EmittedReadsBack}
+use Rattle.pushdown.specs.State.{new_state, program_at}
+use Rattle.pushdown.proofs.BlockRuns.{IsDone}
+use Rattle.pushdown.proofs.Outcomes.{outcome_is_packed}
+use Rattle.pushdown.proofs.States.{all_exit, groups_within, reached, ready, runs_all_done}
+
+record Emits (runs : List Run) : Type 0 where
+  records : List (List (List ℕ))
+  are : AreEmitted runs records
+  some : AllByRecursion (λ group. AllByRecursion (λ bytes. 0 < length bytes) group) records
+
+emits : (task : Task) (runs : List Run) → AllByRecursion (IsDone task) runs → Emits runs
+emits task [] done = record { records = []; are = record { groups = refl; counted = refl }; some = tt }
+emits task (run ∷ runs) done =
+    let group = done.0.in_run.group in
+    let rest = emits task runs done.1 in
+    let joined = length-append group.records (flat_map (λ (g : List (List ℕ)). g) rest.records) in
+    record {
+      records = group.records ∷ rest.records;
+      are = record {
+        groups = ap (λ (g : List ℕ). g ∷ groups_of runs) group.whole ∙ ap (λ (gs : List (List ℕ)). frames group.records ∷ gs) rest.are.groups;
+        counted = omega (arith, joined, group.number, rest.are.counted);
+      };
+      some = (group.some, rest.some);
+    }
+
+pub emitted_reads_back : {D : Type 0} (operations : Operations D) → AcceptedNeverTraps operations → EmittedReadsBack operations
+emitted_reads_back operations never ns events is are sub order run admitted =
+    let s = state_after operations events (new_state ns) in
+    let fine = reached operations never ns events is are in
+    let none = admitted.passed in
+    let task = task_of s.namespace (program_at s order.slot) order in
+    let source = source_blocks s.namespace order in
+    let runs = runs_of task source in
+    let block = task.sizes.block in
+    let done = runs_all_done operations never ns.block sub s order fine none in
+    let given = emits task runs done in
+    let sizes = (ready operations never ns.block sub s order fine none).sizes in
+    let whole = (outcome_is_packed task source (all_exit operations never ns.block sub s order fine none)).blocks in
+    let fit = subst (FitBlock block) given.are.groups (groups_within task runs sizes.fits done) in
+    let back = packed_frames_read_back block given.records
+    (omega (arith, fine.is.shape.block_some)) (omega (arith, fine.is.shape.block_most)) given.some fit in (
+      given.records,
+      (
+        given.are,
+        ap (λ (blocks : List (List ℕ)). unpacked block (concat blocks)) whole
+            ∙ ap (λ (groups : List (List ℕ)). unpacked block (concat (packed block groups))) given.are.groups
+            ∙ back,
+      ),
+    )

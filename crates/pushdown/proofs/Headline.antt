@@ -1,0 +1,207 @@
+-- The pushdown theorem.
+use Rattle.std.proofs.Common.{◌≡◌, ◌≢◌, ℕ, zero, suc, ◌/◌, ◌<◌, ◌≤◌, Bool, List, [], ◌∷◌, length, set, get_or, Option, Some, None, refl, ap, sym, subst, ◌∙◌, arith, get_or-set_same}
+use Rattle.std.specs.Prelude.{is_some, Vec}
+use Rattle.std.specs.declared.alloc.Global.{Global}
+use Rattle.std.proofs.lemmas.Nat.{mul-le}
+use Rattle.zone_state.specs.State.{is_open}
+use Rattle.zone_state.specs.Zone.{IsZone}
+use Rattle.zone_state.specs.declared.state.ZoneState.{ZoneState}
+use Rattle.zone_state.specs.declared.state.ZoneState.TheVariants.{ImplicitlyOpened, ReadOnly, Full, Offline}
+use Rattle.zone_state.specs.declared.status.Status.{Status}
+use Rattle.zone_state.specs.declared.status.TheConstants.Status.{DESTINATION_NOT_OPEN}
+use Rattle.nvme_entry.specs.declared.command.Command.TheVariants as command
+use Rattle.nvme_entry.specs.declared.command.RunCommand.{RunCommand}
+use Rattle.ebpf_decode.specs.Program.{instruction_count}
+use Rattle.interp.specs.Run.{Run}
+use Rattle.reg_domain.specs.Domain.{Operations}
+use Rattle.verifier.specs.Laws.{AcceptedNeverTraps}
+use Rattle.image_store.specs.Namespace.{ZoneBlocks, ZonedNamespace, IsNamespace, no_zone, shape, zone_at}
+use Rattle.zns_commands.proofs.PassedChecks.{demanded, passed}
+use Rattle.pushdown.specs.Admission.{admission_checks, source_blocks, task_of}
+use Rattle.pushdown.specs.Answers.{Happening, Submission, plain}
+use Rattle.pushdown.specs.BlockRuns.{no_scratch, runs_of}
+use Rattle.pushdown.specs.Events.{Occurrence, state_after}
+use Rattle.pushdown.specs.Laws.{AdmittedStarts, StartsRun}
+use Rattle.pushdown.specs.Machine.{admitted_place, happens, start_by, submitted}
+use Rattle.pushdown.specs.Outcome.{Turn, outcome}
+use Rattle.pushdown.specs.Pushdown.{ChangesDestinationAlone, DoesItsTurns, EndsWithLast, IsAdmitted, Pushdown, TellsWhole, blocks_at, no_turn, own_turns}
+use Rattle.pushdown.specs.State.{Place, State, free_run, holds_of, new_state, place_at, program_at, with_place}
+use Rattle.pushdown.specs.declared.event.Event.TheVariants as event
+use Rattle.pushdown.specs.declared.reply.Reply.TheVariants as reply
+use Rattle.pushdown.proofs.Added.{added_leaves, added_shape, open_on}
+use Rattle.pushdown.proofs.BlockRuns.{IsDone, few_frames, few_runs}
+use Rattle.pushdown.proofs.Bytes.{all_from}
+use Rattle.pushdown.proofs.Doing.{Next, Ready, Stands, next_is, stand}
+use Rattle.pushdown.proofs.Foreign.{free_within}
+use Rattle.pushdown.proofs.Outcomes.{outcome_is_packed}
+use Rattle.pushdown.proofs.Places.{AreApart, event_apart}
+use Rattle.pushdown.proofs.Spelled.{decoded_has}
+use Rattle.pushdown.proofs.States.{IsFine, admitted_room, all_exit, few_source, reached, ready as is_ready, runs_all_done, some_run, turns_are, written}
+
+-- ---- a run that is admitted, and the events after it
+
+module _ {D : Type 0} (operations : Operations D) (s : State) (queue : ℕ) (entry : List ℕ) (payload : Vec ℕ Global) (order : RunCommand) (run : ℕ) where
+  abbrev sub : Submission
+  sub = record { queue = queue; entry = entry; payload = payload.items }
+
+  abbrev place : Place
+  place = admitted_place sub s order
+
+  abbrev begun : Bool → Happening
+  begun starved = happens operations s starved (event.Submit queue entry payload)
+
+  started : (starved : Bool) → IsAdmitted s sub order run
+      → begun starved ≡ record { answer = plain (reply.Pending run); state = with_place s run (Some place) }
+  started starved admitted =
+      ap (submitted operations starved sub s) admitted.asked
+      ∙ ap (λ (why : Option Status). start_by why (free_run s) sub s order) admitted.passed
+      ∙ ap (λ (free : Option ℕ). start_by None free sub s order) admitted.free
+
+  placed : IsAdmitted s sub order run → get_or (set s.places run (Some place)) run None ≡ Some place
+  placed admitted = get_or-set_same s.places run (Some place) None (free_within s.places run admitted.free)
+
+  pub starts : (starved : Bool) → IsAdmitted s sub order run → StartsRun s sub order run (begun starved)
+  starts starved admitted =
+      let is = started starved admitted in
+      record {
+        answer = ap (λ (h : Happening). h.answer) is;
+        place = ap (λ (h : Happening). place_at h.state run) is ∙ placed admitted;
+        namespace = ap (λ (h : Happening). h.state.namespace) is;
+      }
+
+  destination_on : IsAdmitted s sub order run → (zone_at s.namespace place.destination).state ≢ Offline
+  destination_on admitted =
+      let checks = admission_checks s.namespace (holds_of s) (is_some (free_run s)) (program_at s order.slot) order sub.payload in
+      let state = (zone_at s.namespace place.destination).state in
+      open_on state (demanded (is_open state) DESTINATION_NOT_OPEN (passed checks 12 admitted.passed))
+
+  module _ (apart : AreApart s.places) (starved : Bool) (admitted : IsAdmitted s sub order run) (ends : EndsWithLast place.turns) (events : List Occurrence)
+      (within : own_turns run events < length place.turns) where
+    abbrev first : State
+    first = (begun starved).state
+
+    abbrev now : State
+    now = state_after operations events first
+
+    abbrev done : ℕ
+    done = own_turns run events
+
+    same_namespace : first.namespace ≡ s.namespace
+    same_namespace = (starts starved admitted).namespace
+
+    ready : Ready operations run place first place.turns
+    ready = record {
+      apart = event_apart operations s starved (event.Submit queue entry payload) apart;
+      at = (starts starved admitted).place;
+      on = subst (λ (ns : ZonedNamespace). (zone_at ns place.destination).state ≢ Offline) (sym same_namespace) (destination_on admitted);
+      goes = ends;
+    }
+
+    stands : Stands first now run place place.turns done
+    stands = stand operations run place events done first place.turns ready refl within
+
+    next : Next first now run place place.turns done
+    next = next_is first now run place place.turns done stands within
+
+    same_blocks : blocks_at first place.destination ≡ blocks_at s place.destination
+    same_blocks = ap (λ (ns : ZonedNamespace). (zone_at ns place.destination).blocks) same_namespace
+
+    pub does_its_turns : DoesItsTurns operations s queue entry payload starved order run events
+    does_its_turns = record {
+      left = stands.left;
+      appended = rw same_blocks at stands.appended;
+      answer = next.answer;
+      then_appended = rw same_blocks at next.then_appended;
+      then_left = next.then_left;
+      then_slots = next.then_slots;
+    }
+
+    pub changes_destination_alone : ChangesDestinationAlone operations s queue entry payload starved order run events
+    changes_destination_alone =
+        let blocks = (get_or place.turns done no_turn).blocks in
+        record {
+          others = λ z differs.
+              ap (λ (ns : ZonedNamespace). zone_at ns z) next.namespace
+              ∙ added_leaves now.namespace place.destination z blocks differs;
+          shape_kept = ap shape next.namespace ∙ added_shape now.namespace place.destination blocks;
+          at_its_end = next.at_its_end;
+          runs_left = next.runs_left;
+          slots_left = next.slots_kept;
+          program_left = next.program_left;
+          same_blocks = λ ns same_size same_source.
+              let of : ℕ → List (List ℕ) → List Turn =
+              λ block source. outcome (task_of (record s.namespace { block = block }) (program_at s order.slot) order) source in
+              ap (λ (block : ℕ). of block (source_blocks ns order)) same_size ∙ ap (of s.namespace.block) same_source;
+        }
+
+module _ {D : Type 0} (operations : Operations D) where
+  pub admitted_starts : AdmittedStarts operations
+  admitted_starts s starved queue entry payload order run admitted = starts operations s queue entry payload order run starved admitted
+
+-- ---- the completion's dwords
+
+zone_most : (state : ZoneState) (blocks capacity : ℕ) → IsZone state blocks capacity → blocks ≤ capacity
+zone_most ImplicitlyOpened blocks capacity is = omega (arith, is.1.1)
+zone_most ReadOnly blocks capacity is = is.1
+zone_most Full blocks capacity is = is.1
+zone_most state blocks capacity is = omega (arith, is.1)
+
+blocks_most : (capacity : ℕ) (zones : List ZoneBlocks) → ((z : ℕ) → z < length zones → length (get_or zones z no_zone).blocks ≤ capacity)
+    → (z : ℕ) → length (get_or zones z no_zone).blocks ≤ capacity
+blocks_most capacity [] each z = omega arith
+blocks_most capacity (x ∷ xs) each zero = each 0 (omega arith)
+blocks_most capacity (x ∷ xs) each (suc z) = blocks_most capacity xs (λ k less. each (suc k) (omega (arith, less))) z
+
+written_most : (ns : ZonedNamespace) (z : ℕ) → IsNamespace ns → length (zone_at ns z).blocks ≤ ns.capacity
+written_most ns z is =
+    blocks_most ns.capacity ns.zones
+    (λ k less. zone_most (zone_at ns k).state (length (zone_at ns k).blocks) ns.capacity (is.fits k less)) z
+
+-- ---- the theorem
+
+module _ {D : Type 0} (operations : Operations D) (never : AcceptedNeverTraps operations) (block : ℕ) (s : State) (fine : IsFine operations never block s)
+    (queue : ℕ) (entry : List ℕ) (payload : Vec ℕ Global) (starved : Bool) (order : RunCommand) (run : ℕ) (events : List Occurrence) where
+  abbrev given : Submission
+  given = record { queue = queue; entry = entry; payload = payload.items }
+
+  tells_whole : IsAdmitted s given order run → TellsWhole operations s queue entry payload starved order run events
+  tells_whole admitted =
+      let none = admitted.passed in
+      let ns = s.namespace in
+      let task = task_of ns (program_at s order.slot) order in
+      let source = source_blocks ns order in
+      let runs = runs_of task source in
+      let some = decoded_has entry (command.Run order) admitted.asked in
+      let whole = outcome_is_packed task source (all_exit operations never block given s order fine none) in
+      let frames = few_frames task runs (runs_all_done operations never block given s order fine none) in
+      let few = few_runs task 0 no_scratch source in
+      let asked = written operations never block given s order fine none in
+      let most = written_most ns (order.lba / ns.size) fine.is in
+      let limit = (is_ready operations never block given s order fine none).sizes.fits in
+      let product = mul-le (length runs) task.sizes.limit ns.capacity ns.block
+      (omega (arith, few, few_source ns order, asked, most)) limit in
+      let shape = fine.is.shape in
+      let room = (admitted_room operations never block given s order fine none).room in
+      record {
+        ending = whole.ending (some_run operations never block given s order fine none some);
+        frames = omega (arith, frames, product, shape.slot);
+        blocks = omega (arith, room, shape.capacity_most, shape.size_most);
+      }
+
+pub pushdown : {D : Type 0} (operations : Operations D) → AcceptedNeverTraps operations → Pushdown operations
+pushdown operations never ns before is are queue entry payload starved order run after admitted =
+    let sub : Submission = record { queue = queue; entry = entry; payload = payload.items } in
+    let s = state_after operations before (new_state ns) in
+    let fine = reached operations never ns before is are in
+    let task = task_of s.namespace (program_at s order.slot) order in
+    let runs = runs_of task (source_blocks s.namespace order) in
+    let none = admitted.passed in
+    let done = runs_all_done operations never ns.block sub s order fine none in
+    let ends = (turns_are operations never ns.block sub s order fine none (decoded_has entry (command.Run order) admitted.asked)).ends in
+    record {
+      no_turn_traps = record { exits = all_exit operations never ns.block sub s order fine none; ends = ends };
+      few_steps = all_from (IsDone task) (λ (r : Run). r.steps ≤ instruction_count task.program) (λ r h. h.exits.steps) runs done;
+      changes_destination_alone = changes_destination_alone operations s queue entry payload order run fine.apart starved admitted ends after;
+      does_its_turns = does_its_turns operations s queue entry payload order run fine.apart starved admitted ends after;
+      tells_whole = tells_whole operations never ns.block s fine queue entry payload starved order run after admitted;
+    }

@@ -1,0 +1,57 @@
+-- What Load comes to: nothing changes, or an accepted program takes its slot.
+use Rattle.std.proofs.Common.{◌≡◌, Bool, true, false, List, Option, Some, None, Result, Ok, Err, refl, inl, inr}
+use Rattle.std.specs.Prelude.{◌⊎◌}
+use Rattle.zone_state.specs.declared.status.Status.{Status}
+use Rattle.nvme_entry.specs.Checks.{first_refused}
+use Rattle.nvme_entry.specs.declared.command.LoadCommand.{LoadCommand}
+use Rattle.ebpf_decode.specs.Reading.{decoded as program_in_bytes}
+use Rattle.ebpf_decode.specs.declared.fault.Fault.{Fault}
+use Rattle.ebpf_decode.specs.declared.insn.Insn.{Insn}
+use Rattle.reg_domain.specs.Domain.{Operations}
+use Rattle.verifier.specs.Accepted.{refusal}
+use Rattle.verifier.specs.declared.reason.Refusal.{Refusal}
+use Rattle.pushdown.specs.Answers.{Happening, Submission}
+use Rattle.pushdown.specs.Machine.{judged, just_loaded, load_checks, load_unless, loading, read_program, sizes_for}
+use Rattle.pushdown.specs.State.{State, with_slot}
+use Rattle.pushdown.specs.declared.reply.Reply.{Reply}
+use Rattle.pushdown.specs.declared.reply.Reply.TheVariants as reply
+
+abbrev pub is_pending : Reply → Bool
+is_pending (reply.Pending run) = true
+is_pending (reply.Complete queue entry length) = false
+is_pending reply.Idle = false
+is_pending reply.Done = false
+is_pending reply.FaultRefused = false
+
+module _ {D : Type 0} (operations : Operations D) (sub : Submission) (s : State) (load : LoadCommand) where
+  -- no check fails, and the program that the bytes spell is accepted
+  pub record TakesSlot (t : State) : Type 0 where
+    pub program : List (Option Insn)
+    pub passed : first_refused (load_checks s load sub.payload) ≡ None
+    pub read : program_in_bytes sub.payload ≡ Ok program
+    pub accepted : refusal operations program (sizes_for s load) ≡ None
+    pub taken : t ≡ with_slot s load.slot (Some (just_loaded program load.limit))
+
+  pub record IsLoad (h : Happening) : Type 0 where
+    pub answered : is_pending h.answer.reply ≡ false
+    pub state : (h.state ≡ s) ⊎ TakesSlot h.state
+
+  judged_is : (program : List (Option Insn)) (why : Option Refusal) → first_refused (load_checks s load sub.payload) ≡ None
+      → program_in_bytes sub.payload ≡ Ok program → refusal operations program (sizes_for s load) ≡ why → IsLoad (judged sub s load program why)
+  judged_is program (Some why) passed read e = record { answered = refl; state = inl refl }
+  judged_is program None passed read e =
+      record { answered = refl; state = inr (record { program = program; passed = passed; read = read; accepted = e; taken = refl }) }
+
+  read_is : (read : Result (List (Option Insn)) Fault) → first_refused (load_checks s load sub.payload) ≡ None
+      → program_in_bytes sub.payload ≡ read → IsLoad (read_program operations sub s load read)
+  read_is (Err fault) passed e = record { answered = refl; state = inl refl }
+  read_is (Ok program) passed e = judged_is program (refusal operations program (sizes_for s load)) passed e refl
+
+  unless_is : (why : Option Status) (starved : Bool) → first_refused (load_checks s load sub.payload) ≡ why
+      → IsLoad (load_unless operations why starved sub s load)
+  unless_is (Some status) starved e = record { answered = refl; state = inl refl }
+  unless_is None true e = record { answered = refl; state = inl refl }
+  unless_is None false e = read_is (program_in_bytes sub.payload) e refl
+
+  pub loading_is : (starved : Bool) → IsLoad (loading operations starved sub s load)
+  loading_is starved = unless_is (first_refused (load_checks s load sub.payload)) starved refl

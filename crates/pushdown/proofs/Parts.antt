@@ -1,0 +1,116 @@
+-- Lists of events, in parts, and turns as events.
+use Rattle.std.proofs.Common.{suc, ◌≡◌, ℕ, List, [], ◌∷◌, ◌++◌, map, Option, Some, None, refl, ap, sym, subst, ◌∙◌, append_assoc}
+use Rattle.std.proofs.lemmas.List.{map-append}
+use Rattle.reg_domain.specs.Domain.{Operations}
+use Rattle.pushdown.specs.Answers.{Taken, and_then}
+use Rattle.pushdown.specs.Draining.{AreLowest, Drains, answers_to_turns, lowest_run, state_after_turns}
+use Rattle.pushdown.specs.Events.{Occurrence, answers_to, state_after}
+use Rattle.pushdown.specs.Machine.{happens, turned}
+use Rattle.pushdown.specs.Parts.{DrainedByTurns, DrainedInOneWay, InParts, OneAnswerEach, ServedAndDrained, ServedInParts, turns_of}
+use Rattle.pushdown.specs.State.{State}
+use Rattle.pushdown.specs.declared.event.Event.{Event}
+
+pub and_then-and_then : (before : Option (List Taken)) (first later : List Taken) → and_then (and_then before first) later ≡ and_then before (first ++ later)
+and_then-and_then None first later = refl
+and_then-and_then (Some xs) first later = ap Some (append_assoc xs first later)
+
+module _ {D : Type 0} (operations : Operations D) where
+  abbrev next : Occurrence → State → State
+  next o s = (happens operations s o.starved o.event).state
+
+  pub one_answer_each : OneAnswerEach operations
+  one_answer_each [] s = refl
+  one_answer_each (o ∷ os) s = ap suc (one_answer_each os (next o s))
+
+  pub state_after-append : (first later : List Occurrence) (s : State)
+      → state_after operations (first ++ later) s ≡ state_after operations later (state_after operations first s)
+  state_after-append [] later s = refl
+  state_after-append (o ∷ os) later s = state_after-append os later (next o s)
+
+  pub answers_to-append : (first later : List Occurrence) (s : State)
+      → answers_to operations (first ++ later) s
+      ≡ answers_to operations first s ++ answers_to operations later (state_after operations first s)
+  answers_to-append [] later s = refl
+  answers_to-append (o ∷ os) later s =
+      ap (λ (answers : List Taken). (happens operations s o.starved o.event).answer ∷ answers) (answers_to-append os later (next o s))
+
+  pub in_parts : InParts operations
+  in_parts first later s = record { answers = answers_to-append first later s; state = state_after-append first later s }
+
+  -- the answers that were taken, with those of later events behind them
+  taken_in_parts : (first later : List Occurrence) (old between : State) (before then taken : Option (List Taken))
+      → between ≡ state_after operations first old → then ≡ and_then before (answers_to operations first old)
+      → taken ≡ and_then then (answers_to operations later between)
+      → taken ≡ and_then before (answers_to operations (first ++ later) old)
+  taken_in_parts first later old between before then taken state early late =
+      let done = answers_to operations first old in
+      late
+      ∙ ap (λ (b : Option (List Taken)). and_then b (answers_to operations later between)) early
+      ∙ and_then-and_then before done (answers_to operations later between)
+      ∙ ap (λ (s : State). and_then before (done ++ answers_to operations later s)) state
+      ∙ ap (and_then before) (sym (answers_to-append first later old))
+
+  state_in_parts : (first later : List Occurrence) (old between new : State)
+      → between ≡ state_after operations first old → new ≡ state_after operations later between
+      → new ≡ state_after operations (first ++ later) old
+  state_in_parts first later old between new state last =
+      last ∙ ap (state_after operations later) state ∙ sym (state_after-append first later old)
+
+  pub served_in_parts : ServedInParts operations
+  served_in_parts first later old between new before then taken a b = record {
+    occurrences = a.occurrences ++ b.occurrences;
+    are =
+        map-append (λ (o : Occurrence). o.event) a.occurrences b.occurrences
+        ∙ ap (λ (events : List Event). events ++ map (λ (o : Occurrence). o.event) b.occurrences) a.are
+        ∙ ap (λ (events : List Event). first ++ events) b.are;
+    state = state_in_parts a.occurrences b.occurrences old between new a.state b.state;
+    answers = taken_in_parts a.occurrences b.occurrences old between before then taken a.state a.answers b.answers;
+  }
+
+  -- ---- turns as events
+
+  pub turns_state : (runs : List ℕ) (s : State) → state_after_turns runs s ≡ state_after operations (turns_of runs) s
+  turns_state [] s = refl
+  turns_state (run ∷ runs) s = turns_state runs (turned s run).state
+
+  pub turns_answers : (runs : List ℕ) (s : State) → answers_to_turns runs s ≡ answers_to operations (turns_of runs) s
+  turns_answers [] s = refl
+  turns_answers (run ∷ runs) s =
+      ap (λ (answers : List Taken). (turned s run).answer ∷ answers) (turns_answers runs (turned s run).state)
+
+  pub drained_by_turns : DrainedByTurns operations
+  drained_by_turns runs s = record { answers = turns_answers runs s; state = turns_state runs s }
+
+  pub served_and_drained : ServedAndDrained operations
+  served_and_drained events old between new before then taken served drained =
+      let runs = drained.runs in
+      let turns = turns_of runs in
+      record {
+        occurrences = served.occurrences;
+        are = served.are;
+        runs = runs;
+        drains = subst (λ (s : State). Drains s runs) served.state drained.drains;
+        state = state_in_parts served.occurrences turns old between new served.state (drained.state ∙ turns_state runs between);
+        answers = taken_in_parts served.occurrences turns old between before then taken served.state served.answers
+            (drained.answers ∙ ap (and_then then) (turns_answers runs between));
+        none_left = ap lowest_run drained.state ∙ drained.drains.none_left;
+      }
+
+-- ---- what drains a state
+
+only_way : (runs others : List ℕ) (s : State) → AreLowest runs s → lowest_run (state_after_turns runs s) ≡ None
+    → AreLowest others s → lowest_run (state_after_turns others s) ≡ None → runs ≡ others
+only_way [] [] s a none b gone = refl
+only_way [] (other ∷ others) s a none b gone = absurd (let clash = b.0 in cc)
+only_way (run ∷ runs) [] s a none b gone = absurd (let clash = a.0 in cc)
+only_way (run ∷ runs) (other ∷ others) s a none b gone =
+    let low = a.0 in
+    let too = b.0 in
+    let same : other ≡ run = cc in
+    let lowest = subst (λ (r : ℕ). AreLowest others (turned s r).state) same b.1 in
+    let left = subst (λ (r : ℕ). lowest_run (state_after_turns others (turned s r).state) ≡ None) same gone in
+    ap (λ (rs : List ℕ). run ∷ rs) (only_way runs others (turned s run).state a.1 none lowest left)
+    ∙ ap (λ (r : ℕ). r ∷ others) (sym same)
+
+pub drained_in_one_way : DrainedInOneWay
+drained_in_one_way s runs others a b = only_way runs others s a.lowest a.none_left b.lowest b.none_left

@@ -1,0 +1,61 @@
+-- An entry that is answered Pending is a Run that is admitted.
+use Rattle.std.proofs.Common.{◌≡◌, ℕ, Bool, true, false, Option, Some, None, Result, Ok, Err, refl, ap}
+use Rattle.zone_state.specs.declared.status.Status.{Status}
+use Rattle.nvme_entry.specs.Checks.{first_refused}
+use Rattle.nvme_entry.specs.Entry.{decoded}
+use Rattle.nvme_entry.specs.declared.command.Command.{Command}
+use Rattle.nvme_entry.specs.declared.command.Command.TheVariants as command
+use Rattle.nvme_entry.specs.declared.command.RunCommand.{RunCommand}
+use Rattle.reg_domain.specs.Domain.{Operations}
+use Rattle.zns_commands.specs.Transfer.{transfer_checks}
+use Rattle.pushdown.specs.Admission.{Loaded}
+use Rattle.pushdown.specs.Answers.{Happening, Submission, Taken, plain}
+use Rattle.pushdown.specs.Laws.{PendingIsAdmitted}
+use Rattle.pushdown.specs.Machine.{result_by, start_by, submitted, why_not_run}
+use Rattle.pushdown.specs.Pushdown.{IsAdmitted}
+use Rattle.pushdown.specs.State.{State, free_run, program_at}
+use Rattle.pushdown.specs.declared.reply.Reply.{Reply}
+use Rattle.pushdown.specs.declared.reply.Reply.TheVariants as reply
+use Rattle.pushdown.proofs.Loads.{is_pending, loading_is}
+
+abbrev number_in : Reply → ℕ
+number_in (reply.Pending run) = run
+number_in (reply.Complete queue entry length) = 0
+number_in reply.Idle = 0
+number_in reply.Done = 0
+number_in reply.FaultRefused = 0
+
+other_reply : (t : Taken) (run : ℕ) → is_pending t.reply ≡ false → t ≡ plain (reply.Pending run) → ⊥
+other_reply t run other is =
+    let pends_so : is_pending t.reply ≡ true = ap (λ (x : Taken). is_pending x.reply) is in cc
+
+abbrev IsPending : ℕ → Happening → Type 0
+IsPending run h = h.answer ≡ plain (reply.Pending run)
+
+given_pends : (slot : Option Loaded) (why : Option Status) (sub : Submission) (s : State) (run : ℕ) → IsPending run (result_by slot why sub s) → ⊥
+given_pends slot (Some status) sub s run is = other_reply _ run refl is
+given_pends None None sub s run is = other_reply _ run refl is
+given_pends (Some loaded) None sub s run is = other_reply _ run refl is
+
+start_pends : (why : Option Status) (free : Option ℕ) (sub : Submission) (s : State) (order : RunCommand) (run : ℕ)
+    → IsPending run (start_by why free sub s order) → (why ≡ None) × (free ≡ Some run)
+start_pends (Some status) free sub s order run is = absurd (other_reply _ run refl is)
+start_pends None None sub s order run is = absurd (other_reply _ run refl is)
+start_pends None (Some first) sub s order run is = let same : first ≡ run = ap (λ (x : Taken). number_in x.reply) is in (refl, ap Some same)
+
+module _ {D : Type 0} (operations : Operations D) where
+  pends : (starved : Bool) (sub : Submission) (s : State) (asked : Result Command Status) (run : ℕ) → decoded sub.entry ≡ asked
+      → IsPending run (submitted operations starved sub s asked) → (order : RunCommand) × IsAdmitted s sub order run
+  pends starved sub s (Err status) run e is = absurd (other_reply _ run refl is)
+  pends starved sub s (Ok (command.Standard c)) run e is = absurd (other_reply _ run refl is)
+  pends starved sub s (Ok (command.Load load)) run e is =
+      absurd (other_reply _ run (loading_is operations sub s load starved).answered is)
+  pends starved sub s (Ok (command.Run order)) run e is =
+      let both = start_pends (why_not_run sub s order) (free_run s) sub s order run is in
+      (order, record { asked = e; passed = both.0; free = both.1 })
+  pends starved sub s (Ok (command.Result slot)) run e is =
+      absurd (given_pends (program_at s slot) (first_refused (transfer_checks 0 0 sub.payload)) sub s run is)
+
+  pub pending_is_admitted : PendingIsAdmitted operations
+  pending_is_admitted s starved queue entry payload run is =
+      pends starved (record { queue = queue; entry = entry; payload = payload.items }) s (decoded entry) run refl is

@@ -1,0 +1,202 @@
+-- What was written is read back, whatever events happen in between.
+use Rattle.std.proofs.Common.{◌≡◌, ℕ, zero, suc, ◌+◌, ◌*◌, ◌^◌, ◌<◌, ◌≤◌, Bool, List, [], ◌∷◌, ◌++◌, length, get_or, take, drop, None, Result, refl, ap, sym, subst, ◌∙◌, arith, append_assoc, length-append}
+use Rattle.std.proofs.lemmas.Bool.{le-leb}
+use Rattle.std.proofs.lemmas.List.{append-nil, length-drop, length-take-le, take-append-drop}
+use Rattle.zone_state.specs.Zone.{IsZone}
+use Rattle.zone_state.specs.declared.state.ZoneState.{ZoneState}
+use Rattle.zone_state.specs.declared.state.ZoneState.TheVariants.{Empty, ImplicitlyOpened, ExplicitlyOpened, Closed, ReadOnly, Full, Offline}
+use Rattle.zone_state.specs.declared.status.Status.{Status}
+use Rattle.nvme_entry.specs.declared.command.Command.{Command}
+use Rattle.nvme_entry.specs.declared.command.Command.TheVariants as command
+use Rattle.nvme_entry.specs.declared.command.StandardCommand.{StandardCommand}
+use Rattle.nvme_entry.specs.declared.command.StandardCommand.TheVariants.{Write, Read, Append}
+use Rattle.nvme_entry.specs.declared.command.TheConstants.{MOST_TRANSFER}
+use Rattle.reg_domain.specs.Domain.{Operations}
+use Rattle.image_store.specs.Blocks.{bytes_of}
+use Rattle.image_store.specs.Namespace.{ZoneBlocks, ZonedNamespace, no_zone, zone_at, IsNamespace}
+use Rattle.zns_commands.specs.Address.{zone_number}
+use Rattle.zns_commands.specs.Answer.{Outcome, success}
+use Rattle.zns_commands.specs.Meaning.{meaning}
+use Rattle.zns_commands.specs.Read.{read_meaning, read_refusal}
+use Rattle.zns_commands.proofs.KeptBlocks.{Keeps}
+use Rattle.zns_commands.proofs.ReadBack.{Lie, appended_stays, read_back, written_stays}
+use Rattle.pushdown.specs.Answers.{Happening, Submission}
+use Rattle.pushdown.specs.Events.{Occurrence, state_after}
+use Rattle.pushdown.specs.Machine.{commanded, happens, submitted}
+use Rattle.pushdown.specs.Pushdown.{blocks_at}
+use Rattle.pushdown.specs.ReadBack.{AppendedReadsBack, AreRead, BlocksAreRead, IsCompleted, NoneClears, Submits, WrittenIsRead, WrittenReadsBack}
+use Rattle.pushdown.specs.State.{State, holds_of}
+use Rattle.pushdown.specs.declared.event.Event.{Event}
+use Rattle.pushdown.specs.declared.event.Event.TheVariants as event
+use Rattle.pushdown.proofs.Lasting.{events_keep}
+use Rattle.pushdown.proofs.Spelled.{HasBlocks, decoded_has}
+
+-- ---- written blocks of a namespace
+
+-- a zone that has blocks is one of the namespace
+inside : (zones : List ZoneBlocks) (z : ℕ) → 1 ≤ length (get_or zones z no_zone).blocks → z < length zones
+inside [] z some = absurd (omega (arith, some))
+inside (x ∷ xs) zero some = omega arith
+inside (x ∷ xs) (suc z) some = let less = inside xs z some in omega (arith, less)
+
+record HasSome (state : ZoneState) (written capacity : ℕ) : Type 0 where
+  readable : read_refusal state ≡ None
+  most : written ≤ capacity
+
+has_some : (state : ZoneState) (written capacity : ℕ) → IsZone state written capacity → 1 ≤ written → HasSome state written capacity
+has_some Empty written capacity is some = absurd (omega (arith, is.1, some))
+has_some ImplicitlyOpened written capacity is some = record { readable = refl; most = omega (arith, is.1.1) }
+has_some ExplicitlyOpened written capacity is some = record { readable = refl; most = omega (arith, is.1) }
+has_some Closed written capacity is some = record { readable = refl; most = omega (arith, is.1) }
+has_some ReadOnly written capacity is some = record { readable = refl; most = is.1 }
+has_some Full written capacity is some = record { readable = refl; most = is.1 }
+has_some Offline written capacity is some = absurd (omega (arith, is.1, some))
+
+three : (front more behind : List (List ℕ)) → length (front ++ (more ++ behind)) ≡ length front + (length more + length behind)
+three front more behind = simp length-append
+
+-- some of a zone's blocks, behind others of them
+pub blocks_read : (ns : ZonedNamespace) (z : ℕ) (front more behind : List (List ℕ)) → IsNamespace ns
+    → (zone_at ns z).blocks ≡ front ++ (more ++ behind) → 1 ≤ length more → length more * ns.block ≤ MOST_TRANSFER
+    → read_meaning ns (z * ns.size + length front) (length more) [] ≡ success ns 0 (bytes_of more)
+blocks_read ns z front more behind is there some transfer =
+    let all = ap length there ∙ three front more behind in
+    let within = inside ns.zones z (omega (arith, all, some)) in
+    let has = has_some (zone_at ns z).state (length (zone_at ns z).blocks) ns.capacity (is.fits z within) (omega (arith, all, some)) in
+    let lie : Lie ns z (length front) (length more) (bytes_of more) = record {
+      front = front;
+      more = more;
+      behind = behind;
+      there = there;
+      start = refl;
+      count = refl;
+      bytes = refl;
+      readable = has.readable;
+      inside = within;
+      room = omega (arith, all, has.most, is.shape.capacity_most);
+      some = some;
+      transfer = le-leb _ _ transfer;
+    } in
+    read_back ns z (length front) (length more) (bytes_of more) lie
+
+-- ---- events
+
+module _ {D : Type 0} (operations : Operations D) where
+  -- an event that submits a command is completed with the command's meaning
+  completed : (e : Event) (c : StandardCommand) (input : List ℕ) (s : State) (starved : Bool)
+      → Submits e c input → IsCompleted e s (meaning s.namespace (holds_of s) c input) (happens operations s starved e)
+  completed (event.Submit queue entry payload) c input s starved is =
+      let sub : Submission = record { queue = queue; entry = entry; payload = payload.items } in
+      ap (λ (r : Result Command Status). submitted operations starved sub s r) is.0
+      ∙ ap (λ (bytes : List ℕ). commanded sub s (meaning s.namespace (holds_of s) c bytes)) is.1
+  completed (event.Turn run) c input s starved is = absurd is
+  completed (event.Fault zone state) c input s starved is = absurd is
+
+  leaves : (e : Event) (c : StandardCommand) (input : List ℕ) (s : State) (starved : Bool) → Submits e c input
+      → (happens operations s starved e).state.namespace ≡ (meaning s.namespace (holds_of s) c input).namespace
+  leaves (event.Submit queue entry payload) c input s starved is =
+      ap (λ (h : Happening). h.state.namespace) (completed (event.Submit queue entry payload) c input s starved is)
+  leaves (event.Turn run) c input s starved is = absurd is
+  leaves (event.Fault zone state) c input s starved is = absurd is
+
+  has_blocks : (e : Event) (c : StandardCommand) (input : List ℕ) → Submits e c input → HasBlocks (command.Standard c)
+  has_blocks (event.Submit queue entry payload) c input is = decoded_has entry (command.Standard c) is.0
+  has_blocks (event.Turn run) c input is = absurd is
+  has_blocks (event.Fault zone state) c input is = absurd is
+
+  -- what is read of a namespace is read of a device
+  pub reads : (s : State) (lba blocks : ℕ) (bytes : List ℕ) → read_meaning s.namespace lba blocks [] ≡ success s.namespace 0 bytes
+      → AreRead operations s lba blocks bytes
+  reads s lba blocks bytes is read submits =
+      subst (λ (o : Outcome). IsCompleted read.event s o (happens operations s read.starved read.event)) is
+      (completed read.event (Read lba blocks) [] s read.starved submits)
+
+  -- what is left of a zone after a command and after events that don't clear it
+  lasts : (s : State) (o : Occurrence) (c : StandardCommand) (input : List ℕ) (events : List Occurrence) (z : ℕ) → Submits o.event c input
+      → NoneClears operations z events (happens operations s o.starved o.event).state
+      → Keeps (meaning s.namespace (holds_of s) c input).namespace
+      (state_after operations events (happens operations s o.starved o.event).state).namespace z
+  lasts s o c input events z is none =
+      let then = (happens operations s o.starved o.event).state in
+      let last = state_after operations events then in
+      subst (λ (ns : ZonedNamespace). Keeps ns last.namespace z) (leaves o.event c input s o.starved is) (events_keep operations events then z none)
+
+  pub appended_reads_back : AppendedReadsBack operations
+  appended_reads_back s sound o lba blocks input events is succeeded none =
+      let ns = s.namespace in
+      let c = Append lba blocks in
+      let done = meaning ns (holds_of s) c input in
+      let last = state_after operations events (happens operations s o.starved o.event).state in
+      let keeps = lasts s o c input events (zone_number ns lba) is none in
+      let later = appended_stays ns (holds_of s) lba blocks input last.namespace sound (has_blocks o.event c input is) succeeded keeps (holds_of last) in
+      (completed o.event c input s o.starved is, reads last (done.dw0 + done.dw1 * 2 ^ 32) blocks input later)
+
+  pub written_reads_back : WrittenReadsBack operations
+  written_reads_back s sound o lba blocks input events is succeeded none =
+      let ns = s.namespace in
+      let c = Write lba blocks in
+      let last = state_after operations events (happens operations s o.starved o.event).state in
+      let keeps = lasts s o c input events (zone_number ns lba) is none in
+      let later = written_stays ns (holds_of s) lba blocks input last.namespace sound (has_blocks o.event c input is) succeeded keeps (holds_of last) in
+      (completed o.event c input s o.starved is, reads last lba blocks input later)
+
+-- ---- a part of a list of blocks
+
+pub record IsPart (all : List (List ℕ)) (at blocks : ℕ) : Type 0 where
+  pub there : all ≡ take at all ++ (take blocks (drop at all) ++ drop blocks (drop at all))
+  pub start : length (take at all) ≡ at
+  pub count : length (take blocks (drop at all)) ≡ blocks
+
+pub is_part : (all : List (List ℕ)) (at blocks : ℕ) → at + blocks ≤ length all → IsPart all at blocks
+is_part all at blocks within =
+    let rest = length-drop at all in
+    record {
+      there = sym (ap (λ (xs : List (List ℕ)). take at all ++ xs) (take-append-drop blocks (drop at all)) ∙ take-append-drop at all);
+      start = length-take-le at all (omega arith);
+      count = length-take-le blocks (drop at all) (omega arith);
+    }
+
+module _ {D : Type 0} (operations : Operations D) where
+  -- a part of blocks that lie in a zone behind others
+  pub part_is_read : (s : State) (z : ℕ) (front all behind : List (List ℕ)) (at blocks : ℕ) → IsNamespace s.namespace
+      → blocks_at s z ≡ front ++ (all ++ behind) → at + blocks ≤ length all → 1 ≤ blocks → blocks * s.namespace.block ≤ MOST_TRANSFER
+      → AreRead operations s (z * s.namespace.size + length front + at) blocks (bytes_of (take blocks (drop at all)))
+  part_is_read s z front all behind at blocks is there within some transfer =
+      let ns = s.namespace in
+      let part = is_part all at blocks within in
+      let before = take at all in
+      let more = take blocks (drop at all) in
+      let after = drop blocks (drop at all) in
+      let lie : blocks_at s z ≡ (front ++ before) ++ (more ++ (after ++ behind)) =
+      there ∙ (ap (λ (xs : List (List ℕ)). front ++ (xs ++ behind)) part.there
+      ∙ (ap (λ (xs : List (List ℕ)). front ++ xs) (append_assoc before (more ++ after) behind ∙ ap (λ (xs : List (List ℕ)). before ++ xs) (append_assoc more after behind))
+      ∙ sym (append_assoc front before (more ++ (after ++ behind))))) in
+      let long = subst (λ (n : ℕ). n * ns.block ≤ MOST_TRANSFER) (sym part.count) transfer in
+      let read = blocks_read ns z (front ++ before) more (after ++ behind) is lie (omega (arith, part.count)) long in
+      let joined = length-append front before in
+      let start : z * ns.size + length (front ++ before) ≡ z * ns.size + length front + at = omega (arith, joined, part.start) in
+      reads operations s (z * ns.size + length front + at) blocks (bytes_of more)
+      (subst (λ (lba : ℕ). read_meaning ns lba blocks [] ≡ success ns 0 (bytes_of more)) start
+      (subst (λ (n : ℕ). read_meaning ns (z * ns.size + length (front ++ before)) n [] ≡ success ns 0 (bytes_of more)) part.count read))
+
+  pub written_is_read : WrittenIsRead operations
+  written_is_read s z at blocks is within some transfer =
+      let all = blocks_at s z in
+      let same : z * s.namespace.size + 0 + at ≡ z * s.namespace.size + at = omega arith in
+      subst (λ (lba : ℕ). AreRead operations s lba blocks (bytes_of (take blocks (drop at all)))) same
+      (part_is_read s z [] all [] at blocks is (sym (append-nil all)) within some transfer)
+
+  -- blocks of which each is read are read one after another
+  pub each_is_read : (s : State) (all : List (List ℕ)) (lba : ℕ)
+      → ((at : ℕ) → at + 1 ≤ length all → AreRead operations s (lba + at) 1 (bytes_of (take 1 (drop at all))))
+      → BlocksAreRead operations s lba all
+  each_is_read s [] lba each = tt
+  each_is_read s (b ∷ bs) lba each =
+      let first : lba + 0 ≡ lba = omega arith in (
+        subst (λ (n : ℕ). AreRead operations s n 1 b) first
+            (subst (λ (bytes : List ℕ). AreRead operations s (lba + 0) 1 bytes) (append-nil b) (each 0 (omega arith))),
+        each_is_read s bs (lba + 1)
+            (λ at within.
+            let next : lba + suc at ≡ lba + 1 + at = omega arith in
+            subst (λ (n : ℕ). AreRead operations s n 1 (bytes_of (take 1 (drop at bs)))) next (each (suc at) (omega arith))),
+      )

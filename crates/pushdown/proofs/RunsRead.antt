@@ -1,0 +1,128 @@
+-- What a run appends is read back, whatever events happen after its turns.
+use Rattle.std.proofs.Common.{◌≡◌, ℕ, ◌+◌, ◌*◌, ◌<◌, ◌≤◌, Bool, false, List, [], ◌∷◌, ◌++◌, length, take, drop, Vec, ap, sym, subst, ◌∙◌, arith, append_assoc}
+use Rattle.std.specs.Prelude.{is_some, nat_eq}
+use Rattle.std.specs.declared.alloc.Global.{Global}
+use Rattle.std.proofs.lemmas.Bool.{eqb-true}
+use Rattle.std.proofs.lemmas.List.{take_all}
+use Rattle.zone_state.specs.declared.status.TheConstants.Status.{INVALID_FIELD_IN_COMMAND}
+use Rattle.nvme_entry.specs.declared.command.RunCommand.{RunCommand}
+use Rattle.nvme_entry.specs.declared.command.TheConstants.{MOST_TRANSFER}
+use Rattle.reg_domain.specs.Domain.{Operations}
+use Rattle.verifier.specs.Laws.{AcceptedNeverTraps}
+use Rattle.image_store.specs.Blocks.{AreBytes, bytes_of}
+use Rattle.image_store.specs.Geometry.{Shape}
+use Rattle.image_store.specs.Namespace.{ZonedNamespace, shape, IsNamespace}
+use Rattle.zns_commands.proofs.Fits.{no_bytes}
+use Rattle.zns_commands.proofs.PassedChecks.{demanded, passed}
+use Rattle.pushdown.specs.Admission.{admission_checks}
+use Rattle.pushdown.specs.Answers.{Submission}
+use Rattle.pushdown.specs.Events.{Occurrence, state_after}
+use Rattle.pushdown.specs.Outcome.{Turn, appended_by}
+use Rattle.pushdown.specs.Pushdown.{AreEvents, IsAdmitted, blocks_at}
+use Rattle.pushdown.specs.ReadBack.{AppendedAreRead, AreRead, EmittedAreRead, NoneClears, RunsReadBack, after_turn, done, place, pointer, submitted}
+use Rattle.pushdown.specs.State.{State, free_run, holds_of, new_state, program_at}
+use Rattle.pushdown.specs.declared.event.Event.TheVariants as event
+use Rattle.pushdown.proofs.Emitted.{emitted_reads_back}
+use Rattle.pushdown.proofs.Headline.{pushdown}
+use Rattle.pushdown.proofs.Lasting.{events_keep, shapes_are_kept}
+use Rattle.pushdown.proofs.ReadBack.{each_is_read, part_is_read}
+use Rattle.pushdown.proofs.States.{IsFine, events_fine, reached, turn_fine}
+
+none_beside : (xs : List ℕ) → length xs ≡ 0 → AreBytes xs
+none_beside [] none = no_bytes
+none_beside (x ∷ xs) none = absurd (omega (arith, none))
+
+-- no data stands beside a Run
+admitted_bytes : (s : State) (sub : Submission) (order : RunCommand) (run : ℕ) → IsAdmitted s sub order run → AreBytes sub.payload
+admitted_bytes s sub order run admitted =
+    let checks = admission_checks s.namespace (holds_of s) (is_some (free_run s)) (program_at s order.slot) order sub.payload in
+    let test = nat_eq (length sub.payload) 0 in
+    none_beside sub.payload (eqb-true (length sub.payload) 0 (demanded test INVALID_FIELD_IN_COMMAND (passed checks 1 admitted.passed)))
+
+module _ {D : Type 0} (operations : Operations D) (never : AcceptedNeverTraps operations) (ns : ZonedNamespace) (before : List Occurrence)
+    (is : IsNamespace ns) (are : AreEvents before) (queue : ℕ) (entry : List ℕ) (payload : Vec ℕ Global) (starved : Bool) (order : RunCommand) (run : ℕ)
+    (events later : List Occurrence) where
+  abbrev s : State
+  s = state_after operations before (new_state ns)
+
+  abbrev sub : Submission
+  sub = record { queue = queue; entry = entry; payload = payload.items }
+
+  abbrev turns : List Turn
+  turns = (place operations s queue entry payload starved order run events later).turns
+
+  abbrev destination : ℕ
+  destination = (place operations s queue entry payload starved order run events later).destination
+
+  abbrev start : ℕ
+  start = pointer operations s queue entry payload starved order run events later
+
+  abbrev so_far : ℕ
+  so_far = done operations s queue entry payload starved order run events later
+
+  abbrev asked : Occurrence
+  asked = submitted operations s queue entry payload starved order run events later
+
+  abbrev now : State
+  now = state_after operations (asked ∷ events) s
+
+  abbrev next : State
+  next = after_turn operations s queue entry payload starved order run events later
+
+  abbrev last : State
+  last = state_after operations later next
+
+  fine : IsFine operations never ns.block s
+  fine = reached operations never ns before is are
+
+  last_shape : shape last.namespace ≡ shape s.namespace
+  last_shape =
+      let turn : Occurrence = record { event = event.Turn run; starved = false } in
+      shapes_are_kept operations next later ∙ shapes_are_kept operations now (turn ∷ []) ∙ shapes_are_kept operations s (asked ∷ events)
+
+  -- each part of these blocks is read
+  abbrev PartsAreRead : List (List ℕ) → Type 0
+  PartsAreRead all = (at blocks : ℕ) → at + blocks ≤ length all → 1 ≤ blocks → blocks * s.namespace.block ≤ MOST_TRANSFER
+      → AreRead operations last (start + at) blocks (bytes_of (take blocks (drop at all)))
+
+  module _ (admitted : IsAdmitted s sub order run) (fit : AreEvents events) (fit_later : AreEvents later) (less : so_far < length turns)
+      (none : NoneClears operations destination later next) where
+    last_sound : IsNamespace last.namespace
+    last_sound =
+        let now_fine = events_fine operations never ns.block (asked ∷ events) s fine (admitted_bytes s sub order run admitted, fit) in
+        let next_fine = turn_fine operations never ns.block now run now_fine in
+        (events_fine operations never ns.block later next next_fine fit_later).is
+
+    appended_are_read : AppendedAreRead operations s queue entry payload starved order run events later
+    appended_are_read at blocks within some transfer =
+        let held = blocks_at s destination in
+        let all = appended_by (take (so_far + 1) turns) in
+        let theorem = pushdown operations never ns before is are queue entry payload starved order run events admitted in
+        let grows = (events_keep operations later next destination none).blocks in
+        let lie : blocks_at last destination ≡ held ++ (all ++ grows.more) =
+        grows.is ∙ (ap (λ (xs : List (List ℕ)). xs ++ grows.more) (theorem.does_its_turns less).then_appended ∙ append_assoc held all grows.more) in
+        let few = subst (λ (x : Shape). blocks * x.block ≤ MOST_TRANSFER) (sym last_shape) transfer in
+        subst (λ (x : Shape). AreRead operations last (destination * x.size + length held + at) blocks (bytes_of (take blocks (drop at all)))) last_shape
+        (part_is_read operations last destination held all grows.more at blocks last_sound lie within some few)
+
+    emitted_are_read : so_far + 1 ≡ length turns → EmittedAreRead operations s queue entry payload starved order run events later
+    emitted_are_read ended =
+        let whole : appended_by (take (so_far + 1) turns) ≡ appended_by turns = ap appended_by (take_all (so_far + 1) turns (omega (arith, ended))) in
+        let parts = subst PartsAreRead whole appended_are_read in
+        let back = emitted_reads_back operations never ns before is are sub order run admitted in
+        let small : 1 * s.namespace.block ≤ MOST_TRANSFER = omega (arith, fine.is.shape.block_most) in (
+          back.0,
+          (
+            back.1.0,
+            (
+              each_is_read operations last (appended_by turns) start (λ at within. parts at 1 within (omega arith) small),
+              back.1.1,
+            ),
+          ),
+        )
+
+pub runs_read_back : {D : Type 0} (operations : Operations D) → AcceptedNeverTraps operations → RunsReadBack operations
+runs_read_back operations never ns before is are queue entry payload starved order run events later admitted fit fit_later less none = (
+  appended_are_read operations never ns before is are queue entry payload starved order run events later admitted fit fit_later less none,
+  emitted_are_read operations never ns before is are queue entry payload starved order run events later admitted fit fit_later less none,
+)

@@ -1,0 +1,385 @@
+-- What holds of each state that events leave.
+use Rattle.std.proofs.Common.{◌≡◌, ◌≢◌, ℕ, ◌+◌, ◌/◌, ◌%◌, ◌≤◌, Bool, true, List, [], ◌∷◌, length, set, get_or, drop, Option, Some, None, Result, Ok, Err, refl, ap, sym, subst, ◌∙◌, arith, inl, inr, length-take, length-drop, get_or-set_other, get_or-set_same}
+use Rattle.std.specs.Prelude.{is_some, nat_le}
+use Rattle.std.specs.List.{AllByRecursion}
+use Rattle.std.proofs.lemmas.Bool.{leb-true}
+use Rattle.std.proofs.lemmas.Bool.Decides.{eqb_tells}
+use Rattle.std.proofs.lemmas.List.{length-map}
+use Rattle.zone_state.specs.State.{is_open}
+use Rattle.zone_state.specs.declared.status.Status.{Status}
+use Rattle.zone_state.specs.declared.status.TheConstants.Status.{INVALID_FIELD_IN_COMMAND, NO_SUCH_PROGRAM, SOURCE_NOT_WRITTEN, DESTINATION_NOT_OPEN, DESTINATION_LACKS_ROOM}
+use Rattle.zone_resources.specs.Holds.{is_destination}
+use Rattle.zone_resources.specs.declared.holds.Holds.{Holds}
+use Rattle.zone_resources.specs.declared.holds.TheConstants.{RUNS}
+use Rattle.nvme_entry.specs.Checks.{first_refused}
+use Rattle.nvme_entry.specs.Entry.{decoded}
+use Rattle.nvme_entry.specs.declared.command.Command.{Command}
+use Rattle.nvme_entry.specs.declared.command.Command.TheVariants as command
+use Rattle.nvme_entry.specs.declared.command.LoadCommand.{LoadCommand}
+use Rattle.nvme_entry.specs.declared.command.RunCommand.{RunCommand}
+use Rattle.nvme_entry.specs.declared.program_slot.TheConstants.{PROGRAM_SLOTS}
+use Rattle.ebpf_decode.specs.Program.{IsProgram}
+use Rattle.ebpf_decode.proofs.Programs.{decoded-program}
+use Rattle.program_interface.specs.BlockSize.{IsBlockSize}
+use Rattle.program_interface.specs.RunSizes.{AreSizes, Sizes}
+use Rattle.interp.specs.Run.{Run}
+use Rattle.interp.specs.TrapFree.{IsExit, NeverTraps}
+use Rattle.reg_domain.specs.Domain.{Operations}
+use Rattle.verifier.specs.Accepted.{refusal}
+use Rattle.verifier.specs.Laws.{AcceptedNeverTraps}
+use Rattle.verifier.specs.declared.reason.Refusal.{Refusal}
+use Rattle.emit_append.specs.Need.{need}
+use Rattle.emit_append.specs.Packed.{FitBlock}
+use Rattle.emit_append.proofs.Needs.{need_grows, need_is_enough}
+use Rattle.image_store.specs.Blocks.{AreBytes}
+use Rattle.image_store.specs.Geometry.{Shape}
+use Rattle.image_store.specs.Namespace.{ZonedNamespace, IsNamespace, zone_at}
+use Rattle.zns_commands.specs.Kept as kept
+use Rattle.zns_commands.specs.Laws.{Commanded, Failed, IsSpelled, Step, after}
+use Rattle.zns_commands.proofs.HeldZones.{destinations_are_left}
+use Rattle.zns_commands.proofs.KeptBlocks.{step_shape}
+use Rattle.zns_commands.proofs.PassedChecks.{demanded, passed}
+use Rattle.zns_commands.proofs.SoundSteps.{steps_keep_namespaces}
+use Rattle.pushdown.specs.Admission.{Loaded, admission_checks, source_blocks, task_of}
+use Rattle.pushdown.specs.Answers.{Submission}
+use Rattle.pushdown.specs.BlockRuns.{Task, groups_of, no_scratch, runs_of}
+use Rattle.pushdown.specs.Events.{Occurrence, state_after}
+use Rattle.pushdown.specs.Laws.{IsAppended, RoomIn, StatesAreSound}
+use Rattle.pushdown.specs.Machine.{admitted_place, happens, just_loaded, keeping, load_checks, loading, place_left, slots_left, start_by, submitted, take_turn, turned_at, why_not_run}
+use Rattle.pushdown.specs.Outcome.{Ending, Turn, appended_by, no_output, outcome}
+use Rattle.pushdown.specs.Pushdown.{AreEvents, EndsWithLast, HasBytes, Succeeds}
+use Rattle.pushdown.specs.State.{Place, State, free_run, holds_of, new_state, place_at, program_at, with_namespace, with_place}
+use Rattle.pushdown.specs.declared.event.Event.{Event}
+use Rattle.pushdown.specs.declared.event.Event.TheVariants as event
+use Rattle.pushdown.proofs.Added.{added_shape}
+use Rattle.pushdown.proofs.BlockRuns.{IsDone, IsReady, few_runs, runs_done, some_runs}
+use Rattle.pushdown.proofs.Bytes.{AreBlocks, IsBlock, all_at, all_drop, all_from, all_same, all_set, all_take, blocks_by_place}
+use Rattle.pushdown.proofs.Foreign.{KeepsRuns, free_within, load_keeps, result_keeps}
+use Rattle.pushdown.proofs.Loads.{TakesSlot, loading_is}
+use Rattle.pushdown.proofs.Outcomes.{HasWhole, ends_with_last, no_groups, outcome_is_packed, turns_whole}
+use Rattle.pushdown.proofs.Places.{AreApart, held_at, new_apart, new_none, start_apart, taken_apart}
+use Rattle.pushdown.proofs.Room.{turn_appended, turn_sound}
+use Rattle.pushdown.proofs.Rooms.{Rooms, kept_rooms, now_room, turn_rooms}
+use Rattle.pushdown.proofs.Spelled.{decoded_has, just_one, spelled}
+
+-- ---- the source
+
+zone_are : (ns : ZonedNamespace) (z : ℕ) → IsNamespace ns → AreBlocks ns.block (zone_at ns z).blocks
+zone_are ns z is = blocks_by_place ns.block (zone_at ns z).blocks (is.whole z) (is.bytes z)
+
+source_are : (ns : ZonedNamespace) (order : RunCommand) → IsNamespace ns → AreBlocks ns.block (source_blocks ns order)
+source_are ns order is =
+    let z = order.lba / ns.size in
+    let at = order.lba % ns.size in
+    all_take (IsBlock ns.block) order.blocks (drop at (zone_at ns z).blocks) (all_drop (IsBlock ns.block) at (zone_at ns z).blocks (zone_are ns z is))
+
+pub few_source : (ns : ZonedNamespace) (order : RunCommand) → length (source_blocks ns order) ≤ order.blocks
+few_source ns order =
+    let blocks = drop (order.lba % ns.size) (zone_at ns (order.lba / ns.size)).blocks in
+    omega (arith, length-take order.blocks blocks)
+
+-- ---- groups
+
+pub groups_fit : (task : Task) (runs : List Run) → AllByRecursion (IsDone task) runs
+    → AllByRecursion (λ group. length group ≤ task.sizes.limit) (groups_of runs)
+groups_fit task [] h = tt
+groups_fit task (run ∷ runs) h = (h.0.exits.group, groups_fit task runs h.1)
+
+pub groups_within : (task : Task) (runs : List Run) → task.sizes.limit ≤ task.sizes.block → AllByRecursion (IsDone task) runs
+    → FitBlock task.sizes.block (groups_of runs)
+groups_within task runs less h =
+    all_from (λ group. length group ≤ task.sizes.limit) (λ group. length group ≤ task.sizes.block) (λ group fits. omega (arith, less, fits))
+    (groups_of runs) (groups_fit task runs h)
+
+-- ---- states
+
+module _ {D : Type 0} (operations : Operations D) (never : AcceptedNeverTraps operations) (block : ℕ) where
+  abbrev granted : ℕ → Sizes
+  granted limit = record { block = block; limit = limit }
+
+  pub record IsAccepted (loaded : Loaded) : Type 0 where
+    pub program : IsProgram loaded.program
+    pub sizes : AreSizes (granted loaded.limit)
+    pub accepted : refusal operations loaded.program (granted loaded.limit) ≡ None
+
+  abbrev pub SlotIsFine : Option Loaded → Type 0
+  SlotIsFine None = Unit {0}
+  SlotIsFine (Some loaded) = IsAccepted loaded
+
+  -- turns that append whole blocks, and of which the last ends the run
+  pub record AreTurns (turns : List Turn) : Type 0 where
+    pub whole : AllByRecursion (HasWhole block) turns
+    pub ends : EndsWithLast turns
+
+  abbrev pub PlaceIsFine : Option Place → Type 0
+  PlaceIsFine None = Unit {0}
+  PlaceIsFine (Some place) = AreTurns place.turns
+
+  pub record IsFine (s : State) : Type 0 where
+    pub is : IsNamespace s.namespace
+    pub size : s.namespace.block ≡ block
+    pub slots : AllByRecursion SlotIsFine s.slots
+    pub places : AllByRecursion PlaceIsFine s.places
+    pub apart : AreApart s.places
+    pub rooms : Rooms s
+
+  pub new_fine : (ns : ZonedNamespace) → IsNamespace ns → ns.block ≡ block → IsFine (new_state ns)
+  new_fine ns is size = record {
+    is = is;
+    size = size;
+    slots = all_same SlotIsFine PROGRAM_SLOTS None tt;
+    places = all_same PlaceIsFine RUNS None tt;
+    apart = new_apart ns;
+    rooms = λ j p at. absurd (new_none ns j p at);
+  }
+
+  -- ---- commands and faults
+
+  step_fine : (s : State) (step : Step) → IsFine s → kept.holds_of step ≡ holds_of s → IsSpelled step
+      → IsFine (with_namespace s (after step s.namespace))
+  step_fine s step h same is_spelled =
+      let kept_shape = step_shape step s.namespace in
+      record {
+        is = steps_keep_namespaces (step ∷ []) s.namespace h.is (just_one step is_spelled);
+        size = ap (λ (x : Shape). x.block) kept_shape ∙ h.size;
+        slots = h.slots;
+        places = h.places;
+        apart = h.apart;
+        rooms = kept_rooms s (with_namespace s (after step s.namespace)) refl (ap (λ (x : Shape). x.capacity) kept_shape)
+            (λ j p at. destinations_are_left step s.namespace p.destination
+            (subst (λ (holds : Holds). is_destination holds p.destination ≡ true) (sym same) (held_at s.places j p at))) h.rooms;
+      }
+
+  -- ---- Load
+
+  keeps_fine : (s t : State) → IsFine s → KeepsRuns s t → AllByRecursion SlotIsFine t.slots → IsFine t
+  keeps_fine s t h keeps slots = record {
+    is = subst IsNamespace (sym keeps.namespace) h.is;
+    size = ap (λ (ns : ZonedNamespace). ns.block) keeps.namespace ∙ h.size;
+    slots = slots;
+    places = subst (AllByRecursion PlaceIsFine) (sym keeps.places) h.places;
+    apart = subst AreApart (sym keeps.places) h.apart;
+    rooms = kept_rooms s t keeps.places (ap (λ (ns : ZonedNamespace). ns.capacity) keeps.namespace)
+        (λ j p at. ap (λ (ns : ZonedNamespace). zone_at ns p.destination) keeps.namespace) h.rooms;
+  }
+
+  within : (s : State) (load : LoadCommand) (input : List ℕ) → IsFine s → first_refused (load_checks s load input) ≡ None → load.limit ≤ block
+  within s load input h none =
+      let test = demanded (nat_le load.limit s.namespace.block) INVALID_FIELD_IN_COMMAND (passed (load_checks s load input) 2 none) in
+      subst (λ (n : ℕ). load.limit ≤ n) h.size (leb-true load.limit s.namespace.block test)
+
+  taken_accepted : (sub : Submission) (s t : State) (load : LoadCommand) (h : IsFine s) → AreBytes sub.payload
+      → (takes : TakesSlot operations sub s load t) → IsAccepted (just_loaded takes.program load.limit)
+  taken_accepted sub s t load h are takes =
+      let judge : ℕ → Option Refusal = λ n. refusal operations takes.program (record { block = n; limit = load.limit }) in
+      record {
+        program = (decoded-program sub.payload takes.program are takes.read).0;
+        sizes = record { block_size = subst IsBlockSize h.size h.is.shape.block_size; fits = within s load sub.payload h takes.passed };
+        accepted = ap judge (sym h.size) ∙ takes.accepted;
+      }
+
+  load_fine : (starved : Bool) (sub : Submission) (s : State) (load : LoadCommand) → IsFine s → AreBytes sub.payload
+      → IsFine (loading operations starved sub s load).state
+  load_fine starved sub s load h are = elim (loading_is operations sub s load starved).state [
+    | inl same ↦ subst IsFine (sym same) h
+    | inr takes ↦ keeps_fine s (loading operations starved sub s load).state h (load_keeps operations starved sub s load)
+        (subst (λ (t : State). AllByRecursion SlotIsFine t.slots) (sym takes.taken)
+        (all_set SlotIsFine s.slots load.slot (Some (just_loaded takes.program load.limit)) h.slots
+        (taken_accepted sub s (loading operations starved sub s load).state load h are takes)))
+  ]
+
+  -- ---- Run
+
+  slot_ready : (ns : ZonedNamespace) (slot : Option Loaded) (order : RunCommand) → IsNamespace ns → ns.block ≡ block → SlotIsFine slot → is_some slot ≡ true
+      → IsReady (task_of ns slot order)
+  slot_ready ns None order is size h some = cc
+  slot_ready ns (Some loaded) order is size h some = record {
+    never = subst (λ (n : ℕ). NeverTraps loaded.program loaded.limit n) (sym size)
+        (never loaded.program h.program (granted loaded.limit) h.sizes h.accepted);
+    sizes = record { block_size = is.shape.block_size; fits = subst (λ (n : ℕ). loaded.limit ≤ n) (sym size) h.sizes.fits };
+    small = omega (arith, is.shape.block_most);
+  }
+
+  -- a run that no check refuses
+  module _ (sub : Submission) (s : State) (order : RunCommand) (h : IsFine s) (none : why_not_run sub s order ≡ None) where
+    abbrev pub task : Task
+    task = task_of s.namespace (program_at s order.slot) order
+
+    abbrev pub source : List (List ℕ)
+    source = source_blocks s.namespace order
+
+    abbrev pub runs : List Run
+    runs = runs_of task source
+
+    abbrev checks : List (Option Status)
+    checks = admission_checks s.namespace (holds_of s) (is_some (free_run s)) (program_at s order.slot) order sub.payload
+
+    pub ready : IsReady task
+    ready =
+        let slot = program_at s order.slot in
+        slot_ready s.namespace slot order h.is h.size (all_at SlotIsFine s.slots order.slot None h.slots tt)
+        (demanded (is_some slot) NO_SUCH_PROGRAM (passed checks 2 none))
+
+    pub runs_all_done : AllByRecursion (IsDone task) runs
+    runs_all_done = runs_done task ready source (source_are s.namespace order h.is)
+
+    pub all_exit : AllByRecursion (λ (run : Run). IsExit run.end) runs
+    all_exit = all_from (IsDone task) (λ (run : Run). IsExit run.end) (λ run done. done.exits.exit) runs runs_all_done
+
+    -- the range is written
+    pub written : order.lba % s.namespace.size + order.blocks ≤ length (zone_at s.namespace (order.lba / s.namespace.size)).blocks
+    written =
+        let blocks = (zone_at s.namespace (order.lba / s.namespace.size)).blocks in
+        let at = order.lba % s.namespace.size in
+        leb-true (at + order.blocks) (length blocks) (demanded (nat_le (at + order.blocks) (length blocks)) SOURCE_NOT_WRITTEN (passed checks 10 none))
+
+    some_source : 1 ≤ order.blocks → 1 ≤ length source
+    some_source some =
+        let blocks = (zone_at s.namespace (order.lba / s.namespace.size)).blocks in
+        let at = order.lba % s.namespace.size in
+        omega (arith, written, some, length-take order.blocks (drop at blocks), length-drop at blocks)
+
+    pub some_run : 1 ≤ order.blocks → 1 ≤ length runs
+    some_run some = some_runs task source (some_source some)
+
+    pub turns_are : 1 ≤ order.blocks → AreTurns (admitted_place sub s order).turns
+    turns_are some = record {
+      whole = subst (λ (n : ℕ). AllByRecursion (HasWhole n) (outcome task source)) h.size
+          (turns_whole s.namespace.block task no_output runs ready.sizes.fits runs_all_done (no_groups s.namespace.block));
+      ends = ends_with_last task s.namespace.block no_output runs runs_all_done (some_run some);
+    }
+
+    -- no more blocks are appended than were asked for
+    pub few_blocks : length (appended_by (outcome task source)) ≤ need order.blocks task.sizes
+    few_blocks =
+        let groups = groups_of runs in
+        let whole = outcome_is_packed task source all_exit in
+        let enough = need_is_enough task.sizes groups ready.sizes.fits (groups_fit task runs runs_all_done) in
+        let some_groups = length-map runs (λ (run : Run). run.state.group) in
+        let few = few_runs task 0 no_scratch source in
+        let most : length groups ≤ order.blocks = omega (arith, some_groups, few, few_source s.namespace order) in
+        let grows = need_grows task.sizes (length groups) order.blocks most in
+        let same = ap length whole.blocks in
+        omega (arith, same, enough, grows)
+
+    pub admitted_room : RoomIn s.namespace.capacity (zone_at s.namespace (admitted_place sub s order).destination) (admitted_place sub s order).turns
+    admitted_room =
+        let zone = zone_at s.namespace (admitted_place sub s order).destination in
+        let most = length zone.blocks + need order.blocks task.sizes in
+        let fits = leb-true most s.namespace.capacity (demanded (nat_le most s.namespace.capacity) DESTINATION_LACKS_ROOM (passed checks 13 none)) in
+        record {
+          room = omega (arith, few_blocks, fits);
+          opened = inl (demanded (is_open zone.state) DESTINATION_NOT_OPEN (passed checks 12 none));
+        }
+
+  start_rooms : (sub : Submission) (s : State) (order : RunCommand) (run : ℕ) → IsFine s → why_not_run sub s order ≡ None → free_run s ≡ Some run
+      → Rooms (with_place s run (Some (admitted_place sub s order)))
+  start_rooms sub s order run h e is j p at = elim (eqb_tells j run) [
+    | inl same ↦
+        let new : Option Place = Some (admitted_place sub s order) in
+        let here : new ≡ Some p =
+        sym (ap (λ (n : ℕ). get_or (set s.places run new) n None) same.1 ∙ get_or-set_same s.places run new None (free_within s.places run is)) ∙ at in
+        let equal : admitted_place sub s order ≡ p = cc in
+        subst (λ (q : Place). RoomIn s.namespace.capacity (zone_at s.namespace q.destination) q.turns) equal (admitted_room sub s order h e)
+    | inr differs ↦ h.rooms j p (sym (get_or-set_other s.places run j (Some (admitted_place sub s order)) None differs.1) ∙ at)
+  ]
+
+  start_fine : (why : Option Status) (free : Option ℕ) (sub : Submission) (s : State) (order : RunCommand) → IsFine s → why_not_run sub s order ≡ why
+      → free_run s ≡ free → 1 ≤ order.blocks → IsFine (start_by why free sub s order).state
+  start_fine (Some status) free sub s order h e is some = h
+  start_fine None None sub s order h e is some = h
+  start_fine None (Some run) sub s order h e is some = record {
+    is = h.is;
+    size = h.size;
+    slots = h.slots;
+    places = all_set PlaceIsFine s.places run (Some (admitted_place sub s order)) h.places (turns_are sub s order h e some);
+    apart = start_apart None (Some run) sub s order e is h.apart;
+    rooms = start_rooms sub s order run h e is;
+  }
+
+  -- ---- turns
+
+  kept_fine : (slot : Option Loaded) (bytes : Option (List ℕ)) → SlotIsFine slot → SlotIsFine (keeping slot bytes)
+  kept_fine (Some loaded) (Some bytes) h = record { program = h.program; sizes = h.sizes; accepted = h.accepted }
+  kept_fine (Some loaded) None h = h
+  kept_fine None bytes h = h
+
+  slots_fine : (s : State) (place : Place) (ending : Option Ending) → IsFine s → AllByRecursion SlotIsFine (slots_left s place ending)
+  slots_fine s place None h = h.slots
+  slots_fine s place (Some ending) h =
+      let slot = program_at s place.slot in
+      all_set SlotIsFine s.slots place.slot (keeping slot ending.result) h.slots
+      (kept_fine slot ending.result (all_at SlotIsFine s.slots place.slot None h.slots tt))
+
+  pub left_fine : (place : Place) (turn : Turn) (later : List Turn) (ending : Option Ending) → turn.ending ≡ ending → AreTurns (turn ∷ later)
+      → PlaceIsFine (place_left place later ending)
+  left_fine place turn later (Some ending) is are = tt
+  left_fine place turn [] None is are = absurd (subst Succeeds is are.ends)
+  left_fine place turn (next ∷ turns) None is are = record { whole = are.whole.1; ends = are.ends.1 }
+
+  taken_fine : (s : State) (run : ℕ) (place : Place) (turns : List Turn) → IsFine s → place_at s run ≡ Some place → place.turns ≡ turns
+      → AreTurns turns → IsFine (take_turn s run place turns).state
+  taken_fine s run place [] h here first are = h
+  taken_fine s run place (turn ∷ later) h here first are =
+      let ns = s.namespace in
+      record {
+        is = turn_sound ns place.destination turn.blocks turn.ending later h.is (subst (λ (n : ℕ). HasWhole n turn) (sym h.size) are.whole.0)
+            (now_room s run place turn later h.apart h.rooms here first);
+        size = ap (λ (x : Shape). x.block) (added_shape ns place.destination turn.blocks) ∙ h.size;
+        slots = slots_fine s place turn.ending h;
+        places = all_set PlaceIsFine s.places run (place_left place later turn.ending) h.places (left_fine place turn later turn.ending refl are);
+        apart = taken_apart s run place (turn ∷ later) here h.apart;
+        rooms = turn_rooms s run place turn later h.apart h.rooms here first;
+      }
+
+  turned_fine : (s : State) (run : ℕ) (at : Option Place) → IsFine s → place_at s run ≡ at → PlaceIsFine at → IsFine (turned_at s run at).state
+  turned_fine s run None h here fine = h
+  turned_fine s run (Some place) h here fine = taken_fine s run place place.turns h here refl fine
+
+  pub place_fine : (s : State) (run : ℕ) → IsFine s → PlaceIsFine (place_at s run)
+  place_fine s run h = all_at PlaceIsFine s.places run None h.places tt
+
+  pub turn_fine : (s : State) (run : ℕ) → IsFine s → IsFine (turned_at s run (place_at s run)).state
+  turn_fine s run h = turned_fine s run (place_at s run) h refl (place_fine s run h)
+
+  -- ---- events
+
+  submitted_fine : (starved : Bool) (sub : Submission) (s : State) (asked : Result Command Status) → decoded sub.entry ≡ asked → IsFine s
+      → AreBytes sub.payload → IsFine (submitted operations starved sub s asked).state
+  submitted_fine starved sub s (Err status) e h are = h
+  submitted_fine starved sub s (Ok (command.Standard c)) e h are =
+      step_fine s (Commanded (holds_of s) c sub.payload) h refl (spelled (holds_of s) c sub.payload (decoded_has sub.entry (command.Standard c) e) are)
+  submitted_fine starved sub s (Ok (command.Load load)) e h are = load_fine starved sub s load h are
+  submitted_fine starved sub s (Ok (command.Run order)) e h are =
+      start_fine (why_not_run sub s order) (free_run s) sub s order h refl refl (decoded_has sub.entry (command.Run order) e)
+  submitted_fine starved sub s (Ok (command.Result slot)) e h are = subst IsFine (sym (result_keeps sub s slot)) h
+
+  pub event_fine : (s : State) (starved : Bool) (e : Event) → IsFine s → HasBytes e → IsFine (happens operations s starved e).state
+  event_fine s starved (event.Submit queue entry payload) h are =
+      submitted_fine starved (record { queue = queue; entry = entry; payload = payload.items }) s (decoded entry) refl h are
+  event_fine s starved (event.Turn run) h are = turn_fine s run h
+  event_fine s starved (event.Fault zone state) h are = step_fine s (Failed (holds_of s) zone state) h refl tt
+
+  pub events_fine : (events : List Occurrence) (s : State) → IsFine s → AreEvents events → IsFine (state_after operations events s)
+  events_fine [] s h are = h
+  events_fine (o ∷ os) s h are = events_fine os (happens operations s o.starved o.event).state (event_fine s o.starved o.event h are.0) are.1
+
+  -- what the next turn of a run appends is appended
+  appends : (s : State) → IsFine s → (run : ℕ) (place : Place) (turn : Turn) (later : List Turn) → place_at s run ≡ Some place
+      → place.turns ≡ turn ∷ later → turn.blocks ≢ [] → IsAppended s.namespace place.destination turn.blocks
+  appends s h run place turn later here first some =
+      let are = subst AreTurns first (subst PlaceIsFine here (place_fine s run h)) in
+      turn_appended s.namespace place.destination turn.blocks turn.ending later h.is (subst (λ (n : ℕ). HasWhole n turn) (sym h.size) are.whole.0)
+      (now_room s run place turn later h.apart h.rooms here first) some
+
+-- each state that events leave is such a state
+pub reached : {D : Type 0} (operations : Operations D) (never : AcceptedNeverTraps operations) (ns : ZonedNamespace) (events : List Occurrence)
+    → IsNamespace ns → AreEvents events → IsFine operations never ns.block (state_after operations events (new_state ns))
+reached operations never ns events is are =
+    events_fine operations never ns.block events (new_state ns) (new_fine operations never ns.block ns is refl) are
+
+pub states_are_sound : {D : Type 0} (operations : Operations D) → AcceptedNeverTraps operations → StatesAreSound operations
+states_are_sound operations never ns events is are =
+    let s = state_after operations events (new_state ns) in
+    let h = reached operations never ns events is are in
+    record { namespace = h.is; rooms = h.rooms; appends = appends operations never ns.block s h }

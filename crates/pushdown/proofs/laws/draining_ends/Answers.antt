@@ -1,0 +1,6 @@
+use Rattle.verifier.specs.Soundness.{accepted_never_traps}
+use Rattle.pushdown.proofs.Drained.{draining_ends}
+use Rattle.pushdown.proofs.laws.draining_ends.Goals as goal
+
+pub returns : goal.returns
+returns g c = draining_ends g.D.Domain.operations (accepted_never_traps g.met.D.Domain.sound)

@@ -1,0 +1,5 @@
+use Rattle.pushdown.proofs.Needed.{events_keep_for_runs}
+use Rattle.pushdown.proofs.laws.events_keep_for_runs.Goals as goal
+
+pub returns : goal.returns
+returns g c = events_keep_for_runs g.D.Domain.operations

@@ -1,0 +1,6 @@
+use Rattle.verifier.specs.Soundness.{accepted_never_traps}
+use Rattle.pushdown.proofs.Headline.{pushdown}
+use Rattle.pushdown.proofs.laws.pushdown.Goals as goal
+
+pub returns : goal.returns
+returns g c = pushdown g.D.Domain.operations (accepted_never_traps g.met.D.Domain.sound)

@@ -1,0 +1,61 @@
+-- The answers to events.
+use Rattle.std.specs.Prelude.{ℕ, List, [], ◌++◌, length, Option}
+use Rattle.std.specs.Option.{option_map}
+use Rattle.zone_state.specs.declared.status.Status.{Status}
+use Rattle.nvme_entry.specs.Completion.{completion_bytes}
+use Rattle.nvme_entry.specs.Entry.{identifier_of}
+use Rattle.pushdown.specs.State.{State}
+use Rattle.pushdown.specs.declared.reply.Reply.{Reply}
+use Rattle.pushdown.specs.declared.reply.Reply.TheVariants as reply
+
+-- a reply with the bytes of its data
+pub record Taken : Type 0 where
+  pub reply : Reply
+  pub bytes : List ℕ
+
+-- how much data goes with a reply
+abbrev pub data_length : Reply → ℕ
+data_length (reply.Complete queue entry length) = length
+data_length (reply.Pending run) = 0
+data_length reply.Idle = 0
+data_length reply.Done = 0
+data_length reply.FaultRefused = 0
+
+-- what was taken before, where that is told, and then this
+abbrev pub and_then : Option (List Taken) → List Taken → Option (List Taken)
+and_then before later = option_map (λ first. first ++ later) before
+
+-- the answer to an event, and the state after it
+pub record Happening : Type 0 where
+  pub answer : Taken
+  pub state : State
+
+-- an answer without data
+abbrev pub plain : Reply → Taken
+plain r = record { reply = r; bytes = [] }
+
+-- a completion, with the data that goes with it
+abbrev pub completion : ℕ → ℕ → Status → ℕ → ℕ → List ℕ → Taken
+completion queue cid status dw0 dw1 output = record {
+  reply = reply.Complete queue (completion_bytes (record { dw0 = dw0; dw1 = dw1; queue = queue; cid = cid; status = status })) (length output);
+  bytes = output;
+}
+
+-- a submitted entry: its queue, its bytes, and the data beside it
+pub record Submission : Type 0 where
+  pub queue : ℕ
+  pub entry : List ℕ
+  pub payload : List ℕ
+
+-- an entry that is answered at once goes back to its queue with its identifier (NVMe Base 2.0, 3.3.3.2)
+abbrev pub completed : Submission → Status → ℕ → ℕ → List ℕ → State → Happening
+completed sub status dw0 dw1 output s =
+    record { answer = completion sub.queue (identifier_of sub.entry) status dw0 dw1 output; state = s }
+
+-- a refused entry changes nothing
+abbrev pub refused : Submission → Status → State → Happening
+refused sub status s = completed sub status 0 0 [] s
+
+-- no run has the number
+abbrev pub idle : State → Happening
+idle s = record { answer = plain reply.Idle; state = s }

@@ -1,0 +1,81 @@
+-- The block runs of a run: its program on one source block after another.
+use Rattle.std.specs.Prelude.{ℕ, Bool, false, ◌+◌, ◌==◌, List, [], ◌∷◌, map, replicate, Option, if◌then◌else◌}
+use Rattle.ebpf_decode.specs.Program.{instruction_count}
+use Rattle.ebpf_decode.specs.declared.insn.Insn.{Insn}
+use Rattle.program_interface.specs.Context.{context_bytes}
+use Rattle.program_interface.specs.RunSizes.{Sizes}
+use Rattle.program_interface.specs.declared.area.TheConstants.{SCRATCH_BYTES}
+use Rattle.interp.specs.Run.{Run, run_of}
+use Rattle.interp.specs.State.{entry}
+use Rattle.interp.specs.declared.machine.run.End.{End}
+use Rattle.interp.specs.declared.machine.run.End.TheVariants as end
+
+-- what a run is about: the program and the sizes that it was accepted for, the argument, the address of
+-- the first source block, and how many there are
+pub record Task : Type 0 where
+  pub program : List (Option Insn)
+  pub sizes : Sizes
+  pub argument : ℕ
+  pub lba : ℕ
+  pub count : ℕ
+
+-- what a block run is told of its block, before which the run had so many
+abbrev pub context : Task → ℕ → List ℕ
+context task index = context_bytes (record {
+  lba = task.lba + index;
+  index = index;
+  count = task.count;
+  block = task.sizes.block;
+  argument = task.argument;
+})
+
+-- the program on one block, with as much fuel as it has instructions
+abbrev pub block_run : Task → ℕ → List ℕ → List ℕ → Run
+block_run task index scratch bytes =
+    run_of task.program task.sizes.limit (instruction_count task.program) 0 (entry bytes (context task index) scratch)
+
+-- the scratch bytes that a block run leaves
+abbrev pub scratch_after : Run → List ℕ
+scratch_after run = run.state.memory.scratch
+
+-- the program on each of these blocks, with the scratch bytes that the block run before left
+abbrev pub block_runs : Task → ℕ → List ℕ → List (List ℕ) → List Run
+block_runs task index scratch [] = []
+block_runs task index scratch (bytes ∷ blocks) =
+    let run = block_run task index scratch bytes in run ∷ block_runs task (index + 1) (scratch_after run) blocks
+
+-- does the run go on after this block run? Not where R0 isn't 0, nor where the program couldn't go on
+abbrev pub goes_on : End → Bool
+goes_on (end.Exit r0) = r0 == 0
+goes_on (end.Trap slot cause) = false
+goes_on end.OutOfFuel = false
+
+-- these block runs up to the first after which the run doesn't go on, that one counted, or all of them
+abbrev pub until_ended : List Run → List Run
+until_ended [] = []
+until_ended (run ∷ runs) = run ∷ (if goes_on run.end then until_ended runs else [])
+
+-- the scratch bytes that a run begins with
+abbrev pub no_scratch : List ℕ
+no_scratch = replicate SCRATCH_BYTES 0
+
+-- the block runs that a run comes to, over its source blocks
+abbrev pub runs_of : Task → List (List ℕ) → List Run
+runs_of task blocks = until_ended (block_runs task 0 no_scratch blocks)
+
+-- ---- what block runs leave
+
+-- their groups, in order
+abbrev pub groups_of : List Run → List (List ℕ)
+groups_of runs = map (λ run. run.state.group) runs
+
+-- the number of their frames
+abbrev pub frames_of : List Run → ℕ
+frames_of [] = 0
+frames_of (run ∷ runs) = run.state.frames + frames_of runs
+
+-- the scratch bytes that the last of them leaves
+abbrev pub last_scratch : List Run → List ℕ
+last_scratch [] = no_scratch
+last_scratch (run ∷ []) = scratch_after run
+last_scratch (run ∷ next ∷ runs) = last_scratch (next ∷ runs)

@@ -1,0 +1,56 @@
+-- Turns of the lowest active run, until no run is left.
+use Rattle.std.specs.Prelude.{ℕ, ◌≡◌, ◌≤◌, ◌+◌, ◌-◌, List, [], ◌∷◌, length, position, take, is_some, Option, Some, None}
+use Rattle.pushdown.specs.Answers.{Taken, and_then}
+use Rattle.pushdown.specs.Machine.{turned}
+use Rattle.pushdown.specs.State.{Place, State}
+
+-- the lowest run number that an active run has
+abbrev pub lowest_run : State → Option ℕ
+lowest_run s = position is_some s.places
+
+-- the turns of these runs, one after another: their answers, and the state after them
+abbrev pub answers_to_turns : List ℕ → State → List Taken
+answers_to_turns [] s = []
+answers_to_turns (run ∷ runs) s = (turned s run).answer ∷ answers_to_turns runs (turned s run).state
+
+abbrev pub state_after_turns : List ℕ → State → State
+state_after_turns [] s = s
+state_after_turns (run ∷ runs) s = state_after_turns runs (turned s run).state
+
+-- each turn is of the lowest active run of then
+abbrev pub AreLowest : List ℕ → State → Type 0
+AreLowest [] s = Unit {0}
+AreLowest (run ∷ runs) s = (lowest_run s ≡ Some run) × AreLowest runs (turned s run).state
+
+abbrev pub turns_left_at : Option Place → ℕ
+turns_left_at None = 0
+turns_left_at (Some place) = length place.turns
+
+-- the turns that are left of all runs
+abbrev pub turns_left : List (Option Place) → ℕ
+turns_left [] = 0
+turns_left (place ∷ places) = turns_left_at place + turns_left places
+
+-- turns of the lowest active run, after which no run is left; no more than were left
+pub record Drains (s : State) (runs : List ℕ) : Type 0 where
+  pub lowest : AreLowest runs s
+  pub none_left : lowest_run (state_after_turns runs s) ≡ None
+  pub few : length runs ≤ turns_left s.places
+
+-- what a device does that is drained, whose answers are taken, where that is told
+pub record HasDrained (old new : State) (before taken : Option (List Taken)) : Type 0 where
+  pub runs : List ℕ
+  pub drains : Drains old runs
+  pub state : new ≡ state_after_turns runs old
+  pub answers : taken ≡ and_then before (answers_to_turns runs old)
+
+-- so many turns are done, each of the lowest active run of then, and the answer to the last of them was
+-- refused; those before it were taken
+pub record StopsDraining (old new : State) (before taken : Option (List Taken)) (done : ℕ) : Type 0 where
+  pub runs : List ℕ
+  pub lowest : AreLowest runs old
+  pub some : 1 ≤ done
+  pub given : length runs ≡ done
+  pub few : done ≤ turns_left old.places
+  pub state : new ≡ state_after_turns runs old
+  pub answers : taken ≡ and_then before (answers_to_turns (take (done - 1) runs) old)

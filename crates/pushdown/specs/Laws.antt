@@ -1,0 +1,200 @@
+-- Laws of the definitions.
+use Rattle.std.specs.Prelude.{◌≤◌, ◌*◌, ℕ, Bool, true, false, ◌≡◌, ◌≢◌, ◌+◌, List, [], ◌∷◌, length, map, Vec, Some, None, Ok, ◌⊎◌}
+use Rattle.std.specs.List.{AllByRecursion, concat, flat_map}
+use Rattle.std.specs.declared.alloc.Global.{Global}
+use Rattle.zone_state.specs.State.{is_open}
+use Rattle.zone_resources.specs.Holds.{no_holds}
+use Rattle.nvme_entry.specs.declared.command.RunCommand.{RunCommand}
+use Rattle.program_interface.specs.Frame.{frames}
+use Rattle.interp.specs.Run.{Run}
+use Rattle.interp.specs.TrapFree.{IsExit}
+use Rattle.reg_domain.specs.Domain.{Operations}
+use Rattle.emit_append.specs.Frames.{unpacked}
+use Rattle.emit_append.specs.Packing.{packed, pending_of, released}
+use Rattle.image_store.specs.Blocks.{bytes_of}
+use Rattle.image_store.specs.Namespace.{ZoneBlocks, ZonedNamespace, zone_at, shape, IsNamespace}
+use Rattle.zns_commands.specs.Append.{TakesBlocks, append_effect}
+use Rattle.zns_commands.specs.Kept.{Grows}
+use Rattle.pushdown.specs.Admission.{SameProgram, source_blocks, task_of}
+use Rattle.pushdown.specs.Answers.{Happening, Submission, plain}
+use Rattle.pushdown.specs.BlockRuns.{Task, block_run, frames_of, goes_on, groups_of, runs_of, scratch_after}
+use Rattle.pushdown.specs.Draining.{Drains}
+use Rattle.pushdown.specs.Events.{Occurrence, state_after}
+use Rattle.pushdown.specs.Machine.{added, admitted_place, happens, turned}
+use Rattle.pushdown.specs.Outcome.{Progress, Turn, appended_by, at_admission, ending_of, last_turn, outcome, output_of, rest}
+use Rattle.pushdown.specs.Pushdown.{AreEvents, IsAdmitted, is_turn_of, success_of}
+use Rattle.pushdown.specs.State.{Place, State, new_state, place_at, program_at}
+use Rattle.pushdown.specs.declared.event.Event.TheVariants as event
+use Rattle.pushdown.specs.declared.reply.Reply.TheVariants as reply
+
+-- ---- the rest of a run
+
+-- the rest of a run at its admission is its outcome
+abbrev pub RestAtAdmission : Type 0
+RestAtAdmission = (task : Task) (blocks : List (List ℕ)) → rest task at_admission blocks ≡ outcome task blocks
+
+-- how far a run has come after one more block run
+abbrev pub further : Task → Progress → Run → Progress
+further task so_far run =
+    let groups = so_far.pending ∷ run.state.group ∷ [] in
+    record {
+      index = so_far.index + 1;
+      scratch = scratch_after run;
+      pending = pending_of task.sizes.block groups;
+      frames = so_far.frames + run.state.frames;
+      appended = so_far.appended + length (released task.sizes.block groups);
+    }
+
+-- the turn that is next, where the run goes on
+abbrev pub next_turn : Task → Progress → Run → Turn
+next_turn task so_far run = record { blocks = released task.sizes.block (so_far.pending ∷ run.state.group ∷ []); ending = None }
+
+-- the rest of a run that goes on is its next turn, and the rest after it
+abbrev pub RestGoesOn : Type 0
+RestGoesOn =
+    (task : Task) (so_far : Progress) (bytes more : List ℕ) (blocks : List (List ℕ))
+    → let run = block_run task so_far.index so_far.scratch bytes in
+    goes_on run.end ≡ true
+    → rest task so_far (bytes ∷ more ∷ blocks) ≡ next_turn task so_far run ∷ rest task (further task so_far run) (more ∷ blocks)
+
+-- the rest of a run that ends is its last turn alone: after the first block run after which it doesn't go
+-- on, or after the last source block
+abbrev pub Ends : Task → Progress → List ℕ → List (List ℕ) → Type 0
+Ends task so_far bytes blocks = (goes_on (block_run task so_far.index so_far.scratch bytes).end ≡ false) ⊎ (blocks ≡ [])
+
+abbrev pub RestEnds : Type 0
+RestEnds =
+    (task : Task) (so_far : Progress) (bytes : List ℕ) (blocks : List (List ℕ)) → Ends task so_far bytes blocks
+    → rest task so_far (bytes ∷ blocks) ≡ last_turn task.sizes.block (output_of so_far) (block_run task so_far.index so_far.scratch bytes) ∷ []
+
+-- no more turns are left than source blocks
+abbrev pub RestIsFew : Type 0
+RestIsFew = (task : Task) (so_far : Progress) (blocks : List (List ℕ)) → length (rest task so_far blocks) ≤ length blocks
+
+-- ---- the outcome
+
+-- All that the turns of a run append is the packing of the groups of all its block runs, and the last turn
+-- tells how many frames these hold and how many blocks they come to.
+pub record IsWholeOutcome (task : Task) (runs : List Run) (turns : List Turn) : Type 0 where
+  pub blocks : appended_by turns ≡ packed task.sizes.block (groups_of runs)
+  pub one_each : length turns ≡ length runs
+  pub ending : 1 ≤ length runs → ending_of turns ≡ Some (success_of runs turns)
+
+abbrev pub OutcomeIsPacked : Type 0
+OutcomeIsPacked =
+    (task : Task) (blocks : List (List ℕ)) → AllByRecursion (λ run. IsExit run.end) (runs_of task blocks)
+    → IsWholeOutcome task (runs_of task blocks) (outcome task blocks)
+
+-- ---- admission and turns
+
+-- a Run that is admitted is answered Pending with its number, and takes that place
+pub record StartsRun (s : State) (sub : Submission) (order : RunCommand) (run : ℕ) (h : Happening) : Type 0 where
+  pub answer : h.answer ≡ plain (reply.Pending run)
+  pub place : place_at h.state run ≡ Some (admitted_place sub s order)
+  pub namespace : h.state.namespace ≡ s.namespace
+
+abbrev pub AdmittedStarts : {D : Type 0} → Operations D → Type 0
+AdmittedStarts operations =
+    (s : State) (starved : Bool) (queue : ℕ) (entry : List ℕ) (payload : Vec ℕ Global) (order : RunCommand) (run : ℕ)
+    → let sub : Submission = record { queue = queue; entry = entry; payload = payload.items } in
+    IsAdmitted s sub order run → StartsRun s sub order run (happens operations s starved (event.Submit queue entry payload))
+
+-- and where an entry is answered Pending, a Run was admitted
+abbrev pub PendingIsAdmitted : {D : Type 0} → Operations D → Type 0
+PendingIsAdmitted operations =
+    (s : State) (starved : Bool) (queue : ℕ) (entry : List ℕ) (payload : Vec ℕ Global) (run : ℕ)
+    → (happens operations s starved (event.Submit queue entry payload)).answer ≡ plain (reply.Pending run)
+    → (order : RunCommand) × IsAdmitted s (record { queue = queue; entry = entry; payload = payload.items }) order run
+
+-- an event that is no turn of a run leaves its turns as they were
+abbrev pub ForeignLeavesTurns : {D : Type 0} → Operations D → Type 0
+ForeignLeavesTurns operations =
+    (s : State) (o : Occurrence) (run : ℕ) (place : Place)
+    → is_turn_of run o.event ≡ false → place_at s run ≡ Some place
+    → place_at (happens operations s o.starved o.event).state run ≡ Some place
+
+-- a turn of a run takes the first of its turns
+abbrev pub TurnTakesFirst : Type 0
+TurnTakesFirst =
+    (s : State) (run : ℕ) (place : Place) (turn : Turn) (later : List Turn)
+    → place_at s run ≡ Some place → place.turns ≡ turn ∷ later → turn.ending ≡ None
+    → place_at (turned s run).state run ≡ Some (record place { turns = later })
+
+-- what is kept for an active run: the blocks of its source, its program, and the shape of the namespace
+pub record KeepsFor (place : Place) (s t : State) : Type 0 where
+  pub source : Grows (zone_at s.namespace place.source).blocks (zone_at t.namespace place.source).blocks
+  pub program : SameProgram (program_at s place.slot) (program_at t place.slot)
+  pub sizes : shape t.namespace ≡ shape s.namespace
+
+-- every event keeps it, the turns of the run and of others among them
+abbrev pub EventsKeepForRuns : {D : Type 0} → Operations D → Type 0
+EventsKeepForRuns operations =
+    (s : State) (o : Occurrence) (run : ℕ) (place : Place) → place_at s run ≡ Some place
+    → KeepsFor place s (happens operations s o.starved o.event).state
+
+-- ---- the states that events leave
+
+-- what is left of a run fits into its destination, which is open as long as it isn't filled
+pub record RoomIn (capacity : ℕ) (zone : ZoneBlocks) (turns : List Turn) : Type 0 where
+  pub room : length zone.blocks + length (appended_by turns) ≤ capacity
+  pub opened : (is_open zone.state ≡ true) ⊎ (length zone.blocks ≡ capacity)
+
+-- a turn's blocks come to their zone as by a Zone Append that meets no hold, and no check could refuse it
+pub record IsAppended (ns : ZonedNamespace) (z : ℕ) (blocks : List (List ℕ)) : Type 0 where
+  pub takes : TakesBlocks ns z (bytes_of blocks)
+  pub effect : added ns z blocks ≡ (append_effect ns no_holds (z * ns.size) (bytes_of blocks)).namespace
+
+-- in each state that events leave, the namespace is sound, what is left of each run fits, and what its next
+-- turn appends is appended
+pub record IsSoundState (s : State) : Type 0 where
+  pub namespace : IsNamespace s.namespace
+  pub rooms : (run : ℕ) (place : Place) → place_at s run ≡ Some place
+      → RoomIn s.namespace.capacity (zone_at s.namespace place.destination) place.turns
+  pub appends : (run : ℕ) (place : Place) (turn : Turn) (later : List Turn) → place_at s run ≡ Some place
+      → place.turns ≡ turn ∷ later → turn.blocks ≢ [] → IsAppended s.namespace place.destination turn.blocks
+
+abbrev pub StatesAreSound : {D : Type 0} → Operations D → Type 0
+StatesAreSound operations =
+    (ns : ZonedNamespace) (events : List Occurrence) → IsNamespace ns → AreEvents events
+    → IsSoundState (state_after operations events (new_state ns))
+
+-- in each state that events leave, turns of the lowest active run come to an end
+abbrev pub DrainingEnds : {D : Type 0} → Operations D → Type 0
+DrainingEnds operations =
+    (ns : ZonedNamespace) (events : List Occurrence) → IsNamespace ns → AreEvents events
+    → (runs : List ℕ) × Drains (state_after operations events (new_state ns)) runs
+
+-- ---- in a user's words
+
+-- the records of these groups are what block runs emitted, of which there are as many as they count frames
+pub record AreEmitted (runs : List Run) (records : List (List (List ℕ))) : Type 0 where
+  pub groups : groups_of runs ≡ map frames records
+  pub counted : length (flat_map (λ group. group) records) ≡ frames_of runs
+
+-- what an admitted run appends reads back as the records that its block runs emit, in order
+abbrev pub EmittedReadsBack : {D : Type 0} → Operations D → Type 0
+EmittedReadsBack operations =
+    (ns : ZonedNamespace) (events : List Occurrence) → IsNamespace ns → AreEvents events
+    → let s = state_after operations events (new_state ns) in
+    (sub : Submission) (order : RunCommand) (run : ℕ) → IsAdmitted s sub order run
+    → let task = task_of s.namespace (program_at s order.slot) order in
+    let source = source_blocks s.namespace order in
+    (records : List (List (List ℕ))) × (AreEmitted (runs_of task source) records
+    × (unpacked task.sizes.block (concat (appended_by (outcome task source))) ≡ Ok (flat_map (λ group. group) records)))
+
+-- two states with the same namespace and the same runs; of the results that two runs of one program leave,
+-- the later one is kept
+pub record SameRuns (s t : State) : Type 0 where
+  pub namespace : s.namespace ≡ t.namespace
+  pub places : s.places ≡ t.places
+
+-- the turns of two runs come to the same in either order: what each answers, and what both leave
+pub record Commutes (s : State) (first second : ℕ) : Type 0 where
+  pub first_answer : (turned (turned s second).state first).answer ≡ (turned s first).answer
+  pub second_answer : (turned (turned s first).state second).answer ≡ (turned s second).answer
+  pub both : SameRuns (turned (turned s first).state second).state (turned (turned s second).state first).state
+
+abbrev pub TurnsCommute : {D : Type 0} → Operations D → Type 0
+TurnsCommute operations =
+    (ns : ZonedNamespace) (events : List Occurrence) → IsNamespace ns → AreEvents events
+    → (first second : ℕ) → first ≢ second → Commutes (state_after operations events (new_state ns)) first second

@@ -1,0 +1,13 @@
+pub mod Admission
+pub mod Answers
+pub mod BlockRuns
+pub mod Draining
+pub mod Events
+pub mod Laws
+pub mod Machine
+pub mod Outcome
+pub mod Parts
+pub mod Pushdown
+pub mod ReadBack
+pub mod State
+pub mod View

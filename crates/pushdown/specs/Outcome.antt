@@ -1,0 +1,126 @@
+-- The outcome of a run: what each of its turns appends, and how it ends. It is fixed when the run is
+-- admitted, by the program and the source blocks of then.
+use Rattle.std.specs.Prelude.{ℕ, ◌+◌, List, [], ◌∷◌, ◌++◌, length, drop, Option, Some, None}
+use Rattle.zone_state.specs.declared.status.Status.{Status}
+use Rattle.zone_state.specs.declared.status.TheConstants.Status.{SUCCESS, PROGRAM_TRAPPED}
+use Rattle.interp.specs.Cause.{number_of}
+use Rattle.interp.specs.Run.{Run}
+use Rattle.interp.specs.declared.machine.run.End.{End}
+use Rattle.interp.specs.declared.machine.run.End.TheVariants as end
+use Rattle.emit_append.specs.Packing.{packed, released}
+use Rattle.pushdown.specs.BlockRuns.{Task, block_runs, no_scratch, runs_of, scratch_after, until_ended}
+
+-- ---- turns
+
+-- how a run ends: the completion's status and dwords, and the scratch bytes that are kept as its result
+pub record Ending : Type 0 where
+  pub status : Status
+  pub dw0 : ℕ
+  pub dw1 : ℕ
+  pub result : Option (List ℕ)
+
+-- what one turn does: the blocks that it appends, and how it ends the run, if it does
+pub record Turn : Type 0 where
+  pub blocks : List (List ℕ)
+  pub ending : Option Ending
+
+-- what was put out: groups in order, the number of their frames, and how many blocks were appended
+-- before the first of these groups
+pub record Output : Type 0 where
+  pub groups : List (List ℕ)
+  pub frames : ℕ
+  pub appended : ℕ
+
+abbrev pub no_output : Output
+no_output = record { groups = []; frames = 0; appended = 0 }
+
+-- the output with a block run's group behind it
+abbrev pub with_group : Output → Run → Output
+with_group output run = record {
+  groups = output.groups ++ run.state.group ∷ [];
+  frames = output.frames + run.state.frames;
+  appended = output.appended;
+}
+
+-- what comes to blocks that begin with others
+abbrev pub behind : List (List ℕ) → List (List ℕ) → List (List ℕ)
+behind first blocks = drop (length first) blocks
+
+-- a turn after which the run goes on appends the blocks that no later group can change
+abbrev pub middle_turn : ℕ → Output → Run → Turn
+middle_turn block output run = record {
+  blocks = behind (released block output.groups) (released block (with_group output run).groups);
+  ending = None;
+}
+
+-- a run whose last block run ended by EXIT: all blocks are appended, and told with the frames
+abbrev pub finished : ℕ → Output → Output → List ℕ → Turn
+finished block before output scratch = record {
+  blocks = behind (released block before.groups) (packed block output.groups);
+  ending = Some (record {
+    status = SUCCESS;
+    dw0 = output.frames;
+    dw1 = output.appended + length (packed block output.groups);
+    result = Some scratch;
+  });
+}
+
+-- a run whose program couldn't go on: nothing more is appended
+abbrev pub trapped : ℕ → ℕ → Turn
+trapped slot cause = record {
+  blocks = [];
+  ending = Some (record { status = PROGRAM_TRAPPED; dw0 = slot; dw1 = cause; result = None });
+}
+
+-- the last turn; 9 tells that a block run had no fuel left (profile)
+abbrev pub last_turn_by : End → ℕ → Output → Run → Turn
+last_turn_by (end.Exit r0) block output run = finished block output (with_group output run) (scratch_after run)
+last_turn_by (end.Trap slot cause) block output run = trapped slot (number_of cause)
+last_turn_by end.OutOfFuel block output run = trapped 0 9
+
+abbrev pub last_turn : ℕ → Output → Run → Turn
+last_turn block output run = last_turn_by run.end block output run
+
+-- the turns of these block runs, of which the last ends the run, after what was put out before
+abbrev pub turns_after : ℕ → Output → List Run → List Turn
+turns_after block output [] = []
+turns_after block output (run ∷ []) = last_turn block output run ∷ []
+turns_after block output (run ∷ next ∷ runs) = middle_turn block output run ∷ turns_after block (with_group output run) (next ∷ runs)
+
+-- the turns of a run
+abbrev pub outcome : Task → List (List ℕ) → List Turn
+outcome task blocks = turns_after task.sizes.block no_output (runs_of task blocks)
+
+-- the blocks that turns append
+abbrev pub appended_by : List Turn → List (List ℕ)
+appended_by [] = []
+appended_by (turn ∷ turns) = turn.blocks ++ appended_by turns
+
+-- how the last of some turns ends the run
+abbrev pub ending_of : List Turn → Option Ending
+ending_of [] = None
+ending_of (turn ∷ []) = turn.ending
+ending_of (turn ∷ next ∷ turns) = ending_of (next ∷ turns)
+
+-- ---- the rest of a run
+
+-- how far a run has come: the index of the next block, the scratch bytes, the bytes of the block that
+-- isn't appended yet, and the frames and blocks so far
+pub record Progress : Type 0 where
+  pub index : ℕ
+  pub scratch : List ℕ
+  pub pending : List ℕ
+  pub frames : ℕ
+  pub appended : ℕ
+
+abbrev pub at_admission : Progress
+at_admission = record { index = 0; scratch = no_scratch; pending = []; frames = 0; appended = 0 }
+
+-- the pending bytes stand for one group
+abbrev pub output_of : Progress → Output
+output_of so_far = record { groups = so_far.pending ∷ []; frames = so_far.frames; appended = so_far.appended }
+
+-- the turns that are left of a run that has come so far, of the source blocks still to come
+abbrev pub rest : Task → Progress → List (List ℕ) → List Turn
+rest task so_far blocks =
+    turns_after task.sizes.block (output_of so_far) (until_ended (block_runs task so_far.index so_far.scratch blocks))

@@ -1,0 +1,64 @@
+-- Lists of events, in parts, and turns as events.
+use Rattle.std.specs.Prelude.{ℕ, false, ◌≡◌, List, ◌++◌, length, map, Option, None}
+use Rattle.reg_domain.specs.Domain.{Operations}
+use Rattle.pushdown.specs.Answers.{Taken, and_then}
+use Rattle.pushdown.specs.Draining.{Drains, HasDrained, answers_to_turns, lowest_run, state_after_turns}
+use Rattle.pushdown.specs.Events.{AreOf, HasServed, Occurrence, answers_to, state_after}
+use Rattle.pushdown.specs.State.{State}
+use Rattle.pushdown.specs.declared.event.Event.{Event}
+use Rattle.pushdown.specs.declared.event.Event.TheVariants as event
+
+-- each event has one answer
+abbrev pub OneAnswerEach : {D : Type 0} → Operations D → Type 0
+OneAnswerEach operations = (events : List Occurrence) (s : State) → length (answers_to operations events s) ≡ length events
+
+-- turns of these runs, as events; a turn asks for no memory
+abbrev pub turns_of : List ℕ → List Occurrence
+turns_of runs = map (λ run. record { event = event.Turn run; starved = false }) runs
+
+module _ {D : Type 0} (operations : Operations D) where
+  -- the later events happen to what the earlier ones leave
+  pub record AreInParts (first later : List Occurrence) (s : State) : Type 0 where
+    pub answers : answers_to operations (first ++ later) s
+        ≡ answers_to operations first s ++ answers_to operations later (state_after operations first s)
+    pub state : state_after operations (first ++ later) s ≡ state_after operations later (state_after operations first s)
+
+  -- the turns of a device that is drained are events
+  pub record AreTurns (runs : List ℕ) (s : State) : Type 0 where
+    pub answers : answers_to_turns runs s ≡ answers_to operations (turns_of runs) s
+    pub state : state_after_turns runs s ≡ state_after operations (turns_of runs) s
+
+  -- events were done, and then turns of the lowest active run of then, until no run was left; the answers of
+  -- both were taken in order, where that is told
+  pub record HasFinished (events : List Event) (old new : State) (before taken : Option (List Taken)) : Type 0 where
+    pub occurrences : List Occurrence
+    pub are : AreOf events occurrences
+    pub runs : List ℕ
+    pub drains : Drains (state_after operations occurrences old) runs
+    pub state : new ≡ state_after operations (occurrences ++ turns_of runs) old
+    pub answers : taken ≡ and_then before (answers_to operations (occurrences ++ turns_of runs) old)
+    pub none_left : lowest_run new ≡ None
+
+-- events can be served in parts
+abbrev pub InParts : {D : Type 0} → Operations D → Type 0
+InParts operations = (first later : List Occurrence) (s : State) → AreInParts operations first later s
+
+abbrev pub ServedInParts : {D : Type 0} → Operations D → Type 0
+ServedInParts operations =
+    (first later : List Event) (old between new : State) (before then taken : Option (List Taken))
+    → HasServed operations first old between before then → HasServed operations later between new then taken
+    → HasServed operations (first ++ later) old new before taken
+
+abbrev pub DrainedByTurns : {D : Type 0} → Operations D → Type 0
+DrainedByTurns operations = (runs : List ℕ) (s : State) → AreTurns operations runs s
+
+-- what drains a state is determined
+abbrev pub DrainedInOneWay : Type 0
+DrainedInOneWay = (s : State) (runs others : List ℕ) → Drains s runs → Drains s others → runs ≡ others
+
+-- a device that is served events and then drained has done them and all that they began
+abbrev pub ServedAndDrained : {D : Type 0} → Operations D → Type 0
+ServedAndDrained operations =
+    (events : List Event) (old between new : State) (before then taken : Option (List Taken))
+    → HasServed operations events old between before then → HasDrained between new then taken
+    → HasFinished operations events old new before taken

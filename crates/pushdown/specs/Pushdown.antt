@@ -1,0 +1,182 @@
+-- The pushdown theorem: for every accepted program, every state that any list of events leaves, and every
+-- Run admitted there, whatever events of others follow:
+-- 1. no turn traps;
+-- 2. each turn takes at most as many steps as the program has instructions;
+-- 3. each turn changes no zone but the destination, and that one by blocks at its end; it leaves other runs'
+--    places and other slots, and reads nothing but source blocks;
+-- 4. each turn is the one that is fixed at admission: the blocks that it appends, the completion, and what it
+--    leaves at the run's place and in the slots;
+-- 5. the completion's numbers are whole.
+use Rattle.std.specs.Prelude.{ℕ, Bool, true, false, ◌≡◌, ◌≢◌, ◌≤◌, ◌<◌, ◌+◌, ◌^◌, ◌==◌, List, [], ◌∷◌, ◌++◌, length, take, drop, get_or, Option, Some, None, Ok, Vec}
+use Rattle.std.specs.List.{AllByRecursion}
+use Rattle.std.specs.declared.alloc.Global.{Global}
+use Rattle.zone_state.specs.declared.status.TheConstants.Status.{SUCCESS}
+use Rattle.nvme_entry.specs.Entry.{decoded}
+use Rattle.nvme_entry.specs.declared.command.Command.TheVariants as command
+use Rattle.nvme_entry.specs.declared.command.RunCommand.{RunCommand}
+use Rattle.ebpf_decode.specs.Program.{instruction_count}
+use Rattle.interp.specs.Run.{Run}
+use Rattle.interp.specs.TrapFree.{IsExit}
+use Rattle.reg_domain.specs.Domain.{Operations}
+use Rattle.image_store.specs.Blocks.{AreBytes}
+use Rattle.image_store.specs.Namespace.{ZonedNamespace, zone_at, shape, IsNamespace}
+use Rattle.pushdown.specs.Admission.{SameProgram, source_blocks, task_of}
+use Rattle.pushdown.specs.Answers.{Happening, Submission}
+use Rattle.pushdown.specs.BlockRuns.{Task, frames_of, last_scratch, runs_of}
+use Rattle.pushdown.specs.Events.{Occurrence, state_after}
+use Rattle.pushdown.specs.Machine.{admitted_place, place_left, slots_left, turn_answer, turned, why_not_run}
+use Rattle.pushdown.specs.Outcome.{Ending, Turn, appended_by, ending_of, outcome}
+use Rattle.pushdown.specs.State.{Place, State, free_run, new_state, place_at, program_at}
+use Rattle.pushdown.specs.declared.event.Event.{Event}
+use Rattle.pushdown.specs.declared.event.Event.TheVariants as event
+
+-- ---- events
+
+-- the data beside an entry is bytes
+abbrev pub HasBytes : Event → Type 0
+HasBytes (event.Submit queue entry payload) = AreBytes payload.items
+HasBytes (event.Turn run) = Unit {0}
+HasBytes (event.Fault zone state) = Unit {0}
+
+abbrev pub AreEvents : List Occurrence → Type 0
+AreEvents events = AllByRecursion (λ o. HasBytes o.event) events
+
+abbrev pub is_turn_of : ℕ → Event → Bool
+is_turn_of run (event.Turn other) = other == run
+is_turn_of run (event.Submit queue entry payload) = false
+is_turn_of run (event.Fault zone state) = false
+
+abbrev pub one_if : Bool → ℕ
+one_if true = 1
+one_if false = 0
+
+-- how many of the events are turns of a run; all others are those of others
+abbrev pub own_turns : ℕ → List Occurrence → ℕ
+own_turns run [] = 0
+own_turns run (o ∷ os) = one_if (is_turn_of run o.event) + own_turns run os
+
+-- ---- turns
+
+-- a Run is admitted: no check refuses it, and the lowest free run number is its own
+pub record IsAdmitted (s : State) (sub : Submission) (order : RunCommand) (run : ℕ) : Type 0 where
+  pub asked : decoded sub.entry ≡ Ok (command.Run order)
+  pub passed : why_not_run sub s order ≡ None
+  pub free : free_run s ≡ Some run
+
+abbrev pub blocks_at : State → ℕ → List (List ℕ)
+blocks_at s z = (zone_at s.namespace z).blocks
+
+abbrev pub no_turn : Turn
+no_turn = record { blocks = []; ending = None }
+
+abbrev pub Succeeds : Option Ending → Type 0
+Succeeds None = ⊥
+Succeeds (Some ending) = ending.status ≡ SUCCESS
+
+-- the last turn ends the run with success, and no other does
+abbrev pub EndsWithLast : List Turn → Type 0
+EndsWithLast [] = ⊥
+EndsWithLast (turn ∷ []) = Succeeds turn.ending
+EndsWithLast (turn ∷ next ∷ turns) = (turn.ending ≡ None) × EndsWithLast (next ∷ turns)
+
+-- a success that tells the frames of these block runs and the blocks of these turns; the scratch bytes that
+-- the last block run left are the result
+abbrev pub success_of : List Run → List Turn → Ending
+success_of runs turns = record {
+  status = SUCCESS;
+  dw0 = frames_of runs;
+  dw1 = length (appended_by turns);
+  result = Some (last_scratch runs);
+}
+
+-- ---- the five parts
+
+module _ {D : Type 0} (operations : Operations D) where
+  -- a Run that is submitted in a state, its number, and the events that follow
+  module _ (s : State) (queue : ℕ) (entry : List ℕ) (payload : Vec ℕ Global) (starved : Bool) (order : RunCommand) (run : ℕ)
+      (events : List Occurrence) where
+    abbrev pub submission : Submission
+    submission = record { queue = queue; entry = entry; payload = payload.items }
+
+    -- what is fixed at admission: the program and the source blocks, and so the block runs and the turns
+    abbrev pub task : Task
+    task = task_of s.namespace (program_at s order.slot) order
+
+    abbrev pub runs : List Run
+    runs = runs_of task (source_blocks s.namespace order)
+
+    abbrev pub place : Place
+    place = admitted_place submission s order
+
+    -- the state that the Run and the events leave, and how many of these are the run's own turns
+    abbrev pub now : State
+    now = state_after operations (record { event = event.Submit queue entry payload; starved = starved } ∷ events) s
+
+    abbrev pub done : ℕ
+    done = own_turns run events
+
+    -- the next turn of the run, and what it comes to
+    abbrev pub turn : Turn
+    turn = get_or place.turns done no_turn
+
+    abbrev pub next : Happening
+    next = turned now run
+
+    -- 1. No turn traps: each block run ends by EXIT, and the run's last turn ends it, with success.
+    pub record NoTurnTraps : Type 0 where
+      pub exits : AllByRecursion (λ r. IsExit r.end) runs
+      pub ends : EndsWithLast place.turns
+
+    -- 2. Each turn takes at most as many steps as the program has instructions.
+    abbrev pub FewSteps : Type 0
+    FewSteps = AllByRecursion (λ r. r.steps ≤ instruction_count task.program) runs
+
+    -- 3. A turn changes no zone but the destination, and that one by blocks at its end. It leaves every other
+    -- run's place, and every slot but the result of its own. Equal source blocks give equal turns: nothing
+    -- else is read.
+    pub record ChangesDestinationAlone : Type 0 where
+      pub others : (z : ℕ) → z ≢ place.destination → zone_at next.state.namespace z ≡ zone_at now.namespace z
+      pub shape_kept : shape next.state.namespace ≡ shape now.namespace
+      pub at_its_end : blocks_at next.state place.destination ≡ blocks_at now place.destination ++ turn.blocks
+      pub runs_left : (other : ℕ) → other ≢ run → place_at next.state other ≡ place_at now other
+      pub slots_left : (slot : ℕ) → slot ≢ order.slot → program_at next.state slot ≡ program_at now slot
+      pub program_left : SameProgram (program_at now order.slot) (program_at next.state order.slot)
+      pub same_blocks : (ns : ZonedNamespace) → ns.block ≡ s.namespace.block
+          → source_blocks ns order ≡ source_blocks s.namespace order
+          → outcome (task_of ns (program_at s order.slot) order) (source_blocks ns order) ≡ place.turns
+
+    -- 4. After k own turns the first k turns of those fixed at admission are done: their blocks stand in order
+    -- directly behind what the destination held at admission, and the others are left. The next turn answers
+    -- what is fixed for it, and appends its blocks; the last one posts the completion, to the queue and with
+    -- the identifier of the Run, frees the place, and leaves the last scratch bytes as the slot's result.
+    pub record DoesItsTurns : Type 0 where
+      pub left : place_at now run ≡ Some (record place { turns = drop done place.turns })
+      pub appended : blocks_at now place.destination ≡ blocks_at s place.destination ++ appended_by (take done place.turns)
+      pub answer : next.answer ≡ turn_answer run place turn.ending
+      pub then_appended : blocks_at next.state place.destination
+          ≡ blocks_at s place.destination ++ appended_by (take (done + 1) place.turns)
+      pub then_left : place_at next.state run ≡ place_left place (drop (done + 1) place.turns) turn.ending
+      pub then_slots : next.state.slots ≡ slots_left now place turn.ending
+
+    -- 5. The completion tells the frames that were emitted and the blocks that were appended, both whole.
+    pub record TellsWhole : Type 0 where
+      pub ending : ending_of place.turns ≡ Some (success_of runs place.turns)
+      pub frames : frames_of runs < 2 ^ 32
+      pub blocks : length (appended_by place.turns) < 2 ^ 32
+
+    pub record IsPushedDown : Type 0 where
+      pub no_turn_traps : NoTurnTraps
+      pub few_steps : FewSteps
+      pub changes_destination_alone : done < length place.turns → ChangesDestinationAlone
+      pub does_its_turns : done < length place.turns → DoesItsTurns
+      pub tells_whole : TellsWhole
+
+-- Whatever events came before, whatever Run is admitted then, and whatever events follow, of which any
+-- number are the run's own turns. It holds for the operations of every sound domain.
+abbrev pub Pushdown : {D : Type 0} → Operations D → Type 0
+Pushdown operations =
+    (ns : ZonedNamespace) (before : List Occurrence) → IsNamespace ns → AreEvents before
+    → let s = state_after operations before (new_state ns) in
+    (queue : ℕ) (entry : List ℕ) (payload : Vec ℕ Global) (starved : Bool) (order : RunCommand) (run : ℕ) (after : List Occurrence)
+    → IsAdmitted s (record { queue = queue; entry = entry; payload = payload.items }) order run
+    → IsPushedDown operations s queue entry payload starved order run after

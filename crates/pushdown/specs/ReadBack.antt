@@ -1,0 +1,165 @@
+-- What was written is read back, whatever events happen in between.
+use Rattle.std.specs.Prelude.{ℕ, Bool, false, ◌≡◌, ◌≤◌, ◌<◌, ◌+◌, ◌*◌, ◌^◌, List, [], ◌∷◌, length, take, drop, Ok, Vec}
+use Rattle.std.specs.List.{concat, flat_map}
+use Rattle.std.specs.declared.alloc.Global.{Global}
+use Rattle.zone_state.specs.declared.status.TheConstants.Status.{SUCCESS}
+use Rattle.nvme_entry.specs.Entry.{decoded}
+use Rattle.nvme_entry.specs.declared.command.Command.TheVariants as command
+use Rattle.nvme_entry.specs.declared.command.RunCommand.{RunCommand}
+use Rattle.nvme_entry.specs.declared.command.StandardCommand.{StandardCommand}
+use Rattle.nvme_entry.specs.declared.command.StandardCommand.TheVariants.{Write, Read, Append}
+use Rattle.nvme_entry.specs.declared.command.TheConstants.{MOST_TRANSFER}
+use Rattle.reg_domain.specs.Domain.{Operations}
+use Rattle.emit_append.specs.Frames.{unpacked}
+use Rattle.image_store.specs.Blocks.{bytes_of}
+use Rattle.image_store.specs.Namespace.{ZonedNamespace, zone_at, shape, IsNamespace}
+use Rattle.zns_commands.specs.Address.{write_pointer, zone_number}
+use Rattle.zns_commands.specs.Answer.{Outcome, success}
+use Rattle.zns_commands.specs.Kept.{Grows}
+use Rattle.zns_commands.specs.Laws.{is_cleared}
+use Rattle.zns_commands.specs.Meaning.{meaning}
+use Rattle.pushdown.specs.Admission.{source_blocks, task_of}
+use Rattle.pushdown.specs.Answers.{Happening}
+use Rattle.pushdown.specs.BlockRuns.{runs_of}
+use Rattle.pushdown.specs.Events.{Occurrence, state_after}
+use Rattle.pushdown.specs.Laws.{AreEmitted}
+use Rattle.pushdown.specs.Machine.{admitted_place, commanded, happens, turned}
+use Rattle.pushdown.specs.Outcome.{appended_by}
+use Rattle.pushdown.specs.Pushdown.{AreEvents, IsAdmitted, blocks_at, own_turns}
+use Rattle.pushdown.specs.State.{Place, State, holds_of, new_state, program_at}
+use Rattle.pushdown.specs.declared.event.Event.{Event}
+use Rattle.pushdown.specs.declared.event.Event.TheVariants as event
+
+-- the event submits an entry of this command, with these bytes beside it
+abbrev pub Submits : Event → StandardCommand → List ℕ → Type 0
+Submits (event.Submit queue entry payload) c input = (decoded entry ≡ Ok (command.Standard c)) × (payload.items ≡ input)
+Submits (event.Turn run) c input = ⊥
+Submits (event.Fault zone state) c input = ⊥
+
+-- what happens is that the event's entry is completed with this outcome
+abbrev pub IsCompleted : Event → State → Outcome → Happening → Type 0
+IsCompleted (event.Submit queue entry payload) s outcome happening =
+    happening ≡ commanded (record { queue = queue; entry = entry; payload = payload.items }) s outcome
+IsCompleted (event.Turn run) s outcome happening = ⊥
+IsCompleted (event.Fault zone state) s outcome happening = ⊥
+
+module _ {D : Type 0} (operations : Operations D) where
+  -- these bytes are read of so many blocks from an address on
+  abbrev pub AreRead : State → ℕ → ℕ → List ℕ → Type 0
+  AreRead s lba blocks bytes =
+      (read : Occurrence) → Submits read.event (Read lba blocks) []
+      → IsCompleted read.event s (success s.namespace 0 bytes) (happens operations s read.starved read.event)
+
+  -- these blocks are read from an address on, one block after another
+  abbrev pub BlocksAreRead : State → ℕ → List (List ℕ) → Type 0
+  BlocksAreRead s lba [] = Unit {0}
+  BlocksAreRead s lba (block ∷ blocks) = AreRead s lba 1 block × BlocksAreRead s (lba + 1) blocks
+
+  -- after none of the events is the zone Empty or Offline, so that nothing of what was written is left
+  abbrev pub NoneClears : ℕ → List Occurrence → State → Type 0
+  NoneClears z [] s = Unit {0}
+  NoneClears z (o ∷ os) s =
+      let next = (happens operations s o.starved o.event).state in
+      (is_cleared (zone_at next.namespace z).state ≡ false) × NoneClears z os next
+
+  -- an admitted Run, the events between it and a turn of it, and events after that turn
+  module _ (s : State) (queue : ℕ) (entry : List ℕ) (payload : Vec ℕ Global) (starved : Bool) (order : RunCommand) (run : ℕ)
+      (events later : List Occurrence) where
+    abbrev pub place : Place
+    place = admitted_place (record { queue = queue; entry = entry; payload = payload.items }) s order
+
+    -- how many of its turns came before that turn
+    abbrev pub done : ℕ
+    done = own_turns run events
+
+    abbrev pub submitted : Occurrence
+    submitted = record { event = event.Submit queue entry payload; starved = starved }
+
+    abbrev pub after_turn : State
+    after_turn = (turned (state_after operations (submitted ∷ events) s) run).state
+
+    -- the logical block that the first of its blocks goes to
+    abbrev pub pointer : ℕ
+    pointer = write_pointer s.namespace place.destination
+
+    -- each part of what its turns have appended is read, from where the destination's end was at admission
+    abbrev pub AppendedAreRead : Type 0
+    AppendedAreRead =
+        let appended = appended_by (take (done + 1) place.turns) in
+        (at blocks : ℕ) → at + blocks ≤ length appended → 1 ≤ blocks → blocks * s.namespace.block ≤ MOST_TRANSFER
+        → AreRead (state_after operations later after_turn) (pointer + at) blocks (bytes_of (take blocks (drop at appended)))
+
+    -- where that turn was the last, the blocks that are read there, one after another, unpack to the records
+    -- that the program emitted, in order
+    abbrev pub EmittedAreRead : Type 0
+    EmittedAreRead =
+        let task = task_of s.namespace (program_at s order.slot) order in
+        let blocks = appended_by place.turns in
+        (records : List (List (List ℕ))) × (AreEmitted (runs_of task (source_blocks s.namespace order)) records
+        × (BlocksAreRead (state_after operations later after_turn) pointer blocks
+        × (unpacked s.namespace.block (concat blocks) ≡ Ok (flat_map (λ group. group) records))))
+
+    -- until the destination is reset, goes offline or is lost
+    abbrev pub IsReadBack : Type 0
+    IsReadBack =
+        done < length place.turns → NoneClears place.destination later after_turn
+        → AppendedAreRead × (done + 1 ≡ length place.turns → EmittedAreRead)
+
+-- no event changes the shape of the namespace
+abbrev pub ShapesAreKept : {D : Type 0} → Operations D → Type 0
+ShapesAreKept operations =
+    (s : State) (events : List Occurrence) → shape (state_after operations events s).namespace ≡ shape s.namespace
+
+-- a zone that isn't cleared keeps its blocks, and perhaps has some behind them
+abbrev pub UnclearedKeepBlocks : {D : Type 0} → Operations D → Type 0
+UnclearedKeepBlocks operations =
+    (s : State) (events : List Occurrence) (z : ℕ) → NoneClears operations z events s
+    → Grows (blocks_at s z) (blocks_at (state_after operations events s) z)
+
+-- what is written in a zone is read
+abbrev pub WrittenIsRead : {D : Type 0} → Operations D → Type 0
+WrittenIsRead operations =
+    (s : State) (z at blocks : ℕ) → IsNamespace s.namespace
+    → at + blocks ≤ length (blocks_at s z) → 1 ≤ blocks → blocks * s.namespace.block ≤ MOST_TRANSFER
+    → AreRead operations s (z * s.namespace.size + at) blocks (bytes_of (take blocks (drop at (blocks_at s z))))
+
+-- what an Append that succeeds put in is read from the address that its completion tells, whatever
+-- events happen in between, until the zone is reset, goes offline or is lost
+abbrev pub AppendReadsBack : {D : Type 0} → Operations D → State → Type 0
+AppendReadsBack operations s =
+    (o : Occurrence) (lba blocks : ℕ) (input : List ℕ) (events : List Occurrence) → Submits o.event (Append lba blocks) input
+    → let done = meaning s.namespace (holds_of s) (Append lba blocks) input in
+    let happening = happens operations s o.starved o.event in
+    done.status ≡ SUCCESS → NoneClears operations (zone_number s.namespace lba) events happening.state
+    → IsCompleted o.event s done happening
+    × AreRead operations (state_after operations events happening.state) (done.dw0 + done.dw1 * 2 ^ 32) blocks input
+
+-- the same of a Write, which is read from its own address
+abbrev pub WriteReadsBack : {D : Type 0} → Operations D → State → Type 0
+WriteReadsBack operations s =
+    (o : Occurrence) (lba blocks : ℕ) (input : List ℕ) (events : List Occurrence) → Submits o.event (Write lba blocks) input
+    → let done = meaning s.namespace (holds_of s) (Write lba blocks) input in
+    let happening = happens operations s o.starved o.event in
+    done.status ≡ SUCCESS → NoneClears operations (zone_number s.namespace lba) events happening.state
+    → IsCompleted o.event s done happening × AreRead operations (state_after operations events happening.state) lba blocks input
+
+-- the same of what a run appends: after each of its turns what it has appended so far, and after the last
+-- one all that its program emitted
+abbrev pub RunReadsBack : {D : Type 0} → Operations D → State → Type 0
+RunReadsBack operations s =
+    (queue : ℕ) (entry : List ℕ) (payload : Vec ℕ Global) (starved : Bool) (order : RunCommand) (run : ℕ) (events later : List Occurrence)
+    → IsAdmitted s (record { queue = queue; entry = entry; payload = payload.items }) order run
+    → AreEvents events → AreEvents later
+    → IsReadBack operations s queue entry payload starved order run events later
+
+abbrev pub AppendedReadsBack : {D : Type 0} → Operations D → Type 0
+AppendedReadsBack operations = (s : State) → IsNamespace s.namespace → AppendReadsBack operations s
+
+abbrev pub WrittenReadsBack : {D : Type 0} → Operations D → Type 0
+WrittenReadsBack operations = (s : State) → IsNamespace s.namespace → WriteReadsBack operations s
+
+-- in each state that events leave
+abbrev pub RunsReadBack : {D : Type 0} → Operations D → Type 0
+RunsReadBack operations =
+    (ns : ZonedNamespace) (before : List Occurrence) → IsNamespace ns → AreEvents before
+    → RunReadsBack operations (state_after operations before (new_state ns))

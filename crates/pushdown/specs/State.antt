@@ -1,0 +1,72 @@
+-- The state of a device: its namespace, its programs and its active runs.
+use Rattle.std.specs.Prelude.{ℕ, Bool, false, ◌==◌, List, map, set, get_or, replicate, position, is_none, Option, Some, None}
+use Rattle.std.specs.List.{list_any}
+use Rattle.zone_resources.specs.declared.holds.Holds.{Holds}
+use Rattle.zone_resources.specs.declared.holds.TheConstants.{RUNS}
+use Rattle.nvme_entry.specs.declared.program_slot.TheConstants.{PROGRAM_SLOTS}
+use Rattle.image_store.specs.Namespace.{ZonedNamespace}
+use Rattle.pushdown.specs.Admission.{Loaded}
+use Rattle.pushdown.specs.Outcome.{Turn}
+
+-- an active run: the queue and the command identifier that its completion goes to, the slot of its
+-- program, the zones that it reads from and appends to, and the turns that are left of it
+pub record Place : Type 0 where
+  pub queue : ℕ
+  pub cid : ℕ
+  pub slot : ℕ
+  pub source : ℕ
+  pub destination : ℕ
+  pub turns : List Turn
+
+-- a namespace, the slots for programs, and the places for active runs, which the runs are numbered by
+pub record State : Type 0 where
+  pub namespace : ZonedNamespace
+  pub slots : List (Option Loaded)
+  pub places : List (Option Place)
+
+-- a device that was just made
+abbrev pub new_state : ZonedNamespace → State
+new_state ns = record { namespace = ns; slots = replicate PROGRAM_SLOTS None; places = replicate RUNS None }
+
+abbrev pub program_at : State → ℕ → Option Loaded
+program_at s slot = get_or s.slots slot None
+
+abbrev pub place_at : State → ℕ → Option Place
+place_at s run = get_or s.places run None
+
+-- the lowest run number that is free
+abbrev pub free_run : State → Option ℕ
+free_run s = position is_none s.places
+
+-- ---- what the active runs hold
+
+abbrev pub source_of : Option Place → Option ℕ
+source_of None = None
+source_of (Some place) = Some place.source
+
+abbrev pub destination_of : Option Place → Option ℕ
+destination_of None = None
+destination_of (Some place) = Some place.destination
+
+-- the zones that the active runs read from and append to
+abbrev pub holds_of : State → Holds
+holds_of s = record { sources = map source_of s.places; destinations = map destination_of s.places }
+
+abbrev pub uses : ℕ → Option Place → Bool
+uses slot None = false
+uses slot (Some place) = place.slot == slot
+
+-- does an active run use the program of a slot?
+abbrev pub in_use : State → ℕ → Bool
+in_use s slot = list_any (uses slot) s.places
+
+-- ---- a state with one part changed
+
+abbrev pub with_namespace : State → ZonedNamespace → State
+with_namespace s ns = record { namespace = ns; slots = s.slots; places = s.places }
+
+abbrev pub with_slot : State → ℕ → Option Loaded → State
+with_slot s slot loaded = record { namespace = s.namespace; slots = set s.slots slot loaded; places = s.places }
+
+abbrev pub with_place : State → ℕ → Option Place → State
+with_place s run place = record { namespace = s.namespace; slots = s.slots; places = set s.places run place }

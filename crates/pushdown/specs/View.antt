@@ -1,0 +1,66 @@
+-- What a device holds of its runs, seen as the places of a state.
+use Rattle.std.specs.Prelude.{ℕ, ◌≡◌, ◌≤◌, ◌+◌, ◌-◌, ◌%◌, List, length, take, drop, get_or, map, Option, Some, None}
+use Rattle.nvme_entry.specs.Entry.{identifier_of}
+use Rattle.nvme_entry.specs.declared.command.RunCommand.{RunCommand}
+use Rattle.image_store.specs.Namespace.{ZonedNamespace, zone_at}
+use Rattle.zns_commands.specs.Address.{zone_number}
+use Rattle.zns_commands.specs.Kept.{Grows}
+use Rattle.pushdown.specs.Admission.{Loaded, SameProgram, task_of}
+use Rattle.pushdown.specs.Answers.{Submission}
+use Rattle.pushdown.specs.Machine.{admitted_place}
+use Rattle.pushdown.specs.Outcome.{Progress, at_admission, rest}
+use Rattle.pushdown.specs.State.{State, Place}
+
+-- an active run as a device holds it
+pub record Active : Type 0 where
+  pub queue : ℕ
+  pub cid : ℕ
+  pub order : RunCommand
+  pub so_far : Progress
+
+-- the source blocks still to come, of the namespace as it is now
+abbrev pub to_come : ZonedNamespace → Active → List (List ℕ)
+to_come ns a =
+    take (a.order.blocks - a.so_far.index)
+    (drop (a.order.lba % ns.size + a.so_far.index) (zone_at ns (zone_number ns a.order.lba)).blocks)
+
+-- the run's place: the turns that are left are the rest of the run
+abbrev pub place_of : ZonedNamespace → List (Option Loaded) → Active → Place
+place_of ns slots a = record {
+  queue = a.queue;
+  cid = a.cid;
+  slot = a.order.slot;
+  source = zone_number ns a.order.lba;
+  destination = zone_number ns a.order.destination;
+  turns = rest (task_of ns (get_or slots a.order.slot None) a.order) a.so_far (to_come ns a);
+}
+
+abbrev pub seen : ZonedNamespace → List (Option Loaded) → Option Active → Option Place
+seen ns slots None = None
+seen ns slots (Some a) = Some (place_of ns slots a)
+
+abbrev pub view_of : ZonedNamespace → List (Option Loaded) → List (Option Active) → State
+view_of ns slots runs = record { namespace = ns; slots = slots; places = map (seen ns slots) runs }
+
+-- a run at its admission
+abbrev pub begun : Submission → RunCommand → Active
+begun sub order = record { queue = sub.queue; cid = identifier_of sub.entry; order = order; so_far = at_admission }
+
+-- what is seen of a run at its admission is its place
+abbrev pub SeenAtAdmission : Type 0
+SeenAtAdmission = (sub : Submission) (s : State) (order : RunCommand) → place_of s.namespace s.slots (begun sub order) ≡ admitted_place sub s order
+
+-- a later namespace of the same sizes, in whose source zone the blocks are those of before and perhaps some
+-- behind them
+pub record KeepsSource (ns later : ZonedNamespace) (a : Active) : Type 0 where
+  pub size : later.size ≡ ns.size
+  pub block : later.block ≡ ns.block
+  pub grows : Grows (zone_at ns (zone_number ns a.order.lba)).blocks (zone_at later (zone_number ns a.order.lba)).blocks
+  pub written : a.order.lba % ns.size + a.so_far.index + (a.order.blocks - a.so_far.index) ≤ length (zone_at ns (zone_number ns a.order.lba)).blocks
+
+-- what is seen of a run stays, whatever is written behind its source, and whatever result its slot is given
+abbrev pub SeenStays : Type 0
+SeenStays =
+    (ns later : ZonedNamespace) (slots slots' : List (Option Loaded)) (a : Active) → KeepsSource ns later a
+    → SameProgram (get_or slots a.order.slot None) (get_or slots' a.order.slot None)
+    → place_of later slots' a ≡ place_of ns slots a

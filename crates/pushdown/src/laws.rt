@@ -1,0 +1,120 @@
+//! Laws of the definitions. Each function does nothing: what it ensures is the law.
+
+ghost use Rattle.pushdown.specs.Laws.{AdmittedStarts, DrainingEnds, EmittedReadsBack, EventsKeepForRuns, ForeignLeavesTurns, OutcomeIsPacked, PendingIsAdmitted, RestAtAdmission, RestEnds, RestGoesOn, RestIsFew, StatesAreSound, TurnTakesFirst, TurnsCommute};
+ghost use Rattle.pushdown.specs.Parts.{DrainedByTurns, DrainedInOneWay, InParts, OneAnswerEach, ServedAndDrained, ServedInParts};
+ghost use Rattle.pushdown.specs.Pushdown.{Pushdown};
+ghost use Rattle.pushdown.specs.ReadBack.{AppendedReadsBack, RunsReadBack, ShapesAreKept, UnclearedKeepBlocks, WrittenIsRead, WrittenReadsBack};
+ghost use Rattle.pushdown.specs.View.{SeenAtAdmission, SeenStays};
+
+use reg_domain::Domain;
+
+/// The rest of a run at its admission is its outcome; later it is its next turn and the rest after that,
+/// until the run ends. It has no more turns than source blocks are left.
+pub fn rests_are_what_is_left()
+    ensures start { RestAtAdmission }
+    ensures on { RestGoesOn }
+    ensures end { RestEnds }
+    ensures few { RestIsFew }
+{}
+
+/// All that a run appends is the packing of its groups, and its completion tells their frames and blocks.
+pub fn outcomes_are_packed()
+    ensures { OutcomeIsPacked }
+{}
+
+/// A Run that is admitted is answered Pending, and no other entry is. Every event that is no turn of it
+/// leaves its turns as they are, and each turn of it takes the first.
+pub fn turns_are_fixed_at_admission<D: Domain>()
+    ensures starts { AdmittedStarts D.operations }
+    ensures admitted { PendingIsAdmitted D.operations }
+    ensures foreign { ForeignLeavesTurns D.operations }
+    ensures own { TurnTakesFirst }
+{}
+
+/// What is seen of a run at its admission is its place, and it stays whatever is written behind its source.
+pub fn runs_are_seen_as_places()
+    ensures admission { SeenAtAdmission }
+    ensures stays { SeenStays }
+{}
+
+/// Every event keeps, for each active run, the blocks of its source, its program and the namespace's shape.
+pub fn events_keep_for_runs<D: Domain>()
+    ensures { EventsKeepForRuns D.operations }
+{}
+
+/// In each state that events leave, the namespace is sound, and what is left of each run fits into its
+/// destination, which is open as long as it isn't filled: no append of a turn can be refused, and it is as a
+/// Zone Append that meets no hold.
+pub fn appends_fit<D: Domain>()
+    ensures { StatesAreSound D.operations }
+{}
+
+/// Each event has one answer.
+pub fn one_answer_each<D: Domain>()
+    ensures { OneAnswerEach D.operations }
+{}
+
+/// Events can be served in parts: the later ones happen to what the earlier ones leave.
+pub fn served_in_parts<D: Domain>()
+    ensures parts { InParts D.operations }
+    ensures served { ServedInParts D.operations }
+{}
+
+/// A device that is drained does turns that are events like any other, and there is one list of turns that
+/// drains it. One that is served events and then drained has done both, and no run is left.
+pub fn served_and_drained<D: Domain>()
+    ensures turns { DrainedByTurns D.operations }
+    ensures one_way { DrainedInOneWay }
+    ensures finished { ServedAndDrained D.operations }
+{}
+
+/// In each state that events leave, turns of the lowest active run come to an end: no run is left, after at
+/// most as many turns as are left of all.
+pub fn draining_ends<D: Domain>()
+    ensures { DrainingEnds D.operations }
+{}
+
+/// What a run appends to its destination, unpacked, is the records that its program emitted, in order.
+pub fn emitted_records_read_back<D: Domain>()
+    ensures { EmittedReadsBack D.operations }
+{}
+
+/// No event changes the shape of the namespace, and a zone that isn't cleared keeps its blocks.
+pub fn uncleared_zones_keep_blocks<D: Domain>()
+    ensures shape { ShapesAreKept D.operations }
+    ensures blocks { UnclearedKeepBlocks D.operations }
+{}
+
+/// The data of an Append that succeeds is what a Read of the assigned address gives, whatever events
+/// happen in between, until the zone is reset, goes offline or is lost.
+pub fn appended_blocks_read_back<D: Domain>()
+    ensures { AppendedReadsBack D.operations }
+{}
+
+/// The same of a Write, at its own address; and whatever is written in a zone is read.
+pub fn written_blocks_read_back<D: Domain>()
+    ensures written { WrittenReadsBack D.operations }
+    ensures there { WrittenIsRead D.operations }
+{}
+
+/// What a run has appended is read from where its destination ended at admission, after each of its turns
+/// and whatever events happen then, until the destination is reset, goes offline or is lost. After its last
+/// turn the blocks that are read there unpack to the records that its program emitted, in order.
+pub fn appended_by_runs_reads_back<D: Domain>()
+    ensures { RunsReadBack D.operations }
+{}
+
+/// The turns of two runs come to the same in either order.
+pub fn turns_commute<D: Domain>()
+    ensures { TurnsCommute D.operations }
+{}
+
+/// The pushdown theorem, for every domain: whatever events came before, whatever Run is admitted then, and
+/// whatever events follow, no turn traps; each takes at most as many steps as the program has instructions;
+/// each changes no zone but its destination, and that one by blocks at its end, leaves other runs' places and
+/// other slots, and reads nothing but source blocks; the appended blocks, the completion, and what a turn
+/// leaves at the run's place and in the slots are those that are fixed at admission; and the completion's
+/// numbers are whole.
+pub fn pushdown<D: Domain>()
+    ensures { Pushdown D.operations }
+{}

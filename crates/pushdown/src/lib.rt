@@ -1,0 +1,10 @@
+//! What a run is: when it is admitted, what it comes to, and what events do to a device that has runs.
+//! The pushdown theorem stands here, over these definitions alone; the device is proved to be their machine.
+#![tactic(auto)]
+
+mod event;
+pub mod laws;
+mod reply;
+
+pub use event::Event;
+pub use reply::Reply;
