@@ -1,5 +1,11 @@
-pub mod Events
+pub mod Admitting
+pub mod Answered
+pub mod Held
 pub mod Laws
+pub mod Loading
+pub mod Ran
 pub mod ReadBack
-pub mod State
-pub mod Taken
+pub mod Ready
+pub mod Refusals
+pub mod Runs
+pub mod Turning

@@ -1,21 +1,30 @@
 //! The device, to which events happen.
 
-ghost use Rattle.std.specs.Prelude.{◌≡◌, ◌≤◌, ◌<◌, ◌+◌, ◌^◌, length, take, drop, OnOk, IfErr};
-ghost use Rattle.runner.specs.Events.{happens, answers_to, state_after, HasStopped, data_length, entry_outcome, complete_reply, fault_reply};
-ghost use Rattle.zone_resources.specs.Holds.{no_holds};
-ghost use Rattle.zns_commands.specs.Fault.{fault_answer, faulted};
-ghost use Rattle.nvme_entry.specs.Entry.{decoded};
+ghost use Rattle.std.specs.Prelude.{◌≡◌, ◌≤◌, ◌<◌, ◌+◌, ◌*◌, ◌^◌, length, take, drop, OnOk, IfErr};
+ghost use Rattle.reg_domain.specs.Intervals.{intervals};
 ghost use Rattle.image_store.specs.Blocks.{AreBytes};
-ghost use Rattle.runner.specs.Laws.{CarriesBytes};
-ghost use Rattle.runner.specs.State.{IsDevice, device_of};
-ghost use Rattle.runner.specs.Taken.{and_then, CountsRefusals};
+ghost use Rattle.pushdown.specs.Answers.{and_then, data_length};
+ghost use Rattle.pushdown.specs.Draining.{HasDrained, StopsDraining, lowest_run, turns_left};
+ghost use Rattle.pushdown.specs.Events.{HasHappened, HasServed, HasStopped};
+ghost use Rattle.pushdown.specs.Machine.{failed};
+ghost use Rattle.pushdown.specs.Pushdown.{HasBytes};
+ghost use Rattle.pushdown.specs.State.{new_state};
+ghost use Rattle.runner.specs.Ready.{IsReached};
+ghost use Rattle.runner.specs.Refusals.{CountsRefusals};
 
-use crate::event::Event;
+use crate::active::Active;
+use crate::admission::{holds, lowest_run as lowest};
+use crate::loaded::LoadedProgram;
 use crate::out::Out;
-use crate::reply::Reply;
-use nvme_entry::{Command, Completion, Entry};
+use crate::submission::{Submission, submit};
+use crate::turn::turn;
+use nvme_entry::{MOST_TRANSFER, PROGRAM_SLOTS};
+use program_interface::LARGEST_BLOCK;
+use pushdown::{Event, Reply};
+use std::alloc::Global;
 use std::marker::Model;
-use zns_commands::{Answer, FaultRefused, FaultState, Holds, Image, MOST_TRANSFER, Namespace};
+use zns_commands::{FaultRefused, FaultState, Image, Namespace};
+use zone_resources::RUNS;
 
 /// A reply was refused. `done` events are done, the one that it answers being the last of them.
 #[derive(Clone, Copy, Debug, PartialEq, Eq)]
@@ -23,99 +32,101 @@ pub struct Stopped {
     pub done: usize,
 }
 
-/// A device with one namespace. A clause sees its state.
+/// A device with one namespace, slots for programs, and places for active runs. A clause sees its state.
 #[derive(Drop)]
 pub struct Device {
+    // what a Load takes its memory from
+    alloc: Global,
     namespace: Namespace,
+    slots: [Option<LoadedProgram>; PROGRAM_SLOTS],
+    runs: [Option<Active>; RUNS],
+    // where a turn's program emits to
+    group: [u8; LARGEST_BLOCK],
 }
 
 impl Model for Device {
-    ghost use Rattle.runner.specs.State.{DeviceState};
+    ghost use Rattle.pushdown.specs.State.{State};
+    ghost use Rattle.runner.specs.Held.{state_of};
+    ghost use Rattle.runner.specs.Ready.{IsDevice};
 
-    ghost Value = { DeviceState };
+    ghost Value = { State };
 
-    ghost view = { λ device. record { namespace = device.namespace } };
+    ghost view = { λ d. state_of d.namespace d.slots d.runs };
+
+    ghost invariant = { λ d. IsDevice d.namespace d.slots d.runs };
 }
 
 impl Device {
-    /// A device whose namespace an image holds.
-    pub fn new(image: Image) -> Device
-        ensures { result ≡ device_of image }
+    /// A device whose namespace an image holds, without a program or a run.
+    pub fn new(alloc: Global, image: Image) -> Device
+        ensures { result ≡ new_state image }
     {
         let namespace = Namespace::new(image);
-        Device { namespace }
+        // brings in what holds of each namespace
+        let _ = namespace.geometry();
+        Device {
+            alloc,
+            namespace,
+            slots: [None, None, None, None, None, None, None, None],
+            runs: [None, None, None, None],
+            group: [0; LARGEST_BLOCK],
+        }
     }
 
     /// The namespace as an image.
     pub fn image(&self) -> &Image
         ensures value { result.now ≡ self.now.namespace }
-        ensures sound { IsDevice self.now }
+        ensures reached { IsReached self.now }
     {
-        // brings in what holds of each namespace
-        let _ = self.namespace.geometry();
         self.namespace.image()
     }
 
     /// Does one event. The data of the reply lies at the front of `data_out`.
     pub fn step(&mut self, event: &Event, data_out: &mut [u8]) -> Reply
         requires { MOST_TRANSFER ≤ length data_out.old }
-        ensures reply { result ≡ (happens self.old event.now).answer.reply }
-        ensures state { self.new ≡ (happens self.old event.now).state }
-        ensures given { take (data_length result) data_out.new ≡ (happens self.old event.now).answer.bytes }
+        ensures happened { HasHappened intervals event.now self.old self.new (record { reply = result; bytes = take (data_length result) data_out.new }) }
         ensures rest { drop (data_length result) data_out.new ≡ drop (data_length result) data_out.old }
         ensures within { data_length result ≤ length data_out.new }
-        ensures carried { CarriesBytes event.now }
+        ensures carried { HasBytes event.now }
     {
         match event {
             Event::Submit {
                 queue,
                 entry,
                 payload,
-            } => self.submit(*queue, entry, payload.as_slice(), data_out),
-            Event::Turn { .. } => Reply::Idle,
+            } => {
+                let submission = Submission::new(*queue, entry, payload.as_slice());
+                submit(
+                    self.alloc,
+                    &mut self.namespace,
+                    &mut self.slots,
+                    &mut self.runs,
+                    &submission,
+                    data_out,
+                )
+            }
+            Event::Turn { run } => {
+                turn(
+                    &mut self.namespace,
+                    &mut self.slots,
+                    &mut self.runs,
+                    &mut self.group,
+                    *run,
+                )
+            }
             Event::Fault { zone, state } => self.fault(*zone, *state),
         }
     }
 
     /// Brings a zone into the state of a fault.
     fn fault(&mut self, zone: u32, state: FaultState) -> Reply
-        ensures reply { result ≡ fault_reply (fault_answer self.old.namespace no_holds zone state) }
-        ensures state { self.new ≡ device_of (faulted self.old.namespace no_holds zone state) }
+        ensures reply { result ≡ (failed self.old zone state).answer.reply }
+        ensures state { self.new ≡ (failed self.old zone state).state }
+        ensures no_data { data_length result ≡ 0 }
     {
-        match self.namespace.fault(zone, state, &Holds::none()) {
+        match self.namespace.fault(zone, state, &holds(&self.runs)) {
             Ok(()) => Reply::Done,
             Err(FaultRefused) => Reply::FaultRefused,
-        }
-    }
-
-    /// Does the command of an entry.
-    fn submit(&mut self, queue: u16, entry: &[u8; 64], payload: &[u8], data_out: &mut [u8]) -> Reply
-        requires { MOST_TRANSFER ≤ length data_out.old }
-        ensures reply { result ≡ complete_reply queue entry.now (entry_outcome self.old.namespace (decoded entry.now) payload.now) }
-        ensures state { self.new ≡ device_of (entry_outcome self.old.namespace (decoded entry.now) payload.now).namespace }
-        ensures given { take (data_length result) data_out.new ≡ (entry_outcome self.old.namespace (decoded entry.now) payload.now).output }
-        ensures rest { drop (data_length result) data_out.new ≡ drop (data_length result) data_out.old }
-        ensures within { data_length result ≤ length data_out.new }
-        ensures bytes { AreBytes payload.now }
-    {
-        let answer = match Entry::decode(entry) {
-            Ok(Command::Standard(command)) => {
-                self.namespace
-                    .execute(&command, payload, data_out, &Holds::none())
-            }
-            Err(status) => Answer::refused(status),
-        };
-        let completion = Completion {
-            dw0: answer.dw0,
-            dw1: answer.dw1,
-            queue,
-            cid: Entry::cid(entry),
-            status: answer.status,
-        };
-        Reply::Complete {
-            queue,
-            entry: completion.encode(),
-            length: answer.length,
         }
     }
 
@@ -132,9 +143,8 @@ impl Device {
     ) -> Result<(), Stopped>
         requires room { MOST_TRANSFER ≤ length data_out.old }
         requires counts { O.refused out.old + 1 < 2 ^ 64 }
-        ensures state { OnOk result (self.new ≡ state_after events.now self.old) }
-        ensures answers { OnOk result (O.taken out.new ≡ and_then (O.taken out.old) (answers_to events.now self.old)) }
-        ensures stopped { IfErr result (λ stopped. HasStopped events.now self.old self.new (O.taken out.old) (O.taken out.new) stopped.done) }
+        ensures served { OnOk result (HasServed intervals events.now self.old self.new (O.taken out.old) (O.taken out.new)) }
+        ensures stopped { IfErr result (λ stopped. HasStopped intervals events.now self.old self.new (O.taken out.old) (O.taken out.new) stopped.done) }
         ensures refused { CountsRefusals (O.refused out.old) (O.refused out.new) result }
     {
         for (index, event) in events.iter().enumerate() {
@@ -143,6 +153,41 @@ impl Device {
             match out.take(reply, data) {
                 Ok(()) => {}
                 Err(_) => return Err(Stopped { done: index + 1 }),
+            }
+        }
+        Ok(())
+    }
+
+    /// The number of the run that a turn is given next, where all runs are to end: the lowest.
+    fn next_run(&self) -> Option<u8>
+        ensures lowest { result ≡ lowest_run self.now }
+        ensures reached { IsReached self.now }
+        ensures few { turns_left self.now.places ≤ 65536 * RUNS }
+    {
+        lowest(&self.runs)
+    }
+
+    /// Gives turns, always to the run of the lowest number, until no run is left, and hands out the reply
+    /// to each.
+    ///
+    /// # Errors
+    ///
+    /// Stops at the first reply that `out` refuses.
+    pub fn drain<O: Out>(&mut self, data_out: &mut [u8], out: &mut O) -> Result<(), Stopped>
+        requires room { MOST_TRANSFER ≤ length data_out.old }
+        requires counts { O.refused out.old + 1 < 2 ^ 64 }
+        ensures drained { OnOk result (HasDrained self.old self.new (O.taken out.old) (O.taken out.new)) }
+        ensures stopped { IfErr result (λ stopped. StopsDraining self.old self.new (O.taken out.old) (O.taken out.new) stopped.done) }
+        ensures refused { CountsRefusals (O.refused out.old) (O.refused out.new) result }
+    {
+        let mut done = 0;
+        while let Some(run) = self.next_run() {
+            let reply = self.step(&Event::Turn { run }, data_out);
+            done += 1;
+            let data = &data_out[..reply.data_length()];
+            match out.take(reply, data) {
+                Ok(()) => {}
+                Err(_) => return Err(Stopped { done }),
             }
         }
         Ok(())

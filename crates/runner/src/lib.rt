@@ -1,13 +1,18 @@
 //! The device: events happen to it, one after another, and each has its answer.
 #![tactic(auto)]
 
+mod active;
+mod admission;
+mod block_run;
+mod commands;
 mod device;
-mod event;
 pub mod laws;
+mod load;
+mod loaded;
 mod out;
-mod reply;
+mod submission;
+mod turn;
 
 pub use device::{Device, Stopped};
-pub use event::Event;
 pub use out::{Out, Refusal};
-pub use reply::Reply;
+pub use pushdown::{Event, Reply};

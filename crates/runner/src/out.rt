@@ -1,9 +1,10 @@
 //! What takes the replies of a device.
 
 ghost use Rattle.std.specs.Prelude.{◌≡◌, ◌+◌, ◌<◌, ◌^◌, ℕ, List, [], ◌∷◌, Option, OnOk, OnErr};
-ghost use Rattle.runner.specs.Taken.{Taken, and_then, CountsRefusals};
+ghost use Rattle.pushdown.specs.Answers.{Taken, and_then};
+ghost use Rattle.runner.specs.Refusals.{CountsRefusals};
 
-use crate::reply::Reply;
+use pushdown::Reply;
 
 /// A reply wasn't taken.
 #[derive(Clone, Copy, Debug, PartialEq, Eq)]

@@ -1,13 +1,17 @@
-use Rattle.image_store.proofs.Loaded.{loaded_is_namespace}
-use Rattle.zns_commands.proofs.SoundSteps.{empty_is_namespace}
-use Rattle.runner.proofs.Steps.{events_keep_devices}
+use Rattle.runner.proofs.Reached.{empty_is_reached, events_keep_reached, loaded_is_reached, reached_is_sound, turns_keep_reached}
 use Rattle.runner.proofs.laws.events_keep_devices_sound.Goals as goal
 
-pub returns-clause-kept : goal.returns-clause-kept
-returns-clause-kept c = events_keep_devices
-
 pub returns-clause-empty : goal.returns-clause-empty
-returns-clause-empty c = λ s known. record { namespace = empty_is_namespace s known }
+returns-clause-empty c = empty_is_reached
 
 pub returns-clause-loaded : goal.returns-clause-loaded
-returns-clause-loaded c = λ bytes ns fit loads. record { namespace = loaded_is_namespace bytes ns fit loads }
+returns-clause-loaded c = loaded_is_reached
+
+pub returns-clause-events : goal.returns-clause-events
+returns-clause-events c = events_keep_reached
+
+pub returns-clause-turns : goal.returns-clause-turns
+returns-clause-turns c = turns_keep_reached
+
+pub returns-clause-sound : goal.returns-clause-sound
+returns-clause-sound c = reached_is_sound

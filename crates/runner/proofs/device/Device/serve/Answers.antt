@@ -1,31 +1,28 @@
-use Rattle.std.proofs.Common.{arith, ◌≡◌, ◌+◌, ◌-◌, ◌∙◌}
-use Rattle.runner.proofs.EventLemmas.{state_step, answer_is, answers_step}
+use Rattle.std.proofs.Common.{◌∷◌, [], take, ap, ◌∙◌}
+use Rattle.pushdown.specs.Answers.{Taken, and_then, data_length}
+use Rattle.runner.proofs.Served.{served_more, served_stopped, with_data}
 use Rattle.runner.proofs.device.Device.serve.Goals as goal
 
 pub loop-index-preserved : goal.loop-index-preserved
 loop-index-preserved g c =
-    let es = c.args.events.now in
-    let i = c.loop-index.index in
+    let step = c.step-reply in
     let event = c.index-events-index in
     let inv = c.loop-index.invariant in
-    let step = c.step-reply.ensures in
+    let now = g.O.Out.taken c.loop-index.out in
+    let answer : Taken = record { reply = step.result; bytes = take (data_length step.result) step.new.data_out } in
+    let taken = c.in-Ok.ensures.ok ∙ ap (λ (x : Taken). and_then now (x ∷ [])) (with_data step.result c.data_length.result step.new.data_out c.data_length.ensures) in
     record {
-      state = state_step es i event.result c.args.self.now c.loop-index.self c.step-reply.new.self c.loop-index-test.true event.is inv.state step.state;
-      answers = answers_step es i event.result c.args.self.now c.loop-index.self _ _ _ _ c.loop-index-test.true event.is inv.state inv.answers
-          (answer_is _ _ _ _ c.data_length.ensures step.reply step.given) c.in-Ok.ensures.ok;
+      served = served_more c.args.events.now c.loop-index.index event.result c.args.self.now c.loop-index.self step.new.self answer
+          (g.O.Out.taken c.args.out.now) now (g.O.Out.taken c.take.new.self) c.loop-index-test.true event.is inv.served step.ensures.happened taken;
       refused = c.in-Ok.ensures.count ∙ inv.refused;
     }
 
 pub returns-in-Err-clause-stopped : goal.returns-in-Err-clause-stopped
 returns-in-Err-clause-stopped g c =
-    let es = c.args.events.now in
-    let i = c.loop-index.index in
+    let step = c.step-reply in
     let event = c.index-events-index in
     let inv = c.loop-index.invariant in
-    let last : i + 1 - 1 ≡ i = omega arith in
-    record {
-      some = omega arith;
-      within = omega arith;
-      state = state_step es i event.result c.args.self.now c.loop-index.self c.step-reply.new.self c.loop-index-test.true event.is inv.state c.step-reply.ensures.state;
-      answers = rw last (c.in-Err.ensures.err ∙ inv.answers);
-    }
+    let answer : Taken = record { reply = step.result; bytes = take (data_length step.result) step.new.data_out } in
+    served_stopped c.args.events.now c.loop-index.index event.result c.args.self.now c.loop-index.self step.new.self answer
+    (g.O.Out.taken c.args.out.now) (g.O.Out.taken c.loop-index.out) (g.O.Out.taken c.take.new.self) c.loop-index-test.true event.is inv.served
+    step.ensures.happened c.in-Err.ensures.err

@@ -1,0 +1,104 @@
+-- The checks of a run, of their parts.
+use Rattle.std.proofs.Common.{◌≡◌, ℕ, ◌<◌, List, [], ◌∷◌, ◌++◌, length, map, get_or, Bool, true, Option, Some, None, refl, ap, sym, ◌∙◌}
+use Rattle.std.specs.Prelude.{◌==◌, is_none, is_some, position}
+use Rattle.std.proofs.Math.ListN.{get_or-map}
+use Rattle.std.proofs.lemmas.List.{get_or_default}
+use Rattle.zone_state.specs.declared.status.Status.{Status}
+use Rattle.zone_state.specs.declared.status.TheConstants.Status.{INVALID_FIELD_IN_COMMAND, NO_SUCH_PROGRAM, NO_RUN_FREE}
+use Rattle.zone_resources.specs.declared.holds.Holds.{Holds}
+use Rattle.nvme_entry.specs.Checks.{demand, first_refused, or_else}
+use Rattle.nvme_entry.specs.declared.command.RunCommand.{RunCommand}
+use Rattle.image_store.specs.Namespace.{ZonedNamespace}
+use Rattle.image_store.specs.declared.geometry.Place.{Place}
+use Rattle.emit_append.specs.Need.{need}
+use Rattle.verifier.specs.Verified.{sizes_of}
+use Rattle.zns_commands.specs.Address.{place_in}
+use Rattle.pushdown.specs.Admission.{Loaded, destination_zone, run_refusal, sizes_in}
+use Rattle.pushdown.specs.Answers.{Submission}
+use Rattle.pushdown.specs.Machine.{why_not_run}
+use Rattle.pushdown.specs.State.{program_at}
+use Rattle.runner.specs.Admitting.{ArePlaces, address_checks, destination_checks, source_checks}
+use Rattle.runner.specs.Held.{filled, held_by, state_of}
+use Rattle.runner.specs.Ready.{IsReady}
+use Rattle.runner.specs.declared.active.Active.{Active as Held}
+use Rattle.runner.specs.declared.loaded.LoadedProgram.{LoadedProgram}
+use Rattle.runner.proofs.Holding.{holds_are}
+use Rattle.runner.proofs.Numbers.{free_is}
+
+joined : (first rest : List (Option Status)) → first_refused (first ++ rest) ≡ or_else (first_refused first) (first_refused rest)
+joined [] rest = refl
+joined (None ∷ first) rest = joined first rest
+joined (Some status ∷ first) rest = refl
+
+passes : (first rest : Option Status) → first ≡ None → or_else first rest ≡ rest
+passes first rest none = rw none refl
+
+-- where no check before those of the destination fails, they decide
+pub last_decides : (ns : ZonedNamespace) (holds : Holds) (place_free : Bool) (slot : Option Loaded) (order : RunCommand) (input : List ℕ)
+    (source : Place) (destination blocks : ℕ) → (length input == 0) ≡ true → is_some slot ≡ true → ArePlaces ns order source destination
+    → first_refused (address_checks ns order) ≡ None → place_free ≡ true → first_refused (source_checks ns source order.blocks) ≡ None
+    → blocks ≡ need order.blocks (sizes_in ns slot)
+    → first_refused (destination_checks ns holds destination blocks) ≡ run_refusal ns holds place_free slot order input
+last_decides ns holds place_free slot order input source destination blocks no_input loaded places addresses free sources enough =
+    let to = first_refused (destination_checks ns holds (destination_zone ns order) (need order.blocks (sizes_in ns slot))) in
+    let from = first_refused (source_checks ns (place_in ns order.lba) order.blocks) in
+    let parts : run_refusal ns holds place_free slot order input
+    ≡ or_else (demand (length input == 0) INVALID_FIELD_IN_COMMAND)
+    (or_else (demand (is_some slot) NO_SUCH_PROGRAM)
+    (or_else (first_refused (address_checks ns order)) (or_else (demand place_free NO_RUN_FREE) (or_else from to)))) =
+    ap (λ (rest : Option Status). or_else (demand (length input == 0) INVALID_FIELD_IN_COMMAND) (or_else (demand (is_some slot) NO_SUCH_PROGRAM) rest))
+    (joined (address_checks ns order) (demand place_free NO_RUN_FREE ∷ source_checks ns (place_in ns order.lba) order.blocks
+    ++ destination_checks ns holds (destination_zone ns order) (need order.blocks (sizes_in ns slot)))
+    ∙ ap (λ (rest : Option Status). or_else (first_refused (address_checks ns order)) (or_else (demand place_free NO_RUN_FREE) rest))
+    (joined (source_checks ns (place_in ns order.lba) order.blocks) (destination_checks ns holds (destination_zone ns order) (need order.blocks (sizes_in ns slot))))) in
+    let from_none : from ≡ None = ap (λ (p : Place). first_refused (source_checks ns p order.blocks)) (sym places.source_is) ∙ sources in
+    ap (λ (z : ℕ). first_refused (destination_checks ns holds z blocks)) places.destination_is
+    ∙ ap (λ (n : ℕ). first_refused (destination_checks ns holds (destination_zone ns order) n)) enough
+    ∙ sym (parts
+    ∙ ap (λ (b : Bool). or_else (demand b INVALID_FIELD_IN_COMMAND) (or_else (demand (is_some slot) NO_SUCH_PROGRAM)
+    (or_else (first_refused (address_checks ns order)) (or_else (demand place_free NO_RUN_FREE) (or_else from to))))) no_input
+    ∙ ap (λ (b : Bool). or_else (demand b NO_SUCH_PROGRAM) (or_else (first_refused (address_checks ns order)) (or_else (demand place_free NO_RUN_FREE) (or_else from to)))) loaded
+    ∙ passes (first_refused (address_checks ns order)) (or_else (demand place_free NO_RUN_FREE) (or_else from to)) addresses
+    ∙ ap (λ (b : Bool). or_else (demand b NO_RUN_FREE) (or_else from to)) free
+    ∙ passes from to from_none)
+
+-- what is read at an index
+pub read_at : {X : Type 0} (xs : List (Option X)) (i k : ℕ) (read : Option X) (x : X) → i ≡ k → i < length xs → read ≡ get_or xs i read → read ≡ Some x
+    → get_or xs k None ≡ Some x
+read_at xs i k read x same inside is some =
+    ap (λ (n : ℕ). get_or xs n None) (sym same) ∙ get_or_default xs i None read inside ∙ sym is ∙ some
+
+-- what a device tests is what is said of its state
+module _ (ns : ZonedNamespace) (slots : List (Option LoadedProgram)) (runs : List (Option Held)) where
+  pub program_is : (slot : ℕ) → program_at (state_of ns slots runs) slot ≡ filled (get_or slots slot None)
+  program_is slot = get_or-map filled slots slot None
+
+  -- the sizes that the program of a slot was accepted for
+  pub granted : (slot : ℕ) (p : LoadedProgram) → IsReady ns slots runs → get_or slots slot None ≡ Some p
+      → sizes_of p.verified ≡ sizes_in ns (filled (get_or slots slot None))
+  granted slot p ready at =
+      ap (λ (block : ℕ). record { block = block; limit = (sizes_of p.verified).limit }) (ready.programs slot p at)
+      ∙ ap (λ (o : Option LoadedProgram). sizes_in ns (filled o)) (sym at)
+
+  -- the same, by what a device tests before
+  pub destination_decides : (order : RunCommand) (input : List ℕ) (p : LoadedProgram) (source : Place) (destination run blocks : ℕ) (holds : Holds)
+      → IsReady ns slots runs → true ≡ (length input == 0) → get_or slots order.slot None ≡ Some p
+      → ArePlaces ns order source destination → None ≡ first_refused (address_checks ns order)
+      → Some run ≡ position is_none runs → None ≡ first_refused (source_checks ns source order.blocks)
+      → holds ≡ held_by runs → blocks ≡ need order.blocks (sizes_of p.verified)
+      → first_refused (destination_checks ns holds destination blocks)
+      ≡ run_refusal ns (held_by runs) (is_some (position is_none runs)) (filled (get_or slots order.slot None)) order input
+  destination_decides order input p source destination run blocks holds ready no_input at places addresses free sources held enough =
+      ap (λ (h : Holds). first_refused (destination_checks ns h destination blocks)) held
+      ∙ last_decides ns (held_by runs) (is_some (position is_none runs)) (filled (get_or slots order.slot None)) order input source destination blocks
+      (sym no_input) (ap (λ (o : Option LoadedProgram). is_some (filled o)) at) places (sym addresses) (ap is_some (sym free)) (sym sources)
+      (enough ∙ ap (need order.blocks) (granted order.slot p ready at))
+
+  pub why_is : (sub : Submission) (order : RunCommand) → IsReady ns slots runs
+      → why_not_run sub (state_of ns slots runs) order
+      ≡ run_refusal ns (held_by runs) (is_some (position is_none runs)) (filled (get_or slots order.slot None)) order sub.payload
+  why_is sub order ready =
+      let s = state_of ns slots runs in
+      ap (λ (holds : Holds). run_refusal ns holds (is_some (position is_none s.places)) (program_at s order.slot) order sub.payload) (sym (holds_are ns slots runs ready))
+      ∙ ap (λ (free : Option ℕ). run_refusal ns (held_by runs) (is_some free) (program_at s order.slot) order sub.payload) (free_is ns slots runs)
+      ∙ ap (λ (slot : Option Loaded). run_refusal ns (held_by runs) (is_some (position is_none runs)) slot order sub.payload) (program_is order.slot)

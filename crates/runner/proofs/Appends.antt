@@ -1,0 +1,68 @@
+-- Blocks that are written to a zone one after another.
+use Rattle.std.proofs.Common.{◌≡◌, ℕ, ◌+◌, ◌<◌, ◌≤◌, ◌/◌, Bool, true, false, cond, List, [], ◌∷◌, ◌++◌, length, refl, ap, ◌∙◌, arith, length-append, get_or-set_same, append_assoc, inl, inr}
+use Rattle.std.specs.Prelude.{nat_eq}
+use Rattle.std.proofs.Math.Nat.{div_self}
+use Rattle.std.proofs.lemmas.List.{take_all, set-set}
+use Rattle.std.proofs.lemmas.Bool.Decides.{eqb_tells}
+use Rattle.zone_state.specs.State.{is_open}
+use Rattle.zone_state.specs.Zone.{written_state}
+use Rattle.zone_state.specs.declared.state.ZoneState.{ZoneState}
+use Rattle.zone_state.specs.declared.state.ZoneState.TheVariants.{Empty, ImplicitlyOpened, ExplicitlyOpened, Closed, ReadOnly, Full, Offline}
+use Rattle.image_store.specs.Blocks.{as_blocks, block_count, blocks_of}
+use Rattle.image_store.specs.Namespace.{ZoneBlocks, ZonedNamespace, appended, grown, no_zone, with_zone, zone_at}
+use Rattle.pushdown.specs.Machine.{added}
+
+-- ---- one block
+
+pub one_count : (block : ℕ) (bytes : List ℕ) → 1 ≤ block → length bytes ≡ block → block_count block bytes ≡ 1
+one_count block bytes some same = ap (λ (n : ℕ). n / block) same ∙ div_self {n = block} some
+
+one_block : (block : ℕ) (bytes : List ℕ) → 1 ≤ block → length bytes ≡ block → as_blocks block bytes ≡ bytes ∷ []
+one_block block bytes some same =
+    ap (λ (n : ℕ). blocks_of block n bytes) (one_count block bytes some same)
+    ∙ ap (λ (b : List ℕ). b ∷ []) (take_all block bytes (omega (arith, same)))
+
+pub one_appended : (ns : ZonedNamespace) (z : ℕ) (bytes : List ℕ) → 1 ≤ ns.block → length bytes ≡ ns.block → appended ns z bytes ≡ added ns z (bytes ∷ [])
+one_appended ns z bytes some same =
+    ap (λ (blocks : List (List ℕ)). with_zone ns z (grown ns.capacity (zone_at ns z) blocks)) (one_block ns.block bytes some same)
+
+-- ---- some blocks and then others
+
+state_by : (s : ZoneState) (part whole : Bool) → is_open s ≡ true → part ≡ false
+    → cond whole Full (written_state (cond part Full (written_state s))) ≡ cond whole Full (written_state s)
+state_by s true whole is e = cc
+state_by ImplicitlyOpened false whole is e = refl
+state_by ExplicitlyOpened false whole is e = refl
+state_by Empty false whole is e = cc
+state_by Closed false whole is e = cc
+state_by ReadOnly false whole is e = cc
+state_by Full false whole is e = cc
+state_by Offline false whole is e = cc
+
+not_filled : (n m c : ℕ) → 1 ≤ m → n + m ≤ c → nat_eq n c ≡ false
+not_filled n m c some fits = elim (eqb_tells n c) [
+  | inl same ↦ absurd (omega (arith, some, fits, same.1))
+  | inr differs ↦ differs.0
+]
+
+pub added_both : (ns : ZonedNamespace) (z : ℕ) (b c : List ℕ) (bs cs : List (List ℕ)) → is_open (zone_at ns z).state ≡ true → z < length ns.zones
+    → length (zone_at ns z).blocks + length ((b ∷ bs) ++ (c ∷ cs)) ≤ ns.capacity
+    → added (added ns z (b ∷ bs)) z (c ∷ cs) ≡ added ns z ((b ∷ bs) ++ (c ∷ cs))
+added_both ns z b c bs cs is inside room =
+    let zone = zone_at ns z in
+    let n = length zone.blocks in
+    let first = grown ns.capacity zone (b ∷ bs) in
+    let second = grown ns.capacity first (c ∷ cs) in
+    let both = length-append (b ∷ bs) (c ∷ cs) in
+    let size : length (zone.blocks ++ (b ∷ bs)) + length (c ∷ cs) ≡ n + length ((b ∷ bs) ++ (c ∷ cs)) = omega (arith, length-append zone.blocks (b ∷ bs), both) in
+    let part : nat_eq (n + length (b ∷ bs)) ns.capacity ≡ false =
+    not_filled (n + length (b ∷ bs)) (length (c ∷ cs)) ns.capacity (omega arith) (omega (arith, room, both)) in
+    let state : second.state ≡ (grown ns.capacity zone ((b ∷ bs) ++ (c ∷ cs))).state =
+    ap (λ (k : ℕ). cond (nat_eq k ns.capacity) Full (written_state first.state)) size
+    ∙ state_by zone.state (nat_eq (n + length (b ∷ bs)) ns.capacity) (nat_eq (n + length ((b ∷ bs) ++ (c ∷ cs))) ns.capacity) is part in
+    let zones_with : List ZoneBlocks → ZonedNamespace = λ zones. record { block = ns.block; size = ns.size; capacity = ns.capacity; limits = ns.limits; zones = zones } in
+    ap (λ (x : ZoneBlocks). with_zone (with_zone ns z first) z (grown ns.capacity x (c ∷ cs))) (get_or-set_same ns.zones z first no_zone inside)
+    ∙ ap zones_with (set-set ns.zones z first second)
+    ∙ ap (λ (s : ZoneState). with_zone ns z (record { state = s; blocks = second.blocks })) state
+    ∙ ap (λ (blocks : List (List ℕ)). with_zone ns z (record { state = (grown ns.capacity zone ((b ∷ bs) ++ (c ∷ cs))).state; blocks = blocks }))
+    (append_assoc zone.blocks (b ∷ bs) (c ∷ cs))

@@ -1,0 +1,153 @@
+-- Turns of the lowest active run, one turn more.
+use Rattle.std.proofs.Common.{◌≡◌, ℕ, suc, ◌+◌, ◌-◌, ◌*◌, ◌%◌, ◌≤◌, List, [], ◌∷◌, ◌++◌, length, map, take, drop, get_or, Option, Some, None, refl, inl, inr, ◌⊎◌, ap, sym, subst, ◌∙◌, arith, length-append}
+use Rattle.std.specs.Prelude.{is_some}
+use Rattle.std.proofs.lemmas.List.{append-nil, length-take, take_at}
+use Rattle.std.proofs.lemmas.List.Quantifiers.{position-Some}
+use Rattle.reg_domain.specs.Intervals.{intervals, intervals_sound}
+use Rattle.verifier.specs.Soundness.{accepted_never_traps}
+use Rattle.image_store.specs.Namespace.{ZonedNamespace, zone_at}
+use Rattle.zns_commands.specs.Address.{zone_number}
+use Rattle.pushdown.specs.Admission.{task_of}
+use Rattle.pushdown.specs.Answers.{Taken, and_then}
+use Rattle.pushdown.specs.Draining.{AreLowest, HasDrained, StopsDraining, answers_to_turns, lowest_run, state_after_turns, turns_left}
+use Rattle.pushdown.specs.Machine.{turned}
+use Rattle.pushdown.specs.State.{State, place_at}
+use Rattle.pushdown.specs.View.{seen, to_come}
+use Rattle.pushdown.proofs.Drained.{found_less}
+use Rattle.pushdown.proofs.Rests.{rest_is_few}
+use Rattle.pushdown.proofs.States.{IsFine}
+use Rattle.pushdown.proofs.States.{reached as are_fine}
+use Rattle.runner.specs.Held.{active_of, filled, state_of}
+use Rattle.runner.specs.Ready.{Fits, IsReached}
+use Rattle.runner.specs.declared.active.Active.{Active as Held}
+use Rattle.runner.specs.declared.loaded.LoadedProgram.{LoadedProgram}
+use Rattle.runner.proofs.Served.{and_then-and_then}
+
+-- ---- fewer turns are left
+
+pub turn_less : (s : State) (run : ℕ) → IsReached s → lowest_run s ≡ Some run → turns_left (turned s run).state.places + 1 ≤ turns_left s.places
+turn_less s run reached low =
+    let never = accepted_never_traps intervals_sound in
+    let block = reached.first.block in
+    let fine = subst (IsFine intervals never block) (sym reached.leaves) (are_fine intervals never reached.first reached.events reached.namespace reached.bytes) in
+    found_less intervals never block s run (place_at s run) fine refl ((position-Some is_some s.places run None low).1)
+
+-- a run has at most as many turns left as it has source blocks
+few_of : (ns : ZonedNamespace) (slots : List (Option LoadedProgram)) (a : Held) → Fits ns a
+    → turns_left (seen ns (map filled slots) (Some (active_of a)) ∷ []) ≤ 65536
+few_of ns slots a fits =
+    let b = active_of a in
+    let few = rest_is_few (task_of ns (get_or (map filled slots) a.order.slot None) a.order) b.so_far (to_come ns b) in
+    let blocks = drop (a.order.lba % ns.size + a.index) (zone_at ns (zone_number ns a.order.lba)).blocks in
+    let left = length-take (a.order.blocks - a.index) blocks in
+    omega (arith, few, left, fits.most)
+
+pub few_left : (ns : ZonedNamespace) (slots : List (Option LoadedProgram)) (runs : List (Option Held))
+    → ((k : ℕ) (a : Held) → get_or runs k None ≡ Some a → Fits ns a)
+    → turns_left (state_of ns slots runs).places ≤ 65536 * length runs
+few_left ns slots [] fit = omega arith
+few_left ns slots (None ∷ runs) fit = let rest = few_left ns slots runs (λ k. fit (suc k)) in omega (arith, rest)
+few_left ns slots (Some a ∷ runs) fit =
+    let rest = few_left ns slots runs (λ k. fit (suc k)) in
+    let first = few_of ns slots a (fit 0 a refl) in omega (arith, rest, first)
+
+-- ---- turns, one more
+
+pub turns_state-append : (first later : List ℕ) (s : State) → state_after_turns (first ++ later) s ≡ state_after_turns later (state_after_turns first s)
+turns_state-append [] later s = refl
+turns_state-append (run ∷ runs) later s = turns_state-append runs later (turned s run).state
+
+turns_answers-append : (first later : List ℕ) (s : State)
+    → answers_to_turns (first ++ later) s ≡ answers_to_turns first s ++ answers_to_turns later (state_after_turns first s)
+turns_answers-append [] later s = refl
+turns_answers-append (run ∷ runs) later s =
+    ap (λ (answers : List Taken). (turned s run).answer ∷ answers) (turns_answers-append runs later (turned s run).state)
+
+lowest-append : (first later : List ℕ) (s : State) → AreLowest first s → AreLowest later (state_after_turns first s) → AreLowest (first ++ later) s
+lowest-append [] later s are more = more
+lowest-append (run ∷ runs) later s are more = (are.0, lowest-append runs later (turned s run).state are.1 more)
+
+-- what is done so far: so many turns, each of the lowest active run, whose answers were taken
+pub record IsDraining (old now : State) (first taken : Option (List Taken)) (done : ℕ) : Type 0 where
+  pub runs : List ℕ
+  pub lowest : AreLowest runs old
+  pub count : length runs ≡ done
+  pub state : now ≡ state_after_turns runs old
+  pub answers : taken ≡ and_then first (answers_to_turns runs old)
+  pub few : done + turns_left now.places ≤ turns_left old.places
+
+pub nothing_drained : (s : State) (first : Option (List Taken)) → first ≡ and_then first [] → IsDraining s s first first 0
+nothing_drained s first none = record { runs = []; lowest = tt; count = refl; state = refl; answers = none; few = omega arith }
+
+pub and_then_nothing : (first : Option (List Taken)) → first ≡ and_then first []
+and_then_nothing None = refl
+and_then_nothing (Some xs) = ap Some (sym (append-nil xs))
+
+module _ (old now new : State) (first then after : Option (List Taken)) (done run : ℕ) (answer : Taken) where
+  more_state : (d : IsDraining old now first then done) → new ≡ (turned now run).state → new ≡ state_after_turns (d.runs ++ run ∷ []) old
+  more_state d step = step ∙ ap (λ (s : State). (turned s run).state) d.state ∙ sym (turns_state-append d.runs (run ∷ []) old)
+
+  more_lowest : (d : IsDraining old now first then done) → lowest_run now ≡ Some run → AreLowest (d.runs ++ run ∷ []) old
+  more_lowest d low = lowest-append d.runs (run ∷ []) old d.lowest (subst (λ (s : State). lowest_run s ≡ Some run) d.state low, tt)
+
+  more_count : (d : IsDraining old now first then done) → length (d.runs ++ run ∷ []) ≡ done + 1
+  more_count d = omega (arith, length-append d.runs (run ∷ []), d.count)
+
+  module _ (d : IsDraining old now first then done) (reached : IsReached now) (low : lowest_run now ≡ Some run) (step : new ≡ (turned now run).state) where
+    more_few : done + 1 + turns_left new.places ≤ turns_left old.places
+    more_few =
+        let less = turn_less now run reached low in
+        let left = ap (λ (s : State). turns_left s.places) step in omega (arith, d.few, less, left)
+
+    pub drained_more : answer ≡ (turned now run).answer → after ≡ and_then then (answer ∷ []) → IsDraining old new first after (done + 1)
+    drained_more answered added = record {
+      runs = d.runs ++ run ∷ [];
+      lowest = more_lowest d low;
+      count = more_count d;
+      state = more_state d step;
+      answers = added ∙ ap (λ (x : Option (List Taken)). and_then x (answer ∷ [])) d.answers
+          ∙ and_then-and_then first (answers_to_turns d.runs old) (answer ∷ [])
+          ∙ ap (λ (x : Taken). and_then first (answers_to_turns d.runs old ++ x ∷ [])) (answered ∙ ap (λ (s : State). (turned s run).answer) d.state)
+          ∙ ap (and_then first) (sym (turns_answers-append d.runs (run ∷ []) old));
+      few = more_few;
+    }
+
+    pub drained_stops : after ≡ then → StopsDraining old new first after (done + 1)
+    drained_stops same =
+        let before : done + 1 - 1 ≡ length d.runs = omega (arith, d.count) in
+        let those : take (done + 1 - 1) (d.runs ++ run ∷ []) ≡ d.runs =
+        ap (λ (n : ℕ). take n (d.runs ++ run ∷ [])) before ∙ take_at d.runs (run ∷ []) (length d.runs) refl in
+        record {
+          runs = d.runs ++ run ∷ [];
+          lowest = more_lowest d low;
+          some = omega arith;
+          given = more_count d;
+          few = omega (arith, more_few);
+          state = more_state d step;
+          answers = same ∙ d.answers ∙ ap (λ (xs : List ℕ). and_then first (answers_to_turns xs old)) (sym those);
+        }
+
+-- no run is left
+pub drained : (old now : State) (first then : Option (List Taken)) (done : ℕ) → IsDraining old now first then done → lowest_run now ≡ None
+    → HasDrained old now first then
+drained old now first then done d none = record {
+  runs = d.runs;
+  drains = record {
+    lowest = d.lowest;
+    none_left = subst (λ (s : State). lowest_run s ≡ None) d.state none;
+    few = omega (arith, d.count, d.few);
+  };
+  state = d.state;
+  answers = d.answers;
+}
+
+none_done : (runs : List ℕ) (s : State) → length runs ≡ 0 → state_after_turns runs s ≡ s
+none_done [] s none = refl
+none_done (run ∷ runs) s none = absurd (omega (arith, none))
+
+-- what bounds the turns that are left before any turn bounded them at first
+pub few_at_first : (old now : State) (first taken : Option (List Taken)) (done most : ℕ) → IsDraining old now first taken done
+    → (done ≡ 0) ⊎ (turns_left old.places ≤ most) → turns_left now.places ≤ most → turns_left old.places ≤ most
+few_at_first old now first taken done most d (inr few) left = few
+few_at_first old now first taken done most d (inl none) left =
+    subst (λ (s : State). turns_left s.places ≤ most) (d.state ∙ none_done d.runs old (d.count ∙ none)) left

@@ -1,0 +1,155 @@
+-- A program that is put into a slot that no run uses.
+use Rattle.std.proofs.Common.{◌≡◌, ◌≢◌, ℕ, zero, suc, ◌<◌, Bool, true, false, List, [], ◌∷◌, length, map, set, get_or, Option, Some, None, refl, ap, sym, subst, ◌∙◌, inl, inr, get_or-set_other, get_or-set_same}
+use Rattle.std.specs.Prelude.{◌==◌, ◌||◌, not}
+use Rattle.std.specs.List.{list_any}
+use Rattle.std.proofs.Math.ListN.{length-set}
+use Rattle.std.proofs.lemmas.List.{map-set}
+use Rattle.std.proofs.lemmas.Bool.Decides.{eqb_tells}
+use Rattle.zone_state.specs.declared.status.Status.{Status}
+use Rattle.zone_state.specs.declared.status.TheConstants.Status.{PROGRAM_IN_USE, SUCCESS}
+use Rattle.nvme_entry.specs.Checks.{first_refused}
+use Rattle.nvme_entry.specs.declared.command.LoadCommand.{LoadCommand}
+use Rattle.program_interface.specs.RunSizes.{Sizes}
+use Rattle.reg_domain.specs.Intervals.{intervals}
+use Rattle.verifier.specs.Verified.{program_of, sizes_of}
+use Rattle.image_store.specs.Namespace.{ZonedNamespace}
+use Rattle.zns_commands.specs.Answer.{refused_answer, success_answer}
+use Rattle.zns_commands.specs.declared.answer.Answer.{Answer}
+use Rattle.zns_commands.proofs.PassedChecks.{demanded, passed}
+use Rattle.pushdown.specs.Admission.{Loaded, task_of}
+use Rattle.pushdown.specs.Answers.{Submission, completed}
+use Rattle.pushdown.specs.BlockRuns.{no_scratch}
+use Rattle.pushdown.specs.Machine.{judged, just_loaded, load_checks, load_unless, read_program, sizes_for}
+use Rattle.pushdown.specs.Outcome.{rest}
+use Rattle.pushdown.specs.State.{Place, State, in_use, uses, with_slot}
+use Rattle.pushdown.specs.View.{Active, place_of, seen, to_come}
+use Rattle.runner.specs.Answered.{HasLoaded}
+use Rattle.runner.specs.Held.{filled, running, state_of}
+use Rattle.runner.specs.Loading.{IsLoadable, IsNotAccepted, uses_slot}
+use Rattle.runner.specs.Ready.{IsFor, IsReady}
+use Rattle.runner.specs.declared.active.Active.{Active as Held}
+use Rattle.runner.specs.declared.loaded.LoadedProgram.{LoadedProgram}
+
+-- ---- which slots are used
+
+either_false : (a b : Bool) → (a || b) ≡ false → (a ≡ false) × (b ≡ false)
+either_false true b e = cc
+either_false false b e = (refl, e)
+
+differ : (a b : ℕ) → (a == b) ≡ false → a ≢ b
+differ a b e = elim (eqb_tells a b) [
+  | inl same ↦ cc
+  | inr other ↦ other.1
+]
+
+not_true : (b : Bool) → not b ≡ true → b ≡ false
+not_true true e = cc
+not_true false e = refl
+
+pub used_is : (ns : ZonedNamespace) (slots : List (Option LoadedProgram)) (runs : List (Option Held)) (slot : ℕ)
+    → in_use (state_of ns slots runs) slot ≡ list_any (uses_slot slot) runs
+used_is ns slots [] slot = refl
+used_is ns slots (None ∷ runs) slot = used_is ns slots runs slot
+used_is ns slots (Some a ∷ runs) slot = ap (λ (b : Bool). (a.order.slot == slot) || b) (used_is ns slots runs slot)
+
+not_at : (runs : List (Option Held)) (slot k : ℕ) (a : Held) → list_any (uses_slot slot) runs ≡ false → get_or runs k None ≡ Some a → (a.order.slot == slot) ≡ false
+not_at [] slot k a none at = cc
+not_at (r ∷ runs) slot zero a none at =
+    sym (ap (uses_slot slot) at) ∙ (either_false (uses_slot slot r) (list_any (uses_slot slot) runs) none).0
+not_at (r ∷ runs) slot (suc k) a none at = not_at runs slot k a (either_false (uses_slot slot r) (list_any (uses_slot slot) runs) none).1 at
+
+-- ---- what is seen of runs that don't use it
+
+module _ (ns : ZonedNamespace) (slots : List (Option Loaded)) (slot : ℕ) (new : Option Loaded) where
+  seen_same : (a : Active) → a.order.slot ≢ slot → place_of ns (set slots slot new) a ≡ place_of ns slots a
+  seen_same a other =
+      ap (λ (program : Option Loaded). record (place_of ns slots a) { turns = rest (task_of ns program a.order) a.so_far (to_come ns a) })
+      (get_or-set_other slots slot a.order.slot new None other)
+
+  all_seen : (runs : List (Option Active)) → list_any (uses slot) (map (seen ns slots) runs) ≡ false
+      → map (seen ns (set slots slot new)) runs ≡ map (seen ns slots) runs
+  all_seen [] none = refl
+  all_seen (None ∷ runs) none = ap (λ (places : List (Option Place)). None ∷ places) (all_seen runs none)
+  all_seen (Some a ∷ runs) none =
+      let neither = either_false (a.order.slot == slot) (list_any (uses slot) (map (seen ns slots) runs)) none in
+      ap (λ (place : Place). Some place ∷ map (seen ns (set slots slot new)) runs) (seen_same a (differ a.order.slot slot neither.0))
+      ∙ ap (λ (places : List (Option Place)). Some (place_of ns slots a) ∷ places) (all_seen runs neither.1)
+
+-- ---- the program is put there
+
+module _ (ns : ZonedNamespace) (slots : List (Option LoadedProgram)) (runs : List (Option Held)) (load : LoadCommand) (payload : List ℕ)
+    (new : LoadedProgram) (ready : IsReady ns slots runs) (inside : load.slot < length slots)
+    (loadable : IsLoadable load payload (state_of ns slots runs) (program_of new.verified) (sizes_of new.verified)) where
+  abbrev s : State
+  s = state_of ns slots runs
+
+  unused : in_use s load.slot ≡ false
+  unused = not_true (in_use s load.slot) (demanded (not (in_use s load.slot)) PROGRAM_IN_USE (passed (load_checks s load payload) 3 loadable.checks))
+
+  put : new.result ≡ no_scratch → state_of ns (set slots load.slot (Some new)) runs
+      ≡ with_slot s load.slot (Some (just_loaded (program_of new.verified) load.limit))
+  put blank =
+      let seen_with : List (Option Loaded) → State = λ all. record { namespace = ns; slots = all; places = map (seen ns all) (map running runs) } in
+      ap seen_with (map-set filled slots load.slot (Some new))
+      ∙ ap (λ (n : ℕ). seen_with (set (map filled slots) load.slot (Some (record { program = program_of new.verified; limit = n; result = new.result }))))
+      (ap (λ (sizes : Sizes). sizes.limit) loadable.accepted.kept_is)
+      ∙ ap (λ (bytes : List ℕ). seen_with (set (map filled slots) load.slot (Some (record { program = program_of new.verified; limit = load.limit; result = bytes })))) blank
+      ∙ ap (λ (places : List (Option Place)). record {
+        namespace = ns;
+        slots = set (map filled slots) load.slot (Some (just_loaded (program_of new.verified) load.limit));
+        places = places;
+      })
+      (all_seen ns (map filled slots) load.slot (Some (just_loaded (program_of new.verified) load.limit)) (map running runs) unused)
+
+  pub loads : new.result ≡ no_scratch → HasLoaded load payload s (state_of ns (set slots load.slot (Some new)) runs) (success_answer 0 0)
+  loads blank = record {
+    starved = false;
+    happening = λ queue entry.
+        let sub : Submission = record { queue = queue; entry = entry; payload = payload } in
+        ap (λ (why : Option Status). load_unless intervals why false sub s load) loadable.checks
+        ∙ ap (read_program intervals sub s load) loadable.accepted.spelled
+        ∙ ap (judged sub s load (program_of new.verified)) loadable.accepted.accepted
+        ∙ ap (λ (t : State). completed sub SUCCESS 0 0 [] t) (sym (put blank));
+  }
+
+  pub loaded_ready : IsReady ns (set slots load.slot (Some new)) runs
+  loaded_ready = record {
+    programs = λ k p at. elim (eqb_tells k load.slot) [
+      | inl same ↦
+          let here : get_or (set slots load.slot (Some new)) k None ≡ Some new =
+          ap (λ (n : ℕ). get_or (set slots load.slot (Some new)) n None) same.1 ∙ get_or-set_same slots load.slot (Some new) None inside in
+          let this : new ≡ p = cc in
+          subst (IsFor ns) this (ap (λ (sizes : Sizes). sizes.block) loadable.accepted.kept_is)
+      | inr other ↦ ready.programs k p (sym (get_or-set_other slots load.slot k (Some new) None other.1) ∙ at)
+    ];
+    running = λ k a at.
+        let was = ready.running k a at in
+        let other = differ a.order.slot load.slot (not_at runs load.slot k a (sym (used_is ns slots runs load.slot) ∙ unused) at) in
+        record {
+          program = was.program;
+          loaded = get_or-set_other slots load.slot a.order.slot (Some new) None other ∙ was.loaded;
+          accepted = was.accepted;
+          fits = was.fits;
+        };
+    all_slots = length-set slots load.slot (Some new) ∙ ready.all_slots;
+    all_runs = ready.all_runs;
+  }
+
+-- ---- or it is refused
+
+pub refuses_checked : (load : LoadCommand) (payload : List ℕ) (s : State) (status : Status) → Some status ≡ first_refused (load_checks s load payload)
+    → HasLoaded load payload s s (refused_answer status)
+refuses_checked load payload s status why = record {
+  starved = false;
+  happening = λ queue entry.
+      ap (λ (o : Option Status). load_unless intervals o false (record { queue = queue; entry = entry; payload = payload }) s load) (sym why);
+}
+
+pub refuses_read : (load : LoadCommand) (payload : List ℕ) (s : State) (sizes : Sizes) (answer : Answer) → None ≡ first_refused (load_checks s load payload)
+    → sizes ≡ sizes_for s load → IsNotAccepted payload sizes answer → HasLoaded load payload s s answer
+refuses_read load payload s sizes answer why same refused = record {
+  starved = refused.starved;
+  happening = λ queue entry.
+      ap (λ (o : Option Status). load_unless intervals o refused.starved (record { queue = queue; entry = entry; payload = payload }) s load) (sym why)
+      ∙ refused.happening queue entry s load (sym same);
+}

@@ -1,0 +1,35 @@
+-- The block run that is next.
+use Rattle.std.proofs.Common.{◌≡◌, ℕ, ◌+◌, List, Option, ap, ◌∙◌}
+use Rattle.ebpf_decode.specs.declared.insn.Insn.{Insn}
+use Rattle.program_interface.specs.Context.{context_bytes}
+use Rattle.program_interface.specs.declared.context.Context.{Context}
+use Rattle.image_store.specs.Namespace.{ZonedNamespace}
+use Rattle.pushdown.specs.View.{Active}
+use Rattle.runner.specs.Ran.{run_over}
+use Rattle.runner.specs.Turning.{next_block, next_run}
+
+-- what a run is told of the block that is next
+abbrev pub next_context : ZonedNamespace → Active → Context
+next_context ns a = record {
+  lba = a.order.lba + a.so_far.index;
+  index = a.so_far.index;
+  count = a.order.blocks;
+  block = ns.block;
+  argument = a.order.argument;
+}
+
+module _ (ns : ZonedNamespace) (program : List (Option Insn)) (limit : ℕ) (a : Active) where
+  pub told_is : (context : List ℕ) (from count block : ℕ) → from ≡ a.so_far.index → count ≡ a.order.blocks → block ≡ ns.block
+      → context ≡ context_bytes (record { lba = a.order.lba + from; index = a.so_far.index; count = count; block = block; argument = a.order.argument })
+      → context ≡ context_bytes (next_context ns a)
+  told_is context from count block is_from is_count is_block is =
+      is
+      ∙ ap (λ (n : ℕ). context_bytes (record { lba = a.order.lba + n; index = a.so_far.index; count = count; block = block; argument = a.order.argument })) is_from
+      ∙ ap (λ (n : ℕ). context_bytes (record { lba = a.order.lba + a.so_far.index; index = a.so_far.index; count = n; block = block; argument = a.order.argument })) is_count
+      ∙ ap (λ (n : ℕ). context_bytes (record { lba = a.order.lba + a.so_far.index; index = a.so_far.index; count = a.order.blocks; block = n; argument = a.order.argument })) is_block
+
+  pub run_is : (bytes context : List ℕ) → bytes ≡ next_block ns a → context ≡ context_bytes (next_context ns a)
+      → run_over program limit bytes context a.so_far.scratch ≡ next_run ns program limit a
+  run_is bytes context is_next is_told =
+      ap (λ (bytes : List ℕ). run_over program limit bytes context a.so_far.scratch) is_next
+      ∙ ap (λ (context : List ℕ). run_over program limit (next_block ns a) context a.so_far.scratch) is_told

@@ -1,0 +1,54 @@
+-- The numbers of runs, free and active, by what a device holds.
+use Rattle.std.proofs.Common.{◌≡◌, ℕ, ◌+◌, Bool, cond, List, [], ◌∷◌, length, map, Option, Some, None, refl, ap, ◌∙◌}
+use Rattle.std.specs.Prelude.{not, nat_lt, is_none, is_some, position}
+use Rattle.std.specs.List.{position_or_len}
+use Rattle.std.proofs.lemmas.List.{length-map}
+use Rattle.image_store.specs.Namespace.{ZonedNamespace}
+use Rattle.pushdown.specs.Admission.{Loaded}
+use Rattle.pushdown.specs.Draining.{lowest_run}
+use Rattle.pushdown.specs.State.{free_run}
+use Rattle.pushdown.specs.View.{Active, seen}
+use Rattle.runner.specs.Held.{filled, running, state_of}
+use Rattle.runner.specs.declared.active.Active.{Active as Held}
+use Rattle.runner.specs.declared.loaded.LoadedProgram.{LoadedProgram}
+
+-- the first that passes is at the same index in a mapped list, for tests that are the same
+module _ {X Y : Type 0} (f : X → Y) (p : X → Bool) (q : Y → Bool) (same : (x : X) → q (f x) ≡ p x) where
+  mapped_or_len : (xs : List X) → position_or_len q (map f xs) ≡ position_or_len p xs
+  mapped_or_len [] = refl
+  mapped_or_len (x ∷ xs) =
+      ap (λ (b : Bool). cond (not b) (1 + position_or_len q (map f xs)) 0) (same x)
+      ∙ ap (λ (n : ℕ). cond (not (p x)) (1 + n) 0) (mapped_or_len xs)
+
+  position_mapped : (xs : List X) → position q (map f xs) ≡ position p xs
+  position_mapped xs =
+      ap (λ (n : ℕ). cond (nat_lt n (length (map f xs))) (Some n) None) (mapped_or_len xs)
+      ∙ ap (λ (n : ℕ). cond (nat_lt (position_or_len p xs) n) (Some (position_or_len p xs)) None) (length-map xs f)
+
+module _ (ns : ZonedNamespace) (slots : List (Option Loaded)) where
+  seen_none : (run : Option Active) → is_none (seen ns slots run) ≡ is_none run
+  seen_none None = refl
+  seen_none (Some a) = refl
+
+  seen_some : (run : Option Active) → is_some (seen ns slots run) ≡ is_some run
+  seen_some None = refl
+  seen_some (Some a) = refl
+
+running_none : (run : Option Held) → is_none (running run) ≡ is_none run
+running_none None = refl
+running_none (Some a) = refl
+
+running_some : (run : Option Held) → is_some (running run) ≡ is_some run
+running_some None = refl
+running_some (Some a) = refl
+
+module _ (ns : ZonedNamespace) (slots : List (Option LoadedProgram)) (runs : List (Option Held)) where
+  pub free_is : free_run (state_of ns slots runs) ≡ position is_none runs
+  free_is =
+      position_mapped (seen ns (map filled slots)) is_none is_none (seen_none ns (map filled slots)) (map running runs)
+      ∙ position_mapped running is_none is_none running_none runs
+
+  pub lowest_is : lowest_run (state_of ns slots runs) ≡ position is_some runs
+  lowest_is =
+      position_mapped (seen ns (map filled slots)) is_some is_some (seen_some ns (map filled slots)) (map running runs)
+      ∙ position_mapped running is_some is_some running_some runs

@@ -1,0 +1,68 @@
+-- Lists of occurrences, one longer.
+use Rattle.std.proofs.Common.{◌≡◌, ℕ, List, [], ◌∷◌, ◌++◌, refl, ap, sym, ◌∙◌}
+use Rattle.std.specs.Prelude.{Vec}
+use Rattle.std.specs.declared.alloc.Global.{Global}
+use Rattle.nvme_entry.specs.Entry.{decoded}
+use Rattle.reg_domain.specs.Intervals.{intervals}
+use Rattle.pushdown.specs.Answers.{Happening, Submission, Taken}
+use Rattle.pushdown.specs.Events.{HasHappened, Occurrence, answers_to, state_after}
+use Rattle.pushdown.specs.Machine.{happens, submitted}
+use Rattle.pushdown.specs.Pushdown.{HasBytes}
+use Rattle.pushdown.specs.State.{State, new_state}
+use Rattle.pushdown.specs.declared.event.Event.{Event}
+use Rattle.pushdown.specs.declared.event.Event.TheVariants as event
+use Rattle.pushdown.proofs.Bytes.{all_append}
+use Rattle.runner.specs.Answered.{HasSubmitted}
+use Rattle.runner.specs.Ready.{IsReached}
+
+pub state_after-append : (first later : List Occurrence) (s : State)
+    → state_after intervals (first ++ later) s ≡ state_after intervals later (state_after intervals first s)
+state_after-append [] later s = refl
+state_after-append (o ∷ os) later s = state_after-append os later (happens intervals s o.starved o.event).state
+
+pub answers_to-append : (first later : List Occurrence) (s : State)
+    → answers_to intervals (first ++ later) s ≡ answers_to intervals first s ++ answers_to intervals later (state_after intervals first s)
+answers_to-append [] later s = refl
+answers_to-append (o ∷ os) later s =
+    ap (λ (answers : List Taken). (happens intervals s o.starved o.event).answer ∷ answers)
+    (answers_to-append os later (happens intervals s o.starved o.event).state)
+
+-- one more event leaves a state that events leave
+pub reached_more : (s t : State) (o : Occurrence) → IsReached s → HasBytes o.event → t ≡ (happens intervals s o.starved o.event).state → IsReached t
+reached_more s t o reached has step = record {
+  first = reached.first;
+  events = reached.events ++ o ∷ [];
+  namespace = reached.namespace;
+  bytes = all_append (λ (x : Occurrence). HasBytes x.event) reached.events (o ∷ []) reached.bytes (has, tt);
+  leaves =
+      step ∙ ap (λ (x : State). (happens intervals x o.starved o.event).state) reached.leaves
+      ∙ sym (state_after-append reached.events (o ∷ []) (new_state reached.first));
+}
+
+-- ---- one event
+
+pub reached_by : (e : Event) (old new : State) (answer : Taken) → IsReached old → HasBytes e → HasHappened intervals e old new answer → IsReached new
+reached_by e old new answer reached has happened =
+    let o : Occurrence = record { event = e; starved = happened.starved } in reached_more old new o reached has happened.state
+
+-- the entry of an event, as it was submitted
+as_told : (sub : Submission) (queue : ℕ) (entry payload : List ℕ) → sub.queue ≡ queue → sub.entry ≡ entry → sub.payload ≡ payload
+    → sub ≡ record { queue = queue; entry = entry; payload = payload }
+as_told sub queue entry payload same_queue same_entry same_payload =
+    let made : ℕ → List ℕ → List ℕ → Submission = λ q e p. record { queue = q; entry = e; payload = p } in
+    ap (λ (q : ℕ). made q sub.entry sub.payload) same_queue
+    ∙ ap (λ (e : List ℕ). made queue e sub.payload) same_entry
+    ∙ ap (made queue entry) same_payload
+
+pub submission_happened : (queue : ℕ) (entry : List ℕ) (payload : Vec ℕ Global) (sub : Submission) (old new : State) (answer : Taken)
+    → sub.queue ≡ queue → sub.entry ≡ entry → sub.payload ≡ payload.items
+    → HasSubmitted sub (decoded sub.entry) old new answer → HasHappened intervals (event.Submit queue entry payload) old new answer
+submission_happened queue entry payload sub old new answer same_queue same_entry same_payload h =
+    let told = as_told sub queue entry payload.items same_queue same_entry same_payload in
+    let happening : happens intervals old h.starved (event.Submit queue entry payload) ≡ record { answer = answer; state = new } =
+    ap (λ (x : Submission). submitted intervals h.starved x old (decoded x.entry)) (sym told) ∙ h.happening in
+    record {
+      starved = h.starved;
+      state = sym (ap (λ (x : Happening). x.state) happening);
+      answered = sym (ap (λ (x : Happening). x.answer) happening);
+    }

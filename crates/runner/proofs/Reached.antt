@@ -1,0 +1,97 @@
+-- The states that events leave from an image on.
+use Rattle.std.proofs.Common.{ℕ, List, [], ◌∷◌, ◌++◌, refl, ap, sym, subst, ◌∙◌}
+use Rattle.reg_domain.specs.Intervals.{intervals, intervals_sound}
+use Rattle.verifier.specs.Laws.{AcceptedNeverTraps}
+use Rattle.verifier.specs.Soundness.{accepted_never_traps}
+use Rattle.image_store.specs.Namespace.{ZonedNamespace, IsNamespace}
+use Rattle.image_store.proofs.Again.{text_again}
+use Rattle.image_store.proofs.Loaded.{loaded_is_namespace}
+use Rattle.zns_commands.proofs.SoundSteps.{empty_is_namespace}
+use Rattle.pushdown.specs.Draining.{Drains}
+use Rattle.pushdown.specs.Events.{Occurrence, state_after}
+use Rattle.pushdown.specs.Laws.{Commutes, IsSoundState}
+use Rattle.pushdown.specs.Parts.{turns_of}
+use Rattle.pushdown.specs.Pushdown.{AreEvents, HasBytes, IsAdmitted, IsPushedDown}
+use Rattle.pushdown.specs.ReadBack.{RunReadsBack}
+use Rattle.pushdown.specs.State.{State, new_state}
+use Rattle.pushdown.proofs.Bytes.{all_append}
+use Rattle.pushdown.proofs.Commuting.{turns_commute}
+use Rattle.pushdown.proofs.Drained.{draining_ends}
+use Rattle.pushdown.proofs.Headline.{pushdown}
+use Rattle.pushdown.proofs.Parts.{state_after-append, turns_state}
+use Rattle.pushdown.proofs.ReadBack.{appended_reads_back, written_reads_back}
+use Rattle.pushdown.proofs.RunsRead.{runs_read_back}
+use Rattle.pushdown.proofs.States.{states_are_sound}
+use Rattle.runner.specs.Laws.{EmptyIsReached, EventsKeepReached, LoadedIsReached, ReachedDrains, ReachedIsSound, SavedStatesLoad, TurnsKeepReached}
+use Rattle.runner.specs.ReadBack.{AppendedReadsBack, EmittedReadsBack, WrittenReadsBack}
+use Rattle.runner.specs.Ready.{IsReached}
+use Rattle.runner.specs.Runs.{RunsArePushedDown, TurnsCommute}
+
+-- the programs that a device accepts never trap
+pub never : AcceptedNeverTraps intervals
+never = accepted_never_traps intervals_sound
+
+begins : (ns : ZonedNamespace) → IsNamespace ns → IsReached (new_state ns)
+begins ns is = record { first = ns; events = []; namespace = is; bytes = tt; leaves = refl }
+
+pub empty_is_reached : EmptyIsReached
+empty_is_reached shape is = begins _ (empty_is_namespace shape is)
+
+pub loaded_is_reached : LoadedIsReached
+loaded_is_reached bytes ns are loads = begins ns (loaded_is_namespace bytes ns are loads)
+
+pub events_keep_reached : EventsKeepReached
+events_keep_reached s events reached are = record {
+  first = reached.first;
+  events = reached.events ++ events;
+  namespace = reached.namespace;
+  bytes = all_append (λ (o : Occurrence). HasBytes o.event) reached.events events reached.bytes are;
+  leaves =
+      ap (state_after intervals events) reached.leaves
+      ∙ sym (state_after-append intervals reached.events events (new_state reached.first));
+}
+
+turns_are : (runs : List ℕ) → AreEvents (turns_of runs)
+turns_are [] = tt
+turns_are (run ∷ runs) = (tt, turns_are runs)
+
+pub turns_keep_reached : TurnsKeepReached
+turns_keep_reached s runs reached =
+    subst IsReached (sym (turns_state intervals runs s)) (events_keep_reached s (turns_of runs) reached (turns_are runs))
+
+pub reached_is_sound : ReachedIsSound
+reached_is_sound s reached =
+    subst IsSoundState (sym reached.leaves) (states_are_sound intervals never reached.first reached.events reached.namespace reached.bytes)
+
+pub reached_drains : ReachedDrains
+reached_drains s reached =
+    subst (λ (t : State). (runs : List ℕ) × Drains t runs) (sym reached.leaves)
+    (draining_ends intervals never reached.first reached.events reached.namespace reached.bytes)
+
+pub runs_are_pushed_down : RunsArePushedDown
+runs_are_pushed_down s reached queue entry payload starved order run after =
+    subst
+    (λ (t : State). IsAdmitted t (record { queue = queue; entry = entry; payload = payload.items }) order run
+    → IsPushedDown intervals t queue entry payload starved order run after)
+    (sym reached.leaves)
+    (λ admitted.
+    pushdown intervals never reached.first reached.events reached.namespace reached.bytes queue entry payload starved order run after admitted)
+
+pub turns_of_runs_commute : TurnsCommute
+turns_of_runs_commute s reached first second other =
+    subst (λ (t : State). Commutes t first second) (sym reached.leaves)
+    (turns_commute intervals never reached.first reached.events reached.namespace reached.bytes first second other)
+
+pub appended_blocks_read_back : AppendedReadsBack
+appended_blocks_read_back s reached = appended_reads_back intervals s (reached_is_sound s reached).namespace
+
+pub written_blocks_read_back : WrittenReadsBack
+written_blocks_read_back s reached = written_reads_back intervals s (reached_is_sound s reached).namespace
+
+pub emitted_records_read_back : EmittedReadsBack
+emitted_records_read_back s reached =
+    subst (RunReadsBack intervals) (sym reached.leaves)
+    (runs_read_back intervals never reached.first reached.events reached.namespace reached.bytes)
+
+pub saved_states_load : SavedStatesLoad
+saved_states_load s reached = text_again s.namespace (reached_is_sound s reached).namespace

@@ -1,0 +1,47 @@
+-- What answers come to as replies.
+use Rattle.std.proofs.Common.{◌≡◌, ℕ, ◌≤◌, Bool, List, [], length, take, Result, ap, sym, ◌∙◌, arith}
+use Rattle.std.proofs.lemmas.List.{length-take-le}
+use Rattle.zone_state.specs.declared.status.Status.{Status}
+use Rattle.nvme_entry.specs.Completion.{completion_bytes}
+use Rattle.nvme_entry.specs.Entry.{identifier_of}
+use Rattle.nvme_entry.specs.declared.command.Command.{Command}
+use Rattle.reg_domain.specs.Intervals.{intervals}
+use Rattle.zns_commands.specs.Answer.{refused_answer}
+use Rattle.zns_commands.specs.declared.answer.Answer.{Answer}
+use Rattle.pushdown.specs.Answers.{Happening, Submission, completed, data_length, plain, refused}
+use Rattle.pushdown.specs.Machine.{submitted}
+use Rattle.pushdown.specs.State.{State}
+use Rattle.pushdown.specs.declared.reply.Reply.{Reply}
+use Rattle.pushdown.specs.declared.reply.Reply.TheVariants as reply
+use Rattle.runner.specs.Answered.{HasSubmitted, answered, complete_reply}
+
+module _ (sub : Submission) (asked : Result Command Status) (old new : State) (starved : Bool) (answer : Answer) (r : Reply) where
+  -- an answer with its bytes, as a reply and the bytes in front
+  pub replied : (bytes : List ℕ) → submitted intervals starved sub old asked ≡ answered sub answer bytes new
+      → r ≡ complete_reply sub.queue (identifier_of sub.entry) answer → answer.length ≤ length bytes
+      → HasSubmitted sub asked old new (record { reply = r; bytes = take (data_length r) bytes })
+  replied bytes is as_reply within =
+      let entry = completion_bytes (record { dw0 = answer.dw0; dw1 = answer.dw1; queue = sub.queue; cid = identifier_of sub.entry; status = answer.status }) in
+      let counting : ℕ → Happening =
+      λ n. record { answer = record { reply = reply.Complete sub.queue entry n; bytes = take answer.length bytes }; state = new } in
+      let replying : Reply → Happening = λ x. record { answer = record { reply = x; bytes = take (data_length x) bytes }; state = new } in
+      record { starved = starved; happening = is ∙ ap counting (length-take-le answer.length bytes within) ∙ ap replying (sym as_reply) }
+
+  -- an answer without data
+  pub replied_alone : (bytes : List ℕ) → submitted intervals starved sub old asked ≡ answered sub answer [] new
+      → r ≡ complete_reply sub.queue (identifier_of sub.entry) answer → answer.length ≡ 0
+      → HasSubmitted sub asked old new (record { reply = r; bytes = take (data_length r) bytes })
+  replied_alone bytes is as_reply none =
+      let same = ap (λ (n : ℕ). take n []) none ∙ sym (ap (λ (n : ℕ). take n bytes) none) in
+      replied bytes (is ∙ ap (λ (output : List ℕ). completed sub answer.status answer.dw0 answer.dw1 output new) same) as_reply (omega (arith, none))
+
+  pub replied_refusal : (status : Status) → submitted intervals starved sub old asked ≡ refused sub status old
+      → r ≡ complete_reply sub.queue (identifier_of sub.entry) answer → answer ≡ refused_answer status → new ≡ old
+      → HasSubmitted sub asked old new (plain r)
+  replied_refusal status is as_reply refusing same =
+      let replying : Reply → Happening = λ x. record { answer = plain x; state = old } in
+      let leaving : State → Happening = λ s. record { answer = plain r; state = s } in
+      record {
+        starved = starved;
+        happening = is ∙ ap replying (sym (as_reply ∙ ap (complete_reply sub.queue (identifier_of sub.entry)) refusing)) ∙ ap leaving (sym same);
+      }

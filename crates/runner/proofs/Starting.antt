@@ -1,0 +1,103 @@
+-- The state in which a run has begun.
+use Rattle.std.proofs.Common.{◌≡◌, ℕ, List, length, map, set, get_or, Option, Some, None, refl, ap, sym, ◌∙◌, ◌<◌, true, inl, inr, subst, arith, get_or-set_other, get_or-set_same}
+use Rattle.std.specs.Prelude.{is_none, is_some, position}
+use Rattle.std.proofs.lemmas.List.{map-set}
+use Rattle.std.proofs.Math.ListN.{length-set}
+use Rattle.std.proofs.lemmas.Bool.Decides.{eqb_tells}
+use Rattle.zone_state.specs.declared.status.Status.{Status}
+use Rattle.nvme_entry.specs.declared.command.RunCommand.{RunCommand}
+use Rattle.image_store.specs.Namespace.{ZonedNamespace}
+use Rattle.pushdown.specs.Admission.{run_refusal}
+use Rattle.pushdown.specs.Answers.{Submission, plain}
+use Rattle.pushdown.specs.Machine.{start_by}
+use Rattle.pushdown.specs.Outcome.{at_admission}
+use Rattle.pushdown.specs.State.{Place, State, free_run, with_place}
+use Rattle.pushdown.specs.View.{begun, place_of, seen}
+use Rattle.pushdown.specs.declared.reply.Reply.TheVariants as reply
+use Rattle.pushdown.proofs.Views.{seen_at_admission}
+use Rattle.runner.specs.Admitting.{IsAdmission}
+use Rattle.runner.specs.Answered.{Refuses, Starts}
+use Rattle.runner.specs.Held.{active_of, filled, held_by, new_active, running, state_of}
+use Rattle.runner.specs.Ready.{IsReady, IsRunning}
+use Rattle.runner.specs.declared.active.Active.{Active as Held}
+use Rattle.runner.specs.declared.admission.Admitted.{Admitted}
+use Rattle.runner.specs.declared.loaded.LoadedProgram.{LoadedProgram}
+use Rattle.runner.proofs.Admissions.{why_is}
+use Rattle.runner.proofs.Numbers.{free_is}
+
+module _ (ns : ZonedNamespace) (slots : List (Option LoadedProgram)) (runs : List (Option Held)) where
+  -- a run put at a place, seen
+  pub placed : (run : ℕ) (a : Held)
+      → state_of ns slots (set runs run (Some a)) ≡ with_place (state_of ns slots runs) run (Some (place_of ns (map filled slots) (active_of a)))
+  placed run a =
+      ap (λ (places : List (Option Place)). record { namespace = ns; slots = map filled slots; places = places })
+      (ap (map (seen ns (map filled slots))) (map-set running runs run (Some a))
+      ∙ map-set (seen ns (map filled slots)) (map running runs) run (Some (active_of a)))
+
+  pub starts : (order : RunCommand) (queue cid block : ℕ) (admitted : Admitted) (payload : List ℕ) → IsReady ns slots runs
+      → position is_none runs ≡ Some admitted.run
+      → None ≡ run_refusal ns (held_by runs) (is_some (position is_none runs)) (filled (get_or slots order.slot None)) order payload
+      → Starts order queue cid payload (state_of ns slots runs)
+      (state_of ns slots (set runs admitted.run (Some (new_active queue cid order admitted.source admitted.destination block)))) admitted.run
+  starts order queue cid block admitted payload ready free passes entry named =
+      let s = state_of ns slots runs in
+      let sub : Submission = record { queue = queue; entry = entry; payload = payload } in
+      let a = new_active queue cid order admitted.source admitted.destination block in
+      let begins : active_of a ≡ begun sub order =
+      ap (λ (n : ℕ). record { queue = queue; cid = n; order = order; so_far = at_admission }) (sym named) in
+      ap (λ (why : Option Status). start_by why (free_run s) sub s order) (why_is ns slots runs sub order ready ∙ sym passes)
+      ∙ ap (λ (number : Option ℕ). start_by None number sub s order) (free_is ns slots runs ∙ free)
+      ∙ ap (λ (place : Place). record { answer = plain (reply.Pending admitted.run); state = with_place s admitted.run (Some place) })
+      (sym (seen_at_admission sub s order) ∙ ap (place_of ns (map filled slots)) (sym begins))
+      ∙ ap (λ (t : State). record { answer = plain (reply.Pending admitted.run); state = t }) (sym (placed admitted.run a))
+
+  pub refuses : (order : RunCommand) (payload : List ℕ) (status : Status) → IsReady ns slots runs
+      → Some status ≡ run_refusal ns (held_by runs) (is_some (position is_none runs)) (filled (get_or slots order.slot None)) order payload
+      → Refuses order payload (state_of ns slots runs) status
+  refuses order payload status ready fails queue entry =
+      let s = state_of ns slots runs in
+      let sub : Submission = record { queue = queue; entry = entry; payload = payload } in
+      ap (λ (why : Option Status). start_by why (free_run s) sub s order) (why_is ns slots runs sub order ready ∙ sym fails)
+
+  loaded_there : (o : Option LoadedProgram) → is_some o ≡ true → (p : LoadedProgram) × (o ≡ Some p)
+  loaded_there None some = cc
+  loaded_there (Some p) some = (p, refl)
+
+  -- a run that has just begun is one of a device
+  pub is_running : (order : RunCommand) (queue cid block : ℕ) (admitted : Admitted) → IsReady ns slots runs → IsAdmission ns slots runs order admitted
+      → block ≡ ns.block → IsRunning ns slots (new_active queue cid order admitted.source admitted.destination block)
+  is_running order queue cid block admitted ready is same =
+      let at = loaded_there (get_or slots order.slot None) is.loaded in
+      record {
+        program = at.0;
+        loaded = at.1;
+        accepted = ready.programs order.slot at.0 at.1;
+        fits = record {
+          source = is.places.source_is;
+          destination = is.places.destination_is;
+          other = is.places.other;
+          left = is.some;
+          most = is.most;
+          written = is.written;
+          small = is.small;
+          address = is.places.address;
+          packer = same;
+          frames = omega arith;
+          appended = omega arith;
+        };
+      }
+
+  -- and all is ready with it
+  pub still_ready : (run : ℕ) (a : Held) → IsReady ns slots runs → IsRunning ns slots a → run < length runs → IsReady ns slots (set runs run (Some a))
+  still_ready run a ready is inside = record {
+    programs = ready.programs;
+    running = λ k b at. elim (eqb_tells k run) [
+      | inl same ↦
+          let here : get_or (set runs run (Some a)) k None ≡ Some a = ap (λ (n : ℕ). get_or (set runs run (Some a)) n None) same.1 ∙ get_or-set_same runs run (Some a) None inside in
+          let this : a ≡ b = cc in
+          subst (IsRunning ns slots) this is
+      | inr other ↦ ready.running k b (sym (get_or-set_other runs run k (Some a) None other.1) ∙ at)
+    ];
+    all_slots = ready.all_slots;
+    all_runs = length-set runs run (Some a) ∙ ready.all_runs;
+  }

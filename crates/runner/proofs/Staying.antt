@@ -1,0 +1,103 @@
+-- What is seen of active runs stays, whatever is written behind their source blocks.
+use Rattle.std.proofs.Common.{◌≡◌, ◌≢◌, ℕ, zero, suc, ◌+◌, ◌/◌, ◌%◌, ◌≤◌, List, [], ◌∷◌, length, map, set, get_or, Option, Some, None, refl, ap, sym, subst, ◌∙◌, arith, length-append}
+use Rattle.image_store.specs.Geometry.{Shape}
+use Rattle.image_store.specs.Namespace.{ZonedNamespace, shape, zone_at}
+use Rattle.image_store.specs.declared.geometry.Place.{Place as Spot}
+use Rattle.zns_commands.specs.Address.{zone_number}
+use Rattle.zns_commands.specs.Kept.{Grows}
+use Rattle.pushdown.specs.Admission.{SameProgram}
+use Rattle.pushdown.specs.State.{Place, place_at}
+use Rattle.pushdown.specs.View.{KeepsSource, place_of, seen}
+use Rattle.pushdown.proofs.Views.{seen_stays}
+use Rattle.runner.specs.Held.{active_of, filled, running, state_of}
+use Rattle.runner.specs.Ready.{Fits}
+use Rattle.runner.specs.declared.active.Active.{Active as Held}
+use Rattle.runner.specs.declared.loaded.LoadedProgram.{LoadedProgram}
+
+-- what a run needs to be seen as before: its source blocks and its program
+pub record Stays (ns later : ZonedNamespace) (slots slots' : List (Option LoadedProgram)) (a : Held) : Type 0 where
+  pub source : KeepsSource ns later (active_of a)
+  pub program : SameProgram (get_or (map filled slots) a.order.slot None) (get_or (map filled slots') a.order.slot None)
+
+-- ---- a run
+
+pub still_fits : (ns later : ZonedNamespace) (a : Held) → Fits ns a → shape later ≡ shape ns
+    → Grows (zone_at ns a.source.zone).blocks (zone_at later a.source.zone).blocks → Fits later a
+still_fits ns later a fits same grows =
+    let size : ns.size ≡ later.size = ap (λ (s : Shape). s.size) (sym same) in
+    let block : ns.block ≡ later.block = ap (λ (s : Shape). s.block) (sym same) in
+    let longer = ap length grows.is ∙ length-append (zone_at ns a.source.zone).blocks grows.more in
+    let spot : ℕ → Spot = λ n. record { zone = a.order.lba / n; offset = a.order.lba % n } in
+    record {
+      source = fits.source ∙ ap spot size;
+      destination = fits.destination ∙ ap (λ (n : ℕ). a.order.destination / n) size;
+      other = fits.other;
+      left = fits.left;
+      most = fits.most;
+      written = omega (arith, fits.written, longer);
+      small = fits.small;
+      address = fits.address;
+      packer = fits.packer ∙ block;
+      frames = fits.frames;
+      appended = fits.appended;
+    }
+
+-- the source blocks of a run that fits are kept where they grow
+pub keeps_source : (ns later : ZonedNamespace) (a : Held) → Fits ns a → shape later ≡ shape ns
+    → Grows (zone_at ns a.source.zone).blocks (zone_at later a.source.zone).blocks → KeepsSource ns later (active_of a)
+keeps_source ns later a fits same grows =
+    let zone : a.source.zone ≡ zone_number ns a.order.lba = ap (λ (p : Spot). p.zone) fits.source in
+    let offset : a.source.offset ≡ a.order.lba % ns.size = ap (λ (p : Spot). p.offset) fits.source in
+    let written = subst (λ (z : ℕ). a.source.offset + a.order.blocks ≤ length (zone_at ns z).blocks) zone fits.written in
+    record {
+      size = ap (λ (s : Shape). s.size) same;
+      block = ap (λ (s : Shape). s.block) same;
+      grows = subst (λ (z : ℕ). Grows (zone_at ns z).blocks (zone_at later z).blocks) zone grows;
+      written = omega (arith, written, offset, fits.left);
+    }
+
+-- the source blocks of a run that fits are kept where its source grows, as it is found by its first address
+pub grows_there : (ns later : ZonedNamespace) (a : Held) → Fits ns a
+    → Grows (zone_at ns (zone_number ns a.order.lba)).blocks (zone_at later (zone_number ns a.order.lba)).blocks
+    → Grows (zone_at ns a.source.zone).blocks (zone_at later a.source.zone).blocks
+grows_there ns later a fits grows =
+    subst (λ (z : ℕ). Grows (zone_at ns z).blocks (zone_at later z).blocks) (sym (ap (λ (p : Spot). p.zone) fits.source)) grows
+
+-- ---- all runs
+
+-- the place of a run
+pub placed_at : (ns : ZonedNamespace) (slots : List (Option LoadedProgram)) (runs : List (Option Held)) (k : ℕ) (a : Held)
+    → get_or runs k None ≡ Some a → place_at (state_of ns slots runs) k ≡ Some (place_of ns (map filled slots) (active_of a))
+placed_at ns slots [] k a at = cc
+placed_at ns slots (r ∷ rs) zero a at = ap (λ (o : Option Held). seen ns (map filled slots) (running o)) at
+placed_at ns slots (r ∷ rs) (suc k) a at = placed_at ns slots rs k a at
+
+module _ (ns later : ZonedNamespace) (slots slots' : List (Option LoadedProgram)) where
+  abbrev StayAll : List (Option Held) → Type 0
+  StayAll runs = (k : ℕ) (a : Held) → get_or runs k None ≡ Some a → Stays ns later slots slots' a
+
+  stays_seen : (r : Option Held) → ((a : Held) → r ≡ Some a → Stays ns later slots slots' a)
+      → seen later (map filled slots') (running r) ≡ seen ns (map filled slots) (running r)
+  stays_seen None stays = refl
+  stays_seen (Some a) stays =
+      let s = stays a refl in ap Some (seen_stays ns later (map filled slots) (map filled slots') (active_of a) s.source s.program)
+
+  pub places_stay : (runs : List (Option Held)) → StayAll runs → (state_of later slots' runs).places ≡ (state_of ns slots runs).places
+  places_stay [] stays = refl
+  places_stay (r ∷ rs) stays =
+      ap (λ (p : Option Place). p ∷ (state_of later slots' rs).places) (stays_seen r (stays zero))
+      ∙ ap (λ (ps : List (Option Place)). seen ns (map filled slots) (running r) ∷ ps) (places_stay rs (λ k. stays (suc k)))
+
+  -- the same, where another run, or none, takes one of the places
+  pub others_stay : (runs : List (Option Held)) (i : ℕ) (r : Option Held)
+      → ((k : ℕ) (a : Held) → k ≢ i → get_or runs k None ≡ Some a → Stays ns later slots slots' a)
+      → (state_of later slots' (set runs i r)).places ≡ set (state_of ns slots runs).places i (seen later (map filled slots') (running r))
+  others_stay [] i r stays = refl
+  others_stay (x ∷ xs) zero r stays =
+      ap (λ (ps : List (Option Place)). seen later (map filled slots') (running r) ∷ ps)
+      (places_stay xs (λ k a at. stays (suc k) a (λ same. absurd (omega (arith, same))) at))
+  others_stay (x ∷ xs) (suc i) r stays =
+      let rest = others_stay xs i r (λ k a other at. stays (suc k) a (λ same. other (omega (arith, same))) at) in
+      ap (λ (p : Option Place). p ∷ (state_of later slots' (set xs i r)).places)
+      (stays_seen x (λ a at. stays zero a (λ same. absurd (omega (arith, same))) at))
+      ∙ ap (λ (ps : List (Option Place)). seen ns (map filled slots) (running x) ∷ ps) rest

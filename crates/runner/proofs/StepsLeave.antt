@@ -1,0 +1,113 @@
+-- A standard command or a fault leaves active runs as they are, and what is seen of them.
+use Rattle.std.proofs.Common.{◌≡◌, ℕ, zero, suc, true, List, [], ◌∷◌, map, get_or, Option, Some, None, refl, ap, subst, sym, ◌∙◌}
+use Rattle.std.specs.Prelude.{◌||◌}
+use Rattle.std.specs.List.{list_any}
+use Rattle.zone_resources.specs.Holds.{is_source, names}
+use Rattle.zone_resources.specs.declared.holds.Holds.{Holds}
+use Rattle.zone_state.specs.declared.state.FaultState.{FaultState}
+use Rattle.nvme_entry.specs.declared.command.StandardCommand.{StandardCommand}
+use Rattle.image_store.specs.Geometry.{Shape}
+use Rattle.image_store.specs.Namespace.{ZonedNamespace, shape, zone_at}
+use Rattle.zns_commands.specs.Kept.{Grows, holds_of}
+use Rattle.zns_commands.specs.Answer.{Outcome, outcome}
+use Rattle.zns_commands.specs.Fault.{faulted}
+use Rattle.zns_commands.specs.Laws.{Commanded, Failed, Step, after}
+use Rattle.zns_commands.specs.Meaning.{meaning}
+use Rattle.zns_commands.specs.declared.answer.Answer.{Answer}
+use Rattle.zns_commands.proofs.HeldSources.{sources_keep_blocks}
+use Rattle.zns_commands.proofs.KeptBlocks.{step_shape}
+use Rattle.pushdown.specs.Answers.{Submission}
+use Rattle.pushdown.specs.Machine.{commanded, failed}
+use Rattle.pushdown.specs.State.{Place, with_namespace}
+use Rattle.pushdown.specs.State.{holds_of as places_hold}
+use Rattle.pushdown.proofs.Needed.{same_program}
+use Rattle.pushdown.proofs.Places.{named_at}
+use Rattle.runner.specs.Answered.{answered}
+use Rattle.runner.specs.Held.{filled, held_by, source_held, state_of}
+use Rattle.runner.specs.Ready.{IsReady}
+use Rattle.runner.specs.declared.active.Active.{Active as Held}
+use Rattle.runner.specs.declared.loaded.LoadedProgram.{LoadedProgram}
+use Rattle.runner.proofs.Holding.{holds_are}
+use Rattle.runner.proofs.Staying.{keeps_source, places_stay, still_fits}
+
+-- a later namespace, in which what a device has is ready, and is seen as before
+pub record IsLeft (ns later : ZonedNamespace) (slots : List (Option LoadedProgram)) (runs : List (Option Held)) : Type 0 where
+  pub ready : IsReady later slots runs
+  pub state : state_of later slots runs ≡ with_namespace (state_of ns slots runs) later
+
+abbrev pub SourcesGrow : ZonedNamespace → ZonedNamespace → List (Option Held) → Type 0
+SourcesGrow ns later runs =
+    (k : ℕ) (a : Held) → get_or runs k None ≡ Some a → Grows (zone_at ns a.source.zone).blocks (zone_at later a.source.zone).blocks
+
+pub is_left : (ns later : ZonedNamespace) (slots : List (Option LoadedProgram)) (runs : List (Option Held)) → IsReady ns slots runs
+    → shape later ≡ shape ns → SourcesGrow ns later runs → IsLeft ns later slots runs
+is_left ns later slots runs ready same grow =
+    let block : ns.block ≡ later.block = ap (λ (s : Shape). s.block) (sym same) in
+    record {
+      ready = record {
+        programs = λ k p at. ready.programs k p at ∙ block;
+        running = λ k a at.
+            let was = ready.running k a at in
+            record {
+              program = was.program;
+              loaded = was.loaded;
+              accepted = was.accepted ∙ block;
+              fits = still_fits ns later a was.fits same (grow k a at);
+            };
+        all_slots = ready.all_slots;
+        all_runs = ready.all_runs;
+      };
+      state = ap (λ (places : List (Option Place)). record { namespace = later; slots = map filled slots; places = places })
+          (places_stay ns later slots slots runs
+          (λ k a at. record {
+            source = keeps_source ns later a (ready.running k a at).fits same (grow k a at);
+            program = same_program (get_or (map filled slots) a.order.slot None);
+          }));
+    }
+
+-- the zone that an active run reads from is held
+source_there : (runs : List (Option Held)) (k : ℕ) (a : Held) → get_or runs k None ≡ Some a
+    → list_any (names a.source.zone) (map source_held runs) ≡ true
+source_there runs k a at = named_at source_held a.source.zone runs k a at refl
+
+-- where a step heeds what the active runs hold
+pub step_leaves : (ns : ZonedNamespace) (slots : List (Option LoadedProgram)) (runs : List (Option Held)) (step : Step) → IsReady ns slots runs
+    → holds_of step ≡ held_by runs → IsLeft ns (after step ns) slots runs
+step_leaves ns slots runs step ready heeds =
+    is_left ns (after step ns) slots runs ready (step_shape step ns)
+    (λ k a at.
+    sources_keep_blocks step ns a.source.zone
+    (ap (λ (holds : Holds). is_source holds a.source.zone) heeds ∙ source_there runs k a at))
+
+-- ---- a fault
+
+pub fault_leaves : (ns new : ZonedNamespace) (slots : List (Option LoadedProgram)) (runs : List (Option Held)) (holds : Holds) (zone : ℕ) (fault : FaultState)
+    → IsReady ns slots runs → holds ≡ held_by runs → new ≡ faulted ns holds zone fault
+    → IsReady new slots runs × (state_of new slots runs ≡ (failed (state_of ns slots runs) zone fault).state)
+fault_leaves ns new slots runs holds zone fault ready heeds is =
+    let s = state_of ns slots runs in
+    let left : IsLeft ns new slots runs =
+    subst (λ (later : ZonedNamespace). IsLeft ns later slots runs) (sym is) (step_leaves ns slots runs (Failed holds zone fault) ready heeds) in (
+      left.ready,
+      left.state ∙ ap (with_namespace s) (is ∙ ap (λ (h : Holds). faulted ns h zone fault) (heeds ∙ holds_are ns slots runs ready)),
+    )
+
+-- ---- a standard command
+
+pub command_leaves : (ns new : ZonedNamespace) (slots : List (Option LoadedProgram)) (runs : List (Option Held)) (holds : Holds) (command : StandardCommand)
+    (input bytes : List ℕ) (answer : Answer) → IsReady ns slots runs → holds ≡ held_by runs
+    → outcome answer new bytes ≡ meaning ns holds command input
+    → IsReady new slots runs
+    × ((sub : Submission) → commanded sub (state_of ns slots runs) (meaning ns (places_hold (state_of ns slots runs)) command input)
+    ≡ answered sub answer bytes (state_of new slots runs))
+command_leaves ns new slots runs holds command input bytes answer ready heeds is =
+    let s = state_of ns slots runs in
+    let later = ap (λ (o : Outcome). o.namespace) is in
+    let left : IsLeft ns new slots runs =
+    subst (λ (m : ZonedNamespace). IsLeft ns m slots runs) (sym later) (step_leaves ns slots runs (Commanded holds command input) ready heeds) in (
+      left.ready,
+      λ sub.
+          ap (λ (h : Holds). commanded sub s (meaning ns h command input)) (sym (heeds ∙ holds_are ns slots runs ready))
+          ∙ ap (commanded sub s) (sym is)
+          ∙ ap (answered sub answer bytes) (sym left.state),
+    )

@@ -1,0 +1,315 @@
+-- A turn of a run, as the code takes it.
+use Rattle.std.proofs.Common.{◌≡◌, ◌≢◌, ℕ, zero, suc, ◌+◌, ◌-◌, ◌<◌, ◌≤◌, ◌%◌, Bool, true, false, List, [], ◌∷◌, ◌++◌, length, take, drop, get_or, Option, Some, None, refl, sym, ap, subst, ◌∙◌, arith, inl, inr, append-nil, length-append, append_assoc}
+use Rattle.std.specs.Prelude.{◌⊎◌}
+use Rattle.std.proofs.lemmas.Bool.Decides.{leb_tells}
+use Rattle.std.proofs.lemmas.List.{length-take-le, length-drop}
+use Rattle.zone_state.specs.declared.status.TheConstants.Status.{SUCCESS}
+use Rattle.ebpf_decode.specs.declared.insn.Insn.{Insn}
+use Rattle.program_interface.specs.declared.block_size.TheConstants.{LARGEST_BLOCK}
+use Rattle.interp.specs.Run.{Run}
+use Rattle.interp.specs.declared.machine.run.End.{End}
+use Rattle.interp.specs.declared.machine.run.End.TheVariants as end
+use Rattle.emit_append.specs.Packer.{after_put, given_by_finish, given_by_put}
+use Rattle.emit_append.specs.Packing.{packed, pending_of, released}
+use Rattle.emit_append.proofs.Continuing.{packing_goes_on}
+use Rattle.emit_append.proofs.Puts.{one_group_is_pending}
+use Rattle.image_store.specs.Namespace.{ZoneBlocks, ZonedNamespace, zone_at}
+use Rattle.image_store.specs.declared.geometry.Place.{Place}
+use Rattle.zns_commands.specs.Address.{zone_number}
+use Rattle.zns_commands.proofs.OpenZones.{open_inside}
+use Rattle.pushdown.specs.BlockRuns.{Task, goes_on, scratch_after}
+use Rattle.pushdown.specs.Laws.{Ends, RoomIn, further, next_turn}
+use Rattle.pushdown.specs.Machine.{added}
+use Rattle.pushdown.specs.Outcome.{Ending, Progress, Turn, appended_by, behind, last_turn, last_turn_by, output_of, rest}
+use Rattle.pushdown.specs.View.{Active, to_come}
+use Rattle.pushdown.proofs.Added.{added_leaves}
+use Rattle.pushdown.proofs.Rests.{rest_ends, rest_goes_on}
+use Rattle.pushdown.proofs.Room.{still_open, turn_room}
+use Rattle.runner.specs.Held.{active_of}
+use Rattle.runner.specs.Ready.{Fits}
+use Rattle.runner.specs.Turning.{FitsOn, GoesOn, HasEnded, HasRoom, next_block, next_run, task_by, turns_of}
+use Rattle.runner.specs.declared.active.Active.{Active as Held}
+use Rattle.runner.proofs.Appends.{added_both}
+
+lt_or_le : (a b : ℕ) → (a < b) ⊎ (b ≤ a)
+lt_or_le a b = elim (leb_tells b a) [
+  | inl is ↦ inr is.1
+  | inr not_so ↦ inl not_so.1
+]
+
+cut_first : (n at : ℕ) (xs : List (List ℕ)) → at < length xs → take (suc n) (drop at xs) ≡ get_or xs at [] ∷ take n (drop (suc at) xs)
+cut_first n at [] less = absurd (omega (arith, less))
+cut_first n zero (x ∷ xs) less = refl
+cut_first n (suc at) (x ∷ xs) less = cut_first n at xs (omega (arith, less))
+
+-- ---- the source blocks still to come
+
+module _ (ns : ZonedNamespace) (program : List (Option Insn)) (limit : ℕ) where
+  abbrev moved : Active → Run → Active
+  moved a run = record { queue = a.queue; cid = a.cid; order = a.order; so_far = further (task_by ns program limit a.order) a.so_far run }
+
+  module _ (a : Active) (left : a.so_far.index < a.order.blocks)
+      (written : a.order.lba % ns.size + a.order.blocks ≤ length (zone_at ns (zone_number ns a.order.lba)).blocks) where
+    abbrev blocks : List (List ℕ)
+    blocks = (zone_at ns (zone_number ns a.order.lba)).blocks
+
+    abbrev at : ℕ
+    at = a.order.lba % ns.size + a.so_far.index
+
+    abbrev later : List (List ℕ)
+    later = take (a.order.blocks - (a.so_far.index + 1)) (drop (a.order.lba % ns.size + (a.so_far.index + 1)) blocks)
+
+    come : to_come ns a ≡ next_block ns a ∷ later
+    come =
+        let n : a.order.blocks - a.so_far.index ≡ suc (a.order.blocks - (a.so_far.index + 1)) = omega (arith, left) in
+        let k : suc at ≡ a.order.lba % ns.size + (a.so_far.index + 1) = omega arith in
+        ap (λ (n : ℕ). take n (drop at blocks)) n
+        ∙ cut_first (a.order.blocks - (a.so_far.index + 1)) at blocks (omega (arith, left, written))
+        ∙ ap (λ (k : ℕ). next_block ns a ∷ take (a.order.blocks - (a.so_far.index + 1)) (drop k blocks)) k
+
+    abbrev task : Task
+    task = task_by ns program limit a.order
+
+    abbrev run : Run
+    run = next_run ns program limit a
+
+    on_by : (more : List (List ℕ)) → 1 ≤ length more → goes_on run.end ≡ true
+        → rest task a.so_far (next_block ns a ∷ more) ≡ next_turn task a.so_far run ∷ rest task (further task a.so_far run) more
+    on_by [] some on = absurd (omega (arith, some))
+    on_by (b ∷ bs) some on = rest_goes_on task a.so_far (next_block ns a) b bs on
+
+    later_some : a.so_far.index + 1 < a.order.blocks → 1 ≤ length later
+    later_some more =
+        let start = a.order.lba % ns.size + (a.so_far.index + 1) in
+        rw (length-take-le (a.order.blocks - (a.so_far.index + 1)) (drop start blocks) (rw (length-drop start blocks) (omega (arith, more, written))))
+        (omega (arith, more))
+
+    turns_go : a.so_far.index + 1 < a.order.blocks → goes_on run.end ≡ true
+        → turns_of ns program limit a ≡ next_turn task a.so_far run ∷ turns_of ns program limit (moved a run)
+    turns_go more on = ap (rest task a.so_far) come ∙ on_by later (later_some more) on
+
+    later_none : a.order.blocks ≤ a.so_far.index + 1 → later ≡ []
+    later_none last =
+        let none : a.order.blocks - (a.so_far.index + 1) ≡ 0 = omega (arith, last) in
+        ap (λ (n : ℕ). take n (drop (a.order.lba % ns.size + (a.so_far.index + 1)) blocks)) none
+
+    turns_end : Ends task a.so_far (next_block ns a) later
+        → turns_of ns program limit a ≡ last_turn ns.block (output_of a.so_far) run ∷ []
+    turns_end ends = ap (rest task a.so_far) come ∙ rest_ends task a.so_far (next_block ns a) later ends
+
+-- ---- what a last turn comes to
+
+module _ (block : ℕ) (so_far : Progress) (run : Run) where
+  abbrev all : List (List ℕ)
+  all = packed block (so_far.pending ∷ run.state.group ∷ [])
+
+  last_by : (e : End) (r0 : ℕ) → e ≡ end.Exit r0 → last_turn_by e block (output_of so_far) run
+      ≡ record { blocks = all; ending = Some (record { status = SUCCESS; dw0 = so_far.frames + run.state.frames; dw1 = so_far.appended + length all; result = Some (scratch_after run) }) }
+  last_by (end.Exit r) r0 is =
+      ap (λ (first : List (List ℕ)). record {
+        blocks = behind first all;
+        ending = Some (record { status = SUCCESS; dw0 = so_far.frames + run.state.frames; dw1 = so_far.appended + length all; result = Some (scratch_after run) });
+      }) (one_group_is_pending block so_far.pending).released_none
+  last_by (end.Trap slot cause) r0 is = cc
+  last_by end.OutOfFuel r0 is = cc
+
+  -- all blocks are those that the packer gives at once, and those that it gives at the end
+  all_is : all ≡ released block (so_far.pending ∷ run.state.group ∷ []) ++ packed block (pending_of block (so_far.pending ∷ run.state.group ∷ []) ∷ [])
+  all_is = (packing_goes_on block (so_far.pending ∷ run.state.group ∷ []) []).blocks
+
+-- ---- what is written for a turn
+
+added_leaves_turns : (ns : ZonedNamespace) (z : ℕ) (bs : List (List ℕ)) (program : List (Option Insn)) (limit : ℕ) (a : Active)
+    → zone_number ns a.order.lba ≢ z → turns_of (added ns z bs) program limit a ≡ turns_of ns program limit a
+added_leaves_turns ns z [] program limit a other = refl
+added_leaves_turns ns z (b ∷ bs) program limit a other =
+    ap (λ (zone : ZoneBlocks). rest (task_by ns program limit a.order) a.so_far (take (a.order.blocks - a.so_far.index) (drop (a.order.lba % ns.size + a.so_far.index) zone.blocks)))
+    (added_leaves ns z (zone_number ns a.order.lba) (b ∷ bs) other)
+
+same_capacity : (ns : ZonedNamespace) (z : ℕ) (bs : List (List ℕ)) → (added ns z bs).capacity ≡ ns.capacity
+same_capacity ns z [] = refl
+same_capacity ns z (b ∷ bs) = refl
+
+same_block : (ns : ZonedNamespace) (z : ℕ) (bs : List (List ℕ)) → (added ns z bs).block ≡ ns.block
+same_block ns z [] = refl
+same_block ns z (b ∷ bs) = refl
+
+module _ (ns : ZonedNamespace) (z : ℕ) (ending : Option Ending) (turns : List Turn) (some : 1 ≤ ns.block) where
+  abbrev Room : List (List ℕ) → Type 0
+  Room bs = RoomIn ns.capacity (zone_at ns z) (record { blocks = bs; ending = ending } ∷ turns)
+
+  room_first : (bs more : List (List ℕ)) → Room (bs ++ more) → HasRoom ns z bs
+  room_first [] more h = tt
+  room_first (b ∷ bs) more h = record {
+    some = some;
+    opened = still_open ns.capacity (zone_at ns z) b (bs ++ more) ending turns h;
+    room = omega (arith, h.room, length-append ((b ∷ bs) ++ more) (appended_by turns), length-append (b ∷ bs) more);
+  }
+
+  added_twice : (bs more : List (List ℕ)) → Room (bs ++ more) → added (added ns z bs) z more ≡ added ns z (bs ++ more)
+  added_twice [] more h = refl
+  added_twice (b ∷ bs) [] h = ap (added ns z) (sym (append-nil (b ∷ bs)))
+  added_twice (b ∷ bs) (c ∷ cs) h =
+      let opened = still_open ns.capacity (zone_at ns z) b (bs ++ (c ∷ cs)) ending turns h in
+      added_both ns z b c bs cs opened (open_inside ns.zones z opened) (omega (arith, h.room, length-append ((b ∷ bs) ++ (c ∷ cs)) (appended_by turns)))
+
+module _ (ns : ZonedNamespace) (z : ℕ) (ending : Option Ending) (turns : List Turn) (some : 1 ≤ ns.block) where
+  room_second : (bs more : List (List ℕ)) → Room ns z ending turns some (bs ++ more) → HasRoom (added ns z bs) z more
+  room_second bs more h =
+      let rest : RoomIn ns.capacity (zone_at (added ns z bs) z) (record { blocks = more; ending = None } ∷ turns) =
+      turn_room ns z bs None (record { blocks = more; ending = None } ∷ turns)
+      (record { room = subst (λ (n : ℕ). length (zone_at ns z).blocks + n ≤ ns.capacity) (ap length (append_assoc bs more (appended_by turns))) h.room; opened = h.opened }) in
+      room_first (added ns z bs) z None turns (rw (same_block ns z bs) some) more []
+      (rw (same_capacity ns z bs, append-nil more) rest)
+
+-- ---- a turn
+
+fits_added : (ns : ZonedNamespace) (z : ℕ) (bs : List (List ℕ)) (a : Held) → a.source.zone ≢ z → Fits ns a → Fits (added ns z bs) a
+fits_added ns z [] a other h = h
+fits_added ns z (b ∷ bs) a other h = record {
+  source = h.source;
+  destination = h.destination;
+  other = h.other;
+  left = h.left;
+  most = h.most;
+  written = subst (λ (zone : ZoneBlocks). a.source.offset + a.order.blocks ≤ length zone.blocks) (sym (added_leaves ns z a.source.zone (b ∷ bs) other)) h.written;
+  small = h.small;
+  address = h.address;
+  packer = h.packer;
+  frames = h.frames;
+  appended = h.appended;
+}
+
+module _ (ns : ZonedNamespace) (program : List (Option Insn)) (limit : ℕ) (a : Held) (h : FitsOn ns program limit a) where
+  abbrev pub ran : Run
+  ran = next_run ns program limit (active_of a)
+
+  abbrev pub sent : List (List ℕ)
+  sent = given_by_put a.packer ran.state.group
+
+  abbrev pub closing : List (List ℕ)
+  closing = given_by_finish (after_put a.packer ran.state.group)
+
+  -- the run once its group is packed
+  abbrev pub stepped : Held
+  stepped = record {
+    queue = a.queue;
+    cid = a.cid;
+    order = a.order;
+    source = a.source;
+    destination = a.destination;
+    index = a.index + 1;
+    scratch = scratch_after ran;
+    packer = after_put a.packer ran.state.group;
+    frames = a.frames + ran.state.frames;
+    appended = a.appended + length sent;
+  }
+
+  abbrev groups : List (List ℕ)
+  groups = a.packer.pending ∷ ran.state.group ∷ []
+
+  written_in : a.order.lba % ns.size + a.order.blocks ≤ length (zone_at ns (zone_number ns a.order.lba)).blocks
+  written_in = subst (λ (place : Place). place.offset + a.order.blocks ≤ length (zone_at ns place.zone).blocks) h.run.source h.run.written
+
+  other_zone : zone_number ns a.order.lba ≢ a.destination
+  other_zone e = h.run.other (ap (λ (place : Place). place.zone) h.run.source ∙ e)
+
+  going : goes_on ran.end ≡ true → a.index + 1 < a.order.blocks
+      → turns_of ns program limit (active_of a) ≡ record { blocks = sent; ending = None } ∷ turns_of ns program limit (active_of stepped)
+  going on more =
+      turns_go ns program limit (active_of a) h.run.left written_in more on
+      ∙ ap (λ (block : ℕ). record { blocks = released block groups; ending = None } ∷ turns_of ns program limit (record {
+        queue = a.queue;
+        cid = a.cid;
+        order = a.order;
+        so_far = record { index = a.index + 1; scratch = scratch_after ran; pending = pending_of block groups; frames = a.frames + ran.state.frames; appended = a.appended + length (released block groups) };
+      })) (sym h.run.packer)
+
+  pub goes_is : goes_on ran.end ≡ true → a.index + 1 < a.order.blocks → GoesOn ns (added ns a.destination sent) program limit a stepped
+  goes_is on more = record {
+    blocks = sent;
+    turns = going on more ∙ ap (λ (turns : List Turn). record { blocks = sent; ending = None } ∷ turns)
+        (sym (added_leaves_turns ns a.destination sent program limit (active_of stepped) other_zone));
+    namespace = refl;
+  }
+
+  pub goes_fits : a.index + 1 < a.order.blocks → ran.state.frames ≤ LARGEST_BLOCK → length sent ≤ 1 → Fits (added ns a.destination sent) stepped
+  goes_fits more few one = fits_added ns a.destination sent stepped h.run.other (record {
+    source = h.run.source;
+    destination = h.run.destination;
+    other = h.run.other;
+    left = more;
+    most = h.run.most;
+    written = h.run.written;
+    small = h.run.small;
+    address = h.run.address;
+    packer = h.run.packer;
+    frames = omega (arith, h.run.frames, few);
+    appended = omega (arith, h.run.appended, one);
+  })
+
+  -- the last turn, which appends these blocks
+  abbrev end_of : List (List ℕ) → Turn
+  end_of blocks = record {
+    blocks = blocks;
+    ending = Some (record { status = SUCCESS; dw0 = a.frames + ran.state.frames; dw1 = a.appended + length blocks; result = Some (scratch_after ran) });
+  }
+
+  abbrev Over : Type 0
+  Over = (goes_on ran.end ≡ false) ⊎ (a.order.blocks ≤ a.index + 1)
+
+  ends : (r0 : ℕ) → ran.end ≡ end.Exit r0 → Over → turns_of ns program limit (active_of a) ≡ end_of (sent ++ closing) ∷ []
+  ends r0 exit over =
+      let gone : Ends (task_by ns program limit a.order) (active_of a).so_far (next_block ns (active_of a))
+      (take (a.order.blocks - (a.index + 1)) (drop (a.order.lba % ns.size + (a.index + 1)) (zone_at ns (zone_number ns a.order.lba)).blocks)) = elim over [
+        | inl stops ↦ inl stops
+        | inr last ↦ inr (later_none ns program limit (active_of a) h.run.left written_in last)
+      ] in
+      turns_end ns program limit (active_of a) h.run.left written_in gone
+      ∙ ap (λ (turn : Turn). turn ∷ []) (last_by ns.block (active_of a).so_far ran ran.end r0 exit)
+      ∙ ap (λ (block : ℕ). end_of (packed block groups) ∷ []) (sym h.run.packer)
+      ∙ ap (λ (blocks : List (List ℕ)). end_of blocks ∷ []) (all_is a.packer.block (active_of a).so_far ran)
+
+  abbrev In : List Turn → Type 0
+  In turns = RoomIn ns.capacity (zone_at ns a.destination) turns
+
+  go_room : goes_on ran.end ≡ true → a.index + 1 < a.order.blocks → HasRoom ns a.destination sent
+  go_room on more =
+      let later = turns_of ns program limit (active_of stepped) in
+      room_first ns a.destination None later h.some sent []
+      (subst (λ (bs : List (List ℕ)). In (record { blocks = bs; ending = None } ∷ later)) (sym (append-nil sent)) (subst In (going on more) h.room))
+
+  abbrev ending : Option Ending
+  ending = (end_of (sent ++ closing)).ending
+
+  end_room : (r0 : ℕ) → ran.end ≡ end.Exit r0 → Over → In (end_of (sent ++ closing) ∷ [])
+  end_room r0 exit over = subst In (ends r0 exit over) h.room
+
+  first_by : (on : Bool) → goes_on ran.end ≡ on → (r0 : ℕ) → ran.end ≡ end.Exit r0 → (a.index + 1 < a.order.blocks) ⊎ (a.order.blocks ≤ a.index + 1)
+      → HasRoom ns a.destination sent
+  first_by true on r0 exit (inl more) = go_room on more
+  first_by true on r0 exit (inr last) = room_first ns a.destination ending [] h.some sent closing (end_room r0 exit (inr last))
+  first_by false on r0 exit more = room_first ns a.destination ending [] h.some sent closing (end_room r0 exit (inl on))
+
+  pub first_room : (r0 : ℕ) → ran.end ≡ end.Exit r0 → HasRoom ns a.destination sent
+  first_room r0 exit = first_by (goes_on ran.end) refl r0 exit (lt_or_le (a.index + 1) a.order.blocks)
+
+  pub last_room : (r0 : ℕ) → ran.end ≡ end.Exit r0 → Over → HasRoom (added ns a.destination sent) a.destination closing
+  last_room r0 exit over = room_second ns a.destination ending [] h.some sent closing (end_room r0 exit over)
+
+  pub ended_is : (r0 : ℕ) → ran.end ≡ end.Exit r0 → Over → (b : Held) → b.scratch ≡ scratch_after ran
+      → HasEnded ns (added (added ns a.destination sent) a.destination closing) program limit a b
+      (record { frames = a.frames + ran.state.frames; appended = a.appended + length sent + length closing })
+  ended_is r0 exit over b same =
+      let n : a.appended + length (sent ++ closing) ≡ a.appended + length sent + length closing = omega (arith, length-append sent closing) in
+      let last : ℕ → List ℕ → Turn = λ n bytes. record {
+        blocks = sent ++ closing;
+        ending = Some (record { status = SUCCESS; dw0 = a.frames + ran.state.frames; dw1 = n; result = Some bytes });
+      } in
+      record {
+        blocks = sent ++ closing;
+        turns = ends r0 exit over
+            ∙ ap (λ (n : ℕ). last n (scratch_after ran) ∷ []) n
+            ∙ ap (λ (bytes : List ℕ). last (a.appended + length sent + length closing) bytes ∷ []) (sym same);
+        namespace = added_twice ns a.destination ending [] h.some sent closing (end_room r0 exit over);
+      }

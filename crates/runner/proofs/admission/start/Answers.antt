@@ -1,0 +1,30 @@
+use Rattle.std.proofs.Common.{◌<◌, length, None, ap, ◌∙◌}
+use Rattle.std.specs.Prelude.{is_none}
+use Rattle.std.proofs.lemmas.List.Quantifiers.{position-Some}
+use Rattle.std.proofs.lemmas.Result.{err_from_is_err_and}
+use Rattle.image_store.specs.Geometry.{Shape}
+use Rattle.runner.proofs.Starting.{is_running, refuses, starts, still_ready}
+use Rattle.runner.proofs.admission.start.Goals as goal
+
+pub returns-in_err-admitted-clause-err : goal.returns-in_err-admitted-clause-err
+returns-in_err-admitted-clause-err c =
+    let p = err_from_is_err_and c.from_residual.result c.from_residual.ensures.1 in
+    rw (p.1, p.2)
+    (refuses c.args.namespace.now c.args.slots.now c.args.runs.now c.args.order.now c.args.payload.now c.in_err-admitted.field-0.0 c.requires.ready c.in_err-admitted.ensures.why)
+
+pub returns-clause-ok : goal.returns-clause-ok
+returns-clause-ok c =
+    rw (c.from.ensures, c.new.ensures)
+    (starts c.args.namespace.now c.args.slots.now c.args.runs.now c.args.order.now c.args.queue c.args.cid c.block-block.result c.in_ok-admitted.admitted c.args.payload.now
+    c.requires.ready c.in_ok-admitted.ensures.admission.free c.in_ok-admitted.ensures.why)
+
+pub returns-clause-ready : goal.returns-clause-ready
+returns-clause-ready c =
+    let ns = c.args.namespace.now in
+    let runs = c.args.runs.now in
+    let block = c.block-block.ensures.value ∙ ap (λ (s : Shape). s.block) c.geometry.ensures.value in
+    let inside : c.in_ok-admitted.admitted.run < length runs = (position-Some is_none runs c.in_ok-admitted.admitted.run None c.in_ok-admitted.ensures.admission.free).0 in
+    rw (c.from.ensures, c.new.ensures)
+    (still_ready ns c.args.slots.now runs c.in_ok-admitted.admitted.run _ c.requires.ready
+    (is_running ns c.args.slots.now runs c.args.order.now c.args.queue c.args.cid c.block-block.result c.in_ok-admitted.admitted c.requires.ready c.in_ok-admitted.ensures.admission block)
+    inside)

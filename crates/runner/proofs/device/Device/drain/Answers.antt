@@ -1,0 +1,40 @@
+use Rattle.std.proofs.Common.{◌*◌, [], ◌∷◌, inr, take, ap, sym, ◌∙◌, arith}
+use Rattle.zone_resources.specs.declared.holds.TheConstants.{RUNS}
+use Rattle.pushdown.specs.Answers.{Taken, and_then, data_length}
+use Rattle.pushdown.specs.Draining.{turns_left}
+use Rattle.pushdown.specs.State.{State}
+use Rattle.runner.proofs.Drains.{drained_more, drained_stops, few_at_first, turn_less}
+use Rattle.runner.proofs.Served.{with_data}
+use Rattle.runner.proofs.device.Device.drain.Goals as goal
+
+pub loop-run-smaller : goal.loop-run-smaller
+loop-run-smaller g c =
+    let now = c.loop-run.self in
+    let low = sym c.next_run.ensures.lowest ∙ c.in-Some.is in
+    let less = turn_less now c.in-Some.run' c.next_run.ensures.reached low in
+    let left = ap (λ (s : State). turns_left s.places) c.step-reply.ensures.happened.state in
+    omega (arith, less, left)
+
+pub loop-run-preserved : goal.loop-run-preserved
+loop-run-preserved g c =
+    let step = c.step-reply in
+    let inv = c.loop-run.invariant in
+    let first = g.O.Out.taken c.args.out.now in
+    let then = g.O.Out.taken c.loop-run.out in
+    let low = sym c.next_run.ensures.lowest ∙ c.in-Some.is in
+    let answer : Taken = record { reply = step.result; bytes = take (data_length step.result) step.new.data_out } in
+    let taken = c.in-Ok.ensures.ok ∙ ap (λ (x : Taken). and_then then (x ∷ [])) (with_data step.result c.data_length.result step.new.data_out c.data_length.ensures) in
+    record {
+      draining = drained_more c.args.self.now c.loop-run.self step.new.self first then (g.O.Out.taken c.take.new.self) c.loop-run.done c.in-Some.run' answer
+          inv.draining c.next_run.ensures.reached low step.ensures.happened.state step.ensures.happened.answered taken;
+      few = inr (few_at_first c.args.self.now c.loop-run.self first then c.loop-run.done (65536 * RUNS) inv.draining inv.few c.next_run.ensures.few);
+      refused = c.in-Ok.ensures.count ∙ inv.refused;
+    }
+
+pub returns-in-Err-clause-stopped : goal.returns-in-Err-clause-stopped
+returns-in-Err-clause-stopped g c =
+    let step = c.step-reply in
+    let low = sym c.next_run.ensures.lowest ∙ c.in-Some.is in
+    let answer : Taken = record { reply = step.result; bytes = take (data_length step.result) step.new.data_out } in
+    drained_stops c.args.self.now c.loop-run.self step.new.self (g.O.Out.taken c.args.out.now) (g.O.Out.taken c.loop-run.out) (g.O.Out.taken c.take.new.self)
+    c.loop-run.done c.in-Some.run' answer c.loop-run.invariant.draining c.next_run.ensures.reached low step.ensures.happened.state c.in-Err.ensures.err

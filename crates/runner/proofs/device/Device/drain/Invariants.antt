@@ -1,0 +1,15 @@
+use Rattle.std.proofs.Common.{◌≡◌, ◌≤◌, ◌*◌, ◌⊎◌}
+use Rattle.zone_resources.specs.declared.holds.TheConstants.{RUNS}
+use Rattle.pushdown.specs.Draining.{turns_left}
+use Rattle.runner.proofs.Drains.{IsDraining}
+use Rattle.runner.proofs.device.Device.drain.Given as goal
+
+abbrev pub invariant-loop-run : goal.invariant-loop-run
+invariant-loop-run g l = record {
+  draining : IsDraining l.fn.self l.self (g.O.Out.taken l.fn.out) (g.O.Out.taken l.out) l.done;
+  few : (l.done ≡ 0) ⊎ (turns_left l.fn.self.places ≤ 65536 * RUNS);
+  refused : g.O.Out.refused l.out ≡ g.O.Out.refused l.fn.out;
+}
+
+abbrev pub decreases-loop-run : goal.decreases-loop-run
+decreases-loop-run g l = turns_left l.self.places

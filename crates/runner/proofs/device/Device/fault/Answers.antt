@@ -1,0 +1,39 @@
+use Rattle.std.proofs.Common.{false, ap, sym, ◌∙◌}
+use Rattle.zone_resources.specs.declared.holds.Holds.{Holds}
+use Rattle.zns_commands.specs.Fault.{fault_answer}
+use Rattle.pushdown.specs.Machine.{failed, fault_reply}
+use Rattle.pushdown.specs.State.{State, holds_of}
+use Rattle.pushdown.specs.declared.event.Event.TheVariants as event
+use Rattle.runner.specs.Held.{state_of}
+use Rattle.runner.proofs.Holding.{holds_are}
+use Rattle.runner.proofs.Occurrences.{reached_more}
+use Rattle.runner.proofs.StepsLeave.{fault_leaves}
+use Rattle.runner.proofs.device.Device.fault.Goals as goal
+use Rattle.runner.proofs.device.Device.fault.Goals.{in-Ok, in-Err}
+
+pub invariant_of-self : goal.invariant_of-self
+invariant_of-self c =
+    let d = c.self.inside in
+    let left = fault_leaves d.namespace c.fault.new.self d.slots d.runs c.holds.result c.args.zone c.args.state c.self.invariant.ready c.holds.ensures c.fault.ensures.state in
+    record {
+      ready = left.0;
+      reached = reached_more (state_of d.namespace d.slots d.runs) (state_of c.fault.new.self d.slots d.runs)
+          (record { event = event.Fault c.args.zone c.args.state; starved = false }) c.self.invariant.reached tt left.1;
+    }
+
+pub returns-clause-reply : goal.returns-clause-reply
+returns-clause-reply c =
+    let d = c.self.inside in
+    let answer = c.fault.ensures.answer
+    ∙ ap (λ (h : Holds). fault_answer d.namespace h c.args.zone c.args.state) (c.holds.ensures ∙ holds_are d.namespace d.slots d.runs c.self.invariant.ready)
+    ∙ ap (λ (s : State). fault_answer s.namespace (holds_of s) c.args.zone c.args.state) c.self.view_is in
+    elim c.match-fault.branch [
+      | in-Ok w ↦ w.result-is ∙ ap fault_reply (sym w.in-Ok.is ∙ answer)
+      | in-Err w ↦ w.result-is ∙ ap fault_reply (sym w.in-Err.is ∙ answer)
+    ]
+
+pub returns-clause-state : goal.returns-clause-state
+returns-clause-state c =
+    let d = c.self.inside in
+    let left = fault_leaves d.namespace c.fault.new.self d.slots d.runs c.holds.result c.args.zone c.args.state c.self.invariant.ready c.holds.ensures c.fault.ensures.state in
+    left.1 ∙ ap (λ (s : State). (failed s c.args.zone c.args.state).state) c.self.view_is

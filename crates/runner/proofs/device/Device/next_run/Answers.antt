@@ -1,0 +1,19 @@
+use Rattle.std.proofs.Common.{◌*◌, ◌≤◌, ap, subst, sym, ◌∙◌, arith}
+use Rattle.zone_resources.specs.declared.holds.TheConstants.{RUNS}
+use Rattle.pushdown.specs.Draining.{lowest_run, turns_left}
+use Rattle.pushdown.specs.State.{State}
+use Rattle.runner.proofs.Drains.{few_left}
+use Rattle.runner.proofs.Numbers.{lowest_is}
+use Rattle.runner.proofs.device.Device.next_run.Goals as goal
+
+pub returns-clause-lowest : goal.returns-clause-lowest
+returns-clause-lowest c =
+    let d = c.self.inside in
+    c.lowest_run.ensures ∙ sym (lowest_is d.namespace d.slots d.runs) ∙ ap lowest_run c.self.view_is
+
+pub returns-clause-few : goal.returns-clause-few
+returns-clause-few c =
+    let d = c.self.inside in
+    let ready = c.self.invariant.ready in
+    let few = few_left d.namespace d.slots d.runs (λ k a at. (ready.running k a at).fits) in
+    subst (λ (s : State). turns_left s.places ≤ 65536 * RUNS) c.self.view_is (omega (arith, few, ready.all_runs))

@@ -1,0 +1,55 @@
+use Rattle.std.proofs.Common.{false, take, subst, sym, ◌∙◌}
+use Rattle.image_store.specs.Blocks.{AreBytes}
+use Rattle.reg_domain.specs.Intervals.{intervals}
+use Rattle.pushdown.specs.Answers.{Submission, Taken, data_length}
+use Rattle.pushdown.specs.Events.{HasHappened}
+use Rattle.pushdown.specs.Pushdown.{HasBytes}
+use Rattle.pushdown.specs.State.{State}
+use Rattle.pushdown.specs.declared.event.Event.{Event}
+use Rattle.pushdown.specs.declared.event.Event.TheVariants as event
+use Rattle.runner.specs.Held.{state_of}
+use Rattle.runner.proofs.Occurrences.{reached_by, reached_more, submission_happened}
+use Rattle.runner.proofs.device.Device.step.Goals as goal
+
+pub invariant_of-self : goal.invariant_of-self
+invariant_of-self c =
+    let d = c.self.inside in
+    let e = c.in-Submit in
+    let made = c.new-submission in
+    let old = state_of d.namespace d.slots d.runs in
+    let new = state_of c.submit.new.namespace c.submit.new.slots c.submit.new.runs in
+    let sub : Submission = record { queue = made.result.queue; entry = made.result.entry.now; payload = made.result.payload.now } in
+    let answer : Taken = record { reply = c.submit.result; bytes = take (data_length c.submit.result) c.submit.new.data_out } in
+    let happened = submission_happened e.queue e.entry e.payload sub old new answer made.ensures.queue made.ensures.entry
+    (made.ensures.payload ∙ c.as_slice.ensures.value) c.submit.ensures.submitted in
+    let bytes : AreBytes e.payload.items = subst AreBytes c.as_slice.ensures.value made.ensures.bytes in
+    record {
+      ready = c.submit.ensures.ready;
+      reached = reached_by (event.Submit e.queue e.entry e.payload) old new answer c.self.invariant.reached bytes happened;
+    }
+
+pub invariant_of-self-in-Turn : goal.invariant_of-self-in-Turn
+invariant_of-self-in-Turn c =
+    let d = c.self-in-Turn.inside in
+    record {
+      ready = c.turn.ensures.ready;
+      reached = reached_more (state_of d.namespace d.slots d.runs) (state_of c.turn.new.namespace c.turn.new.slots c.turn.new.runs)
+          (record { event = event.Turn c.in-Turn.run'; starved = false }) c.self-in-Turn.invariant.reached tt c.turn.ensures.state;
+    }
+
+pub returns-in-Submit-clause-happened : goal.returns-in-Submit-clause-happened
+returns-in-Submit-clause-happened c =
+    let d = c.self.inside in
+    let e = c.in-Submit in
+    let made = c.new-submission in
+    let old = state_of d.namespace d.slots d.runs in
+    let new = state_of c.submit.new.namespace c.submit.new.slots c.submit.new.runs in
+    let sub : Submission = record { queue = made.result.queue; entry = made.result.entry.now; payload = made.result.payload.now } in
+    let answer : Taken = record { reply = c.submit.result; bytes = take (data_length c.submit.result) c.submit.new.data_out } in
+    let happened = submission_happened e.queue e.entry e.payload sub old new answer made.ensures.queue made.ensures.entry
+    (made.ensures.payload ∙ c.as_slice.ensures.value) c.submit.ensures.submitted in
+    subst (λ (x : Event). HasHappened intervals x c.args.self.now new answer) (sym e.is)
+    (subst (λ (s : State). HasHappened intervals (event.Submit e.queue e.entry e.payload) s new answer) c.self.view_is happened)
+
+pub returns-in-Submit-clause-carried : goal.returns-in-Submit-clause-carried
+returns-in-Submit-clause-carried c = subst HasBytes (sym c.in-Submit.is) (subst AreBytes c.as_slice.ensures.value c.new-submission.ensures.bytes)

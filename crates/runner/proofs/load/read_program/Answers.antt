@@ -1,0 +1,21 @@
+use Rattle.std.proofs.Common.{◌<◌, subst, sym}
+use Rattle.ebpf_decode.specs.declared.fault.Fault.{Fault}
+use Rattle.ebpf_decode.proofs.FaultSlots.{fault_is_inside}
+use Rattle.ebpf_decode.proofs.Programs.{decoded-program}
+use Rattle.program_interface.specs.declared.TheConstants.{MOST_SLOTS}
+use Rattle.reg_domain.specs.Intervals.{intervals}
+use Rattle.verifier.specs.Accepted.{refusal}
+use Rattle.verifier.specs.Answer.{IsFaultOf}
+use Rattle.verifier.proofs.Refusals.{refusal_inside}
+use Rattle.runner.proofs.load.read_program.Goals as goal
+
+pub refuse-requires : goal.refuse-requires
+refuse-requires c =
+    subst (λ (f : Fault). f.slot < MOST_SLOTS) (sym c.in-Err-Fault.fault-is)
+    (fault_is_inside c.args.bytes.now c.in-Err-Fault.fault (rw c.in-Err-Fault.field-0-is at c.in-Err-Fault.ensures.exact))
+
+pub refuse-requires-in-Err-Refused : goal.refuse-requires-in-Err-Refused
+refuse-requires-in-Err-Refused c =
+    let is = decoded-program c.args.bytes.now c.in-Ok.program (λ k. (c.type_inv.bytes k).fits) c.in-Ok.ensures.exact in
+    let told : IsFaultOf (refusal intervals c.in-Ok.program c.args.sizes) c.in-Err-Refused.field-0 = c.in-Err-Refused.ensures.refused in
+    (refusal_inside intervals c.in-Ok.program is.0 c.args.sizes c.in-Err-Refused.refusal (rw c.in-Err-Refused.field-0-is at told)).1

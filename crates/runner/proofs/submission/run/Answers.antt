@@ -1,0 +1,17 @@
+use Rattle.std.proofs.Common.{false, List, Option, Ok, ap}
+use Rattle.nvme_entry.specs.declared.command.Command.TheVariants as command
+use Rattle.pushdown.specs.Answers.{Submission}
+use Rattle.pushdown.specs.State.{State}
+use Rattle.runner.specs.Held.{state_of}
+use Rattle.runner.specs.declared.active.Active.{Active as Held}
+use Rattle.runner.proofs.Replies.{replied_refusal}
+use Rattle.runner.proofs.submission.run.Goals as goal
+
+pub returns-in-Err-clause-submitted : goal.returns-in-Err-clause-submitted
+returns-in-Err-clause-submitted c =
+    let a = c.args in
+    let told = a.submission.now in
+    let sub : Submission = record { queue = told.queue; entry = told.entry.now; payload = told.payload.now } in
+    let seen : List (Option Held) → State = λ runs. state_of a.namespace.now a.slots.now runs in
+    replied_refusal sub (Ok (command.Run a.order.now)) (seen a.runs.now) (seen c.start.new.runs) false c.refused.result c.answer.result c.in-Err.status
+    (c.in-Err.ensures.err told.queue told.entry.now) c.answer.ensures c.refused.ensures (ap seen c.in-Err.ensures.kept)

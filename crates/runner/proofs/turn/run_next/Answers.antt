@@ -1,0 +1,23 @@
+use Rattle.std.proofs.Common.{◌≡◌, take, ap, sym, subst, ◌∙◌}
+use Rattle.interp.specs.Run.{Run}
+use Rattle.image_store.specs.Geometry.{Shape}
+use Rattle.runner.specs.Held.{active_of}
+use Rattle.runner.specs.Ran.{HasRun}
+use Rattle.runner.specs.Turning.{with_scratch}
+use Rattle.runner.proofs.Nexts.{run_is, told_is}
+use Rattle.runner.proofs.turn.run_next.Goals as goal
+
+pub returns-clause-run : goal.returns-clause-run
+returns-clause-run g c =
+    let code = g.V.TrapFree.code c.args.verified.now in
+    let limit = g.V.TrapFree.limit c.args.verified.now in
+    let ns = c.args.namespace.now in
+    let a = active_of c.args.active.now in
+    let size : c.block.result ≡ ns.block = c.block.ensures.value ∙ ap (λ (s : Shape). s.block) c.geometry.ensures.value in
+    let told = told_is ns code limit a c.encode.result c.from.result c.get.result c.block.result c.from.ensures c.get.ensures.value size c.encode.ensures in
+    let same = run_is ns code limit a c.source_block-block.result.now c.encode.result c.source_block-block.ensures.value told in
+    subst (λ (r : Run). HasRun r c.run_block.result.r0 c.run_block.result.frames (take c.run_block.result.group_len c.run_block.new.group) c.run_block.new.scratch) same
+    c.run_block.ensures.run
+
+pub returns-clause-same : goal.returns-clause-same
+returns-clause-same g c = ap (with_scratch c.args.active.now) (sym (returns-clause-run g c).scratch)

@@ -1,0 +1,80 @@
+-- What the answers of commands come to.
+use Rattle.std.specs.Prelude.{ℕ, Bool, ◌≡◌, List, [], take, Option, Result}
+use Rattle.zone_state.specs.declared.status.Status.{Status}
+use Rattle.nvme_entry.specs.Completion.{completion_bytes}
+use Rattle.nvme_entry.specs.Entry.{identifier_of}
+use Rattle.nvme_entry.specs.declared.command.Command.{Command}
+use Rattle.nvme_entry.specs.declared.command.LoadCommand.{LoadCommand}
+use Rattle.nvme_entry.specs.declared.command.RunCommand.{RunCommand}
+use Rattle.nvme_entry.specs.declared.command.StandardCommand.{StandardCommand}
+use Rattle.reg_domain.specs.Intervals.{intervals}
+use Rattle.image_store.specs.Namespace.{ZonedNamespace}
+use Rattle.zns_commands.specs.Meaning.{meaning}
+use Rattle.zns_commands.specs.declared.answer.Answer.{Answer}
+use Rattle.pushdown.specs.Answers.{Happening, Submission, Taken, completed, plain, refused}
+use Rattle.pushdown.specs.Machine.{commanded, giving_result, loading, starting, submitted}
+use Rattle.pushdown.specs.State.{State, holds_of}
+use Rattle.pushdown.specs.declared.reply.Reply.{Reply}
+use Rattle.pushdown.specs.declared.reply.Reply.TheVariants as reply
+use Rattle.runner.specs.Held.{state_of}
+use Rattle.runner.specs.Ready.{IsReady}
+use Rattle.runner.specs.declared.active.Active.{Active as Held}
+use Rattle.runner.specs.declared.loaded.LoadedProgram.{LoadedProgram}
+use Rattle.runner.specs.declared.submission.Submission.{Submission as Told}
+
+-- an entry that the code holds, with the data beside it
+abbrev pub told_by : Told → Submission
+told_by s = record { queue = s.queue; entry = s.entry.now; payload = s.payload.now }
+
+-- an answer, with the bytes whose first ones are its data, as the completion of an entry
+abbrev pub answered : Submission → Answer → List ℕ → State → Happening
+answered sub answer bytes s = completed sub answer.status answer.dw0 answer.dw1 (take answer.length bytes) s
+
+-- the completion that an answer comes to
+abbrev pub complete_reply : ℕ → ℕ → Answer → Reply
+complete_reply queue cid answer =
+    reply.Complete queue (completion_bytes (record { dw0 = answer.dw0; dw1 = answer.dw1; queue = queue; cid = cid; status = answer.status })) answer.length
+
+-- a standard command led from one namespace to the other, and was answered so; all that a device has
+-- besides is left
+pub record HasExecuted (asked : StandardCommand) (payload : List ℕ) (ns later : ZonedNamespace) (slots : List (Option LoadedProgram))
+    (runs : List (Option Held)) (answer : Answer) (bytes : List ℕ) : Type 0 where
+  pub ready : IsReady later slots runs
+  pub happening : (queue : ℕ) (entry : List ℕ)
+      → let sub : Submission = record { queue = queue; entry = entry; payload = payload } in
+      let s = state_of ns slots runs in
+      commanded sub s (meaning ns (holds_of s) asked payload) ≡ answered sub answer bytes (state_of later slots runs)
+
+-- a Load of these bytes was answered so, whatever its queue and its entry, and led from one state to the
+-- other; memory may have been refused to it
+pub record HasLoaded (load : LoadCommand) (payload : List ℕ) (old new : State) (answer : Answer) : Type 0 where
+  pub starved : Bool
+  pub happening : (queue : ℕ) (entry : List ℕ)
+      → let sub : Submission = record { queue = queue; entry = entry; payload = payload } in
+      loading intervals starved sub old load ≡ answered sub answer [] new
+
+-- a Result with this data beside it was answered so, and changes nothing
+abbrev pub GivesResult : ℕ → List ℕ → State → Answer → List ℕ → Type 0
+GivesResult slot payload s answer bytes =
+    (queue : ℕ) (entry : List ℕ)
+    → let sub : Submission = record { queue = queue; entry = entry; payload = payload } in
+    giving_result sub s slot ≡ answered sub answer bytes s
+
+-- a Run was admitted with a number
+abbrev pub Starts : RunCommand → ℕ → ℕ → List ℕ → State → State → ℕ → Type 0
+Starts order queue cid payload old new run =
+    (entry : List ℕ) → identifier_of entry ≡ cid
+    → let sub : Submission = record { queue = queue; entry = entry; payload = payload } in
+    starting sub old order ≡ record { answer = plain (reply.Pending run); state = new }
+
+-- no run is started, for this reason
+abbrev pub Refuses : RunCommand → List ℕ → State → Status → Type 0
+Refuses order payload s status =
+    (queue : ℕ) (entry : List ℕ)
+    → let sub : Submission = record { queue = queue; entry = entry; payload = payload } in
+    starting sub s order ≡ refused sub status s
+
+-- an entry that asks for this led from one state to the other, and was answered so
+pub record HasSubmitted (sub : Submission) (asked : Result Command Status) (old new : State) (answer : Taken) : Type 0 where
+  pub starved : Bool
+  pub happening : submitted intervals starved sub old asked ≡ record { answer = answer; state = new }

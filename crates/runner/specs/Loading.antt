@@ -1,0 +1,44 @@
+-- Which slots are used, and what the bytes of a program come to.
+use Rattle.std.specs.Prelude.{ℕ, Bool, false, ◌≡◌, ◌==◌, List, [], Option, Some, None, Ok}
+use Rattle.zone_state.specs.declared.status.TheConstants.Status.{PROGRAM_REFUSED}
+use Rattle.nvme_entry.specs.Checks.{first_refused}
+use Rattle.nvme_entry.specs.declared.command.LoadCommand.{LoadCommand}
+use Rattle.ebpf_decode.specs.Reading.{decoded}
+use Rattle.ebpf_decode.specs.declared.insn.Insn.{Insn}
+use Rattle.program_interface.specs.RunSizes.{Sizes}
+use Rattle.reg_domain.specs.Intervals.{intervals}
+use Rattle.verifier.specs.Accepted.{refusal}
+use Rattle.zns_commands.specs.declared.answer.Answer.{Answer}
+use Rattle.pushdown.specs.Answers.{Submission}
+use Rattle.pushdown.specs.Machine.{load_checks, load_unless, sizes_for}
+use Rattle.pushdown.specs.State.{State}
+use Rattle.runner.specs.Answered.{answered}
+use Rattle.runner.specs.declared.active.Active.{Active as Held}
+
+-- does an active run use the program of a slot?
+abbrev pub uses_slot : ℕ → Option Held → Bool
+uses_slot slot None = false
+uses_slot slot (Some a) = a.order.slot == slot
+
+-- they spell a program that is accepted, and kept with the sizes that it is accepted for
+pub record IsAccepted (bytes : List ℕ) (sizes : Sizes) (program : List (Option Insn)) (kept : Sizes) : Type 0 where
+  pub spelled : decoded bytes ≡ Ok program
+  pub accepted : refusal intervals program sizes ≡ None
+  pub kept_is : kept ≡ sizes
+
+-- a Load of them that no check refuses is answered so, and changes nothing; memory may have been refused to it
+pub record IsNotAccepted (bytes : List ℕ) (sizes : Sizes) (answer : Answer) : Type 0 where
+  pub starved : Bool
+  pub happening : (queue : ℕ) (entry : List ℕ) (s : State) (load : LoadCommand) → sizes_for s load ≡ sizes
+      → let sub : Submission = record { queue = queue; entry = entry; payload = bytes } in
+      load_unless intervals None starved sub s load ≡ answered sub answer [] s
+  pub no_data : answer.length ≡ 0
+
+-- a Load that no check refuses, whose program is accepted for the sizes that it asks for
+pub record IsLoadable (load : LoadCommand) (payload : List ℕ) (s : State) (program : List (Option Insn)) (kept : Sizes) : Type 0 where
+  pub checks : first_refused (load_checks s load payload) ≡ None
+  pub accepted : IsAccepted payload (sizes_for s load) program kept
+
+-- the answer to a program that is refused
+abbrev pub refused_program : ℕ → ℕ → Answer
+refused_program at reason = record { status = PROGRAM_REFUSED; dw0 = at; dw1 = reason; length = 0 }

@@ -1,0 +1,235 @@
+//! Whether a run is admitted.
+
+ghost use Rattle.std.specs.Prelude.{◌≡◌, ◌<◌, ◌+◌, ◌^◌, length, get_or, position, is_some, is_none, None, Option, IfOk, IfErr, OnOk, OnErr};
+ghost use Rattle.nvme_entry.specs.Checks.{first_refused};
+ghost use Rattle.pushdown.specs.Admission.{run_refusal};
+ghost use Rattle.runner.specs.Admitting.{address_checks, destination_checks, source_checks, ArePlaces, AreWritten, IsAdmission};
+ghost use Rattle.runner.specs.Answered.{Refuses, Starts};
+ghost use Rattle.runner.specs.Held.{destination_held, filled, held_by, source_held, state_of};
+ghost use Rattle.runner.specs.Ready.{IsReady};
+ghost use Rattle.zns_commands.specs.Address.{lowest_checks, place_in, range_check, zone_number, IsPlace};
+ghost use Rattle.zns_commands.specs.Resources.{why_not};
+
+use crate::active::Active;
+use crate::loaded::LoadedProgram;
+use emit_append::need;
+use image_store::Place;
+use nvme_entry::{BlockCount, RunCommand, Status};
+use zns_commands::{Holds, Namespace};
+use zone_resources::RUNS;
+use zone_state::ZoneState;
+
+/// What a run that is admitted is given: its number, where its first source block is, and the number of
+/// the zone that it appends to.
+#[derive(Clone, Copy, Debug, PartialEq, Eq)]
+struct Admitted {
+    run: u8,
+    source: Place,
+    destination: u32,
+}
+
+/// Starts a run under the lowest free number, where no check refuses it.
+pub fn start(
+    namespace: &Namespace,
+    slots: &[Option<LoadedProgram>],
+    runs: &mut [Option<Active>],
+    queue: u16,
+    cid: u16,
+    order: &RunCommand,
+    payload: &[u8],
+) -> Result<u8, Status>
+    requires ready { IsReady namespace.now slots.now runs.old }
+    ensures ok { IfOk result (Starts order.now queue cid payload.now (state_of namespace.now slots.now runs.old) (state_of namespace.now slots.now runs.new)) }
+    ensures err { IfErr result (Refuses order.now payload.now (state_of namespace.now slots.now runs.old)) }
+    ensures kept { OnErr result (runs.new ≡ runs.old) }
+    ensures ready { IsReady namespace.now slots.now runs.new }
+{
+    let admitted = admit(namespace, slots, runs, order, payload)?;
+    let block = namespace.geometry().block();
+    runs[usize::from(admitted.run)] = Some(Active::new(
+        queue,
+        cid,
+        *order,
+        admitted.source,
+        admitted.destination,
+        block,
+    ));
+    Ok(admitted.run)
+}
+
+/// Tests a run.
+fn admit(
+    namespace: &Namespace,
+    slots: &[Option<LoadedProgram>],
+    runs: &[Option<Active>],
+    order: &RunCommand,
+    payload: &[u8],
+) -> Result<Admitted, Status>
+    requires { IsReady namespace.now slots.now runs.now }
+    ensures why { why_not result ≡ run_refusal namespace.now (held_by runs.now) (is_some (position is_none runs.now)) (filled (get_or slots.now order.now.slot None)) order.now payload.now }
+    ensures admission { IfOk result (IsAdmission namespace.now slots.now runs.now order.now) }
+{
+    if !payload.is_empty() {
+        return Err(Status::INVALID_FIELD_IN_COMMAND);
+    }
+    let Some(loaded) = &slots[order.slot.index()] else {
+        return Err(Status::NO_SUCH_PROGRAM);
+    };
+    let (source, destination) = places(namespace, order)?;
+    let Some(run) = free_run(runs) else {
+        return Err(Status::NO_RUN_FREE);
+    };
+    check_source(namespace, source, order.blocks)?;
+    let blocks = need(order.blocks.get(), loaded.verified.sizes());
+    check_destination(namespace, &holds(runs), destination, blocks)?;
+    Ok(Admitted {
+        run,
+        source,
+        destination,
+    })
+}
+
+/// Where a run reads and appends: its first source block, and its destination.
+fn places(namespace: &Namespace, order: &RunCommand) -> Result<(Place, u32), Status>
+    ensures why { why_not result ≡ first_refused (address_checks namespace.now order.now) }
+    ensures places { IfOk result (λ found. ArePlaces namespace.now order.now found.0 found.1) }
+{
+    let source = first_block(namespace, order.lba, order.blocks)?;
+    let destination = destination_zone(namespace, order.destination)?;
+    if source.zone == destination {
+        return Err(Status::SOURCE_IS_DESTINATION);
+    }
+    Ok((source, destination))
+}
+
+/// The place of the first of some blocks, all of which the namespace has.
+fn first_block(namespace: &Namespace, lba: u64, blocks: BlockCount) -> Result<Place, Status>
+    ensures why { why_not result ≡ range_check namespace.now lba blocks }
+    ensures value { IfOk result (λ place. place ≡ place_in namespace.now lba) }
+    ensures place { IfOk result (IsPlace namespace.now lba) }
+{
+    let geometry = namespace.geometry();
+    let Some(place) = geometry.place(lba) else {
+        return Err(Status::LBA_OUT_OF_RANGE);
+    };
+    if u64::from(blocks.get()) > geometry.blocks() - lba {
+        return Err(Status::LBA_OUT_OF_RANGE);
+    }
+    Ok(place)
+}
+
+/// The zone whose lowest block this is.
+fn destination_zone(namespace: &Namespace, lba: u64) -> Result<u32, Status>
+    ensures why { why_not result ≡ first_refused (lowest_checks namespace.now lba) }
+    ensures value { IfOk result (λ zone. zone ≡ zone_number namespace.now lba) }
+    ensures inside { IfOk result (λ zone. zone < length namespace.now.zones) }
+{
+    let Some(place) = namespace.geometry().place(lba) else {
+        return Err(Status::LBA_OUT_OF_RANGE);
+    };
+    if place.offset != 0 {
+        return Err(Status::INVALID_FIELD_IN_COMMAND);
+    }
+    Ok(place.zone)
+}
+
+/// The lowest number that an active run has.
+pub fn lowest_run(runs: &[Option<Active>]) -> Option<u8>
+    requires { length runs.now ≡ RUNS }
+    ensures { result ≡ position is_some runs.now }
+{
+    let run = runs.iter().position(|run| run.is_some())?;
+    Some(run as u8)
+}
+
+/// The lowest run number that is free.
+fn free_run(runs: &[Option<Active>]) -> Option<u8>
+    requires { length runs.now ≡ RUNS }
+    ensures { result ≡ position is_none runs.now }
+{
+    let run = runs.iter().position(|run| run.is_none())?;
+    Some(run as u8)
+}
+
+/// Tests the blocks that a run is to read: they lie in one zone, and are written.
+fn check_source(namespace: &Namespace, first: Place, blocks: BlockCount) -> Result<(), Status>
+    requires { first.zone < length namespace.now.zones }
+    ensures why { why_not result ≡ first_refused (source_checks namespace.now first blocks) }
+    ensures written { OnOk result (AreWritten namespace.now first blocks) }
+    ensures small { OnOk result (first.offset + blocks < 2 ^ 32) }
+{
+    let end = u64::from(first.offset) + u64::from(blocks.get());
+    if end > u64::from(namespace.geometry().size()) {
+        return Err(Status::ZONE_BOUNDARY_ERROR);
+    }
+    let zone = namespace.zone(first.zone);
+    if zone.state() == ZoneState::Offline {
+        return Err(Status::ZONE_IS_OFFLINE);
+    }
+    if end > u64::from(zone.written()) {
+        return Err(Status::SOURCE_NOT_WRITTEN);
+    }
+    Ok(())
+}
+
+/// Tests the zone that a run is to append to: no other run does, it is open, and it has room.
+fn check_destination(
+    namespace: &Namespace,
+    holds: &Holds,
+    zone: u32,
+    blocks: u32,
+) -> Result<(), Status>
+    requires { zone < length namespace.now.zones }
+    ensures { why_not result ≡ first_refused (destination_checks namespace.now holds.now zone blocks) }
+{
+    if holds.is_destination(zone) {
+        return Err(Status::ZONE_HELD);
+    }
+    let zone = namespace.zone(zone);
+    if !zone.state().is_open() {
+        return Err(Status::DESTINATION_NOT_OPEN);
+    }
+    if u64::from(zone.written()) + u64::from(blocks) > u64::from(zone.capacity()) {
+        return Err(Status::DESTINATION_LACKS_ROOM);
+    }
+    Ok(())
+}
+
+/// The zones that the active runs read from and append to.
+pub fn holds(runs: &[Option<Active>]) -> Holds
+    requires { length runs.now ≡ RUNS }
+    ensures { result ≡ held_by runs.now }
+{
+    Holds {
+        sources: [
+            source(&runs[0]),
+            source(&runs[1]),
+            source(&runs[2]),
+            source(&runs[3]),
+        ],
+        destinations: [
+            destination(&runs[0]),
+            destination(&runs[1]),
+            destination(&runs[2]),
+            destination(&runs[3]),
+        ],
+    }
+}
+
+fn source(run: &Option<Active>) -> Option<u32>
+    ensures { result ≡ source_held run.now }
+{
+    match run {
+        Some(active) => Some(active.source.zone),
+        None => None,
+    }
+}
+
+fn destination(run: &Option<Active>) -> Option<u32>
+    ensures { result ≡ destination_held run.now }
+{
+    match run {
+        Some(active) => Some(active.destination),
+        None => None,
+    }
+}

@@ -1,0 +1,27 @@
+//! One block run: a program over one block.
+
+ghost use Rattle.std.specs.Prelude.{◌≡◌, ◌<◌, ◌≤◌, ◌^◌, length, take};
+ghost use Rattle.runner.specs.Ran.{HasRun, run_over};
+
+use interp::{Exit, Machine, TrapFree};
+use program_interface::{CONTEXT_BYTES, SCRATCH_BYTES};
+
+/// Runs a program that never traps over a block. Its group is at the front of `group`.
+pub fn run_block<V: TrapFree>(
+    verified: &V,
+    block: &[u8],
+    context: &[u8; CONTEXT_BYTES],
+    scratch: &mut [u8; SCRATCH_BYTES],
+    group: &mut [u8],
+) -> Exit
+    requires block { length block.now ≡ V.block verified.now }
+    requires small { length block.now < 2 ^ 32 }
+    requires room { V.limit verified.now ≤ length group.old }
+    ensures run { HasRun (run_over (V.code verified.now) (V.limit verified.now) block.now context.now scratch.old) result.r0 result.frames (take result.group_len group.new) scratch.new }
+    ensures limit { result.group_len ≤ V.limit verified.now }
+    ensures few { result.frames ≤ result.group_len }
+    ensures within { result.group_len ≤ length group.new }
+{
+    let mut machine = Machine::new(block, context, scratch);
+    machine.run_verified(verified, group)
+}

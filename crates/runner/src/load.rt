@@ -1,0 +1,133 @@
+//! Loading programs.
+
+ghost use Rattle.std.specs.Prelude.{◌≡◌, ◌<◌, List, Option, IfOk, IfErr};
+ghost use Rattle.std.specs.List.{list_any};
+ghost use Rattle.nvme_entry.specs.Checks.{first_refused};
+ghost use Rattle.pushdown.specs.Machine.{load_checks};
+ghost use Rattle.runner.specs.Answered.{HasLoaded};
+ghost use Rattle.runner.specs.Held.{state_of};
+ghost use Rattle.runner.specs.Loading.{uses_slot, refused_program, IsAccepted, IsLoadable, IsNotAccepted};
+ghost use Rattle.runner.specs.Ready.{IsReady};
+ghost use Rattle.verifier.specs.Verified.{program_of, sizes_of};
+ghost use Rattle.zns_commands.specs.Resources.{why_not};
+
+use crate::active::Active;
+use crate::loaded::LoadedProgram;
+use ebpf_decode::{DecodeFault, decode};
+use nvme_entry::{LoadCommand, MOST_TRANSFER, ProgramSlot, Status};
+use program_interface::{MOST_SLOTS, RunSizes};
+use reg_domain::Intervals;
+use std::alloc::Global;
+use verifier::{Verified, VerifyFault, verify};
+use zns_commands::{Answer, Namespace};
+
+/// Puts a program into a slot, without a result. Where it is refused, the slot is as it was.
+pub fn load(
+    alloc: Global,
+    namespace: &Namespace,
+    slots: &mut [Option<LoadedProgram>],
+    runs: &[Option<Active>],
+    command: &LoadCommand,
+    payload: &[u8],
+) -> Answer
+    requires ready { IsReady namespace.now slots.old runs.now }
+    ensures loaded { HasLoaded command.now payload.now (state_of namespace.now slots.old runs.now) (state_of namespace.now slots.new runs.now) result }
+    ensures ready { IsReady namespace.now slots.new runs.now }
+    ensures no_data { result.length ≡ 0 }
+{
+    match try_load(alloc, namespace, runs, command, payload) {
+        Ok(verified) => {
+            slots[command.slot.index()] = Some(LoadedProgram::new(verified));
+            Answer::success(0, 0)
+        }
+        Err(refusal) => refusal,
+    }
+}
+
+/// The program of a Load, or the answer that refuses it.
+fn try_load(
+    alloc: Global,
+    namespace: &Namespace,
+    runs: &[Option<Active>],
+    command: &LoadCommand,
+    payload: &[u8],
+) -> Result<Verified<Intervals>, Answer>
+    ensures ok { IfOk result (λ v. (slots : List (Option LoadedProgram)) → IsLoadable command.now payload.now (state_of namespace.now slots runs.now) (program_of v) (sizes_of v)) }
+    ensures err { IfErr result (λ answer. (slots : List (Option LoadedProgram)) → let s = state_of namespace.now slots runs.now in HasLoaded command.now payload.now s s answer) }
+    ensures no_data { IfErr result (λ answer. answer.length ≡ 0) }
+{
+    match check(namespace, runs, command, payload) {
+        Ok(sizes) => read_program(alloc, payload, sizes),
+        Err(status) => Err(Answer::refused(status)),
+    }
+}
+
+/// The sizes of the runs that a Load asks for, or the status that refuses it.
+fn check(
+    namespace: &Namespace,
+    runs: &[Option<Active>],
+    command: &LoadCommand,
+    payload: &[u8],
+) -> Result<RunSizes, Status>
+    ensures why { (slots : List (Option LoadedProgram)) → why_not result ≡ first_refused (load_checks (state_of namespace.now slots runs.now) command.now payload.now) }
+    ensures sizes { IfOk result (λ sizes. sizes ≡ record { block = namespace.now.block; limit = command.now.limit }) }
+{
+    let bytes = command.bytes as usize;
+    if bytes > MOST_TRANSFER || payload.len() != bytes {
+        return Err(Status::INVALID_FIELD_IN_COMMAND);
+    }
+    let Some(sizes) = RunSizes::new(namespace.geometry().block(), command.limit) else {
+        return Err(Status::INVALID_FIELD_IN_COMMAND);
+    };
+    if is_used(runs, command.slot) {
+        return Err(Status::PROGRAM_IN_USE);
+    }
+    Ok(sizes)
+}
+
+/// Does an active run use the program of a slot?
+fn is_used(runs: &[Option<Active>], slot: ProgramSlot) -> bool
+    ensures { result ≡ list_any (uses_slot slot) runs.now }
+{
+    runs.iter().any(|run| uses(run, slot))
+}
+
+fn uses(run: &Option<Active>, slot: ProgramSlot) -> bool
+    ensures { result ≡ uses_slot slot run.now }
+{
+    match run {
+        Some(active) => active.order.slot == slot,
+        None => false,
+    }
+}
+
+/// The program that bytes spell, where it is accepted for runs of these sizes, or the answer that
+/// refuses it.
+fn read_program(alloc: Global, bytes: &[u8], sizes: RunSizes) -> Result<Verified<Intervals>, Answer>
+    ensures ok { IfOk result (λ v. IsAccepted bytes.now sizes (program_of v) (sizes_of v)) }
+    ensures err { IfErr result (IsNotAccepted bytes.now sizes) }
+{
+    let program = match decode(alloc, bytes) {
+        Ok(program) => program,
+        Err(DecodeFault::Memory) => return Err(Answer::refused(Status::WANT_OF_MEMORY)),
+        Err(DecodeFault::Fault(fault)) => return Err(refuse(fault.slot, fault.kind.number())),
+    };
+    match verify::<Intervals>(alloc, program, sizes) {
+        Ok(verified) => Ok(verified),
+        Err(VerifyFault::Memory) => Err(Answer::refused(Status::WANT_OF_MEMORY)),
+        Err(VerifyFault::Refused(refusal)) => Err(refuse(refusal.slot, refusal.reason.number())),
+    }
+}
+
+/// The answer to a program that is refused: the slot of an instruction, and the reason's number.
+fn refuse(slot: usize, reason: u8) -> Answer
+    requires { slot < MOST_SLOTS }
+    ensures { result ≡ refused_program slot reason }
+{
+    Answer {
+        status: Status::PROGRAM_REFUSED,
+        dw0: slot as u32,
+        dw1: u32::from(reason),
+        length: 0,
+    }
+}

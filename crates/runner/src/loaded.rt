@@ -1,0 +1,29 @@
+//! Programs in their slots.
+
+ghost use Rattle.std.specs.Prelude.{◌≡◌};
+ghost use Rattle.pushdown.specs.BlockRuns.{no_scratch};
+
+use program_interface::SCRATCH_BYTES;
+use reg_domain::Intervals;
+use verifier::Verified;
+
+/// A program that a slot holds, and its result: the scratch bytes that its last run that succeeded left,
+/// zeros before there was one.
+#[derive(Drop)]
+pub struct LoadedProgram {
+    pub verified: Verified<Intervals>,
+    pub result: [u8; SCRATCH_BYTES],
+}
+
+impl LoadedProgram {
+    /// A program without a result as yet.
+    pub fn new(verified: Verified<Intervals>) -> LoadedProgram
+        ensures verified { result.verified ≡ verified }
+        ensures result { result.result ≡ no_scratch }
+    {
+        LoadedProgram {
+            verified,
+            result: [0; SCRATCH_BYTES],
+        }
+    }
+}

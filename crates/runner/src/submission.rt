@@ -1,0 +1,149 @@
+//! Entries that hosts submit.
+
+ghost use Rattle.std.specs.Prelude.{◌≡◌, ◌≤◌, drop, length, take, List, Ok, Option};
+ghost use Rattle.image_store.specs.Blocks.{AreBytes};
+ghost use Rattle.nvme_entry.specs.Entry.{decoded, identifier_of};
+ghost use Rattle.nvme_entry.specs.declared.command.Command.TheVariants as command;
+ghost use Rattle.pushdown.specs.Answers.{data_length, plain};
+ghost use Rattle.runner.specs.Answered.{HasExecuted, HasSubmitted, complete_reply, told_by};
+ghost use Rattle.runner.specs.Held.{state_of};
+ghost use Rattle.runner.specs.Ready.{IsReady};
+
+use crate::active::Active;
+use crate::admission::{holds, start};
+use crate::commands::{complete, result};
+use crate::load::load;
+use crate::loaded::LoadedProgram;
+use nvme_entry::{Command, Entry, MOST_TRANSFER, RunCommand, StandardCommand};
+use pushdown::Reply;
+use std::alloc::Global;
+use zns_commands::{Answer, Namespace};
+use zone_resources::RUNS;
+
+/// An entry that a host submits to a queue, with the data that stands beside it.
+#[derive(Clone, Copy)]
+pub struct Submission<'a> {
+    queue: u16,
+    entry: &'a [u8; 64],
+    payload: &'a [u8],
+}
+
+impl<'a> Submission<'a> {
+    /// An entry with the data beside it.
+    pub fn new(queue: u16, entry: &'a [u8; 64], payload: &'a [u8]) -> Submission<'a>
+        ensures queue { result.queue ≡ queue }
+        ensures entry { result.entry.now ≡ entry.now }
+        ensures payload { result.payload.now ≡ payload.now }
+        ensures bytes { AreBytes payload.now }
+    {
+        Submission {
+            queue,
+            entry,
+            payload,
+        }
+    }
+
+    /// The reply to an entry that is answered at once.
+    fn answer(&self, answer: Answer) -> Reply
+        ensures { result ≡ complete_reply self.now.queue (identifier_of self.now.entry.now) answer }
+    {
+        complete(self.queue, Entry::cid(self.entry), answer)
+    }
+}
+
+/// Does the command of an entry. The data of the reply lies at the front of `data_out`.
+pub fn submit(
+    alloc: Global,
+    namespace: &mut Namespace,
+    slots: &mut [Option<LoadedProgram>],
+    runs: &mut [Option<Active>],
+    submission: &Submission<'_>,
+    data_out: &mut [u8],
+) -> Reply
+    requires ready { IsReady namespace.old slots.old runs.old }
+    requires room { MOST_TRANSFER ≤ length data_out.old }
+    ensures submitted { HasSubmitted (told_by submission.now) (decoded submission.now.entry.now) (state_of namespace.old slots.old runs.old) (state_of namespace.new slots.new runs.new) (record { reply = result; bytes = take (data_length result) data_out.new }) }
+    ensures rest { drop (data_length result) data_out.new ≡ drop (data_length result) data_out.old }
+    ensures within { data_length result ≤ length data_out.new }
+    ensures ready { IsReady namespace.new slots.new runs.new }
+{
+    match Entry::decode(submission.entry) {
+        Ok(command) => perform(alloc, namespace, slots, runs, command, submission, data_out),
+        Err(status) => submission.answer(Answer::refused(status)),
+    }
+}
+
+/// Does the command that an entry names.
+fn perform(
+    alloc: Global,
+    namespace: &mut Namespace,
+    slots: &mut [Option<LoadedProgram>],
+    runs: &mut [Option<Active>],
+    command: Command,
+    submission: &Submission<'_>,
+    data_out: &mut [u8],
+) -> Reply
+    requires ready { IsReady namespace.old slots.old runs.old }
+    requires room { MOST_TRANSFER ≤ length data_out.old }
+    ensures submitted { HasSubmitted (told_by submission.now) (Ok command) (state_of namespace.old slots.old runs.old) (state_of namespace.new slots.new runs.new) (record { reply = result; bytes = take (data_length result) data_out.new }) }
+    ensures rest { drop (data_length result) data_out.new ≡ drop (data_length result) data_out.old }
+    ensures within { data_length result ≤ length data_out.new }
+    ensures ready { IsReady namespace.new slots.new runs.new }
+{
+    let payload = submission.payload;
+    match command {
+        Command::Standard(command) => {
+            submission.answer(execute(namespace, runs, &command, payload, data_out))
+        }
+        Command::Load(command) => {
+            submission.answer(load(alloc, namespace, slots, runs, &command, payload))
+        }
+        Command::Result(slot) => submission.answer(result(slots, slot, payload, data_out)),
+        Command::Run(order) => run(namespace, slots, runs, &order, submission),
+    }
+}
+
+/// Executes a standard command, which leaves the active runs what they use.
+fn execute(
+    namespace: &mut Namespace,
+    runs: &[Option<Active>],
+    command: &StandardCommand,
+    payload: &[u8],
+    data_out: &mut [u8],
+) -> Answer
+    requires runs { length runs.now ≡ RUNS }
+    requires room { MOST_TRANSFER ≤ length data_out.old }
+    ensures left { (slots : List (Option LoadedProgram)) → IsReady namespace.old slots runs.now → HasExecuted command.now payload.now namespace.old namespace.new slots runs.now result data_out.new }
+    ensures rest { drop result.length data_out.new ≡ drop result.length data_out.old }
+    ensures within { result.length ≤ length data_out.new }
+{
+    namespace.execute(command, payload, data_out, &holds(runs))
+}
+
+/// Starts a run, where it is admitted.
+fn run(
+    namespace: &Namespace,
+    slots: &[Option<LoadedProgram>],
+    runs: &mut [Option<Active>],
+    order: &RunCommand,
+    submission: &Submission<'_>,
+) -> Reply
+    requires ready { IsReady namespace.now slots.now runs.old }
+    ensures submitted { HasSubmitted (told_by submission.now) (Ok (command.Run order.now)) (state_of namespace.now slots.now runs.old) (state_of namespace.now slots.now runs.new) (plain result) }
+    ensures no_data { data_length result ≡ 0 }
+    ensures ready { IsReady namespace.now slots.now runs.new }
+{
+    let cid = Entry::cid(submission.entry);
+    match start(
+        namespace,
+        slots,
+        runs,
+        submission.queue,
+        cid,
+        order,
+        submission.payload,
+    ) {
+        Ok(run) => Reply::Pending { run },
+        Err(status) => submission.answer(Answer::refused(status)),
+    }
+}
