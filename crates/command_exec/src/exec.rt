@@ -1,20 +1,19 @@
 //! The command `exec`: the events of a command file, run on an image.
 
-ghost use Rattle.std.specs.Prelude.{◌≡◌, ◌≢◌, OnOk, IfErr};
-ghost use Rattle.image_store.specs.Text.{text};
-ghost use Rattle.runner.specs.Events.{state_after};
-ghost use Rattle.runner.specs.State.{device_of};
-ghost use Rattle.command_files.specs.Made.{MakesOne, then_made};
-ghost use Rattle.command_exec.specs.Saved.{SavesFirst};
+ghost use Rattle.std.specs.Prelude.{◌≡◌, ◌≢◌, ◌≤◌, ◌<◌, ◌+◌, ◌^◌, length, OnOk, OnErr, IfErr};
+ghost use Rattle.reg_domain.specs.Intervals.{intervals};
+ghost use Rattle.pushdown.specs.Parts.{HasFinished};
+ghost use Rattle.command_files.specs.Made.{MakesOne};
+ghost use Rattle.command_exec.specs.Saved.{HasBegun, SavesAll, SavesFirst};
 ghost use Rattle.command_exec.specs.Told.{told_of_line};
 
 use clap::{Arg, ArgMatches, Command};
 use command_failure::Failure;
-use command_files::arguments::required;
+use command_files::arguments::{and_argument, required};
 use command_files::{Files, read};
 use command_images::image_file;
 use event_text::{Lines, ParseError};
-use runner::{Device, Event, Stopped};
+use runner::{Device, Event, Out, Stopped};
 use std::alloc::{AllocError, Global};
 use std::io::Write;
 use zns_commands::{Image, MOST_TRANSFER};
@@ -27,8 +26,9 @@ const IMAGE: &str = "IMAGE";
 const COMMANDS: &str = "COMMANDS";
 
 const LONG_ABOUT: &str = "\
-Runs the events of a command file on an image, one after another, and prints a line for each. Then \
-it writes the image back, as the events left it.
+Runs the events of a command file on an image, one after another. Then it gives turns to the runs that \
+are left, always to the one of the lowest number, until each has ended. It prints a line for each event \
+and for each of these turns, and writes the image back, as they left it.
 
 A command file is ASCII text with an event on each line. Words are separated by spaces or tabs, \
 and `;` begins a comment.
@@ -44,21 +44,21 @@ of bytes, in hexadecimal. Where a line isn't of this form, no event happens.
 What is printed:
 
   cpl QUEUE ENTRY [DATA]      a completion queue entry, and the data that was read
-  pending RUN                 the run has turns left
+  pending RUN                 the run was admitted, or has turns left
   idle                        there is no such run
   done                        a fault was taken
   refused                     a fault was refused
 
-Where a line can't be printed, no later event happens, and the image is written as the events up to \
-then left it. Where anything else fails, the image is as it was: the image or the command file can't be \
+Where a line can't be printed, no later event happens and no later turn is given, and the image is \
+written as those up to then left it. Where anything else fails, the image is as it was: the image or the command file can't be \
 read or is refused, or the new image can't be written. The new image is written beside the old one, as \
 IMAGE.unfinished, and takes its place when it is whole.";
 
 const EXAMPLE: &str = "\
 Example, in the folder of the sources:
 
-  zscli format zoned.img --block 512 --zones 4 --size 8 --capacity 6 --open 2 --active 3
-  zscli exec zoned.img examples/append_and_read.cmd";
+  zscli format zoned.img --block 512 --zones 4 --size 64 --capacity 64 --open 3 --active 3
+  zscli exec zoned.img examples/pushdown.cmd";
 
 /// How the command stands on the command line.
 pub fn subcommand<'a>(alloc: Global) -> Result<Command<'a>, AllocError> {
@@ -68,12 +68,12 @@ pub fn subcommand<'a>(alloc: Global) -> Result<Command<'a>, AllocError> {
     let commands = Arg::new(alloc, COMMANDS)
         .required(true)
         .help("The command file");
-    Command::new(alloc, NAME)
+    let command = Command::new(alloc, NAME)
         .about("Runs the events of a command file on an image")
         .long_about(LONG_ABOUT)
-        .after_help(EXAMPLE)
-        .arg(image)?
-        .arg(commands)
+        .after_help(EXAMPLE);
+    let command = and_argument(Ok(command), image);
+    and_argument(command, commands)
 }
 
 /// Runs the command. Of the failures, that of standard output alone leaves a new image.
@@ -107,8 +107,9 @@ fn refused<'a>(error: ParseError) -> Failure<'a>
     }
 }
 
-/// Runs the events on an image, prints a line for each, and makes the image's file anew, as the events
-/// left it: all of them, or where standard output fails, those that were done by then.
+/// Runs the events on an image and then the turns that are left, prints a line for each, and makes the
+/// image's file anew, as they left it: all of them, or where standard output fails, those that were done
+/// by then.
 fn run<'a, F: Files, O: Write>(
     alloc: Global,
     image: Image,
@@ -117,7 +118,7 @@ fn run<'a, F: Files, O: Write>(
     files: &mut F,
     out: &mut O,
 ) -> Result<(), Failure<'a>>
-    ensures saved { OnOk result (F.Writer.tells → F.made files.new ≡ then_made (F.made files.old) path.now (text (state_after events.now (device_of image)).namespace)) }
+    ensures saved { OnOk result (F.Writer.tells → SavesAll events.now image path.now (F.made files.old) (F.made files.new)) }
     ensures stopped { result ≡ Err Failure.CannotPrint → F.Writer.tells → SavesFirst events.now image path.now (F.made files.old) (F.made files.new) }
     ensures made { OnOk result (MakesOne (F.made files.old) (F.made files.new)) }
     ensures one { result ≡ Err Failure.CannotPrint → MakesOne (F.made files.old) (F.made files.new) }
@@ -125,11 +126,27 @@ fn run<'a, F: Files, O: Write>(
 {
     let mut lines = Lines::new(alloc, out)?;
     let mut data = vec![in alloc; 0; MOST_TRANSFER]?;
-    let mut device = Device::new(image);
-    let served = device.serve(events, data.as_mut_slice(), &mut lines);
+    let mut device = Device::new(alloc, image);
+    let done = serve_and_drain(&mut device, events, data.as_mut_slice(), &mut lines);
     image_file::save(device.image(), path, files)?;
-    match served {
+    match done {
         Ok(()) => Ok(()),
         Err(Stopped { .. }) => Err(Failure::CannotPrint),
     }
+}
+
+/// Does the events, and then gives turns until no run is left.
+fn serve_and_drain<O: Out>(
+    device: &mut Device,
+    events: &[Event],
+    data_out: &mut [u8],
+    out: &mut O,
+) -> Result<(), Stopped>
+    requires room { MOST_TRANSFER ≤ length data_out.old }
+    requires counts { O.refused out.old + 1 < 2 ^ 64 }
+    ensures finished { OnOk result (HasFinished intervals events.now device.old device.new (O.taken out.old) (O.taken out.new)) }
+    ensures stopped { OnErr result (HasBegun events.now device.old device.new (O.taken out.old) (O.taken out.new)) }
+{
+    device.serve(events, data_out, out)?;
+    device.drain(data_out, out)
 }

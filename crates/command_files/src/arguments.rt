@@ -1,8 +1,8 @@
 //! The words that follow a command's name.
 
-use clap::{Arg, ArgAction, ArgMatches};
+use clap::{Arg, ArgAction, ArgMatches, Command};
 use command_failure::Failure;
-use std::alloc::Global;
+use std::alloc::{AllocError, Global};
 use text_lines::decimal;
 
 /// The option `--NAME LETTER`.
@@ -18,6 +18,15 @@ pub fn block_option<'a>(alloc: Global, name: &'a str) -> Arg<'a> {
     option(alloc, name, "B")
         .required(true)
         .help("Bytes of a block: 512, 1024, 2048 or 4096")
+}
+
+/// A command that takes this argument too. Want of memory passes through, so that what adds arguments
+/// one after another has one way out.
+pub fn and_argument<'a>(
+    command: Result<Command<'a>, AllocError>,
+    argument: Arg<'a>,
+) -> Result<Command<'a>, AllocError> {
+    command?.arg(argument)
 }
 
 /// The value of a required argument. A command line without it is refused before this.

@@ -8,7 +8,7 @@ use crate::image_file;
 use clap::{Arg, ArgMatches, Command};
 use command_failure::Failure;
 use command_files::Files;
-use command_files::arguments::{block_option, number, option, required};
+use command_files::arguments::{and_argument, block_option, number, option, required};
 use image_store::{Geometry, GeometryFault, Image, Limits};
 use std::alloc::{AllocError, Global};
 
@@ -50,22 +50,28 @@ pub fn subcommand<'a>(alloc: Global) -> Result<Command<'a>, AllocError> {
     let image = Arg::new(alloc, IMAGE)
         .required(true)
         .help("The image that is written");
-    Command::new(alloc, NAME)
+    let block = block_option(alloc, BLOCK);
+    let zones = count(alloc, ZONES, "N", "The number of zones");
+    let size = count(alloc, SIZE, "S", "Blocks of a zone");
+    let capacity = count(alloc, CAPACITY, "C", "Blocks of a zone that can be written");
+    let open = count(alloc, OPEN, "O", "The most zones that are open at a time");
+    let active = count(
+        alloc,
+        ACTIVE,
+        "A",
+        "The most zones that are active at a time",
+    );
+    let command = Command::new(alloc, NAME)
         .about("Writes an image of empty zones")
         .long_about(LONG_ABOUT)
-        .after_help(EXAMPLE)
-        .arg(image)?
-        .arg(block_option(alloc, BLOCK))?
-        .arg(count(alloc, ZONES, "N", "The number of zones"))?
-        .arg(count(alloc, SIZE, "S", "Blocks of a zone"))?
-        .arg(count(alloc, CAPACITY, "C", "Blocks of a zone that can be written"))?
-        .arg(count(alloc, OPEN, "O", "The most zones that are open at a time"))?
-        .arg(count(
-            alloc,
-            ACTIVE,
-            "A",
-            "The most zones that are active at a time",
-        ))
+        .after_help(EXAMPLE);
+    let command = and_argument(Ok(command), image);
+    let command = and_argument(command, block);
+    let command = and_argument(command, zones);
+    let command = and_argument(command, size);
+    let command = and_argument(command, capacity);
+    let command = and_argument(command, open);
+    and_argument(command, active)
 }
 
 fn count<'a>(alloc: Global, name: &'a str, letter: &'a str, help: &'a str) -> Arg<'a> {

@@ -8,7 +8,7 @@ ghost use Rattle.command_programs.specs.Told.{told_of_assembly};
 
 use clap::{Arg, ArgMatches, Command};
 use command_failure::Failure;
-use command_files::arguments::required;
+use command_files::arguments::{and_argument, required};
 use command_files::{Files, read, write};
 use ebpf_asm::{AssembleError, assemble};
 use std::alloc::{AllocError, Global};
@@ -46,12 +46,12 @@ pub fn subcommand<'a>(alloc: Global) -> Result<Command<'a>, AllocError> {
     let program = Arg::new(alloc, PROGRAM)
         .required(true)
         .help("The program that is written");
-    Command::new(alloc, NAME)
+    let command = Command::new(alloc, NAME)
         .about("Assembles text to a program")
         .long_about(LONG_ABOUT)
-        .after_help(EXAMPLE)
-        .arg(text)?
-        .arg(program)
+        .after_help(EXAMPLE);
+    let command = and_argument(Ok(command), text);
+    and_argument(command, program)
 }
 
 /// Runs the command.

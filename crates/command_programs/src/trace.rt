@@ -9,7 +9,7 @@ use crate::program::read_program;
 use crate::sizes::{block_size, run_sizes};
 use clap::{Arg, ArgMatches, Command};
 use command_failure::{Failure, printed};
-use command_files::arguments::{number, option, required};
+use command_files::arguments::{and_argument, number, option, required};
 use command_files::{Files, read};
 use ebpf_decode::Program;
 use interp::{Machine, Step};
@@ -61,15 +61,15 @@ pub fn subcommand<'a>(alloc: Global) -> Result<Command<'a>, AllocError> {
     let fuel = option(alloc, FUEL, "F")
         .default_value("65536")
         .help("The most steps");
-    Command::new(alloc, NAME)
+    let command = Command::new(alloc, NAME)
         .about("Runs a program on one block, step by step")
         .long_about(LONG_ABOUT)
-        .after_help(EXAMPLE)
-        .arg(program)?
-        .arg(block)?
-        .arg(emit)?
-        .arg(argument)?
-        .arg(fuel)
+        .after_help(EXAMPLE);
+    let command = and_argument(Ok(command), program);
+    let command = and_argument(command, block);
+    let command = and_argument(command, emit);
+    let command = and_argument(command, argument);
+    and_argument(command, fuel)
 }
 
 /// Runs the command.

@@ -6,7 +6,7 @@ ghost use Rattle.command_programs.specs.Told.{told_of_frame};
 use crate::sizes::block_size;
 use clap::{Arg, ArgMatches, Command};
 use command_failure::{Failure, printed};
-use command_files::arguments::{block_option, number, required};
+use command_files::arguments::{and_argument, block_option, number, required};
 use command_files::{Files, read};
 use emit_append::{UnpackFault, unpack as records_of};
 use std::alloc::{AllocError, Global};
@@ -38,12 +38,12 @@ pub fn subcommand<'a>(alloc: Global) -> Result<Command<'a>, AllocError> {
         .required(true)
         .help("The output blocks");
     let block = block_option(alloc, BLOCK);
-    Command::new(alloc, NAME)
+    let command = Command::new(alloc, NAME)
         .about("Prints the records of output blocks")
         .long_about(LONG_ABOUT)
-        .after_help(EXAMPLE)
-        .arg(file)?
-        .arg(block)
+        .after_help(EXAMPLE);
+    let command = and_argument(Ok(command), file);
+    and_argument(command, block)
 }
 
 /// Runs the command.

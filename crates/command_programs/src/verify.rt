@@ -7,7 +7,7 @@ use crate::sizes::{block_size, run_sizes};
 use clap::{Arg, ArgMatches, Command};
 use command_failure::{Failure, printed};
 use command_files::Files;
-use command_files::arguments::{block_option, number, option, required};
+use command_files::arguments::{and_argument, block_option, number, option, required};
 use reg_domain::Intervals;
 use std::alloc::{AllocError, Global};
 use std::io::Write;
@@ -49,13 +49,13 @@ pub fn subcommand<'a>(alloc: Global) -> Result<Command<'a>, AllocError> {
     let emit = option(alloc, EMIT, "E").required(true).help(
         "The most bytes that may be emitted on a block, two for each frame counted: at most B",
     );
-    Command::new(alloc, NAME)
+    let command = Command::new(alloc, NAME)
         .about("Says whether a program is accepted")
         .long_about(LONG_ABOUT)
-        .after_help(EXAMPLE)
-        .arg(program)?
-        .arg(block)?
-        .arg(emit)
+        .after_help(EXAMPLE);
+    let command = and_argument(Ok(command), program);
+    let command = and_argument(command, block);
+    and_argument(command, emit)
 }
 
 /// Runs the command.

@@ -3,7 +3,7 @@
 ghost use Rattle.std.specs.Prelude.{◌≡◌, ◌<◌, ◌≤◌, ◌+◌, ◌*◌, ◌/◌, ◌^◌, drop, length, slice_get, false, None, IfOk};
 ghost use Rattle.std.specs.Int.{w32, cast_unsigned};
 ghost use Rattle.ebpf_decode.specs.Spelling.{program_bytes};
-ghost use Rattle.ebpf_decode.specs.Reading.{Gives, begins_wide, decoded, entry, fields_at, first_fault, has_more, has_no_register, has_unused, immediate_of, instruction, is_left_out, length_fault, read, read_slots, slots_at, source_of};
+ghost use Rattle.ebpf_decode.specs.Reading.{Gives, begins_wide, decoded, entry, fields_at, first_fault, has_more, has_no_register, has_unused, immediate_of, instruction, is_left_out, length_fault, read, read_slots, slots_at, source_of, signed_move};
 
 use crate::fault::{DecodeFault, Fault, FaultKind};
 use crate::fields::{Fields, from_bytes};
@@ -86,25 +86,36 @@ fn arithmetic(width: Width, operation: Operation, operand: Operand, fields: &Fie
     requires src { fields.now.src < 11 }
     ensures { result ≡ instruction (Opcode.Arithmetic width operation operand) fields.now None }
 {
-    let dst = Register::from_number(fields.dst);
-    if let Some(operation) = operation.variant(fields.offset) {
-        let source = source(operand, fields);
-        return Some(Insn::Arithmetic {
+    match operation.variant(fields.offset) {
+        Some(operation) => Some(Insn::Arithmetic {
             width,
             operation,
-            dst,
-            source,
-        });
+            dst: Register::from_number(fields.dst),
+            source: source(operand, fields),
+        }),
+        None => signed_move(width, operation, operand, fields),
     }
+}
+
+/// A sign-extending move from a register, if the offset tells one.
+fn signed_move(
+    width: Width,
+    operation: Operation,
+    operand: Operand,
+    fields: &Fields,
+) -> Option<Insn>
+    requires dst { fields.now.dst < 11 }
+    requires src { fields.now.src < 11 }
+    ensures { result ≡ signed_move width operation operand fields.now }
+{
     if operand == Operand::Immediate {
         return None;
     }
     let extension = SignExtension::variant(width, operation, fields.offset)?;
-    let src = Register::from_number(fields.src);
     Some(Insn::MoveSigned {
         extension,
-        dst,
-        src,
+        dst: Register::from_number(fields.dst),
+        src: Register::from_number(fields.src),
     })
 }
 

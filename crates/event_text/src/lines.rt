@@ -1,7 +1,7 @@
 //! Replies as lines of text.
 
 ghost use Rattle.std.specs.Prelude.{◌≡◌, ◌≤◌, ◌<◌, ◌+◌, ◌^◌, ◌++◌, length, None, IfOk, OnOk};
-ghost use Rattle.runner.specs.Taken.{CountsRefusals};
+ghost use Rattle.runner.specs.Refusals.{CountsRefusals};
 ghost use Rattle.std.specs.Io.KnownBytes.{Appends};
 ghost use Rattle.hex.specs.Hex.{encode_lower};
 ghost use Rattle.event_text.specs.Lines.{line_text};

@@ -1,10 +1,13 @@
 //! The command line of Pifnjarl: files in, one command, text out.
 #![tactic(auto)]
 
+mod commands;
 #[cfg(test)]
 mod tests;
 
-use command_line::{Disk, Failure, command};
+use command_failure::Failure;
+use command_files::Disk;
+use commands::command;
 use std::env::{self, Env};
 use std::io;
 use std::process::ExitCode;

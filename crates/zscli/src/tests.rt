@@ -1,17 +1,23 @@
 //! Whole command lines over files in memory.
 
-use command_line::command;
+use crate::commands::command;
 use std::alloc::Global;
 use std::io::Write;
 use std::test::Fail;
 
 mod actions;
+mod admitting;
 mod command_lines;
+mod draining;
 mod event_lines;
+mod holds;
 mod images;
+mod loading;
 mod memory;
 mod programs;
+mod running;
 mod serving;
+mod steps;
 mod submissions;
 mod verifying;
 

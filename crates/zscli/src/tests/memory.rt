@@ -2,7 +2,7 @@
 
 ghost use Rattle.std.specs.Prelude.{◌≡◌, [], None};
 
-use command_line::{FileError, Files};
+use command_files::{FileError, Files};
 use image_store::{DeviceFault, Sink, Source};
 use std::alloc::{AllocError, Global};
 

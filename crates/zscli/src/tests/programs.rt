@@ -122,3 +122,32 @@ fn assembles_to_a_file(rt: HostRuntime) -> Result<(), Fail> {
     assert_eq!(rt; ended.err.as_str(), "cannot write made\n");
     Ok(())
 }
+
+/// Options of `trace`, the first byte of the block, and what is printed.
+const TRACED: [(&str, u8, &str); 4] = [
+    (
+        "--emit 10",
+        7,
+        "0\n1\n2\n3\n4\n5\n6\nexit 0 7 08000700000000000000\n",
+    ),
+    // A block that doesn't match takes 4 steps.
+    ("--emit 10", 8, "0\n1\n5\n6\nexit 0 4 -\n"),
+    // 8 bytes and their length are 10.
+    ("--emit 9", 7, "0\n1\n2\n3\ntrap 4 8\n"),
+    ("--emit 9 --fuel 4", 7, "0\n1\n2\n3\nfuel\n"),
+];
+
+#[test]
+fn traces_a_block_run(rt: HostRuntime) -> Result<(), Fail> {
+    let mut files = with_events(rt.alloc(), MATCHING)?;
+    for (options, first, out) in TRACED {
+        let mut block = [0; 512];
+        block[0] = first;
+        files.put("block", &block)?;
+        let line = format!(in rt.alloc(); "zscli trace events block {options}")?;
+        let ended = run_on(rt.alloc(), line.as_str(), &mut files)?;
+        assert_eq!(rt; ended.status, 0, "{options}");
+        assert_eq!(rt; ended.out.as_str(), out, "{options}");
+    }
+    Ok(())
+}

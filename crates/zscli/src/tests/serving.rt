@@ -75,7 +75,7 @@ fn stops_where_a_reply_is_refused(rt: HostRuntime) -> Result<(), Fail> {
             active_limit: 1,
         };
         let geometry = Geometry::new(512, 1, 1, 1, limits).unwrap();
-        let mut device = Device::new(Image::empty(alloc, geometry)?);
+        let mut device = Device::new(alloc, Image::empty(alloc, geometry)?);
         let mut data = vec![in alloc; 0; MOST_TRANSFER]?;
         let mut out = Kept::new(alloc, room);
         let served = device.serve(&events, data.as_mut_slice(), &mut out);

@@ -1,5 +1,4 @@
 //! The words of a command line, and what they ask for.
-#![tactic(auto)]
 
 ghost use Rattle.std.specs.Prelude.{◌≡◌, ◌≢◌, ◌≤◌, ◌<◌, IfErr};
 ghost use Rattle.command_files.specs.Made.{MakesAtMostOne};
@@ -7,9 +6,8 @@ ghost use Rattle.command_files.specs.Made.{MakesAtMostOne};
 use clap::error::ErrorKind;
 use clap::{ArgMatches, Command};
 use command_exec::exec;
-pub use command_failure::Failure;
-use command_failure::printed;
-pub use command_files::{Disk, FileError, Files};
+use command_failure::{Failure, printed};
+use command_files::Files;
 use command_images::{format, zones};
 use command_programs::{asm, disasm, trace, unpack, verify};
 use std::alloc::{AllocError, Global};
@@ -52,9 +50,16 @@ fn run<'a, F: Files, O: Write>(
     let mut line = command_line(alloc)?;
     match line.try_get_matches_from_mut(words) {
         Ok(matches) => perform(alloc, &mut line, &matches, files, out),
-        Err(error) if error.kind() == ErrorKind::DisplayHelp => printed(write!(out, "{error}")),
-        Err(error) => Err(Failure::from(error)),
+        Err(error) => answer(error, out),
     }
+}
+
+/// Prints the help that was asked for, or says what is wrong with the words.
+fn answer<'a, O: Write>(error: clap::Error, out: &mut O) -> Result<(), Failure<'a>> {
+    if error.kind() == ErrorKind::DisplayHelp {
+        return printed(write!(out, "{error}"));
+    }
+    Err(Failure::from(error))
 }
 
 /// Does the command that a command line has.
@@ -77,10 +82,15 @@ fn perform<'a, F: Files, O: Write>(
         Some((trace::NAME, matches)) => trace::trace(alloc, matches, files, out),
         Some((verify::NAME, matches)) => verify::verify(alloc, matches, files, out),
         Some((unpack::NAME, matches)) => unpack::unpack(alloc, matches, files, out),
-        _ => {
-            let message = "a command is required";
-            Err(Failure::from(line.error(ErrorKind::MissingSubcommand, message)?))
-        }
+        _ => Err(no_command(line)),
+    }
+}
+
+/// Why a command line that names no command is wrong.
+fn no_command<'a>(line: &mut Command<'a>) -> Failure<'a> {
+    match line.error(ErrorKind::MissingSubcommand, "a command is required") {
+        Ok(error) => Failure::from(error),
+        Err(error) => Failure::from(error),
     }
 }
 
@@ -90,20 +100,20 @@ fn command_line<'a>(alloc: Global) -> Result<Command<'a>, AllocError> {
         .about("Works on zoned namespaces, and on the programs that run beside their data")
         .subcommand_required(true)
         .arg_required_else_help(true);
-    let line = and_command(line, format::subcommand(alloc))?;
-    let line = and_command(line, zones::subcommand(alloc))?;
-    let line = and_command(line, exec::subcommand(alloc))?;
-    let line = and_command(line, asm::subcommand(alloc))?;
-    let line = and_command(line, disasm::subcommand(alloc))?;
-    let line = and_command(line, trace::subcommand(alloc))?;
-    let line = and_command(line, verify::subcommand(alloc))?;
+    let line = and_command(Ok(line), format::subcommand(alloc));
+    let line = and_command(line, zones::subcommand(alloc));
+    let line = and_command(line, exec::subcommand(alloc));
+    let line = and_command(line, asm::subcommand(alloc));
+    let line = and_command(line, disasm::subcommand(alloc));
+    let line = and_command(line, trace::subcommand(alloc));
+    let line = and_command(line, verify::subcommand(alloc));
     and_command(line, unpack::subcommand(alloc))
 }
 
 /// A command line that has this command too.
 fn and_command<'a>(
-    line: Command<'a>,
+    line: Result<Command<'a>, AllocError>,
     command: Result<Command<'a>, AllocError>,
 ) -> Result<Command<'a>, AllocError> {
-    line.subcommand(command?)
+    line?.subcommand(command?)
 }

@@ -1,5 +1,5 @@
-use Rattle.command_line.proofs.Makes.{one_where_stopped}
-use Rattle.command_line.proofs.perform.Goals as goal
+use Rattle.zscli.proofs.Makes.{one_where_stopped}
+use Rattle.zscli.proofs.commands.perform.Goals as goal
 
 pub returns-in-Some-exec-default-clause-one : goal.returns-in-Some-exec-default-clause-one
 returns-in-Some-exec-default-clause-one g c = one_where_stopped c.exec.result c.exec.ensures.made c.exec.ensures.stopped c.exec.ensures.kept

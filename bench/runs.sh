@@ -1,0 +1,62 @@
+#!/bin/sh
+# Times a turn of a run, through the device, of a filter of 11 instructions over blocks of 4096 bytes: beside a
+# Read of such a block through the device (at most 1 is wanted), and beside DPDK's interpreter (Debian's
+# libdpdk-dev) on the same filter and bytes alone (at most 2). Then the rate of Appends beside plain copies of
+# the same bytes (at least 50 %), and `exec` of a command file of 64 MiB beside `xxd`, which turns its data to
+# bytes, and as many bytes to text (at least 1). Each is the best of several rounds.
+set -eu
+here=$(cd "$(dirname "$0")" && pwd)
+program=runs
+. "$here/dpdk.sh"
+. "$here/best.sh"
+bench=$here/../crates/bench_runs/out/bench_runs
+# builds the program where it has to
+(cd "$here/../crates/bench_runs" && rt run -- "$work/filter.bin") > "$work/completion"
+matches=$("$work/dpdk" time filter 1 1 | sed -n 1p)
+if [ "$(sed 's/ .*//' "$work/completion")" != "${matches% *}" ]; then
+    echo "the answers differ" >&2
+    exit 1
+fi
+turn=$(least 1 "$bench" "$work/filter.bin" 10)
+read=$(least 2 "$bench" "$work/filter.bin" 10)
+theirs=$(least 2 "$work/dpdk" time filter 10 4)
+awk "BEGIN {
+    printf \"turn: %d ns; a Read: %d ns, ratio %.2f; DPDK's bare run: %d ns, ratio %.2f\n\", $turn, $read, $turn / $read, $theirs, $turn / $theirs
+}"
+"$bench" "$work/filter.bin" 20 | sed -n '3,4p'
+
+# 256 Appends of 128 KiB to four zones, and as many Reads
+rounds=${ROUNDS:-5}
+cd "$here/.."
+./zscli --help > /dev/null
+zscli=crates/zscli/out/zscli
+"$zscli" format "$work/zoned.img" --block 4096 --zones 4 --size 2048 --capacity 2048 --open 4 --active 4
+head -c 131072 /dev/urandom | xxd -p -c 131072 > "$work/data"
+zeros() { printf "%0$1d" 0; }
+# the logical block address is in the lower half of Command Dword 10
+for number in $(seq 0 255); do
+    zone=$(printf '%02x%02x' 0 $((number / 64 * 8)))
+    printf 'submit 1 7d00000001000000%s%s0000%s1f000000%s ' "$(zeros 64)" "$zone" "$(zeros 8)" "$(zeros 24)"
+    cat "$work/data"
+done > "$work/exec.cmd"
+for number in $(seq 0 255); do
+    first=$((number / 64 * 2048 + number % 64 * 32))
+    lba=$(printf '%02x%02x' $((first % 256)) $((first / 256)))
+    printf 'submit 1 0200000001000000%s%s0000%s1f000000%s\n' "$(zeros 64)" "$lba" "$(zeros 8)" "$(zeros 24)"
+done >> "$work/exec.cmd"
+cut -d ' ' -f 4 "$work/exec.cmd" > "$work/hex"
+run_file() {
+    cp "$work/zoned.img" "$work/run.img"
+    "$zscli" exec "$work/run.img" "$work/exec.cmd" > "$work/lines"
+}
+both_ways() {
+    xxd -r -p "$work/hex" "$work/bytes"
+    xxd -p "$work/bytes" "$work/text"
+}
+ours=$(best run_file)
+theirs=$(best both_ways)
+if [ "$(grep -c '^cpl 1 .\{28\}0000' "$work/lines")" -ne 512 ]; then
+    echo "not every command succeeded" >&2
+    exit 1
+fi
+awk "BEGIN { printf \"exec of 64 MiB: xxd/zscli %.2f\n\", $theirs / $ours }"

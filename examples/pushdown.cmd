@@ -1,0 +1,1 @@
+../crates/zscli/data/pushdown.cmd
