@@ -1,14 +1,14 @@
 // Writes the filter of the benchmark, and times DPDK's interpreter on it.
 //
 // runs write FOLDER      writes filter.bin for our machine
-// runs time NAME ROUNDS REPEATS
-//                        prints how many of the blocks match, and DPDK's best time of a block in nanoseconds
+// runs time BLOCKS ROUNDS REPEATS
+//                        prints how many of so many blocks match, and DPDK's best time of a block in nanoseconds
 //
 // Both get the same instructions, but that the block's address is in R2 for our machine and in R1 for
 // DPDK's, and that a block that matches is emitted in part by ours and only counted by DPDK's.
 #include "programs.h"
 
-enum { BLOCK = 4096, BLOCKS = 4096 };
+enum { BLOCK = 4096 };
 
 static void filter(int ours) {
   length = 0;
@@ -40,9 +40,10 @@ int main(int argc, char **argv) {
     return 0;
   }
   if (argc != 5) return 2;
-  uint8_t *blocks = malloc((size_t)BLOCK * BLOCKS);
+  int count = atoi(argv[2]);
+  uint8_t *blocks = malloc((size_t)BLOCK * count);
   if (!blocks) return 1;
-  for (int i = 0; i < BLOCKS; i++) memset(blocks + (size_t)i * BLOCK, i % 251, BLOCK);
+  for (int i = 0; i < count; i++) memset(blocks + (size_t)i * BLOCK, i % 251, BLOCK);
   uint64_t best = -1, matches = 0;
   int rounds = atoi(argv[3]), repeats = atoi(argv[4]);
   filter(0);
@@ -53,11 +54,11 @@ int main(int argc, char **argv) {
     uint64_t start = now();
     for (int repeat = 0; repeat < repeats; repeat++) {
       matches = 0;
-      for (int i = 0; i < BLOCKS; i++) matches += rte_bpf_exec(bpf, blocks + (size_t)i * BLOCK);
+      for (int i = 0; i < count; i++) matches += rte_bpf_exec(bpf, blocks + (size_t)i * BLOCK);
     }
     uint64_t spent = now() - start;
     if (spent < best) best = spent;
   }
-  printf("%lu matches\n%lu ns\n", matches, best / BLOCKS / repeats);
+  printf("%lu matches\n%lu ns\n", matches, best / count / repeats);
   return 0;
 }

@@ -1,9 +1,11 @@
 #!/bin/sh
 # Times a turn of a run, through the device, of a filter of 11 instructions over blocks of 4096 bytes: beside a
 # Read of such a block through the device (at most 1 is wanted), and beside DPDK's interpreter (Debian's
-# libdpdk-dev) on the same filter and bytes alone (at most 2). Then the rate of Appends beside plain copies of
-# the same bytes (at least 50 %), and `exec` of a command file of 64 MiB beside `xxd`, which turns its data to
-# bytes, and as many bytes to text (at least 1). Each is the best of several rounds.
+# libdpdk-dev) on the same filter and blocks alone (at most 2), over 4096 blocks, which come from memory, and over
+# 64, which stay in a cache. Then the rate of Appends beside plain copies of the same bytes (at least 50 %), the
+# time to admit and to refuse runs of one and of 4096 blocks, on a large image and on a small one, and `exec` of a
+# command file of 64 MiB beside `xxd`, which turns its data to bytes, and as many bytes to text (at least 1). Each
+# is the best of several rounds.
 set -eu
 here=$(cd "$(dirname "$0")" && pwd)
 program=runs
@@ -12,18 +14,21 @@ program=runs
 bench=$here/../crates/bench_runs/out/bench_runs
 # builds the program where it has to
 (cd "$here/../crates/bench_runs" && rt run -- "$work/filter.bin") > "$work/completion"
-matches=$("$work/dpdk" time filter 1 1 | sed -n 1p)
+matches=$("$work/dpdk" time 4096 1 1 | sed -n 1p)
 if [ "$(sed 's/ .*//' "$work/completion")" != "${matches% *}" ]; then
     echo "the answers differ" >&2
     exit 1
 fi
 turn=$(least 1 "$bench" "$work/filter.bin" 10)
 read=$(least 2 "$bench" "$work/filter.bin" 10)
-theirs=$(least 2 "$work/dpdk" time filter 10 4)
+cached=$(least 3 "$bench" "$work/filter.bin" 10)
+theirs=$(least 2 "$work/dpdk" time 4096 10 4)
+theirs_cached=$(least 2 "$work/dpdk" time 64 100 64)
 awk "BEGIN {
-    printf \"turn: %d ns; a Read: %d ns, ratio %.2f; DPDK's bare run: %d ns, ratio %.2f\n\", $turn, $read, $turn / $read, $theirs, $turn / $theirs
+    printf \"a turn over 4096 blocks: %d ns; a Read: %d ns, ratio %.2f; DPDK's bare run: %d ns, ratio %.2f\n\", $turn, $read, $turn / $read, $theirs, $turn / $theirs
+    printf \"a turn over 64 blocks: %d ns; DPDK's bare run: %d ns, ratio %.2f\n\", $cached, $theirs_cached, $cached / $theirs_cached
 }"
-"$bench" "$work/filter.bin" 20 | sed -n '3,4p'
+"$bench" "$work/filter.bin" 20 | sed -n '4,$p'
 
 # 256 Appends of 128 KiB to four zones, and as many Reads
 rounds=${ROUNDS:-5}

@@ -4,15 +4,15 @@ use byteorder::{ByteOrder, LittleEndian};
 use runner::Event;
 
 /// An event that submits an entry of this opcode to queue 1: its logical block address, Command Dwords 12 and
-/// 13, the lower half of the address in Command Dwords 14 and 15, and the data beside it.
-fn submit(opcode: u8, lba: u64, dwords: [u32; 2], destination: u32, payload: Vec<u8>) -> Event {
+/// 13, the address in Command Dwords 14 and 15, and the data beside it.
+fn submit(opcode: u8, lba: u64, dwords: [u32; 2], to: u64, payload: Vec<u8>) -> Event {
     let mut entry = [0; 64];
     entry[0] = opcode;
     entry[4] = 1;
     LittleEndian::write_u64(&mut entry[40..48], lba);
     LittleEndian::write_u32(&mut entry[48..52], dwords[0]);
     LittleEndian::write_u32(&mut entry[52..56], dwords[1]);
-    LittleEndian::write_u32(&mut entry[56..60], destination);
+    LittleEndian::write_u64(&mut entry[56..64], to);
     Event::Submit {
         queue: 1,
         entry,
@@ -52,13 +52,8 @@ pub fn load(limit: u32, program: Vec<u8>) -> Event {
     submit(0xC1, u64::from(limit) << 32, [bytes, 0], 0, program)
 }
 
-/// Runs the program of slot 0 over so many blocks from the first on.
-pub fn run(blocks: u16, destination: u32, none: Vec<u8>) -> Event {
-    submit(
-        0xC0,
-        0,
-        [u32::from(blocks.saturating_sub(1)), 0],
-        destination,
-        none,
-    )
+/// Runs the program of slot 0 over so many blocks from one on, to the zone whose lowest block is `to`.
+pub fn run(lba: u64, blocks: u16, to: u64, none: Vec<u8>) -> Event {
+    let last = u32::from(blocks.saturating_sub(1));
+    submit(0xC0, lba, [last, 0], to, none)
 }

@@ -1,4 +1,5 @@
-//! Times a device: a turn of a run beside a Read of one block, and Appends beside plain copies.
+//! Times a device: a turn of a run beside a Read of one block, Appends beside plain copies, and Runs that are
+//! admitted and refused.
 //!
 //! bench_runs FILTER          runs the filter over the source blocks, and prints what its completion tells
 //! bench_runs FILTER ROUNDS   prints the best times of so many rounds
@@ -11,12 +12,13 @@ mod work;
 
 use anyhow::{Context, Result};
 use byteorder::{ByteOrder, LittleEndian};
-use runner::{Device, Event};
+use runner::Device;
+use std::alloc::Global;
 use std::rt::{Env, Files};
 use std::{env, fs};
 use work::{
-    BLOCK, MOST_BLOCKS, SOURCE, ZONE_SIZE, appends, copies, events, fill, load_filter,
-    source_reads, turns,
+    BLOCK, CACHED, MOST_BLOCKS, SOURCE, ZONE_SIZE, admission, appends, copies, events, fill,
+    load_filter, refusal, source_reads, whole_run,
 };
 use zns_commands::{Geometry, Image, Limits, MOST_TRANSFER};
 
@@ -24,38 +26,78 @@ fn main(rt: HostRuntime) -> Result<()> {
     let mut args = env::args(&rt)?;
     args.next();
     let filter = fs::read(&rt, &args.next().context("no filter")?)?;
-    let limits = Limits {
-        open_limit: 3,
-        active_limit: 3,
-    };
-    let geometry = Geometry::new(BLOCK, 3, ZONE_SIZE, ZONE_SIZE, limits)?;
-    let mut device = Device::new(rt.alloc(), Image::empty(rt.alloc(), geometry)?);
     let mut data = vec![in rt.alloc(); 0; MOST_TRANSFER]?;
-    fill(rt.alloc(), &mut device, &mut data)?;
-    load_filter(&mut device, filter, &mut data)?;
+    let mut small = device(rt.alloc(), 2 * u32::from(CACHED), &filter, &mut data)?;
+    let mut large = device(rt.alloc(), ZONE_SIZE, &filter, &mut data)?;
     match args.next() {
-        Some(rounds) => compare(&rt, &mut device, &mut data, rounds.parse::<u32>()?),
+        Some(rounds) => {
+            let rounds = rounds.parse::<u32>()?;
+            compare_turns(&rt, &mut large, &mut data, rounds)?;
+            compare_appends(&rt, &mut large, &mut data, rounds)?;
+            compare_sizes(&rt, &mut small, &mut large, &mut data, rounds)
+        }
         None => {
-            let (_, completion) = turns(&rt, rt.alloc(), &mut device, &mut data)?;
-            let frames = LittleEndian::read_u32(&completion[..4]);
-            let blocks = LittleEndian::read_u32(&completion[4..8]);
+            let run = whole_run(&rt, rt.alloc(), &mut large, SOURCE, &mut data)?;
+            let frames = LittleEndian::read_u32(&run.completion[..4]);
+            let blocks = LittleEndian::read_u32(&run.completion[4..8]);
             println!(rt; "{frames} frames in {blocks} blocks")?;
             Ok(())
         }
     }
 }
 
-/// Prints the best times of a turn and of a Read, and of Appends and copies of the same bytes.
-fn compare(rt: &HostRuntime, device: &mut Device, data: &mut [u8], rounds: u32) -> Result<()>
+/// A device of three zones of this size, with the filter in slot 0 and half of zone 0 written.
+fn device(alloc: Global, zone_size: u32, filter: &[u8], data: &mut [u8]) -> Result<Device>
     requires { MOST_TRANSFER ≤ length data.old }
+    ensures { MOST_TRANSFER ≤ length data.new }
+{
+    let limits = Limits {
+        open_limit: 3,
+        active_limit: 3,
+    };
+    let geometry = Geometry::new(BLOCK, 3, zone_size, zone_size, limits)?;
+    let mut device = Device::new(alloc, Image::empty(alloc, geometry)?);
+    let blocks = u16::try_from(zone_size / 2).unwrap_or(SOURCE);
+    fill(alloc, &mut device, blocks, data)?;
+    load_filter(&mut device, Vec::from_slice(alloc, filter)?, data)?;
+    Ok(device)
+}
+
+/// Prints the best times of a turn and of a Read, over many blocks, and of a turn over few.
+fn compare_turns(rt: &HostRuntime, device: &mut Device, data: &mut [u8], rounds: u32) -> Result<()>
+    requires { MOST_TRANSFER ≤ length data.old }
+    ensures { MOST_TRANSFER ≤ length data.new }
 {
     let reads = source_reads(rt.alloc())?;
-    let mut target = vec![in rt.alloc(); 0; (ZONE_SIZE * BLOCK) as usize]?;
-    let (mut turn, mut read) = (u128::MAX, u128::MAX);
+    let (mut turns, mut read, mut cached) = (u128::MAX, u128::MAX, u128::MAX);
     for _ in 0..rounds {
-        turn = turn.min(turns(rt, rt.alloc(), device, data)?.0);
+        turns = turns.min(whole_run(rt, rt.alloc(), device, SOURCE, data)?.turns);
         read = read.min(events(rt, device, &reads, data)?);
+        for _ in 0..SOURCE / CACHED {
+            cached = cached.min(whole_run(rt, rt.alloc(), device, CACHED, data)?.turns);
+        }
     }
+    let blocks = u128::from(SOURCE);
+    println!(rt; "{} ns a turn", turns / blocks)?;
+    println!(rt; "{} ns a Read of one block", read / blocks)?;
+    println!(rt;
+        "{} ns a turn over {CACHED} blocks",
+        cached / u128::from(CACHED)
+    )?;
+    Ok(())
+}
+
+/// Prints the best times of Appends beside copies of the same bytes.
+fn compare_appends(
+    rt: &HostRuntime,
+    device: &mut Device,
+    data: &mut [u8],
+    rounds: u32,
+) -> Result<()>
+    requires { MOST_TRANSFER ≤ length data.old }
+    ensures { MOST_TRANSFER ≤ length data.new }
+{
+    let mut target = vec![in rt.alloc(); 0; (ZONE_SIZE * BLOCK) as usize]?;
     let (mut small, mut small_copy) = (u128::MAX, u128::MAX);
     let (mut large, mut large_copy) = (u128::MAX, u128::MAX);
     for _ in 0..rounds {
@@ -64,9 +106,6 @@ fn compare(rt: &HostRuntime, device: &mut Device, data: &mut [u8], rounds: u32) 
         large = large.min(appends(rt, rt.alloc(), device, MOST_BLOCKS, data)?);
         large_copy = large_copy.min(copies(rt, rt.alloc(), &mut target, MOST_BLOCKS)?);
     }
-    let blocks = u128::from(SOURCE);
-    println!(rt; "{} ns a turn", turn / blocks)?;
-    println!(rt; "{} ns a Read of one block", read / blocks)?;
     println!(rt;
         "Appends of 4 KiB at {} % of the rate of copies",
         percent(small_copy, small)
@@ -74,6 +113,38 @@ fn compare(rt: &HostRuntime, device: &mut Device, data: &mut [u8], rounds: u32) 
     println!(rt;
         "Appends of 128 KiB at {} % of the rate of copies",
         percent(large_copy, large)
+    )?;
+    Ok(())
+}
+
+/// Prints the best times of admitting and of refusing runs of two lengths on two images.
+fn compare_sizes(
+    rt: &HostRuntime,
+    small: &mut Device,
+    large: &mut Device,
+    data: &mut [u8],
+    rounds: u32,
+) -> Result<()>
+    requires { MOST_TRANSFER ≤ length data.old }
+{
+    let alloc = rt.alloc();
+    let (mut one, mut many, mut one_in_small) = (u128::MAX, u128::MAX, u128::MAX);
+    for _ in 0..rounds {
+        one = one.min(admission(rt, alloc, large, 1, data)?);
+        many = many.min(admission(rt, alloc, large, SOURCE, data)?);
+        one_in_small = one_in_small.min(admission(rt, alloc, small, 1, data)?);
+    }
+    println!(rt;
+        "{one} ns to admit a run over one block, {many} ns over {SOURCE}, {one_in_small} ns on a small image"
+    )?;
+    let (mut one, mut many, mut one_in_small) = (u128::MAX, u128::MAX, u128::MAX);
+    for _ in 0..rounds {
+        one = one.min(refusal(rt, alloc, large, u64::from(SOURCE), 1, data)?);
+        many = many.min(refusal(rt, alloc, large, u64::from(SOURCE), SOURCE, data)?);
+        one_in_small = one_in_small.min(refusal(rt, alloc, small, u64::from(CACHED), 1, data)?);
+    }
+    println!(rt;
+        "{one} ns to refuse a run over one block, {many} ns over {SOURCE}, {one_in_small} ns on a small image"
     )?;
     Ok(())
 }

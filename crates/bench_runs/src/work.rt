@@ -3,7 +3,7 @@
 ghost use Rattle.std.specs.Prelude.{◌≤◌, ◌<◌, length};
 
 use crate::entries::{append, load, open, read, reset, run};
-use anyhow::{Result, ensure};
+use anyhow::{Result, bail, ensure};
 use runner::{Device, Event, Reply};
 use std::alloc::Global;
 use std::rt::Clock;
@@ -16,8 +16,14 @@ pub const BLOCK: u32 = 4096;
 /// The blocks of a zone.
 pub const ZONE_SIZE: u32 = 8192;
 
-/// How many blocks of zone 0 a run reads.
+/// How many blocks of zone 0 are written.
 pub const SOURCE: u16 = 4096;
+
+/// So many of them, with all that a run over them takes, stay in a processor's cache.
+pub const CACHED: u16 = 64;
+
+/// How many entries that are refused are submitted in a round.
+const REFUSALS: usize = 1000;
 
 /// The blocks of the largest transfer.
 pub const MOST_BLOCKS: u16 = 32;
@@ -25,29 +31,39 @@ pub const MOST_BLOCKS: u16 = 32;
 /// The most bytes that the filter emits for a block.
 const LIMIT: u32 = 66;
 
-/// Does an event, which has to succeed.
-fn must(device: &mut Device, event: &Event, data: &mut [u8]) -> Result<[u8; 16]>
-    requires { MOST_TRANSFER ≤ length data.old }
-    ensures { MOST_TRANSFER ≤ length data.new }
-{
-    match device.step(event, data) {
-        Reply::Complete { entry, .. } => {
-            ensure!(entry[14] == 0 && entry[15] == 0, "refused: {entry:?}");
-            Ok(entry)
-        }
-        reply => {
-            ensure!(reply == Reply::Pending { run: 0 }, "unexpected: {reply:?}");
-            Ok([0; 16])
-        }
+/// The nanoseconds of a run's admission and of its turns, and its completion.
+#[derive(Clone, Copy)]
+pub struct WholeRun {
+    pub admission: u128,
+    pub turns: u128,
+    pub completion: [u8; 16],
+}
+
+/// Was an event done, and not refused?
+fn is_done(reply: &Reply) -> bool {
+    match reply {
+        Reply::Complete { entry, .. } => entry[14] == 0 && entry[15] == 0,
+        Reply::Pending { .. } => true,
+        _ => false,
     }
 }
 
-/// Fills the run's source: all bytes of block i are i modulo 251.
-pub fn fill(alloc: Global, device: &mut Device, data: &mut [u8]) -> Result<()>
+/// Does an event, which has to succeed.
+fn must(device: &mut Device, event: &Event, data: &mut [u8]) -> Result<()>
     requires { MOST_TRANSFER ≤ length data.old }
     ensures { MOST_TRANSFER ≤ length data.new }
 {
-    for block in 0..SOURCE {
+    let reply = device.step(event, data);
+    ensure!(is_done(&reply), "refused: {reply:?}");
+    Ok(())
+}
+
+/// Fills so many blocks of zone 0: all bytes of block i are i modulo 251.
+pub fn fill(alloc: Global, device: &mut Device, blocks: u16, data: &mut [u8]) -> Result<()>
+    requires { MOST_TRANSFER ≤ length data.old }
+    ensures { MOST_TRANSFER ≤ length data.new }
+{
+    for block in 0..blocks {
         let bytes = vec![in alloc; (block % 251) as u8; BLOCK as usize]?;
         must(device, &append(0, 1, bytes), data)?;
     }
@@ -63,44 +79,111 @@ pub fn load_filter(device: &mut Device, filter: Vec<u8>, data: &mut [u8]) -> Res
     Ok(())
 }
 
-/// Starts a run to zone 1, which is emptied.
-fn start(alloc: Global, device: &mut Device, data: &mut [u8]) -> Result<()>
-    requires { MOST_TRANSFER ≤ length data.old }
-    ensures { MOST_TRANSFER ≤ length data.new }
-{
-    let lowest = u64::from(ZONE_SIZE);
-    must(device, &reset(lowest, Vec::new(alloc)), data)?;
-    must(device, &open(lowest, Vec::new(alloc)), data)?;
-    must(device, &run(SOURCE, ZONE_SIZE, Vec::new(alloc)), data)?;
-    Ok(())
-}
-
-/// Does an event so often, and answers the completion of the last time.
-fn repeat(device: &mut Device, event: &Event, times: u32, data: &mut [u8]) -> Result<[u8; 16]>
-    requires { MOST_TRANSFER ≤ length data.old }
-    ensures { MOST_TRANSFER ≤ length data.new }
-{
-    let mut last = [0; 16];
-    for _ in 0..times {
-        last = must(device, event, data)?;
-    }
-    Ok(last)
-}
-
-/// A whole run: the nanoseconds of its turns, and its completion.
-pub fn turns(
+/// Starts a run over so many blocks to zone 1, which is emptied: the nanoseconds of its admission.
+fn start(
     rt: &impl Clock,
     alloc: Global,
     device: &mut Device,
+    blocks: u16,
     data: &mut [u8],
-) -> Result<(u128, [u8; 16])>
+) -> Result<u128>
     requires { MOST_TRANSFER ≤ length data.old }
     ensures { MOST_TRANSFER ≤ length data.new }
 {
-    start(alloc, device, data)?;
+    let lowest = u64::from(device.image().geometry().size());
+    must(device, &reset(lowest, Vec::new(alloc)), data)?;
+    must(device, &open(lowest, Vec::new(alloc)), data)?;
+    let order = run(0, blocks, lowest, Vec::new(alloc));
     let begin = Instant::now(rt)?;
-    let completion = repeat(device, &Event::Turn { run: 0 }, u32::from(SOURCE), data)?;
-    Ok((begin.elapsed(rt)?.as_nanos(), completion))
+    let reply = device.step(&order, data);
+    let spent = begin.elapsed(rt)?.as_nanos();
+    ensure!(is_done(&reply), "refused: {reply:?}");
+    Ok(spent)
+}
+
+/// Does an event so often: whether it was done each time, and the last reply.
+fn repeat(device: &mut Device, event: &Event, times: u32, data: &mut [u8]) -> (bool, Reply)
+    requires { MOST_TRANSFER ≤ length data.old }
+    ensures { MOST_TRANSFER ≤ length data.new }
+{
+    let mut done = true;
+    let mut last = Reply::Idle;
+    for _ in 0..times {
+        last = device.step(event, data);
+        done &= is_done(&last);
+    }
+    (done, last)
+}
+
+/// A whole run over so many blocks.
+pub fn whole_run(
+    rt: &impl Clock,
+    alloc: Global,
+    device: &mut Device,
+    blocks: u16,
+    data: &mut [u8],
+) -> Result<WholeRun>
+    requires { MOST_TRANSFER ≤ length data.old }
+    ensures { MOST_TRANSFER ≤ length data.new }
+{
+    let admission = start(rt, alloc, device, blocks, data)?;
+    let begin = Instant::now(rt)?;
+    let (_, last) = repeat(device, &Event::Turn { run: 0 }, u32::from(blocks), data);
+    let turns = begin.elapsed(rt)?.as_nanos();
+    match last {
+        Reply::Complete { entry, .. } => Ok(WholeRun {
+            admission,
+            turns,
+            completion: entry,
+        }),
+        reply => bail!("the run goes on: {reply:?}"),
+    }
+}
+
+/// The least nanoseconds of admitting a run over so many blocks, of a few times: the first meets cold caches.
+pub fn admission(
+    rt: &impl Clock,
+    alloc: Global,
+    device: &mut Device,
+    blocks: u16,
+    data: &mut [u8],
+) -> Result<u128>
+    requires { MOST_TRANSFER ≤ length data.old }
+    ensures { MOST_TRANSFER ≤ length data.new }
+{
+    let mut least = u128::MAX;
+    for _ in 0..8 {
+        least = least.min(whole_run(rt, alloc, device, blocks, data)?.admission);
+    }
+    Ok(least)
+}
+
+/// The nanoseconds of refusing a Run, whose blocks from one of a few on aren't written.
+pub fn refusal(
+    rt: &impl Clock,
+    alloc: Global,
+    device: &mut Device,
+    unwritten: u64,
+    blocks: u16,
+    data: &mut [u8],
+) -> Result<u128>
+    requires { MOST_TRANSFER ≤ length data.old }
+    ensures { MOST_TRANSFER ≤ length data.new }
+{
+    let lowest = u64::from(device.image().geometry().size());
+    let mut orders = Vec::with_capacity(alloc, REFUSALS)?;
+    for number in 0..REFUSALS as u64 {
+        let lba = unwritten.saturating_add(number % 8);
+        orders.push(run(lba, blocks, lowest, Vec::new(alloc)))?;
+    }
+    let begin = Instant::now(rt)?;
+    let mut admitted = false;
+    for order in &orders {
+        admitted |= is_done(&device.step(order, data));
+    }
+    let spent = begin.elapsed(rt)?.as_nanos();
+    ensure!(!admitted, "a Run was admitted");
+    Ok(spent / REFUSALS as u128)
 }
 
 /// The Reads of the run's source blocks, one by one.
@@ -123,10 +206,13 @@ pub fn events(
     ensures { MOST_TRANSFER ≤ length data.new }
 {
     let begin = Instant::now(rt)?;
+    let mut done = true;
     for event in events {
-        must(device, event, data)?;
+        done &= is_done(&device.step(event, data));
     }
-    Ok(begin.elapsed(rt)?.as_nanos())
+    let spent = begin.elapsed(rt)?.as_nanos();
+    ensure!(done, "a Read was refused");
+    Ok(spent)
 }
 
 /// The nanoseconds of filling zone 2 by Appends of so many blocks.
@@ -144,9 +230,12 @@ pub fn appends(
     let bytes = usize::from(blocks) * BLOCK as usize;
     let event = append(lowest, blocks, vec![in alloc; 0xA5; bytes]?);
     must(device, &reset(lowest, Vec::new(alloc)), data)?;
+    let times = ZONE_SIZE / u32::from(blocks.max(1));
     let begin = Instant::now(rt)?;
-    repeat(device, &event, ZONE_SIZE / u32::from(blocks.max(1)), data)?;
-    Ok(begin.elapsed(rt)?.as_nanos())
+    let (done, _) = repeat(device, &event, times, data);
+    let spent = begin.elapsed(rt)?.as_nanos();
+    ensure!(done, "an Append was refused");
+    Ok(spent)
 }
 
 /// Fills the target by copies of these bytes, and answers how much is filled.
