@@ -75,7 +75,7 @@ records_read s zs rest count can =
     ∙ (ap (λ (n : ℕ). zones_in s.capacity n (records_text zs) >>= λ all. Ok (all, rest)) (sym count)
     ∙ ap (λ (r : Result (List ZoneRecord) LoadFault). r >>= λ all. Ok (all, rest)) (records_again s.capacity zs can))
 
-limits_read : (limits : Limits) (zs : List ZoneRecord) → IsWithin zs limits → limits_kept limits zs ≡ Ok tt
+pub limits_read : (limits : Limits) (zs : List ZoneRecord) → IsWithin zs limits → limits_kept limits zs ≡ Ok tt
 limits_read limits zs within = rw (le-leb (open_count zs) limits.open_limit within.opened, le-leb (active_count zs) limits.active_limit within.active) refl
 
 -- blocks that are whole are cut from their bytes again
@@ -87,12 +87,12 @@ blocks_again b (x ∷ blocks) whole =
     ∙ (ap (λ (back : List ℕ). x ∷ blocks_of b (length blocks) back) (drop_at x (bytes_of blocks) b size)
     ∙ ap (λ (more : List (List ℕ)). x ∷ more) (blocks_again b blocks (λ i h. whole (suc i) (omega arith))))
 
-length-bytes : (b : ℕ) (blocks : List (List ℕ)) → ((i : ℕ) → i < length blocks → length (get_or blocks i []) ≡ b) → length (bytes_of blocks) ≡ length blocks * b
+pub length-bytes : (b : ℕ) (blocks : List (List ℕ)) → ((i : ℕ) → i < length blocks → length (get_or blocks i []) ≡ b) → length (bytes_of blocks) ≡ length blocks * b
 length-bytes b [] whole = omega arith
 length-bytes b (x ∷ blocks) whole =
     omega (arith, whole 0 (omega arith), length-bytes b blocks (λ i h. whole (suc i) (omega arith)), suc-mul (length blocks) b, length-append x (bytes_of blocks))
 
-blocks_read : (b c : ℕ) (zones : List ZoneBlocks) (rest : List ℕ) → ((z i : ℕ) → i < length (get_or zones z no_zone).blocks → length (get_or (get_or zones z no_zone).blocks i []) ≡ b)
+pub blocks_read : (b c : ℕ) (zones : List ZoneBlocks) (rest : List ℕ) → ((z i : ℕ) → i < length (get_or zones z no_zone).blocks → length (get_or (get_or zones z no_zone).blocks i []) ≡ b)
     → blocks_in b (map (counted c) zones) (blocks_text zones ++ rest) ≡ Ok (zones, rest)
 blocks_read b c [] rest whole = refl
 blocks_read b c (zone ∷ zones) rest whole =
@@ -108,7 +108,7 @@ at-counted c [] k h = absurd (omega arith)
 at-counted c (zone ∷ zones) zero h = refl
 at-counted c (zone ∷ zones) (suc k) h = at-counted c zones k (omega arith)
 
-can_spell : (ns : ZonedNamespace) → IsNamespace ns → (k : ℕ) → k < length (records ns) → CanSpell ns.capacity (get_or (records ns) k no_record)
+pub can_spell : (ns : ZonedNamespace) → IsNamespace ns → (k : ℕ) → k < length (records ns) → CanSpell ns.capacity (get_or (records ns) k no_record)
 can_spell ns sound k h =
     let there : k < length ns.zones = omega (arith, length-map ns.zones (counted ns.capacity)) in
     let most = sound.shape.capacity_most in

@@ -19,3 +19,4 @@ pub mod Again
 pub mod Spelled
 pub mod Only
 pub mod Loaded
+pub mod Cut

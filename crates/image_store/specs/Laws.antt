@@ -1,6 +1,7 @@
 -- What the text of a namespace is for.
-use Rattle.std.specs.Prelude.{ℕ, ◌≡◌, true, List, Ok}
+use Rattle.std.specs.Prelude.{ℕ, ◌≡◌, ◌≢◌, ◌<◌, true, List, [], ◌++◌, length, take, Ok, Err}
 use Rattle.program_interface.specs.BlockSize.{IsBlockSize}
+use Rattle.image_store.specs.declared.fault.LoadFault.TheVariants as fault
 use Rattle.image_store.specs.Blocks.{AreBytes}
 use Rattle.image_store.specs.Namespace.{ZonedNamespace, IsNamespace}
 use Rattle.image_store.specs.Reading.{namespace_in}
@@ -17,6 +18,16 @@ LoadedIsNamespace = (bytes : List ℕ) (ns : ZonedNamespace) → AreBytes bytes 
 -- no other text loads: what does is the text of the namespace that it stands for
 abbrev pub OnlyTextsLoad : Type 0
 OnlyTextsLoad = (bytes : List ℕ) (ns : ZonedNamespace) → AreBytes bytes → namespace_in bytes ≡ Ok ns → bytes ≡ text ns
+
+-- a text that was cut, wherever, is refused as cut short
+abbrev pub CutTextsAreTruncated : Type 0
+CutTextsAreTruncated =
+    (ns : ZonedNamespace) → IsNamespace ns → (n : ℕ) → n < length (text ns) → namespace_in (take n (text ns)) ≡ Err fault.Truncated
+
+-- and one with more behind it, whatever that is, as trailing
+abbrev pub LongerTextsAreTrailing : Type 0
+LongerTextsAreTrailing =
+    (ns : ZonedNamespace) → IsNamespace ns → (more : List ℕ) → more ≢ [] → namespace_in (text ns ++ more) ≡ Err fault.Trailing
 
 -- each block size of version 1 is one of the device's
 abbrev pub Version1BlocksAreKnown : Type 0

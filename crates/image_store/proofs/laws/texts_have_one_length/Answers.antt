@@ -1,0 +1,8 @@
+use Rattle.image_store.proofs.Cut.{cut_is_truncated, longer_is_trailing}
+use Rattle.image_store.proofs.laws.texts_have_one_length.Goals as goal
+
+pub returns-clause-cut : goal.returns-clause-cut
+returns-clause-cut c = cut_is_truncated
+
+pub returns-clause-longer : goal.returns-clause-longer
+returns-clause-longer c = longer_is_trailing
