@@ -4,7 +4,9 @@ ghost use Rattle.std.specs.Prelude.{[], None};
 
 use crate::files::{FileError, Files};
 use image_store::{DeviceFault, Sink, Source};
+use std::fs::OpenFile;
 use std::io::{BufReader, BufWriter, Read, Write};
+use std::path::Path;
 use std::{fs, io, rt};
 
 /// The files of the system. They don't tell what passes through them.
@@ -67,14 +69,26 @@ impl<R: rt::Files + AllocGlobal> Files for Disk<'_, R> {
     }
 }
 
-/// Gives a file that is written its name.
+/// Gives a file that is written its name. Its bytes are on the disk before it has the name, and the name is
+/// before this returns: where the power fails, the name leads to all of the old bytes or to all of the new.
 fn put_in_place<R: rt::Files>(
     rt: &R,
     path: &str,
     file: &mut FileWriter<R::File>,
 ) -> io::Result<()> {
     file.file.flush()?;
-    fs::rename(rt, file.name.as_str(), path)
+    file.file.get_ref().sync_all()?;
+    fs::rename(rt, file.name.as_str(), path)?;
+    sync_folder(rt, path)
+}
+
+/// Brings the names in the folder of a file to the disk.
+fn sync_folder<R: rt::Files>(rt: &R, path: &str) -> io::Result<()> {
+    let folder = match Path::new(path).parent() {
+        Some(folder) if !folder.as_str().is_empty() => folder.as_str(),
+        _ => ".",
+    };
+    fs::open(rt, folder)?.sync_all()
 }
 
 /// A file of the system that is read in pieces.
