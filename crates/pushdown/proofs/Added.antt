@@ -11,6 +11,8 @@ use Rattle.emit_append.specs.OutputBlocks.{AreBytes as AllAreBytes}
 use Rattle.image_store.specs.Blocks.{AreBytes, as_blocks, block_count, blocks_of, bytes_of}
 use Rattle.image_store.specs.Geometry.{Shape}
 use Rattle.image_store.specs.Namespace.{ZoneBlocks, ZonedNamespace, appended, grown, no_zone, shape, with_zone, zone_at}
+use Rattle.zns_commands.specs.Kept.{Grows}
+use Rattle.zns_commands.proofs.KeptBlocks.{grows_not, set_grows_at}
 use Rattle.pushdown.specs.Machine.{added}
 use Rattle.pushdown.proofs.Bytes.{AreBlocks, all_append, by_index, from_index}
 
@@ -55,6 +57,18 @@ added_shape ns z [] = refl
 added_shape ns z (b ∷ bs) =
     let of : ℕ → Shape = λ n. record { block = ns.block; zones = n; size = ns.size; capacity = ns.capacity; limits = ns.limits } in
     ap of (length-set ns.zones z (grown ns.capacity (zone_at ns z) (b ∷ bs)))
+
+pub added_block : (ns : ZonedNamespace) (z : ℕ) (blocks : List (List ℕ)) → (added ns z blocks).block ≡ ns.block
+added_block ns z blocks = ap (λ (x : Shape). x.block) (added_shape ns z blocks)
+
+pub added_capacity : (ns : ZonedNamespace) (z : ℕ) (blocks : List (List ℕ)) → (added ns z blocks).capacity ≡ ns.capacity
+added_capacity ns z blocks = ap (λ (x : Shape). x.capacity) (added_shape ns z blocks)
+
+pub added_grows : (ns : ZonedNamespace) (z other : ℕ) (blocks : List (List ℕ)) → Grows (zone_at ns other).blocks (zone_at (added ns z blocks) other).blocks
+added_grows ns z other [] = grows_not (zone_at ns other).blocks
+added_grows ns z other (b ∷ bs) =
+    set_grows_at ns.zones z other (grown ns.capacity (zone_at ns z) (b ∷ bs))
+    (λ same is. record { more = b ∷ bs; is = ap (λ (n : ℕ). (get_or ns.zones n no_zone).blocks ++ b ∷ bs) same })
 
 -- ---- whole blocks, and their bytes
 

@@ -1,23 +1,30 @@
--- The turns of two runs come to the same in either order.
-use Rattle.std.proofs.Common.{◌≡◌, ◌≢◌, ℕ, zero, suc, List, [], ◌∷◌, set, Option, Some, None, refl, ap, sym, ◌∙◌, get_or-set_other}
-use Rattle.reg_domain.specs.Domain.{Operations}
-use Rattle.verifier.specs.Laws.{AcceptedNeverTraps}
-use Rattle.image_store.specs.Namespace.{ZoneBlocks, ZonedNamespace, grown, no_zone, zone_at}
-use Rattle.pushdown.specs.Events.{state_after}
-use Rattle.pushdown.specs.Laws.{Commutes, TurnsCommute}
-use Rattle.pushdown.specs.Machine.{added, place_left, take_turn, turned, turned_at}
-use Rattle.pushdown.specs.Outcome.{Turn}
-use Rattle.pushdown.specs.State.{Place, State, new_state, place_at}
+-- Two turns of different runs come to the same in either order.
+use Rattle.std.proofs.Common.{◌≡◌, ◌≢◌, ℕ, false, List, [], ◌∷◌, set, get_or, Option, Some, None, refl, ap, sym, subst, ◌∙◌, inl, inr, get_or-set_other}
+use Rattle.std.specs.Prelude.{is_some}
+use Rattle.std.proofs.lemmas.Bool.Decides.{eqb_tells}
+use Rattle.std.proofs.lemmas.List.{set_comm, set-get_or}
+use Rattle.image_store.specs.Namespace.{ZoneBlocks, ZonedNamespace, grown, no_zone}
+use Rattle.pushdown.specs.Admission.{Loaded, SameProgram}
+use Rattle.pushdown.specs.Draining.{state_after_turns}
+use Rattle.pushdown.specs.Machine.{added, keeping, place_left, slots_left, take_turn, turn_state, turned, turned_at}
+use Rattle.pushdown.specs.Outcome.{Ending, Turn}
+use Rattle.pushdown.specs.State.{Place, State, place_at, program_at}
+use Rattle.pushdown.proofs.Changes.{after_turn}
 use Rattle.pushdown.proofs.Foreign.{turned_leaves}
-use Rattle.pushdown.proofs.Places.{AreApart}
-use Rattle.pushdown.proofs.States.{reached}
+use Rattle.pushdown.proofs.Needed.{left_program, same_program}
+use Rattle.pushdown.proofs.Places.{AreApart, turned_apart, turned_older}
 
-set_both : {X : Type 0} (xs : List X) (i j : ℕ) (x y : X) → i ≢ j → set (set xs i x) j y ≡ set (set xs j y) i x
-set_both [] i j x y differs = refl
-set_both (z ∷ zs) zero zero x y differs = absurd (differs refl)
-set_both (z ∷ zs) zero (suc j) x y differs = refl
-set_both (z ∷ zs) (suc i) zero x y differs = refl
-set_both (z ∷ zs) (suc i) (suc j) x y differs = ap (λ ws. z ∷ ws) (set_both zs i j x y (λ same. differs (ap suc same)))
+-- ---- two elements of a list are changed
+
+changed_both : {X : Type 0} (xs : List X) (i j : ℕ) (f g : X → X) (d : X) → i ≢ j
+    → set (set xs i (f (get_or xs i d))) j (g (get_or (set xs i (f (get_or xs i d))) j d))
+    ≡ set (set xs j (g (get_or xs j d))) i (f (get_or (set xs j (g (get_or xs j d))) i d))
+changed_both xs i j f g d differs =
+    let one = f (get_or xs i d) in
+    let other = g (get_or xs j d) in
+    ap (λ x. set (set xs i one) j (g x)) (get_or-set_other xs i j one d (λ same. differs (sym same)))
+    ∙ set_comm xs i j one other differs
+    ∙ ap (λ x. set (set xs j other) i (f x)) (sym (get_or-set_other xs j i other d differs))
 
 -- blocks for two zones
 added_both : (ns : ZonedNamespace) (a b : ℕ) (first second : List (List ℕ)) → a ≢ b
@@ -25,51 +32,89 @@ added_both : (ns : ZonedNamespace) (a b : ℕ) (first second : List (List ℕ)) 
 added_both ns a b [] second differs = refl
 added_both ns a b (x ∷ xs) [] differs = refl
 added_both ns a b (x ∷ xs) (y ∷ ys) differs =
-    let put : List ZoneBlocks → ZonedNamespace = λ zones. record ns { zones = zones } in
-    let one : ZoneBlocks → ZoneBlocks = λ zone. grown ns.capacity zone (x ∷ xs) in
-    let two : ZoneBlocks → ZoneBlocks = λ zone. grown ns.capacity zone (y ∷ ys) in
-    let at_a = zone_at ns a in
-    let at_b = zone_at ns b in
-    let seen_b = get_or-set_other ns.zones a b (one at_a) no_zone (λ same. differs (sym same)) in
-    let seen_a = get_or-set_other ns.zones b a (two at_b) no_zone differs in
-    ap (λ zone. put (set (set ns.zones a (one at_a)) b (two zone))) seen_b
-    ∙ ap put (set_both ns.zones a b (one at_a) (two at_b) differs)
-    ∙ ap (λ zone. put (set (set ns.zones b (two at_b)) a (one zone))) (sym seen_a)
+    ap (λ (zones : List ZoneBlocks). record ns { zones = zones })
+    (changed_both ns.zones a b (λ zone. grown ns.capacity zone (x ∷ xs)) (λ zone. grown ns.capacity zone (y ∷ ys)) no_zone differs)
 
--- ---- what a turn leaves, by what stands at its run's place
+-- ---- results for two slots, of which both are one only where it has no program
 
-abbrev namespace_by : ZonedNamespace → Place → List Turn → ZonedNamespace
-namespace_by ns place [] = ns
-namespace_by ns place (turn ∷ later) = added ns place.destination turn.blocks
+abbrev pub kept : List (Option Loaded) → ℕ → Option (List ℕ) → List (Option Loaded)
+kept slots slot bytes = set slots slot (keeping (get_or slots slot None) bytes)
 
-abbrev namespace_after : ZonedNamespace → Option Place → ZonedNamespace
-namespace_after ns None = ns
-namespace_after ns (Some place) = namespace_by ns place place.turns
+abbrev pub Empty : List (Option Loaded) → ℕ → Type 0
+Empty slots slot = is_some (get_or slots slot None) ≡ false
 
-abbrev places_by : List (Option Place) → ℕ → Place → List Turn → List (Option Place)
-places_by places run place [] = places
-places_by places run place (turn ∷ later) = set places run (place_left place later turn.ending)
+nothing : (loaded : Option Loaded) (bytes : Option (List ℕ)) → is_some loaded ≡ false → keeping loaded bytes ≡ loaded
+nothing None bytes none = refl
+nothing (Some loaded) bytes none = cc
 
-abbrev places_after : List (Option Place) → ℕ → Option Place → List (Option Place)
-places_after places run None = places
-places_after places run (Some place) = places_by places run place place.turns
+nothing_kept : (slots : List (Option Loaded)) (slot : ℕ) (bytes : Option (List ℕ)) → Empty slots slot → kept slots slot bytes ≡ slots
+nothing_kept slots slot bytes none = ap (set slots slot) (nothing (get_or slots slot None) bytes none) ∙ set-get_or slots slot None
 
-taken_namespace : (s : State) (run : ℕ) (place : Place) (turns : List Turn) → (take_turn s run place turns).state.namespace ≡ namespace_by s.namespace place turns
-taken_namespace s run place [] = refl
-taken_namespace s run place (turn ∷ later) = refl
+kept_both : (slots : List (Option Loaded)) (i j : ℕ) (x y : Option (List ℕ)) → (i ≡ j → Empty slots i)
+    → kept (kept slots i x) j y ≡ kept (kept slots j y) i x
+kept_both slots i j x y empty = elim (eqb_tells i j) [
+  | inl same ↦
+      let at_i = empty same.1 in
+      let at_j = subst (Empty slots) same.1 at_i in
+      ap (λ (s : List (Option Loaded)). kept s j y) (nothing_kept slots i x at_i)
+      ∙ nothing_kept slots j y at_j
+      ∙ sym (nothing_kept slots i x at_i)
+      ∙ ap (λ (s : List (Option Loaded)). kept s i x) (sym (nothing_kept slots j y at_j))
+  | inr other ↦ changed_both slots i j (λ loaded. keeping loaded x) (λ loaded. keeping loaded y) None other.1
+]
 
-turned_namespace : (s : State) (run : ℕ) (at : Option Place) → (turned_at s run at).state.namespace ≡ namespace_after s.namespace at
-turned_namespace s run None = refl
-turned_namespace s run (Some place) = taken_namespace s run place place.turns
+abbrev slots_by : List (Option Loaded) → Place → Option Ending → List (Option Loaded)
+slots_by slots place None = slots
+slots_by slots place (Some ending) = kept slots place.slot ending.result
 
-taken_places : (s : State) (run : ℕ) (place : Place) (turns : List Turn) → (take_turn s run place turns).state.places ≡ places_by s.places run place turns
-taken_places s run place [] = refl
-taken_places s run place (turn ∷ later) = refl
+slots_are : (s : State) (place : Place) (ending : Option Ending) → slots_left s place ending ≡ slots_by s.slots place ending
+slots_are s place None = refl
+slots_are s place (Some ending) = refl
 
-turned_places : (s : State) (run : ℕ) (at : Option Place) → (turned_at s run at).state.places ≡ places_after s.places run at
-turned_places s run None = refl
-turned_places s run (Some place) = taken_places s run place place.turns
+slots_both : (slots : List (Option Loaded)) (p q : Place) (x y : Option Ending) → (p.slot ≡ q.slot → Empty slots p.slot)
+    → slots_by (slots_by slots p x) q y ≡ slots_by (slots_by slots q y) p x
+slots_both slots p q None y empty = refl
+slots_both slots p q (Some x) None empty = refl
+slots_both slots p q (Some x) (Some y) empty = kept_both slots p.slot q.slot x.result y.result empty
 
+-- ---- two turns
+
+same_state : (s t : State) → s.namespace ≡ t.namespace → s.slots ≡ t.slots → s.places ≡ t.places → s ≡ t
+same_state s t same_namespace same_slots same_places =
+    let made : ZonedNamespace → List (Option Loaded) → List (Option Place) → State =
+    λ ns slots places. record { namespace = ns; slots = slots; places = places } in
+    ap (λ (ns : ZonedNamespace). made ns s.slots s.places) same_namespace
+    ∙ ap (λ (slots : List (Option Loaded)). made t.namespace slots s.places) same_slots
+    ∙ ap (made t.namespace t.slots) same_places
+
+-- two runs that are apart
+record AreTwo (s : State) (p q : Place) : Type 0 where
+  zones : p.destination ≢ q.destination
+  slots : p.slot ≡ q.slot → Empty s.slots p.slot
+
+both_taken : (s : State) (a b : ℕ) (p q : Place) (ps qs : List Turn) → a ≢ b → AreTwo s p q
+    → (take_turn (take_turn s a p ps).state b q qs).state ≡ (take_turn (take_turn s b q qs).state a p ps).state
+both_taken s a b p q [] qs differs two = refl
+both_taken s a b p q (turn ∷ later) [] differs two = refl
+both_taken s a b p q (turn ∷ later) (other ∷ more) differs two =
+    let first = turn_state s a p turn later in
+    let second = turn_state s b q other more in
+    same_state (turn_state first b q other more) (turn_state second a p turn later)
+    (added_both s.namespace p.destination q.destination turn.blocks other.blocks two.zones)
+    (slots_are first q other.ending
+    ∙ ap (λ (slots : List (Option Loaded)). slots_by slots q other.ending) (slots_are s p turn.ending)
+    ∙ slots_both s.slots p q turn.ending other.ending two.slots
+    ∙ ap (λ (slots : List (Option Loaded)). slots_by slots p turn.ending) (sym (slots_are s q other.ending))
+    ∙ sym (slots_are second p turn.ending))
+    (set_comm s.places a b (place_left p later turn.ending) (place_left q more other.ending) differs)
+
+both_turned : (s : State) (a b : ℕ) (p q : Option Place) → a ≢ b → ((x y : Place) → p ≡ Some x → q ≡ Some y → AreTwo s x y)
+    → (turned_at (turned_at s a p).state b q).state ≡ (turned_at (turned_at s b q).state a p).state
+both_turned s a b None q differs two = refl
+both_turned s a b (Some x) None differs two = refl
+both_turned s a b (Some x) (Some y) differs two = both_taken s a b x y x.turns y.turns differs (two x y refl refl)
+
+-- an answer is the run's alone
 taken_answer : (s t : State) (run : ℕ) (place : Place) (turns : List Turn) → (take_turn s run place turns).answer ≡ (take_turn t run place turns).answer
 taken_answer s t run place [] = refl
 taken_answer s t run place (turn ∷ later) = refl
@@ -78,76 +123,50 @@ turned_answer : (s t : State) (run : ℕ) (at : Option Place) → (turned_at s r
 turned_answer s t run None = refl
 turned_answer s t run (Some place) = taken_answer s t run place place.turns
 
--- ---- in either order
+pub answer_after : (s : State) (a b : ℕ) → b ≢ a → (turned (turned s a).state b).answer ≡ (turned s b).answer
+answer_after s a b differs =
+    let t = (turned s a).state in
+    ap (λ (at : Option Place). (turned_at t b at).answer) (turned_leaves s a b differs) ∙ turned_answer t s b (place_at s b)
 
-by_both : (ns : ZonedNamespace) (p q : Place) (ps qs : List Turn) → p.destination ≢ q.destination
-    → namespace_by (namespace_by ns p ps) q qs ≡ namespace_by (namespace_by ns q qs) p ps
-by_both ns p q [] qs differs = refl
-by_both ns p q (turn ∷ later) [] differs = refl
-by_both ns p q (turn ∷ later) (other ∷ more) differs = added_both ns p.destination q.destination turn.blocks other.blocks differs
+-- runs of destinations of their own, which share no slot that has a program
+pub record OwnAll (s : State) : Type 0 where
+  pub apart : AreApart s.places
+  pub slots : (j k : ℕ) (p q : Place) → place_at s j ≡ Some p → place_at s k ≡ Some q → j ≢ k → p.slot ≡ q.slot → Empty s.slots p.slot
 
-namespace_both : (ns : ZonedNamespace) (p q : Option Place) → ((x y : Place) → p ≡ Some x → q ≡ Some y → x.destination ≢ y.destination)
-    → namespace_after (namespace_after ns p) q ≡ namespace_after (namespace_after ns q) p
-namespace_both ns None q differs = refl
-namespace_both ns (Some x) None differs = refl
-namespace_both ns (Some x) (Some y) differs = by_both ns x y x.turns y.turns (differs x y refl refl)
+pub state_of_both : (s : State) (a b : ℕ) → OwnAll s → a ≢ b → (turned (turned s a).state b).state ≡ (turned (turned s b).state a).state
+state_of_both s a b own differs =
+    let p = place_at s a in
+    let q = place_at s b in
+    ap (λ (at : Option Place). (turned_at (turned s a).state b at).state) (turned_leaves s a b (λ same. differs (sym same)))
+    ∙ both_turned s a b p q differs (λ x y at_a at_b. record {
+      zones = λ same. differs (own.apart.apart a b x y at_a at_b same);
+      slots = own.slots a b x y at_a at_b differs;
+    })
+    ∙ ap (λ (at : Option Place). (turned_at (turned s b).state a at).state) (sym (turned_leaves s b a differs))
 
-places_set : (places : List (Option Place)) (i j : ℕ) (x y : Place) (xs ys : List Turn) → i ≢ j
-    → places_by (places_by places i x xs) j y ys ≡ places_by (places_by places j y ys) i x xs
-places_set places i j x y [] ys differs = refl
-places_set places i j x y (turn ∷ later) [] differs = refl
-places_set places i j x y (turn ∷ later) (other ∷ more) differs =
-    set_both places i j (place_left x later turn.ending) (place_left y more other.ending) differs
+-- ---- turns leave each slot its program
 
-places_both : (places : List (Option Place)) (i j : ℕ) (p q : Option Place) → i ≢ j
-    → places_after (places_after places i p) j q ≡ places_after (places_after places j q) i p
-places_both places i j None q differs = refl
-places_both places i j (Some x) None differs = refl
-places_both places i j (Some x) (Some y) differs = places_set places i j x y x.turns y.turns differs
+turn_keeps : (s : State) (run : ℕ) (slot : ℕ) → SameProgram (program_at s slot) (program_at (turned s run).state slot)
+turn_keeps s run slot =
+    after_turn (λ (t : State). SameProgram (program_at s slot) (program_at t slot)) s run (same_program (program_at s slot))
+    (λ place turn later at is. left_program s place turn.ending slot)
 
-module _ (s : State) where
-  -- after a turn of another run the place is as before
-  other_place : (first second : ℕ) → second ≢ first → place_at (turned s first).state second ≡ place_at s second
-  other_place first second differs = turned_leaves s first (place_at s first) second differs
+pub turns_keep : (runs : List ℕ) (s : State) (slot : ℕ) → SameProgram (program_at s slot) (program_at (state_after_turns runs s) slot)
+turns_keep [] s slot = same_program (program_at s slot)
+turns_keep (run ∷ runs) s slot =
+    let first = turn_keeps s run slot in
+    let later = turns_keep runs (turned s run).state slot in
+    record { loaded = later.loaded ∙ first.loaded; program = later.program ∙ first.program; limit = later.limit ∙ first.limit }
 
-  answer_after : (first second : ℕ) → second ≢ first → (turned (turned s first).state second).answer ≡ (turned s second).answer
-  answer_after first second differs =
-      let t = (turned s first).state in
-      ap (λ (at : Option Place). (turned_at t second at).answer) (other_place first second differs)
-      ∙ turned_answer t s second (place_at s second)
-
-  namespace_of_both : (first second : ℕ) → second ≢ first
-      → (turned (turned s first).state second).state.namespace ≡ namespace_after (namespace_after s.namespace (place_at s first)) (place_at s second)
-  namespace_of_both first second differs =
-      let t = (turned s first).state in
-      ap (λ (at : Option Place). (turned_at t second at).state.namespace) (other_place first second differs)
-      ∙ turned_namespace t second (place_at s second)
-      ∙ ap (λ (ns : ZonedNamespace). namespace_after ns (place_at s second)) (turned_namespace s first (place_at s first))
-
-  places_of_both : (first second : ℕ) → second ≢ first
-      → (turned (turned s first).state second).state.places ≡ places_after (places_after s.places first (place_at s first)) second (place_at s second)
-  places_of_both first second differs =
-      let t = (turned s first).state in
-      ap (λ (at : Option Place). (turned_at t second at).state.places) (other_place first second differs)
-      ∙ turned_places t second (place_at s second)
-      ∙ ap (λ (places : List (Option Place)). places_after places second (place_at s second)) (turned_places s first (place_at s first))
-
-  commutes : AreApart s.places → (first second : ℕ) → first ≢ second → Commutes s first second
-  commutes apart first second differs =
-      let back : second ≢ first = λ same. differs (sym same) in
-      let p = place_at s first in
-      let q = place_at s second in
-      record {
-        first_answer = answer_after second first differs;
-        second_answer = answer_after first second back;
-        both = record {
-          namespace = namespace_of_both first second back
-              ∙ namespace_both s.namespace p q (λ x y at_x at_y same. differs (apart.apart first second x y at_x at_y same))
-              ∙ sym (namespace_of_both second first differs);
-          places = places_of_both first second back ∙ places_both s.places first second p q differs ∙ sym (places_of_both second first differs);
-        };
-      }
-
-pub turns_commute : {D : Type 0} (operations : Operations D) → AcceptedNeverTraps operations → TurnsCommute operations
-turns_commute operations never ns events is are first second differs =
-    commutes (state_after operations events (new_state ns)) (reached operations never ns events is are).apart first second differs
+pub stays_own : (s : State) (run : ℕ) → OwnAll s → OwnAll (turned s run).state
+stays_own s run own =
+    let t = (turned s run).state in
+    let older = turned_older s run in
+    record {
+      apart = turned_apart s run own.apart;
+      slots = λ j k p q at_j at_k differs same.
+          let old_j = older.was j p at_j in
+          let old_k = older.was k q at_k in
+          let before = own.slots j k old_j.0 old_k.0 old_j.1 old_k.1 differs (old_j.3 ∙ same ∙ sym old_k.3) in
+          (turn_keeps s run p.slot).loaded ∙ subst (Empty s.slots) old_j.3 before;
+    }

@@ -1,65 +1,44 @@
 -- A run does its turns, whatever comes between.
-use Rattle.std.proofs.Common.{◌≡◌, ◌≢◌, ℕ, zero, suc, ◌+◌, ◌<◌, Bool, true, false, List, [], ◌∷◌, ◌++◌, length, get_or, take, drop, Option, Some, None, Result, Ok, Err, refl, ap, sym, subst, ◌∙◌, arith, append_assoc, get_or-set_other, get_or-set_same}
-use Rattle.std.proofs.lemmas.Bool.{eqb-true, eqb-false}
+use Rattle.std.proofs.Common.{◌≡◌, ◌≢◌, ℕ, zero, suc, ◌+◌, ◌<◌, Bool, true, false, List, [], ◌∷◌, ◌++◌, length, get_or, take, drop, Option, Some, None, refl, ap, sym, subst, ◌∙◌, arith, append_assoc, get_or-set_other, get_or-set_same}
+use Rattle.std.proofs.lemmas.Bool.{eqb-true}
 use Rattle.std.proofs.lemmas.List.{append-nil}
 use Rattle.zone_state.specs.declared.state.ZoneState.TheVariants.{Offline}
-use Rattle.zone_state.specs.declared.status.Status.{Status}
 use Rattle.zone_resources.specs.Holds.{is_destination}
-use Rattle.nvme_entry.specs.Entry.{decoded}
-use Rattle.nvme_entry.specs.declared.command.Command.{Command}
-use Rattle.nvme_entry.specs.declared.command.Command.TheVariants as command
+use Rattle.zone_resources.specs.declared.holds.Holds.{Holds}
 use Rattle.reg_domain.specs.Domain.{Operations}
 use Rattle.image_store.specs.Namespace.{ZoneBlocks, ZonedNamespace, zone_at}
-use Rattle.zns_commands.specs.Laws.{Commanded, Failed}
 use Rattle.zns_commands.proofs.HeldZones.{destinations_are_left}
 use Rattle.pushdown.specs.Admission.{SameProgram}
-use Rattle.pushdown.specs.Answers.{Happening, Submission}
+use Rattle.pushdown.specs.Answers.{Happening}
 use Rattle.pushdown.specs.Events.{Occurrence, state_after}
-use Rattle.pushdown.specs.Machine.{added, happens, keeping, place_left, slots_left, submitted, take_turn, turn_answer, turned, turned_at, why_not_run}
+use Rattle.pushdown.specs.Machine.{added, happens, keeping, place_left, slots_left, turn_answer, turned}
 use Rattle.pushdown.specs.Outcome.{Ending, Turn, appended_by}
 use Rattle.pushdown.specs.Pushdown.{EndsWithLast, blocks_at, is_turn_of, no_turn, one_if, own_turns}
-use Rattle.pushdown.specs.State.{Place, State, free_run, holds_of, place_at, program_at}
+use Rattle.pushdown.specs.State.{Place, State, place_at, program_at}
 use Rattle.pushdown.specs.declared.event.Event.{Event}
 use Rattle.pushdown.specs.declared.event.Event.TheVariants as event
 use Rattle.pushdown.proofs.Added.{added_leaves, is_added}
-use Rattle.pushdown.proofs.Foreign.{foreign_event, load_keeps, result_keeps, start_namespace, there, turn_takes_first, turned_is}
+use Rattle.pushdown.proofs.Changes.{after_event}
+use Rattle.pushdown.proofs.Foreign.{foreign_event, not_own, there, turn_takes_first, turned_is}
 use Rattle.pushdown.proofs.Needed.{left_program}
 use Rattle.pushdown.proofs.Places.{AreApart, event_apart, held_at}
 
 -- ---- a foreign event leaves the destination
 
-module _ {D : Type 0} (operations : Operations D) where
-  abbrev AtZone : ℕ → ZonedNamespace → ZoneBlocks
-  AtZone z ns = zone_at ns z
-
-  submitted_zone : (starved : Bool) (sub : Submission) (s : State) (asked : Result Command Status) (d : ℕ)
-      → is_destination (holds_of s) d ≡ true → zone_at (submitted operations starved sub s asked).state.namespace d ≡ zone_at s.namespace d
-  submitted_zone starved sub s (Err status) d held = refl
-  submitted_zone starved sub s (Ok (command.Standard c)) d held = destinations_are_left (Commanded (holds_of s) c sub.payload) s.namespace d held
-  submitted_zone starved sub s (Ok (command.Load load)) d held = ap (AtZone d) (load_keeps operations starved sub s load).namespace
-  submitted_zone starved sub s (Ok (command.Run order)) d held = ap (AtZone d) (start_namespace (why_not_run sub s order) (free_run s) sub s order)
-  submitted_zone starved sub s (Ok (command.Result slot)) d held = ap (λ (t : State). zone_at t.namespace d) (result_keeps sub s slot)
-
-  taken_zone : (s : State) (other : ℕ) (p : Place) (turns : List Turn) (d : ℕ) → d ≢ p.destination
-      → zone_at (take_turn s other p turns).state.namespace d ≡ zone_at s.namespace d
-  taken_zone s other p [] d differs = refl
-  taken_zone s other p (turn ∷ later) d differs = added_leaves s.namespace p.destination d turn.blocks differs
-
-  turned_zone : (s : State) (other : ℕ) (at : Option Place) (run : ℕ) (place : Place) → AreApart s.places → place_at s run ≡ Some place
-      → place_at s other ≡ at → run ≢ other → zone_at (turned_at s other at).state.namespace place.destination ≡ zone_at s.namespace place.destination
-  turned_zone s other None run place h here is differs = refl
-  turned_zone s other (Some p) run place h here is differs =
-      taken_zone s other p p.turns place.destination (λ same. differs (h.apart run other place p here is same))
-
-  foreign_zone : (s : State) (starved : Bool) (e : Event) (run : ℕ) (place : Place) → is_turn_of run e ≡ false → AreApart s.places
-      → place_at s run ≡ Some place → zone_at (happens operations s starved e).state.namespace place.destination ≡ zone_at s.namespace place.destination
-  foreign_zone s starved (event.Submit queue entry payload) run place foreign h at =
-      submitted_zone starved (record { queue = queue; entry = entry; payload = payload.items }) s (decoded entry) place.destination
-      (held_at s.places run place at)
-  foreign_zone s starved (event.Turn other) run place foreign h at =
-      turned_zone s other (place_at s other) run place h at refl (λ same. eqb-false other run foreign (sym same))
-  foreign_zone s starved (event.Fault zone state) run place foreign h at =
-      destinations_are_left (Failed (holds_of s) zone state) s.namespace place.destination (held_at s.places run place at)
+foreign_zone : {D : Type 0} (operations : Operations D) (s : State) (starved : Bool) (e : Event) (run : ℕ) (place : Place) → is_turn_of run e ≡ false
+    → AreApart s.places → place_at s run ≡ Some place
+    → zone_at (happens operations s starved e).state.namespace place.destination ≡ zone_at s.namespace place.destination
+foreign_zone operations s starved e run place foreign h at =
+    let d = place.destination in
+    after_event operations (λ (t : State). zone_at t.namespace d ≡ zone_at s.namespace d) s starved e (record {
+      same = refl;
+      step = λ step same is.
+          destinations_are_left step s.namespace d (subst (λ (holds : Holds). is_destination holds d ≡ true) (sym same) (held_at s.places run place at));
+      load = λ sub load t are takes. refl;
+      start = λ sub order first passed free some. refl;
+      turn = λ other p turn later is there first.
+          added_leaves s.namespace p.destination d turn.blocks (λ same. not_own run other e is foreign (h.apart run other place p at there same));
+    })
 
 -- ---- a run through events
 
@@ -231,5 +210,5 @@ next_is s now run place turns k stands less =
           ∙ get_or-set_other now.places run other (place_left here later turn.ending) None differs;
       slots_kept = λ slot differs. ap (λ (h : Happening). program_at h.state slot) took ∙ left_other now here turn.ending slot differs;
       program_left = subst (λ (h : Happening). SameProgram (program_at now place.slot) (program_at h.state place.slot)) (sym took)
-          (left_program place now here turn.ending);
+          (left_program now here turn.ending place.slot);
     }

@@ -4,9 +4,7 @@ use Rattle.std.specs.Prelude.{is_some, Vec}
 use Rattle.std.specs.declared.alloc.Global.{Global}
 use Rattle.std.proofs.lemmas.Nat.{mul-le}
 use Rattle.zone_state.specs.State.{is_open}
-use Rattle.zone_state.specs.Zone.{IsZone}
-use Rattle.zone_state.specs.declared.state.ZoneState.{ZoneState}
-use Rattle.zone_state.specs.declared.state.ZoneState.TheVariants.{ImplicitlyOpened, ReadOnly, Full, Offline}
+use Rattle.zone_state.specs.declared.state.ZoneState.TheVariants.{Offline}
 use Rattle.zone_state.specs.declared.status.Status.{Status}
 use Rattle.zone_state.specs.declared.status.TheConstants.Status.{DESTINATION_NOT_OPEN}
 use Rattle.nvme_entry.specs.declared.command.Command.TheVariants as command
@@ -16,6 +14,7 @@ use Rattle.interp.specs.Run.{Run}
 use Rattle.reg_domain.specs.Domain.{Operations}
 use Rattle.verifier.specs.Laws.{AcceptedNeverTraps}
 use Rattle.image_store.specs.Namespace.{ZoneBlocks, ZonedNamespace, IsNamespace, no_zone, shape, zone_at}
+use Rattle.image_store.proofs.Images.{within_capacity}
 use Rattle.zns_commands.proofs.PassedChecks.{demanded, passed}
 use Rattle.pushdown.specs.Admission.{admission_checks, source_blocks, task_of}
 use Rattle.pushdown.specs.Answers.{Happening, Submission, plain}
@@ -112,6 +111,7 @@ module _ {D : Type 0} (operations : Operations D) (s : State) (queue : ℕ) (ent
       appended = rw same_blocks at stands.appended;
       answer = next.answer;
       then_appended = rw same_blocks at next.then_appended;
+      then_namespace = next.namespace;
       then_left = next.then_left;
       then_slots = next.then_slots;
     }
@@ -140,12 +140,6 @@ module _ {D : Type 0} (operations : Operations D) where
 
 -- ---- the completion's dwords
 
-zone_most : (state : ZoneState) (blocks capacity : ℕ) → IsZone state blocks capacity → blocks ≤ capacity
-zone_most ImplicitlyOpened blocks capacity is = omega (arith, is.1.1)
-zone_most ReadOnly blocks capacity is = is.1
-zone_most Full blocks capacity is = is.1
-zone_most state blocks capacity is = omega (arith, is.1)
-
 blocks_most : (capacity : ℕ) (zones : List ZoneBlocks) → ((z : ℕ) → z < length zones → length (get_or zones z no_zone).blocks ≤ capacity)
     → (z : ℕ) → length (get_or zones z no_zone).blocks ≤ capacity
 blocks_most capacity [] each z = omega arith
@@ -155,7 +149,7 @@ blocks_most capacity (x ∷ xs) each (suc z) = blocks_most capacity xs (λ k les
 written_most : (ns : ZonedNamespace) (z : ℕ) → IsNamespace ns → length (zone_at ns z).blocks ≤ ns.capacity
 written_most ns z is =
     blocks_most ns.capacity ns.zones
-    (λ k less. zone_most (zone_at ns k).state (length (zone_at ns k).blocks) ns.capacity (is.fits k less)) z
+    (λ k less. within_capacity (zone_at ns k).state (length (zone_at ns k).blocks) ns.capacity (is.fits k less)) z
 
 -- ---- the theorem
 

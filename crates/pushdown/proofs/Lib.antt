@@ -1,6 +1,8 @@
 pub mod Added
+pub mod AnyOrder
 pub mod BlockRuns
 pub mod Bytes
+pub mod Changes
 pub mod Commuting
 pub mod Doing
 pub mod Drained
@@ -13,6 +15,7 @@ pub mod Foreign
 pub mod Headline
 pub mod Lasting
 pub mod Loads
+pub mod Memory
 pub mod Needed
 pub mod Outcomes
 pub mod Parts
@@ -23,6 +26,7 @@ pub mod Rests
 pub mod Room
 pub mod Rooms
 pub mod RunsRead
+pub mod SameTurns
 pub mod Spelled
 pub mod States
 pub mod Views

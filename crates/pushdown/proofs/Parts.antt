@@ -6,7 +6,7 @@ use Rattle.pushdown.specs.Answers.{Taken, and_then}
 use Rattle.pushdown.specs.Draining.{AreLowest, Drains, answers_to_turns, lowest_run, state_after_turns}
 use Rattle.pushdown.specs.Events.{Occurrence, answers_to, state_after}
 use Rattle.pushdown.specs.Machine.{happens, turned}
-use Rattle.pushdown.specs.Parts.{DrainedByTurns, DrainedInOneWay, InParts, OneAnswerEach, ServedAndDrained, ServedInParts, turns_of}
+use Rattle.pushdown.specs.Parts.{DrainedByTurns, DrainedInOneWay, InParts, OneAnswerEach, ServedAndDrained, ServedInParts, turn_events}
 use Rattle.pushdown.specs.State.{State}
 use Rattle.pushdown.specs.declared.event.Event.{Event}
 
@@ -69,11 +69,11 @@ module _ {D : Type 0} (operations : Operations D) where
 
   -- ---- turns as events
 
-  pub turns_state : (runs : List ℕ) (s : State) → state_after_turns runs s ≡ state_after operations (turns_of runs) s
+  pub turns_state : (runs : List ℕ) (s : State) → state_after_turns runs s ≡ state_after operations (turn_events runs) s
   turns_state [] s = refl
   turns_state (run ∷ runs) s = turns_state runs (turned s run).state
 
-  pub turns_answers : (runs : List ℕ) (s : State) → answers_to_turns runs s ≡ answers_to operations (turns_of runs) s
+  pub turns_answers : (runs : List ℕ) (s : State) → answers_to_turns runs s ≡ answers_to operations (turn_events runs) s
   turns_answers [] s = refl
   turns_answers (run ∷ runs) s =
       ap (λ (answers : List Taken). (turned s run).answer ∷ answers) (turns_answers runs (turned s run).state)
@@ -84,7 +84,7 @@ module _ {D : Type 0} (operations : Operations D) where
   pub served_and_drained : ServedAndDrained operations
   served_and_drained events old between new before then taken served drained =
       let runs = drained.runs in
-      let turns = turns_of runs in
+      let turns = turn_events runs in
       record {
         occurrences = served.occurrences;
         are = served.are;

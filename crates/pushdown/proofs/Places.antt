@@ -1,30 +1,26 @@
 -- No two active runs append to one zone.
-use Rattle.std.proofs.Common.{◌≡◌, ◌≢◌, ℕ, zero, suc, ◌<◌, Bool, true, false, List, [], ◌∷◌, length, set, map, get_or, replicate, Option, Some, None, Result, Ok, Err, refl, ap, sym, subst, ◌∙◌, arith, inl, inr, get_or-set_other, get_or-set_same}
+use Rattle.std.proofs.Common.{◌≡◌, ◌≢◌, ℕ, zero, suc, ◌<◌, Bool, true, false, List, length, set, map, get_or, replicate, Option, Some, None, refl, ap, sym, subst, ◌∙◌, arith, inl, inr, get_or-set_other, get_or-set_same}
 use Rattle.std.specs.Prelude.{not, is_some}
 use Rattle.std.specs.List.{list_any}
 use Rattle.std.proofs.lemmas.Bool.{eq-eqb}
 use Rattle.std.proofs.lemmas.Bool.Decides.{eqb_tells}
 use Rattle.std.proofs.lemmas.List.{length-map, get_or-map}
 use Rattle.std.proofs.lemmas.List.Folds.{list_any_at}
-use Rattle.zone_state.specs.declared.status.Status.{Status}
 use Rattle.zone_state.specs.declared.status.TheConstants.Status.{ZONE_HELD}
 use Rattle.zone_resources.specs.Holds.{is_destination, names}
 use Rattle.zone_resources.specs.declared.holds.TheConstants.{RUNS}
-use Rattle.nvme_entry.specs.Entry.{decoded}
-use Rattle.nvme_entry.specs.declared.command.Command.{Command}
-use Rattle.nvme_entry.specs.declared.command.Command.TheVariants as command
 use Rattle.nvme_entry.specs.declared.command.RunCommand.{RunCommand}
 use Rattle.reg_domain.specs.Domain.{Operations}
 use Rattle.image_store.specs.Namespace.{ZonedNamespace}
 use Rattle.zns_commands.proofs.PassedChecks.{passed, demanded}
 use Rattle.pushdown.specs.Admission.{admission_checks, destination_zone}
 use Rattle.pushdown.specs.Answers.{Submission}
-use Rattle.pushdown.specs.Machine.{admitted_place, happens, place_left, start_by, submitted, take_turn, turned_at, why_not_run}
+use Rattle.pushdown.specs.Machine.{admitted_place, happens, place_left, turned, why_not_run}
 use Rattle.pushdown.specs.Outcome.{Ending, Turn}
 use Rattle.pushdown.specs.State.{Place, State, destination_of, free_run, holds_of, new_state, place_at, program_at}
 use Rattle.pushdown.specs.declared.event.Event.{Event}
-use Rattle.pushdown.specs.declared.event.Event.TheVariants as event
-use Rattle.pushdown.proofs.Foreign.{free_within, load_keeps, result_keeps, there}
+use Rattle.pushdown.proofs.Changes.{after_event, after_turn}
+use Rattle.pushdown.proofs.Foreign.{free_within, there}
 
 pub record AreApart (places : List (Option Place)) : Type 0 where
   pub apart : (j k : ℕ) (p q : Place) → get_or places j None ≡ Some p → get_or places k None ≡ Some q
@@ -58,11 +54,11 @@ pub held_at : (places : List (Option Place)) (run : ℕ) (place : Place) → get
     → list_any (names place.destination) (map destination_of places) ≡ true
 held_at places run place at = named_at destination_of place.destination places run place at refl
 
--- ---- places of which each is empty, or appends where it did
+-- ---- places of which each is empty, or has the slot and the destination that it had
 
 pub record AreOlder (before after : List (Option Place)) : Type 0 where
   pub was : (j : ℕ) (p : Place) → get_or after j None ≡ Some p
-      → (o : Place) × (get_or before j None ≡ Some o) × (o.destination ≡ p.destination)
+      → (o : Place) × (get_or before j None ≡ Some o) × (o.destination ≡ p.destination) × (o.slot ≡ p.slot)
 
 older_apart : (before after : List (Option Place)) → AreApart before → AreOlder before after → AreApart after
 older_apart before after h older = record {
@@ -72,10 +68,12 @@ older_apart before after h older = record {
       h.apart j k old_j.0 old_k.0 old_j.1 old_k.1 (old_j.2 ∙ same ∙ sym old_k.2);
 }
 
+as_before : (places : List (Option Place)) → AreOlder places places
+as_before places = record { was = λ j p at. (p, at, refl, refl) }
+
 left_was : (place : Place) (later : List Turn) (ending : Option Ending) (p : Place) → place_left place later ending ≡ Some p
-    → place.destination ≡ p.destination
-left_was place later None p e =
-    let same : record place { turns = later } ≡ p = cc in ap (λ (x : Place). x.destination) same
+    → record place { turns = later } ≡ p
+left_was place later None p e = cc
 left_was place later (Some ending) p e = cc
 
 left_older : (places : List (Option Place)) (run : ℕ) (place : Place) (later : List Turn) (ending : Option Ending)
@@ -86,8 +84,9 @@ left_older places run place later ending at = record {
         let here : get_or (set places run (place_left place later ending)) j None ≡ place_left place later ending =
         ap (λ (n : ℕ). get_or (set places run (place_left place later ending)) n None) is.1
         ∙ get_or-set_same places run (place_left place later ending) None (there places run place at) in
-        (place, ap (λ (n : ℕ). get_or places n None) is.1 ∙ at, left_was place later ending p (sym here ∙ at_j))
-    | inr not_so ↦ (p, sym (get_or-set_other places run j (place_left place later ending) None not_so.1) ∙ at_j, refl)
+        let same = left_was place later ending p (sym here ∙ at_j) in
+        (place, ap (λ (n : ℕ). get_or places n None) is.1 ∙ at, ap (λ (x : Place). x.destination) same, ap (λ (x : Place). x.slot) same)
+    | inr not_so ↦ (p, sym (get_or-set_other places run j (place_left place later ending) None not_so.1) ∙ at_j, refl, refl)
   ];
 }
 
@@ -144,34 +143,32 @@ module _ (places : List (Option Place)) (run : ℕ) (new : Place) (h : AreApart 
 
 -- ---- events
 
-pub taken_apart : (s : State) (run : ℕ) (place : Place) (turns : List Turn) → place_at s run ≡ Some place → AreApart s.places
-    → AreApart (take_turn s run place turns).state.places
-taken_apart s run place [] at h = h
-taken_apart s run place (turn ∷ later) at h =
-    older_apart s.places (set s.places run (place_left place later turn.ending)) h (left_older s.places run place later turn.ending at)
+-- a run that starts
+pub started_apart : (sub : Submission) (s : State) (order : RunCommand) (run : ℕ) → why_not_run sub s order ≡ None → free_run s ≡ Some run
+    → AreApart s.places → AreApart (set s.places run (Some (admitted_place sub s order)))
+started_apart sub s order run passed free h =
+    placed_apart s.places run (admitted_place sub s order) h (free_within s.places run free) (admitted_free sub s order passed)
 
-turned_apart : (s : State) (run : ℕ) (at : Option Place) → place_at s run ≡ at → AreApart s.places → AreApart (turned_at s run at).state.places
-turned_apart s run None is h = h
-turned_apart s run (Some place) is h = taken_apart s run place place.turns is h
+-- a turn
+pub left_apart : (places : List (Option Place)) (run : ℕ) (place : Place) (later : List Turn) (ending : Option Ending)
+    → get_or places run None ≡ Some place → AreApart places → AreApart (set places run (place_left place later ending))
+left_apart places run place later ending at h =
+    older_apart places (set places run (place_left place later ending)) h (left_older places run place later ending at)
 
-pub start_apart : (why : Option Status) (free : Option ℕ) (sub : Submission) (s : State) (order : RunCommand) → why_not_run sub s order ≡ why
-    → free_run s ≡ free → AreApart s.places → AreApart (start_by why free sub s order).state.places
-start_apart (Some status) free sub s order is at h = h
-start_apart None None sub s order is at h = h
-start_apart None (Some first) sub s order is at h =
-    placed_apart s.places first (admitted_place sub s order) h (free_within s.places first at) (admitted_free sub s order is)
+pub turned_older : (s : State) (run : ℕ) → AreOlder s.places (turned s run).state.places
+turned_older s run =
+    after_turn (λ (t : State). AreOlder s.places t.places) s run (as_before s.places)
+    (λ place turn later at is. left_older s.places run place later turn.ending at)
+
+pub turned_apart : (s : State) (run : ℕ) → AreApart s.places → AreApart (turned s run).state.places
+turned_apart s run h = older_apart s.places (turned s run).state.places h (turned_older s run)
 
 module _ {D : Type 0} (operations : Operations D) where
-  submitted_apart : (starved : Bool) (sub : Submission) (s : State) (asked : Result Command Status) → AreApart s.places
-      → AreApart (submitted operations starved sub s asked).state.places
-  submitted_apart starved sub s (Err status) h = h
-  submitted_apart starved sub s (Ok (command.Standard c)) h = h
-  submitted_apart starved sub s (Ok (command.Load load)) h = subst AreApart (sym (load_keeps operations starved sub s load).places) h
-  submitted_apart starved sub s (Ok (command.Run order)) h = start_apart (why_not_run sub s order) (free_run s) sub s order refl refl h
-  submitted_apart starved sub s (Ok (command.Result slot)) h = subst (λ (t : State). AreApart t.places) (sym (result_keeps sub s slot)) h
-
   pub event_apart : (s : State) (starved : Bool) (e : Event) → AreApart s.places → AreApart (happens operations s starved e).state.places
-  event_apart s starved (event.Submit queue entry payload) h =
-      submitted_apart starved (record { queue = queue; entry = entry; payload = payload.items }) s (decoded entry) h
-  event_apart s starved (event.Turn run) h = turned_apart s run (place_at s run) refl h
-  event_apart s starved (event.Fault zone state) h = h
+  event_apart s starved e h = after_event operations (λ (t : State). AreApart t.places) s starved e (record {
+    same = h;
+    step = λ step same is. h;
+    load = λ sub load t are takes. h;
+    start = λ sub order run passed free some. started_apart sub s order run passed free h;
+    turn = λ run place turn later is at first. left_apart s.places run place later turn.ending at h;
+  })

@@ -1,13 +1,12 @@
 -- What is left of each run fits into its destination.
 use Rattle.std.proofs.Common.{◌≡◌, ℕ, List, ◌∷◌, set, get_or, Option, Some, None, refl, ap, sym, subst, ◌∙◌, inl, inr, get_or-set_other, get_or-set_same}
 use Rattle.std.proofs.lemmas.Bool.Decides.{eqb_tells}
-use Rattle.image_store.specs.Geometry.{Shape}
 use Rattle.image_store.specs.Namespace.{ZoneBlocks, ZonedNamespace, zone_at}
 use Rattle.pushdown.specs.Laws.{RoomIn}
 use Rattle.pushdown.specs.Machine.{added, place_left}
 use Rattle.pushdown.specs.Outcome.{Ending, Turn}
 use Rattle.pushdown.specs.State.{Place, State, place_at}
-use Rattle.pushdown.proofs.Added.{added_leaves, added_shape}
+use Rattle.pushdown.proofs.Added.{added_capacity, added_leaves}
 use Rattle.pushdown.proofs.Foreign.{there}
 use Rattle.pushdown.proofs.Places.{AreApart}
 use Rattle.pushdown.proofs.Room.{turn_room}
@@ -26,9 +25,6 @@ kept_rooms s t places capacity zones rooms j p at_t =
     moved_room s.namespace.capacity t.namespace.capacity (zone_at s.namespace p.destination) (zone_at t.namespace p.destination) p.turns
     capacity (zones j p at) (rooms j p at)
 
-same_capacity : (ns : ZonedNamespace) (z : ℕ) (blocks : List (List ℕ)) → (added ns z blocks).capacity ≡ ns.capacity
-same_capacity ns z blocks = ap (λ (x : Shape). x.capacity) (added_shape ns z blocks)
-
 -- a turn of an active run
 module _ (s : State) (run : ℕ) (place : Place) (turn : Turn) (later : List Turn) (apart : AreApart s.places) (rooms : Rooms s)
     (here : place_at s run ≡ Some place) (first : place.turns ≡ turn ∷ later) where
@@ -42,7 +38,7 @@ module _ (s : State) (run : ℕ) (place : Place) (turn : Turn) (later : List Tur
   own_room None p is =
       let same : record place { turns = later } ≡ p = cc in
       let room = moved_room s.namespace.capacity next.capacity (zone_at next place.destination) (zone_at next place.destination) later
-      (same_capacity s.namespace place.destination turn.blocks) refl
+      (added_capacity s.namespace place.destination turn.blocks) refl
       (turn_room s.namespace place.destination turn.blocks turn.ending later now_room) in
       subst (λ (q : Place). RoomIn next.capacity (zone_at next q.destination) q.turns) same room
   own_room (Some ending) p is = cc
@@ -58,7 +54,7 @@ module _ (s : State) (run : ℕ) (place : Place) (turn : Turn) (later : List Tur
     | inr differs ↦
         let old = sym (get_or-set_other s.places run j (place_left place later turn.ending) None differs.1) ∙ at in
         moved_room s.namespace.capacity next.capacity (zone_at s.namespace p.destination) (zone_at next p.destination) p.turns
-        (same_capacity s.namespace place.destination turn.blocks)
+        (added_capacity s.namespace place.destination turn.blocks)
         (added_leaves s.namespace place.destination p.destination turn.blocks (λ same. differs.1 (apart.apart j run p place old here same)))
         (rooms j p old)
   ]

@@ -1,5 +1,5 @@
 -- What holds of each state that events leave.
-use Rattle.std.proofs.Common.{◌≡◌, ◌≢◌, ℕ, ◌+◌, ◌/◌, ◌%◌, ◌≤◌, Bool, true, List, [], ◌∷◌, length, set, get_or, drop, Option, Some, None, Result, Ok, Err, refl, ap, sym, subst, ◌∙◌, arith, inl, inr, length-take, length-drop, get_or-set_other, get_or-set_same}
+use Rattle.std.proofs.Common.{◌≡◌, ◌≢◌, ℕ, ◌+◌, ◌/◌, ◌%◌, ◌≤◌, Bool, true, List, [], ◌∷◌, length, set, get_or, drop, Option, Some, None, refl, ap, sym, subst, ◌∙◌, arith, inl, inr, length-take, length-drop, get_or-set_other, get_or-set_same}
 use Rattle.std.specs.Prelude.{is_some, nat_le}
 use Rattle.std.specs.List.{AllByRecursion}
 use Rattle.std.proofs.lemmas.Bool.{leb-true}
@@ -12,9 +12,6 @@ use Rattle.zone_resources.specs.Holds.{is_destination}
 use Rattle.zone_resources.specs.declared.holds.Holds.{Holds}
 use Rattle.zone_resources.specs.declared.holds.TheConstants.{RUNS}
 use Rattle.nvme_entry.specs.Checks.{first_refused}
-use Rattle.nvme_entry.specs.Entry.{decoded}
-use Rattle.nvme_entry.specs.declared.command.Command.{Command}
-use Rattle.nvme_entry.specs.declared.command.Command.TheVariants as command
 use Rattle.nvme_entry.specs.declared.command.LoadCommand.{LoadCommand}
 use Rattle.nvme_entry.specs.declared.command.RunCommand.{RunCommand}
 use Rattle.nvme_entry.specs.declared.program_slot.TheConstants.{PROGRAM_SLOTS}
@@ -35,7 +32,7 @@ use Rattle.image_store.specs.Blocks.{AreBytes}
 use Rattle.image_store.specs.Geometry.{Shape}
 use Rattle.image_store.specs.Namespace.{ZonedNamespace, IsNamespace, zone_at}
 use Rattle.zns_commands.specs.Kept as kept
-use Rattle.zns_commands.specs.Laws.{Commanded, Failed, IsSpelled, Step, after}
+use Rattle.zns_commands.specs.Laws.{IsSpelled, Step, after}
 use Rattle.zns_commands.proofs.HeldZones.{destinations_are_left}
 use Rattle.zns_commands.proofs.KeptBlocks.{step_shape}
 use Rattle.zns_commands.proofs.PassedChecks.{demanded, passed}
@@ -45,22 +42,22 @@ use Rattle.pushdown.specs.Answers.{Submission}
 use Rattle.pushdown.specs.BlockRuns.{Task, groups_of, no_scratch, runs_of}
 use Rattle.pushdown.specs.Events.{Occurrence, state_after}
 use Rattle.pushdown.specs.Laws.{IsAppended, RoomIn, StatesAreSound}
-use Rattle.pushdown.specs.Machine.{admitted_place, happens, just_loaded, keeping, load_checks, loading, place_left, slots_left, start_by, submitted, take_turn, turned_at, why_not_run}
+use Rattle.pushdown.specs.Machine.{admitted_place, happens, just_loaded, keeping, load_checks, place_left, slots_left, turn_state, turned, why_not_run}
 use Rattle.pushdown.specs.Outcome.{Ending, Turn, appended_by, no_output, outcome}
 use Rattle.pushdown.specs.Pushdown.{AreEvents, EndsWithLast, HasBytes, Succeeds}
-use Rattle.pushdown.specs.State.{Place, State, free_run, holds_of, new_state, place_at, program_at, with_namespace, with_place}
+use Rattle.pushdown.specs.State.{Place, State, free_run, holds_of, new_state, place_at, program_at, with_namespace, with_place, with_slot}
 use Rattle.pushdown.specs.declared.event.Event.{Event}
-use Rattle.pushdown.specs.declared.event.Event.TheVariants as event
-use Rattle.pushdown.proofs.Added.{added_shape}
+use Rattle.pushdown.proofs.Added.{added_block}
 use Rattle.pushdown.proofs.BlockRuns.{IsDone, IsReady, few_runs, runs_done, some_runs}
 use Rattle.pushdown.proofs.Bytes.{AreBlocks, IsBlock, all_at, all_drop, all_from, all_same, all_set, all_take, blocks_by_place}
-use Rattle.pushdown.proofs.Foreign.{KeepsRuns, free_within, load_keeps, result_keeps}
-use Rattle.pushdown.proofs.Loads.{TakesSlot, loading_is}
+use Rattle.pushdown.proofs.Changes.{after_event, after_turn}
+use Rattle.pushdown.proofs.Foreign.{free_within}
+use Rattle.pushdown.proofs.Loads.{TakesSlot}
 use Rattle.pushdown.proofs.Outcomes.{HasWhole, ends_with_last, no_groups, outcome_is_packed, turns_whole}
-use Rattle.pushdown.proofs.Places.{AreApart, held_at, new_apart, new_none, start_apart, taken_apart}
+use Rattle.pushdown.proofs.Places.{AreApart, held_at, left_apart, new_apart, new_none, started_apart}
 use Rattle.pushdown.proofs.Room.{turn_appended, turn_sound}
 use Rattle.pushdown.proofs.Rooms.{Rooms, kept_rooms, now_room, turn_rooms}
-use Rattle.pushdown.proofs.Spelled.{decoded_has, just_one, spelled}
+use Rattle.pushdown.proofs.Spelled.{just_one}
 
 -- ---- the source
 
@@ -152,17 +149,6 @@ module _ {D : Type 0} (operations : Operations D) (never : AcceptedNeverTraps op
 
   -- ---- Load
 
-  keeps_fine : (s t : State) → IsFine s → KeepsRuns s t → AllByRecursion SlotIsFine t.slots → IsFine t
-  keeps_fine s t h keeps slots = record {
-    is = subst IsNamespace (sym keeps.namespace) h.is;
-    size = ap (λ (ns : ZonedNamespace). ns.block) keeps.namespace ∙ h.size;
-    slots = slots;
-    places = subst (AllByRecursion PlaceIsFine) (sym keeps.places) h.places;
-    apart = subst AreApart (sym keeps.places) h.apart;
-    rooms = kept_rooms s t keeps.places (ap (λ (ns : ZonedNamespace). ns.capacity) keeps.namespace)
-        (λ j p at. ap (λ (ns : ZonedNamespace). zone_at ns p.destination) keeps.namespace) h.rooms;
-  }
-
   within : (s : State) (load : LoadCommand) (input : List ℕ) → IsFine s → first_refused (load_checks s load input) ≡ None → load.limit ≤ block
   within s load input h none =
       let test = demanded (nat_le load.limit s.namespace.block) INVALID_FIELD_IN_COMMAND (passed (load_checks s load input) 2 none) in
@@ -178,15 +164,16 @@ module _ {D : Type 0} (operations : Operations D) (never : AcceptedNeverTraps op
         accepted = ap judge (sym h.size) ∙ takes.accepted;
       }
 
-  load_fine : (starved : Bool) (sub : Submission) (s : State) (load : LoadCommand) → IsFine s → AreBytes sub.payload
-      → IsFine (loading operations starved sub s load).state
-  load_fine starved sub s load h are = elim (loading_is operations sub s load starved).state [
-    | inl same ↦ subst IsFine (sym same) h
-    | inr takes ↦ keeps_fine s (loading operations starved sub s load).state h (load_keeps operations starved sub s load)
-        (subst (λ (t : State). AllByRecursion SlotIsFine t.slots) (sym takes.taken)
-        (all_set SlotIsFine s.slots load.slot (Some (just_loaded takes.program load.limit)) h.slots
-        (taken_accepted sub s (loading operations starved sub s load).state load h are takes)))
-  ]
+  load_fine : (sub : Submission) (s t : State) (load : LoadCommand) → IsFine s → AreBytes sub.payload → (takes : TakesSlot operations sub s load t)
+      → IsFine (with_slot s load.slot (Some (just_loaded takes.program load.limit)))
+  load_fine sub s t load h are takes = record {
+    is = h.is;
+    size = h.size;
+    slots = all_set SlotIsFine s.slots load.slot (Some (just_loaded takes.program load.limit)) h.slots (taken_accepted sub s t load h are takes);
+    places = h.places;
+    apart = h.apart;
+    rooms = h.rooms;
+  }
 
   -- ---- Run
 
@@ -284,17 +271,15 @@ module _ {D : Type 0} (operations : Operations D) (never : AcceptedNeverTraps op
     | inr differs ↦ h.rooms j p (sym (get_or-set_other s.places run j (Some (admitted_place sub s order)) None differs.1) ∙ at)
   ]
 
-  start_fine : (why : Option Status) (free : Option ℕ) (sub : Submission) (s : State) (order : RunCommand) → IsFine s → why_not_run sub s order ≡ why
-      → free_run s ≡ free → 1 ≤ order.blocks → IsFine (start_by why free sub s order).state
-  start_fine (Some status) free sub s order h e is some = h
-  start_fine None None sub s order h e is some = h
-  start_fine None (Some run) sub s order h e is some = record {
+  start_fine : (sub : Submission) (s : State) (order : RunCommand) (run : ℕ) → IsFine s → why_not_run sub s order ≡ None → free_run s ≡ Some run
+      → 1 ≤ order.blocks → IsFine (with_place s run (Some (admitted_place sub s order)))
+  start_fine sub s order run h passed free some = record {
     is = h.is;
     size = h.size;
     slots = h.slots;
-    places = all_set PlaceIsFine s.places run (Some (admitted_place sub s order)) h.places (turns_are sub s order h e some);
-    apart = start_apart None (Some run) sub s order e is h.apart;
-    rooms = start_rooms sub s order run h e is;
+    places = all_set PlaceIsFine s.places run (Some (admitted_place sub s order)) h.places (turns_are sub s order h passed some);
+    apart = started_apart sub s order run passed free h.apart;
+    rooms = start_rooms sub s order run h passed free;
   }
 
   -- ---- turns
@@ -317,48 +302,37 @@ module _ {D : Type 0} (operations : Operations D) (never : AcceptedNeverTraps op
   left_fine place turn [] None is are = absurd (subst Succeeds is are.ends)
   left_fine place turn (next ∷ turns) None is are = record { whole = are.whole.1; ends = are.ends.1 }
 
-  taken_fine : (s : State) (run : ℕ) (place : Place) (turns : List Turn) → IsFine s → place_at s run ≡ Some place → place.turns ≡ turns
-      → AreTurns turns → IsFine (take_turn s run place turns).state
-  taken_fine s run place [] h here first are = h
-  taken_fine s run place (turn ∷ later) h here first are =
-      let ns = s.namespace in
-      record {
-        is = turn_sound ns place.destination turn.blocks turn.ending later h.is (subst (λ (n : ℕ). HasWhole n turn) (sym h.size) are.whole.0)
-            (now_room s run place turn later h.apart h.rooms here first);
-        size = ap (λ (x : Shape). x.block) (added_shape ns place.destination turn.blocks) ∙ h.size;
-        slots = slots_fine s place turn.ending h;
-        places = all_set PlaceIsFine s.places run (place_left place later turn.ending) h.places (left_fine place turn later turn.ending refl are);
-        apart = taken_apart s run place (turn ∷ later) here h.apart;
-        rooms = turn_rooms s run place turn later h.apart h.rooms here first;
-      }
-
-  turned_fine : (s : State) (run : ℕ) (at : Option Place) → IsFine s → place_at s run ≡ at → PlaceIsFine at → IsFine (turned_at s run at).state
-  turned_fine s run None h here fine = h
-  turned_fine s run (Some place) h here fine = taken_fine s run place place.turns h here refl fine
-
   pub place_fine : (s : State) (run : ℕ) → IsFine s → PlaceIsFine (place_at s run)
   place_fine s run h = all_at PlaceIsFine s.places run None h.places tt
 
-  pub turn_fine : (s : State) (run : ℕ) → IsFine s → IsFine (turned_at s run (place_at s run)).state
-  turn_fine s run h = turned_fine s run (place_at s run) h refl (place_fine s run h)
+  first_fine : (s : State) (run : ℕ) (place : Place) (turn : Turn) (later : List Turn) → IsFine s → place_at s run ≡ Some place
+      → place.turns ≡ turn ∷ later → IsFine (turn_state s run place turn later)
+  first_fine s run place turn later h here first =
+      let ns = s.namespace in
+      let are = subst AreTurns first (subst PlaceIsFine here (place_fine s run h)) in
+      record {
+        is = turn_sound ns place.destination turn.blocks turn.ending later h.is (subst (λ (n : ℕ). HasWhole n turn) (sym h.size) are.whole.0)
+            (now_room s run place turn later h.apart h.rooms here first);
+        size = added_block ns place.destination turn.blocks ∙ h.size;
+        slots = slots_fine s place turn.ending h;
+        places = all_set PlaceIsFine s.places run (place_left place later turn.ending) h.places (left_fine place turn later turn.ending refl are);
+        apart = left_apart s.places run place later turn.ending here h.apart;
+        rooms = turn_rooms s run place turn later h.apart h.rooms here first;
+      }
+
+  pub turn_fine : (s : State) (run : ℕ) → IsFine s → IsFine (turned s run).state
+  turn_fine s run h = after_turn IsFine s run h (λ place turn later here first. first_fine s run place turn later h here first)
 
   -- ---- events
 
-  submitted_fine : (starved : Bool) (sub : Submission) (s : State) (asked : Result Command Status) → decoded sub.entry ≡ asked → IsFine s
-      → AreBytes sub.payload → IsFine (submitted operations starved sub s asked).state
-  submitted_fine starved sub s (Err status) e h are = h
-  submitted_fine starved sub s (Ok (command.Standard c)) e h are =
-      step_fine s (Commanded (holds_of s) c sub.payload) h refl (spelled (holds_of s) c sub.payload (decoded_has sub.entry (command.Standard c) e) are)
-  submitted_fine starved sub s (Ok (command.Load load)) e h are = load_fine starved sub s load h are
-  submitted_fine starved sub s (Ok (command.Run order)) e h are =
-      start_fine (why_not_run sub s order) (free_run s) sub s order h refl refl (decoded_has sub.entry (command.Run order) e)
-  submitted_fine starved sub s (Ok (command.Result slot)) e h are = subst IsFine (sym (result_keeps sub s slot)) h
-
   pub event_fine : (s : State) (starved : Bool) (e : Event) → IsFine s → HasBytes e → IsFine (happens operations s starved e).state
-  event_fine s starved (event.Submit queue entry payload) h are =
-      submitted_fine starved (record { queue = queue; entry = entry; payload = payload.items }) s (decoded entry) refl h are
-  event_fine s starved (event.Turn run) h are = turn_fine s run h
-  event_fine s starved (event.Fault zone state) h are = step_fine s (Failed (holds_of s) zone state) h refl tt
+  event_fine s starved e h has = after_event operations IsFine s starved e (record {
+    same = h;
+    step = λ step same is. step_fine s step h same (is has);
+    load = λ sub load t are takes. load_fine sub s t load h (are has) takes;
+    start = λ sub order run passed free some. start_fine sub s order run h passed free some;
+    turn = λ run place turn later is here first. first_fine s run place turn later h here first;
+  })
 
   pub events_fine : (events : List Occurrence) (s : State) → IsFine s → AreEvents events → IsFine (state_after operations events s)
   events_fine [] s h are = h

@@ -2,7 +2,7 @@
 use Rattle.std.specs.Prelude.{ℕ, Bool, ◌≡◌, ◌+◌, ◌%◌, ◌==◌, not, nat_le, List, [], ◌∷◌, ◌++◌, length, take, drop, Option, Some, None, is_some}
 use Rattle.zone_state.specs.State.{is_open}
 use Rattle.zone_state.specs.declared.status.Status.{Status}
-use Rattle.zone_state.specs.declared.status.TheConstants.Status.{ZONE_HELD, NO_SUCH_PROGRAM, NO_RUN_FREE, SOURCE_NOT_WRITTEN, DESTINATION_NOT_OPEN, DESTINATION_LACKS_ROOM, SOURCE_IS_DESTINATION}
+use Rattle.zone_state.specs.declared.status.TheConstants.Status.{ZONE_BOUNDARY_ERROR, ZONE_HELD, NO_SUCH_PROGRAM, NO_RUN_FREE, SOURCE_NOT_WRITTEN, DESTINATION_NOT_OPEN, DESTINATION_LACKS_ROOM, SOURCE_IS_DESTINATION}
 use Rattle.zone_resources.specs.Holds.{is_destination}
 use Rattle.zone_resources.specs.declared.holds.Holds.{Holds}
 use Rattle.nvme_entry.specs.Checks.{demand, first_refused}
@@ -10,7 +10,8 @@ use Rattle.nvme_entry.specs.declared.command.RunCommand.{RunCommand}
 use Rattle.ebpf_decode.specs.declared.insn.Insn.{Insn}
 use Rattle.program_interface.specs.RunSizes.{Sizes}
 use Rattle.image_store.specs.Namespace.{ZonedNamespace, zone_at}
-use Rattle.zns_commands.specs.Address.{zone_number, address_check, lowest_check, range_check, boundary_check}
+use Rattle.image_store.specs.declared.geometry.Place.{Place}
+use Rattle.zns_commands.specs.Address.{zone_number, place_in, address_check, lowest_check, range_check}
 use Rattle.zns_commands.specs.Read.{read_refusal}
 use Rattle.zns_commands.specs.Transfer.{transfer_checks}
 use Rattle.emit_append.specs.Need.{need}
@@ -49,26 +50,41 @@ source_zone ns order = zone_number ns order.lba
 abbrev pub destination_zone : ZonedNamespace → RunCommand → ℕ
 destination_zone ns order = zone_number ns order.destination
 
+-- the checks of the addresses
+abbrev pub address_checks : ZonedNamespace → RunCommand → List (Option Status)
+address_checks ns order =
+    range_check ns order.lba order.blocks
+    ∷ address_check ns order.destination
+    ∷ lowest_check ns order.destination
+    ∷ demand (not (source_zone ns order == destination_zone ns order)) SOURCE_IS_DESTINATION
+    ∷ []
+
+-- the checks of the source, of which so many blocks from this one on are to be read
+abbrev pub source_checks : ZonedNamespace → Place → ℕ → List (Option Status)
+source_checks ns first blocks =
+    demand (nat_le (first.offset + blocks) ns.size) ZONE_BOUNDARY_ERROR
+    ∷ read_refusal (zone_at ns first.zone).state
+    ∷ demand (nat_le (first.offset + blocks) (length (zone_at ns first.zone).blocks)) SOURCE_NOT_WRITTEN
+    ∷ []
+
+-- the checks of the destination, to which so many blocks may come
+abbrev pub destination_checks : ZonedNamespace → Holds → ℕ → ℕ → List (Option Status)
+destination_checks ns holds z blocks =
+    demand (not (is_destination holds z)) ZONE_HELD
+    ∷ demand (is_open (zone_at ns z).state) DESTINATION_NOT_OPEN
+    ∷ demand (nat_le (length (zone_at ns z).blocks + blocks) ns.capacity) DESTINATION_LACKS_ROOM
+    ∷ []
+
 -- The checks, in order: the data beside the entry; the program; the addresses; the places for runs; the
 -- source; the destination. Each later one is meant where those before it pass.
 abbrev pub admission_checks : ZonedNamespace → Holds → Bool → Option Loaded → RunCommand → List ℕ → List (Option Status)
 admission_checks ns holds place_free slot order input =
-    let source = zone_at ns (source_zone ns order) in
-    let destination = zone_at ns (destination_zone ns order) in
     transfer_checks 0 0 input
     ++ demand (is_some slot) NO_SUCH_PROGRAM
-    ∷ range_check ns order.lba order.blocks
-    ∷ address_check ns order.destination
-    ∷ lowest_check ns order.destination
-    ∷ demand (not (source_zone ns order == destination_zone ns order)) SOURCE_IS_DESTINATION
-    ∷ demand place_free NO_RUN_FREE
-    ∷ boundary_check ns order.lba order.blocks
-    ∷ read_refusal source.state
-    ∷ demand (nat_le (order.lba % ns.size + order.blocks) (length source.blocks)) SOURCE_NOT_WRITTEN
-    ∷ demand (not (is_destination holds (destination_zone ns order))) ZONE_HELD
-    ∷ demand (is_open destination.state) DESTINATION_NOT_OPEN
-    ∷ demand (nat_le (length destination.blocks + need order.blocks (sizes_in ns slot)) ns.capacity) DESTINATION_LACKS_ROOM
-    ∷ []
+    ∷ address_checks ns order
+    ++ demand place_free NO_RUN_FREE
+    ∷ source_checks ns (place_in ns order.lba) order.blocks
+    ++ destination_checks ns holds (destination_zone ns order) (need order.blocks (sizes_in ns slot))
 
 -- the status of the first check that fails
 abbrev pub run_refusal : ZonedNamespace → Holds → Bool → Option Loaded → RunCommand → List ℕ → Option Status
@@ -78,12 +94,16 @@ run_refusal ns holds place_free slot order input = first_refused (admission_chec
 abbrev pub source_blocks : ZonedNamespace → RunCommand → List (List ℕ)
 source_blocks ns order = take order.blocks (drop (order.lba % ns.size) (zone_at ns (source_zone ns order)).blocks)
 
--- what an admitted run is about
-abbrev pub task_of : ZonedNamespace → Option Loaded → RunCommand → Task
-task_of ns slot order = record {
-  program = program_in slot;
-  sizes = sizes_in ns slot;
+-- what a run is about of this program, of whose groups so many bytes are the most
+abbrev pub task_by : ZonedNamespace → List (Option Insn) → ℕ → RunCommand → Task
+task_by ns program limit order = record {
+  program = program;
+  sizes = record { block = ns.block; limit = limit };
   argument = order.argument;
   lba = order.lba;
   count = order.blocks;
 }
+
+-- what an admitted run is about
+abbrev pub task_of : ZonedNamespace → Option Loaded → RunCommand → Task
+task_of ns slot order = task_by ns (program_in slot) (limit_in slot) order

@@ -34,12 +34,15 @@ pub record Happening : Type 0 where
 abbrev pub plain : Reply → Taken
 plain r = record { reply = r; bytes = [] }
 
+-- the reply that is a completion, with so many bytes of data
+abbrev pub completion_reply : ℕ → ℕ → Status → ℕ → ℕ → ℕ → Reply
+completion_reply queue cid status dw0 dw1 bytes =
+    reply.Complete queue (completion_bytes (record { dw0 = dw0; dw1 = dw1; queue = queue; cid = cid; status = status })) bytes
+
 -- a completion, with the data that goes with it
 abbrev pub completion : ℕ → ℕ → Status → ℕ → ℕ → List ℕ → Taken
-completion queue cid status dw0 dw1 output = record {
-  reply = reply.Complete queue (completion_bytes (record { dw0 = dw0; dw1 = dw1; queue = queue; cid = cid; status = status })) (length output);
-  bytes = output;
-}
+completion queue cid status dw0 dw1 output =
+    record { reply = completion_reply queue cid status dw0 dw1 (length output); bytes = output }
 
 -- a submitted entry: its queue, its bytes, and the data beside it
 pub record Submission : Type 0 where

@@ -29,10 +29,13 @@ context task index = context_bytes (record {
   argument = task.argument;
 })
 
--- the program on one block, with as much fuel as it has instructions
+-- a program on one block, with as much fuel as it has instructions
+abbrev pub run_over : List (Option Insn) → ℕ → List ℕ → List ℕ → List ℕ → Run
+run_over program limit bytes context scratch = run_of program limit (instruction_count program) 0 (entry bytes context scratch)
+
+-- the run's program on one block
 abbrev pub block_run : Task → ℕ → List ℕ → List ℕ → Run
-block_run task index scratch bytes =
-    run_of task.program task.sizes.limit (instruction_count task.program) 0 (entry bytes (context task index) scratch)
+block_run task index scratch bytes = run_over task.program task.sizes.limit bytes (context task index) scratch
 
 -- the scratch bytes that a block run leaves
 abbrev pub scratch_after : Run → List ℕ

@@ -181,20 +181,3 @@ EmittedReadsBack operations =
     let source = source_blocks s.namespace order in
     (records : List (List (List ℕ))) × (AreEmitted (runs_of task source) records
     × (unpacked task.sizes.block (concat (appended_by (outcome task source))) ≡ Ok (flat_map (λ group. group) records)))
-
--- two states with the same namespace and the same runs; of the results that two runs of one program leave,
--- the later one is kept
-pub record SameRuns (s t : State) : Type 0 where
-  pub namespace : s.namespace ≡ t.namespace
-  pub places : s.places ≡ t.places
-
--- the turns of two runs come to the same in either order: what each answers, and what both leave
-pub record Commutes (s : State) (first second : ℕ) : Type 0 where
-  pub first_answer : (turned (turned s second).state first).answer ≡ (turned s first).answer
-  pub second_answer : (turned (turned s first).state second).answer ≡ (turned s second).answer
-  pub both : SameRuns (turned (turned s first).state second).state (turned (turned s second).state first).state
-
-abbrev pub TurnsCommute : {D : Type 0} → Operations D → Type 0
-TurnsCommute operations =
-    (ns : ZonedNamespace) (events : List Occurrence) → IsNamespace ns → AreEvents events
-    → (first second : ℕ) → first ≢ second → Commutes (state_after operations events (new_state ns)) first second

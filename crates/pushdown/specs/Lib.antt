@@ -1,10 +1,12 @@
 pub mod Admission
+pub mod AnyOrder
 pub mod Answers
 pub mod BlockRuns
 pub mod Draining
 pub mod Events
 pub mod Laws
 pub mod Machine
+pub mod Memory
 pub mod Outcome
 pub mod Parts
 pub mod Pushdown

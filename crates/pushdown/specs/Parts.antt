@@ -13,8 +13,8 @@ abbrev pub OneAnswerEach : {D : Type 0} → Operations D → Type 0
 OneAnswerEach operations = (events : List Occurrence) (s : State) → length (answers_to operations events s) ≡ length events
 
 -- turns of these runs, as events; a turn asks for no memory
-abbrev pub turns_of : List ℕ → List Occurrence
-turns_of runs = map (λ run. record { event = event.Turn run; starved = false }) runs
+abbrev pub turn_events : List ℕ → List Occurrence
+turn_events runs = map (λ run. record { event = event.Turn run; starved = false }) runs
 
 module _ {D : Type 0} (operations : Operations D) where
   -- the later events happen to what the earlier ones leave
@@ -25,8 +25,8 @@ module _ {D : Type 0} (operations : Operations D) where
 
   -- the turns of a device that is drained are events
   pub record AreTurns (runs : List ℕ) (s : State) : Type 0 where
-    pub answers : answers_to_turns runs s ≡ answers_to operations (turns_of runs) s
-    pub state : state_after_turns runs s ≡ state_after operations (turns_of runs) s
+    pub answers : answers_to_turns runs s ≡ answers_to operations (turn_events runs) s
+    pub state : state_after_turns runs s ≡ state_after operations (turn_events runs) s
 
   -- events were done, and then turns of the lowest active run of then, until no run was left; the answers of
   -- both were taken in order, where that is told
@@ -35,8 +35,8 @@ module _ {D : Type 0} (operations : Operations D) where
     pub are : AreOf events occurrences
     pub runs : List ℕ
     pub drains : Drains (state_after operations occurrences old) runs
-    pub state : new ≡ state_after operations (occurrences ++ turns_of runs) old
-    pub answers : taken ≡ and_then before (answers_to operations (occurrences ++ turns_of runs) old)
+    pub state : new ≡ state_after operations (occurrences ++ turn_events runs) old
+    pub answers : taken ≡ and_then before (answers_to operations (occurrences ++ turn_events runs) old)
     pub none_left : lowest_run new ≡ None
 
 -- events can be served in parts

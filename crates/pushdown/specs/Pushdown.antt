@@ -4,8 +4,8 @@
 -- 2. each turn takes at most as many steps as the program has instructions;
 -- 3. each turn changes no zone but the destination, and that one by blocks at its end; it leaves other runs'
 --    places and other slots, and reads nothing but source blocks;
--- 4. each turn is the one that is fixed at admission: the blocks that it appends, the completion, and what it
---    leaves at the run's place and in the slots;
+-- 4. each turn is the one that is fixed at admission: the blocks that it appends, the completion, and all that
+--    it leaves: the namespace, the run's place and the slots;
 -- 5. the completion's numbers are whole.
 use Rattle.std.specs.Prelude.{ℕ, Bool, true, false, ◌≡◌, ◌≢◌, ◌≤◌, ◌<◌, ◌+◌, ◌^◌, ◌==◌, List, [], ◌∷◌, ◌++◌, length, take, drop, get_or, Option, Some, None, Ok, Vec}
 use Rattle.std.specs.List.{AllByRecursion}
@@ -24,7 +24,7 @@ use Rattle.pushdown.specs.Admission.{SameProgram, source_blocks, task_of}
 use Rattle.pushdown.specs.Answers.{Happening, Submission}
 use Rattle.pushdown.specs.BlockRuns.{Task, frames_of, last_scratch, runs_of}
 use Rattle.pushdown.specs.Events.{Occurrence, state_after}
-use Rattle.pushdown.specs.Machine.{admitted_place, place_left, slots_left, turn_answer, turned, why_not_run}
+use Rattle.pushdown.specs.Machine.{added, admitted_place, place_left, slots_left, turn_answer, turned, why_not_run}
 use Rattle.pushdown.specs.Outcome.{Ending, Turn, appended_by, ending_of, outcome}
 use Rattle.pushdown.specs.State.{Place, State, free_run, new_state, place_at, program_at}
 use Rattle.pushdown.specs.declared.event.Event.{Event}
@@ -147,14 +147,16 @@ module _ {D : Type 0} (operations : Operations D) where
 
     -- 4. After k own turns the first k turns of those fixed at admission are done: their blocks stand in order
     -- directly behind what the destination held at admission, and the others are left. The next turn answers
-    -- what is fixed for it, and appends its blocks; the last one posts the completion, to the queue and with
-    -- the identifier of the Run, frees the place, and leaves the last scratch bytes as the slot's result.
+    -- what is fixed for it, and leaves the namespace as a Zone Append of its blocks does that meets no hold; the
+    -- last one posts the completion, to the queue and with the identifier of the Run, frees the place, and
+    -- leaves the last scratch bytes as the slot's result.
     pub record DoesItsTurns : Type 0 where
       pub left : place_at now run ≡ Some (record place { turns = drop done place.turns })
       pub appended : blocks_at now place.destination ≡ blocks_at s place.destination ++ appended_by (take done place.turns)
       pub answer : next.answer ≡ turn_answer run place turn.ending
       pub then_appended : blocks_at next.state place.destination
           ≡ blocks_at s place.destination ++ appended_by (take (done + 1) place.turns)
+      pub then_namespace : next.state.namespace ≡ added now.namespace place.destination turn.blocks
       pub then_left : place_at next.state run ≡ place_left place (drop (done + 1) place.turns) turn.ending
       pub then_slots : next.state.slots ≡ slots_left now place turn.ending
 

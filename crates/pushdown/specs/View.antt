@@ -2,13 +2,14 @@
 use Rattle.std.specs.Prelude.{ℕ, ◌≡◌, ◌≤◌, ◌+◌, ◌-◌, ◌%◌, List, length, take, drop, get_or, map, Option, Some, None}
 use Rattle.nvme_entry.specs.Entry.{identifier_of}
 use Rattle.nvme_entry.specs.declared.command.RunCommand.{RunCommand}
+use Rattle.ebpf_decode.specs.declared.insn.Insn.{Insn}
 use Rattle.image_store.specs.Namespace.{ZonedNamespace, zone_at}
 use Rattle.zns_commands.specs.Address.{zone_number}
 use Rattle.zns_commands.specs.Kept.{Grows}
-use Rattle.pushdown.specs.Admission.{Loaded, SameProgram, task_of}
+use Rattle.pushdown.specs.Admission.{Loaded, SameProgram, limit_in, program_in, task_by}
 use Rattle.pushdown.specs.Answers.{Submission}
 use Rattle.pushdown.specs.Machine.{admitted_place}
-use Rattle.pushdown.specs.Outcome.{Progress, at_admission, rest}
+use Rattle.pushdown.specs.Outcome.{Progress, Turn, at_admission, rest}
 use Rattle.pushdown.specs.State.{State, Place}
 
 -- an active run as a device holds it
@@ -24,6 +25,10 @@ to_come ns a =
     take (a.order.blocks - a.so_far.index)
     (drop (a.order.lba % ns.size + a.so_far.index) (zone_at ns (zone_number ns a.order.lba)).blocks)
 
+-- the turns that are left of a run of this program
+abbrev pub turns_of : ZonedNamespace → List (Option Insn) → ℕ → Active → List Turn
+turns_of ns program limit a = rest (task_by ns program limit a.order) a.so_far (to_come ns a)
+
 -- the run's place: the turns that are left are the rest of the run
 abbrev pub place_of : ZonedNamespace → List (Option Loaded) → Active → Place
 place_of ns slots a = record {
@@ -32,7 +37,7 @@ place_of ns slots a = record {
   slot = a.order.slot;
   source = zone_number ns a.order.lba;
   destination = zone_number ns a.order.destination;
-  turns = rest (task_of ns (get_or slots a.order.slot None) a.order) a.so_far (to_come ns a);
+  turns = turns_of ns (program_in (get_or slots a.order.slot None)) (limit_in (get_or slots a.order.slot None)) a;
 }
 
 abbrev pub seen : ZonedNamespace → List (Option Loaded) → Option Active → Option Place

@@ -1,6 +1,8 @@
 //! Laws of the definitions. Each function does nothing: what it ensures is the law.
 
-ghost use Rattle.pushdown.specs.Laws.{AdmittedStarts, DrainingEnds, EmittedReadsBack, EventsKeepForRuns, ForeignLeavesTurns, OutcomeIsPacked, PendingIsAdmitted, RestAtAdmission, RestEnds, RestGoesOn, RestIsFew, StatesAreSound, TurnTakesFirst, TurnsCommute};
+ghost use Rattle.pushdown.specs.AnyOrder.{TurnsInAnyOrder};
+ghost use Rattle.pushdown.specs.Laws.{AdmittedStarts, DrainingEnds, EmittedReadsBack, EventsKeepForRuns, ForeignLeavesTurns, OutcomeIsPacked, PendingIsAdmitted, RestAtAdmission, RestEnds, RestGoesOn, RestIsFew, StatesAreSound, TurnTakesFirst};
+ghost use Rattle.pushdown.specs.Memory.{OnlyLoadsWantMemory};
 ghost use Rattle.pushdown.specs.Parts.{DrainedByTurns, DrainedInOneWay, InParts, OneAnswerEach, ServedAndDrained, ServedInParts};
 ghost use Rattle.pushdown.specs.Pushdown.{Pushdown};
 ghost use Rattle.pushdown.specs.ReadBack.{AppendedReadsBack, RunsReadBack, ShapesAreKept, UnclearedKeepBlocks, WrittenIsRead, WrittenReadsBack};
@@ -47,6 +49,11 @@ pub fn events_keep_for_runs<D: Domain>()
 /// Zone Append that meets no hold.
 pub fn appends_fit<D: Domain>()
     ensures { StatesAreSound D.operations }
+{}
+
+/// Only a Load asks for memory: that it is refused changes nothing of what any other event comes to.
+pub fn only_loads_want_memory<D: Domain>()
+    ensures { OnlyLoadsWantMemory D.operations }
 {}
 
 /// Each event has one answer.
@@ -104,17 +111,18 @@ pub fn appended_by_runs_reads_back<D: Domain>()
     ensures { RunsReadBack D.operations }
 {}
 
-/// The turns of two runs come to the same in either order.
-pub fn turns_commute<D: Domain>()
-    ensures { TurnsCommute D.operations }
+/// In each state that events leave, turns come to the same in any order: the same namespace, runs, programs
+/// and answers to each run, and in each slot that no two runs share also the same result.
+pub fn turns_in_any_order<D: Domain>()
+    ensures { TurnsInAnyOrder D.operations }
 {}
 
 /// The pushdown theorem, for every domain: whatever events came before, whatever Run is admitted then, and
 /// whatever events follow, no turn traps; each takes at most as many steps as the program has instructions;
-/// each changes no zone but its destination, and that one by blocks at its end, leaves other runs' places and
-/// other slots, and reads nothing but source blocks; the appended blocks, the completion, and what a turn
-/// leaves at the run's place and in the slots are those that are fixed at admission; and the completion's
-/// numbers are whole.
+/// each changes no zone but its destination, and that one by blocks at its end, as a Zone Append does that meets
+/// no hold, leaves other runs' places and other slots, and reads nothing but source blocks; the appended blocks,
+/// the completion, and what a turn leaves at the run's place and in the slots are those that are fixed at
+/// admission; and the completion's numbers are whole.
 pub fn pushdown<D: Domain>()
     ensures { Pushdown D.operations }
 {}

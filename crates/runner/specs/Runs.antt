@@ -1,10 +1,10 @@
 -- What holds of runs, in each state that events leave.
-use Rattle.std.specs.Prelude.{ℕ, Bool, ◌≢◌, List, Vec}
+use Rattle.std.specs.Prelude.{ℕ, Bool, List, Vec}
 use Rattle.std.specs.declared.alloc.Global.{Global}
 use Rattle.reg_domain.specs.Intervals.{intervals}
 use Rattle.nvme_entry.specs.declared.command.RunCommand.{RunCommand}
+use Rattle.pushdown.specs.AnyOrder.{AreSameTurns, ComeToTheSame}
 use Rattle.pushdown.specs.Events.{Occurrence}
-use Rattle.pushdown.specs.Laws.{Commutes}
 use Rattle.pushdown.specs.Pushdown.{IsAdmitted, IsPushedDown}
 use Rattle.pushdown.specs.State.{State}
 use Rattle.runner.specs.Ready.{IsReached}
@@ -17,6 +17,6 @@ RunsArePushedDown =
     → IsAdmitted s (record { queue = queue; entry = entry; payload = payload.items }) order run
     → IsPushedDown intervals s queue entry payload starved order run after
 
--- the turns of two runs come to the same in either order
-abbrev pub TurnsCommute : Type 0
-TurnsCommute = (s : State) → IsReached s → (first second : ℕ) → first ≢ second → Commutes s first second
+-- turns come to the same in any order
+abbrev pub TurnsInAnyOrder : Type 0
+TurnsInAnyOrder = (s : State) → IsReached s → (first second : List ℕ) → AreSameTurns first second → ComeToTheSame s first second

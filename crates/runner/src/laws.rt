@@ -3,7 +3,7 @@
 
 ghost use Rattle.runner.specs.Laws.{EmptyIsReached, EventsKeepReached, LoadedIsReached, ReachedDrains, ReachedIsSound, SavedStatesLoad, TurnsKeepReached};
 ghost use Rattle.runner.specs.ReadBack.{AppendedReadsBack, EmittedReadsBack, WrittenReadsBack};
-ghost use Rattle.runner.specs.Runs.{RunsArePushedDown, TurnsCommute};
+ghost use Rattle.runner.specs.Runs.{RunsArePushedDown, TurnsInAnyOrder};
 
 /// A device begins with an empty or a loaded image, and events lead on from there. In every state that they
 /// leave, the open and active zones are within the limits, each zone's state fits its written blocks, each
@@ -42,9 +42,9 @@ pub fn emitted_records_read_back()
 
 /// The pushdown theorem holds of each Run that a device admits: no turn traps, each takes at most as many
 /// steps as the program has instructions, a turn changes its destination alone, by blocks at its end, and
-/// the appended blocks and the completion are those that are fixed at admission. The turns of two runs come
-/// to the same in either order.
+/// the appended blocks and the completion are those that are fixed at admission. Turns come to the same in
+/// any order.
 pub fn runs_are_pushed_down()
     ensures theorem { RunsArePushedDown }
-    ensures order { TurnsCommute }
+    ensures order { TurnsInAnyOrder }
 {}
