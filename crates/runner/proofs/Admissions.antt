@@ -1,8 +1,7 @@
 -- The checks of a run, of their parts.
-use Rattle.std.proofs.Common.{◌≡◌, ℕ, ◌<◌, List, [], ◌∷◌, ◌++◌, length, map, get_or, Bool, true, Option, Some, None, refl, ap, sym, ◌∙◌}
+use Rattle.std.proofs.Common.{◌≡◌, ℕ, List, [], ◌∷◌, ◌++◌, length, get_or, Bool, true, Option, Some, None, refl, ap, sym, ◌∙◌}
 use Rattle.std.specs.Prelude.{◌==◌, is_none, is_some, position}
 use Rattle.std.proofs.Math.ListN.{get_or-map}
-use Rattle.std.proofs.lemmas.List.{get_or_default}
 use Rattle.zone_state.specs.declared.status.Status.{Status}
 use Rattle.zone_state.specs.declared.status.TheConstants.Status.{INVALID_FIELD_IN_COMMAND, NO_SUCH_PROGRAM, NO_RUN_FREE}
 use Rattle.zone_resources.specs.declared.holds.Holds.{Holds}
@@ -13,11 +12,11 @@ use Rattle.image_store.specs.declared.geometry.Place.{Place}
 use Rattle.emit_append.specs.Need.{need}
 use Rattle.verifier.specs.Verified.{sizes_of}
 use Rattle.zns_commands.specs.Address.{place_in}
-use Rattle.pushdown.specs.Admission.{Loaded, destination_zone, run_refusal, sizes_in}
+use Rattle.pushdown.specs.Admission.{Loaded, address_checks, destination_checks, destination_zone, run_refusal, sizes_in, source_checks}
 use Rattle.pushdown.specs.Answers.{Submission}
 use Rattle.pushdown.specs.Machine.{why_not_run}
 use Rattle.pushdown.specs.State.{program_at}
-use Rattle.runner.specs.Admitting.{ArePlaces, address_checks, destination_checks, source_checks}
+use Rattle.runner.specs.Admitting.{ArePlaces}
 use Rattle.runner.specs.Held.{filled, held_by, state_of}
 use Rattle.runner.specs.Ready.{IsReady}
 use Rattle.runner.specs.declared.active.Active.{Active as Held}
@@ -34,7 +33,7 @@ passes : (first rest : Option Status) → first ≡ None → or_else first rest 
 passes first rest none = rw none refl
 
 -- where no check before those of the destination fails, they decide
-pub last_decides : (ns : ZonedNamespace) (holds : Holds) (place_free : Bool) (slot : Option Loaded) (order : RunCommand) (input : List ℕ)
+last_decides : (ns : ZonedNamespace) (holds : Holds) (place_free : Bool) (slot : Option Loaded) (order : RunCommand) (input : List ℕ)
     (source : Place) (destination blocks : ℕ) → (length input == 0) ≡ true → is_some slot ≡ true → ArePlaces ns order source destination
     → first_refused (address_checks ns order) ≡ None → place_free ≡ true → first_refused (source_checks ns source order.blocks) ≡ None
     → blocks ≡ need order.blocks (sizes_in ns slot)
@@ -62,19 +61,13 @@ last_decides ns holds place_free slot order input source destination blocks no_i
     ∙ ap (λ (b : Bool). or_else (demand b NO_RUN_FREE) (or_else from to)) free
     ∙ passes from to from_none)
 
--- what is read at an index
-pub read_at : {X : Type 0} (xs : List (Option X)) (i k : ℕ) (read : Option X) (x : X) → i ≡ k → i < length xs → read ≡ get_or xs i read → read ≡ Some x
-    → get_or xs k None ≡ Some x
-read_at xs i k read x same inside is some =
-    ap (λ (n : ℕ). get_or xs n None) (sym same) ∙ get_or_default xs i None read inside ∙ sym is ∙ some
-
 -- what a device tests is what is said of its state
 module _ (ns : ZonedNamespace) (slots : List (Option LoadedProgram)) (runs : List (Option Held)) where
   pub program_is : (slot : ℕ) → program_at (state_of ns slots runs) slot ≡ filled (get_or slots slot None)
   program_is slot = get_or-map filled slots slot None
 
   -- the sizes that the program of a slot was accepted for
-  pub granted : (slot : ℕ) (p : LoadedProgram) → IsReady ns slots runs → get_or slots slot None ≡ Some p
+  granted : (slot : ℕ) (p : LoadedProgram) → IsReady ns slots runs → get_or slots slot None ≡ Some p
       → sizes_of p.verified ≡ sizes_in ns (filled (get_or slots slot None))
   granted slot p ready at =
       ap (λ (block : ℕ). record { block = block; limit = (sizes_of p.verified).limit }) (ready.programs slot p at)

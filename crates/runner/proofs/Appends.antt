@@ -14,7 +14,7 @@ use Rattle.pushdown.specs.Machine.{added}
 
 -- ---- one block
 
-pub one_count : (block : ℕ) (bytes : List ℕ) → 1 ≤ block → length bytes ≡ block → block_count block bytes ≡ 1
+one_count : (block : ℕ) (bytes : List ℕ) → 1 ≤ block → length bytes ≡ block → block_count block bytes ≡ 1
 one_count block bytes some same = ap (λ (n : ℕ). n / block) same ∙ div_self {n = block} some
 
 one_block : (block : ℕ) (bytes : List ℕ) → 1 ≤ block → length bytes ≡ block → as_blocks block bytes ≡ bytes ∷ []

@@ -1,85 +1,38 @@
 -- A turn, over all that a device has.
-use Rattle.std.proofs.Common.{◌≡◌, ℕ, zero, suc, ◌<◌, ◌≤◌, false, List, [], ◌∷◌, length, map, set, get_or, Option, Some, None, refl, ap, sym, subst, ◌∙◌, arith, inl, inr}
-use Rattle.std.specs.Prelude.{◌⊎◌}
+use Rattle.std.proofs.Common.{◌≡◌, ℕ, ◌<◌, ◌≤◌, false, List, [], ◌∷◌, length, map, set, get_or, Option, Some, None, refl, ap, sym, subst, ◌∙◌, arith, inl, inr}
 use Rattle.std.proofs.Math.ListN.{get_or-map}
 use Rattle.std.proofs.Math.Seq.{map-set_same}
-use Rattle.std.proofs.lemmas.List.{get_or_default, length-set, map-set}
-use Rattle.zone_state.specs.declared.status.TheConstants.Status.{SUCCESS}
-use Rattle.nvme_entry.specs.Completion.{completion_bytes}
-use Rattle.nvme_entry.specs.declared.program_slot.TheConstants.{PROGRAM_SLOTS}
+use Rattle.std.proofs.lemmas.List.{map-set, set-get_or}
 use Rattle.nvme_entry.specs.declared.command.RunCommand.{RunCommand}
 use Rattle.ebpf_decode.specs.declared.insn.Insn.{Insn}
-use Rattle.reg_domain.specs.Intervals.{intervals, intervals_sound}
-use Rattle.verifier.specs.Soundness.{accepted_never_traps}
+use Rattle.reg_domain.specs.Intervals.{intervals}
 use Rattle.verifier.specs.Verified.{program_of, sizes_of}
 use Rattle.image_store.specs.Geometry.{Shape}
 use Rattle.image_store.specs.Namespace.{ZonedNamespace, shape, zone_at}
 use Rattle.zns_commands.specs.Address.{zone_number}
 use Rattle.zns_commands.specs.Kept.{Grows}
+use Rattle.zns_commands.specs.declared.answer.Answer.{Answer}
 use Rattle.pushdown.specs.Admission.{Loaded, SameProgram, task_of}
-use Rattle.pushdown.specs.Answers.{Happening}
-use Rattle.pushdown.specs.Laws.{IsSoundState, KeepsFor, RoomIn}
-use Rattle.pushdown.specs.Machine.{added, keeping, take_turn, turned}
+use Rattle.pushdown.specs.Answers.{Happening, idle}
+use Rattle.pushdown.specs.Laws.{KeepsFor, RoomIn}
+use Rattle.pushdown.specs.Machine.{added, keeping, place_left, slots_left, take_turn, turn_answer, turned, turned_at}
 use Rattle.pushdown.specs.Outcome.{Turn, rest}
 use Rattle.pushdown.specs.State.{Place, State, place_at}
-use Rattle.pushdown.specs.View.{place_of, seen, to_come}
+use Rattle.pushdown.specs.View.{place_of, seen, to_come, turns_of}
 use Rattle.pushdown.specs.declared.event.Event.TheVariants as event
 use Rattle.pushdown.specs.declared.reply.Reply.{Reply}
 use Rattle.pushdown.specs.declared.reply.Reply.TheVariants as reply
 use Rattle.pushdown.proofs.Foreign.{turned_is}
 use Rattle.pushdown.proofs.Needed.{events_keep_for_runs}
-use Rattle.pushdown.proofs.States.{states_are_sound}
+use Rattle.runner.specs.Answered.{complete_reply}
 use Rattle.runner.specs.Held.{active_of, filled, loaded_of, running, state_of}
 use Rattle.runner.specs.Ready.{Fits, IsFor, IsReached, IsReady, IsRunning}
-use Rattle.runner.specs.Turning.{FitsIn, FitsOn, GoesOn, HasEnded, Keeps, SlotTurned, turns_of}
+use Rattle.runner.specs.Turning.{FitsAt, FitsIn, FitsOn, GoesOn, HasEnded, IsTurned, Keeps, SlotTurned}
 use Rattle.runner.specs.declared.active.Active.{Active as Held}
 use Rattle.runner.specs.declared.loaded.LoadedProgram.{LoadedProgram}
-use Rattle.runner.specs.declared.turn.Ended.{Ended}
+use Rattle.runner.proofs.MayBeThere.{Where, found, still_some, was_set}
+use Rattle.runner.proofs.Reached.{reached_is_sound}
 use Rattle.runner.proofs.Staying.{Stays, grows_there, keeps_source, others_stay, placed_at, still_fits}
-
--- ---- lists of what may be there
-
-was_set : {X : Type 0} (xs : List (Option X)) (j i : ℕ) (o : Option X) (x : X) → get_or (set xs j o) i None ≡ Some x
-    → (o ≡ Some x) ⊎ (get_or xs i None ≡ Some x)
-was_set [] j i o x at = cc
-was_set (w ∷ xs) zero zero o x at = inl at
-was_set (w ∷ xs) zero (suc i) o x at = inr at
-was_set (w ∷ xs) (suc j) zero o x at = inr at
-was_set (w ∷ xs) (suc j) (suc i) o x at = was_set xs j i o x at
-
-still_some : {X : Type 0} (xs : List (Option X)) (j i : ℕ) (y x : X) → get_or xs i None ≡ Some x
-    → (z : X) × (get_or (set xs j (Some y)) i None ≡ Some z)
-still_some [] j i y x at = cc
-still_some (w ∷ xs) zero zero y x at = (y, refl)
-still_some (w ∷ xs) zero (suc i) y x at = (x, at)
-still_some (w ∷ xs) (suc j) zero y x at = (x, at)
-still_some (w ∷ xs) (suc j) (suc i) y x at = still_some xs j i y x at
-
-found : {X : Type 0} (xs : List (Option X)) (i j : ℕ) (d : Option X) (x : X) → i ≡ j → i < length xs → get_or xs j None ≡ Some x
-    → get_or xs i d ≡ Some x
-found xs i j d x same less at = get_or_default xs i d None less ∙ ap (λ (n : ℕ). get_or xs n None) same ∙ at
-
--- what holds of what may be there
-abbrev Where : {X : Type 0} → (X → Type 0) → Option X → Type 0
-Where P None = Unit {0}
-Where P (Some x) = P x
-
--- ---- a run that is given a turn
-
-pub sound_state : (s : State) → IsReached s → IsSoundState s
-sound_state s reached =
-    subst IsSoundState (sym reached.leaves)
-    (states_are_sound intervals (accepted_never_traps intervals_sound) reached.first reached.events reached.namespace reached.bytes)
-
--- the bytes of its completion
-abbrev completion_of : Held → Ended → List ℕ
-completion_of a ended = completion_bytes (record { dw0 = ended.frames; dw1 = ended.appended; queue = a.queue; cid = a.cid; status = SUCCESS })
-
--- what a turn in a state comes to
-pub record IsTurned (s : State) (run : ℕ) (ns : ZonedNamespace) (slots : List (Option LoadedProgram)) (runs : List (Option Held)) (answer : Reply) : Type 0 where
-  pub reply : answer ≡ (turned s run).answer.reply
-  pub state : state_of ns slots runs ≡ (turned s run).state
-  pub ready : IsReady ns slots runs
 
 module _ (ns : ZonedNamespace) (slots : List (Option LoadedProgram)) (runs : List (Option Held)) (ready : IsReady ns slots runs)
     (k : ℕ) (a : Held) (at : get_or runs k None ≡ Some a) (p : LoadedProgram) (loaded : get_or slots a.order.slot None ≡ Some p) where
@@ -115,7 +68,7 @@ module _ (ns : ZonedNamespace) (slots : List (Option LoadedProgram)) (runs : Lis
 
   fits_on : IsReached s → FitsOn ns code limit a
   fits_on reached =
-      let sound = sound_state s reached in
+      let sound = reached_is_sound s reached in
       record {
         run = fits;
         some = omega (arith, sound.namespace.shape.block_some);
@@ -125,14 +78,28 @@ module _ (ns : ZonedNamespace) (slots : List (Option LoadedProgram)) (runs : Lis
             (subst (RoomIn ns.capacity (zone_at ns (zone_number ns a.order.destination))) turns_are (sound.rooms k place here));
       }
 
-  fits_in : IsReached s → FitsIn ns (Some p) (Some a)
-  fits_in reached = (accepted, fits_on reached)
+  fits_in : IsReached s → FitsIn ns (get_or slots a.order.slot None) a
+  fits_in reached = subst (λ (o : Option LoadedProgram). FitsIn ns o a) (sym loaded) (accepted, fits_on reached)
 
-  -- the other runs, in the state after it
-  module _ (new : ZonedNamespace) (q : LoadedProgram) (same : q.verified ≡ p.verified) (namespace : after.namespace ≡ new)
-      (programs : after.slots ≡ map filled (set slots a.order.slot (Some q))) where
+  -- ---- the first of its turns is done, and its program and its place are these
+
+  module _ (new : ZonedNamespace) (q : LoadedProgram) (r : Option Held) (turn : Turn) (later : List Turn)
+      (first : turns_of ns code limit (active_of a) ≡ turn ∷ later) (written : new ≡ added ns a.destination turn.blocks)
+      (same : q.verified ≡ p.verified) (programs : slots_left s place turn.ending ≡ map filled (set slots a.order.slot (Some q))) where
     abbrev slots' : List (Option LoadedProgram)
     slots' = set slots a.order.slot (Some q)
+
+    comes : turned s k ≡ take_turn s k place (turn ∷ later)
+    comes = turned_is s k place turn later here (turns_are ∙ first)
+
+    written_there : added ns place.destination turn.blocks ≡ new
+    written_there = ap (λ (z : ℕ). added ns z turn.blocks) (sym fits.destination) ∙ sym written
+
+    namespace_is : after.namespace ≡ new
+    namespace_is = ap (λ (h : Happening). h.state.namespace) comes ∙ written_there
+
+    programs_are : after.slots ≡ map filled slots'
+    programs_are = ap (λ (h : Happening). h.state.slots) comes ∙ programs
 
     keeps : (j : ℕ) (b : Held) → get_or runs j None ≡ Some b → KeepsFor (place_of ns (map filled slots) (active_of b)) s after
     keeps j b there =
@@ -140,7 +107,7 @@ module _ (ns : ZonedNamespace) (slots : List (Option LoadedProgram)) (runs : Lis
         (placed_at ns slots runs j b there)
 
     same_shape : shape new ≡ shape ns
-    same_shape = subst (λ (m : ZonedNamespace). shape m ≡ shape ns) namespace (keeps k a at).sizes
+    same_shape = subst (λ (m : ZonedNamespace). shape m ≡ shape ns) namespace_is (keeps k a at).sizes
 
     same_block : ns.block ≡ new.block
     same_block = ap (λ (x : Shape). x.block) (sym same_shape)
@@ -148,18 +115,15 @@ module _ (ns : ZonedNamespace) (slots : List (Option LoadedProgram)) (runs : Lis
     grows : (j : ℕ) (b : Held) → get_or runs j None ≡ Some b → Grows (zone_at ns b.source.zone).blocks (zone_at new b.source.zone).blocks
     grows j b there =
         grows_there ns new b (ready.running j b there).fits
-        (subst (λ (m : ZonedNamespace). Grows (zone_at ns (zone_number ns b.order.lba)).blocks (zone_at m (zone_number ns b.order.lba)).blocks) namespace
+        (subst (λ (m : ZonedNamespace). Grows (zone_at ns (zone_number ns b.order.lba)).blocks (zone_at m (zone_number ns b.order.lba)).blocks) namespace_is
         (keeps j b there).source)
 
     stays : (j : ℕ) (b : Held) → get_or runs j None ≡ Some b → Stays ns new slots slots' b
     stays j b there = record {
       source = keeps_source ns new b (ready.running j b there).fits same_shape (grows j b there);
-      program = subst (λ (xs : List (Option Loaded)). SameProgram (get_or (map filled slots) b.order.slot None) (get_or xs b.order.slot None)) programs
+      program = subst (λ (xs : List (Option Loaded)). SameProgram (get_or (map filled slots) b.order.slot None) (get_or xs b.order.slot None)) programs_are
           (keeps j b there).program;
     }
-
-    places_are : (r : Option Held) → (state_of new slots' (set runs k r)).places ≡ set s.places k (seen new (map filled slots') (running r))
-    places_are r = others_stay ns new slots slots' runs k r (λ j b other there. stays j b there)
 
     still_for : (i : ℕ) (x : LoadedProgram) → get_or slots' i None ≡ Some x → IsFor new x
     still_for i x there = elim (was_set slots a.order.slot i (Some q) x there) [
@@ -176,8 +140,8 @@ module _ (ns : ZonedNamespace) (slots : List (Option LoadedProgram)) (runs : Lis
     abbrev OwnFits : Held → Type 0
     OwnFits b = (b.order ≡ a.order) × Fits new b
 
-    all_ready : (r : Option Held) → Where OwnFits r → IsReady new slots' (set runs k r)
-    all_ready r own = record {
+    all_ready : Where OwnFits r → IsReady new slots' (set runs k r)
+    all_ready own = record {
       programs = still_for;
       running = λ j b there. elim (was_set runs k j r b there) [
         | inl is ↦
@@ -187,186 +151,153 @@ module _ (ns : ZonedNamespace) (slots : List (Option LoadedProgram)) (runs : Lis
             let is = ready.running j b was in
             is_running b is.program is.loaded (still_fits ns new b is.fits same_shape (grows j b was))
       ];
-      all_slots = length-set slots a.order.slot (Some q) ∙ ready.all_slots;
-      all_runs = length-set runs k r ∙ ready.all_runs;
     }
 
-  module _ (new : ZonedNamespace) (q : LoadedProgram) (same : q.verified ≡ p.verified) where
-    -- ---- a turn after which it goes on
+    is_turned : (answer : Reply) → answer ≡ (turn_answer k place turn.ending).reply
+        → seen new (map filled slots') (running r) ≡ place_left place later turn.ending → Where OwnFits r
+        → IsTurned s k new slots' (set runs k r) answer
+    is_turned answer told left own =
+        let with_places : List (Option Place) → State = λ places. record { namespace = new; slots = map filled slots'; places = places } in
+        let places = set s.places k (place_left place later turn.ending) in
+        record {
+          reply = told ∙ sym (ap (λ (h : Happening). h.answer.reply) comes);
+          state =
+              ap with_places (others_stay ns new slots slots' runs k r (λ j b other there. stays j b there))
+              ∙ ap (λ (o : Option Place). with_places (set s.places k o)) left
+              ∙ ap (λ (xs : List (Option Loaded)). record { namespace = new; slots = xs; places = places }) (sym programs)
+              ∙ ap (λ (m : ZonedNamespace). record { namespace = m; slots = slots_left s place turn.ending; places = places }) (sym written_there)
+              ∙ sym (ap (λ (h : Happening). h.state) comes);
+          ready = all_ready own;
+        }
 
-    module _ (b : Held) (g : GoesOn ns new code limit a b) (kept : Keeps a b) (result : q.result ≡ p.result) where
-      abbrev later : List Turn
-      later = turns_of new code limit (active_of b)
+  -- ---- a turn after which it goes on
 
-      abbrev turn : Turn
-      turn = record { blocks = g.blocks; ending = None }
+  module _ (new : ZonedNamespace) (q : LoadedProgram) (b : Held) (same : q ≡ p) (g : GoesOn ns new code limit a b) (kept : Keeps a b) where
+    abbrev later : List Turn
+    later = turns_of new code limit (active_of b)
 
-      goes : turned s k ≡ take_turn s k place (turn ∷ later)
-      goes = turned_is s k place turn later here (turns_are ∙ g.turns)
+    abbrev turn : Turn
+    turn = record { blocks = g.blocks; ending = None }
 
-      namespace_goes : after.namespace ≡ new
-      namespace_goes =
-          ap (λ (h : Happening). h.state.namespace) goes
-          ∙ ap (λ (z : ℕ). added ns z g.blocks) (sym fits.destination)
-          ∙ sym g.namespace
+    programs_same : map filled (set slots a.order.slot (Some q)) ≡ map filled slots
+    programs_same =
+        map-set_same filled slots a.order.slot (Some q) None (ap (λ (x : LoadedProgram). filled (Some x)) same ∙ ap filled (sym loaded))
 
-      same_loaded : filled (Some q) ≡ filled (get_or slots a.order.slot None)
-      same_loaded =
-          ap (λ v. Some (record { program = program_of v; limit = (sizes_of v).limit; result = q.result })) same
-          ∙ ap (λ (bytes : List ℕ). Some (record { program = code; limit = limit; result = bytes })) result
-          ∙ ap filled (sym loaded)
+    verified_same : q.verified ≡ p.verified
+    verified_same = ap (λ (x : LoadedProgram). x.verified) same
 
-      programs_same : map filled (set slots a.order.slot (Some q)) ≡ map filled slots
-      programs_same = map-set_same filled slots a.order.slot (Some q) None same_loaded
+    abbrev sees : ℕ → ℕ → RunCommand → ℕ → List Turn → Place
+    sees queue cid order size turns = record {
+      queue = queue;
+      cid = cid;
+      slot = order.slot;
+      source = zone_number (record ns { size = size }) order.lba;
+      destination = zone_number (record ns { size = size }) order.destination;
+      turns = turns;
+    }
 
-      programs_go : after.slots ≡ map filled (set slots a.order.slot (Some q))
-      programs_go = ap (λ (h : Happening). h.state.slots) goes ∙ sym programs_same
+    own_slot : get_or (map filled (set slots a.order.slot (Some q))) b.order.slot None ≡ Some (loaded_of p)
+    own_slot =
+        ap (λ (xs : List (Option Loaded)). get_or xs b.order.slot None) programs_same
+        ∙ ap (λ (order : RunCommand). get_or (map filled slots) order.slot None) kept.order
+        ∙ slot_is
 
-      abbrev sees : ℕ → ℕ → RunCommand → ℕ → List Turn → Place
-      sees queue cid order size turns = record {
-        queue = queue;
-        cid = cid;
-        slot = order.slot;
-        source = zone_number (record ns { size = size }) order.lba;
-        destination = zone_number (record ns { size = size }) order.destination;
-        turns = turns;
-      }
+    own_place : place_of new (map filled (set slots a.order.slot (Some q))) (active_of b) ≡ record place { turns = later }
+    own_place =
+        ap (λ (o : Option Loaded). sees b.queue b.cid b.order new.size (rest (task_of new o b.order) (active_of b).so_far (to_come new (active_of b)))) own_slot
+        ∙ ap (λ (x : Shape). sees b.queue b.cid b.order x.size later) (same_shape new q (Some b) turn later g.turns g.namespace verified_same (sym programs_same))
+        ∙ ap (λ (order : RunCommand). sees b.queue b.cid order ns.size later) kept.order
+        ∙ ap (λ (cid : ℕ). sees b.queue cid a.order ns.size later) kept.cid
+        ∙ ap (λ (queue : ℕ). sees queue a.cid a.order ns.size later) kept.queue
 
-      own_slot : get_or (map filled (set slots a.order.slot (Some q))) b.order.slot None ≡ Some (loaded_of p)
-      own_slot =
-          ap (λ (xs : List (Option Loaded)). get_or xs b.order.slot None) programs_same
-          ∙ ap (λ (order : RunCommand). get_or (map filled slots) order.slot None) kept.order
-          ∙ slot_is
+    goes_turned : Fits new b → IsTurned s k new (set slots a.order.slot (Some q)) (set runs k (Some b)) (reply.Pending k)
+    goes_turned fit =
+        is_turned new q (Some b) turn later g.turns g.namespace verified_same (sym programs_same) (reply.Pending k) refl (ap Some own_place) (kept.order, fit)
 
-      own_place : place_of new (map filled (set slots a.order.slot (Some q))) (active_of b) ≡ record place { turns = later }
-      own_place =
-          ap (λ (o : Option Loaded). sees b.queue b.cid b.order new.size (rest (task_of new o b.order) (active_of b).so_far (to_come new (active_of b)))) own_slot
-          ∙ ap (λ (x : Shape). sees b.queue b.cid b.order x.size later) (same_shape new q same namespace_goes programs_go)
-          ∙ ap (λ (order : RunCommand). sees b.queue b.cid order ns.size later) kept.order
-          ∙ ap (λ (cid : ℕ). sees b.queue cid a.order ns.size later) kept.cid
-          ∙ ap (λ (queue : ℕ). sees queue a.cid a.order ns.size later) kept.queue
+  -- ---- a turn that ends it
 
-      places_go : (state_of new (set slots a.order.slot (Some q)) (set runs k (Some b))).places ≡ after.places
-      places_go =
-          places_are new q same namespace_goes programs_go (Some b)
-          ∙ ap (λ (x : Place). set s.places k (Some x)) own_place
-          ∙ sym (ap (λ (h : Happening). h.state.places) goes)
+  module _ (new : ZonedNamespace) (q : LoadedProgram) (b : Held) (answer : Answer) (same : q ≡ record p { result = b.scratch })
+      (e : HasEnded ns new code limit a b answer) (kept : Keeps a b) where
+    abbrev last : Turn
+    last = record {
+      blocks = e.blocks;
+      ending = Some (record { status = answer.status; dw0 = answer.dw0; dw1 = answer.dw1; result = Some b.scratch });
+    }
 
-      goes_turned : Fits new b → IsTurned s k new (set slots a.order.slot (Some q)) (set runs k (Some b)) (reply.Pending k)
-      goes_turned fit = record {
-        reply = sym (ap (λ (h : Happening). h.answer.reply) goes);
-        state =
-            ap (λ (places : List (Option Place)). record { namespace = new; slots = map filled (set slots a.order.slot (Some q)); places = places }) places_go
-            ∙ ap (λ (xs : List (Option Loaded)). record { namespace = new; slots = xs; places = after.places }) (sym programs_go)
-            ∙ ap (λ (m : ZonedNamespace). record { namespace = m; slots = after.slots; places = after.places }) (sym namespace_goes);
-        ready = all_ready new q same namespace_goes programs_go (Some b) (kept.order, fit);
-      }
+    programs_end : slots_left s place last.ending ≡ map filled (set slots a.order.slot (Some q))
+    programs_end =
+        ap (λ (o : Option Loaded). set (map filled slots) a.order.slot (keeping o (Some b.scratch))) slot_is
+        ∙ ap (λ (x : LoadedProgram). set (map filled slots) a.order.slot (filled (Some x))) (sym same)
+        ∙ sym (map-set filled slots a.order.slot (Some q))
 
-    -- ---- a turn that ends it
+    told : complete_reply b.queue b.cid answer ≡ (turn_answer k place last.ending).reply
+    told =
+        ap (λ (queue : ℕ). complete_reply queue b.cid answer) kept.queue
+        ∙ ap (λ (cid : ℕ). complete_reply a.queue cid answer) kept.cid
+        ∙ ap (λ (n : ℕ). complete_reply a.queue a.cid (record answer { length = n })) e.no_data
 
-    module _ (b : Held) (ended : Ended) (e : HasEnded ns new code limit a b ended) (result : q.result ≡ b.scratch) where
-      abbrev last : Turn
-      last = record {
-        blocks = e.blocks;
-        ending = Some (record { status = SUCCESS; dw0 = ended.frames; dw1 = ended.appended; result = Some b.scratch });
-      }
+    ends_turned : IsTurned s k new (set slots a.order.slot (Some q)) (set runs k None) (complete_reply b.queue b.cid answer)
+    ends_turned =
+        is_turned new q None last [] e.turns e.namespace (ap (λ (x : LoadedProgram). x.verified) same) programs_end
+        (complete_reply b.queue b.cid answer) told refl tt
 
-      ends : turned s k ≡ take_turn s k place (last ∷ [])
-      ends = turned_is s k place last [] here (turns_are ∙ e.turns)
+  -- ---- what its program and its run are afterwards
 
-      namespace_ends : after.namespace ≡ new
-      namespace_ends =
-          ap (λ (h : Happening). h.state.namespace) ends
-          ∙ ap (λ (z : ℕ). added ns z e.blocks) (sym fits.destination)
-          ∙ sym e.namespace
+  given_more : (new : ZonedNamespace) (q : Option LoadedProgram) (b : Held) → SlotTurned ns new (Some p) q a b None
+      → IsTurned s k new (set slots a.order.slot q) (set runs k (Some b)) (reply.Pending k)
+  given_more new None b done = absurd done
+  given_more new (Some q) b done = goes_turned new q b done.0 done.1 done.2 done.3
 
-      kept_result : keeping (get_or (map filled slots) a.order.slot None) (Some b.scratch) ≡ filled (Some q)
-      kept_result =
-          ap (λ (o : Option Loaded). keeping o (Some b.scratch)) slot_is
-          ∙ ap (λ (bytes : List ℕ). Some (record { program = code; limit = limit; result = bytes })) (sym result)
-          ∙ ap (λ v. Some (record { program = program_of v; limit = (sizes_of v).limit; result = q.result })) (sym same)
+  given_last : (new : ZonedNamespace) (q : Option LoadedProgram) (b : Held) (answer : Answer) → SlotTurned ns new (Some p) q a b (Some answer)
+      → IsTurned s k new (set slots a.order.slot q) (set runs k None) (complete_reply b.queue b.cid answer)
+  given_last new None b answer done = absurd done
+  given_last new (Some q) b answer done = ends_turned new q b answer done.0 done.1 done.2
 
-      programs_end : after.slots ≡ map filled (set slots a.order.slot (Some q))
-      programs_end =
-          ap (λ (h : Happening). h.state.slots) ends
-          ∙ ap (λ (o : Option Loaded). set (map filled slots) a.order.slot o) kept_result
-          ∙ sym (map-set filled slots a.order.slot (Some q))
+-- ---- at any place
 
-      places_end : (state_of new (set slots a.order.slot (Some q)) (set runs k None)).places ≡ after.places
-      places_end = places_are new q same namespace_ends programs_end None ∙ sym (ap (λ (h : Happening). h.state.places) ends)
+-- the run at a place fits, with the program of its slot
+pub fits_at : (ns : ZonedNamespace) (slots : List (Option LoadedProgram)) (runs : List (Option Held)) (k : ℕ) (place : Option Held)
+    → IsReady ns slots runs → IsReached (state_of ns slots runs) → get_or runs k None ≡ place → FitsAt ns slots place
+fits_at ns slots runs k None ready reached at = tt
+fits_at ns slots runs k (Some a) ready reached at =
+    let own = ready.running k a at in fits_in ns slots runs ready k a at own.program own.loaded reached
 
-      ends_turned : IsTurned s k new (set slots a.order.slot (Some q)) (set runs k None)
-          (reply.Complete a.queue (completion_of a ended) 0)
-      ends_turned = record {
-        reply = sym (ap (λ (h : Happening). h.answer.reply) ends);
-        state =
-            ap (λ (places : List (Option Place)). record { namespace = new; slots = map filled (set slots a.order.slot (Some q)); places = places }) places_end
-            ∙ ap (λ (xs : List (Option Loaded)). record { namespace = new; slots = xs; places = after.places }) (sym programs_end)
-            ∙ ap (λ (m : ZonedNamespace). record { namespace = m; slots = after.slots; places = after.places }) (sym namespace_ends);
-        ready = all_ready new q same namespace_ends programs_end None tt;
-      }
+-- no run is there
+idles : (ns : ZonedNamespace) (slots : List (Option LoadedProgram)) (runs : List (Option Held)) (k : ℕ) → IsReady ns slots runs
+    → get_or runs k None ≡ None → IsTurned (state_of ns slots runs) k ns slots runs reply.Idle
+idles ns slots runs k ready none =
+    let s = state_of ns slots runs in
+    let free : place_at s k ≡ None =
+    get_or-map (seen ns (map filled slots)) (map running runs) k None
+    ∙ ap (seen ns (map filled slots)) (get_or-map running runs k None ∙ ap running none) in
+    let comes : turned s k ≡ idle s = ap (λ (o : Option Place). turned_at s k o) free in
+    record { reply = sym (ap (λ (h : Happening). h.answer.reply) comes); state = sym (ap (λ (h : Happening). h.state) comes); ready = ready }
 
-  -- ---- what the place and the slot are afterwards
+pub idles_there : (ns : ZonedNamespace) (slots : List (Option LoadedProgram)) (runs : List (Option Held)) (k : ℕ) (o : Option Held) → IsReady ns slots runs
+    → get_or runs k None ≡ o → o ≡ None → IsTurned (state_of ns slots runs) k ns slots (set runs k o) reply.Idle
+idles_there ns slots runs k o ready at none =
+    subst (λ (xs : List (Option Held)). IsTurned (state_of ns slots runs) k ns slots xs reply.Idle)
+    (sym (ap (set runs k) (sym at) ∙ set-get_or runs k None)) (idles ns slots runs k ready (at ∙ none))
 
-  given_more : (new : ZonedNamespace) (q : Option LoadedProgram) (r : Option Held) → SlotTurned ns new (Some p) q (Some a) r None
-      → IsTurned s k new (set slots a.order.slot q) (set runs k r) (reply.Pending k)
-  given_more new None r turn = absurd turn
-  given_more new (Some q) None turn = absurd turn.1
-  given_more new (Some q) (Some b) turn = goes_turned new q turn.0 b turn.1.0 turn.1.1 turn.1.3 turn.1.2
-
-  given_last : (new : ZonedNamespace) (q : Option LoadedProgram) (r : Option Held) (ended : Ended) → SlotTurned ns new (Some p) q (Some a) r (Some ended)
-      → IsTurned s k new (set slots a.order.slot q) (set runs k r)
-      (reply.Complete a.queue (completion_of a ended) 0)
-  given_last new None r ended turn = absurd turn
-  given_last new (Some q) (Some b) ended turn = absurd turn.1
-  given_last new (Some q) None ended turn = ends_turned new q turn.0 turn.1.0 ended turn.1.1 turn.1.2
-
--- ---- as the code finds the place and the slot
-
-module _ (ns : ZonedNamespace) (slots : List (Option LoadedProgram)) (runs : List (Option Held)) (ready : IsReady ns slots runs)
-    (run place slot : ℕ) (a : Held) (first second : Option Held) (default : Option LoadedProgram) (is_run : place ≡ run)
-    (within : place < length runs) (is : get_or runs place first ≡ Some a) (is_slot : slot ≡ a.order.slot) (few : slot < PROGRAM_SLOTS) where
-  at_run : get_or runs run None ≡ Some a
-  at_run = ap (λ (k : ℕ). get_or runs k None) (sym is_run) ∙ get_or_default runs place None first within ∙ is
-
+module _ (ns new : ZonedNamespace) (slots : List (Option LoadedProgram)) (k slot : ℕ) (a b : Held) (default q : Option LoadedProgram) (is_slot : slot ≡ a.order.slot)
+    (within : slot < length slots) (runs : List (Option Held)) (at : get_or runs k None ≡ Some a) (ready : IsReady ns slots runs) where
   abbrev own : IsRunning ns slots a
-  own = ready.running run a at_run
+  own = ready.running k a at
 
   in_slot : get_or slots slot default ≡ Some own.program
-  in_slot = found slots slot a.order.slot default own.program is_slot (omega (arith, few, ready.all_slots)) own.loaded
+  in_slot = found slots slot a.order.slot default own.program is_slot within own.loaded
 
-  in_place : get_or runs place second ≡ Some a
-  in_place = found runs place run second a is_run within at_run
+  abbrev Comes : ℕ → Option Held → Reply → Type 0
+  Comes slot place answer = IsTurned (state_of ns slots runs) k new (set slots slot q) (set runs k place) answer
 
-  pub fits_there : IsReached (state_of ns slots runs) → FitsIn ns (get_or slots slot default) (get_or runs place second)
-  fits_there reached =
-      subst (λ (o : Option LoadedProgram). FitsIn ns o (get_or runs place second)) (sym in_slot)
-      (subst (λ (r : Option Held). FitsIn ns (Some own.program) r) (sym in_place)
-      (fits_in ns slots runs ready run a at_run own.program own.loaded reached))
+  pub more_there : SlotTurned ns new (get_or slots slot default) q a b None → Comes slot (Some b) (reply.Pending k)
+  more_there turn =
+      subst (λ (n : ℕ). Comes n (Some b) (reply.Pending k)) (sym is_slot)
+      (given_more ns slots runs ready k a at own.program own.loaded new q b
+      (subst (λ (o : Option LoadedProgram). SlotTurned ns new o q a b None) in_slot turn))
 
-  module _ (new : ZonedNamespace) (q : Option LoadedProgram) (r : Option Held) where
-    turned_there : (result : Option Ended) → SlotTurned ns new (get_or slots slot default) q (get_or runs place second) r result
-        → SlotTurned ns new (Some own.program) q (Some a) r result
-    turned_there result turn =
-        subst (λ (p : Option Held). SlotTurned ns new (Some own.program) q p r result) in_place
-        (subst (λ (o : Option LoadedProgram). SlotTurned ns new o q (get_or runs place second) r result) in_slot turn)
-
-    abbrev Comes : Reply → Type 0
-    Comes answer = IsTurned (state_of ns slots runs) run new (set slots slot q) (set runs place r) answer
-
-    set_there : (answer : Reply) → IsTurned (state_of ns slots runs) run new (set slots a.order.slot q) (set runs run r) answer → Comes answer
-    set_there answer comes =
-        subst (λ (i : ℕ). IsTurned (state_of ns slots runs) run new (set slots i q) (set runs place r) answer) (sym is_slot)
-        (subst (λ (k : ℕ). IsTurned (state_of ns slots runs) run new (set slots a.order.slot q) (set runs k r) answer) (sym is_run) comes)
-
-    pub more_there : SlotTurned ns new (get_or slots slot default) q (get_or runs place second) r None → Comes (reply.Pending run)
-    more_there turn =
-        set_there (reply.Pending run)
-        (given_more ns slots runs ready run a at_run own.program own.loaded new q r (turned_there None turn))
-
-    pub last_there : (ended : Ended) (entry : List ℕ) → SlotTurned ns new (get_or slots slot default) q (get_or runs place second) r (Some ended)
-        → entry ≡ completion_of a ended → Comes (reply.Complete a.queue entry 0)
-    last_there ended entry turn spelled =
-        subst (λ (bytes : List ℕ). Comes (reply.Complete a.queue bytes 0)) (sym spelled)
-        (set_there (reply.Complete a.queue (completion_of a ended) 0)
-        (given_last ns slots runs ready run a at_run own.program own.loaded new q r ended (turned_there (Some ended) turn)))
+  pub last_there : (answer : Answer) → SlotTurned ns new (get_or slots slot default) q a b (Some answer) → Comes slot None (complete_reply b.queue b.cid answer)
+  last_there answer turn =
+      subst (λ (n : ℕ). Comes n None (complete_reply b.queue b.cid answer)) (sym is_slot)
+      (given_last ns slots runs ready k a at own.program own.loaded new q b answer
+      (subst (λ (o : Option LoadedProgram). SlotTurned ns new o q a b (Some answer)) in_slot turn))

@@ -1,10 +1,9 @@
 -- Turns of the lowest active run, one turn more.
 use Rattle.std.proofs.Common.{◌≡◌, ℕ, suc, ◌+◌, ◌-◌, ◌*◌, ◌%◌, ◌≤◌, List, [], ◌∷◌, ◌++◌, length, map, take, drop, get_or, Option, Some, None, refl, inl, inr, ◌⊎◌, ap, sym, subst, ◌∙◌, arith, length-append}
 use Rattle.std.specs.Prelude.{is_some}
-use Rattle.std.proofs.lemmas.List.{append-nil, length-take, take_at}
+use Rattle.std.proofs.lemmas.List.{length-take, take_at}
 use Rattle.std.proofs.lemmas.List.Quantifiers.{position-Some}
-use Rattle.reg_domain.specs.Intervals.{intervals, intervals_sound}
-use Rattle.verifier.specs.Soundness.{accepted_never_traps}
+use Rattle.reg_domain.specs.Intervals.{intervals}
 use Rattle.image_store.specs.Namespace.{ZonedNamespace, zone_at}
 use Rattle.zns_commands.specs.Address.{zone_number}
 use Rattle.pushdown.specs.Admission.{task_of}
@@ -14,6 +13,7 @@ use Rattle.pushdown.specs.Machine.{turned}
 use Rattle.pushdown.specs.State.{State, place_at}
 use Rattle.pushdown.specs.View.{seen, to_come}
 use Rattle.pushdown.proofs.Drained.{found_less}
+use Rattle.pushdown.proofs.Parts.{and_then-and_then}
 use Rattle.pushdown.proofs.Rests.{rest_is_few}
 use Rattle.pushdown.proofs.States.{IsFine}
 use Rattle.pushdown.proofs.States.{reached as are_fine}
@@ -21,13 +21,12 @@ use Rattle.runner.specs.Held.{active_of, filled, state_of}
 use Rattle.runner.specs.Ready.{Fits, IsReached}
 use Rattle.runner.specs.declared.active.Active.{Active as Held}
 use Rattle.runner.specs.declared.loaded.LoadedProgram.{LoadedProgram}
-use Rattle.runner.proofs.Served.{and_then-and_then}
+use Rattle.runner.proofs.Reached.{never}
 
 -- ---- fewer turns are left
 
 pub turn_less : (s : State) (run : ℕ) → IsReached s → lowest_run s ≡ Some run → turns_left (turned s run).state.places + 1 ≤ turns_left s.places
 turn_less s run reached low =
-    let never = accepted_never_traps intervals_sound in
     let block = reached.first.block in
     let fine = subst (IsFine intervals never block) (sym reached.leaves) (are_fine intervals never reached.first reached.events reached.namespace reached.bytes) in
     found_less intervals never block s run (place_at s run) fine refl ((position-Some is_some s.places run None low).1)
@@ -53,7 +52,7 @@ few_left ns slots (Some a ∷ runs) fit =
 
 -- ---- turns, one more
 
-pub turns_state-append : (first later : List ℕ) (s : State) → state_after_turns (first ++ later) s ≡ state_after_turns later (state_after_turns first s)
+turns_state-append : (first later : List ℕ) (s : State) → state_after_turns (first ++ later) s ≡ state_after_turns later (state_after_turns first s)
 turns_state-append [] later s = refl
 turns_state-append (run ∷ runs) later s = turns_state-append runs later (turned s run).state
 
@@ -75,13 +74,6 @@ pub record IsDraining (old now : State) (first taken : Option (List Taken)) (don
   pub state : now ≡ state_after_turns runs old
   pub answers : taken ≡ and_then first (answers_to_turns runs old)
   pub few : done + turns_left now.places ≤ turns_left old.places
-
-pub nothing_drained : (s : State) (first : Option (List Taken)) → first ≡ and_then first [] → IsDraining s s first first 0
-nothing_drained s first none = record { runs = []; lowest = tt; count = refl; state = refl; answers = none; few = omega arith }
-
-pub and_then_nothing : (first : Option (List Taken)) → first ≡ and_then first []
-and_then_nothing None = refl
-and_then_nothing (Some xs) = ap Some (sym (append-nil xs))
 
 module _ (old now new : State) (first then after : Option (List Taken)) (done run : ℕ) (answer : Taken) where
   more_state : (d : IsDraining old now first then done) → new ≡ (turned now run).state → new ≡ state_after_turns (d.runs ++ run ∷ []) old

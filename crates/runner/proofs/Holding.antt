@@ -1,6 +1,5 @@
 -- What the active runs hold.
-use Rattle.std.proofs.Common.{◌≡◌, ℕ, zero, suc, List, [], ◌∷◌, map, get_or, Option, Some, None, refl, ap, sym, ◌∙◌}
-use Rattle.zone_resources.specs.declared.holds.Holds.{Holds}
+use Rattle.std.proofs.Common.{◌≡◌, ℕ, zero, suc, List, [], ◌∷◌, map, get_or, Option, Some, None, refl, ap, ◌∙◌}
 use Rattle.image_store.specs.declared.geometry.Place.{Place}
 use Rattle.image_store.specs.Namespace.{ZonedNamespace}
 use Rattle.zns_commands.specs.Address.{zone_number}

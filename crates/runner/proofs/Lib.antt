@@ -4,6 +4,7 @@ pub mod DeviceTurns
 pub mod Drains
 pub mod Holding
 pub mod Loads
+pub mod MayBeThere
 pub mod Nexts
 pub mod Numbers
 pub mod Occurrences

@@ -2,7 +2,6 @@
 use Rattle.std.proofs.Common.{◌≡◌, ◌≢◌, ℕ, zero, suc, ◌<◌, Bool, true, false, List, [], ◌∷◌, length, map, set, get_or, Option, Some, None, refl, ap, sym, subst, ◌∙◌, inl, inr, get_or-set_other, get_or-set_same}
 use Rattle.std.specs.Prelude.{◌==◌, ◌||◌, not}
 use Rattle.std.specs.List.{list_any}
-use Rattle.std.proofs.Math.ListN.{length-set}
 use Rattle.std.proofs.lemmas.List.{map-set}
 use Rattle.std.proofs.lemmas.Bool.Decides.{eqb_tells}
 use Rattle.zone_state.specs.declared.status.Status.{Status}
@@ -131,8 +130,6 @@ module _ (ns : ZonedNamespace) (slots : List (Option LoadedProgram)) (runs : Lis
           accepted = was.accepted;
           fits = was.fits;
         };
-    all_slots = length-set slots load.slot (Some new) ∙ ready.all_slots;
-    all_runs = ready.all_runs;
   }
 
 -- ---- or it is refused

@@ -5,11 +5,11 @@ use Rattle.program_interface.specs.Context.{context_bytes}
 use Rattle.program_interface.specs.declared.context.Context.{Context}
 use Rattle.image_store.specs.Namespace.{ZonedNamespace}
 use Rattle.pushdown.specs.View.{Active}
-use Rattle.runner.specs.Ran.{run_over}
+use Rattle.pushdown.specs.BlockRuns.{run_over}
 use Rattle.runner.specs.Turning.{next_block, next_run}
 
 -- what a run is told of the block that is next
-abbrev pub next_context : ZonedNamespace → Active → Context
+abbrev next_context : ZonedNamespace → Active → Context
 next_context ns a = record {
   lba = a.order.lba + a.so_far.index;
   index = a.so_far.index;

@@ -1,31 +1,20 @@
 -- Lists of occurrences, one longer.
-use Rattle.std.proofs.Common.{◌≡◌, ℕ, List, [], ◌∷◌, ◌++◌, refl, ap, sym, ◌∙◌}
+use Rattle.std.proofs.Common.{◌≡◌, ℕ, List, [], ◌∷◌, ◌++◌, ap, sym, ◌∙◌}
 use Rattle.std.specs.Prelude.{Vec}
 use Rattle.std.specs.declared.alloc.Global.{Global}
 use Rattle.nvme_entry.specs.Entry.{decoded}
 use Rattle.reg_domain.specs.Intervals.{intervals}
 use Rattle.pushdown.specs.Answers.{Happening, Submission, Taken}
-use Rattle.pushdown.specs.Events.{HasHappened, Occurrence, answers_to, state_after}
+use Rattle.pushdown.specs.Events.{HasHappened, Occurrence}
 use Rattle.pushdown.specs.Machine.{happens, submitted}
 use Rattle.pushdown.specs.Pushdown.{HasBytes}
 use Rattle.pushdown.specs.State.{State, new_state}
 use Rattle.pushdown.specs.declared.event.Event.{Event}
 use Rattle.pushdown.specs.declared.event.Event.TheVariants as event
 use Rattle.pushdown.proofs.Bytes.{all_append}
+use Rattle.pushdown.proofs.Parts.{state_after-append}
 use Rattle.runner.specs.Answered.{HasSubmitted}
 use Rattle.runner.specs.Ready.{IsReached}
-
-pub state_after-append : (first later : List Occurrence) (s : State)
-    → state_after intervals (first ++ later) s ≡ state_after intervals later (state_after intervals first s)
-state_after-append [] later s = refl
-state_after-append (o ∷ os) later s = state_after-append os later (happens intervals s o.starved o.event).state
-
-pub answers_to-append : (first later : List Occurrence) (s : State)
-    → answers_to intervals (first ++ later) s ≡ answers_to intervals first s ++ answers_to intervals later (state_after intervals first s)
-answers_to-append [] later s = refl
-answers_to-append (o ∷ os) later s =
-    ap (λ (answers : List Taken). (happens intervals s o.starved o.event).answer ∷ answers)
-    (answers_to-append os later (happens intervals s o.starved o.event).state)
 
 -- one more event leaves a state that events leave
 pub reached_more : (s t : State) (o : Occurrence) → IsReached s → HasBytes o.event → t ≡ (happens intervals s o.starved o.event).state → IsReached t
@@ -36,7 +25,7 @@ reached_more s t o reached has step = record {
   bytes = all_append (λ (x : Occurrence). HasBytes x.event) reached.events (o ∷ []) reached.bytes (has, tt);
   leaves =
       step ∙ ap (λ (x : State). (happens intervals x o.starved o.event).state) reached.leaves
-      ∙ sym (state_after-append reached.events (o ∷ []) (new_state reached.first));
+      ∙ sym (state_after-append intervals reached.events (o ∷ []) (new_state reached.first));
 }
 
 -- ---- one event

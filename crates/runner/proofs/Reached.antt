@@ -7,15 +7,16 @@ use Rattle.image_store.specs.Namespace.{ZonedNamespace, IsNamespace}
 use Rattle.image_store.proofs.Again.{text_again}
 use Rattle.image_store.proofs.Loaded.{loaded_is_namespace}
 use Rattle.zns_commands.proofs.SoundSteps.{empty_is_namespace}
+use Rattle.pushdown.specs.AnyOrder.{ComeToTheSame}
 use Rattle.pushdown.specs.Draining.{Drains}
 use Rattle.pushdown.specs.Events.{Occurrence, state_after}
-use Rattle.pushdown.specs.Laws.{Commutes, IsSoundState}
-use Rattle.pushdown.specs.Parts.{turns_of}
+use Rattle.pushdown.specs.Laws.{IsSoundState}
+use Rattle.pushdown.specs.Parts.{turn_events}
 use Rattle.pushdown.specs.Pushdown.{AreEvents, HasBytes, IsAdmitted, IsPushedDown}
 use Rattle.pushdown.specs.ReadBack.{RunReadsBack}
 use Rattle.pushdown.specs.State.{State, new_state}
 use Rattle.pushdown.proofs.Bytes.{all_append}
-use Rattle.pushdown.proofs.Commuting.{turns_commute}
+use Rattle.pushdown.proofs.AnyOrder.{turns_in_any_order}
 use Rattle.pushdown.proofs.Drained.{draining_ends}
 use Rattle.pushdown.proofs.Headline.{pushdown}
 use Rattle.pushdown.proofs.Parts.{state_after-append, turns_state}
@@ -25,7 +26,7 @@ use Rattle.pushdown.proofs.States.{states_are_sound}
 use Rattle.runner.specs.Laws.{EmptyIsReached, EventsKeepReached, LoadedIsReached, ReachedDrains, ReachedIsSound, SavedStatesLoad, TurnsKeepReached}
 use Rattle.runner.specs.ReadBack.{AppendedReadsBack, EmittedReadsBack, WrittenReadsBack}
 use Rattle.runner.specs.Ready.{IsReached}
-use Rattle.runner.specs.Runs.{RunsArePushedDown, TurnsCommute}
+use Rattle.runner.specs.Runs.{RunsArePushedDown, TurnsInAnyOrder}
 
 -- the programs that a device accepts never trap
 pub never : AcceptedNeverTraps intervals
@@ -51,13 +52,13 @@ events_keep_reached s events reached are = record {
       ∙ sym (state_after-append intervals reached.events events (new_state reached.first));
 }
 
-turns_are : (runs : List ℕ) → AreEvents (turns_of runs)
+turns_are : (runs : List ℕ) → AreEvents (turn_events runs)
 turns_are [] = tt
 turns_are (run ∷ runs) = (tt, turns_are runs)
 
 pub turns_keep_reached : TurnsKeepReached
 turns_keep_reached s runs reached =
-    subst IsReached (sym (turns_state intervals runs s)) (events_keep_reached s (turns_of runs) reached (turns_are runs))
+    subst IsReached (sym (turns_state intervals runs s)) (events_keep_reached s (turn_events runs) reached (turns_are runs))
 
 pub reached_is_sound : ReachedIsSound
 reached_is_sound s reached =
@@ -77,10 +78,10 @@ runs_are_pushed_down s reached queue entry payload starved order run after =
     (λ admitted.
     pushdown intervals never reached.first reached.events reached.namespace reached.bytes queue entry payload starved order run after admitted)
 
-pub turns_of_runs_commute : TurnsCommute
-turns_of_runs_commute s reached first second other =
-    subst (λ (t : State). Commutes t first second) (sym reached.leaves)
-    (turns_commute intervals never reached.first reached.events reached.namespace reached.bytes first second other)
+pub reached_in_any_order : TurnsInAnyOrder
+reached_in_any_order s reached first second same =
+    subst (λ (t : State). ComeToTheSame t first second) (sym reached.leaves)
+    (turns_in_any_order intervals never reached.first reached.events reached.namespace reached.bytes first second same)
 
 pub appended_blocks_read_back : AppendedReadsBack
 appended_blocks_read_back s reached = appended_reads_back intervals s (reached_is_sound s reached).namespace

@@ -1,5 +1,5 @@
 -- Events that are done one after another, one event more.
-use Rattle.std.proofs.Common.{◌≡◌, ℕ, ◌+◌, ◌-◌, ◌<◌, List, [], ◌∷◌, ◌++◌, length, take, get_or, Option, Some, None, refl, ap, sym, ◌∙◌, append_assoc, arith}
+use Rattle.std.proofs.Common.{◌≡◌, ℕ, ◌+◌, ◌-◌, ◌<◌, List, [], ◌∷◌, ◌++◌, length, take, get_or, Option, refl, ap, sym, ◌∙◌, arith}
 use Rattle.std.proofs.lemmas.List.{length-map, length-take-le, map_push, take_at, take_more}
 use Rattle.reg_domain.specs.Intervals.{intervals}
 use Rattle.pushdown.specs.Answers.{Taken, and_then, data_length}
@@ -8,11 +8,7 @@ use Rattle.pushdown.specs.Machine.{happens}
 use Rattle.pushdown.specs.State.{State}
 use Rattle.pushdown.specs.declared.event.Event.{Event}
 use Rattle.pushdown.specs.declared.reply.Reply.{Reply}
-use Rattle.runner.proofs.Occurrences.{answers_to-append, state_after-append}
-
-pub and_then-and_then : (before : Option (List Taken)) (first later : List Taken) → and_then (and_then before first) later ≡ and_then before (first ++ later)
-and_then-and_then None first later = refl
-and_then-and_then (Some xs) first later = ap Some (append_assoc xs first later)
+use Rattle.pushdown.proofs.Parts.{and_then-and_then, answers_to-append, state_after-append}
 
 -- a reply with the bytes that go with it
 pub with_data : (r : Reply) (n : ℕ) (xs : List ℕ) → n ≡ data_length r
@@ -34,7 +30,7 @@ module _ (es : List Event) (i : ℕ) (e : Event) (old now new : State) (answer :
   state_more : (os : List Occurrence) (o : Occurrence) → now ≡ state_after intervals os old → new ≡ (happens intervals now o.starved o.event).state
       → new ≡ state_after intervals (os ++ o ∷ []) old
   state_more os o before step =
-      step ∙ ap (λ (s : State). (happens intervals s o.starved o.event).state) before ∙ sym (state_after-append os (o ∷ []) old)
+      step ∙ ap (λ (s : State). (happens intervals s o.starved o.event).state) before ∙ sym (state_after-append intervals os (o ∷ []) old)
 
   answers_more : (first then after : Option (List Taken)) (os : List Occurrence) (o : Occurrence) → now ≡ state_after intervals os old
       → answer ≡ (happens intervals now o.starved o.event).answer → then ≡ and_then first (answers_to intervals os old)
@@ -44,7 +40,7 @@ module _ (es : List Event) (i : ℕ) (e : Event) (old now new : State) (answer :
       ∙ and_then-and_then first (answers_to intervals os old) (answer ∷ [])
       ∙ ap (λ (x : Taken). and_then first (answers_to intervals os old ++ x ∷ []))
       (step ∙ ap (λ (s : State). (happens intervals s o.starved o.event).answer) before)
-      ∙ ap (and_then first) (sym (answers_to-append os (o ∷ []) old))
+      ∙ ap (and_then first) (sym (answers_to-append intervals os (o ∷ []) old))
 
   module _ (first then after : Option (List Taken)) (within : i < length es) (item : e ≡ get_or es i e)
       (served : HasServed intervals (take i es) old now first then) (happened : HasHappened intervals e now new answer) where

@@ -2,7 +2,6 @@
 use Rattle.std.proofs.Common.{◌≡◌, ℕ, List, length, map, set, get_or, Option, Some, None, refl, ap, sym, ◌∙◌, ◌<◌, true, inl, inr, subst, arith, get_or-set_other, get_or-set_same}
 use Rattle.std.specs.Prelude.{is_none, is_some, position}
 use Rattle.std.proofs.lemmas.List.{map-set}
-use Rattle.std.proofs.Math.ListN.{length-set}
 use Rattle.std.proofs.lemmas.Bool.Decides.{eqb_tells}
 use Rattle.zone_state.specs.declared.status.Status.{Status}
 use Rattle.nvme_entry.specs.declared.command.RunCommand.{RunCommand}
@@ -27,7 +26,7 @@ use Rattle.runner.proofs.Numbers.{free_is}
 
 module _ (ns : ZonedNamespace) (slots : List (Option LoadedProgram)) (runs : List (Option Held)) where
   -- a run put at a place, seen
-  pub placed : (run : ℕ) (a : Held)
+  placed : (run : ℕ) (a : Held)
       → state_of ns slots (set runs run (Some a)) ≡ with_place (state_of ns slots runs) run (Some (place_of ns (map filled slots) (active_of a)))
   placed run a =
       ap (λ (places : List (Option Place)). record { namespace = ns; slots = map filled slots; places = places })
@@ -98,6 +97,4 @@ module _ (ns : ZonedNamespace) (slots : List (Option LoadedProgram)) (runs : Lis
           subst (IsRunning ns slots) this is
       | inr other ↦ ready.running k b (sym (get_or-set_other runs run k (Some a) None other.1) ∙ at)
     ];
-    all_slots = ready.all_slots;
-    all_runs = length-set runs run (Some a) ∙ ready.all_runs;
   }

@@ -1,6 +1,5 @@
 -- A standard command or a fault leaves active runs as they are, and what is seen of them.
-use Rattle.std.proofs.Common.{◌≡◌, ℕ, zero, suc, true, List, [], ◌∷◌, map, get_or, Option, Some, None, refl, ap, subst, sym, ◌∙◌}
-use Rattle.std.specs.Prelude.{◌||◌}
+use Rattle.std.proofs.Common.{◌≡◌, ℕ, true, List, map, get_or, Option, Some, None, refl, ap, subst, sym, ◌∙◌}
 use Rattle.std.specs.List.{list_any}
 use Rattle.zone_resources.specs.Holds.{is_source, names}
 use Rattle.zone_resources.specs.declared.holds.Holds.{Holds}
@@ -35,11 +34,11 @@ pub record IsLeft (ns later : ZonedNamespace) (slots : List (Option LoadedProgra
   pub ready : IsReady later slots runs
   pub state : state_of later slots runs ≡ with_namespace (state_of ns slots runs) later
 
-abbrev pub SourcesGrow : ZonedNamespace → ZonedNamespace → List (Option Held) → Type 0
+abbrev SourcesGrow : ZonedNamespace → ZonedNamespace → List (Option Held) → Type 0
 SourcesGrow ns later runs =
     (k : ℕ) (a : Held) → get_or runs k None ≡ Some a → Grows (zone_at ns a.source.zone).blocks (zone_at later a.source.zone).blocks
 
-pub is_left : (ns later : ZonedNamespace) (slots : List (Option LoadedProgram)) (runs : List (Option Held)) → IsReady ns slots runs
+is_left : (ns later : ZonedNamespace) (slots : List (Option LoadedProgram)) (runs : List (Option Held)) → IsReady ns slots runs
     → shape later ≡ shape ns → SourcesGrow ns later runs → IsLeft ns later slots runs
 is_left ns later slots runs ready same grow =
     let block : ns.block ≡ later.block = ap (λ (s : Shape). s.block) (sym same) in
@@ -54,8 +53,6 @@ is_left ns later slots runs ready same grow =
               accepted = was.accepted ∙ block;
               fits = still_fits ns later a was.fits same (grow k a at);
             };
-        all_slots = ready.all_slots;
-        all_runs = ready.all_runs;
       };
       state = ap (λ (places : List (Option Place)). record { namespace = later; slots = map filled slots; places = places })
           (places_stay ns later slots slots runs
@@ -71,7 +68,7 @@ source_there : (runs : List (Option Held)) (k : ℕ) (a : Held) → get_or runs 
 source_there runs k a at = named_at source_held a.source.zone runs k a at refl
 
 -- where a step heeds what the active runs hold
-pub step_leaves : (ns : ZonedNamespace) (slots : List (Option LoadedProgram)) (runs : List (Option Held)) (step : Step) → IsReady ns slots runs
+step_leaves : (ns : ZonedNamespace) (slots : List (Option LoadedProgram)) (runs : List (Option Held)) (step : Step) → IsReady ns slots runs
     → holds_of step ≡ held_by runs → IsLeft ns (after step ns) slots runs
 step_leaves ns slots runs step ready heeds =
     is_left ns (after step ns) slots runs ready (step_shape step ns)

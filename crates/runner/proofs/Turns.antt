@@ -1,15 +1,14 @@
 -- A turn of a run, as the code takes it.
 use Rattle.std.proofs.Common.{◌≡◌, ◌≢◌, ℕ, zero, suc, ◌+◌, ◌-◌, ◌<◌, ◌≤◌, ◌%◌, Bool, true, false, List, [], ◌∷◌, ◌++◌, length, take, drop, get_or, Option, Some, None, refl, sym, ap, subst, ◌∙◌, arith, inl, inr, append-nil, length-append, append_assoc}
-use Rattle.std.specs.Prelude.{◌⊎◌}
-use Rattle.std.proofs.lemmas.Bool.Decides.{leb_tells}
+use Rattle.std.specs.Prelude.{◌⊎◌, ◌==◌}
+use Rattle.std.proofs.lemmas.Bool.Decides.{eqb_tells, leb_tells}
 use Rattle.std.proofs.lemmas.List.{length-take-le, length-drop}
 use Rattle.zone_state.specs.declared.status.TheConstants.Status.{SUCCESS}
 use Rattle.ebpf_decode.specs.declared.insn.Insn.{Insn}
-use Rattle.program_interface.specs.declared.block_size.TheConstants.{LARGEST_BLOCK}
 use Rattle.interp.specs.Run.{Run}
 use Rattle.interp.specs.declared.machine.run.End.{End}
 use Rattle.interp.specs.declared.machine.run.End.TheVariants as end
-use Rattle.emit_append.specs.Packer.{after_put, given_by_finish, given_by_put}
+use Rattle.emit_append.specs.Packer.{after_put, given_by_finish, given_by_put, new_packer}
 use Rattle.emit_append.specs.Packing.{packed, pending_of, released}
 use Rattle.emit_append.proofs.Continuing.{packing_goes_on}
 use Rattle.emit_append.proofs.Puts.{one_group_is_pending}
@@ -17,17 +16,18 @@ use Rattle.image_store.specs.Namespace.{ZoneBlocks, ZonedNamespace, zone_at}
 use Rattle.image_store.specs.declared.geometry.Place.{Place}
 use Rattle.zns_commands.specs.Address.{zone_number}
 use Rattle.zns_commands.proofs.OpenZones.{open_inside}
+use Rattle.pushdown.specs.Admission.{task_by}
 use Rattle.pushdown.specs.BlockRuns.{Task, goes_on, scratch_after}
 use Rattle.pushdown.specs.Laws.{Ends, RoomIn, further, next_turn}
 use Rattle.pushdown.specs.Machine.{added}
 use Rattle.pushdown.specs.Outcome.{Ending, Progress, Turn, appended_by, behind, last_turn, last_turn_by, output_of, rest}
-use Rattle.pushdown.specs.View.{Active, to_come}
-use Rattle.pushdown.proofs.Added.{added_leaves}
+use Rattle.pushdown.specs.View.{Active, to_come, turns_of}
+use Rattle.pushdown.proofs.Added.{added_block, added_capacity, added_leaves}
 use Rattle.pushdown.proofs.Rests.{rest_ends, rest_goes_on}
 use Rattle.pushdown.proofs.Room.{still_open, turn_room}
 use Rattle.runner.specs.Held.{active_of}
-use Rattle.runner.specs.Ready.{Fits}
-use Rattle.runner.specs.Turning.{FitsOn, GoesOn, HasEnded, HasRoom, next_block, next_run, task_by, turns_of}
+use Rattle.runner.specs.Ran.{HasRun}
+use Rattle.runner.specs.Turning.{FitsOn, GoesOn, HasEnded, HasRoom, next_block, next_run, with_packer, with_scratch}
 use Rattle.runner.specs.declared.active.Active.{Active as Held}
 use Rattle.runner.proofs.Appends.{added_both}
 
@@ -35,6 +35,12 @@ lt_or_le : (a b : ℕ) → (a < b) ⊎ (b ≤ a)
 lt_or_le a b = elim (leb_tells b a) [
   | inl is ↦ inr is.1
   | inr not_so ↦ inl not_so.1
+]
+
+not_zero : (n : ℕ) → n ≢ 0 → (n == 0) ≡ false
+not_zero n other = elim (eqb_tells n 0) [
+  | inl is ↦ absurd (other is.1)
+  | inr differs ↦ differs.0
 ]
 
 cut_first : (n at : ℕ) (xs : List (List ℕ)) → at < length xs → take (suc n) (drop at xs) ≡ get_or xs at [] ∷ take n (drop (suc at) xs)
@@ -126,14 +132,6 @@ added_leaves_turns ns z (b ∷ bs) program limit a other =
     ap (λ (zone : ZoneBlocks). rest (task_by ns program limit a.order) a.so_far (take (a.order.blocks - a.so_far.index) (drop (a.order.lba % ns.size + a.so_far.index) zone.blocks)))
     (added_leaves ns z (zone_number ns a.order.lba) (b ∷ bs) other)
 
-same_capacity : (ns : ZonedNamespace) (z : ℕ) (bs : List (List ℕ)) → (added ns z bs).capacity ≡ ns.capacity
-same_capacity ns z [] = refl
-same_capacity ns z (b ∷ bs) = refl
-
-same_block : (ns : ZonedNamespace) (z : ℕ) (bs : List (List ℕ)) → (added ns z bs).block ≡ ns.block
-same_block ns z [] = refl
-same_block ns z (b ∷ bs) = refl
-
 module _ (ns : ZonedNamespace) (z : ℕ) (ending : Option Ending) (turns : List Turn) (some : 1 ≤ ns.block) where
   abbrev Room : List (List ℕ) → Type 0
   Room bs = RoomIn ns.capacity (zone_at ns z) (record { blocks = bs; ending = ending } ∷ turns)
@@ -159,39 +157,23 @@ module _ (ns : ZonedNamespace) (z : ℕ) (ending : Option Ending) (turns : List 
       let rest : RoomIn ns.capacity (zone_at (added ns z bs) z) (record { blocks = more; ending = None } ∷ turns) =
       turn_room ns z bs None (record { blocks = more; ending = None } ∷ turns)
       (record { room = subst (λ (n : ℕ). length (zone_at ns z).blocks + n ≤ ns.capacity) (ap length (append_assoc bs more (appended_by turns))) h.room; opened = h.opened }) in
-      room_first (added ns z bs) z None turns (rw (same_block ns z bs) some) more []
-      (rw (same_capacity ns z bs, append-nil more) rest)
+      room_first (added ns z bs) z None turns (rw (added_block ns z bs) some) more []
+      (rw (added_capacity ns z bs, append-nil more) rest)
 
 -- ---- a turn
 
-fits_added : (ns : ZonedNamespace) (z : ℕ) (bs : List (List ℕ)) (a : Held) → a.source.zone ≢ z → Fits ns a → Fits (added ns z bs) a
-fits_added ns z [] a other h = h
-fits_added ns z (b ∷ bs) a other h = record {
-  source = h.source;
-  destination = h.destination;
-  other = h.other;
-  left = h.left;
-  most = h.most;
-  written = subst (λ (zone : ZoneBlocks). a.source.offset + a.order.blocks ≤ length zone.blocks) (sym (added_leaves ns z a.source.zone (b ∷ bs) other)) h.written;
-  small = h.small;
-  address = h.address;
-  packer = h.packer;
-  frames = h.frames;
-  appended = h.appended;
-}
-
 module _ (ns : ZonedNamespace) (program : List (Option Insn)) (limit : ℕ) (a : Held) (h : FitsOn ns program limit a) where
-  abbrev pub ran : Run
+  abbrev ran : Run
   ran = next_run ns program limit (active_of a)
 
-  abbrev pub sent : List (List ℕ)
+  abbrev sent : List (List ℕ)
   sent = given_by_put a.packer ran.state.group
 
-  abbrev pub closing : List (List ℕ)
+  abbrev closing : List (List ℕ)
   closing = given_by_finish (after_put a.packer ran.state.group)
 
   -- the run once its group is packed
-  abbrev pub stepped : Held
+  abbrev stepped : Held
   stepped = record {
     queue = a.queue;
     cid = a.cid;
@@ -225,28 +207,13 @@ module _ (ns : ZonedNamespace) (program : List (Option Insn)) (limit : ℕ) (a :
         so_far = record { index = a.index + 1; scratch = scratch_after ran; pending = pending_of block groups; frames = a.frames + ran.state.frames; appended = a.appended + length (released block groups) };
       })) (sym h.run.packer)
 
-  pub goes_is : goes_on ran.end ≡ true → a.index + 1 < a.order.blocks → GoesOn ns (added ns a.destination sent) program limit a stepped
+  goes_is : goes_on ran.end ≡ true → a.index + 1 < a.order.blocks → GoesOn ns (added ns a.destination sent) program limit a stepped
   goes_is on more = record {
     blocks = sent;
     turns = going on more ∙ ap (λ (turns : List Turn). record { blocks = sent; ending = None } ∷ turns)
         (sym (added_leaves_turns ns a.destination sent program limit (active_of stepped) other_zone));
     namespace = refl;
   }
-
-  pub goes_fits : a.index + 1 < a.order.blocks → ran.state.frames ≤ LARGEST_BLOCK → length sent ≤ 1 → Fits (added ns a.destination sent) stepped
-  goes_fits more few one = fits_added ns a.destination sent stepped h.run.other (record {
-    source = h.run.source;
-    destination = h.run.destination;
-    other = h.run.other;
-    left = more;
-    most = h.run.most;
-    written = h.run.written;
-    small = h.run.small;
-    address = h.run.address;
-    packer = h.run.packer;
-    frames = omega (arith, h.run.frames, few);
-    appended = omega (arith, h.run.appended, one);
-  })
 
   -- the last turn, which appends these blocks
   abbrev end_of : List (List ℕ) → Turn
@@ -291,15 +258,15 @@ module _ (ns : ZonedNamespace) (program : List (Option Insn)) (limit : ℕ) (a :
   first_by true on r0 exit (inr last) = room_first ns a.destination ending [] h.some sent closing (end_room r0 exit (inr last))
   first_by false on r0 exit more = room_first ns a.destination ending [] h.some sent closing (end_room r0 exit (inl on))
 
-  pub first_room : (r0 : ℕ) → ran.end ≡ end.Exit r0 → HasRoom ns a.destination sent
+  first_room : (r0 : ℕ) → ran.end ≡ end.Exit r0 → HasRoom ns a.destination sent
   first_room r0 exit = first_by (goes_on ran.end) refl r0 exit (lt_or_le (a.index + 1) a.order.blocks)
 
-  pub last_room : (r0 : ℕ) → ran.end ≡ end.Exit r0 → Over → HasRoom (added ns a.destination sent) a.destination closing
+  last_room : (r0 : ℕ) → ran.end ≡ end.Exit r0 → Over → HasRoom (added ns a.destination sent) a.destination closing
   last_room r0 exit over = room_second ns a.destination ending [] h.some sent closing (end_room r0 exit over)
 
-  pub ended_is : (r0 : ℕ) → ran.end ≡ end.Exit r0 → Over → (b : Held) → b.scratch ≡ scratch_after ran
+  ended_is : (r0 : ℕ) → ran.end ≡ end.Exit r0 → Over → (b : Held) → b.scratch ≡ scratch_after ran
       → HasEnded ns (added (added ns a.destination sent) a.destination closing) program limit a b
-      (record { frames = a.frames + ran.state.frames; appended = a.appended + length sent + length closing })
+      (record { status = SUCCESS; dw0 = a.frames + ran.state.frames; dw1 = a.appended + length sent + length closing; length = 0 })
   ended_is r0 exit over b same =
       let n : a.appended + length (sent ++ closing) ≡ a.appended + length sent + length closing = omega (arith, length-append sent closing) in
       let last : ℕ → List ℕ → Turn = λ n bytes. record {
@@ -311,5 +278,46 @@ module _ (ns : ZonedNamespace) (program : List (Option Insn)) (limit : ℕ) (a :
         turns = ends r0 exit over
             ∙ ap (λ (n : ℕ). last n (scratch_after ran) ∷ []) n
             ∙ ap (λ (bytes : List ℕ). last (a.appended + length sent + length closing) bytes ∷ []) (sym same);
+        no_data = refl;
         namespace = added_twice ns a.destination ending [] h.some sent closing (end_room r0 exit over);
       }
+
+  -- ---- as the code has them: the run once its program has run, and once the group of that is packed
+
+  module _ (ran_on : Held) (r0 count : ℕ) (group : List ℕ) (run : HasRun ran r0 count group ran_on.scratch) (same : ran_on ≡ with_scratch a (scratch_after ran)) where
+    abbrev given : List (List ℕ)
+    given = given_by_put ran_on.packer group
+
+    pub room_for_put : HasRoom ns ran_on.destination given
+    room_for_put = rw (same, sym run.group) (first_room r0 run.exit)
+
+    module _ (then : ZonedNamespace) (put : Held) (written : then ≡ added ns ran_on.destination given)
+        (put_is : put ≡ with_packer ran_on (after_put ran_on.packer group) (length given)) where
+      -- the same, once the block is counted
+      abbrev counted : Held
+      counted = record put { index = put.index + 1; frames = put.frames + count }
+
+      index_is : put.index ≡ a.index
+      index_is = ap (λ (x : Held). x.index) put_is ∙ ap (λ (x : Held). x.index) same
+
+      blocks_are : put.order.blocks ≡ a.order.blocks
+      blocks_are = ap (λ (x : Held). x.order.blocks) put_is ∙ ap (λ (x : Held). x.order.blocks) same
+
+      pub goes : r0 ≡ 0 → counted.index < counted.order.blocks → GoesOn ns then program limit a counted
+      goes none more =
+          let on : goes_on ran.end ≡ true = ap goes_on run.exit ∙ ap (λ (n : ℕ). n == 0) none in
+          rw (written, put_is, same, sym run.group, sym run.frames) (goes_is on (omega (arith, index_is, blocks_are, more)))
+
+      is_over : (r0 ≢ 0) ⊎ (counted.order.blocks ≤ counted.index) → Over
+      is_over (inl other) = inl (ap goes_on run.exit ∙ not_zero r0 other)
+      is_over (inr last) = inr (omega (arith, index_is, blocks_are, last))
+
+      pub room_for_finish : (r0 ≢ 0) ⊎ (counted.order.blocks ≤ counted.index) → HasRoom then counted.destination (given_by_finish counted.packer)
+      room_for_finish over = rw (written, put_is, same, sym run.group) (last_room r0 run.exit (is_over over))
+
+      pub ends_there : (r0 ≢ 0) ⊎ (counted.order.blocks ≤ counted.index) → (last : ZonedNamespace) (finished : Held)
+          → last ≡ added then counted.destination (given_by_finish counted.packer)
+          → finished ≡ with_packer counted (new_packer counted.packer.block) (length (given_by_finish counted.packer))
+          → HasEnded ns last program limit a finished (record { status = SUCCESS; dw0 = finished.frames; dw1 = finished.appended; length = 0 })
+      ends_there over last finished last_is finished_is =
+          rw (last_is, finished_is, written, put_is, same, sym run.group, sym run.frames) (ended_is r0 run.exit (is_over over) _ refl)

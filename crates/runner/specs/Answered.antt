@@ -1,7 +1,6 @@
 -- What the answers of commands come to.
 use Rattle.std.specs.Prelude.{ℕ, Bool, ◌≡◌, List, [], take, Option, Result}
 use Rattle.zone_state.specs.declared.status.Status.{Status}
-use Rattle.nvme_entry.specs.Completion.{completion_bytes}
 use Rattle.nvme_entry.specs.Entry.{identifier_of}
 use Rattle.nvme_entry.specs.declared.command.Command.{Command}
 use Rattle.nvme_entry.specs.declared.command.LoadCommand.{LoadCommand}
@@ -11,7 +10,7 @@ use Rattle.reg_domain.specs.Intervals.{intervals}
 use Rattle.image_store.specs.Namespace.{ZonedNamespace}
 use Rattle.zns_commands.specs.Meaning.{meaning}
 use Rattle.zns_commands.specs.declared.answer.Answer.{Answer}
-use Rattle.pushdown.specs.Answers.{Happening, Submission, Taken, completed, plain, refused}
+use Rattle.pushdown.specs.Answers.{Happening, Submission, Taken, completed, completion_reply, plain, refused}
 use Rattle.pushdown.specs.Machine.{commanded, giving_result, loading, starting, submitted}
 use Rattle.pushdown.specs.State.{State, holds_of}
 use Rattle.pushdown.specs.declared.reply.Reply.{Reply}
@@ -32,8 +31,7 @@ answered sub answer bytes s = completed sub answer.status answer.dw0 answer.dw1 
 
 -- the completion that an answer comes to
 abbrev pub complete_reply : ℕ → ℕ → Answer → Reply
-complete_reply queue cid answer =
-    reply.Complete queue (completion_bytes (record { dw0 = answer.dw0; dw1 = answer.dw1; queue = queue; cid = cid; status = answer.status })) answer.length
+complete_reply queue cid answer = completion_reply queue cid answer.status answer.dw0 answer.dw1 answer.length
 
 -- a standard command led from one namespace to the other, and was answered so; all that a device has
 -- besides is left

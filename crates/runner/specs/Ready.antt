@@ -1,7 +1,5 @@
 -- What holds of all that a device has.
 use Rattle.std.specs.Prelude.{ℕ, ◌≡◌, ◌≢◌, ◌<◌, ◌≤◌, ◌+◌, ◌*◌, ◌^◌, List, length, get_or, Option, Some, None}
-use Rattle.zone_resources.specs.declared.holds.TheConstants.{RUNS}
-use Rattle.nvme_entry.specs.declared.program_slot.TheConstants.{PROGRAM_SLOTS}
 use Rattle.program_interface.specs.declared.block_size.TheConstants.{LARGEST_BLOCK}
 use Rattle.reg_domain.specs.Intervals.{intervals}
 use Rattle.verifier.specs.Verified.{sizes_of}
@@ -42,8 +40,6 @@ pub record IsRunning (ns : ZonedNamespace) (slots : List (Option LoadedProgram))
 pub record IsReady (ns : ZonedNamespace) (slots : List (Option LoadedProgram)) (runs : List (Option Held)) : Type 0 where
   pub programs : (k : ℕ) (p : LoadedProgram) → get_or slots k None ≡ Some p → IsFor ns p
   pub running : (k : ℕ) (a : Held) → get_or runs k None ≡ Some a → IsRunning ns slots a
-  pub all_slots : length slots ≡ PROGRAM_SLOTS
-  pub all_runs : length runs ≡ RUNS
 
 -- a state that events leave, from some image on
 pub record IsReached (s : State) : Type 0 where

@@ -1,24 +1,24 @@
 -- What a turn does to a run as a device holds it.
-use Rattle.std.specs.Prelude.{ℕ, ◌≡◌, ◌+◌, ◌%◌, ◌≤◌, true, List, [], ◌∷◌, length, get_or, Option, Some, None}
+use Rattle.std.specs.Prelude.{ℕ, ◌≡◌, ◌+◌, ◌%◌, ◌≤◌, true, List, [], ◌∷◌, length, get_or, set, Option, Some, None}
 use Rattle.zone_state.specs.State.{is_open}
-use Rattle.zone_state.specs.declared.status.TheConstants.Status.{SUCCESS}
-use Rattle.nvme_entry.specs.declared.command.RunCommand.{RunCommand}
 use Rattle.ebpf_decode.specs.declared.insn.Insn.{Insn}
 use Rattle.interp.specs.Run.{Run}
 use Rattle.emit_append.specs.Packer.{PackerState}
 use Rattle.verifier.specs.Verified.{program_of, sizes_of}
 use Rattle.image_store.specs.Namespace.{ZonedNamespace, zone_at}
 use Rattle.zns_commands.specs.Address.{zone_number}
-use Rattle.pushdown.specs.BlockRuns.{Task, block_run}
+use Rattle.zns_commands.specs.declared.answer.Answer.{Answer}
+use Rattle.pushdown.specs.Admission.{task_by}
+use Rattle.pushdown.specs.BlockRuns.{block_run}
 use Rattle.pushdown.specs.Laws.{RoomIn}
-use Rattle.pushdown.specs.Machine.{added}
-use Rattle.pushdown.specs.Outcome.{Turn, rest}
-use Rattle.pushdown.specs.View.{Active, to_come}
-use Rattle.runner.specs.Held.{active_of}
-use Rattle.runner.specs.Ready.{Fits, IsFor}
+use Rattle.pushdown.specs.Machine.{added, turned}
+use Rattle.pushdown.specs.State.{State}
+use Rattle.pushdown.specs.View.{Active, turns_of}
+use Rattle.pushdown.specs.declared.reply.Reply.{Reply}
+use Rattle.runner.specs.Held.{active_of, state_of}
+use Rattle.runner.specs.Ready.{Fits, IsFor, IsReady}
 use Rattle.runner.specs.declared.active.Active.{Active as Held}
 use Rattle.runner.specs.declared.loaded.LoadedProgram.{LoadedProgram}
-use Rattle.runner.specs.declared.turn.Ended.{Ended}
 
 abbrev pub with_scratch : Held → List ℕ → Held
 with_scratch a bytes = record a { scratch = bytes }
@@ -26,20 +26,6 @@ with_scratch a bytes = record a { scratch = bytes }
 -- a run that has this pending block, and has appended so many blocks more
 abbrev pub with_packer : Held → PackerState → ℕ → Held
 with_packer a packer more = record a { packer = packer; appended = a.appended + more }
-
--- what a run of this program is about
-abbrev pub task_by : ZonedNamespace → List (Option Insn) → ℕ → RunCommand → Task
-task_by ns program limit order = record {
-  program = program;
-  sizes = record { block = ns.block; limit = limit };
-  argument = order.argument;
-  lba = order.lba;
-  count = order.blocks;
-}
-
--- the turns that are left of a run
-abbrev pub turns_of : ZonedNamespace → List (Option Insn) → ℕ → Active → List Turn
-turns_of ns program limit a = rest (task_by ns program limit a.order) a.so_far (to_come ns a)
 
 -- the block that a run reads next, and its program on it
 abbrev pub next_block : ZonedNamespace → Active → List ℕ
@@ -74,15 +60,16 @@ pub record GoesOn (old new : ZonedNamespace) (program : List (Option Insn)) (lim
   pub namespace : new ≡ added old a.destination blocks
 
 -- a turn that ends the run
-pub record HasEnded (old new : ZonedNamespace) (program : List (Option Insn)) (limit : ℕ) (a b : Held) (ended : Ended) : Type 0 where
+pub record HasEnded (old new : ZonedNamespace) (program : List (Option Insn)) (limit : ℕ) (a b : Held) (answer : Answer) : Type 0 where
   pub blocks : List (List ℕ)
   pub turns : turns_of old program limit (active_of a)
-      ≡ record { blocks = blocks; ending = Some (record { status = SUCCESS; dw0 = ended.frames; dw1 = ended.appended; result = Some b.scratch }) } ∷ []
+      ≡ record { blocks = blocks; ending = Some (record { status = answer.status; dw0 = answer.dw0; dw1 = answer.dw1; result = Some b.scratch }) } ∷ []
+  pub no_data : answer.length ≡ 0
   pub namespace : new ≡ added old a.destination blocks
 
-abbrev pub Turned : ZonedNamespace → ZonedNamespace → List (Option Insn) → ℕ → Held → Held → Option Ended → Type 0
+abbrev pub Turned : ZonedNamespace → ZonedNamespace → List (Option Insn) → ℕ → Held → Held → Option Answer → Type 0
 Turned old new program limit a b None = GoesOn old new program limit a b
-Turned old new program limit a b (Some ended) = HasEnded old new program limit a b ended
+Turned old new program limit a b (Some answer) = HasEnded old new program limit a b answer
 
 -- what no turn changes in a run
 pub record Keeps (a b : Held) : Type 0 where
@@ -90,25 +77,32 @@ pub record Keeps (a b : Held) : Type 0 where
   pub cid : b.cid ≡ a.cid
   pub order : b.order ≡ a.order
 
--- a turn at a place, where a program gives its result into these bytes
-abbrev pub PlaceTurned : ZonedNamespace → ZonedNamespace → List (Option Insn) → ℕ → Option Held → Option Held → List ℕ → List ℕ → Option Ended → Type 0
-PlaceTurned old new program limit (Some a) (Some b) before after None =
-    GoesOn old new program limit a b × Keeps a b × Fits new b × (after ≡ before)
-PlaceTurned old new program limit (Some a) None before after (Some ended) =
-    (b : Held) × HasEnded old new program limit a b ended × (after ≡ b.scratch)
-PlaceTurned old new program limit _ _ before after _ = ⊥
+-- a run that fits, with the program of its slot
+abbrev pub FitsIn : ZonedNamespace → Option LoadedProgram → Held → Type 0
+FitsIn ns None a = ⊥
+FitsIn ns (Some p) a = IsFor ns p × FitsOn ns (program_of p.verified) (sizes_of p.verified).limit a
 
-abbrev pub FitsAt : ZonedNamespace → List (Option Insn) → ℕ → Option Held → Type 0
-FitsAt ns program limit None = ⊥
-FitsAt ns program limit (Some a) = FitsOn ns program limit a
+-- a turn of a run, by the program of a slot, which has the scratch bytes as its result once the run has ended
+abbrev pub SlotTurned : ZonedNamespace → ZonedNamespace → Option LoadedProgram → Option LoadedProgram → Held → Held → Option Answer → Type 0
+SlotTurned old new (Some p) (Some q) a b None =
+    (q ≡ p) × GoesOn old new (program_of p.verified) (sizes_of p.verified).limit a b × Keeps a b × Fits new b
+SlotTurned old new (Some p) (Some q) a b (Some answer) =
+    (q ≡ record p { result = b.scratch }) × HasEnded old new (program_of p.verified) (sizes_of p.verified).limit a b answer × Keeps a b
+SlotTurned old new _ _ a b answer = ⊥
 
--- a place, and the slot of its program
-abbrev pub FitsIn : ZonedNamespace → Option LoadedProgram → Option Held → Type 0
-FitsIn ns None place = ⊥
-FitsIn ns (Some p) place = IsFor ns p × FitsAt ns (program_of p.verified) (sizes_of p.verified).limit place
+-- a place at which no run is, or one that fits
+abbrev pub FitsAt : ZonedNamespace → List (Option LoadedProgram) → Option Held → Type 0
+FitsAt ns slots None = Unit {0}
+FitsAt ns slots (Some a) = FitsIn ns (get_or slots a.order.slot None) a
 
--- a turn at a place, by the program of a slot
-abbrev pub SlotTurned : ZonedNamespace → ZonedNamespace → Option LoadedProgram → Option LoadedProgram → Option Held → Option Held → Option Ended → Type 0
-SlotTurned old new (Some p) (Some q) before after ended =
-    (q.verified ≡ p.verified) × PlaceTurned old new (program_of p.verified) (sizes_of p.verified).limit before after p.result q.result ended
-SlotTurned old new _ _ before after ended = ⊥
+-- what a turn in a state comes to
+pub record IsTurned (s : State) (run : ℕ) (ns : ZonedNamespace) (slots : List (Option LoadedProgram)) (runs : List (Option Held)) (answer : Reply) : Type 0 where
+  pub reply : answer ≡ (turned s run).answer.reply
+  pub state : state_of ns slots runs ≡ (turned s run).state
+  pub ready : IsReady ns slots runs
+
+-- a turn at a place, whatever the other places hold
+abbrev pub PlaceTurned : ZonedNamespace → ZonedNamespace → List (Option LoadedProgram) → List (Option LoadedProgram) → ℕ → Option Held → Option Held → Reply → Type 0
+PlaceTurned old new slots slots' run place place' answer =
+    (runs : List (Option Held)) → get_or runs run None ≡ place → IsReady old slots runs
+    → IsTurned (state_of old slots runs) run new slots' (set runs run place') answer

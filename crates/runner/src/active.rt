@@ -28,7 +28,7 @@ pub struct Active {
 }
 
 impl Active {
-    /// A run before its first turn.
+    /// A run before its first turn. Its few KiB are then moved to its place, which costs once for each run.
     pub fn new(
         queue: u16,
         cid: u16,

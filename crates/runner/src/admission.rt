@@ -2,19 +2,20 @@
 
 ghost use Rattle.std.specs.Prelude.{◌≡◌, ◌<◌, ◌+◌, ◌^◌, length, get_or, position, is_some, is_none, None, Option, IfOk, IfErr, OnOk, OnErr};
 ghost use Rattle.nvme_entry.specs.Checks.{first_refused};
-ghost use Rattle.pushdown.specs.Admission.{run_refusal};
-ghost use Rattle.runner.specs.Admitting.{address_checks, destination_checks, source_checks, ArePlaces, AreWritten, IsAdmission};
+ghost use Rattle.pushdown.specs.Admission.{address_checks, destination_checks, run_refusal, source_checks};
+ghost use Rattle.runner.specs.Admitting.{ArePlaces, AreWritten, IsAdmission};
 ghost use Rattle.runner.specs.Answered.{Refuses, Starts};
-ghost use Rattle.runner.specs.Held.{destination_held, filled, held_by, source_held, state_of};
+ghost use Rattle.runner.specs.Held.{filled, held_by, state_of};
 ghost use Rattle.runner.specs.Ready.{IsReady};
 ghost use Rattle.zns_commands.specs.Address.{lowest_checks, place_in, range_check, zone_number, IsPlace};
 ghost use Rattle.zns_commands.specs.Resources.{why_not};
 
 use crate::active::Active;
 use crate::loaded::LoadedProgram;
+use crate::places::{free_run, holds};
 use emit_append::need;
 use image_store::Place;
-use nvme_entry::{BlockCount, RunCommand, Status};
+use nvme_entry::{BlockCount, PROGRAM_SLOTS, RunCommand, Status};
 use zns_commands::{Holds, Namespace};
 use zone_resources::RUNS;
 use zone_state::ZoneState;
@@ -31,8 +32,8 @@ struct Admitted {
 /// Starts a run under the lowest free number, where no check refuses it.
 pub fn start(
     namespace: &Namespace,
-    slots: &[Option<LoadedProgram>],
-    runs: &mut [Option<Active>],
+    slots: &[Option<LoadedProgram>; PROGRAM_SLOTS],
+    runs: &mut [Option<Active>; RUNS],
     queue: u16,
     cid: u16,
     order: &RunCommand,
@@ -60,8 +61,8 @@ pub fn start(
 /// Tests a run.
 fn admit(
     namespace: &Namespace,
-    slots: &[Option<LoadedProgram>],
-    runs: &[Option<Active>],
+    slots: &[Option<LoadedProgram>; PROGRAM_SLOTS],
+    runs: &[Option<Active>; RUNS],
     order: &RunCommand,
     payload: &[u8],
 ) -> Result<Admitted, Status>
@@ -133,24 +134,6 @@ fn destination_zone(namespace: &Namespace, lba: u64) -> Result<u32, Status>
     Ok(place.zone)
 }
 
-/// The lowest number that an active run has.
-pub fn lowest_run(runs: &[Option<Active>]) -> Option<u8>
-    requires { length runs.now ≡ RUNS }
-    ensures { result ≡ position is_some runs.now }
-{
-    let run = runs.iter().position(|run| run.is_some())?;
-    Some(run as u8)
-}
-
-/// The lowest run number that is free.
-fn free_run(runs: &[Option<Active>]) -> Option<u8>
-    requires { length runs.now ≡ RUNS }
-    ensures { result ≡ position is_none runs.now }
-{
-    let run = runs.iter().position(|run| run.is_none())?;
-    Some(run as u8)
-}
-
 /// Tests the blocks that a run is to read: they lie in one zone, and are written.
 fn check_source(namespace: &Namespace, first: Place, blocks: BlockCount) -> Result<(), Status>
     requires { first.zone < length namespace.now.zones }
@@ -193,43 +176,4 @@ fn check_destination(
         return Err(Status::DESTINATION_LACKS_ROOM);
     }
     Ok(())
-}
-
-/// The zones that the active runs read from and append to.
-pub fn holds(runs: &[Option<Active>]) -> Holds
-    requires { length runs.now ≡ RUNS }
-    ensures { result ≡ held_by runs.now }
-{
-    Holds {
-        sources: [
-            source(&runs[0]),
-            source(&runs[1]),
-            source(&runs[2]),
-            source(&runs[3]),
-        ],
-        destinations: [
-            destination(&runs[0]),
-            destination(&runs[1]),
-            destination(&runs[2]),
-            destination(&runs[3]),
-        ],
-    }
-}
-
-fn source(run: &Option<Active>) -> Option<u32>
-    ensures { result ≡ source_held run.now }
-{
-    match run {
-        Some(active) => Some(active.source.zone),
-        None => None,
-    }
-}
-
-fn destination(run: &Option<Active>) -> Option<u32>
-    ensures { result ≡ destination_held run.now }
-{
-    match run {
-        Some(active) => Some(active.destination),
-        None => None,
-    }
 }

@@ -1,7 +1,8 @@
 //! One block run: a program over one block.
 
 ghost use Rattle.std.specs.Prelude.{◌≡◌, ◌<◌, ◌≤◌, ◌^◌, length, take};
-ghost use Rattle.runner.specs.Ran.{HasRun, run_over};
+ghost use Rattle.pushdown.specs.BlockRuns.{run_over};
+ghost use Rattle.runner.specs.Ran.{HasRun};
 
 use interp::{Exit, Machine, TrapFree};
 use program_interface::{CONTEXT_BYTES, SCRATCH_BYTES};

@@ -22,14 +22,13 @@ fn put_front(data_out: &mut [u8], scratch: &[u8; SCRATCH_BYTES])
 }
 
 /// Gives the result of a slot's program.
-pub fn result(
-    slots: &[Option<LoadedProgram>],
+pub fn give_result(
+    slots: &[Option<LoadedProgram>; PROGRAM_SLOTS],
     slot: ProgramSlot,
     payload: &[u8],
     data_out: &mut [u8],
 ) -> Answer
-    requires slots { length slots.now ≡ PROGRAM_SLOTS }
-    requires room { SCRATCH_BYTES ≤ length data_out.old }
+    requires { SCRATCH_BYTES ≤ length data_out.old }
     ensures gives { (ns : ZonedNamespace) (runs : List (Option Held)) → GivesResult slot payload.now (state_of ns slots.now runs) result data_out.new }
     ensures rest { drop result.length data_out.new ≡ drop result.length data_out.old }
     ensures within { result.length ≤ length data_out.new }

@@ -13,9 +13,9 @@ ghost use Rattle.runner.specs.Ready.{IsReached};
 ghost use Rattle.runner.specs.Refusals.{CountsRefusals};
 
 use crate::active::Active;
-use crate::admission::{holds, lowest_run as lowest};
 use crate::loaded::LoadedProgram;
 use crate::out::Out;
+use crate::places::{holds, lowest_run as lowest};
 use crate::submission::{Submission, submit};
 use crate::turn::turn;
 use nvme_entry::{MOST_TRANSFER, PROGRAM_SLOTS};

@@ -10,7 +10,10 @@ pub mod laws;
 mod load;
 mod loaded;
 mod out;
+mod places;
 mod submission;
+#[cfg(test)]
+mod tests;
 mod turn;
 
 pub use device::{Device, Stopped};

@@ -14,19 +14,20 @@ ghost use Rattle.zns_commands.specs.Resources.{why_not};
 use crate::active::Active;
 use crate::loaded::LoadedProgram;
 use ebpf_decode::{DecodeFault, decode};
-use nvme_entry::{LoadCommand, MOST_TRANSFER, ProgramSlot, Status};
+use nvme_entry::{LoadCommand, MOST_TRANSFER, PROGRAM_SLOTS, ProgramSlot, Status};
 use program_interface::{MOST_SLOTS, RunSizes};
 use reg_domain::Intervals;
 use std::alloc::Global;
 use verifier::{Verified, VerifyFault, verify};
 use zns_commands::{Answer, Namespace};
+use zone_resources::RUNS;
 
 /// Puts a program into a slot, without a result. Where it is refused, the slot is as it was.
 pub fn load(
     alloc: Global,
     namespace: &Namespace,
-    slots: &mut [Option<LoadedProgram>],
-    runs: &[Option<Active>],
+    slots: &mut [Option<LoadedProgram>; PROGRAM_SLOTS],
+    runs: &[Option<Active>; RUNS],
     command: &LoadCommand,
     payload: &[u8],
 ) -> Answer
@@ -48,7 +49,7 @@ pub fn load(
 fn try_load(
     alloc: Global,
     namespace: &Namespace,
-    runs: &[Option<Active>],
+    runs: &[Option<Active>; RUNS],
     command: &LoadCommand,
     payload: &[u8],
 ) -> Result<Verified<Intervals>, Answer>
@@ -65,7 +66,7 @@ fn try_load(
 /// The sizes of the runs that a Load asks for, or the status that refuses it.
 fn check(
     namespace: &Namespace,
-    runs: &[Option<Active>],
+    runs: &[Option<Active>; RUNS],
     command: &LoadCommand,
     payload: &[u8],
 ) -> Result<RunSizes, Status>
@@ -86,12 +87,13 @@ fn check(
 }
 
 /// Does an active run use the program of a slot?
-fn is_used(runs: &[Option<Active>], slot: ProgramSlot) -> bool
+fn is_used(runs: &[Option<Active>; RUNS], slot: ProgramSlot) -> bool
     ensures { result ≡ list_any (uses_slot slot) runs.now }
 {
     runs.iter().any(|run| uses(run, slot))
 }
 
+/// Does the run at a place use it?
 fn uses(run: &Option<Active>, slot: ProgramSlot) -> bool
     ensures { result ≡ uses_slot slot run.now }
 {

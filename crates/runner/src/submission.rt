@@ -10,11 +10,12 @@ ghost use Rattle.runner.specs.Held.{state_of};
 ghost use Rattle.runner.specs.Ready.{IsReady};
 
 use crate::active::Active;
-use crate::admission::{holds, start};
-use crate::commands::{complete, result};
+use crate::admission::start;
+use crate::commands::{complete, give_result};
 use crate::load::load;
 use crate::loaded::LoadedProgram;
-use nvme_entry::{Command, Entry, MOST_TRANSFER, RunCommand, StandardCommand};
+use crate::places::holds;
+use nvme_entry::{Command, Entry, MOST_TRANSFER, PROGRAM_SLOTS, RunCommand, StandardCommand};
 use pushdown::Reply;
 use std::alloc::Global;
 use zns_commands::{Answer, Namespace};
@@ -55,8 +56,8 @@ impl<'a> Submission<'a> {
 pub fn submit(
     alloc: Global,
     namespace: &mut Namespace,
-    slots: &mut [Option<LoadedProgram>],
-    runs: &mut [Option<Active>],
+    slots: &mut [Option<LoadedProgram>; PROGRAM_SLOTS],
+    runs: &mut [Option<Active>; RUNS],
     submission: &Submission<'_>,
     data_out: &mut [u8],
 ) -> Reply
@@ -77,8 +78,8 @@ pub fn submit(
 fn perform(
     alloc: Global,
     namespace: &mut Namespace,
-    slots: &mut [Option<LoadedProgram>],
-    runs: &mut [Option<Active>],
+    slots: &mut [Option<LoadedProgram>; PROGRAM_SLOTS],
+    runs: &mut [Option<Active>; RUNS],
     command: Command,
     submission: &Submission<'_>,
     data_out: &mut [u8],
@@ -98,7 +99,7 @@ fn perform(
         Command::Load(command) => {
             submission.answer(load(alloc, namespace, slots, runs, &command, payload))
         }
-        Command::Result(slot) => submission.answer(result(slots, slot, payload, data_out)),
+        Command::Result(slot) => submission.answer(give_result(slots, slot, payload, data_out)),
         Command::Run(order) => run(namespace, slots, runs, &order, submission),
     }
 }
@@ -106,12 +107,11 @@ fn perform(
 /// Executes a standard command, which leaves the active runs what they use.
 fn execute(
     namespace: &mut Namespace,
-    runs: &[Option<Active>],
+    runs: &[Option<Active>; RUNS],
     command: &StandardCommand,
     payload: &[u8],
     data_out: &mut [u8],
 ) -> Answer
-    requires runs { length runs.now ≡ RUNS }
     requires room { MOST_TRANSFER ≤ length data_out.old }
     ensures left { (slots : List (Option LoadedProgram)) → IsReady namespace.old slots runs.now → HasExecuted command.now payload.now namespace.old namespace.new slots runs.now result data_out.new }
     ensures rest { drop result.length data_out.new ≡ drop result.length data_out.old }
@@ -123,8 +123,8 @@ fn execute(
 /// Starts a run, where it is admitted.
 fn run(
     namespace: &Namespace,
-    slots: &[Option<LoadedProgram>],
-    runs: &mut [Option<Active>],
+    slots: &[Option<LoadedProgram>; PROGRAM_SLOTS],
+    runs: &mut [Option<Active>; RUNS],
     order: &RunCommand,
     submission: &Submission<'_>,
 ) -> Reply

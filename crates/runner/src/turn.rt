@@ -6,27 +6,22 @@ ghost use Rattle.emit_append.specs.Packer.{after_put, given_by_finish, given_by_
 ghost use Rattle.emit_append.specs.Packing.{padded};
 ghost use Rattle.pushdown.specs.Answers.{data_length};
 ghost use Rattle.pushdown.specs.BlockRuns.{scratch_after};
-ghost use Rattle.pushdown.specs.Machine.{added, turned};
+ghost use Rattle.pushdown.specs.Machine.{added};
 ghost use Rattle.runner.specs.Held.{active_of, state_of};
 ghost use Rattle.runner.specs.Ran.{HasRun};
 ghost use Rattle.runner.specs.Ready.{Fits, IsReady, IsReached};
-ghost use Rattle.runner.specs.Turning.{FitsAt, FitsIn, FitsOn, HasRoom, IsTaking, Keeps, PlaceTurned, SlotTurned, Turned, next_block, next_run, with_packer, with_scratch};
+ghost use Rattle.runner.specs.Turning.{FitsAt, FitsIn, FitsOn, HasRoom, IsTaking, IsTurned, Keeps, PlaceTurned, SlotTurned, Turned, next_block, next_run, with_packer, with_scratch};
 
 use crate::active::Active;
 use crate::block_run::run_block;
+use crate::commands::complete;
 use crate::loaded::LoadedProgram;
 use interp::{Exit, TrapFree};
-use nvme_entry::{Completion, Status};
-use program_interface::{Context, LARGEST_BLOCK, SCRATCH_BYTES};
+use nvme_entry::{PROGRAM_SLOTS, Status};
+use program_interface::{Context, LARGEST_BLOCK};
 use pushdown::Reply;
-use zns_commands::Namespace;
-
-/// What the completion of a run tells that has ended: its frames, and the blocks that it appended.
-#[derive(Clone, Copy, Debug, PartialEq, Eq)]
-pub struct Ended {
-    pub frames: u32,
-    pub appended: u32,
-}
+use zns_commands::{Answer, Namespace};
+use zone_resources::RUNS;
 
 /// The block that a run reads next.
 fn source_block<'a>(namespace: &'a Namespace, active: &Active) -> &'a [u8]
@@ -45,12 +40,11 @@ fn run_next<V: TrapFree>(
     namespace: &Namespace,
     verified: &V,
     active: &mut Active,
-    group: &mut [u8],
+    group: &mut [u8; LARGEST_BLOCK],
 ) -> Exit
     requires fits { Fits namespace.now active.old }
     requires block { V.block verified.now ≡ namespace.now.block }
     requires limit { V.limit verified.now ≤ namespace.now.block }
-    requires room { LARGEST_BLOCK ≤ length group.old }
     ensures run { HasRun (next_run namespace.now (V.code verified.now) (V.limit verified.now) (active_of active.old)) result.r0 result.frames (take result.group_len group.new) active.new.scratch }
     ensures limit { result.group_len ≤ namespace.now.block }
     ensures few { result.frames ≤ LARGEST_BLOCK }
@@ -117,17 +111,16 @@ fn finish(namespace: &mut Namespace, active: &mut Active)
     }
 }
 
-/// A turn of a run: its program on the next block, and what that emits is packed. Answers what the
-/// completion tells, where the run has ended.
+/// A turn of a run: its program on the next block, and what that emits is packed. Gives the run's answer
+/// where it has ended.
 fn advance<V: TrapFree>(
     namespace: &mut Namespace,
     verified: &V,
     active: &mut Active,
-    group: &mut [u8],
-) -> Option<Ended>
+    group: &mut [u8; LARGEST_BLOCK],
+) -> Option<Answer>
     requires fits { FitsOn namespace.old (V.code verified.now) (V.limit verified.now) active.old }
     requires block { V.block verified.now ≡ namespace.old.block }
-    requires room { LARGEST_BLOCK ≤ length group.old }
     ensures turn { Turned namespace.old namespace.new (V.code verified.now) (V.limit verified.now) active.old active.new result }
     ensures kept { Keeps active.old active.new }
     ensures fits { IsNone result → Fits namespace.new active.new }
@@ -140,100 +133,73 @@ fn advance<V: TrapFree>(
         return None;
     }
     finish(namespace, active);
-    Some(Ended {
-        frames: active.frames,
-        appended: active.appended,
+    Some(Answer {
+        status: Status::SUCCESS,
+        dw0: active.frames,
+        dw1: active.appended,
+        length: 0,
     })
 }
 
-/// A turn at a place, where a run is. Where the run ends, the place is free afterwards, and `kept` has
-/// its scratch bytes.
-fn advance_place<V: TrapFree>(
-    namespace: &mut Namespace,
-    verified: &V,
-    place: &mut Option<Active>,
-    kept: &mut [u8; SCRATCH_BYTES],
-    group: &mut [u8],
-) -> Option<Ended>
-    requires fits { FitsAt namespace.old (V.code verified.now) (V.limit verified.now) place.old }
-    requires block { V.block verified.now ≡ namespace.old.block }
-    requires room { LARGEST_BLOCK ≤ length group.old }
-    ensures { PlaceTurned namespace.old namespace.new (V.code verified.now) (V.limit verified.now) place.old place.new kept.old kept.new result }
-{
-    match place {
-        None => unreachable!(),
-        Some(active) => {
-            let ended = advance(namespace, verified, active, group)?;
-            *kept = active.scratch;
-            *place = None;
-            Some(ended)
-        }
-    }
-}
-
-/// A turn at a place, where a run of the slot's program is.
-fn turn_place(
+/// A turn of a run by the program of its slot, which has the run's scratch bytes as its result once the run
+/// has ended.
+fn advance_by_slot(
     namespace: &mut Namespace,
     slot: &mut Option<LoadedProgram>,
-    place: &mut Option<Active>,
-    group: &mut [u8],
-) -> Option<Ended>
-    requires fits { FitsIn namespace.old slot.old place.old }
-    requires room { LARGEST_BLOCK ≤ length group.old }
-    ensures { SlotTurned namespace.old namespace.new slot.old slot.new place.old place.new result }
+    active: &mut Active,
+    group: &mut [u8; LARGEST_BLOCK],
+) -> Option<Answer>
+    requires { FitsIn namespace.old slot.old active.old }
+    ensures { SlotTurned namespace.old namespace.new slot.old slot.new active.old active.new result }
 {
-    match slot {
-        None => unreachable!(),
-        Some(loaded) => {
-            advance_place(
-                namespace,
-                &loaded.verified,
-                place,
-                &mut loaded.result,
-                group,
-            )
-        }
-    }
+    let Some(loaded) = slot else {
+        unreachable!();
+    };
+    let answer = advance(namespace, &loaded.verified, active, group)?;
+    loaded.result = active.scratch;
+    Some(answer)
+}
+
+/// Gives the run at a place a turn, where there is one. The place is free once the run has ended.
+fn turn_place(
+    namespace: &mut Namespace,
+    slots: &mut [Option<LoadedProgram>; PROGRAM_SLOTS],
+    place: &mut Option<Active>,
+    group: &mut [u8; LARGEST_BLOCK],
+    run: u8,
+) -> Reply
+    requires { FitsAt namespace.old slots.old place.old }
+    ensures turned { PlaceTurned namespace.old namespace.new slots.old slots.new run place.old place.new result }
+    ensures no_data { data_length result ≡ 0 }
+{
+    let Some(active) = place else {
+        return Reply::Idle;
+    };
+    let slot = active.order.slot.index();
+    let Some(answer) = advance_by_slot(namespace, &mut slots[slot], active, group) else {
+        return Reply::Pending { run };
+    };
+    let reply = complete(active.queue, active.cid, answer);
+    *place = None;
+    reply
 }
 
 /// Gives a run a turn.
 pub fn turn(
     namespace: &mut Namespace,
-    slots: &mut [Option<LoadedProgram>],
-    runs: &mut [Option<Active>],
+    slots: &mut [Option<LoadedProgram>; PROGRAM_SLOTS],
+    runs: &mut [Option<Active>; RUNS],
     group: &mut [u8; LARGEST_BLOCK],
     run: u8,
 ) -> Reply
     requires ready { IsReady namespace.old slots.old runs.old }
     requires reached { IsReached (state_of namespace.old slots.old runs.old) }
-    ensures reply { result ≡ (turned (state_of namespace.old slots.old runs.old) run).answer.reply }
-    ensures state { state_of namespace.new slots.new runs.new ≡ (turned (state_of namespace.old slots.old runs.old) run).state }
-    ensures ready { IsReady namespace.new slots.new runs.new }
+    ensures turned { IsTurned (state_of namespace.old slots.old runs.old) run namespace.new slots.new runs.new result }
     ensures no_data { data_length result ≡ 0 }
 {
     let place = usize::from(run);
-    if place >= runs.len() {
+    if place >= RUNS {
         return Reply::Idle;
     }
-    let Some(active) = &runs[place] else {
-        return Reply::Idle;
-    };
-    let queue = active.queue;
-    let cid = active.cid;
-    let slot = active.order.slot.index();
-    let Some(ended) = turn_place(namespace, &mut slots[slot], &mut runs[place], group) else {
-        return Reply::Pending { run };
-    };
-    let completion = Completion {
-        dw0: ended.frames,
-        dw1: ended.appended,
-        queue,
-        cid,
-        status: Status::SUCCESS,
-    };
-    Reply::Complete {
-        queue,
-        entry: completion.encode(),
-        length: 0,
-    }
+    turn_place(namespace, slots, &mut runs[place], group, run)
 }

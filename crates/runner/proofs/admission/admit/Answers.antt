@@ -3,14 +3,15 @@ use Rattle.std.specs.Prelude.{is_some}
 use Rattle.std.proofs.lemmas.Result.{err_from_is_err_and}
 use Rattle.emit_append.specs.Need.{need}
 use Rattle.verifier.specs.Verified.{sizes_of}
-use Rattle.runner.proofs.Admissions.{destination_decides, read_at}
+use Rattle.runner.proofs.Admissions.{destination_decides}
+use Rattle.runner.proofs.MayBeThere.{read_at}
 use Rattle.runner.proofs.admission.admit.Goals as goal
 
 pub returns-in_err-check_destination-clause-why : goal.returns-in_err-check_destination-clause-why
 returns-in_err-check_destination-clause-why c =
     let order = c.args.order.now in
     let inside : c.index.result < length c.args.slots.now = omega arith in
-    let at = read_at c.args.slots.now c.index.result order.slot c.index-slots-index.result c.in-Some.loaded c.index.ensures.value inside c.index-slots-index.is c.in-Some.is in
+    let at = read_at c.args.slots.now c.index.result order.slot c.index-slots-index.result c.in-Some.loaded c.index.ensures.value inside c.in-Some.is in
     let enough = c.need-blocks.ensures ∙ ap (need c.get.result) c.sizes.ensures ∙ ap (λ (n : ℕ). need n (sizes_of c.in-Some.loaded.verified)) c.get.ensures.value in
     let decides = destination_decides c.args.namespace.now c.args.slots.now c.args.runs.now order c.args.payload.now c.in-Some.loaded c.in_ok-source.source
     c.in_ok-source.destination c.in-Some-free_run.run' c.need-blocks.result c.holds.result c.requires c.if-not-is_empty.ensures at c.in_ok-source.ensures.places
@@ -22,7 +23,7 @@ pub returns-clause-why : goal.returns-clause-why
 returns-clause-why c =
     let order = c.args.order.now in
     let inside : c.index.result < length c.args.slots.now = omega arith in
-    let at = read_at c.args.slots.now c.index.result order.slot c.index-slots-index.result c.in-Some.loaded c.index.ensures.value inside c.index-slots-index.is c.in-Some.is in
+    let at = read_at c.args.slots.now c.index.result order.slot c.index-slots-index.result c.in-Some.loaded c.index.ensures.value inside c.in-Some.is in
     let enough = c.need-blocks.ensures ∙ ap (need c.get.result) c.sizes.ensures ∙ ap (λ (n : ℕ). need n (sizes_of c.in-Some.loaded.verified)) c.get.ensures.value in
     let decides = destination_decides c.args.namespace.now c.args.slots.now c.args.runs.now order c.args.payload.now c.in-Some.loaded c.in_ok-source.source
     c.in_ok-source.destination c.in-Some-free_run.run' c.need-blocks.result c.holds.result c.requires c.if-not-is_empty.ensures at c.in_ok-source.ensures.places
@@ -33,7 +34,7 @@ pub returns-clause-admission : goal.returns-clause-admission
 returns-clause-admission c =
     let order = c.args.order.now in
     let inside : c.index.result < length c.args.slots.now = omega arith in
-    let at = read_at c.args.slots.now c.index.result order.slot c.index-slots-index.result c.in-Some.loaded c.index.ensures.value inside c.index-slots-index.is c.in-Some.is in
+    let at = read_at c.args.slots.now c.index.result order.slot c.index-slots-index.result c.in-Some.loaded c.index.ensures.value inside c.in-Some.is in
     record {
       free = sym c.in-Some-free_run.ensures;
       loaded = ap is_some at;

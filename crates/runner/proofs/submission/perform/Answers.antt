@@ -37,6 +37,6 @@ returns-in-Result-clause-submitted c =
     let sub : Submission = record { queue = told.queue; entry = told.entry.now; payload = told.payload.now } in
     let old = state_of a.namespace.now a.slots.now a.runs.now in
     let asking : Command → Happening = λ x. submitted intervals false sub old (Ok x) in
-    replied sub (Ok a.command) old old false c.result.result c.answer-in-Result.result c.result.new.data_out
-    (ap asking c.in-Result.is ∙ c.result.ensures.gives a.namespace.now a.runs.now told.queue told.entry.now)
-    c.answer-in-Result.ensures c.result.ensures.within
+    replied sub (Ok a.command) old old false c.give_result.result c.answer-in-Result.result c.give_result.new.data_out
+    (ap asking c.in-Result.is ∙ c.give_result.ensures.gives a.namespace.now a.runs.now told.queue told.entry.now)
+    c.answer-in-Result.ensures c.give_result.ensures.within

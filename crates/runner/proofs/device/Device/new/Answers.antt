@@ -13,8 +13,6 @@ invariant_of-result c = record {
   ready = record {
     programs = λ k p at. absurd (none_at PROGRAM_SLOTS k p at);
     running = λ k a at. absurd (none_at RUNS k a at);
-    all_slots = refl;
-    all_runs = refl;
   };
   reached = record { first = c.new-namespace.result; events = []; namespace = c.geometry.ensures.sound; bytes = tt; leaves = refl };
 }

@@ -9,11 +9,11 @@ use Rattle.runner.proofs.device.Device.next_run.Goals as goal
 pub returns-clause-lowest : goal.returns-clause-lowest
 returns-clause-lowest c =
     let d = c.self.inside in
-    c.lowest_run.ensures ∙ sym (lowest_is d.namespace d.slots d.runs) ∙ ap lowest_run c.self.view_is
+    c.lowest_run.ensures.lowest ∙ sym (lowest_is d.namespace d.slots d.runs) ∙ ap lowest_run c.self.view_is
 
 pub returns-clause-few : goal.returns-clause-few
 returns-clause-few c =
     let d = c.self.inside in
     let ready = c.self.invariant.ready in
     let few = few_left d.namespace d.slots d.runs (λ k a at. (ready.running k a at).fits) in
-    subst (λ (s : State). turns_left s.places ≤ 65536 * RUNS) c.self.view_is (omega (arith, few, ready.all_runs))
+    subst (λ (s : State). turns_left s.places ≤ 65536 * RUNS) c.self.view_is (omega (arith, few, c.lowest_run.ensures.size))

@@ -32,9 +32,9 @@ pub invariant_of-self-in-Turn : goal.invariant_of-self-in-Turn
 invariant_of-self-in-Turn c =
     let d = c.self-in-Turn.inside in
     record {
-      ready = c.turn.ensures.ready;
+      ready = c.turn.ensures.turned.ready;
       reached = reached_more (state_of d.namespace d.slots d.runs) (state_of c.turn.new.namespace c.turn.new.slots c.turn.new.runs)
-          (record { event = event.Turn c.in-Turn.run'; starved = false }) c.self-in-Turn.invariant.reached tt c.turn.ensures.state;
+          (record { event = event.Turn c.in-Turn.run'; starved = false }) c.self-in-Turn.invariant.reached tt c.turn.ensures.turned.state;
     }
 
 pub returns-in-Submit-clause-happened : goal.returns-in-Submit-clause-happened

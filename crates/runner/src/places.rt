@@ -1,0 +1,65 @@
+//! The places for active runs.
+
+ghost use Rattle.std.specs.Prelude.{◌≡◌, is_none, is_some, length, position};
+ghost use Rattle.runner.specs.Held.{destination_held, held_by, source_held};
+
+use crate::active::Active;
+use zns_commands::Holds;
+use zone_resources::RUNS;
+
+/// The lowest number that an active run has.
+pub fn lowest_run(runs: &[Option<Active>; RUNS]) -> Option<u8>
+    ensures lowest { result ≡ position is_some runs.now }
+    ensures size { length runs.now ≡ RUNS }
+{
+    let run = runs.iter().position(|run| run.is_some())?;
+    Some(run as u8)
+}
+
+/// The lowest number that no active run has.
+pub fn free_run(runs: &[Option<Active>; RUNS]) -> Option<u8>
+    ensures { result ≡ position is_none runs.now }
+{
+    let run = runs.iter().position(|run| run.is_none())?;
+    Some(run as u8)
+}
+
+/// The zones that the active runs read from and append to.
+pub fn holds(runs: &[Option<Active>; RUNS]) -> Holds
+    ensures { result ≡ held_by runs.now }
+{
+    Holds {
+        sources: [
+            source(&runs[0]),
+            source(&runs[1]),
+            source(&runs[2]),
+            source(&runs[3]),
+        ],
+        destinations: [
+            destination(&runs[0]),
+            destination(&runs[1]),
+            destination(&runs[2]),
+            destination(&runs[3]),
+        ],
+    }
+}
+
+/// The number of the zone that a place's run reads from.
+fn source(run: &Option<Active>) -> Option<u32>
+    ensures { result ≡ source_held run.now }
+{
+    match run {
+        Some(active) => Some(active.source.zone),
+        None => None,
+    }
+}
+
+/// The number of the zone that a place's run appends to.
+fn destination(run: &Option<Active>) -> Option<u32>
+    ensures { result ≡ destination_held run.now }
+{
+    match run {
+        Some(active) => Some(active.destination),
+        None => None,
+    }
+}

@@ -1,0 +1,297 @@
+//! A Load that has memory succeeds, an image is the one of now, and each call on its happy path.
+
+ghost use Rattle.std.specs.Prelude.{◌≡◌, ◌≤◌, length, map, Some};
+
+use super::*;
+use std::alloc::Global;
+use std::process::Abort;
+use std::test::Fail;
+use zns_commands::{FaultState, Geometry, Image, Limits, MOST_TRANSFER};
+use zone_state::ZoneState;
+
+const BLOCK: usize = 512;
+
+/// The blocks of a zone.
+const ZONE: u64 = 8;
+
+/// Emits the first 8 bytes of a block, and returns 0.
+const EMITTING: [u8; 40] = [
+    0xBF, 0x21, 0, 0, 0, 0, 0, 0, 0xB7, 2, 0, 0, 8, 0, 0, 0, 0x85, 0, 0, 0, 1, 0, 0, 0, 0xB7, 0, 0,
+    0, 0, 0, 0, 0, 0x95, 0, 0, 0, 0, 0, 0, 0,
+];
+
+/// The limit of a run that emits 8 bytes with their length, as a Load has it in Command Dword 11.
+const LIMIT: u64 = 10 << 32;
+
+/// A device of five empty zones, which may all be open.
+fn device(rt: &impl Abort, alloc: Global) -> Device {
+    let limits = Limits {
+        open_limit: 5,
+        active_limit: 5,
+    };
+    let geometry = Geometry::new(512, 5, 8, 8, limits).expect(rt, "a geometry");
+    let image = Image::empty(alloc, geometry).expect(rt, "memory");
+    Device::new(alloc, image)
+}
+
+/// Room for the data of a reply.
+fn room(rt: &impl Abort, alloc: Global) -> Vec<u8>
+    ensures { MOST_TRANSFER ≤ length result.items }
+{
+    vec![in alloc; 0; MOST_TRANSFER].expect(rt, "memory")
+}
+
+/// A submission to queue 3 under the identifier 5: its opcode, Command Dwords 10 and 11, then 12 to 14,
+/// and the data beside it.
+fn submit(opcode: u8, address: u64, dwords: [u32; 3], payload: Vec<u8>) -> Event {
+    let mut entry = [0; 64];
+    entry[0] = opcode;
+    entry[2] = 5;
+    entry[4] = 1;
+    entry[40..48].copy_from_slice(&address.to_le_bytes());
+    entry[48..52].copy_from_slice(&dwords[0].to_le_bytes());
+    entry[52..56].copy_from_slice(&dwords[1].to_le_bytes());
+    entry[56..60].copy_from_slice(&dwords[2].to_le_bytes());
+    Event::Submit {
+        queue: 3,
+        entry,
+        payload,
+    }
+}
+
+/// Its completion, with these dwords and so many bytes of data.
+fn success(dw0: u8, dw1: u8, length: usize) -> Reply {
+    Reply::Complete {
+        queue: 3,
+        entry: [dw0, 0, 0, 0, dw1, 0, 0, 0, 0, 0, 3, 0, 5, 0, 0, 0],
+        length,
+    }
+}
+
+/// So many blocks of sevens.
+fn sevens(rt: &impl Abort, alloc: Global, blocks: u8) -> Vec<u8> {
+    vec![in alloc; 7; usize::from(blocks) * BLOCK].expect(rt, "memory")
+}
+
+/// An Append of two blocks of sevens to the first zone.
+fn append(rt: &impl Abort, alloc: Global) -> Event {
+    submit(0x7D, 0, [1, 0, 0], sevens(rt, alloc, 2))
+}
+
+/// Opens a zone.
+fn open(alloc: Global, zone: u8) -> Event {
+    submit(0x79, u64::from(zone) * ZONE, [0, 3, 0], Vec::new(alloc))
+}
+
+/// Loads the program that emits.
+fn load(rt: &impl Abort, alloc: Global, slot: u8) -> Event {
+    let program = Vec::from_slice(alloc, &EMITTING).expect(rt, "memory");
+    submit(0xC1, LIMIT + u64::from(slot), [40, 0, 0], program)
+}
+
+/// Runs the program of a slot over the two blocks of the first zone, to a zone.
+fn run(alloc: Global, slot: u8, zone: u8) -> Event {
+    let dwords = [1 + 0x1_0000 * u32::from(slot), 0, 8 * u32::from(zone)];
+    submit(0xC0, 0, dwords, Vec::new(alloc))
+}
+
+/// Reads one block.
+fn read(alloc: Global, lba: u64) -> Event {
+    submit(0x02, lba, [0, 0, 0], Vec::new(alloc))
+}
+
+/// Does events, and compares the reply to each with the one beside it.
+fn compare(rt: &impl Abort, device: &mut Device, data_out: &mut [u8], steps: &[(Event, Reply)])
+    requires { MOST_TRANSFER ≤ length data_out.old }
+{
+    for (index, step) in steps.iter().enumerate() {
+        assert_eq!(rt; device.step(&step.0, data_out), step.1, "at {index}");
+    }
+}
+
+/// A zone's state, and how many of its blocks are written.
+fn seen(device: &Device, zone: usize) -> Option<(ZoneState, u32)> {
+    let zone = device.image().zones().get(zone)?;
+    Some((zone.state(), zone.written()))
+}
+
+#[test]
+fn a_load_that_has_memory_succeeds(rt: HostRuntime) {
+    let alloc = rt.alloc();
+    let mut device = device(&rt, alloc);
+    let mut data = room(&rt, alloc);
+    let result = submit(0xC2, 0, [0, 0, 0], Vec::new(alloc));
+    let steps = [
+        (load(&rt, alloc, 0), success(0, 0, 0)),
+        (result, success(0, 0, 1024)),
+    ];
+    // the result of a program that hasn't run is zeros
+    data[0] = 1;
+    compare(&rt, &mut device, &mut data, &steps);
+    assert!(rt; data.starts_with(&[0; 1024]));
+}
+
+#[test]
+fn an_image_is_the_one_of_now(rt: HostRuntime) {
+    let alloc = rt.alloc();
+    let mut device = device(&rt, alloc);
+    let mut data = room(&rt, alloc);
+    assert_eq!(rt; seen(&device, 0), Some((ZoneState::Empty, 0)));
+    let append = [(append(&rt, alloc), success(0, 0, 0))];
+    compare(&rt, &mut device, &mut data, &append);
+    assert_eq!(rt; seen(&device, 0), Some((ZoneState::ImplicitlyOpened, 2)));
+    let fault = Event::Fault {
+        zone: 0,
+        state: FaultState::ReadOnly,
+    };
+    compare(&rt, &mut device, &mut data, &[(fault, Reply::Done)]);
+    assert_eq!(rt; seen(&device, 0), Some((ZoneState::ReadOnly, 2)));
+}
+
+#[test]
+fn a_run_takes_a_turn_for_each_block(rt: HostRuntime) {
+    let alloc = rt.alloc();
+    let mut device = device(&rt, alloc);
+    let mut data = room(&rt, alloc);
+    let first = [
+        (append(&rt, alloc), success(0, 0, 0)),
+        (open(alloc, 1), success(0, 0, 0)),
+        (load(&rt, alloc, 0), success(0, 0, 0)),
+        (run(alloc, 0, 1), Reply::Pending { run: 0 }),
+        (Event::Turn { run: 0 }, Reply::Pending { run: 0 }),
+    ];
+    compare(&rt, &mut device, &mut data, &first);
+    assert_eq!(rt; seen(&device, 1), Some((ZoneState::ExplicitlyOpened, 0)));
+    let last = [
+        (Event::Turn { run: 0 }, success(2, 1, 0)),
+        (Event::Turn { run: 0 }, Reply::Idle),
+        (read(alloc, ZONE), success(0, 0, BLOCK)),
+    ];
+    compare(&rt, &mut device, &mut data, &last);
+    assert_eq!(rt; seen(&device, 1), Some((ZoneState::ExplicitlyOpened, 1)));
+    let frames = [
+        8, 0, 7, 7, 7, 7, 7, 7, 7, 7, 8, 0, 7, 7, 7, 7, 7, 7, 7, 7, 0,
+    ];
+    assert!(rt; data.starts_with(&frames));
+}
+
+/// Keeps replies, and refuses those that it has no memory for.
+#[derive(Drop)]
+struct Kept {
+    alloc: Global,
+    answers: Vec<(Reply, Vec<u8>)>,
+    refusals: u64,
+}
+
+impl Out for Kept {
+    ghost taken = { λ kept. Some (map (λ answer. record { reply = answer.0; bytes = answer.1.items }) kept.answers.items) };
+
+    ghost refused = { λ kept. kept.refusals };
+
+    fn take(&mut self, reply: Reply, bytes: &[u8]) -> Result<(), Refusal> {
+        if let Ok(bytes) = Vec::from_slice(self.alloc, bytes) {
+            if self.answers.push((reply, bytes)).is_ok() {
+                return Ok(());
+            }
+        }
+        self.refusals += 1;
+        Err(Refusal)
+    }
+
+    fn refusals(&self) -> u64 {
+        self.refusals
+    }
+}
+
+/// Compares the replies that were kept with these, also in how much data they have.
+fn compare_kept(rt: &impl Abort, out: &Kept, replies: &[Reply]) {
+    assert_eq!(rt; out.answers.len(), replies.len());
+    for (index, answer) in out.answers.iter().enumerate() {
+        assert_eq!(rt; answer.0, replies[index], "at {index}");
+        assert_eq!(rt; answer.1.len(), answer.0.data_length(), "at {index}");
+    }
+}
+
+#[test]
+fn replies_are_handed_out_with_their_data(rt: HostRuntime) -> Result<(), Fail> {
+    let alloc = rt.alloc();
+    let mut device = device(&rt, alloc);
+    let mut data = room(&rt, alloc);
+    let mut out = Kept {
+        alloc,
+        answers: Vec::new(alloc),
+        refusals: 0,
+    };
+    let events = [
+        append(&rt, alloc),
+        open(alloc, 1),
+        load(&rt, alloc, 0),
+        run(alloc, 0, 1),
+        read(alloc, 1),
+    ];
+    device.serve(&events, &mut data, &mut out)?;
+    device.drain(&mut data, &mut out)?;
+    let replies = [
+        success(0, 0, 0),
+        success(0, 0, 0),
+        success(0, 0, 0),
+        Reply::Pending { run: 0 },
+        success(0, 0, BLOCK),
+        Reply::Pending { run: 0 },
+        success(2, 1, 0),
+    ];
+    compare_kept(&rt, &out, &replies);
+    assert!(rt; out.answers.len() == 7);
+    assert_eq!(rt; out.answers[4].1.as_slice(), [7; BLOCK].as_slice());
+    Ok(())
+}
+
+#[test]
+fn four_runs_are_drained(rt: HostRuntime) -> Result<(), Fail> {
+    let alloc = rt.alloc();
+    let mut device = device(&rt, alloc);
+    let mut room = room(&rt, alloc);
+    let data = room.as_mut_slice();
+    let append = [(append(&rt, alloc), success(0, 0, 0))];
+    compare(&rt, &mut device, data, &append);
+    for number in 0..4u8 {
+        let steps = [
+            (load(&rt, alloc, number), success(0, 0, 0)),
+            (open(alloc, number + 1), success(0, 0, 0)),
+            (
+                run(alloc, number, number + 1),
+                Reply::Pending { run: number },
+            ),
+        ];
+        compare(&rt, &mut device, data, &steps);
+    }
+    let mut out = Kept {
+        alloc,
+        answers: Vec::new(alloc),
+        refusals: 0,
+    };
+    device.drain(data, &mut out)?;
+    let replies = [
+        Reply::Pending { run: 0 },
+        success(2, 1, 0),
+        Reply::Pending { run: 1 },
+        success(2, 1, 0),
+        Reply::Pending { run: 2 },
+        success(2, 1, 0),
+        Reply::Pending { run: 3 },
+        success(2, 1, 0),
+    ];
+    compare_kept(&rt, &out, &replies);
+    let last = [
+        (
+            submit(0x01, 2, [0, 0, 0], sevens(&rt, alloc, 1)),
+            success(0, 0, 0),
+        ),
+        (
+            submit(0x7D, 0, [0, 0, 0], sevens(&rt, alloc, 1)),
+            success(3, 0, 0),
+        ),
+    ];
+    compare(&rt, &mut device, data, &last);
+    Ok(())
+}
