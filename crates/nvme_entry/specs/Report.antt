@@ -21,8 +21,8 @@ abbrev pub write_pointer : ZoneRecord → ℕ → ℕ
 write_pointer zone lowest = if has_write_pointer zone.state then lowest + zone.written else 0xFFFF_FFFF_FFFF_FFFF
 
 -- a Zone Descriptor, of 64 bytes: the zone type, which is Sequential Write Required; the zone state in
--- bits 7:4; the attributes (0: profile) and 5 reserved bytes; the capacity; the lowest address; the
--- write pointer; 32 reserved bytes
+-- bits 7:4; the attributes and the information on them (both 0: profile), and 4 reserved bytes; the
+-- capacity; the lowest address; the write pointer; 32 reserved bytes
 unfoldable pub descriptor : ZoneRecord → ℕ → List ℕ
 descriptor zone lowest =
     (0x02 ∷ (code_of zone.state * 2 ^ 4) ∷ replicate 6 0)
