@@ -5,6 +5,7 @@ ghost use Rattle.std.specs.Prelude.{◌≤◌};
 use super::{EXIT, GROWING, MATCHING, MOVE_ZERO, program, sizes};
 use crate::verify;
 use interp::{End, Machine};
+use program_interface::{BlockSize, CONTEXT_BYTES, Context, SCRATCH_BYTES};
 use reg_domain::Intervals;
 use std::alloc::Global;
 use std::process::Abort;
@@ -32,7 +33,19 @@ const INDEXED: [u64; 5] = [
     EXIT,
 ];
 
-/// Runs a program both ways on blocks that begin with these bytes, one block after the other.
+/// The context of a block of a run over so many blocks, which begins at block 0.
+fn context_at(block: BlockSize, index: u32, count: u32) -> [u8; CONTEXT_BYTES] {
+    let context = Context {
+        lba: u64::from(index),
+        index,
+        count,
+        block,
+        argument: 0,
+    };
+    context.encode()
+}
+
+/// Runs a program both ways on each block of a run, one after the other. The blocks begin with these bytes.
 fn compare(
     rt: &impl Abort,
     alloc: Global,
@@ -42,30 +55,43 @@ fn compare(
 ) -> Result<(), Fail>
     requires { limit ≤ 16 }
 {
+    let sizes = sizes(limit, 512)?;
     let checked = program(alloc, slots)?;
-    let verified = verify::<Intervals>(alloc, program(alloc, slots)?, sizes(limit, 512)?)?;
-    let (mut scratch, mut other_scratch) = ([0; 1024], [0; 1024]);
-    let mut index = 0;
-    for first in firsts {
+    let verified = verify::<Intervals>(alloc, program(alloc, slots)?, sizes)?;
+    let (mut scratch, mut other_scratch) = ([0; SCRATCH_BYTES], [0; SCRATCH_BYTES]);
+    let count = u32::try_from(firsts.len())?;
+    for (index, first) in (0..count).zip(firsts) {
         let mut block = [0; 512];
         block[0] = *first;
-        let mut context = [0; 32];
-        context[8] = index;
+        let context = context_at(sizes.block(), index, count);
         let (mut group, mut other_group) = ([9; 16], [9; 16]);
         let mut machine = Machine::new(&block, &context, &mut scratch);
         assert!(rt; checked.at(machine.slot()).is_some());
         let end = machine.run_checked(&checked, limit as usize, checked.len() as u64, &mut group);
         let mut free = Machine::new(&block, &context, &mut other_scratch);
         let exit = free.run_verified(&verified, &mut other_group);
-        assert_eq!(rt; end, End::Exit { r0: exit.r0 });
-        assert_eq!(rt; machine.steps(), exit.steps);
-        assert_eq!(rt; machine.group_len(), exit.group_len);
-        assert_eq!(rt; machine.frames(), exit.frames);
-        assert_eq!(rt; group, other_group);
-        index = index.wrapping_add(1u8);
+        assert_eq!(rt; end, End::Exit { r0: exit.r0 }, "block {index}");
+        assert_eq!(rt; machine.steps(), exit.steps, "block {index}");
+        assert_eq!(rt; machine.group_len(), exit.group_len, "block {index}");
+        assert_eq!(rt; machine.frames(), exit.frames, "block {index}");
+        assert_eq!(rt; group, other_group, "block {index}");
+        assert_eq!(rt; scratch, other_scratch, "block {index}");
     }
-    assert_eq!(rt; scratch, other_scratch);
     Ok(())
+}
+
+#[test]
+fn on_each_block_of_two_examples(rt: HostRuntime) -> Result<(), Fail> {
+    // A filter that emits 8 bytes of each of 52 blocks.
+    compare(&rt, rt.alloc(), &MATCHING, 10, &[7; 52])?;
+    // A sum over 10 blocks, which is in scratch after each.
+    compare(
+        &rt,
+        rt.alloc(),
+        &ADDING,
+        0,
+        &[1, 2, 3, 4, 5, 6, 7, 8, 9, 10],
+    )
 }
 
 #[test]
