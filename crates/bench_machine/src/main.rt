@@ -5,9 +5,11 @@
 #![tactic(auto)]
 
 use anyhow::{Context, Result, bail, ensure};
-use ebpf_decode::{Program, decode};
-use interp::{End, Machine};
+use ebpf_decode::decode;
+use instruction_set::Program;
+use interp::Machine;
 use program_interface::{CONTEXT_BYTES, LARGEST_BLOCK, MOST_SLOTS, SCRATCH_BYTES};
+use program_meaning::End;
 use std::rt::{Clock, Env, Files};
 use std::time::Instant;
 use std::{env, fs};

@@ -2,13 +2,13 @@
 use Rattle.std.proofs.Common.{◌≡◌, ℕ, List, Option, None, Result, Ok, Err, OnOk, OnErr, IfErr, subst}
 use Rattle.image_store.specs.Namespace.{ZonedNamespace}
 use Rattle.image_store.specs.Text.{text}
-use Rattle.reg_domain.specs.Intervals.{intervals}
-use Rattle.pushdown.specs.Answers.{Taken}
+use Rattle.interval_domain.specs.Intervals.{intervals}
+use Rattle.device_events.specs.Replies.{Taken}
 use Rattle.pushdown.specs.Draining.{HasDrained, StopsDraining}
 use Rattle.pushdown.specs.Events.{HasServed}
 use Rattle.pushdown.specs.Parts.{HasFinished}
 use Rattle.pushdown.specs.State.{State, new_state}
-use Rattle.pushdown.specs.declared.event.Event.{Event}
+use Rattle.device_events.specs.declared.event.Event.{Event}
 use Rattle.pushdown.proofs.Parts.{served_and_drained}
 use Rattle.runner.specs.declared.device.Stopped.{Stopped}
 use Rattle.command_files.specs.Made.{Made, then_made}

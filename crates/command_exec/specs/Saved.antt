@@ -2,13 +2,13 @@
 use Rattle.std.specs.Prelude.{◌≡◌, ℕ, List, Option, None}
 use Rattle.image_store.specs.Namespace.{ZonedNamespace}
 use Rattle.image_store.specs.Text.{text}
-use Rattle.reg_domain.specs.Intervals.{intervals}
-use Rattle.pushdown.specs.Answers.{Taken}
+use Rattle.interval_domain.specs.Intervals.{intervals}
+use Rattle.device_events.specs.Replies.{Taken}
 use Rattle.pushdown.specs.Draining.{StopsDraining}
 use Rattle.pushdown.specs.Events.{HasServed, HasStopped}
 use Rattle.pushdown.specs.Parts.{HasFinished}
 use Rattle.pushdown.specs.State.{State, new_state}
-use Rattle.pushdown.specs.declared.event.Event.{Event}
+use Rattle.device_events.specs.declared.event.Event.{Event}
 use Rattle.command_files.specs.Made.{Made, then_made}
 
 -- the first of some events and of the turns behind them were done, one or more, and the answer to the last of these

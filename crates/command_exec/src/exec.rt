@@ -1,7 +1,7 @@
 //! The command `exec`: the events of a command file, run on an image.
 
 ghost use Rattle.std.specs.Prelude.{◌≡◌, ◌≢◌, ◌≤◌, ◌<◌, ◌+◌, ◌^◌, length, OnOk, OnErr, IfErr};
-ghost use Rattle.reg_domain.specs.Intervals.{intervals};
+ghost use Rattle.interval_domain.specs.Intervals.{intervals};
 ghost use Rattle.pushdown.specs.Parts.{HasFinished};
 ghost use Rattle.command_files.specs.Made.{MakesOne};
 ghost use Rattle.command_exec.specs.Saved.{HasBegun, SavesAll, SavesFirst};

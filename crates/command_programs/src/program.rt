@@ -5,7 +5,8 @@ ghost use Rattle.command_programs.specs.Told.{told_of_program};
 
 use command_failure::Failure;
 use command_files::{Files, read};
-use ebpf_decode::{DecodeFault, Program, decode};
+use ebpf_decode::{DecodeFault, decode};
+use instruction_set::Program;
 use std::alloc::Global;
 
 /// The program that the bytes of a file spell.

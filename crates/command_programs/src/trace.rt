@@ -1,8 +1,8 @@
 //! The command `trace`: one block run, step by step.
 
 ghost use Rattle.std.specs.Prelude.{◌≡◌, ◌≤◌, ◌<◌, ◌+◌, ◌^◌, length};
-ghost use Rattle.interp.specs.Step.{IsAt};
-ghost use Rattle.interp.specs.State.{slot_of, steps_of, group_length};
+ghost use Rattle.program_meaning.specs.Step.{IsAt};
+ghost use Rattle.interp.specs.Machine.{slot_of, steps_of, group_length};
 ghost use Rattle.program_interface.specs.Context.{context_bytes};
 
 use crate::program::read_program;
@@ -11,7 +11,7 @@ use clap::{Arg, ArgMatches, Command};
 use command_failure::{Failure, printed};
 use command_files::arguments::{and_argument, number, option, required};
 use command_files::{Files, read};
-use ebpf_decode::Program;
+use instruction_set::Program;
 use interp::{Machine, Step};
 use program_interface::{BlockSize, CONTEXT_BYTES, Context, LARGEST_BLOCK, SCRATCH_BYTES};
 use std::alloc::{AllocError, Global};

@@ -8,7 +8,7 @@ use clap::{Arg, ArgMatches, Command};
 use command_failure::{Failure, printed};
 use command_files::Files;
 use command_files::arguments::{and_argument, block_option, number, option, required};
-use reg_domain::Intervals;
+use interval_domain::Intervals;
 use std::alloc::{AllocError, Global};
 use std::io::Write;
 use verifier::{Refusal, VerifyFault, verify as verify_over};

@@ -5,9 +5,9 @@ use Rattle.std.proofs.lemmas.List.{take_more, append-nil}
 use Rattle.std.proofs.lemmas.List.Concat.{flat_map-append}
 use Rattle.std.proofs.lemmas.List.Elements.{filter_map-append}
 use Rattle.std.proofs.lemmas.Option.{slice_get-get_or}
-use Rattle.ebpf_decode.specs.declared.insn.Insn.{Insn}
-use Rattle.ebpf_decode.specs.Program.{instruction_at, instruction_in}
-use Rattle.ebpf_decode.specs.Spelling.{instructions_of}
+use Rattle.instruction_set.specs.declared.insn.Insn.{Insn}
+use Rattle.instruction_set.specs.Program.{instruction_at, instruction_in}
+use Rattle.instruction_set.specs.Spelling.{instructions_of}
 use Rattle.ebpf_asm.specs.Listing.{line_text, listing}
 
 text_in : Option Insn → List ℕ

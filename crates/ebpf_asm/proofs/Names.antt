@@ -1,13 +1,13 @@
 -- The text of a mnemonic is read as that mnemonic, and has plain bytes alone.
 use Rattle.std.proofs.Common.{◌≡◌, Some, refl}
-use Rattle.ebpf_decode.specs.declared.operation.Width.TheVariants as widths
-use Rattle.ebpf_decode.specs.declared.operation.Operation.TheVariants.{Add, Subtract, Multiply, Divide, SignedDivide, Or, And, LeftShift, RightShift, Modulo, SignedModulo, Xor, Move, ArithmeticShift}
-use Rattle.ebpf_decode.specs.declared.operation.SignExtension.TheVariants.{Bits8To32, Bits16To32, Bits8To64, Bits16To64, Bits32To64}
-use Rattle.ebpf_decode.specs.declared.operation.Swap.TheVariants.{ToLittle, ToBig, Reverse}
-use Rattle.ebpf_decode.specs.declared.operation.SwapSize.TheVariants as kept
-use Rattle.ebpf_decode.specs.declared.operation.Size.TheVariants as sizes
-use Rattle.ebpf_decode.specs.declared.operation.SignedSize.TheVariants as signed_sizes
-use Rattle.ebpf_decode.specs.declared.operation.Relation.TheVariants.{Equal, Greater, GreaterOrEqual, AnyBitSet, NotEqual, SignedGreater, SignedGreaterOrEqual, Less, LessOrEqual, SignedLess, SignedLessOrEqual}
+use Rattle.instruction_set.specs.declared.operation.Width.TheVariants as widths
+use Rattle.instruction_set.specs.declared.operation.Operation.TheVariants.{Add, Subtract, Multiply, Divide, SignedDivide, Or, And, LeftShift, RightShift, Modulo, SignedModulo, Xor, Move, ArithmeticShift}
+use Rattle.instruction_set.specs.declared.operation.SignExtension.TheVariants.{Bits8To32, Bits16To32, Bits8To64, Bits16To64, Bits32To64}
+use Rattle.instruction_set.specs.declared.operation.Swap.TheVariants.{ToLittle, ToBig, Reverse}
+use Rattle.instruction_set.specs.declared.operation.SwapSize.TheVariants as kept
+use Rattle.instruction_set.specs.declared.operation.Size.TheVariants as sizes
+use Rattle.instruction_set.specs.declared.operation.SignedSize.TheVariants as signed_sizes
+use Rattle.instruction_set.specs.declared.operation.Relation.TheVariants.{Equal, Greater, GreaterOrEqual, AnyBitSet, NotEqual, SignedGreater, SignedGreaterOrEqual, Less, LessOrEqual, SignedLess, SignedLessOrEqual}
 use Rattle.ebpf_asm.specs.declared.mnemonic.Mnemonic.{Mnemonic}
 use Rattle.ebpf_asm.specs.declared.mnemonic.Mnemonic.TheVariants.{LoadImmediate, Load, LoadSigned, StoreImmediate, StoreRegister, Arithmetic, Negate, MoveSigned, SwapBytes, Jump, JumpLong, Branch, Call, Exit}
 use Rattle.ebpf_asm.specs.Mnemonic.{mnemonic_text, mnemonic_named}

@@ -9,12 +9,12 @@ use Rattle.std.proofs.Math.Dec.{eqb-suc-zero}
 use Rattle.std.proofs.lemmas.Bool.{le-ltb}
 use Rattle.std.proofs.lemmas.List.{take_all, take_at, drop_at, append-nil, length-append}
 use Rattle.std.proofs.lemmas.List.Folds.{list_all-append}
-use Rattle.ebpf_decode.specs.declared.insn.Insn.{Insn}
-use Rattle.ebpf_decode.specs.declared.insn.Insn.TheVariants.{LoadImmediate, Load, LoadSigned, StoreImmediate, StoreRegister, Arithmetic, Negate, MoveSigned, SwapBytes, Jump, JumpLong, Branch, Call, Exit}
-use Rattle.ebpf_decode.specs.declared.insn.Source.{Source}
-use Rattle.ebpf_decode.specs.declared.insn.Source.TheVariants as sources
-use Rattle.ebpf_decode.specs.Program.{IsProgram, is_wide, slots_of}
-use Rattle.ebpf_decode.specs.Spelling.{Fits, spelling, instructions_of, program_bytes}
+use Rattle.instruction_set.specs.declared.insn.Insn.{Insn}
+use Rattle.instruction_set.specs.declared.insn.Insn.TheVariants.{LoadImmediate, Load, LoadSigned, StoreImmediate, StoreRegister, Arithmetic, Negate, MoveSigned, SwapBytes, Jump, JumpLong, Branch, Call, Exit}
+use Rattle.instruction_set.specs.declared.insn.Source.{Source}
+use Rattle.instruction_set.specs.declared.insn.Source.TheVariants as sources
+use Rattle.instruction_set.specs.Program.{IsProgram, is_wide, slots_of}
+use Rattle.instruction_set.specs.Spelling.{Fits, spelling, instructions_of, program_bytes}
 use Rattle.ebpf_asm.specs.declared.mnemonic.Mnemonic.{Mnemonic}
 use Rattle.ebpf_asm.specs.declared.fault.FaultKind.{FaultKind}
 use Rattle.ebpf_asm.specs.declared.fault.FaultKind.TheVariants.{UnknownMnemonic, NotAscii, TooLong}

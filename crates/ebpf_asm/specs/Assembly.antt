@@ -3,9 +3,9 @@ use Rattle.std.specs.Prelude.{◌≡◌, ℕ, ℤ, pos, ◌-ℤ◌, ◌+◌, nat
 use Rattle.std.specs.Map.{lookup}
 use Rattle.std.specs.Str.{bytes_eq}
 use Rattle.std.specs.Str.Lines.{lines}
-use Rattle.ebpf_decode.specs.declared.insn.Insn.{Insn}
-use Rattle.ebpf_decode.specs.declared.insn.Insn.TheVariants.{Jump, JumpLong, Branch}
-use Rattle.ebpf_decode.specs.Spelling.{spelling}
+use Rattle.instruction_set.specs.declared.insn.Insn.{Insn}
+use Rattle.instruction_set.specs.declared.insn.Insn.TheVariants.{Jump, JumpLong, Branch}
+use Rattle.instruction_set.specs.Spelling.{spelling}
 use Rattle.program_interface.specs.declared.TheConstants.{MOST_SLOTS}
 use Rattle.ebpf_asm.specs.declared.fault.AsmFault.{AsmFault}
 use Rattle.ebpf_asm.specs.declared.fault.AssembleError.{AssembleError}

@@ -2,9 +2,9 @@
 use Rattle.std.specs.Prelude.{◌≡◌, ◌<◌, ◌^◌, ℕ, ℤ, FitsSigned, List, Option, Some, Ok}
 use Rattle.std.specs.Int.{w16, w32}
 use Rattle.std.specs.Fmt.{signed_decimal}
-use Rattle.ebpf_decode.specs.declared.insn.Insn.{Insn}
-use Rattle.ebpf_decode.specs.Program.{IsProgram}
-use Rattle.ebpf_decode.specs.Spelling.{program_bytes}
+use Rattle.instruction_set.specs.declared.insn.Insn.{Insn}
+use Rattle.instruction_set.specs.Program.{IsProgram}
+use Rattle.instruction_set.specs.Spelling.{program_bytes}
 use Rattle.ebpf_asm.specs.declared.mnemonic.Mnemonic.{Mnemonic}
 use Rattle.ebpf_asm.specs.Assembly.{assembled}
 use Rattle.ebpf_asm.specs.Mnemonic.{mnemonic_text, mnemonic_named}

@@ -1,22 +1,22 @@
 -- Mnemonics (profile): one table, from which a mnemonic has its text and a word its mnemonic.
 use Rattle.std.specs.Prelude.{List, ◌++◌, ℕ, Option, find, codes}
 use Rattle.std.specs.Str.{bytes_eq}
-use Rattle.ebpf_decode.specs.declared.operation.Width.{Width}
-use Rattle.ebpf_decode.specs.declared.operation.Width.TheVariants as widths
-use Rattle.ebpf_decode.specs.declared.operation.Operation.{Operation}
-use Rattle.ebpf_decode.specs.declared.operation.Operation.TheVariants.{Add, Subtract, Multiply, Divide, SignedDivide, Or, And, LeftShift, RightShift, Modulo, SignedModulo, Xor, Move, ArithmeticShift}
-use Rattle.ebpf_decode.specs.declared.operation.SignExtension.{SignExtension}
-use Rattle.ebpf_decode.specs.declared.operation.SignExtension.TheVariants.{Bits8To32, Bits16To32, Bits8To64, Bits16To64, Bits32To64}
-use Rattle.ebpf_decode.specs.declared.operation.Swap.{Swap}
-use Rattle.ebpf_decode.specs.declared.operation.Swap.TheVariants.{ToLittle, ToBig, Reverse}
-use Rattle.ebpf_decode.specs.declared.operation.SwapSize.{SwapSize}
-use Rattle.ebpf_decode.specs.declared.operation.SwapSize.TheVariants as kept
-use Rattle.ebpf_decode.specs.declared.operation.Size.{Size}
-use Rattle.ebpf_decode.specs.declared.operation.Size.TheVariants as sizes
-use Rattle.ebpf_decode.specs.declared.operation.SignedSize.{SignedSize}
-use Rattle.ebpf_decode.specs.declared.operation.SignedSize.TheVariants as signed_sizes
-use Rattle.ebpf_decode.specs.declared.operation.Relation.{Relation}
-use Rattle.ebpf_decode.specs.declared.operation.Relation.TheVariants.{Equal, Greater, GreaterOrEqual, AnyBitSet, NotEqual, SignedGreater, SignedGreaterOrEqual, Less, LessOrEqual, SignedLess, SignedLessOrEqual}
+use Rattle.instruction_set.specs.declared.operation.Width.{Width}
+use Rattle.instruction_set.specs.declared.operation.Width.TheVariants as widths
+use Rattle.instruction_set.specs.declared.operation.Operation.{Operation}
+use Rattle.instruction_set.specs.declared.operation.Operation.TheVariants.{Add, Subtract, Multiply, Divide, SignedDivide, Or, And, LeftShift, RightShift, Modulo, SignedModulo, Xor, Move, ArithmeticShift}
+use Rattle.instruction_set.specs.declared.operation.SignExtension.{SignExtension}
+use Rattle.instruction_set.specs.declared.operation.SignExtension.TheVariants.{Bits8To32, Bits16To32, Bits8To64, Bits16To64, Bits32To64}
+use Rattle.instruction_set.specs.declared.operation.Swap.{Swap}
+use Rattle.instruction_set.specs.declared.operation.Swap.TheVariants.{ToLittle, ToBig, Reverse}
+use Rattle.instruction_set.specs.declared.operation.SwapSize.{SwapSize}
+use Rattle.instruction_set.specs.declared.operation.SwapSize.TheVariants as kept
+use Rattle.instruction_set.specs.declared.operation.Size.{Size}
+use Rattle.instruction_set.specs.declared.operation.Size.TheVariants as sizes
+use Rattle.instruction_set.specs.declared.operation.SignedSize.{SignedSize}
+use Rattle.instruction_set.specs.declared.operation.SignedSize.TheVariants as signed_sizes
+use Rattle.instruction_set.specs.declared.operation.Relation.{Relation}
+use Rattle.instruction_set.specs.declared.operation.Relation.TheVariants.{Equal, Greater, GreaterOrEqual, AnyBitSet, NotEqual, SignedGreater, SignedGreaterOrEqual, Less, LessOrEqual, SignedLess, SignedLessOrEqual}
 use Rattle.ebpf_asm.specs.declared.mnemonic.Mnemonic.{Mnemonic}
 use Rattle.ebpf_asm.specs.declared.mnemonic.Mnemonic.TheVariants.{LoadImmediate, Load, LoadSigned, StoreImmediate, StoreRegister, Arithmetic, Negate, MoveSigned, SwapBytes, Jump, JumpLong, Branch, Call, Exit}
 use Rattle.ebpf_asm.specs.declared.mnemonic.TheConstants.{MNEMONICS}

@@ -8,7 +8,7 @@ ghost use Rattle.ebpf_asm.specs.LineView.{line_view};
 use crate::fault::FaultKind;
 use crate::operand::label;
 use crate::statement::read;
-use ebpf_decode::Insn;
+use instruction_set::Insn;
 use text_lines::{cut, is_all_ascii, trim, without_comment};
 
 /// What a line has.

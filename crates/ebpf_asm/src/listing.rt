@@ -6,7 +6,7 @@ ghost use Rattle.std.specs.Fmt.{signed_decimal};
 ghost use Rattle.ebpf_asm.specs.Listing.{register_text, signed_text, memory_text, wide_text, source_text, mnemonic_of, operand_texts, operands_text, line_text, listing};
 
 use crate::mnemonic::Mnemonic;
-use ebpf_decode::{Insn, Program, Register, Source};
+use instruction_set::{Insn, Program, Register, Source};
 use std::alloc::AllocError;
 
 /// Adds the listing of a program at the end of a text: each instruction on a line, its mnemonic, a

@@ -4,7 +4,9 @@ ghost use Rattle.std.specs.Prelude.{◌≡◌, ◌++◌};
 ghost use Rattle.std.specs.Str.{bytes_eq};
 ghost use Rattle.ebpf_asm.specs.Mnemonic.{operation_name, relation_name, width_suffix, size_suffix, signed_size_suffix, extension_suffix, swap_name, swap_size_suffix, mnemonic_parts, mnemonic_text, mnemonic_named};
 
-use ebpf_decode::{Operation, Relation, SignExtension, SignedSize, Size, Swap, SwapSize, Width};
+use instruction_set::{
+    Operation, Relation, SignExtension, SignedSize, Size, Swap, SwapSize, Width,
+};
 
 /// What the first word of a statement says: an instruction but for its operands.
 #[derive(Clone, Copy, Debug, PartialEq, Eq)]

@@ -7,7 +7,7 @@ ghost use Rattle.ebpf_asm.specs.Operand.{inside_brackets, register_of, source_of
 
 use crate::fault::FaultKind;
 use crate::number::{immediate, long, short, signed};
-use ebpf_decode::{Register, Source};
+use instruction_set::{Register, Source};
 
 /// Both, where both could be read. An operand that can't be read is told before a number that is
 /// out of range.

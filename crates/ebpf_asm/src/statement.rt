@@ -9,7 +9,7 @@ use crate::fault::FaultKind;
 use crate::mnemonic::Mnemonic;
 use crate::number::{immediate, wide};
 use crate::operand::{both, label, long_distance, memory, register, short_distance, source};
-use ebpf_decode::{
+use instruction_set::{
     Insn, Operation, Relation, SignExtension, SignedSize, Size, Swap, SwapSize, Width,
 };
 use text_lines::{cut, trim, word};

@@ -4,35 +4,36 @@ use Rattle.std.specs.Ordering.{int_eq}
 use Rattle.std.specs.Int.{w32, cast_signed, cast_unsigned}
 use Rattle.std.proofs.lemmas.Bool.{and_right, le-ltb, or_from}
 use Rattle.std.proofs.lemmas.Int.{of_z-to_z}
-use Rattle.ebpf_decode.specs.declared.fields.Fields.{Fields}
-use Rattle.ebpf_decode.specs.declared.insn.Insn.{Insn}
-use Rattle.ebpf_decode.specs.declared.insn.Insn.TheVariants as insns
-use Rattle.ebpf_decode.specs.declared.insn.Source.TheVariants as sources
+use Rattle.instruction_set.specs.declared.fields.Fields.{Fields}
+use Rattle.instruction_set.specs.declared.insn.Insn.{Insn}
+use Rattle.instruction_set.specs.declared.insn.Insn.TheVariants as insns
+use Rattle.instruction_set.specs.declared.insn.Source.TheVariants as sources
 use Rattle.ebpf_decode.specs.declared.opcode.Opcode.{Opcode}
 use Rattle.ebpf_decode.specs.declared.opcode.Opcode.TheVariants.{LoadImmediate, Load, LoadSigned, StoreImmediate, StoreRegister, Arithmetic, Negate, SwapBytes, Jump, JumpLong, Branch, Call, Exit}
 use Rattle.ebpf_decode.specs.declared.opcode.Operand.TheVariants as operands
 use Rattle.ebpf_decode.specs.declared.opcode.Uses.{Uses}
-use Rattle.ebpf_decode.specs.declared.operation.Operation.{Operation}
-use Rattle.ebpf_decode.specs.declared.operation.Operation.TheVariants.{Add, Subtract, Multiply, Divide, SignedDivide, Or, And, LeftShift, RightShift, Modulo, SignedModulo, Xor, Move, ArithmeticShift}
-use Rattle.ebpf_decode.specs.declared.operation.Relation.{Relation}
-use Rattle.ebpf_decode.specs.declared.operation.Relation.TheVariants.{Equal, Greater, GreaterOrEqual, AnyBitSet, NotEqual, SignedGreater, SignedGreaterOrEqual, Less, LessOrEqual, SignedLess, SignedLessOrEqual}
-use Rattle.ebpf_decode.specs.declared.operation.SignExtension.{SignExtension}
-use Rattle.ebpf_decode.specs.declared.operation.SignExtension.TheVariants.{Bits8To32, Bits16To32, Bits8To64, Bits16To64, Bits32To64}
-use Rattle.ebpf_decode.specs.declared.operation.Size.{Size}
-use Rattle.ebpf_decode.specs.declared.operation.Size.TheVariants as sizes
-use Rattle.ebpf_decode.specs.declared.operation.SignedSize.{SignedSize}
-use Rattle.ebpf_decode.specs.declared.operation.SignedSize.TheVariants as signed_sizes
-use Rattle.ebpf_decode.specs.declared.operation.Swap.{Swap}
-use Rattle.ebpf_decode.specs.declared.operation.Swap.TheVariants.{ToLittle, ToBig, Reverse}
-use Rattle.ebpf_decode.specs.declared.operation.SwapSize.{SwapSize}
-use Rattle.ebpf_decode.specs.declared.operation.SwapSize.TheVariants as kept
-use Rattle.ebpf_decode.specs.declared.operation.Width.{Width}
-use Rattle.ebpf_decode.specs.declared.operation.Width.TheVariants as widths
-use Rattle.ebpf_decode.specs.Codes.{extension_with, swap_size_with, variant_with}
-use Rattle.ebpf_decode.specs.Opcodes.{has_variants, opcode_named, uses}
-use Rattle.ebpf_decode.specs.Program.{is_wide}
+use Rattle.instruction_set.specs.declared.operation.Operation.{Operation}
+use Rattle.instruction_set.specs.declared.operation.Operation.TheVariants.{Add, Subtract, Multiply, Divide, SignedDivide, Or, And, LeftShift, RightShift, Modulo, SignedModulo, Xor, Move, ArithmeticShift}
+use Rattle.instruction_set.specs.declared.operation.Relation.{Relation}
+use Rattle.instruction_set.specs.declared.operation.Relation.TheVariants.{Equal, Greater, GreaterOrEqual, AnyBitSet, NotEqual, SignedGreater, SignedGreaterOrEqual, Less, LessOrEqual, SignedLess, SignedLessOrEqual}
+use Rattle.instruction_set.specs.declared.operation.SignExtension.{SignExtension}
+use Rattle.instruction_set.specs.declared.operation.SignExtension.TheVariants.{Bits8To32, Bits16To32, Bits8To64, Bits16To64, Bits32To64}
+use Rattle.instruction_set.specs.declared.operation.Size.{Size}
+use Rattle.instruction_set.specs.declared.operation.Size.TheVariants as sizes
+use Rattle.instruction_set.specs.declared.operation.SignedSize.{SignedSize}
+use Rattle.instruction_set.specs.declared.operation.SignedSize.TheVariants as signed_sizes
+use Rattle.instruction_set.specs.declared.operation.Swap.{Swap}
+use Rattle.instruction_set.specs.declared.operation.Swap.TheVariants.{ToLittle, ToBig, Reverse}
+use Rattle.instruction_set.specs.declared.operation.SwapSize.{SwapSize}
+use Rattle.instruction_set.specs.declared.operation.SwapSize.TheVariants as kept
+use Rattle.instruction_set.specs.declared.operation.Width.{Width}
+use Rattle.instruction_set.specs.declared.operation.Width.TheVariants as widths
+use Rattle.instruction_set.specs.Codes.{extension_with, swap_size_with, variant_with}
+use Rattle.instruction_set.specs.Codes.{has_variants}
+use Rattle.ebpf_decode.specs.Opcodes.{opcode_named, uses}
+use Rattle.instruction_set.specs.Program.{is_wide}
 use Rattle.ebpf_decode.specs.Reading.{first_fault, has_more, has_no_register, has_unused, instruction, is_left_out, is_load_immediate, read, read_named, unless}
-use Rattle.ebpf_decode.specs.Spelling.{Fits, LDX, MEM, MEMSX, MOV, NEG, ST, STX, access_opcode, arithmetic_class, extension_offset, extension_width, first_slot, jump_class, kept_bits, operation_code, operation_offset, operation_opcode, relation_code, second_slot, signed_size_code, size_code, swap_opcode}
+use Rattle.instruction_set.specs.Spelling.{Fits, LDX, MEM, MEMSX, MOV, NEG, ST, STX, access_opcode, arithmetic_class, extension_offset, extension_width, first_slot, jump_class, kept_bits, operation_code, operation_offset, operation_opcode, relation_code, second_slot, signed_size_code, size_code, swap_opcode}
 
 -- ---- what the opcodes of instructions name
 

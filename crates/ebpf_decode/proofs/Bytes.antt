@@ -5,9 +5,9 @@ use Rattle.std.specs.List.{AllByRecursion, flat_map}
 use Rattle.std.proofs.lemmas.Int.{ints, of_z-to_z, to_z-of_z}
 use Rattle.std.proofs.lemmas.List.{get_or-drop}
 use Rattle.byteorder.specs.Endian.{little_bytes, little_number}
-use Rattle.ebpf_decode.specs.declared.fields.Fields.{Fields}
+use Rattle.instruction_set.specs.declared.fields.Fields.{Fields}
 use Rattle.ebpf_decode.specs.Reading.{fields_at, slots_at}
-use Rattle.ebpf_decode.specs.Spelling.{slot_bytes}
+use Rattle.instruction_set.specs.Spelling.{slot_bytes}
 use Rattle.ebpf_decode.proofs.Takes.{AreFields}
 
 abbrev pub IsBytes : List ℕ → Type 0

@@ -2,8 +2,8 @@
 use Rattle.std.proofs.Common.{◌≡◌, ℕ, suc, ◌+◌, ◌/◌, ◌<◌, ◌≤◌, Bool, false, List, [], ◌∷◌, length, Option, Some, None, Result, Ok, Err, refl, sym, ap, arith}
 use Rattle.ebpf_decode.specs.declared.fault.Fault.{Fault}
 use Rattle.ebpf_decode.specs.declared.fault.FaultKind.{FaultKind}
-use Rattle.ebpf_decode.specs.declared.fields.Fields.{Fields}
-use Rattle.ebpf_decode.specs.declared.insn.Insn.{Insn}
+use Rattle.instruction_set.specs.declared.fields.Fields.{Fields}
+use Rattle.instruction_set.specs.declared.insn.Insn.{Insn}
 use Rattle.ebpf_decode.specs.Laws.{FaultIsInside}
 use Rattle.ebpf_decode.specs.Reading.{begins_wide, entry, length_fault, read_slots, slots_at, then_read, unless_length, with_front}
 use Rattle.program_interface.specs.declared.TheConstants.{MOST_SLOTS}

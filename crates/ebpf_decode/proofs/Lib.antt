@@ -1,8 +1,6 @@
-pub mod Beginnings
 pub mod Slots
 pub mod Takes
 pub mod Programs
 pub mod Bytes
 pub mod Again
-pub mod Flats
 pub mod FaultSlots

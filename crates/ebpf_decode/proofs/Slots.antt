@@ -4,8 +4,8 @@ use Rattle.std.specs.List.{slice_get}
 use Rattle.std.proofs.lemmas.List.{append-nil, drop-drop}
 use Rattle.ebpf_decode.specs.declared.fault.Fault.{Fault}
 use Rattle.ebpf_decode.specs.declared.fault.FaultKind.{FaultKind}
-use Rattle.ebpf_decode.specs.declared.fields.Fields.{Fields}
-use Rattle.ebpf_decode.specs.declared.insn.Insn.{Insn}
+use Rattle.instruction_set.specs.declared.fields.Fields.{Fields}
+use Rattle.instruction_set.specs.declared.insn.Insn.{Insn}
 use Rattle.ebpf_decode.specs.Reading.{begins_wide, entry, fields_at, read_slots, slots_at, then_read, with_front}
 
 pub slots-get : (count : ℕ) (bytes : List ℕ) (k : ℕ) → k < count → slice_get (slots_at count bytes) k ≡ Some (fields_at (drop (8 * k) bytes))

@@ -6,26 +6,26 @@ use Rattle.std.proofs.lemmas.Bool.{agree_below_at, and_parts, eqb-true, ltb-fals
 use Rattle.std.proofs.lemmas.Bool.Decides.{Decides-int_eq}
 use Rattle.std.proofs.lemmas.Int.{ints, to_z-of_z}
 use Rattle.ebpf_decode.specs.declared.fault.FaultKind.{FaultKind}
-use Rattle.ebpf_decode.specs.declared.fields.Fields.{Fields}
-use Rattle.ebpf_decode.specs.declared.insn.Insn.{Insn}
-use Rattle.ebpf_decode.specs.declared.insn.Insn.TheVariants as insns
+use Rattle.instruction_set.specs.declared.fields.Fields.{Fields}
+use Rattle.instruction_set.specs.declared.insn.Insn.{Insn}
+use Rattle.instruction_set.specs.declared.insn.Insn.TheVariants as insns
 use Rattle.ebpf_decode.specs.declared.opcode.Opcode.{Opcode}
 use Rattle.ebpf_decode.specs.declared.opcode.Opcode.TheVariants.{LoadImmediate, Load, LoadSigned, StoreImmediate, StoreRegister, Arithmetic, Negate, SwapBytes, Jump, JumpLong, Branch, Call, Exit, LeftOut}
 use Rattle.ebpf_decode.specs.declared.opcode.Operand.{Operand}
 use Rattle.ebpf_decode.specs.declared.opcode.Operand.TheVariants as operands
 use Rattle.ebpf_decode.specs.declared.opcode.Uses.{Uses}
-use Rattle.ebpf_decode.specs.declared.insn.Source.TheVariants as sources
-use Rattle.ebpf_decode.specs.declared.operation.Operation.{Operation}
-use Rattle.ebpf_decode.specs.declared.operation.Operation.TheVariants.{SignedDivide, SignedModulo}
-use Rattle.ebpf_decode.specs.declared.operation.SignExtension.TheVariants.{Bits8To32, Bits16To32, Bits8To64, Bits16To64, Bits32To64}
-use Rattle.ebpf_decode.specs.declared.operation.SwapSize.TheVariants as kept
-use Rattle.ebpf_decode.specs.declared.operation.Width.{Width}
-use Rattle.ebpf_decode.specs.declared.operation.Width.TheVariants as widths
-use Rattle.ebpf_decode.specs.Codes.{extension_with, plain_operations, swap_size_with, variant_with, width_eq}
+use Rattle.instruction_set.specs.declared.insn.Source.TheVariants as sources
+use Rattle.instruction_set.specs.declared.operation.Operation.{Operation}
+use Rattle.instruction_set.specs.declared.operation.Operation.TheVariants.{SignedDivide, SignedModulo}
+use Rattle.instruction_set.specs.declared.operation.SignExtension.TheVariants.{Bits8To32, Bits16To32, Bits8To64, Bits16To64, Bits32To64}
+use Rattle.instruction_set.specs.declared.operation.SwapSize.TheVariants as kept
+use Rattle.instruction_set.specs.declared.operation.Width.{Width}
+use Rattle.instruction_set.specs.declared.operation.Width.TheVariants as widths
+use Rattle.instruction_set.specs.Codes.{extension_with, plain_operations, swap_size_with, variant_with, width_eq}
 use Rattle.ebpf_decode.specs.Opcodes.{opcode_named, or_else, uses}
-use Rattle.ebpf_decode.specs.Program.{is_wide}
+use Rattle.instruction_set.specs.Program.{is_wide}
 use Rattle.ebpf_decode.specs.Reading.{first_fault, has_more, has_no_register, has_unused, instruction, is_left_out, is_load_immediate, read, read_named, signed_move, source_of, unless}
-use Rattle.ebpf_decode.specs.Spelling.{CALL, EXIT, Fits, HasValue, IMM, JA, LD, LDX, MEM, MEMSX, MOV, NEG, ST, STX, access_opcode, arithmetic_class, extension_offset, extension_width, first_slot, jump_class, kept_bits, operation_code, operation_offset, operation_opcode, relation_code, second_slot, signed_size_code, size_code, slot, swap_opcode}
+use Rattle.instruction_set.specs.Spelling.{CALL, EXIT, Fits, HasValue, IMM, JA, LD, LDX, MEM, MEMSX, MOV, NEG, ST, STX, access_opcode, arithmetic_class, extension_offset, extension_width, first_slot, jump_class, kept_bits, operation_code, operation_offset, operation_opcode, relation_code, second_slot, signed_size_code, size_code, slot, swap_opcode}
 
 -- ---- opcodes
 

@@ -1,10 +1,10 @@
 -- Laws of spelling and decoding.
 use Rattle.std.specs.Prelude.{◌≡◌, ◌<◌, ℕ, List, Option, Ok, Err, slice_index}
 use Rattle.ebpf_decode.specs.declared.fault.Fault.{Fault}
-use Rattle.ebpf_decode.specs.declared.insn.Insn.{Insn}
-use Rattle.ebpf_decode.specs.Program.{IsProgram}
+use Rattle.instruction_set.specs.declared.insn.Insn.{Insn}
+use Rattle.instruction_set.specs.Program.{IsProgram}
 use Rattle.ebpf_decode.specs.Reading.{decoded}
-use Rattle.ebpf_decode.specs.Spelling.{program_bytes}
+use Rattle.instruction_set.specs.Spelling.{program_bytes}
 use Rattle.program_interface.specs.declared.TheConstants.{MOST_SLOTS}
 
 -- what a program spells decodes as the program

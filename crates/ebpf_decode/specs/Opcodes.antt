@@ -6,12 +6,10 @@ use Rattle.ebpf_decode.specs.declared.opcode.Opcode.TheVariants as opcodes
 use Rattle.ebpf_decode.specs.declared.opcode.Operand.{Operand}
 use Rattle.ebpf_decode.specs.declared.opcode.Operand.TheVariants as operands
 use Rattle.ebpf_decode.specs.declared.opcode.Uses.{Uses}
-use Rattle.ebpf_decode.specs.declared.operation.Width.{Width}
-use Rattle.ebpf_decode.specs.declared.operation.Width.TheVariants as widths
-use Rattle.ebpf_decode.specs.declared.operation.Operation.{Operation}
-use Rattle.ebpf_decode.specs.declared.operation.Operation.TheVariants.{Divide, Modulo, Move}
-use Rattle.ebpf_decode.specs.Spelling.{LD, LDX, ST, STX, MEM, MEMSX, NEG, JA, CALL, EXIT, operation_opcode, arithmetic_class, jump_class}
-use Rattle.ebpf_decode.specs.Codes.{size_with, signed_size_with, operation_with, swap_with, relation_with}
+use Rattle.instruction_set.specs.declared.operation.Width.{Width}
+use Rattle.instruction_set.specs.declared.operation.Width.TheVariants as widths
+use Rattle.instruction_set.specs.Spelling.{LD, LDX, ST, STX, MEM, MEMSX, NEG, JA, CALL, EXIT, operation_opcode, arithmetic_class, jump_class}
+use Rattle.instruction_set.specs.Codes.{size_with, signed_size_with, operation_with, swap_with, relation_with, has_variants}
 
 abbrev pub or_else : {X : Type 0} → Option X → Option X → Option X
 or_else (Some x) o = Some x
@@ -82,13 +80,6 @@ opcode_named opcode =
     else if opcode % 8 == jump_class widths.Bits64 then jump_opcode opcode
     else if opcode % 8 == jump_class widths.Bits32 then jump_long_opcode opcode
     else arithmetic_opcode widths.Bits64 opcode
-
--- do offsets tell several operations of one code? (RFC 9669, 4.1)
-abbrev pub has_variants : Operation → Bool
-has_variants Divide = true
-has_variants Modulo = true
-has_variants Move = true
-has_variants _ = false
 
 abbrev pub is_immediate : Operand → Bool
 is_immediate operands.Immediate = true

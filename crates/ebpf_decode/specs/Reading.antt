@@ -8,21 +8,21 @@ use Rattle.ebpf_decode.specs.declared.fault.DecodeFault.TheVariants as errors
 use Rattle.ebpf_decode.specs.declared.fault.Fault.{Fault}
 use Rattle.ebpf_decode.specs.declared.fault.FaultKind.{FaultKind}
 use Rattle.ebpf_decode.specs.declared.fault.FaultKind.TheVariants as kinds
-use Rattle.ebpf_decode.specs.declared.fields.Fields.{Fields}
-use Rattle.ebpf_decode.specs.declared.insn.Insn.{Insn}
-use Rattle.ebpf_decode.specs.declared.insn.Insn.TheVariants as insns
-use Rattle.ebpf_decode.specs.declared.insn.Source.{Source}
-use Rattle.ebpf_decode.specs.declared.insn.Source.TheVariants as sources
+use Rattle.instruction_set.specs.declared.fields.Fields.{Fields}
+use Rattle.instruction_set.specs.declared.insn.Insn.{Insn}
+use Rattle.instruction_set.specs.declared.insn.Insn.TheVariants as insns
+use Rattle.instruction_set.specs.declared.insn.Source.{Source}
+use Rattle.instruction_set.specs.declared.insn.Source.TheVariants as sources
 use Rattle.ebpf_decode.specs.declared.opcode.Opcode.{Opcode}
 use Rattle.ebpf_decode.specs.declared.opcode.Opcode.TheVariants.{LoadImmediate, Load, LoadSigned, StoreImmediate, StoreRegister, Arithmetic, Negate, SwapBytes, Jump, JumpLong, Branch, Call, Exit, LeftOut}
 use Rattle.ebpf_decode.specs.declared.opcode.Operand.{Operand}
 use Rattle.ebpf_decode.specs.declared.opcode.Operand.TheVariants as operands
 use Rattle.ebpf_decode.specs.declared.opcode.Uses.{Uses}
-use Rattle.ebpf_decode.specs.declared.operation.Width.{Width}
-use Rattle.ebpf_decode.specs.declared.operation.Operation.{Operation}
-use Rattle.ebpf_decode.specs.Codes.{extension_with, variant_with, swap_size_with}
+use Rattle.instruction_set.specs.declared.operation.Width.{Width}
+use Rattle.instruction_set.specs.declared.operation.Operation.{Operation}
+use Rattle.instruction_set.specs.Codes.{extension_with, variant_with, swap_size_with}
 use Rattle.ebpf_decode.specs.Opcodes.{opcode_named, uses, or_else}
-use Rattle.ebpf_decode.specs.Program.{is_wide}
+use Rattle.instruction_set.specs.Program.{is_wide}
 use Rattle.program_interface.specs.declared.TheConstants.{MOST_SLOTS}
 
 -- the fields of the slot at the front of bytes (RFC 9669, 3.1)

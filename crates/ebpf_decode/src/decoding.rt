@@ -2,17 +2,15 @@
 
 ghost use Rattle.std.specs.Prelude.{◌≡◌, ◌<◌, ◌≤◌, ◌+◌, ◌*◌, ◌/◌, ◌^◌, drop, length, slice_get, false, None, IfOk};
 ghost use Rattle.std.specs.Int.{w32, cast_unsigned};
-ghost use Rattle.ebpf_decode.specs.Spelling.{program_bytes};
+ghost use Rattle.instruction_set.specs.Spelling.{program_bytes};
 ghost use Rattle.ebpf_decode.specs.Reading.{Gives, begins_wide, decoded, entry, fields_at, first_fault, has_more, has_no_register, has_unused, immediate_of, instruction, is_left_out, length_fault, read, read_slots, slots_at, source_of, signed_move};
 
 use crate::fault::{DecodeFault, Fault, FaultKind};
-use crate::fields::{Fields, from_bytes};
-use crate::flat::flatten;
-use crate::insn::{Insn, Source};
+use crate::fields::from_bytes;
 use crate::opcode::{Opcode, Operand, Uses};
-use crate::operation::{Operation, SignExtension, SwapSize, Width};
-use crate::program::Program;
-use crate::register::Register;
+use instruction_set::{
+    Fields, Insn, Operation, Program, Register, SignExtension, Source, SwapSize, Width, flatten,
+};
 use program_interface::MOST_SLOTS;
 use std::alloc::Global;
 

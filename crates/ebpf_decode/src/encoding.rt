@@ -4,12 +4,10 @@ ghost use Rattle.std.specs.Prelude.{◌≡◌, ◌<◌, ◌≤◌, ◌%◌, ◌/
 ghost use Rattle.std.specs.Int.{w32, cast_signed};
 ghost use Rattle.std.specs.List.{flat_map};
 ghost use Rattle.ebpf_decode.specs.Reading.{decoded};
-ghost use Rattle.ebpf_decode.specs.Spelling.{access_opcode, first_slot, operation_opcode, program_bytes, second_slot, slot_bytes, source_bit, source_immediate, source_register, spelling};
+ghost use Rattle.instruction_set.specs.Spelling.{access_opcode, first_slot, operation_opcode, program_bytes, second_slot, slot_bytes, source_bit, source_immediate, source_register, spelling};
 
-use crate::fields::{Fields, to_bytes};
-use crate::insn::{Insn, Source};
-use crate::operation::Width;
-use crate::program::Program;
+use crate::fields::to_bytes;
+use instruction_set::{Fields, Insn, Program, Source, Width};
 use program_interface::MOST_SLOTS;
 use std::alloc::{AllocError, Global};
 

@@ -2,21 +2,10 @@
 
 ghost use Rattle.std.specs.Prelude.{◌≡◌, ◌<◌, ◌≤◌, length};
 ghost use Rattle.ebpf_decode.specs.Reading.{fields_at};
-ghost use Rattle.ebpf_decode.specs.Spelling.{slot_bytes};
+ghost use Rattle.instruction_set.specs.Spelling.{slot_bytes};
 
 use byteorder::{ByteOrder, LittleEndian};
-
-/// The fields of a slot of 8 bytes (RFC 9669, 3.1).
-#[derive(Clone, Copy, Debug, PartialEq, Eq)]
-pub struct Fields {
-    pub opcode: u8,
-    /// The number in the low four bits of the second byte.
-    pub dst: u8,
-    /// The number in the high four bits of the second byte.
-    pub src: u8,
-    pub offset: i16,
-    pub immediate: i32,
-}
+use instruction_set::Fields;
 
 /// The fields of the slot at the front.
 pub(crate) fn from_bytes(bytes: &[u8]) -> Fields

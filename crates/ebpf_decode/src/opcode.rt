@@ -3,7 +3,7 @@
 ghost use Rattle.std.specs.Prelude.{◌≡◌};
 ghost use Rattle.ebpf_decode.specs.Opcodes.{arithmetic_opcode, branch_opcode, jump_long_opcode, jump_opcode, load_immediate_opcode, load_opcode, opcode_named, operand_of, store_immediate_opcode, store_register_opcode, uses};
 
-use crate::operation::{Operation, Relation, SignedSize, Size, Swap, Width};
+use instruction_set::{Operation, Relation, SignedSize, Size, Swap, Width};
 
 /// Where the second operand is: the source bit of an opcode (RFC 9669, 4).
 #[derive(Clone, Copy, Debug, PartialEq, Eq)]

@@ -12,8 +12,8 @@ use Rattle.zone_state.specs.declared.state.FaultState.{FaultState}
 use Rattle.zone_state.specs.declared.state.FaultState.TheVariants.{ReadOnly, Offline}
 use Rattle.text_lines.specs.Cut.{uncommented}
 use Rattle.text_lines.specs.Number.{number_of}
-use Rattle.pushdown.specs.declared.event.Event.{Event}
-use Rattle.pushdown.specs.declared.event.Event.TheVariants as event
+use Rattle.device_events.specs.declared.event.Event.{Event}
+use Rattle.device_events.specs.declared.event.Event.TheVariants as event
 use Rattle.event_text.specs.declared.command_file.ParseError.{ParseError}
 use Rattle.event_text.specs.declared.command_file.ParseError.TheVariants.{Line, OutOfMemory}
 use Rattle.event_text.specs.declared.command_file.LineError.{LineError}

@@ -2,8 +2,8 @@
 use Rattle.std.specs.Prelude.{ℕ, ◌==◌, if◌then◌else◌, List, [], ◌∷◌, ◌++◌, length, codes}
 use Rattle.std.specs.Fmt.{decimal}
 use Rattle.hex.specs.Hex.{encode_lower}
-use Rattle.pushdown.specs.declared.reply.Reply.{Reply}
-use Rattle.pushdown.specs.declared.reply.Reply.TheVariants.{Complete, Pending, Idle, Done, FaultRefused}
+use Rattle.device_events.specs.declared.reply.Reply.{Reply}
+use Rattle.device_events.specs.declared.reply.Reply.TheVariants.{Complete, Pending, Idle, Done, FaultRefused}
 
 -- a space and the data, where there is any
 abbrev pub data_text : List ℕ → List ℕ

@@ -14,8 +14,8 @@ ghost use Rattle.event_text.specs.declared.command_file.ParseError.TheVariants.{
 ghost use Rattle.event_text.specs.CommandFile.{told_of, below, submission_of, turn_of, fault_of, state_named, event_named as named_event, line_told, events_in, reason_of, GivesEvent, GivesLine, RefusesFile};
 
 use crate::words::Words;
+use device_events::Event;
 use hex::{FromHex, FromHexError};
-use runner::Event;
 use std::alloc::{AllocFailed, Global};
 use text_lines::{decimal, first_line, is_all_ascii, without_comment};
 use zone_state::FaultState;

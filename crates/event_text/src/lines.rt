@@ -1,12 +1,12 @@
 //! Replies as lines of text.
 
 ghost use Rattle.std.specs.Prelude.{◌≡◌, ◌≤◌, ◌<◌, ◌+◌, ◌^◌, ◌++◌, length, None, IfOk, OnOk};
-ghost use Rattle.runner.specs.Refusals.{CountsRefusals};
+ghost use Rattle.device_events.specs.Refusals.{CountsRefusals};
 ghost use Rattle.std.specs.Io.KnownBytes.{Appends};
 ghost use Rattle.hex.specs.Hex.{encode_lower};
 ghost use Rattle.event_text.specs.Lines.{line_text};
 
-use runner::{Out, Refusal, Reply};
+use device_events::{Out, Refusal, Reply};
 use std::alloc::{AllocError, Global};
 use std::io;
 use std::io::Write;

@@ -1,11 +1,4 @@
-pub mod CauseLemmas
-pub mod Entry
 pub mod Flats
-pub mod Groups
-pub mod MapLemmas
-pub mod MemoryLemmas
 pub mod Running
-pub mod StateLemmas
 pub mod Stepping
 pub mod Verified
-pub mod WordLemmas

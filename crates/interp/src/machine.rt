@@ -9,7 +9,6 @@ mod verified;
 ghost use Rattle.std.specs.Prelude.{◌<◌, ◌≤◌, ◌^◌, length};
 
 use program_interface::{CONTEXT_BYTES, REGISTERS, SCRATCH_BYTES, STACK_BYTES, entry_registers};
-pub use run::End;
 pub use step::Step;
 pub use verified::Exit;
 
@@ -32,7 +31,8 @@ pub struct Machine<'a> {
 
 impl<'a> Machine<'a> {
     ghost use Rattle.std.specs.Prelude.{◌≡◌, ◌<◌, ◌^◌, ℕ, List, length};
-    ghost use Rattle.interp.specs.State.{IsNew, block_length, entry, frames_of, group_length, scratch_name, slot_of, state_of, steps_of};
+    ghost use Rattle.interp.specs.Machine.{IsNew, block_length, frames_of, group_length, scratch_name, slot_of, state_of, steps_of};
+    ghost use Rattle.program_meaning.specs.State.{entry};
 
     /// A machine at the start of a block run, at slot 0: R1, R2 and R3 are the addresses of
     /// context, block and scratch, R10 is the end of the stack, all else is 0 (profile).

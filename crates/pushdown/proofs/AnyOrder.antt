@@ -8,7 +8,8 @@ use Rattle.std.proofs.lemmas.List.{append-nil}
 use Rattle.reg_domain.specs.Domain.{Operations}
 use Rattle.verifier.specs.Laws.{AcceptedNeverTraps}
 use Rattle.pushdown.specs.Admission.{Loaded}
-use Rattle.pushdown.specs.Answers.{Happening, Taken}
+use Rattle.pushdown.specs.Answers.{Happening}
+use Rattle.device_events.specs.Replies.{Taken}
 use Rattle.pushdown.specs.AnyOrder.{AreSameTurns, ComeToTheSame, IsUnshared, TurnsInAnyOrder, own_answers}
 use Rattle.pushdown.specs.Draining.{answers_to_turns, state_after_turns}
 use Rattle.pushdown.specs.Events.{state_after}

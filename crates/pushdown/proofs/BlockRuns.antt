@@ -4,16 +4,16 @@ use Rattle.std.proofs.lemmas.List.{length-replicate}
 use Rattle.std.proofs.Math.Nat.{suc-mul}
 use Rattle.std.specs.List.{AllByRecursion, flat_map}
 use Rattle.byteorder.specs.Endian.{little_bytes}
-use Rattle.ebpf_decode.specs.Program.{instruction_count}
+use Rattle.instruction_set.specs.Program.{instruction_count}
 use Rattle.program_interface.specs.Frame.{frame, frames}
 use Rattle.program_interface.specs.RunSizes.{AreSizes}
 use Rattle.program_interface.specs.declared.area.Area.TheVariants.{Scratch}
-use Rattle.interp.specs.Laws.{IsInRun}
-use Rattle.interp.specs.Run.{Run}
-use Rattle.interp.specs.State.{IsState, entry}
-use Rattle.interp.specs.TrapFree.{Exits, NeverTraps}
-use Rattle.interp.proofs.Entry.{entry_is}
-use Rattle.interp.proofs.Groups.{ends, enters}
+use Rattle.program_meaning.specs.Laws.{IsInRun}
+use Rattle.program_meaning.specs.Run.{Run}
+use Rattle.program_meaning.specs.State.{IsState, entry}
+use Rattle.program_meaning.specs.TrapFree.{Exits, NeverTraps}
+use Rattle.program_meaning.proofs.Entry.{entry_is}
+use Rattle.program_meaning.proofs.Groups.{ends, enters}
 use Rattle.emit_append.specs.OutputBlocks.{AreBytes as AllAreBytes}
 use Rattle.image_store.specs.Blocks.{AreBytes}
 use Rattle.pushdown.specs.BlockRuns.{Task, block_run, block_runs, context, frames_of, goes_on, no_scratch, runs_of, scratch_after, until_ended}

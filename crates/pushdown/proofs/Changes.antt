@@ -18,8 +18,8 @@ use Rattle.pushdown.specs.Machine.{admitted_place, happens, just_loaded, loading
 use Rattle.pushdown.specs.Outcome.{Turn}
 use Rattle.pushdown.specs.Pushdown.{HasBytes}
 use Rattle.pushdown.specs.State.{Place, State, free_run, holds_of, place_at, program_at, with_namespace, with_place, with_slot}
-use Rattle.pushdown.specs.declared.event.Event.{Event}
-use Rattle.pushdown.specs.declared.event.Event.TheVariants as event
+use Rattle.device_events.specs.declared.event.Event.{Event}
+use Rattle.device_events.specs.declared.event.Event.TheVariants as event
 use Rattle.pushdown.proofs.Loads.{TakesSlot, loading_is}
 use Rattle.pushdown.proofs.Spelled.{decoded_has, spelled}
 

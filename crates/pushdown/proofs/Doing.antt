@@ -15,8 +15,8 @@ use Rattle.pushdown.specs.Machine.{added, happens, keeping, place_left, slots_le
 use Rattle.pushdown.specs.Outcome.{Ending, Turn, appended_by}
 use Rattle.pushdown.specs.Pushdown.{EndsWithLast, blocks_at, is_turn_of, no_turn, one_if, own_turns}
 use Rattle.pushdown.specs.State.{Place, State, place_at, program_at}
-use Rattle.pushdown.specs.declared.event.Event.{Event}
-use Rattle.pushdown.specs.declared.event.Event.TheVariants as event
+use Rattle.device_events.specs.declared.event.Event.{Event}
+use Rattle.device_events.specs.declared.event.Event.TheVariants as event
 use Rattle.pushdown.proofs.Added.{added_leaves, is_added}
 use Rattle.pushdown.proofs.Changes.{after_event}
 use Rattle.pushdown.proofs.Foreign.{foreign_event, not_own, there, turn_takes_first, turned_is}

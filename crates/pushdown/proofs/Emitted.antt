@@ -2,7 +2,7 @@
 use Rattle.std.proofs.Common.{ℕ, ◌<◌, List, [], ◌∷◌, length, refl, ap, subst, ◌∙◌, arith, length-append}
 use Rattle.std.specs.List.{AllByRecursion, concat, flat_map}
 use Rattle.program_interface.specs.Frame.{frames}
-use Rattle.interp.specs.Run.{Run}
+use Rattle.program_meaning.specs.Run.{Run}
 use Rattle.reg_domain.specs.Domain.{Operations}
 use Rattle.verifier.specs.Laws.{AcceptedNeverTraps}
 use Rattle.emit_append.specs.Frames.{unpacked}

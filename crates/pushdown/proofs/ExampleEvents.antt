@@ -4,15 +4,16 @@ use Rattle.zone_state.specs.declared.state.FaultState.TheVariants.{ReadOnly}
 use Rattle.zone_state.specs.declared.state.ZoneState.{ZoneState}
 use Rattle.zone_state.specs.declared.state.ZoneState.TheVariants as zone
 use Rattle.nvme_entry.specs.Entry.{decoded}
-use Rattle.ebpf_decode.specs.declared.insn.Insn.{Insn}
-use Rattle.interp.specs.Run.{run_of}
+use Rattle.instruction_set.specs.declared.insn.Insn.{Insn}
+use Rattle.program_meaning.specs.Run.{run_of}
 use Rattle.reg_domain.specs.Domain.{Operations}
 use Rattle.image_store.specs.Namespace.{ZoneBlocks, ZonedNamespace, zone_at}
-use Rattle.pushdown.specs.Answers.{Happening, Taken, plain}
+use Rattle.pushdown.specs.Answers.{Happening, plain}
+use Rattle.device_events.specs.Replies.{Taken}
 use Rattle.pushdown.specs.Draining.{answers_to_turns, state_after_turns}
 use Rattle.pushdown.specs.Machine.{failed, submitted}
 use Rattle.pushdown.specs.State.{State, new_state}
-use Rattle.pushdown.specs.declared.reply.Reply.TheVariants.{Complete, FaultRefused, Idle, Pending}
+use Rattle.device_events.specs.declared.reply.Reply.TheVariants.{Complete, FaultRefused, Idle, Pending}
 use Rattle.pushdown.proofs.Examples.{block_of, eight_zones, entry_of, four_zones, frame, passes, run_entry, sevens, slots_with, two_zones}
 
 -- a completion to queue 1 with these first dwords, this identifier, and these last two bytes

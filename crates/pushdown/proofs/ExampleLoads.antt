@@ -2,13 +2,14 @@
 use Rattle.std.proofs.Common.{◌≡◌, ℕ, true, List, [], ◌∷◌, ◌++◌, replicate, refl}
 use Rattle.zone_state.specs.declared.state.ZoneState.TheVariants as zone
 use Rattle.nvme_entry.specs.Entry.{decoded}
-use Rattle.interp.specs.Run.{run_of}
+use Rattle.program_meaning.specs.Run.{run_of}
 use Rattle.reg_domain.specs.Domain.{Operations}
-use Rattle.pushdown.specs.Answers.{Happening, Taken, plain}
+use Rattle.pushdown.specs.Answers.{Happening, plain}
+use Rattle.device_events.specs.Replies.{Taken}
 use Rattle.pushdown.specs.Draining.{state_after_turns}
 use Rattle.pushdown.specs.Machine.{submitted, turned}
 use Rattle.pushdown.specs.State.{State, new_state}
-use Rattle.pushdown.specs.declared.reply.Reply.TheVariants.{Complete, Idle}
+use Rattle.device_events.specs.declared.reply.Reply.TheVariants.{Complete, Idle}
 use Rattle.pushdown.proofs.ExampleEvents.{asks, completes, completes_with, device, zone_of}
 use Rattle.pushdown.proofs.Examples.{block_of, entry_of, four_zones, passes, run_entry, sums, two_zones}
 

@@ -2,9 +2,9 @@
 use Rattle.std.proofs.Common.{◌≡◌, ℕ, List, [], ◌∷◌, ◌++◌, map, replicate, Option, Some, None, refl}
 use Rattle.std.specs.List.{concat}
 use Rattle.zone_state.specs.declared.status.TheConstants.Status.{PROGRAM_TRAPPED, SUCCESS}
-use Rattle.ebpf_decode.specs.declared.insn.Insn.{Insn}
+use Rattle.instruction_set.specs.declared.insn.Insn.{Insn}
 use Rattle.emit_append.specs.Need.{need}
-use Rattle.interp.specs.Run.{Run, run_of}
+use Rattle.program_meaning.specs.Run.{Run, run_of}
 use Rattle.pushdown.specs.BlockRuns.{Task, no_scratch, runs_of}
 use Rattle.pushdown.specs.Outcome.{Turn, outcome}
 use Rattle.pushdown.proofs.Examples.{block_of, frame, loops, passes, sevens, sums, tells, traps, twice, waits}

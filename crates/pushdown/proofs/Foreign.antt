@@ -10,8 +10,8 @@ use Rattle.pushdown.specs.Machine.{admitted_place, happens, place_left, take_tur
 use Rattle.pushdown.specs.Outcome.{Turn}
 use Rattle.pushdown.specs.Pushdown.{is_turn_of}
 use Rattle.pushdown.specs.State.{Place, State, place_at}
-use Rattle.pushdown.specs.declared.event.Event.{Event}
-use Rattle.pushdown.specs.declared.event.Event.TheVariants as event
+use Rattle.device_events.specs.declared.event.Event.{Event}
+use Rattle.device_events.specs.declared.event.Event.TheVariants as event
 use Rattle.pushdown.proofs.Changes.{after_event, after_turn}
 
 -- ---- lists of places

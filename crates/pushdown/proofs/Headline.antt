@@ -9,8 +9,8 @@ use Rattle.zone_state.specs.declared.status.Status.{Status}
 use Rattle.zone_state.specs.declared.status.TheConstants.Status.{DESTINATION_NOT_OPEN}
 use Rattle.nvme_entry.specs.declared.command.Command.TheVariants as command
 use Rattle.nvme_entry.specs.declared.command.RunCommand.{RunCommand}
-use Rattle.ebpf_decode.specs.Program.{instruction_count}
-use Rattle.interp.specs.Run.{Run}
+use Rattle.instruction_set.specs.Program.{instruction_count}
+use Rattle.program_meaning.specs.Run.{Run}
 use Rattle.reg_domain.specs.Domain.{Operations}
 use Rattle.verifier.specs.Laws.{AcceptedNeverTraps}
 use Rattle.image_store.specs.Namespace.{ZoneBlocks, ZonedNamespace, IsNamespace, no_zone, shape, zone_at}
@@ -25,8 +25,8 @@ use Rattle.pushdown.specs.Machine.{admitted_place, happens, start_by, submitted}
 use Rattle.pushdown.specs.Outcome.{Turn, outcome}
 use Rattle.pushdown.specs.Pushdown.{ChangesDestinationAlone, DoesItsTurns, EndsWithLast, IsAdmitted, Pushdown, TellsWhole, blocks_at, no_turn, own_turns}
 use Rattle.pushdown.specs.State.{Place, State, free_run, holds_of, new_state, place_at, program_at, with_place}
-use Rattle.pushdown.specs.declared.event.Event.TheVariants as event
-use Rattle.pushdown.specs.declared.reply.Reply.TheVariants as reply
+use Rattle.device_events.specs.declared.event.Event.TheVariants as event
+use Rattle.device_events.specs.declared.reply.Reply.TheVariants as reply
 use Rattle.pushdown.proofs.Added.{added_leaves, added_shape, open_on}
 use Rattle.pushdown.proofs.BlockRuns.{IsDone, few_frames, few_runs}
 use Rattle.pushdown.proofs.Bytes.{all_from}

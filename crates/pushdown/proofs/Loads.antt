@@ -6,15 +6,15 @@ use Rattle.nvme_entry.specs.Checks.{first_refused}
 use Rattle.nvme_entry.specs.declared.command.LoadCommand.{LoadCommand}
 use Rattle.ebpf_decode.specs.Reading.{decoded as program_in_bytes}
 use Rattle.ebpf_decode.specs.declared.fault.Fault.{Fault}
-use Rattle.ebpf_decode.specs.declared.insn.Insn.{Insn}
+use Rattle.instruction_set.specs.declared.insn.Insn.{Insn}
 use Rattle.reg_domain.specs.Domain.{Operations}
 use Rattle.verifier.specs.Accepted.{refusal}
 use Rattle.verifier.specs.declared.reason.Refusal.{Refusal}
 use Rattle.pushdown.specs.Answers.{Happening, Submission}
 use Rattle.pushdown.specs.Machine.{judged, just_loaded, load_checks, load_unless, loading, read_program, sizes_for}
 use Rattle.pushdown.specs.State.{State, with_slot}
-use Rattle.pushdown.specs.declared.reply.Reply.{Reply}
-use Rattle.pushdown.specs.declared.reply.Reply.TheVariants as reply
+use Rattle.device_events.specs.declared.reply.Reply.{Reply}
+use Rattle.device_events.specs.declared.reply.Reply.TheVariants as reply
 
 abbrev pub is_pending : Reply → Bool
 is_pending (reply.Pending run) = true

@@ -9,7 +9,7 @@ use Rattle.pushdown.specs.Answers.{Submission}
 use Rattle.pushdown.specs.Machine.{submitted}
 use Rattle.pushdown.specs.Memory.{OnlyLoadsWantMemory, is_load}
 use Rattle.pushdown.specs.State.{State}
-use Rattle.pushdown.specs.declared.event.Event.TheVariants as event
+use Rattle.device_events.specs.declared.event.Event.TheVariants as event
 
 module _ {D : Type 0} (operations : Operations D) where
   submitted_same : (sub : Submission) (s : State) (asked : Result Command Status) → is_load asked ≡ false

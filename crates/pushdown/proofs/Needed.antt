@@ -19,7 +19,7 @@ use Rattle.pushdown.specs.Laws.{EventsKeepForRuns, KeepsFor}
 use Rattle.pushdown.specs.Machine.{happens, just_loaded, keeping, load_checks, slots_left}
 use Rattle.pushdown.specs.Outcome.{Ending}
 use Rattle.pushdown.specs.State.{Place, State, in_use, place_at, program_at, source_of, uses}
-use Rattle.pushdown.specs.declared.event.Event.{Event}
+use Rattle.device_events.specs.declared.event.Event.{Event}
 use Rattle.pushdown.proofs.Added.{added_grows, added_shape}
 use Rattle.pushdown.proofs.Changes.{after_event}
 use Rattle.pushdown.proofs.Foreign.{there}

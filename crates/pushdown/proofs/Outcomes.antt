@@ -3,10 +3,10 @@ use Rattle.std.proofs.Common.{◌≡◌, ℕ, ◌+◌, ◌≤◌, List, [], ◌�
 use Rattle.std.proofs.lemmas.List.{append-nil}
 use Rattle.std.specs.List.{AllByRecursion}
 use Rattle.zone_state.specs.declared.status.TheConstants.Status.{SUCCESS}
-use Rattle.interp.specs.Run.{Run}
-use Rattle.interp.specs.TrapFree.{IsExit}
-use Rattle.interp.specs.declared.machine.run.End.{End}
-use Rattle.interp.specs.declared.machine.run.End.TheVariants as end
+use Rattle.program_meaning.specs.Run.{Run}
+use Rattle.program_meaning.specs.TrapFree.{IsExit}
+use Rattle.program_meaning.specs.declared.end.End.{End}
+use Rattle.program_meaning.specs.declared.end.End.TheVariants as end
 use Rattle.emit_append.specs.OutputBlocks.{AreAllBytes}
 use Rattle.emit_append.specs.Packed.{FitBlock}
 use Rattle.emit_append.specs.Packing.{packed, pending_of, released}

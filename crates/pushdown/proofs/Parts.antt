@@ -2,13 +2,13 @@
 use Rattle.std.proofs.Common.{suc, ◌≡◌, ℕ, List, [], ◌∷◌, ◌++◌, map, Option, Some, None, refl, ap, sym, subst, ◌∙◌, append_assoc}
 use Rattle.std.proofs.lemmas.List.{map-append}
 use Rattle.reg_domain.specs.Domain.{Operations}
-use Rattle.pushdown.specs.Answers.{Taken, and_then}
+use Rattle.device_events.specs.Replies.{Taken, and_then}
 use Rattle.pushdown.specs.Draining.{AreLowest, Drains, answers_to_turns, lowest_run, state_after_turns}
 use Rattle.pushdown.specs.Events.{Occurrence, answers_to, state_after}
 use Rattle.pushdown.specs.Machine.{happens, turned}
 use Rattle.pushdown.specs.Parts.{DrainedByTurns, DrainedInOneWay, InParts, OneAnswerEach, ServedAndDrained, ServedInParts, turn_events}
 use Rattle.pushdown.specs.State.{State}
-use Rattle.pushdown.specs.declared.event.Event.{Event}
+use Rattle.device_events.specs.declared.event.Event.{Event}
 
 pub and_then-and_then : (before : Option (List Taken)) (first later : List Taken) → and_then (and_then before first) later ≡ and_then before (first ++ later)
 and_then-and_then None first later = refl

@@ -18,7 +18,7 @@ use Rattle.pushdown.specs.Answers.{Submission}
 use Rattle.pushdown.specs.Machine.{admitted_place, happens, place_left, turned, why_not_run}
 use Rattle.pushdown.specs.Outcome.{Ending, Turn}
 use Rattle.pushdown.specs.State.{Place, State, destination_of, free_run, holds_of, new_state, place_at, program_at}
-use Rattle.pushdown.specs.declared.event.Event.{Event}
+use Rattle.device_events.specs.declared.event.Event.{Event}
 use Rattle.pushdown.proofs.Changes.{after_event, after_turn}
 use Rattle.pushdown.proofs.Foreign.{free_within, there}
 

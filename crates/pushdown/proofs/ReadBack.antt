@@ -26,8 +26,8 @@ use Rattle.pushdown.specs.Machine.{commanded, happens, submitted}
 use Rattle.pushdown.specs.Pushdown.{blocks_at}
 use Rattle.pushdown.specs.ReadBack.{AppendedReadsBack, AreRead, BlocksAreRead, IsCompleted, NoneClears, Submits, WrittenIsRead, WrittenReadsBack}
 use Rattle.pushdown.specs.State.{State, holds_of}
-use Rattle.pushdown.specs.declared.event.Event.{Event}
-use Rattle.pushdown.specs.declared.event.Event.TheVariants as event
+use Rattle.device_events.specs.declared.event.Event.{Event}
+use Rattle.device_events.specs.declared.event.Event.TheVariants as event
 use Rattle.pushdown.proofs.Lasting.{events_keep}
 use Rattle.pushdown.proofs.Spelled.{HasBlocks, decoded_has}
 

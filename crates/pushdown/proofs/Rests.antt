@@ -1,9 +1,9 @@
 -- The rest of a run.
 use Rattle.std.proofs.Common.{◌≡◌, ℕ, suc, ◌+◌, Bool, true, false, cond, List, [], ◌∷◌, ◌++◌, length, Some, None, inl, inr, refl, ap, ◌∙◌, arith, append_assoc, length-append}
 use Rattle.zone_state.specs.declared.status.TheConstants.Status.{SUCCESS}
-use Rattle.interp.specs.Run.{Run}
-use Rattle.interp.specs.declared.machine.run.End.{End}
-use Rattle.interp.specs.declared.machine.run.End.TheVariants as end
+use Rattle.program_meaning.specs.Run.{Run}
+use Rattle.program_meaning.specs.declared.end.End.{End}
+use Rattle.program_meaning.specs.declared.end.End.TheVariants as end
 use Rattle.emit_append.specs.Packing.{packed, released, pending_of}
 use Rattle.emit_append.proofs.Continuing.{packing_goes_on}
 use Rattle.emit_append.proofs.Puts.{one_group_is_pending}

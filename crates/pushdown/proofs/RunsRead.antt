@@ -21,7 +21,7 @@ use Rattle.pushdown.specs.Outcome.{Turn, appended_by}
 use Rattle.pushdown.specs.Pushdown.{AreEvents, IsAdmitted, blocks_at}
 use Rattle.pushdown.specs.ReadBack.{AppendedAreRead, AreRead, EmittedAreRead, NoneClears, RunsReadBack, after_turn, done, place, pointer, submitted}
 use Rattle.pushdown.specs.State.{State, free_run, holds_of, new_state, program_at}
-use Rattle.pushdown.specs.declared.event.Event.TheVariants as event
+use Rattle.device_events.specs.declared.event.Event.TheVariants as event
 use Rattle.pushdown.proofs.Emitted.{emitted_reads_back}
 use Rattle.pushdown.proofs.Headline.{pushdown}
 use Rattle.pushdown.proofs.Lasting.{events_keep, shapes_are_kept}

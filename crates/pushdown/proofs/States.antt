@@ -15,12 +15,12 @@ use Rattle.nvme_entry.specs.Checks.{first_refused}
 use Rattle.nvme_entry.specs.declared.command.LoadCommand.{LoadCommand}
 use Rattle.nvme_entry.specs.declared.command.RunCommand.{RunCommand}
 use Rattle.nvme_entry.specs.declared.program_slot.TheConstants.{PROGRAM_SLOTS}
-use Rattle.ebpf_decode.specs.Program.{IsProgram}
+use Rattle.instruction_set.specs.Program.{IsProgram}
 use Rattle.ebpf_decode.proofs.Programs.{decoded-program}
 use Rattle.program_interface.specs.BlockSize.{IsBlockSize}
 use Rattle.program_interface.specs.RunSizes.{AreSizes, Sizes}
-use Rattle.interp.specs.Run.{Run}
-use Rattle.interp.specs.TrapFree.{IsExit, NeverTraps}
+use Rattle.program_meaning.specs.Run.{Run}
+use Rattle.program_meaning.specs.TrapFree.{IsExit, NeverTraps}
 use Rattle.reg_domain.specs.Domain.{Operations}
 use Rattle.verifier.specs.Accepted.{refusal}
 use Rattle.verifier.specs.Laws.{AcceptedNeverTraps}
@@ -46,7 +46,7 @@ use Rattle.pushdown.specs.Machine.{admitted_place, happens, just_loaded, keeping
 use Rattle.pushdown.specs.Outcome.{Ending, Turn, appended_by, no_output, outcome}
 use Rattle.pushdown.specs.Pushdown.{AreEvents, EndsWithLast, HasBytes, Succeeds}
 use Rattle.pushdown.specs.State.{Place, State, free_run, holds_of, new_state, place_at, program_at, with_namespace, with_place, with_slot}
-use Rattle.pushdown.specs.declared.event.Event.{Event}
+use Rattle.device_events.specs.declared.event.Event.{Event}
 use Rattle.pushdown.proofs.Added.{added_block}
 use Rattle.pushdown.proofs.BlockRuns.{IsDone, IsReady, few_runs, runs_done, some_runs}
 use Rattle.pushdown.proofs.Bytes.{AreBlocks, IsBlock, all_at, all_drop, all_from, all_same, all_set, all_take, blocks_by_place}

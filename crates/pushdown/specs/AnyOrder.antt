@@ -4,7 +4,7 @@ use Rattle.std.specs.List.{filter, zip}
 use Rattle.reg_domain.specs.Domain.{Operations}
 use Rattle.image_store.specs.Namespace.{ZonedNamespace, IsNamespace}
 use Rattle.pushdown.specs.Admission.{SameProgram}
-use Rattle.pushdown.specs.Answers.{Taken}
+use Rattle.device_events.specs.Replies.{Taken}
 use Rattle.pushdown.specs.Draining.{answers_to_turns, state_after_turns}
 use Rattle.pushdown.specs.Events.{Occurrence, state_after}
 use Rattle.pushdown.specs.Pushdown.{AreEvents}

@@ -1,14 +1,14 @@
 -- The block runs of a run: its program on one source block after another.
 use Rattle.std.specs.Prelude.{ℕ, Bool, false, ◌+◌, ◌==◌, List, [], ◌∷◌, map, replicate, Option, if◌then◌else◌}
-use Rattle.ebpf_decode.specs.Program.{instruction_count}
-use Rattle.ebpf_decode.specs.declared.insn.Insn.{Insn}
+use Rattle.instruction_set.specs.Program.{instruction_count}
+use Rattle.instruction_set.specs.declared.insn.Insn.{Insn}
 use Rattle.program_interface.specs.Context.{context_bytes}
 use Rattle.program_interface.specs.RunSizes.{Sizes}
 use Rattle.program_interface.specs.declared.area.TheConstants.{SCRATCH_BYTES}
-use Rattle.interp.specs.Run.{Run, run_of}
-use Rattle.interp.specs.State.{entry}
-use Rattle.interp.specs.declared.machine.run.End.{End}
-use Rattle.interp.specs.declared.machine.run.End.TheVariants as end
+use Rattle.program_meaning.specs.Run.{Run, run_of}
+use Rattle.program_meaning.specs.State.{entry}
+use Rattle.program_meaning.specs.declared.end.End.{End}
+use Rattle.program_meaning.specs.declared.end.End.TheVariants as end
 
 -- what a run is about: the program and the sizes that it was accepted for, the argument, the address of
 -- the first source block, and how many there are

@@ -1,6 +1,6 @@
 -- Turns of the lowest active run, until no run is left.
 use Rattle.std.specs.Prelude.{ℕ, ◌≡◌, ◌≤◌, ◌+◌, ◌-◌, List, [], ◌∷◌, length, position, take, is_some, Option, Some, None}
-use Rattle.pushdown.specs.Answers.{Taken, and_then}
+use Rattle.device_events.specs.Replies.{Taken, and_then}
 use Rattle.pushdown.specs.Machine.{turned}
 use Rattle.pushdown.specs.State.{Place, State}
 

@@ -1,10 +1,10 @@
 -- Lists of events.
 use Rattle.std.specs.Prelude.{ℕ, Bool, ◌≡◌, ◌≤◌, ◌-◌, List, [], ◌∷◌, length, map, take, Option}
 use Rattle.reg_domain.specs.Domain.{Operations}
-use Rattle.pushdown.specs.Answers.{Taken, and_then}
+use Rattle.device_events.specs.Replies.{Taken, and_then}
 use Rattle.pushdown.specs.Machine.{happens}
 use Rattle.pushdown.specs.State.{State}
-use Rattle.pushdown.specs.declared.event.Event.{Event}
+use Rattle.device_events.specs.declared.event.Event.{Event}
 
 -- an event, and whether memory is refused while it is done
 pub record Occurrence : Type 0 where

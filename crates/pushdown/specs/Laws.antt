@@ -6,8 +6,8 @@ use Rattle.zone_state.specs.State.{is_open}
 use Rattle.zone_resources.specs.Holds.{no_holds}
 use Rattle.nvme_entry.specs.declared.command.RunCommand.{RunCommand}
 use Rattle.program_interface.specs.Frame.{frames}
-use Rattle.interp.specs.Run.{Run}
-use Rattle.interp.specs.TrapFree.{IsExit}
+use Rattle.program_meaning.specs.Run.{Run}
+use Rattle.program_meaning.specs.TrapFree.{IsExit}
 use Rattle.reg_domain.specs.Domain.{Operations}
 use Rattle.emit_append.specs.Frames.{unpacked}
 use Rattle.emit_append.specs.Packing.{packed, pending_of, released}
@@ -24,8 +24,8 @@ use Rattle.pushdown.specs.Machine.{added, admitted_place, happens, turned}
 use Rattle.pushdown.specs.Outcome.{Progress, Turn, appended_by, at_admission, ending_of, last_turn, outcome, output_of, rest}
 use Rattle.pushdown.specs.Pushdown.{AreEvents, IsAdmitted, is_turn_of, success_of}
 use Rattle.pushdown.specs.State.{Place, State, new_state, place_at, program_at}
-use Rattle.pushdown.specs.declared.event.Event.TheVariants as event
-use Rattle.pushdown.specs.declared.reply.Reply.TheVariants as reply
+use Rattle.device_events.specs.declared.event.Event.TheVariants as event
+use Rattle.device_events.specs.declared.reply.Reply.TheVariants as reply
 
 -- ---- the rest of a run
 

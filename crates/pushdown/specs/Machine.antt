@@ -13,7 +13,7 @@ use Rattle.nvme_entry.specs.declared.command.RunCommand.{RunCommand}
 use Rattle.ebpf_decode.specs.Faults.{fault_number}
 use Rattle.ebpf_decode.specs.Reading.{decoded as program_in_bytes}
 use Rattle.ebpf_decode.specs.declared.fault.Fault.{Fault}
-use Rattle.ebpf_decode.specs.declared.insn.Insn.{Insn}
+use Rattle.instruction_set.specs.declared.insn.Insn.{Insn}
 use Rattle.program_interface.specs.RunSizes.{Sizes}
 use Rattle.reg_domain.specs.Domain.{Operations}
 use Rattle.verifier.specs.Accepted.{refusal, number_of}
@@ -24,14 +24,15 @@ use Rattle.zns_commands.specs.Fault.{fault_answer, faulted}
 use Rattle.zns_commands.specs.Meaning.{meaning}
 use Rattle.zns_commands.specs.Transfer.{transfer_checks}
 use Rattle.pushdown.specs.Admission.{Loaded, run_refusal, source_blocks, task_of, source_zone, destination_zone}
-use Rattle.pushdown.specs.Answers.{Taken, Happening, Submission, plain, completion, completed, refused, idle}
+use Rattle.device_events.specs.Replies.{Taken}
+use Rattle.pushdown.specs.Answers.{Happening, Submission, plain, completion, completed, refused, idle}
 use Rattle.pushdown.specs.BlockRuns.{no_scratch}
 use Rattle.pushdown.specs.Outcome.{Turn, Ending, outcome}
 use Rattle.pushdown.specs.State.{Place, State, holds_of, program_at, place_at, in_use, free_run, with_namespace, with_slot, with_place}
-use Rattle.pushdown.specs.declared.event.Event.{Event}
-use Rattle.pushdown.specs.declared.event.Event.TheVariants as event
-use Rattle.pushdown.specs.declared.reply.Reply.{Reply}
-use Rattle.pushdown.specs.declared.reply.Reply.TheVariants as reply
+use Rattle.device_events.specs.declared.event.Event.{Event}
+use Rattle.device_events.specs.declared.event.Event.TheVariants as event
+use Rattle.device_events.specs.declared.reply.Reply.{Reply}
+use Rattle.device_events.specs.declared.reply.Reply.TheVariants as reply
 
 -- ---- Load
 

@@ -7,8 +7,8 @@ use Rattle.nvme_entry.specs.declared.command.Command.TheVariants as command
 use Rattle.reg_domain.specs.Domain.{Operations}
 use Rattle.pushdown.specs.Machine.{happens}
 use Rattle.pushdown.specs.State.{State}
-use Rattle.pushdown.specs.declared.event.Event.{Event}
-use Rattle.pushdown.specs.declared.event.Event.TheVariants as event
+use Rattle.device_events.specs.declared.event.Event.{Event}
+use Rattle.device_events.specs.declared.event.Event.TheVariants as event
 
 abbrev pub is_load : Result Command Status → Bool
 is_load (Ok (command.Load load)) = true

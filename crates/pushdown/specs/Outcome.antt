@@ -3,10 +3,10 @@
 use Rattle.std.specs.Prelude.{ℕ, ◌+◌, List, [], ◌∷◌, ◌++◌, length, drop, Option, Some, None}
 use Rattle.zone_state.specs.declared.status.Status.{Status}
 use Rattle.zone_state.specs.declared.status.TheConstants.Status.{SUCCESS, PROGRAM_TRAPPED}
-use Rattle.interp.specs.Cause.{number_of}
-use Rattle.interp.specs.Run.{Run}
-use Rattle.interp.specs.declared.machine.run.End.{End}
-use Rattle.interp.specs.declared.machine.run.End.TheVariants as end
+use Rattle.program_meaning.specs.Cause.{number_of}
+use Rattle.program_meaning.specs.Run.{Run}
+use Rattle.program_meaning.specs.declared.end.End.{End}
+use Rattle.program_meaning.specs.declared.end.End.TheVariants as end
 use Rattle.emit_append.specs.Packing.{packed, released}
 use Rattle.pushdown.specs.BlockRuns.{Task, block_runs, no_scratch, runs_of, scratch_after, until_ended}
 

@@ -1,12 +1,12 @@
 -- Lists of events, in parts, and turns as events.
 use Rattle.std.specs.Prelude.{ℕ, false, ◌≡◌, List, ◌++◌, length, map, Option, None}
 use Rattle.reg_domain.specs.Domain.{Operations}
-use Rattle.pushdown.specs.Answers.{Taken, and_then}
+use Rattle.device_events.specs.Replies.{Taken, and_then}
 use Rattle.pushdown.specs.Draining.{Drains, HasDrained, answers_to_turns, lowest_run, state_after_turns}
 use Rattle.pushdown.specs.Events.{AreOf, HasServed, Occurrence, answers_to, state_after}
 use Rattle.pushdown.specs.State.{State}
-use Rattle.pushdown.specs.declared.event.Event.{Event}
-use Rattle.pushdown.specs.declared.event.Event.TheVariants as event
+use Rattle.device_events.specs.declared.event.Event.{Event}
+use Rattle.device_events.specs.declared.event.Event.TheVariants as event
 
 -- each event has one answer
 abbrev pub OneAnswerEach : {D : Type 0} → Operations D → Type 0

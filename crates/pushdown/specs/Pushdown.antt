@@ -14,9 +14,9 @@ use Rattle.zone_state.specs.declared.status.TheConstants.Status.{SUCCESS}
 use Rattle.nvme_entry.specs.Entry.{decoded}
 use Rattle.nvme_entry.specs.declared.command.Command.TheVariants as command
 use Rattle.nvme_entry.specs.declared.command.RunCommand.{RunCommand}
-use Rattle.ebpf_decode.specs.Program.{instruction_count}
-use Rattle.interp.specs.Run.{Run}
-use Rattle.interp.specs.TrapFree.{IsExit}
+use Rattle.instruction_set.specs.Program.{instruction_count}
+use Rattle.program_meaning.specs.Run.{Run}
+use Rattle.program_meaning.specs.TrapFree.{IsExit}
 use Rattle.reg_domain.specs.Domain.{Operations}
 use Rattle.image_store.specs.Blocks.{AreBytes}
 use Rattle.image_store.specs.Namespace.{ZonedNamespace, zone_at, shape, IsNamespace}
@@ -27,8 +27,8 @@ use Rattle.pushdown.specs.Events.{Occurrence, state_after}
 use Rattle.pushdown.specs.Machine.{added, admitted_place, place_left, slots_left, turn_answer, turned, why_not_run}
 use Rattle.pushdown.specs.Outcome.{Ending, Turn, appended_by, ending_of, outcome}
 use Rattle.pushdown.specs.State.{Place, State, free_run, new_state, place_at, program_at}
-use Rattle.pushdown.specs.declared.event.Event.{Event}
-use Rattle.pushdown.specs.declared.event.Event.TheVariants as event
+use Rattle.device_events.specs.declared.event.Event.{Event}
+use Rattle.device_events.specs.declared.event.Event.TheVariants as event
 
 -- ---- events
 

@@ -27,8 +27,8 @@ use Rattle.pushdown.specs.Machine.{admitted_place, commanded, happens, turned}
 use Rattle.pushdown.specs.Outcome.{appended_by}
 use Rattle.pushdown.specs.Pushdown.{AreEvents, IsAdmitted, blocks_at, own_turns}
 use Rattle.pushdown.specs.State.{Place, State, holds_of, new_state, program_at}
-use Rattle.pushdown.specs.declared.event.Event.{Event}
-use Rattle.pushdown.specs.declared.event.Event.TheVariants as event
+use Rattle.device_events.specs.declared.event.Event.{Event}
+use Rattle.device_events.specs.declared.event.Event.TheVariants as event
 
 -- the event submits an entry of this command, with these bytes beside it
 abbrev pub Submits : Event → StandardCommand → List ℕ → Type 0

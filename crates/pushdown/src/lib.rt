@@ -2,9 +2,4 @@
 //! The pushdown theorem stands here, over these definitions alone; the device is proved to be their machine.
 #![tactic(auto)]
 
-mod event;
 pub mod laws;
-mod reply;
-
-pub use event::Event;
-pub use reply::Reply;

@@ -2,19 +2,19 @@
 -- instruction belong to what the operation gives for it after.
 use Rattle.std.specs.Prelude.{ℕ, ℤ, Bool, true, Option, Some, None, IfSome, FitsSigned, ◌≡◌, ◌<◌, ◌≤◌, ◌+◌, ◌%◌, ◌^◌}
 use Rattle.std.specs.Int.{w16, w64, cast_unsigned}
-use Rattle.ebpf_decode.specs.Instruction.{signed_size_of, size_of}
-use Rattle.ebpf_decode.specs.declared.operation.Relation.{Relation}
-use Rattle.ebpf_decode.specs.declared.operation.SignedSize.{SignedSize}
-use Rattle.ebpf_decode.specs.declared.operation.Size.{Size}
-use Rattle.ebpf_decode.specs.declared.operation.Width.{Width}
-use Rattle.interp.specs.Effect.{sign_extended}
-use Rattle.interp.specs.Memory.{lies_in}
+use Rattle.instruction_set.specs.Instruction.{signed_size_of, size_of}
+use Rattle.instruction_set.specs.declared.operation.Relation.{Relation}
+use Rattle.instruction_set.specs.declared.operation.SignedSize.{SignedSize}
+use Rattle.instruction_set.specs.declared.operation.Size.{Size}
+use Rattle.instruction_set.specs.declared.operation.Width.{Width}
+use Rattle.program_meaning.specs.Effect.{sign_extended}
+use Rattle.program_meaning.specs.Memory.{lies_in}
 use Rattle.program_interface.specs.Area.{address_of}
-use Rattle.interp.specs.Word.{computed, is_taken}
+use Rattle.program_meaning.specs.Word.{computed, is_taken}
 use Rattle.program_interface.specs.declared.area.Area.{Area}
-use Rattle.interp.specs.declared.word.Arithmetic.{Arithmetic}
+use Rattle.program_meaning.specs.declared.word.Arithmetic.{Arithmetic}
 use Rattle.program_interface.specs.BlockSize.{IsBlockSize}
-use Rattle.reg_domain.specs.declared.fact.Bounds.{Bounds}
+use Rattle.reg_domain.specs.declared.bounds.Bounds.{Bounds}
 
 -- the operations of a domain, whose facts are of type D
 pub record Operations (D : Type 0) : Type 0 where

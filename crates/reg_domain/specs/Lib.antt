@@ -1,14 +1,2 @@
 pub mod Domain
-pub mod Fact
-pub mod Range
-pub mod Arithmetic
-pub mod Edge
-pub mod NumberLaws
-pub mod RangeLaws
-pub mod FactLaws
-pub mod PointerLaws
 pub mod PlaceLaws
-pub mod ArithmeticLaws
-pub mod EdgeLaws
-pub mod Intervals
-pub mod Constants

@@ -5,10 +5,10 @@ ghost use Rattle.std.specs.Align.{type_align};
 ghost use Rattle.std.specs.Mem.{type_size};
 ghost use Rattle.reg_domain.specs.Domain.{Operations, IsSound};
 
-use crate::fact::Bounds;
-use ebpf_decode::{Relation, SignedSize, Size, Width};
-use interp::Arithmetic;
+use crate::bounds::Bounds;
+use instruction_set::{Relation, SignedSize, Size, Width};
 use program_interface::{Area, BlockSize};
+use program_meaning::Arithmetic;
 
 /// A fact about a register: a set of words, to which the register's word belongs.
 pub trait Domain: Copy {

@@ -1,23 +1,8 @@
-//! Facts about registers: what a domain is, and the domains of constants and of intervals.
+//! What a domain of facts about registers is, and the laws that a verifier needs of it.
 #![tactic(auto)]
 
-mod arithmetic;
-mod constants;
+mod bounds;
 mod domain;
-mod edge;
-mod fact;
-mod intervals;
-mod range;
 
-pub use constants::Constants;
+pub use bounds::Bounds;
 pub use domain::Domain;
-pub use ebpf_decode::{
-    Operation, Relation, SignExtension, SignedSize, Size, Swap, SwapSize, Width,
-};
-pub use fact::Bounds;
-pub use interp::Arithmetic;
-pub use intervals::Intervals;
-pub use program_interface::Area;
-
-#[cfg(test)]
-mod tests;

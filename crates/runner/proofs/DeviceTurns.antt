@@ -4,8 +4,8 @@ use Rattle.std.proofs.Math.ListN.{get_or-map}
 use Rattle.std.proofs.Math.Seq.{map-set_same}
 use Rattle.std.proofs.lemmas.List.{map-set, set-get_or}
 use Rattle.nvme_entry.specs.declared.command.RunCommand.{RunCommand}
-use Rattle.ebpf_decode.specs.declared.insn.Insn.{Insn}
-use Rattle.reg_domain.specs.Intervals.{intervals}
+use Rattle.instruction_set.specs.declared.insn.Insn.{Insn}
+use Rattle.interval_domain.specs.Intervals.{intervals}
 use Rattle.verifier.specs.Verified.{program_of, sizes_of}
 use Rattle.image_store.specs.Geometry.{Shape}
 use Rattle.image_store.specs.Namespace.{ZonedNamespace, shape, zone_at}
@@ -19,9 +19,9 @@ use Rattle.pushdown.specs.Machine.{added, keeping, place_left, slots_left, take_
 use Rattle.pushdown.specs.Outcome.{Turn, rest}
 use Rattle.pushdown.specs.State.{Place, State, place_at}
 use Rattle.pushdown.specs.View.{place_of, seen, to_come, turns_of}
-use Rattle.pushdown.specs.declared.event.Event.TheVariants as event
-use Rattle.pushdown.specs.declared.reply.Reply.{Reply}
-use Rattle.pushdown.specs.declared.reply.Reply.TheVariants as reply
+use Rattle.device_events.specs.declared.event.Event.TheVariants as event
+use Rattle.device_events.specs.declared.reply.Reply.{Reply}
+use Rattle.device_events.specs.declared.reply.Reply.TheVariants as reply
 use Rattle.pushdown.proofs.Foreign.{turned_is}
 use Rattle.pushdown.proofs.Needed.{events_keep_for_runs}
 use Rattle.runner.specs.Answered.{complete_reply}

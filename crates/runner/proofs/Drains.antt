@@ -3,11 +3,11 @@ use Rattle.std.proofs.Common.{◌≡◌, ℕ, suc, ◌+◌, ◌-◌, ◌*◌, �
 use Rattle.std.specs.Prelude.{is_some}
 use Rattle.std.proofs.lemmas.List.{length-take, take_at}
 use Rattle.std.proofs.lemmas.List.Quantifiers.{position-Some}
-use Rattle.reg_domain.specs.Intervals.{intervals}
+use Rattle.interval_domain.specs.Intervals.{intervals}
 use Rattle.image_store.specs.Namespace.{ZonedNamespace, zone_at}
 use Rattle.zns_commands.specs.Address.{zone_number}
 use Rattle.pushdown.specs.Admission.{task_of}
-use Rattle.pushdown.specs.Answers.{Taken, and_then}
+use Rattle.device_events.specs.Replies.{Taken, and_then}
 use Rattle.pushdown.specs.Draining.{AreLowest, HasDrained, StopsDraining, answers_to_turns, lowest_run, state_after_turns, turns_left}
 use Rattle.pushdown.specs.Machine.{turned}
 use Rattle.pushdown.specs.State.{State, place_at}

@@ -3,14 +3,15 @@ use Rattle.std.proofs.Common.{◌≡◌, ℕ, List, [], ◌∷◌, ◌++◌, ap,
 use Rattle.std.specs.Prelude.{Vec}
 use Rattle.std.specs.declared.alloc.Global.{Global}
 use Rattle.nvme_entry.specs.Entry.{decoded}
-use Rattle.reg_domain.specs.Intervals.{intervals}
-use Rattle.pushdown.specs.Answers.{Happening, Submission, Taken}
+use Rattle.interval_domain.specs.Intervals.{intervals}
+use Rattle.pushdown.specs.Answers.{Happening, Submission}
+use Rattle.device_events.specs.Replies.{Taken}
 use Rattle.pushdown.specs.Events.{HasHappened, Occurrence}
 use Rattle.pushdown.specs.Machine.{happens, submitted}
 use Rattle.pushdown.specs.Pushdown.{HasBytes}
 use Rattle.pushdown.specs.State.{State, new_state}
-use Rattle.pushdown.specs.declared.event.Event.{Event}
-use Rattle.pushdown.specs.declared.event.Event.TheVariants as event
+use Rattle.device_events.specs.declared.event.Event.{Event}
+use Rattle.device_events.specs.declared.event.Event.TheVariants as event
 use Rattle.pushdown.proofs.Bytes.{all_append}
 use Rattle.pushdown.proofs.Parts.{state_after-append}
 use Rattle.runner.specs.Answered.{HasSubmitted}

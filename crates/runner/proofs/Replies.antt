@@ -5,14 +5,15 @@ use Rattle.zone_state.specs.declared.status.Status.{Status}
 use Rattle.nvme_entry.specs.Completion.{completion_bytes}
 use Rattle.nvme_entry.specs.Entry.{identifier_of}
 use Rattle.nvme_entry.specs.declared.command.Command.{Command}
-use Rattle.reg_domain.specs.Intervals.{intervals}
+use Rattle.interval_domain.specs.Intervals.{intervals}
 use Rattle.zns_commands.specs.Answer.{refused_answer}
 use Rattle.zns_commands.specs.declared.answer.Answer.{Answer}
-use Rattle.pushdown.specs.Answers.{Happening, Submission, completed, data_length, plain, refused}
+use Rattle.pushdown.specs.Answers.{Happening, Submission, completed, plain, refused}
+use Rattle.device_events.specs.Replies.{data_length}
 use Rattle.pushdown.specs.Machine.{submitted}
 use Rattle.pushdown.specs.State.{State}
-use Rattle.pushdown.specs.declared.reply.Reply.{Reply}
-use Rattle.pushdown.specs.declared.reply.Reply.TheVariants as reply
+use Rattle.device_events.specs.declared.reply.Reply.{Reply}
+use Rattle.device_events.specs.declared.reply.Reply.TheVariants as reply
 use Rattle.runner.specs.Answered.{HasSubmitted, answered, complete_reply}
 
 module _ (sub : Submission) (asked : Result Command Status) (old new : State) (starved : Bool) (answer : Answer) (r : Reply) where

@@ -1,13 +1,13 @@
 -- Events that are done one after another, one event more.
 use Rattle.std.proofs.Common.{◌≡◌, ℕ, ◌+◌, ◌-◌, ◌<◌, List, [], ◌∷◌, ◌++◌, length, take, get_or, Option, refl, ap, sym, ◌∙◌, arith}
 use Rattle.std.proofs.lemmas.List.{length-map, length-take-le, map_push, take_at, take_more}
-use Rattle.reg_domain.specs.Intervals.{intervals}
-use Rattle.pushdown.specs.Answers.{Taken, and_then, data_length}
+use Rattle.interval_domain.specs.Intervals.{intervals}
+use Rattle.device_events.specs.Replies.{Taken, and_then, data_length}
 use Rattle.pushdown.specs.Events.{AreOf, HasHappened, HasServed, HasStopped, Occurrence, answers_to, state_after}
 use Rattle.pushdown.specs.Machine.{happens}
 use Rattle.pushdown.specs.State.{State}
-use Rattle.pushdown.specs.declared.event.Event.{Event}
-use Rattle.pushdown.specs.declared.reply.Reply.{Reply}
+use Rattle.device_events.specs.declared.event.Event.{Event}
+use Rattle.device_events.specs.declared.reply.Reply.{Reply}
 use Rattle.pushdown.proofs.Parts.{and_then-and_then, answers_to-append, state_after-append}
 
 -- a reply with the bytes that go with it

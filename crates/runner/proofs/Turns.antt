@@ -4,10 +4,10 @@ use Rattle.std.specs.Prelude.{◌⊎◌, ◌==◌}
 use Rattle.std.proofs.lemmas.Bool.Decides.{eqb_tells, leb_tells}
 use Rattle.std.proofs.lemmas.List.{length-take-le, length-drop}
 use Rattle.zone_state.specs.declared.status.TheConstants.Status.{SUCCESS}
-use Rattle.ebpf_decode.specs.declared.insn.Insn.{Insn}
-use Rattle.interp.specs.Run.{Run}
-use Rattle.interp.specs.declared.machine.run.End.{End}
-use Rattle.interp.specs.declared.machine.run.End.TheVariants as end
+use Rattle.instruction_set.specs.declared.insn.Insn.{Insn}
+use Rattle.program_meaning.specs.Run.{Run}
+use Rattle.program_meaning.specs.declared.end.End.{End}
+use Rattle.program_meaning.specs.declared.end.End.TheVariants as end
 use Rattle.emit_append.specs.Packer.{after_put, given_by_finish, given_by_put, new_packer}
 use Rattle.emit_append.specs.Packing.{packed, pending_of, released}
 use Rattle.emit_append.proofs.Continuing.{packing_goes_on}

@@ -6,15 +6,16 @@ use Rattle.nvme_entry.specs.declared.command.Command.{Command}
 use Rattle.nvme_entry.specs.declared.command.LoadCommand.{LoadCommand}
 use Rattle.nvme_entry.specs.declared.command.RunCommand.{RunCommand}
 use Rattle.nvme_entry.specs.declared.command.StandardCommand.{StandardCommand}
-use Rattle.reg_domain.specs.Intervals.{intervals}
+use Rattle.interval_domain.specs.Intervals.{intervals}
 use Rattle.image_store.specs.Namespace.{ZonedNamespace}
 use Rattle.zns_commands.specs.Meaning.{meaning}
 use Rattle.zns_commands.specs.declared.answer.Answer.{Answer}
-use Rattle.pushdown.specs.Answers.{Happening, Submission, Taken, completed, completion_reply, plain, refused}
+use Rattle.pushdown.specs.Answers.{Happening, Submission, completed, completion_reply, plain, refused}
+use Rattle.device_events.specs.Replies.{Taken}
 use Rattle.pushdown.specs.Machine.{commanded, giving_result, loading, starting, submitted}
 use Rattle.pushdown.specs.State.{State, holds_of}
-use Rattle.pushdown.specs.declared.reply.Reply.{Reply}
-use Rattle.pushdown.specs.declared.reply.Reply.TheVariants as reply
+use Rattle.device_events.specs.declared.reply.Reply.{Reply}
+use Rattle.device_events.specs.declared.reply.Reply.TheVariants as reply
 use Rattle.runner.specs.Held.{state_of}
 use Rattle.runner.specs.Ready.{IsReady}
 use Rattle.runner.specs.declared.active.Active.{Active as Held}

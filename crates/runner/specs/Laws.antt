@@ -1,6 +1,6 @@
 -- Laws of the states that events leave.
 use Rattle.std.specs.Prelude.{ℕ, ◌≡◌, List, Ok}
-use Rattle.reg_domain.specs.Intervals.{intervals}
+use Rattle.interval_domain.specs.Intervals.{intervals}
 use Rattle.image_store.specs.Blocks.{AreBytes}
 use Rattle.image_store.specs.Geometry.{Shape, IsShape}
 use Rattle.image_store.specs.Namespace.{ZonedNamespace, all_empty}

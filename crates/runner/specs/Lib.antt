@@ -6,6 +6,5 @@ pub mod Loading
 pub mod Ran
 pub mod ReadBack
 pub mod Ready
-pub mod Refusals
 pub mod Runs
 pub mod Turning

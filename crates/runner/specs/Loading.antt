@@ -4,9 +4,9 @@ use Rattle.zone_state.specs.declared.status.TheConstants.Status.{PROGRAM_REFUSED
 use Rattle.nvme_entry.specs.Checks.{first_refused}
 use Rattle.nvme_entry.specs.declared.command.LoadCommand.{LoadCommand}
 use Rattle.ebpf_decode.specs.Reading.{decoded}
-use Rattle.ebpf_decode.specs.declared.insn.Insn.{Insn}
+use Rattle.instruction_set.specs.declared.insn.Insn.{Insn}
 use Rattle.program_interface.specs.RunSizes.{Sizes}
-use Rattle.reg_domain.specs.Intervals.{intervals}
+use Rattle.interval_domain.specs.Intervals.{intervals}
 use Rattle.verifier.specs.Accepted.{refusal}
 use Rattle.zns_commands.specs.declared.answer.Answer.{Answer}
 use Rattle.pushdown.specs.Answers.{Submission}

@@ -1,5 +1,5 @@
 -- What is written is read back, in each state that events leave.
-use Rattle.reg_domain.specs.Intervals.{intervals}
+use Rattle.interval_domain.specs.Intervals.{intervals}
 use Rattle.pushdown.specs.ReadBack.{AppendReadsBack, RunReadsBack, WriteReadsBack}
 use Rattle.pushdown.specs.State.{State}
 use Rattle.runner.specs.Ready.{IsReached}

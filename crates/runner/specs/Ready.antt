@@ -1,7 +1,7 @@
 -- What holds of all that a device has.
 use Rattle.std.specs.Prelude.{ℕ, ◌≡◌, ◌≢◌, ◌<◌, ◌≤◌, ◌+◌, ◌*◌, ◌^◌, List, length, get_or, Option, Some, None}
 use Rattle.program_interface.specs.declared.block_size.TheConstants.{LARGEST_BLOCK}
-use Rattle.reg_domain.specs.Intervals.{intervals}
+use Rattle.interval_domain.specs.Intervals.{intervals}
 use Rattle.verifier.specs.Verified.{sizes_of}
 use Rattle.image_store.specs.Namespace.{ZonedNamespace, zone_at, IsNamespace}
 use Rattle.zns_commands.specs.Address.{zone_number, place_in}

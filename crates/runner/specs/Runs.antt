@@ -1,7 +1,7 @@
 -- What holds of runs, in each state that events leave.
 use Rattle.std.specs.Prelude.{ℕ, Bool, List, Vec}
 use Rattle.std.specs.declared.alloc.Global.{Global}
-use Rattle.reg_domain.specs.Intervals.{intervals}
+use Rattle.interval_domain.specs.Intervals.{intervals}
 use Rattle.nvme_entry.specs.declared.command.RunCommand.{RunCommand}
 use Rattle.pushdown.specs.AnyOrder.{AreSameTurns, ComeToTheSame}
 use Rattle.pushdown.specs.Events.{Occurrence}

@@ -1,8 +1,8 @@
 -- What a turn does to a run as a device holds it.
 use Rattle.std.specs.Prelude.{ℕ, ◌≡◌, ◌+◌, ◌%◌, ◌≤◌, true, List, [], ◌∷◌, length, get_or, set, Option, Some, None}
 use Rattle.zone_state.specs.State.{is_open}
-use Rattle.ebpf_decode.specs.declared.insn.Insn.{Insn}
-use Rattle.interp.specs.Run.{Run}
+use Rattle.instruction_set.specs.declared.insn.Insn.{Insn}
+use Rattle.program_meaning.specs.Run.{Run}
 use Rattle.emit_append.specs.Packer.{PackerState}
 use Rattle.verifier.specs.Verified.{program_of, sizes_of}
 use Rattle.image_store.specs.Namespace.{ZonedNamespace, zone_at}
@@ -14,7 +14,7 @@ use Rattle.pushdown.specs.Laws.{RoomIn}
 use Rattle.pushdown.specs.Machine.{added, turned}
 use Rattle.pushdown.specs.State.{State}
 use Rattle.pushdown.specs.View.{Active, turns_of}
-use Rattle.pushdown.specs.declared.reply.Reply.{Reply}
+use Rattle.device_events.specs.declared.reply.Reply.{Reply}
 use Rattle.runner.specs.Held.{active_of, state_of}
 use Rattle.runner.specs.Ready.{Fits, IsFor, IsReady}
 use Rattle.runner.specs.declared.active.Active.{Active as Held}

@@ -4,8 +4,9 @@ ghost use Rattle.std.specs.Prelude.{◌≡◌, ◌<◌, ◌≤◌, ◌^◌, leng
 ghost use Rattle.pushdown.specs.BlockRuns.{run_over};
 ghost use Rattle.runner.specs.Ran.{HasRun};
 
-use interp::{Exit, Machine, TrapFree};
+use interp::{Exit, Machine};
 use program_interface::{CONTEXT_BYTES, SCRATCH_BYTES};
+use program_meaning::TrapFree;
 
 /// Runs a program that never traps over a block. Its group is at the front of `group`.
 pub fn run_block<V: TrapFree>(

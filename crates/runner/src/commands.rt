@@ -7,9 +7,9 @@ ghost use Rattle.runner.specs.Held.{state_of};
 ghost use Rattle.runner.specs.declared.active.Active.{Active as Held};
 
 use crate::loaded::LoadedProgram;
+use device_events::Reply;
 use nvme_entry::{Completion, PROGRAM_SLOTS, ProgramSlot, Status};
 use program_interface::SCRATCH_BYTES;
-use pushdown::Reply;
 use zns_commands::Answer;
 
 /// Puts scratch bytes at the front.

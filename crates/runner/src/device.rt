@@ -1,26 +1,25 @@
 //! The device, to which events happen.
 
 ghost use Rattle.std.specs.Prelude.{◌≡◌, ◌≤◌, ◌<◌, ◌+◌, ◌*◌, ◌^◌, length, take, drop, OnOk, IfErr};
-ghost use Rattle.reg_domain.specs.Intervals.{intervals};
+ghost use Rattle.interval_domain.specs.Intervals.{intervals};
 ghost use Rattle.image_store.specs.Blocks.{AreBytes};
-ghost use Rattle.pushdown.specs.Answers.{and_then, data_length};
+ghost use Rattle.device_events.specs.Replies.{and_then, data_length};
 ghost use Rattle.pushdown.specs.Draining.{HasDrained, StopsDraining, lowest_run, turns_left};
 ghost use Rattle.pushdown.specs.Events.{HasHappened, HasServed, HasStopped};
 ghost use Rattle.pushdown.specs.Machine.{failed};
 ghost use Rattle.pushdown.specs.Pushdown.{HasBytes};
 ghost use Rattle.pushdown.specs.State.{new_state};
 ghost use Rattle.runner.specs.Ready.{IsReached};
-ghost use Rattle.runner.specs.Refusals.{CountsRefusals};
+ghost use Rattle.device_events.specs.Refusals.{CountsRefusals};
 
 use crate::active::Active;
 use crate::loaded::LoadedProgram;
-use crate::out::Out;
 use crate::places::{holds, lowest_run as lowest};
 use crate::submission::{Submission, submit};
 use crate::turn::turn;
+use device_events::{Event, Out, Reply};
 use nvme_entry::{MOST_TRANSFER, PROGRAM_SLOTS};
 use program_interface::LARGEST_BLOCK;
-use pushdown::{Event, Reply};
 use std::alloc::Global;
 use std::marker::Model;
 use zns_commands::{FaultRefused, FaultState, Image, Namespace};

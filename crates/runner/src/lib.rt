@@ -9,7 +9,6 @@ mod device;
 pub mod laws;
 mod load;
 mod loaded;
-mod out;
 mod places;
 mod submission;
 #[cfg(test)]
@@ -17,5 +16,4 @@ mod tests;
 mod turn;
 
 pub use device::{Device, Stopped};
-pub use out::{Out, Refusal};
-pub use pushdown::{Event, Reply};
+pub use device_events::{Event, Out, Refusal, Reply};

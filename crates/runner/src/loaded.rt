@@ -3,8 +3,8 @@
 ghost use Rattle.std.specs.Prelude.{◌≡◌};
 ghost use Rattle.pushdown.specs.BlockRuns.{no_scratch};
 
+use interval_domain::Intervals;
 use program_interface::SCRATCH_BYTES;
-use reg_domain::Intervals;
 use verifier::Verified;
 
 /// A program that a slot holds, and its result: the scratch bytes that its last run that succeeded left,

@@ -9,6 +9,8 @@ use std::test::Fail;
 use zns_commands::{FaultState, Geometry, Image, Limits, MOST_TRANSFER};
 use zone_state::ZoneState;
 
+mod accepting;
+
 const BLOCK: usize = 512;
 
 /// The blocks of a zone.

@@ -4,7 +4,7 @@ ghost use Rattle.std.specs.Prelude.{◌≡◌, ◌<◌, ◌≤◌, ◌+◌, ◌^
 ghost use Rattle.program_interface.specs.declared.block_size.TheConstants.{LARGEST_BLOCK};
 ghost use Rattle.emit_append.specs.Packer.{after_put, given_by_finish, given_by_put, new_packer};
 ghost use Rattle.emit_append.specs.Packing.{padded};
-ghost use Rattle.pushdown.specs.Answers.{data_length};
+ghost use Rattle.device_events.specs.Replies.{data_length};
 ghost use Rattle.pushdown.specs.BlockRuns.{scratch_after};
 ghost use Rattle.pushdown.specs.Machine.{added};
 ghost use Rattle.runner.specs.Held.{active_of, state_of};
@@ -16,10 +16,11 @@ use crate::active::Active;
 use crate::block_run::run_block;
 use crate::commands::complete;
 use crate::loaded::LoadedProgram;
-use interp::{Exit, TrapFree};
+use device_events::Reply;
+use interp::Exit;
 use nvme_entry::{PROGRAM_SLOTS, Status};
 use program_interface::{Context, LARGEST_BLOCK};
-use pushdown::Reply;
+use program_meaning::TrapFree;
 use zns_commands::{Answer, Namespace};
 use zone_resources::RUNS;
 

@@ -3,11 +3,11 @@ use Rattle.std.proofs.Common.{ℕ, ℤ, ◌+◌, ◌≡◌, ◌<◌, ◌≤◌, 
 use Rattle.std.proofs.Math.Facts.{yes_leb, yes_ltb}
 use Rattle.std.proofs.lemmas.Bool.Decides.{nat_tests}
 use Rattle.std.proofs.lemmas.Option.{slice_get_within}
-use Rattle.ebpf_decode.specs.Instruction.{distance_of, target}
-use Rattle.ebpf_decode.specs.Program.{instruction_in}
-use Rattle.ebpf_decode.specs.declared.insn.Insn.{Insn}
-use Rattle.ebpf_decode.specs.declared.insn.Insn.TheVariants.{LoadImmediate, Load, LoadSigned, StoreImmediate, StoreRegister, Arithmetic, Negate, MoveSigned, SwapBytes, Jump, JumpLong, Branch, Call, Exit}
-use Rattle.interp.specs.Cause.{is_emit}
+use Rattle.instruction_set.specs.Instruction.{distance_of, target}
+use Rattle.instruction_set.specs.Program.{instruction_in}
+use Rattle.instruction_set.specs.declared.insn.Insn.{Insn}
+use Rattle.instruction_set.specs.declared.insn.Insn.TheVariants.{LoadImmediate, Load, LoadSigned, StoreImmediate, StoreRegister, Arithmetic, Negate, MoveSigned, SwapBytes, Jump, JumpLong, Branch, Call, Exit}
+use Rattle.program_meaning.specs.Cause.{is_emit}
 use Rattle.program_interface.specs.RunSizes.{Sizes}
 use Rattle.reg_domain.specs.Domain.{Operations}
 use Rattle.verifier.specs.Accepted.{all_reasons, begins_at, fails, leads_nowhere, most_emitted, reason_of, turns_away}

@@ -3,8 +3,8 @@ use Rattle.std.proofs.Common.{ℕ, ℤ, ◌≡◌, ◌<◌, ◌==◌, List, leng
 use Rattle.std.specs.Ordering.{int_eq}
 use Rattle.std.specs.Prelude.{if◌then◌else◌}
 use Rattle.std.proofs.lemmas.Bool.Decides.{nat_tests}
-use Rattle.ebpf_decode.specs.Instruction.{distance_of, target}
-use Rattle.ebpf_decode.specs.declared.insn.Insn.{Insn}
+use Rattle.instruction_set.specs.Instruction.{distance_of, target}
+use Rattle.instruction_set.specs.declared.insn.Insn.{Insn}
 use Rattle.reg_domain.specs.Domain.{Operations}
 use Rattle.verifier.specs.Facts.{facts_at_target, facts_behind, gives, leads, merge, slot_behind}
 use Rattle.verifier.specs.declared.facts.Facts.{Facts}

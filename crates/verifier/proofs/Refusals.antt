@@ -1,7 +1,7 @@
 -- The first refusal of a program.
 use Rattle.std.proofs.Common.{◌≡◌, ℕ, zero, suc, ◌+◌, ◌-◌, ◌<◌, List, length, get_or, Option, Some, None, add-zero, add-one, add-suc, arith, subst, ap, ◌∙◌}
-use Rattle.ebpf_decode.specs.Program.{instruction_at}
-use Rattle.ebpf_decode.specs.declared.insn.Insn.{Insn}
+use Rattle.instruction_set.specs.Program.{instruction_at}
+use Rattle.instruction_set.specs.declared.insn.Insn.{Insn}
 use Rattle.program_interface.specs.RunSizes.{Sizes}
 use Rattle.reg_domain.specs.Domain.{Operations}
 use Rattle.verifier.specs.Accepted.{or_else, reason_of, refusal_at, refusal_below, refused}

@@ -1,10 +1,10 @@
 -- Which programs are accepted, and why others aren't (profile).
 use Rattle.std.specs.Prelude.{ℕ, ℤ, zero, suc, Bool, true, false, not, is_some, is_none, ◌+◌, ◌==◌, ◌&&◌, ◌||◌, nat_lt, List, [], ◌∷◌, length, find, Option, Some, None, if◌then◌else◌, pos, int_lt}
-use Rattle.ebpf_decode.specs.Instruction.{distance_of, signed_size_of, size_of, target, writes}
-use Rattle.ebpf_decode.specs.Program.{instruction_at, instruction_in}
-use Rattle.ebpf_decode.specs.declared.insn.Insn.{Insn}
-use Rattle.ebpf_decode.specs.declared.insn.Insn.TheVariants.{Load, LoadSigned, StoreImmediate, StoreRegister, Jump, JumpLong, Exit}
-use Rattle.interp.specs.Cause.{calls_unknown, is_emit, slot_in}
+use Rattle.instruction_set.specs.Instruction.{distance_of, signed_size_of, size_of, target, writes}
+use Rattle.instruction_set.specs.Program.{instruction_at, instruction_in}
+use Rattle.instruction_set.specs.declared.insn.Insn.{Insn}
+use Rattle.instruction_set.specs.declared.insn.Insn.TheVariants.{Load, LoadSigned, StoreImmediate, StoreRegister, Jump, JumpLong, Exit}
+use Rattle.program_meaning.specs.Cause.{calls_unknown, is_emit, slot_in}
 use Rattle.program_interface.specs.Area.{is_writable}
 use Rattle.program_interface.specs.declared.area.Area.{Area}
 use Rattle.program_interface.specs.RunSizes.{Sizes}

@@ -1,11 +1,11 @@
 -- What `verify` answers with.
 use Rattle.std.specs.Prelude.{ℕ, ◌≡◌, ◌<◌, ◌+◌, ◌^◌, ◌≤ℤ◌, ◌<ℤ◌, pos, false, FitsSigned, List, Option, Some, IfSome}
 use Rattle.std.specs.Int.{w16}
-use Rattle.ebpf_decode.specs.Instruction.{distance_of, target}
-use Rattle.ebpf_decode.specs.Program.{instruction_at}
-use Rattle.ebpf_decode.specs.Spelling.{first_slot}
-use Rattle.ebpf_decode.specs.declared.insn.Insn.{Insn}
-use Rattle.ebpf_decode.specs.declared.insn.Insn.TheVariants.{Call}
+use Rattle.instruction_set.specs.Instruction.{distance_of, target}
+use Rattle.instruction_set.specs.Program.{instruction_at}
+use Rattle.instruction_set.specs.Spelling.{first_slot}
+use Rattle.instruction_set.specs.declared.insn.Insn.{Insn}
+use Rattle.instruction_set.specs.declared.insn.Insn.TheVariants.{Call}
 use Rattle.reg_domain.specs.Domain.{Operations}
 use Rattle.verifier.specs.Accepted.{most_emitted, turns_away}
 use Rattle.verifier.specs.Facts.{slot_behind}

@@ -1,17 +1,17 @@
 -- What is known at each slot of a program, by the operations of a domain (profile).
 use Rattle.std.specs.Prelude.{ℕ, ℤ, zero, suc, Bool, true, false, ◌+◌, ◌%◌, ◌^◌, ◌==◌, ◌++◌, List, [], ◌∷◌, drop, replicate, get_or, set, max, Option, Some, None, if◌then◌else◌, pos}
 use Rattle.std.specs.Ordering.{int_eq}
-use Rattle.ebpf_decode.specs.Instruction.{distance_of, immediate_word, target}
-use Rattle.ebpf_decode.specs.Program.{instruction_at}
-use Rattle.ebpf_decode.specs.declared.insn.Insn.{Insn}
-use Rattle.ebpf_decode.specs.declared.insn.Insn.TheVariants.{LoadImmediate, Load, LoadSigned, StoreImmediate, StoreRegister, Arithmetic, Negate, MoveSigned, SwapBytes, Jump, JumpLong, Branch, Call, Exit}
-use Rattle.ebpf_decode.specs.declared.insn.Source.{Source}
-use Rattle.ebpf_decode.specs.declared.insn.Source.TheVariants.{Immediate, Register}
-use Rattle.ebpf_decode.specs.declared.operation.Relation.{Relation}
-use Rattle.ebpf_decode.specs.declared.operation.Width.{Width}
-use Rattle.interp.specs.Word.{low_bits}
+use Rattle.instruction_set.specs.Instruction.{distance_of, immediate_word, target}
+use Rattle.instruction_set.specs.Program.{instruction_at}
+use Rattle.instruction_set.specs.declared.insn.Insn.{Insn}
+use Rattle.instruction_set.specs.declared.insn.Insn.TheVariants.{LoadImmediate, Load, LoadSigned, StoreImmediate, StoreRegister, Arithmetic, Negate, MoveSigned, SwapBytes, Jump, JumpLong, Branch, Call, Exit}
+use Rattle.instruction_set.specs.declared.insn.Source.{Source}
+use Rattle.instruction_set.specs.declared.insn.Source.TheVariants.{Immediate, Register}
+use Rattle.instruction_set.specs.declared.operation.Relation.{Relation}
+use Rattle.instruction_set.specs.declared.operation.Width.{Width}
+use Rattle.program_meaning.specs.Word.{low_bits}
 use Rattle.program_interface.specs.declared.area.Area.TheVariants.{Context, Block, Stack, Scratch}
-use Rattle.interp.specs.declared.word.Arithmetic.TheVariants as word
+use Rattle.program_meaning.specs.declared.word.Arithmetic.TheVariants as word
 use Rattle.program_interface.specs.declared.area.TheConstants.{STACK_BYTES}
 use Rattle.reg_domain.specs.Domain.{Operations}
 use Rattle.verifier.specs.declared.facts.Facts.{Facts}

@@ -2,9 +2,9 @@
 use Rattle.std.proofs.Common.{ℕ, zero, suc, ◌≡◌, Bool, true, false, List, [], ◌∷◌, Option, Some, None, subst}
 use Rattle.std.specs.List.{AllByRecursion}
 use Rattle.std.specs.Prelude.{if◌then◌else◌}
-use Rattle.ebpf_decode.specs.Program.{IsProgram, instruction_at, is_wide, slots_of}
-use Rattle.ebpf_decode.specs.Spelling.{Fits}
-use Rattle.ebpf_decode.specs.declared.insn.Insn.{Insn}
+use Rattle.instruction_set.specs.Program.{IsProgram, instruction_at, is_wide, slots_of}
+use Rattle.instruction_set.specs.Spelling.{Fits}
+use Rattle.instruction_set.specs.declared.insn.Insn.{Insn}
 use Rattle.verifier.specs.Answer.{HasShortOffsets}
 
 -- each instruction that begins at some slot fits

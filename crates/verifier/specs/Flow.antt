@@ -3,10 +3,10 @@ use Rattle.std.specs.Prelude.{ℕ, zero, suc, ◌≡◌, ◌+◌, ◌-◌, ◌<�
 use Rattle.std.proofs.Common.{arith, add-zero, add-suc, subst}
 use Rattle.std.proofs.lemmas.Bool.{eq-eqb}
 use Rattle.std.specs.List.{AllByRecursion}
-use Rattle.ebpf_decode.specs.Instruction.{distance_of}
-use Rattle.ebpf_decode.specs.Program.{instruction_at}
-use Rattle.ebpf_decode.specs.declared.insn.Insn.{Insn}
-use Rattle.interp.specs.State.{IsState, State}
+use Rattle.instruction_set.specs.Instruction.{distance_of}
+use Rattle.instruction_set.specs.Program.{instruction_at}
+use Rattle.instruction_set.specs.declared.insn.Insn.{Insn}
+use Rattle.program_meaning.specs.State.{IsState, State}
 use Rattle.reg_domain.specs.Domain.{IsSound, Operations}
 use Rattle.verifier.specs.Facts.{facts_at, facts_at_target, facts_behind, given_below, gives, join_registers, leads, merge, slot_behind}
 use Rattle.verifier.specs.KnownFacts.{AreFacts, SomeAreFacts, ahead_given, behind_given, given_facts, known_facts, merge_facts}

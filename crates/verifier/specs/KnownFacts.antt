@@ -3,18 +3,18 @@ use Rattle.std.proofs.Common.{ℕ, zero, suc, ◌≡◌, ◌<◌, ◌%◌, ℤ, 
 use Rattle.std.proofs.Math.Nat.{mod-lt}
 use Rattle.std.specs.List.{AllByRecursion}
 use Rattle.std.specs.Prelude.{◌==◌, if◌then◌else◌}
-use Rattle.ebpf_decode.specs.Instruction.{distance_of, immediate_word}
-use Rattle.ebpf_decode.specs.Program.{instruction_at}
-use Rattle.ebpf_decode.specs.declared.insn.Insn.{Insn}
-use Rattle.ebpf_decode.specs.declared.insn.Insn.TheVariants.{LoadImmediate, Load, LoadSigned, StoreImmediate, StoreRegister, Arithmetic, Negate, MoveSigned, SwapBytes, Jump, JumpLong, Branch, Call, Exit}
-use Rattle.ebpf_decode.specs.declared.insn.Source.{Source}
-use Rattle.ebpf_decode.specs.declared.insn.Source.TheVariants.{Immediate, Register}
-use Rattle.ebpf_decode.specs.declared.operation.Relation.{Relation}
-use Rattle.ebpf_decode.specs.declared.operation.Width.{Width}
-use Rattle.ebpf_decode.specs.declared.operation.Width.TheVariants.{Bits32, Bits64}
-use Rattle.interp.specs.Word.{low_bits}
+use Rattle.instruction_set.specs.Instruction.{distance_of, immediate_word}
+use Rattle.instruction_set.specs.Program.{instruction_at}
+use Rattle.instruction_set.specs.declared.insn.Insn.{Insn}
+use Rattle.instruction_set.specs.declared.insn.Insn.TheVariants.{LoadImmediate, Load, LoadSigned, StoreImmediate, StoreRegister, Arithmetic, Negate, MoveSigned, SwapBytes, Jump, JumpLong, Branch, Call, Exit}
+use Rattle.instruction_set.specs.declared.insn.Source.{Source}
+use Rattle.instruction_set.specs.declared.insn.Source.TheVariants.{Immediate, Register}
+use Rattle.instruction_set.specs.declared.operation.Relation.{Relation}
+use Rattle.instruction_set.specs.declared.operation.Width.{Width}
+use Rattle.instruction_set.specs.declared.operation.Width.TheVariants.{Bits32, Bits64}
+use Rattle.program_meaning.specs.Word.{low_bits}
 use Rattle.program_interface.specs.declared.area.Area.TheVariants.{Context, Block, Stack, Scratch}
-use Rattle.interp.specs.declared.word.Arithmetic.TheVariants as word
+use Rattle.program_meaning.specs.declared.word.Arithmetic.TheVariants as word
 use Rattle.reg_domain.specs.Domain.{GiveFacts, Operations}
 use Rattle.verifier.specs.Facts.{along, compared_fact, entry_facts, fact, facts_at, facts_at_target, facts_behind, given_below, gives, is_register, join_registers, leads, merge, slot_behind, source_fact, with_both, with_fact}
 use Rattle.verifier.specs.declared.facts.Facts.{Facts}

@@ -1,8 +1,8 @@
 -- Laws of the definitions.
 use Rattle.std.specs.Prelude.{◌≡◌, ◌<◌, List, length, Option, Some, None}
-use Rattle.ebpf_decode.specs.Program.{IsProgram}
-use Rattle.ebpf_decode.specs.declared.insn.Insn.{Insn}
-use Rattle.interp.specs.TrapFree.{NeverTraps}
+use Rattle.instruction_set.specs.Program.{IsProgram}
+use Rattle.instruction_set.specs.declared.insn.Insn.{Insn}
+use Rattle.program_meaning.specs.TrapFree.{NeverTraps}
 use Rattle.program_interface.specs.RunSizes.{AreSizes, Sizes}
 use Rattle.program_interface.specs.declared.TheConstants.{MOST_SLOTS}
 use Rattle.reg_domain.specs.Domain.{Operations}

@@ -1,8 +1,8 @@
 -- When a state meets what is known of it.
 use Rattle.std.specs.Prelude.{ℕ, Bool, true, false, ◌≡◌, ◌<◌, ◌≤◌, List, [], ◌∷◌, length, Option, Some, None}
-use Rattle.ebpf_decode.specs.Instruction.{distance_of}
-use Rattle.ebpf_decode.specs.declared.insn.Insn.{Insn}
-use Rattle.interp.specs.State.{State}
+use Rattle.instruction_set.specs.Instruction.{distance_of}
+use Rattle.instruction_set.specs.declared.insn.Insn.{Insn}
+use Rattle.program_meaning.specs.State.{State}
 use Rattle.reg_domain.specs.Domain.{Operations}
 use Rattle.verifier.specs.Facts.{facts_at_target, facts_behind, leads, slot_behind}
 use Rattle.verifier.specs.declared.facts.Facts.{Facts}

@@ -3,21 +3,21 @@ use Rattle.std.proofs.Common.{ℕ, ℤ, pos, negsuc, ◌+◌, ◌≡◌, ◌<◌
 use Rattle.std.proofs.Math.Nat.{mod-lt}
 use Rattle.std.proofs.lemmas.List.{length-take}
 use Rattle.std.proofs.lemmas.Cmp.{int_eq_equiv}
-use Rattle.ebpf_decode.specs.Instruction.{distance_of, signed_size_of, size_of, target}
-use Rattle.ebpf_decode.specs.declared.insn.Insn.{Insn}
-use Rattle.ebpf_decode.specs.declared.insn.Insn.TheVariants.{LoadImmediate, Load, LoadSigned, StoreImmediate, StoreRegister, Arithmetic, Negate, MoveSigned, SwapBytes, Jump, JumpLong, Branch, Call, Exit}
-use Rattle.ebpf_decode.specs.declared.insn.Source.{Source}
-use Rattle.ebpf_decode.specs.declared.insn.Source.TheVariants.{Immediate, Register}
-use Rattle.ebpf_decode.specs.declared.operation.Relation.{Relation}
-use Rattle.ebpf_decode.specs.declared.operation.Width.{Width}
-use Rattle.interp.proofs.MemoryLemmas.{loaded_fits}
-use Rattle.interp.specs.Cause.{is_exit, next_slot}
-use Rattle.interp.specs.Effect.{address_from, bytes_at, emitted, operand, put, register}
-use Rattle.interp.specs.Memory.{Memory, bytes_from, loaded, place_of}
-use Rattle.interp.specs.State.{IsState, State}
-use Rattle.interp.specs.Step.{after, slot_number}
-use Rattle.interp.specs.Word.{is_taken}
-use Rattle.interp.specs.declared.word.Arithmetic.TheVariants as word
+use Rattle.instruction_set.specs.Instruction.{distance_of, signed_size_of, size_of, target}
+use Rattle.instruction_set.specs.declared.insn.Insn.{Insn}
+use Rattle.instruction_set.specs.declared.insn.Insn.TheVariants.{LoadImmediate, Load, LoadSigned, StoreImmediate, StoreRegister, Arithmetic, Negate, MoveSigned, SwapBytes, Jump, JumpLong, Branch, Call, Exit}
+use Rattle.instruction_set.specs.declared.insn.Source.{Source}
+use Rattle.instruction_set.specs.declared.insn.Source.TheVariants.{Immediate, Register}
+use Rattle.instruction_set.specs.declared.operation.Relation.{Relation}
+use Rattle.instruction_set.specs.declared.operation.Width.{Width}
+use Rattle.program_meaning.proofs.MemoryLemmas.{loaded_fits}
+use Rattle.program_meaning.specs.Cause.{is_exit, next_slot}
+use Rattle.program_meaning.specs.Effect.{address_from, bytes_at, emitted, operand, put, register}
+use Rattle.program_meaning.specs.Memory.{Memory, bytes_from, loaded, place_of}
+use Rattle.program_meaning.specs.State.{IsState, State}
+use Rattle.program_meaning.specs.Step.{after, slot_number}
+use Rattle.program_meaning.specs.Word.{is_taken}
+use Rattle.program_meaning.specs.declared.word.Arithmetic.TheVariants as word
 use Rattle.program_interface.specs.Frame.{frame}
 use Rattle.program_interface.specs.RunSizes.{Sizes}
 use Rattle.reg_domain.specs.Domain.{BelongAfter, Belongs, IsSound, Operations}

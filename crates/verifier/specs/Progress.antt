@@ -3,19 +3,19 @@ use Rattle.std.specs.Prelude.{ℕ, zero, suc, ◌≡◌, ◌+◌, ◌<◌, ◌�
 use Rattle.std.proofs.Common.{arith, refl}
 use Rattle.std.proofs.Math.Nat.{le_of_lt}
 use Rattle.std.proofs.lemmas.List.Sums.{sum_by-cons}
-use Rattle.ebpf_decode.specs.Instruction.{immediate_word}
-use Rattle.ebpf_decode.specs.declared.insn.Insn.{Insn}
-use Rattle.ebpf_decode.specs.declared.insn.Insn.TheVariants.{LoadImmediate, Load, LoadSigned, StoreImmediate, StoreRegister, Arithmetic, Negate, MoveSigned, SwapBytes, Jump, JumpLong, Branch, Call, Exit}
-use Rattle.ebpf_decode.specs.declared.operation.Size.{Size}
-use Rattle.ebpf_decode.specs.declared.operation.Size.TheVariants.{Byte, HalfWord, Word, DoubleWord}
-use Rattle.interp.proofs.MemoryLemmas.{fits_area, length-written}
-use Rattle.interp.specs.Effect.{address_from, effect, register}
-use Rattle.interp.specs.Memory.{IsMemory, Memory, bytes_of, place_of, stored, stored_at, with_bytes, written}
-use Rattle.interp.specs.State.{IsState, State}
-use Rattle.interp.specs.Step.{IsAt}
+use Rattle.instruction_set.specs.Instruction.{immediate_word}
+use Rattle.instruction_set.specs.declared.insn.Insn.{Insn}
+use Rattle.instruction_set.specs.declared.insn.Insn.TheVariants.{LoadImmediate, Load, LoadSigned, StoreImmediate, StoreRegister, Arithmetic, Negate, MoveSigned, SwapBytes, Jump, JumpLong, Branch, Call, Exit}
+use Rattle.instruction_set.specs.declared.operation.Size.{Size}
+use Rattle.instruction_set.specs.declared.operation.Size.TheVariants.{Byte, HalfWord, Word, DoubleWord}
+use Rattle.program_meaning.proofs.MemoryLemmas.{fits_area, length-written}
+use Rattle.program_meaning.specs.Effect.{address_from, effect, register}
+use Rattle.program_meaning.specs.Memory.{IsMemory, Memory, bytes_of, place_of, stored, stored_at, with_bytes, written}
+use Rattle.program_meaning.specs.State.{IsState, State}
+use Rattle.program_meaning.specs.Step.{IsAt}
 use Rattle.program_interface.specs.declared.area.Area.{Area}
 use Rattle.program_interface.specs.declared.area.Area.TheVariants.{Context, Block, Stack, Scratch}
-use Rattle.interp.specs.declared.memory.Place.{Place}
+use Rattle.program_meaning.specs.declared.place.Place.{Place}
 
 -- ---- a step keeps the block's length
 block_with : (m : Memory) (area : Area) (xs : List ℕ) → length xs ≡ length (bytes_of m area)

@@ -2,14 +2,14 @@
 use Rattle.std.proofs.Common.{ℕ, zero, suc, ◌%◌, ◌≡◌, ◌<◌, ◌^◌, List, [], ◌∷◌, ◌++◌, get_or, set, drop, replicate, true, refl, subst, arith}
 use Rattle.std.proofs.lemmas.Bool.{eqb-true}
 use Rattle.std.proofs.lemmas.List.{set-get_or}
-use Rattle.ebpf_decode.specs.Instruction.{immediate_word}
-use Rattle.ebpf_decode.specs.declared.insn.Source.{Source}
-use Rattle.ebpf_decode.specs.declared.insn.Source.TheVariants.{Immediate, Register}
-use Rattle.ebpf_decode.specs.declared.operation.Relation.{Relation}
-use Rattle.ebpf_decode.specs.declared.operation.Width.{Width}
-use Rattle.ebpf_decode.specs.declared.operation.Width.TheVariants.{Bits32, Bits64}
-use Rattle.interp.specs.Effect.{operand}
-use Rattle.interp.specs.Word.{is_taken, low_bits}
+use Rattle.instruction_set.specs.Instruction.{immediate_word}
+use Rattle.instruction_set.specs.declared.insn.Source.{Source}
+use Rattle.instruction_set.specs.declared.insn.Source.TheVariants.{Immediate, Register}
+use Rattle.instruction_set.specs.declared.operation.Relation.{Relation}
+use Rattle.instruction_set.specs.declared.operation.Width.{Width}
+use Rattle.instruction_set.specs.declared.operation.Width.TheVariants.{Bits32, Bits64}
+use Rattle.program_meaning.specs.Effect.{operand}
+use Rattle.program_meaning.specs.Word.{is_taken, low_bits}
 use Rattle.reg_domain.specs.Domain.{Belongs, IsSound, Operations}
 use Rattle.verifier.specs.Facts.{compared_fact, fact, is_register, source_fact}
 use Rattle.verifier.specs.KnownFacts.{AreFacts, fact_is, immediate_fits, low_fits}

@@ -2,16 +2,16 @@
 use Rattle.std.specs.Prelude.{ℕ, zero, suc, ◌≡◌, ◌+◌, ◌<◌, ◌≤◌, Bool, true, false, List, length, drop, count_by, is_some, Option, Some, None}
 use Rattle.std.proofs.Common.{arith, inl, inr, lit<, refl, subst, ◌∙◌}
 use Rattle.std.proofs.lemmas.Bool.{cases_lt}
-use Rattle.ebpf_decode.specs.Program.{instruction_at, instruction_count}
-use Rattle.ebpf_decode.specs.declared.insn.Insn.{Insn}
-use Rattle.interp.proofs.Entry.{begins}
-use Rattle.interp.proofs.StateLemmas.{kept, leads, within_limit}
-use Rattle.interp.specs.Cause.{is_exit, least_cause}
-use Rattle.interp.specs.Effect.{register}
-use Rattle.interp.specs.Run.{Run, continued, run_of}
-use Rattle.interp.specs.State.{IsState, State, entry}
-use Rattle.interp.specs.Step.{Ends, Goes, IsAt, after, decided, step_at, step_of}
-use Rattle.interp.specs.declared.cause.Cause.{Cause}
+use Rattle.instruction_set.specs.Program.{instruction_at, instruction_count}
+use Rattle.instruction_set.specs.declared.insn.Insn.{Insn}
+use Rattle.program_meaning.proofs.Entry.{begins}
+use Rattle.program_meaning.proofs.StateLemmas.{kept, leads, within_limit}
+use Rattle.program_meaning.specs.Cause.{is_exit, least_cause}
+use Rattle.program_meaning.specs.Effect.{register}
+use Rattle.program_meaning.specs.Run.{Run, continued, run_of}
+use Rattle.program_meaning.specs.State.{IsState, State, entry}
+use Rattle.program_meaning.specs.Step.{Ends, Goes, IsAt, after, decided, step_at, step_of}
+use Rattle.program_meaning.specs.declared.cause.Cause.{Cause}
 use Rattle.program_interface.specs.declared.area.Area.TheVariants.{Context, Block, Stack, Scratch}
 use Rattle.program_interface.specs.RunSizes.{AreSizes, Sizes}
 use Rattle.reg_domain.specs.Domain.{IsSound, Operations}
@@ -25,7 +25,7 @@ use Rattle.verifier.specs.Laws.{AcceptedNeverTraps}
 use Rattle.verifier.specs.Meets.{Meets, MeetsSome, Moved}
 use Rattle.verifier.specs.Moves.{moved}
 use Rattle.verifier.specs.Progress.{begins_within, block_kept, fewer, some_left}
-use Rattle.interp.specs.TrapFree.{Exits, NeverTraps}
+use Rattle.program_meaning.specs.TrapFree.{Exits, NeverTraps}
 use Rattle.verifier.specs.Unhindered.{unhindered}
 use Rattle.verifier.specs.declared.facts.Facts.{Facts}
 use Rattle.verifier.specs.declared.reason.Reason.{Reason}

@@ -5,29 +5,29 @@ use Rattle.std.proofs.lemmas.Bool.{and_parts, and_from, and_right, cond_both, eq
 use Rattle.std.proofs.lemmas.Int.{ints}
 use Rattle.std.specs.Int.{w16}
 use Rattle.std.specs.Prelude.{◌==◌, if◌then◌else◌, nat_le, nat_lt, slice_index}
-use Rattle.ebpf_decode.specs.Instruction.{distance_of, signed_size_of, size_of, target}
-use Rattle.ebpf_decode.specs.Program.{instruction_in}
-use Rattle.ebpf_decode.specs.Spelling.{first_slot}
-use Rattle.ebpf_decode.specs.declared.insn.Insn.{Insn}
-use Rattle.ebpf_decode.specs.declared.insn.Insn.TheVariants.{LoadImmediate, Load, LoadSigned, StoreImmediate, StoreRegister, Arithmetic, Negate, MoveSigned, SwapBytes, Jump, JumpLong, Branch, Call, Exit}
-use Rattle.ebpf_decode.specs.declared.operation.SignedSize.{SignedSize}
-use Rattle.ebpf_decode.specs.declared.operation.SignedSize.TheVariants as signed
-use Rattle.ebpf_decode.specs.declared.operation.Size.{Size}
-use Rattle.ebpf_decode.specs.declared.operation.Size.TheVariants.{Byte, HalfWord, Word, DoubleWord}
-use Rattle.interp.specs.Cause as machine
-use Rattle.interp.specs.Cause.{causes_of_effect, emits_badly, emits_outside, holds, is_emit, is_inside_wide, is_not_writable, is_nowhere, is_outside, least_cause, next_slot, slot_in}
-use Rattle.interp.specs.Effect.{address_from, operand, register}
-use Rattle.interp.specs.Memory.{lies_in, place_of}
+use Rattle.instruction_set.specs.Instruction.{distance_of, signed_size_of, size_of, target}
+use Rattle.instruction_set.specs.Program.{instruction_in}
+use Rattle.instruction_set.specs.Spelling.{first_slot}
+use Rattle.instruction_set.specs.declared.insn.Insn.{Insn}
+use Rattle.instruction_set.specs.declared.insn.Insn.TheVariants.{LoadImmediate, Load, LoadSigned, StoreImmediate, StoreRegister, Arithmetic, Negate, MoveSigned, SwapBytes, Jump, JumpLong, Branch, Call, Exit}
+use Rattle.instruction_set.specs.declared.operation.SignedSize.{SignedSize}
+use Rattle.instruction_set.specs.declared.operation.SignedSize.TheVariants as signed
+use Rattle.instruction_set.specs.declared.operation.Size.{Size}
+use Rattle.instruction_set.specs.declared.operation.Size.TheVariants.{Byte, HalfWord, Word, DoubleWord}
+use Rattle.program_meaning.specs.Cause as machine
+use Rattle.program_meaning.specs.Cause.{causes_of_effect, emits_badly, emits_outside, holds, is_emit, is_inside_wide, is_not_writable, is_nowhere, is_outside, least_cause, next_slot, slot_in}
+use Rattle.program_meaning.specs.Effect.{address_from, operand, register}
+use Rattle.program_meaning.specs.Memory.{lies_in, place_of}
 use Rattle.program_interface.specs.Area.{address_of, length_of}
-use Rattle.interp.specs.State.{IsState, State}
-use Rattle.interp.specs.Word.{is_taken}
-use Rattle.interp.specs.declared.cause.Cause.{Cause}
-use Rattle.interp.specs.declared.cause.Cause.TheVariants as cause
+use Rattle.program_meaning.specs.State.{IsState, State}
+use Rattle.program_meaning.specs.Word.{is_taken}
+use Rattle.program_meaning.specs.declared.cause.Cause.{Cause}
+use Rattle.program_meaning.specs.declared.cause.Cause.TheVariants as cause
 use Rattle.program_interface.specs.declared.area.Area.{Area}
 use Rattle.program_interface.specs.RunSizes.{AreSizes, Sizes}
 use Rattle.reg_domain.specs.Domain.{Belongs, IsSound, Operations}
 use Rattle.reg_domain.specs.PlaceLaws.{placed}
-use Rattle.reg_domain.specs.PointerLaws.{block_small}
+use Rattle.reg_domain.specs.PlaceLaws.{block_small}
 use Rattle.verifier.specs.Accepted.{all_reasons, area_of, begins_at, fails, is_unwritable, leads_nowhere, least_emitted, loads_outside, most_emitted, reason_of, stores_outside, turns_away}
 use Rattle.verifier.specs.Facts.{fact, slot_behind}
 use Rattle.verifier.specs.KnownFacts.{AreFacts}

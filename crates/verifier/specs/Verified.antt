@@ -1,6 +1,6 @@
 -- What was accepted.
 use Rattle.std.specs.Prelude.{List, Option}
-use Rattle.ebpf_decode.specs.declared.insn.Insn.{Insn}
+use Rattle.instruction_set.specs.declared.insn.Insn.{Insn}
 use Rattle.program_interface.specs.RunSizes.{Sizes}
 use Rattle.reg_domain.specs.declared.domain.Domain.{Ghosts}
 use Rattle.verifier.specs.declared.verified.Verified.{Verified}

@@ -11,7 +11,7 @@ use crate::facts::Facts;
 use crate::reason::{Refusal, VerifyFault};
 use crate::rows::visit;
 use crate::verified::Verified;
-use ebpf_decode::Program;
+use instruction_set::Program;
 use program_interface::RunSizes;
 use reg_domain::Domain;
 use std::alloc::{AllocError, Global};

@@ -6,8 +6,9 @@ ghost use Rattle.verifier.specs.Accepted.{most_emitted};
 ghost use Rattle.verifier.specs.Answer.{HasRoom};
 
 use crate::facts::Facts;
-use ebpf_decode::{Insn, Register, Relation, Source, Width};
-use reg_domain::{Arithmetic, Domain};
+use instruction_set::{Insn, Register, Relation, Source, Width};
+use program_meaning::Arithmetic;
+use reg_domain::Domain;
 
 /// The source of an arithmetic instruction.
 #[inline]

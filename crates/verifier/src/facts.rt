@@ -3,7 +3,7 @@
 ghost use Rattle.std.specs.Prelude.{◌≡◌};
 ghost use Rattle.verifier.specs.Facts.{fact, with_fact, entry_facts, join_facts};
 
-use ebpf_decode::Register;
+use instruction_set::Register;
 use program_interface::{Area, REGISTERS, STACK_BYTES};
 use reg_domain::Domain;
 

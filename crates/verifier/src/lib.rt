@@ -13,6 +13,3 @@ mod verified;
 pub use accept::verify;
 pub use reason::{Reason, Refusal, VerifyFault};
 pub use verified::Verified;
-
-#[cfg(test)]
-mod tests;

@@ -1,7 +1,7 @@
 //! The facts for all slots, one slot visited after the other.
 
 ghost use Rattle.std.specs.Prelude.{◌≡◌, ◌+◌, ◌<◌, ◌≤◌, ◌^◌, ◌==◌, if◌then◌else◌, ℕ, length, get_or, Option, Some, None, IsSome, IfNone};
-ghost use Rattle.ebpf_decode.specs.Program.{instruction_at};
+ghost use Rattle.instruction_set.specs.Program.{instruction_at};
 ghost use Rattle.verifier.specs.Accepted.{refusal_at};
 ghost use Rattle.verifier.specs.Facts.{gives, merge};
 ghost use Rattle.verifier.specs.Answer.{HasRoom, StaysInside};
@@ -10,7 +10,7 @@ use crate::check::{find_reason, slot_behind};
 use crate::edges::{at_target, behind};
 use crate::facts::Facts;
 use crate::reason::Refusal;
-use ebpf_decode::{Insn, Program};
+use instruction_set::{Insn, Program};
 use program_interface::{MOST_SLOTS, RunSizes};
 use reg_domain::Domain;
 

@@ -1,14 +1,14 @@
 //! A program that was accepted.
 
 ghost use Rattle.std.specs.Prelude.{◌≡◌, is_some, true, None, Option};
-ghost use Rattle.ebpf_decode.specs.Program.{instruction_at};
+ghost use Rattle.instruction_set.specs.Program.{instruction_at};
 ghost use Rattle.program_interface.specs.RunSizes.{AreSizes};
 ghost use Rattle.verifier.specs.Accepted.{refusal};
 ghost use Rattle.verifier.specs.Answer.{HasShortOffsets};
 
-use ebpf_decode::Program;
-use interp::TrapFree;
+use instruction_set::Program;
 use program_interface::RunSizes;
+use program_meaning::TrapFree;
 use reg_domain::Domain;
 use std::marker::PhantomData;
 

@@ -1,26 +1,15 @@
 //! A block run.
 
-use crate::cause::Cause;
 use crate::machine::Machine;
 use crate::machine::step::Flow;
-use ebpf_decode::Program;
-
-/// How a block run ended.
-#[derive(Clone, Copy, Debug, PartialEq, Eq)]
-pub enum End {
-    /// By EXIT, with this in R0.
-    Exit { r0: u64 },
-    /// At this slot, by an instruction that can't be done.
-    Trap { slot: usize, cause: Cause },
-    /// With no fuel left.
-    OutOfFuel,
-}
+use instruction_set::Program;
+use program_meaning::End;
 
 impl Machine<'_> {
     ghost use Rattle.std.specs.Prelude.{◌≡◌, ◌+◌, ◌<◌, ◌≤◌, ◌^◌, drop, length};
-    ghost use Rattle.interp.specs.Run.{ran, run_of};
-    ghost use Rattle.interp.specs.State.{group_length, scratch_name, slot_of, state_of, steps_of};
-    ghost use Rattle.interp.specs.Step.{IsAt};
+    ghost use Rattle.program_meaning.specs.Run.{ran, run_of};
+    ghost use Rattle.interp.specs.Machine.{group_length, scratch_name, slot_of, state_of, steps_of};
+    ghost use Rattle.program_meaning.specs.Step.{IsAt};
 
     /// Takes steps from where the machine stands until the run ends, and at most `fuel` of them;
     /// where they are used up the answer is that no fuel is left, also before an instruction that

@@ -1,6 +1,6 @@
 use Rattle.std.proofs.Common.{◌≤◌, length}
-use Rattle.interp.specs.Step.{IsAt}
-use Rattle.interp.specs.State.{slot_of, steps_of, group_length}
+use Rattle.program_meaning.specs.Step.{IsAt}
+use Rattle.interp.specs.Machine.{slot_of, steps_of, group_length}
 use Rattle.command_programs.proofs.trace.follow.Given as goal
 
 abbrev pub invariant-loop-step : goal.invariant-loop-step

@@ -1,7 +1,7 @@
 use Rattle.std.proofs.Common.{◌≡◌, ◌∙◌, length, Option, Some, None, refl, sym, ap, arith}
 use Rattle.ebpf_decode.specs.declared.fault.FaultKind.{FaultKind}
 use Rattle.ebpf_decode.specs.Reading.{length_fault}
-use Rattle.ebpf_decode.specs.Spelling.{program_bytes}
+use Rattle.instruction_set.specs.Spelling.{program_bytes}
 use Rattle.ebpf_decode.proofs.Programs.{program-read}
 use Rattle.ebpf_decode.proofs.decoding.decode.Goals as goal
 

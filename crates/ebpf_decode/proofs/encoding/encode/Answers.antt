@@ -1,10 +1,10 @@
 use Rattle.std.proofs.Common.{◌≡◌, ◌∙◌, ℕ, List, Option, Result, Ok, Err, ap}
 use Rattle.std.specs.Prelude.{IfOk}
 use Rattle.std.specs.Global.{Vec}
-use Rattle.ebpf_decode.specs.declared.insn.Insn.{Insn}
-use Rattle.ebpf_decode.specs.Program.{IsProgram}
+use Rattle.instruction_set.specs.declared.insn.Insn.{Insn}
+use Rattle.instruction_set.specs.Program.{IsProgram}
 use Rattle.ebpf_decode.specs.Reading.{decoded}
-use Rattle.ebpf_decode.specs.Spelling.{program_bytes}
+use Rattle.instruction_set.specs.Spelling.{program_bytes}
 use Rattle.ebpf_decode.proofs.Programs.{program-again}
 use Rattle.ebpf_decode.proofs.encoding.encode.Goals as goal
 

@@ -1,5 +1,5 @@
 use Rattle.std.proofs.Common.{◌≡◌, ◌++◌, drop}
-use Rattle.ebpf_decode.specs.Spelling.{program_bytes}
+use Rattle.instruction_set.specs.Spelling.{program_bytes}
 use Rattle.ebpf_decode.proofs.encoding.encode_slots.Given as goal
 
 abbrev pub invariant-loop-slot : goal.invariant-loop-slot

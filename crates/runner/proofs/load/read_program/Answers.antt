@@ -3,7 +3,7 @@ use Rattle.ebpf_decode.specs.declared.fault.Fault.{Fault}
 use Rattle.ebpf_decode.proofs.FaultSlots.{fault_is_inside}
 use Rattle.ebpf_decode.proofs.Programs.{decoded-program}
 use Rattle.program_interface.specs.declared.TheConstants.{MOST_SLOTS}
-use Rattle.reg_domain.specs.Intervals.{intervals}
+use Rattle.interval_domain.specs.Intervals.{intervals}
 use Rattle.verifier.specs.Accepted.{refusal}
 use Rattle.verifier.specs.Answer.{IsFaultOf}
 use Rattle.verifier.proofs.Refusals.{refusal_inside}

@@ -1,6 +1,6 @@
 use Rattle.std.proofs.Common.{false, Ok, ap, ◌∙◌}
 use Rattle.nvme_entry.specs.declared.command.Command.{Command}
-use Rattle.reg_domain.specs.Intervals.{intervals}
+use Rattle.interval_domain.specs.Intervals.{intervals}
 use Rattle.pushdown.specs.Answers.{Happening, Submission}
 use Rattle.pushdown.specs.Machine.{submitted}
 use Rattle.runner.specs.Held.{state_of}

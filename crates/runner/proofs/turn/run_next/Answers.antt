@@ -1,5 +1,5 @@
 use Rattle.std.proofs.Common.{◌≡◌, take, ap, sym, subst, ◌∙◌}
-use Rattle.interp.specs.Run.{Run}
+use Rattle.program_meaning.specs.Run.{Run}
 use Rattle.image_store.specs.Geometry.{Shape}
 use Rattle.runner.specs.Held.{active_of}
 use Rattle.runner.specs.Ran.{HasRun}

@@ -1,6 +1,6 @@
 use Rattle.std.proofs.Common.{◌≡◌, ap, arith, get_or, None, option_copied, Some, sym, ◌∙◌}
 use Rattle.std.proofs.lemmas.List.{get_or_default}
-use Rattle.ebpf_decode.specs.Program.{instruction_at}
+use Rattle.instruction_set.specs.Program.{instruction_at}
 use Rattle.verifier.proofs.rows.visit.Goals as goal
 
 pub returns-clause-given : goal.returns-clause-given

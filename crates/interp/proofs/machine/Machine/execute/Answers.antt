@@ -1,6 +1,6 @@
 use Rattle.std.proofs.Common.{sym}
 use Rattle.interp.proofs.Stepping.{goes, stuck}
-use Rattle.interp.specs.State.{state_at}
+use Rattle.interp.specs.Machine.{state_at}
 use Rattle.interp.proofs.machine.Machine.execute.Goals as goal
 
 pub returns-in-Ok-perform-clause-outcome : goal.returns-in-Ok-perform-clause-outcome

@@ -1,5 +1,5 @@
 use Rattle.std.proofs.Common.{rules}
-use Rattle.interp.proofs.Entry.{entry_is}
+use Rattle.program_meaning.proofs.Entry.{entry_is}
 use Rattle.interp.proofs.machine.Machine.new.Goals as goal
 
 pub returns-clause-new : goal.returns-clause-new

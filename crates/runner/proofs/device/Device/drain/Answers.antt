@@ -1,6 +1,6 @@
 use Rattle.std.proofs.Common.{◌*◌, [], ◌∷◌, inr, take, ap, sym, ◌∙◌, arith}
 use Rattle.zone_resources.specs.declared.holds.TheConstants.{RUNS}
-use Rattle.pushdown.specs.Answers.{Taken, and_then, data_length}
+use Rattle.device_events.specs.Replies.{Taken, and_then, data_length}
 use Rattle.pushdown.specs.Draining.{turns_left}
 use Rattle.pushdown.specs.State.{State}
 use Rattle.runner.proofs.Drains.{drained_more, drained_stops, few_at_first, turn_less}

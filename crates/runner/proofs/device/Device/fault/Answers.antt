@@ -3,7 +3,7 @@ use Rattle.zone_resources.specs.declared.holds.Holds.{Holds}
 use Rattle.zns_commands.specs.Fault.{fault_answer}
 use Rattle.pushdown.specs.Machine.{failed, fault_reply}
 use Rattle.pushdown.specs.State.{State, holds_of}
-use Rattle.pushdown.specs.declared.event.Event.TheVariants as event
+use Rattle.device_events.specs.declared.event.Event.TheVariants as event
 use Rattle.runner.specs.Held.{state_of}
 use Rattle.runner.proofs.Holding.{holds_are}
 use Rattle.runner.proofs.Occurrences.{reached_more}

@@ -1,5 +1,5 @@
 use Rattle.std.proofs.Common.{◌∷◌, [], take, ap, ◌∙◌}
-use Rattle.pushdown.specs.Answers.{Taken, and_then, data_length}
+use Rattle.device_events.specs.Replies.{Taken, and_then, data_length}
 use Rattle.runner.proofs.Served.{served_more, served_stopped, with_data}
 use Rattle.runner.proofs.device.Device.serve.Goals as goal
 

@@ -1,5 +1,5 @@
 use Rattle.std.proofs.Common.{◌≡◌, take}
-use Rattle.reg_domain.specs.Intervals.{intervals}
+use Rattle.interval_domain.specs.Intervals.{intervals}
 use Rattle.pushdown.specs.Events.{HasServed}
 use Rattle.runner.proofs.device.Device.serve.Given as goal
 

@@ -1,12 +1,13 @@
 use Rattle.std.proofs.Common.{false, take, subst, sym, ◌∙◌}
 use Rattle.image_store.specs.Blocks.{AreBytes}
-use Rattle.reg_domain.specs.Intervals.{intervals}
-use Rattle.pushdown.specs.Answers.{Submission, Taken, data_length}
+use Rattle.interval_domain.specs.Intervals.{intervals}
+use Rattle.pushdown.specs.Answers.{Submission}
+use Rattle.device_events.specs.Replies.{Taken, data_length}
 use Rattle.pushdown.specs.Events.{HasHappened}
 use Rattle.pushdown.specs.Pushdown.{HasBytes}
 use Rattle.pushdown.specs.State.{State}
-use Rattle.pushdown.specs.declared.event.Event.{Event}
-use Rattle.pushdown.specs.declared.event.Event.TheVariants as event
+use Rattle.device_events.specs.declared.event.Event.{Event}
+use Rattle.device_events.specs.declared.event.Event.TheVariants as event
 use Rattle.runner.specs.Held.{state_of}
 use Rattle.runner.proofs.Occurrences.{reached_by, reached_more, submission_happened}
 use Rattle.runner.proofs.device.Device.step.Goals as goal

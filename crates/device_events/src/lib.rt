@@ -1,0 +1,10 @@
+//! What happens to a device, what it answers, and what takes its answers.
+#![tactic(auto)]
+
+mod event;
+mod out;
+mod reply;
+
+pub use event::Event;
+pub use out::{Out, Refusal};
+pub use reply::Reply;

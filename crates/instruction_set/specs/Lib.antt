@@ -1,0 +1,5 @@
+pub mod Codes
+pub mod Flat
+pub mod Instruction
+pub mod Program
+pub mod Spelling

@@ -1,0 +1,153 @@
+//! Instructions.
+
+ghost use Rattle.std.specs.Prelude.{◌≡◌, ◌<◌};
+ghost use Rattle.instruction_set.specs.Instruction.{distance_of, immediate_word, target, writes};
+
+use crate::operation::{
+    Operation, Relation, SignExtension, SignedSize, Size, Swap, SwapSize, Width,
+};
+use crate::register::Register;
+use program_interface::MOST_SLOTS;
+
+/// The second operand of an arithmetic or a compare (RFC 9669, 4.1).
+#[derive(Clone, Copy, Debug, PartialEq, Eq)]
+pub enum Source {
+    Immediate(i32),
+    Register(Register),
+}
+
+/// An instruction, with the fields that it uses. Distances are in slots, from the slot after the
+/// instruction's first; offsets are in bytes.
+#[derive(Clone, Copy, Debug, PartialEq, Eq)]
+pub enum Insn {
+    /// `dst = value`: the wide instruction, which takes two slots (RFC 9669, 5.4).
+    LoadImmediate {
+        dst: Register,
+        value: u64,
+    },
+    /// `dst` = the bytes at `src + offset`, zero-extended (RFC 9669, 5.1).
+    Load {
+        size: Size,
+        dst: Register,
+        src: Register,
+        offset: i16,
+    },
+    /// `dst` = the bytes at `src + offset`, sign-extended (RFC 9669, 5.2).
+    LoadSigned {
+        size: SignedSize,
+        dst: Register,
+        src: Register,
+        offset: i16,
+    },
+    /// The bytes at `dst + offset` = the low bytes of `value` (RFC 9669, 5.1).
+    StoreImmediate {
+        size: Size,
+        dst: Register,
+        offset: i16,
+        value: i32,
+    },
+    /// The bytes at `dst + offset` = the low bytes of `src` (RFC 9669, 5.1).
+    StoreRegister {
+        size: Size,
+        dst: Register,
+        src: Register,
+        offset: i16,
+    },
+    /// `dst = dst operation source` (RFC 9669, 4.1).
+    Arithmetic {
+        width: Width,
+        operation: Operation,
+        dst: Register,
+        source: Source,
+    },
+    /// `dst = -dst` (RFC 9669, 4.1).
+    Negate {
+        width: Width,
+        dst: Register,
+    },
+    /// `dst` = the low bits of `src`, sign-extended (RFC 9669, 4.1).
+    MoveSigned {
+        extension: SignExtension,
+        dst: Register,
+        src: Register,
+    },
+    /// `dst` = its low bytes, in another order (RFC 9669, 4.2).
+    SwapBytes {
+        swap: Swap,
+        size: SwapSize,
+        dst: Register,
+    },
+    /// A jump by a 16-bit distance (RFC 9669, 4.3: JA of class JMP).
+    Jump {
+        distance: i16,
+    },
+    /// A jump by a 32-bit distance (RFC 9669, 4.3: JA of class JMP32).
+    JumpLong {
+        distance: i32,
+    },
+    /// A jump where `dst relation source` holds (RFC 9669, 4.3).
+    Branch {
+        width: Width,
+        relation: Relation,
+        dst: Register,
+        source: Source,
+        distance: i16,
+    },
+    /// A call of the helper with this number (RFC 9669, 4.3.1).
+    Call {
+        helper: i32,
+    },
+    /// The end of the program (RFC 9669, 4.3).
+    Exit,
+}
+
+impl Insn {
+    /// Is this register the instruction's destination?
+    #[inline(always)]
+    pub fn writes(&self, register: Register) -> bool
+        ensures { result ≡ writes self.now register }
+    {
+        match *self {
+            Insn::LoadImmediate { dst, .. }
+            | Insn::Load { dst, .. }
+            | Insn::LoadSigned { dst, .. }
+            | Insn::Arithmetic { dst, .. }
+            | Insn::Negate { dst, .. }
+            | Insn::MoveSigned { dst, .. }
+            | Insn::SwapBytes { dst, .. } => dst.index() == register.index(),
+            _ => false,
+        }
+    }
+
+    /// The distance of a jump, in slots from the slot after it, and `None` where the instruction is
+    /// no jump (RFC 9669, 4.3).
+    #[inline(always)]
+    pub fn distance(&self) -> Option<i32>
+        ensures { result ≡ distance_of self.now }
+    {
+        match *self {
+            Insn::Jump { distance } => Some(i32::from(distance)),
+            Insn::JumpLong { distance } => Some(distance),
+            Insn::Branch { distance, .. } => Some(i32::from(distance)),
+            _ => None,
+        }
+    }
+
+    /// The slot that a jump at `slot` leads to by its distance, which may be outside the program.
+    #[inline(always)]
+    pub fn target(slot: usize, distance: i32) -> i64
+        requires { slot < MOST_SLOTS }
+        ensures { result ≡ target slot distance }
+    {
+        slot as i64 + 1 + i64::from(distance)
+    }
+
+    /// An instruction's immediate as a word: sign-extended to 64 bits, also where the instruction is
+    /// unsigned (RFC 9669, 4.1).
+    #[inline(always)]
+    pub fn immediate_word(immediate: i32) -> u64
+        ensures { result ≡ immediate_word immediate }
+    {
+        i64::from(immediate).cast_unsigned()
+    }
+}

@@ -1,0 +1,18 @@
+//! The instruction set of RFC 9669 as types: instructions with the facts that belong to each, and
+//! programs of them.
+#![tactic(auto)]
+
+mod codes;
+mod fields;
+mod flat;
+mod insn;
+mod operation;
+mod program;
+mod register;
+
+pub use fields::Fields;
+pub use flat::{Flat, flatten};
+pub use insn::{Insn, Source};
+pub use operation::{Operation, Relation, SignExtension, SignedSize, Size, Swap, SwapSize, Width};
+pub use program::Program;
+pub use register::Register;

@@ -1,0 +1,64 @@
+//! The registers R0 to R10.
+
+ghost use Rattle.std.specs.Prelude.{◌≡◌, ◌<◌, ◌↔◌, IsSome, IfSome};
+
+use std::marker::Model;
+
+/// One of the eleven registers R0 to R10 (RFC 9669, 3). A clause sees its number.
+#[derive(Clone, Copy, Debug, PartialEq, Eq)]
+pub struct Register {
+    number: u8,
+}
+
+impl Model for Register {
+    ghost use Rattle.std.specs.Prelude.{◌<◌, ℕ};
+
+    ghost Value = { ℕ };
+
+    ghost view = { λ r. r.number };
+
+    ghost invariant = { λ r. r.number < 11 };
+
+    ghost inverse = { λ n. record { number = n } };
+}
+
+impl Register {
+    /// R10, the frame pointer, which programs only read (RFC 9669, 3).
+    pub const FRAME_POINTER: Register = Register { number: 10 };
+
+    /// The register with this number, or `None` for a number over 10.
+    pub fn new(number: u8) -> Option<Register>
+        ensures found { IsSome result ↔ (number < 11) }
+        ensures value { IfSome result (λ r. r ≡ number) }
+    {
+        if number < 11 {
+            Some(Register { number })
+        } else {
+            None
+        }
+    }
+
+    /// The register with this number.
+    pub fn from_number(number: u8) -> Register
+        requires { number < 11 }
+        ensures { result ≡ number }
+    {
+        Register { number }
+    }
+
+    /// The register's number.
+    pub fn number(self) -> u8
+        ensures value { result ≡ self }
+        ensures bound { result < 11 }
+    {
+        self.number
+    }
+
+    /// The register's number, as an index into the eleven registers.
+    pub fn index(self) -> usize
+        ensures value { result ≡ self }
+        ensures bound { result < 11 }
+    {
+        usize::from(self.number)
+    }
+}

@@ -1,5 +1,0 @@
-use Rattle.interp.proofs.Running.{more_fuel}
-use Rattle.interp.proofs.laws.ends_with_more_fuel.Goals as goal
-
-pub returns : goal.returns
-returns c program limit fuel more n s ended = more_fuel program limit more fuel n s ended

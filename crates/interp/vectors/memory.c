@@ -1,0 +1,81 @@
+// Prints src/tests/vectors.rt: what gcc makes of loads and stores, on a little-endian host.
+// gcc -O1 -fwrapv -o /tmp/memory memory.c && /tmp/memory > ../src/tests/vectors.rt && rt fmt
+#include <stdint.h>
+#include <stdio.h>
+#include <string.h>
+
+typedef uint64_t u64;
+typedef int64_t s64;
+typedef uint32_t u32;
+typedef int32_t s32;
+
+// the words that are stored, and the immediates
+static const u64 pairs[][2] = {
+    {7, 3},
+    {0xfffffffffffffff3, 3},
+    {0x8000000000000000, 2},
+    {0xffffffff80000000, 0x100000004},
+    {0x123456789abcdef0, 0xfedcba9876543210},
+    {5, 0x41},
+    {0x00000000ffffffff, 0xffffffff00000001},
+    {0xffffffffffffffff, 0x7fffffffffffffff},
+    {0x0000000180000001, 0xffffffffffffffe1},
+    {0xdeadbeefcafebabe, 0xdeadbeefcafebabe},
+    {0x7fffffff, 0x80000000},
+    {0x8000000000000001, 0x000000008000003f},
+};
+#define N (sizeof pairs / sizeof pairs[0])
+
+static unsigned char block[512];
+
+static u64 slot(int opcode, int dst, int src, int offset, int imm) {
+  unsigned char b[8] = {opcode, dst | src << 4, offset, offset >> 8, imm, imm >> 8, imm >> 16, imm >> 24};
+  u64 text = 0;
+  for (int i = 0; i < 8; i++) text = text << 8 | b[i];
+  return text;
+}
+
+static const u64 EXIT = 0x9500000000000000;
+
+static void load(int opcode, int offset, u64 word) {
+  printf("([0x%016lx, 0x%016lx], 0x%lx),\n", slot(opcode, 0, 2, offset, 0), EXIT, word);
+}
+
+#define LOAD(OPCODE, TYPE, WIDE)                                              \
+  for (int offset = 3; offset < 512 - 8; offset += 167) { TYPE n; memcpy(&n, block + offset, sizeof n); load(OPCODE, offset, (u64)(WIDE)n); }
+
+static unsigned char scratch[32];
+
+#define STORE(OPCODE, TYPE)                                                   \
+  for (size_t i = 0; i < N; i += 3) {                                         \
+    TYPE n = pairs[i][0]; u64 after; int offset = 8 + i % 5;                  \
+    memset(scratch, 0, 32); memcpy(scratch + offset, &n, sizeof n); memcpy(&after, scratch + 8, 8); \
+    printf("([0x%016lx, 0x%016lx, 0x%016lx, 0x%016lx, 0x%016lx], 0x%lx),\n",  \
+           slot(0x18, 4, 0, 0, pairs[i][0]), slot(0, 0, 0, 0, pairs[i][0] >> 32), \
+           slot(OPCODE, 3, 4, offset, 0), slot(0x79, 0, 3, 8, 0), EXIT, after); \
+  }
+
+#define STORE_IMMEDIATE(OPCODE, TYPE)                                         \
+  for (size_t i = 0; i < N; i += 3) {                                         \
+    s32 imm = pairs[i][1]; TYPE n = (s64)imm; u64 after; int offset = 8 + i % 7; \
+    memset(scratch, 0, 32); memcpy(scratch + offset, &n, sizeof n); memcpy(&after, scratch + 8, 8); \
+    printf("([0x%016lx, 0x%016lx, 0x%016lx], 0x%lx),\n",                      \
+           slot(OPCODE, 3, 0, offset, imm), slot(0x79, 0, 3, 8, 0), EXIT, after); \
+  }
+
+int main(void) {
+  for (int i = 0; i < 512; i++) block[i] = i * 37 + 11;
+  printf("//! What gcc makes of loads and stores, printed by `vectors/memory.c`.\n\n");
+  printf("/// Loads from a block whose byte i is 37 i + 11, by R2: slots, and R0 at the end.\n");
+  printf("pub const LOADS: [([u64; 2], u64); 21] = [\n");
+  LOAD(0x61, u32, u64) LOAD(0x69, uint16_t, u64) LOAD(0x71, uint8_t, u64) LOAD(0x79, u64, u64)
+  LOAD(0x81, s32, s64) LOAD(0x89, int16_t, s64) LOAD(0x91, int8_t, s64)
+  printf("];\n\n/// Stores of a register into scratch by R3, read back: slots, and R0 at the end.\n");
+  printf("pub const STORES: [([u64; 5], u64); 16] = [\n");
+  STORE(0x63, u32) STORE(0x6b, uint16_t) STORE(0x73, uint8_t) STORE(0x7b, u64)
+  printf("];\n\n/// Stores of an immediate into scratch by R3, read back: slots, and R0 at the end.\n");
+  printf("pub const IMMEDIATE_STORES: [([u64; 3], u64); 16] = [\n");
+  STORE_IMMEDIATE(0x62, u32) STORE_IMMEDIATE(0x6a, uint16_t) STORE_IMMEDIATE(0x72, uint8_t) STORE_IMMEDIATE(0x7a, u64)
+  printf("];\n");
+  return 0;
+}

@@ -1,0 +1,112 @@
+//! The domain of constants.
+
+ghost use Rattle.std.specs.Prelude.{◌≡◌};
+
+use crate::arithmetic::arithmetic_on;
+use crate::edge::refine;
+use crate::fact::{Fact, access, join, load, one, pointer_between, widen, words_of};
+use instruction_set::{Relation, SignedSize, Size, Width};
+use program_interface::{Area, BlockSize};
+use program_meaning::Arithmetic;
+use reg_domain::{Bounds, Domain};
+use std::marker::Model;
+
+/// A word that is known, an address at a known distance from an area's, or any word.
+#[derive(Clone, Copy, Debug, PartialEq, Eq)]
+pub struct Constants {
+    fact: Fact,
+}
+
+impl Model for Constants {
+    ghost use Rattle.interval_domain.specs.Fact.{IsFact};
+    ghost use Rattle.interval_domain.specs.declared.fact.Fact.{Fact};
+
+    ghost Value = { Fact };
+
+    ghost view = { λ i. i.fact };
+
+    ghost invariant = { λ i. IsFact i.fact };
+
+    ghost inverse = { λ f. record { fact = f } };
+}
+
+impl Domain for Constants {
+    ghost use Rattle.interval_domain.specs.Fact.{ContainsWord};
+    ghost use Rattle.interval_domain.specs.Constants.{constants, constants_sound};
+    ghost use Rattle.interval_domain.specs.Intervals.{EachIsFact};
+
+    ghost is_fact = { EachIsFact };
+
+    ghost contains = { ContainsWord };
+
+    ghost operations = { constants };
+
+    ghost sound = { constants_sound };
+
+    fn row_fits() {}
+
+    fn constant(word: u64) -> Constants {
+        Constants {
+            fact: Fact::Words(one(word)),
+        }
+    }
+
+    fn any() -> Constants {
+        Constants {
+            fact: Fact::Words(Bounds::FULL),
+        }
+    }
+
+    fn pointer(area: Area, offset: u32) -> Constants {
+        Constants {
+            fact: pointer_between(area, i128::from(offset), i128::from(offset)),
+        }
+    }
+
+    fn loaded(size: Size) -> Constants {
+        Constants {
+            fact: widen(load(size)),
+        }
+    }
+
+    fn loaded_signed(_size: SignedSize) -> Constants {
+        Constants::any()
+    }
+
+    fn join(self, other: Constants) -> Constants {
+        Constants {
+            fact: widen(join(self.fact, other.fact)),
+        }
+    }
+
+    fn alu(arithmetic: Arithmetic, dst: Constants, source: Constants) -> Constants {
+        Constants {
+            fact: widen(arithmetic_on(arithmetic, dst.fact, source.fact)),
+        }
+    }
+
+    fn refine(
+        width: Width,
+        relation: Relation,
+        taken: bool,
+        dst: Constants,
+        source: Constants,
+        same: bool,
+    ) -> Option<(Constants, Constants)> {
+        let (dst, source) = refine(width, relation, taken, dst.fact, source.fact, same)?;
+        Some((
+            Constants { fact: widen(dst) },
+            Constants {
+                fact: widen(source),
+            },
+        ))
+    }
+
+    fn access(self, block: BlockSize, offset: i16, size: u64) -> Option<Area> {
+        access(self.fact, block, offset, size)
+    }
+
+    fn bounds(self) -> Bounds {
+        words_of(self.fact)
+    }
+}

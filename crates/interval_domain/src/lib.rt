@@ -1,0 +1,16 @@
+//! Facts about registers as intervals, and what an instruction makes of them: the domains of intervals and of
+//! constants.
+#![tactic(auto)]
+
+mod arithmetic;
+mod constants;
+mod edge;
+mod fact;
+mod intervals;
+mod range;
+
+pub use constants::Constants;
+pub use intervals::Intervals;
+
+#[cfg(test)]
+mod tests;

@@ -1,0 +1,82 @@
+//! Each operation at both domains, with values worked out from the rules by hand.
+
+mod edges;
+mod words;
+
+use crate::{Constants, Intervals};
+use instruction_set::{Operation, Size, Width};
+use program_interface::{Area, BlockSize};
+use program_meaning::Arithmetic;
+use reg_domain::{Bounds, Domain};
+use std::process::Abort;
+
+fn between(low: u64, high: u64) -> Bounds {
+    Bounds { low, high }
+}
+
+/// A 64-bit operation.
+fn bits64<D: Domain>(operation: Operation, dst: D, source: D) -> D {
+    let width = Width::Bits64;
+    D::alu(Arithmetic::Binary { width, operation }, dst, source)
+}
+
+/// The words from the first to the second.
+fn span<D: Domain>(low: u64, high: u64) -> D {
+    D::constant(low).join(D::constant(high))
+}
+
+/// A block of 512 bytes.
+fn small_block(rt: &impl Abort) -> BlockSize {
+    let Some(block) = BlockSize::new(512) else {
+        panic!(rt; "512 is a block size");
+    };
+    block
+}
+
+/// What any domain answers where it knows the words.
+fn check_domain<D: Domain>(rt: &impl Abort) {
+    let block = small_block(rt);
+    let five = bits64(Operation::Add, D::constant(2), D::constant(3));
+    assert_eq!(rt; five.bounds(), between(5, 5));
+    assert_eq!(rt; D::any().bounds(), Bounds::FULL);
+    assert_eq!(rt;
+        D::pointer(Area::Stack, 512).access(block, -8, 8),
+        Some(Area::Stack)
+    );
+    assert_eq!(rt; D::pointer(Area::Stack, 512).access(block, -7, 8), None);
+    assert_eq!(rt;
+        D::pointer(Area::Block, 0).access(block, 511, 1),
+        Some(Area::Block)
+    );
+    assert_eq!(rt; D::pointer(Area::Block, 0).access(block, 511, 2), None);
+    assert_eq!(rt; D::constant(512).access(block, 0, 1), None);
+}
+
+#[test]
+fn both_domains_know_constants(rt: HostRuntime) {
+    check_domain::<Constants>(&rt);
+    check_domain::<Intervals>(&rt);
+}
+
+#[test]
+fn loads_tell_their_size(rt: HostRuntime) {
+    assert_eq!(rt; Intervals::loaded(Size::Byte).bounds(), between(0, 255));
+    assert_eq!(rt;
+        Intervals::loaded(Size::Word).bounds(),
+        between(0, 0xffff_ffff)
+    );
+    assert_eq!(rt; Constants::loaded(Size::Byte).bounds(), Bounds::FULL);
+}
+
+#[test]
+fn pointers_move_by_an_index(rt: HostRuntime) {
+    let block = small_block(&rt);
+    // a byte from 0 to 99, behind the block's first: the last byte that 512 have is 412 on
+    let moved: Intervals = bits64(
+        Operation::Add,
+        Intervals::pointer(Area::Block, 0),
+        span(0, 99),
+    );
+    assert_eq!(rt; moved.access(block, 412, 1), Some(Area::Block));
+    assert_eq!(rt; moved.access(block, 413, 1), None);
+}

@@ -1,0 +1,9 @@
+pub mod Cause
+pub mod Effect
+pub mod Laws
+pub mod Memory
+pub mod Run
+pub mod State
+pub mod Step
+pub mod TrapFree
+pub mod Word

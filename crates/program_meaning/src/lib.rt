@@ -1,0 +1,18 @@
+//! What programs mean: what RFC 9669 says of each instruction, over four areas of memory.
+#![tactic(auto)]
+
+mod cause;
+mod end;
+pub mod laws;
+mod place;
+mod trap_free;
+mod word;
+
+pub use cause::Cause;
+pub use end::End;
+pub use place::Place;
+pub use trap_free::TrapFree;
+pub use word::{Arithmetic, alu, extend, taken};
+
+#[cfg(test)]
+mod tests;

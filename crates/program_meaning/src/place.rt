@@ -1,0 +1,10 @@
+//! Places in memory.
+
+use program_interface::Area;
+
+/// A place in an area, in bytes from its first.
+#[derive(Clone, Copy, Debug, PartialEq, Eq)]
+pub struct Place {
+    pub area: Area,
+    pub offset: usize,
+}
