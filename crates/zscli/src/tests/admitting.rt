@@ -1,13 +1,13 @@
 //! Which runs are admitted.
 
+use super::scenes::{Act, Scene, play};
 use super::steps::{
-    CLOSED, Case, EMPTY, EXPLICIT, FULL, G1, G2, G3, MATCHING, OFFLINE, RETURNING, Step, Zone,
-    check,
+    CLOSED, Case, EMPTY, EXPLICIT, FULL, G1, G2, G3, MATCHING, OFFLINE, RETURNING, Step,
 };
 use std::test::Fail;
 
 /// Zone 0 has 3 blocks, zone 1 is open, zone 2 is Offline and zone 3 Closed.
-const REFUSED: [Case; 25] = [
+const REFUSED: &[Case] = &[
     (
         Step::Load(1, 0, 10, MATCHING),
         "cpl 1 00000000000000000000010001000000",
@@ -120,20 +120,8 @@ const REFUSED: [Case; 25] = [
     (Step::Turns(0, 1), "idle"),
 ];
 
-#[test]
-fn runs_that_are_refused(rt: HostRuntime) -> Result<(), Fail> {
-    let zones: [Zone; 4] = [
-        (CLOSED, &[7, 7, 7]),
-        (EXPLICIT, &[]),
-        (OFFLINE, &[]),
-        (CLOSED, &[1]),
-    ];
-    let after = "0 closed 3\n1 explicit 0\n2 offline 0\n3 closed 1\n";
-    check(&rt, rt.alloc(), &G1, &zones, &REFUSED, after)
-}
-
 /// 52 groups of 10 bytes may take 2 blocks, and 51 take one. Zone 1 has room for one.
-const ROOM: [Case; 5] = [
+const ROOM: &[Case] = &[
     (
         Step::Load(1, 0, 10, MATCHING),
         "cpl 1 00000000000000000000010001000000",
@@ -147,20 +135,7 @@ const ROOM: [Case; 5] = [
     (Step::Turns(0, 1), "cpl 1 33000000010000000000010003000000"),
 ];
 
-#[test]
-fn room_for_all_that_could_come(rt: HostRuntime) -> Result<(), Fail> {
-    let zones: [Zone; 2] = [(CLOSED, &[7; 52]), (EXPLICIT, &[0; 63])];
-    check(
-        &rt,
-        rt.alloc(),
-        &G2,
-        &zones,
-        &ROOM,
-        "0 closed 52\n1 full 64\n",
-    )
-}
-
-const FOUR: [Case; 12] = [
+const FOUR: &[Case] = &[
     (
         Step::Load(1, 0, 0, RETURNING),
         "cpl 1 00000000000000000000010001000000",
@@ -199,19 +174,65 @@ cpl 1 00000000000000000000010005000000",
     ),
 ];
 
+const SCENES: &[Scene] = &[
+    Scene {
+        name: "runs that are refused",
+        acts: &[
+            Act::Image(
+                "image",
+                &G1,
+                &[
+                    (CLOSED, &[7, 7, 7]),
+                    (EXPLICIT, &[]),
+                    (OFFLINE, &[]),
+                    (CLOSED, &[1]),
+                ],
+            ),
+            Act::Events(REFUSED),
+            Act::Answers("zscli exec image events"),
+            Act::Prints(
+                "zscli zones image",
+                "0 closed 3\n1 explicit 0\n2 offline 0\n3 closed 1\n",
+            ),
+        ],
+    },
+    Scene {
+        name: "room for all that could come",
+        acts: &[
+            Act::Image("image", &G2, &[(CLOSED, &[7; 52]), (EXPLICIT, &[0; 63])]),
+            Act::Events(ROOM),
+            Act::Answers("zscli exec image events"),
+            Act::Prints("zscli zones image", "0 closed 52\n1 full 64\n"),
+        ],
+    },
+    Scene {
+        name: "four runs are active",
+        acts: &[
+            Act::Image(
+                "image",
+                &G3,
+                &[
+                    (FULL, &[0; 8]),
+                    (EXPLICIT, &[]),
+                    (EXPLICIT, &[]),
+                    (EXPLICIT, &[]),
+                    (EXPLICIT, &[]),
+                    (EXPLICIT, &[]),
+                    (EMPTY, &[]),
+                    (EMPTY, &[]),
+                ],
+            ),
+            Act::Events(FOUR),
+            Act::Answers("zscli exec image events"),
+            Act::Prints(
+                "zscli zones image",
+                "0 full 8\n1 explicit 0\n2 explicit 0\n3 explicit 0\n4 explicit 0\n5 explicit 0\n6 empty 0\n7 empty 0\n",
+            ),
+        ],
+    },
+];
+
 #[test]
-fn four_runs_are_active(rt: HostRuntime) -> Result<(), Fail> {
-    let zones: [Zone; 8] = [
-        (FULL, &[0; 8]),
-        (EXPLICIT, &[]),
-        (EXPLICIT, &[]),
-        (EXPLICIT, &[]),
-        (EXPLICIT, &[]),
-        (EXPLICIT, &[]),
-        (EMPTY, &[]),
-        (EMPTY, &[]),
-    ];
-    let after =
-        "0 full 8\n1 explicit 0\n2 explicit 0\n3 explicit 0\n4 explicit 0\n5 explicit 0\n6 empty 0\n7 empty 0\n";
-    check(&rt, rt.alloc(), &G3, &zones, &FOUR, after)
+fn admitting(rt: HostRuntime) -> Result<(), Fail> {
+    play(&rt, rt.alloc(), SCENES)
 }

@@ -1,14 +1,11 @@
 //! Turns after the last event.
 
-use super::command_lines::Taking;
-use super::steps::{
-    CLOSED, Case, EMPTY, EXPLICIT, FULL, G1, G3, RETURNING, Script, Step, Zone, check, files_of,
-};
-use super::{run_into, run_on};
+use super::scenes::{Act, Scene, play};
+use super::steps::{CLOSED, Case, EMPTY, EXPLICIT, FULL, G1, G3, RETURNING, Step, Zone};
 use std::test::Fail;
 
 /// A run of two blocks, and one of one block, without a turn.
-const LEFT: [Case; 4] = [
+const LEFT: &[Case] = &[
     (
         Step::Load(1, 0, 0, RETURNING),
         "cpl 1 00000000000000000000010001000000",
@@ -24,25 +21,8 @@ cpl 1 00000000000000000000010008000000",
     ),
 ];
 
-#[test]
-fn the_lowest_run_first(rt: HostRuntime) -> Result<(), Fail> {
-    let zones: [Zone; 8] = [
-        (FULL, &[0; 8]),
-        (EXPLICIT, &[]),
-        (EXPLICIT, &[]),
-        (EMPTY, &[]),
-        (EMPTY, &[]),
-        (EMPTY, &[]),
-        (EMPTY, &[]),
-        (EMPTY, &[]),
-    ];
-    let after =
-        "0 full 8\n1 explicit 0\n2 explicit 0\n3 empty 0\n4 empty 0\n5 empty 0\n6 empty 0\n7 empty 0\n";
-    check(&rt, rt.alloc(), &G3, &zones, &LEFT, after)
-}
-
 /// Emits 510 bytes of each block, which fill an output block.
-const COPYING: [Case; 2] = [
+const COPYING: &[Case] = &[
     (
         Step::Load(
             1,
@@ -58,34 +38,92 @@ const COPYING: [Case; 2] = [
     (Step::Run(2, 0, 3, 8), ""),
 ];
 
-/// How many lines standard output takes, and then the exit status and the zones: the turn is done whose
-/// line it doesn't take, and no later one.
-const STOPPED: [(u32, u8, &str); 6] = [
-    (0, 1, "0 closed 3\n1 explicit 0\n2 empty 0\n3 empty 0\n"),
-    (1, 1, "0 closed 3\n1 explicit 0\n2 empty 0\n3 empty 0\n"),
-    (2, 1, "0 closed 3\n1 explicit 0\n2 empty 0\n3 empty 0\n"),
-    (3, 1, "0 closed 3\n1 explicit 1\n2 empty 0\n3 empty 0\n"),
-    (4, 1, "0 closed 3\n1 explicit 3\n2 empty 0\n3 empty 0\n"),
-    (5, 0, "0 closed 3\n1 explicit 3\n2 empty 0\n3 empty 0\n"),
+/// The turn is done whose line standard output doesn't take, and no later one.
+const STOPPED: &[Act] = &[
+    Act::Image("image", &G1, THREE_BLOCKS),
+    Act::Events(COPYING),
+    Act::Stops("zscli exec image events", 0, 1, "cannot write -\n"),
+    Act::Prints(
+        "zscli zones image",
+        "0 closed 3\n1 explicit 0\n2 empty 0\n3 empty 0\n",
+    ),
+    Act::Image("image", &G1, THREE_BLOCKS),
+    Act::Events(COPYING),
+    Act::Stops("zscli exec image events", 1, 1, "cannot write -\n"),
+    Act::Prints(
+        "zscli zones image",
+        "0 closed 3\n1 explicit 0\n2 empty 0\n3 empty 0\n",
+    ),
+    Act::Image("image", &G1, THREE_BLOCKS),
+    Act::Events(COPYING),
+    Act::Stops("zscli exec image events", 2, 1, "cannot write -\n"),
+    Act::Prints(
+        "zscli zones image",
+        "0 closed 3\n1 explicit 0\n2 empty 0\n3 empty 0\n",
+    ),
+    Act::Image("image", &G1, THREE_BLOCKS),
+    Act::Events(COPYING),
+    Act::Stops("zscli exec image events", 3, 1, "cannot write -\n"),
+    Act::Prints(
+        "zscli zones image",
+        "0 closed 3\n1 explicit 1\n2 empty 0\n3 empty 0\n",
+    ),
+    Act::Image("image", &G1, THREE_BLOCKS),
+    Act::Events(COPYING),
+    Act::Stops("zscli exec image events", 4, 1, "cannot write -\n"),
+    Act::Prints(
+        "zscli zones image",
+        "0 closed 3\n1 explicit 3\n2 empty 0\n3 empty 0\n",
+    ),
+    Act::Image("image", &G1, THREE_BLOCKS),
+    Act::Events(COPYING),
+    Act::Stops("zscli exec image events", 5, 0, ""),
+    Act::Prints(
+        "zscli zones image",
+        "0 closed 3\n1 explicit 3\n2 empty 0\n3 empty 0\n",
+    ),
+];
+
+const THREE_BLOCKS: &[Zone] = &[
+    (CLOSED, &[1, 2, 3]),
+    (EXPLICIT, &[]),
+    (EMPTY, &[]),
+    (EMPTY, &[]),
+];
+
+const SCENES: &[Scene] = &[
+    Scene {
+        name: "the lowest run first",
+        acts: &[
+            Act::Image(
+                "image",
+                &G3,
+                &[
+                    (FULL, &[0; 8]),
+                    (EXPLICIT, &[]),
+                    (EXPLICIT, &[]),
+                    (EMPTY, &[]),
+                    (EMPTY, &[]),
+                    (EMPTY, &[]),
+                    (EMPTY, &[]),
+                    (EMPTY, &[]),
+                ],
+            ),
+            Act::Events(LEFT),
+            Act::Answers("zscli exec image events"),
+            Act::Prints(
+                "zscli zones image",
+                "0 full 8\n1 explicit 0\n2 explicit 0\n3 empty 0\n4 empty 0\n5 empty 0\n6 empty 0\n7 empty 0\n",
+            ),
+        ],
+    },
+    Scene {
+        name: "standard output fails in a turn",
+        acts: STOPPED,
+    },
 ];
 
 #[test]
-fn standard_output_fails_in_a_turn(rt: HostRuntime) -> Result<(), Fail> {
-    let zones: [Zone; 4] = [
-        (CLOSED, &[1, 2, 3]),
-        (EXPLICIT, &[]),
-        (EMPTY, &[]),
-        (EMPTY, &[]),
-    ];
-    let script = Script::new(rt.alloc(), &COPYING)?;
-    for (writes, status, after) in STOPPED {
-        let mut files = files_of(rt.alloc(), &G1, &zones, &script)?;
-        let line = "zscli exec image events";
-        let (ended, err) = run_into(rt.alloc(), line, &mut files, &mut Taking { writes })?;
-        assert_eq!(rt; ended, status, "{writes}");
-        assert_eq!(rt; err.is_empty(), status == 0, "{writes}");
-        let listed = run_on(rt.alloc(), "zscli zones image", &mut files)?;
-        assert_eq!(rt; listed.out.as_str(), after, "{writes}");
-    }
-    Ok(())
+fn draining(rt: HostRuntime) -> Result<(), Fail> {
+    play(&rt, rt.alloc(), SCENES)
 }

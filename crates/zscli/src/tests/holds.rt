@@ -1,9 +1,10 @@
 //! What active runs keep from their zones.
 
-use super::steps::{Case, EMPTY, EXPLICIT, FULL, G1, IMPLICIT, RETURNING, Step, Zone, check};
+use super::scenes::{Act, Scene, play};
+use super::steps::{Case, EMPTY, EXPLICIT, FULL, G1, IMPLICIT, RETURNING, Step};
 use std::test::Fail;
 
-const RESET_OF_ALL: [Case; 4] = [
+const RESET_OF_ALL: &[Case] = &[
     (
         Step::Load(1, 0, 0, RETURNING),
         "cpl 1 00000000000000000000010001000000",
@@ -16,20 +17,8 @@ const RESET_OF_ALL: [Case; 4] = [
     (Step::Turns(0, 1), "cpl 1 00000000000000000000010002000000"),
 ];
 
-#[test]
-fn all_zones_but_a_source(rt: HostRuntime) -> Result<(), Fail> {
-    let zones: [Zone; 4] = [
-        (FULL, &[1; 6]),
-        (EXPLICIT, &[]),
-        (FULL, &[2; 6]),
-        (EMPTY, &[]),
-    ];
-    let after = "0 full 6\n1 explicit 0\n2 full 6\n3 empty 0\n";
-    check(&rt, rt.alloc(), &G1, &zones, &RESET_OF_ALL, after)
-}
-
 /// A run from zone 0 to zone 1 after the first of its two turns.
-const BETWEEN: [Case; 14] = [
+const BETWEEN: &[Case] = &[
     (
         Step::Load(1, 0, 0, RETURNING),
         "cpl 1 00000000000000000000010001000000",
@@ -45,11 +34,11 @@ const BETWEEN: [Case; 14] = [
     (Step::Line("fault 0 offline"), "refused"),
     // Its destination.
     (
-        Step::Append(4, 8, &[1]),
+        Step::Append(4, 8, &[("01", 1), ("00", 511)]),
         "cpl 1 0000000000000000000001000400800f",
     ),
     (
-        Step::Write(5, 9, &[1]),
+        Step::Write(5, 9, &[("01", 1), ("00", 511)]),
         "cpl 1 0000000000000000000001000500800f",
     ),
     (
@@ -63,7 +52,7 @@ const BETWEEN: [Case; 14] = [
     ),
     // A third zone is opened: zone 2 gives way, and not zone 1, which is lower.
     (
-        Step::Write(8, 24, &[1]),
+        Step::Write(8, 24, &[("01", 1), ("00", 511)]),
         "cpl 1 00000000000000000000010008000000",
     ),
     (Step::Turns(0, 1), "cpl 1 00000000000000000000010002000000"),
@@ -74,19 +63,7 @@ const BETWEEN: [Case; 14] = [
     ),
 ];
 
-#[test]
-fn zones_of_a_run(rt: HostRuntime) -> Result<(), Fail> {
-    let zones: [Zone; 4] = [
-        (FULL, &[1; 6]),
-        (IMPLICIT, &[2]),
-        (IMPLICIT, &[3]),
-        (EMPTY, &[]),
-    ];
-    let after = "0 empty 0\n1 implicit 1\n2 closed 1\n3 implicit 1\n";
-    check(&rt, rt.alloc(), &G1, &zones, &BETWEEN, after)
-}
-
-const CLOSING: [Case; 8] = [
+const CLOSING: &[Case] = &[
     (
         Step::Load(1, 0, 0, RETURNING),
         "cpl 1 00000000000000000000010001000000",
@@ -99,7 +76,7 @@ const CLOSING: [Case; 8] = [
     ),
     // The source may be appended to, closed and finished.
     (
-        Step::Append(4, 0, &[1]),
+        Step::Append(4, 0, &[("01", 1), ("00", 511)]),
         "cpl 1 02000000000000000000010004000000",
     ),
     (
@@ -114,14 +91,73 @@ const CLOSING: [Case; 8] = [
     (Step::Turns(0, 1), "cpl 1 00000000000000000000010002000000"),
 ];
 
+const SCENES: &[Scene] = &[
+    Scene {
+        name: "all zones but a source",
+        acts: &[
+            Act::Image(
+                "image",
+                &G1,
+                &[
+                    (FULL, &[1; 6]),
+                    (EXPLICIT, &[]),
+                    (FULL, &[2; 6]),
+                    (EMPTY, &[]),
+                ],
+            ),
+            Act::Events(RESET_OF_ALL),
+            Act::Answers("zscli exec image events"),
+            Act::Prints(
+                "zscli zones image",
+                "0 full 6\n1 explicit 0\n2 full 6\n3 empty 0\n",
+            ),
+        ],
+    },
+    Scene {
+        name: "zones of a run",
+        acts: &[
+            Act::Image(
+                "image",
+                &G1,
+                &[
+                    (FULL, &[1; 6]),
+                    (IMPLICIT, &[2]),
+                    (IMPLICIT, &[3]),
+                    (EMPTY, &[]),
+                ],
+            ),
+            Act::Events(BETWEEN),
+            Act::Answers("zscli exec image events"),
+            Act::Prints(
+                "zscli zones image",
+                "0 empty 0\n1 implicit 1\n2 closed 1\n3 implicit 1\n",
+            ),
+        ],
+    },
+    Scene {
+        name: "a source is closed and finished",
+        acts: &[
+            Act::Image(
+                "image",
+                &G1,
+                &[
+                    (IMPLICIT, &[1, 2]),
+                    (EXPLICIT, &[]),
+                    (EMPTY, &[]),
+                    (EMPTY, &[]),
+                ],
+            ),
+            Act::Events(CLOSING),
+            Act::Answers("zscli exec image events"),
+            Act::Prints(
+                "zscli zones image",
+                "0 full 3\n1 explicit 0\n2 empty 0\n3 empty 0\n",
+            ),
+        ],
+    },
+];
+
 #[test]
-fn a_source_is_closed_and_finished(rt: HostRuntime) -> Result<(), Fail> {
-    let zones: [Zone; 4] = [
-        (IMPLICIT, &[1, 2]),
-        (EXPLICIT, &[]),
-        (EMPTY, &[]),
-        (EMPTY, &[]),
-    ];
-    let after = "0 full 3\n1 explicit 0\n2 empty 0\n3 empty 0\n";
-    check(&rt, rt.alloc(), &G1, &zones, &CLOSING, after)
+fn holds(rt: HostRuntime) -> Result<(), Fail> {
+    play(&rt, rt.alloc(), SCENES)
 }

@@ -1,6 +1,7 @@
 //! Programs that are loaded into slots.
 
-use super::steps::{CLOSED, Case, EMPTY, EXPLICIT, G1, MATCHING, RETURNING, Step, check};
+use super::scenes::{Act, Scene, play};
+use super::steps::{ALL_EMPTY, CLOSED, Case, EMPTY, EXPLICIT, G1, MATCHING, RETURNING, Step};
 use std::test::Fail;
 
 /// Adds the block's first byte to a sum in scratch.
@@ -10,7 +11,7 @@ b7000000000000009500000000000000",
     1,
 )];
 
-const ACCEPTED: [Case; 8] = [
+const ACCEPTED: &[Case] = &[
     (
         Step::Load(1, 0, 0, RETURNING),
         "cpl 1 00000000000000000000010001000000",
@@ -86,20 +87,8 @@ const ACCEPTED: [Case; 8] = [
     ),
 ];
 
-#[test]
-fn programs_that_are_accepted(rt: HostRuntime) -> Result<(), Fail> {
-    let zones = [
-        (EMPTY, [].as_slice()),
-        (EMPTY, &[]),
-        (EMPTY, &[]),
-        (EMPTY, &[]),
-    ];
-    let after = "0 empty 0\n1 empty 0\n2 empty 0\n3 empty 0\n";
-    check(&rt, rt.alloc(), &G1, &zones, &ACCEPTED, after)
-}
-
 /// What refuses a program: the slot of an instruction and a number, in Dwords 0 and 1.
-const REFUSED: [Case; 21] = [
+const REFUSED: &[Case] = &[
     // Half of a wide instruction.
     (
         Step::Load(8, 0, 0, &[("1801000000000000", 1)]),
@@ -263,19 +252,7 @@ const REFUSED: [Case; 21] = [
     ),
 ];
 
-#[test]
-fn programs_that_are_refused(rt: HostRuntime) -> Result<(), Fail> {
-    let zones = [
-        (CLOSED, [0].as_slice()),
-        (EXPLICIT, &[]),
-        (EMPTY, &[]),
-        (EMPTY, &[]),
-    ];
-    let after = "0 closed 1\n1 explicit 0\n2 empty 0\n3 empty 0\n";
-    check(&rt, rt.alloc(), &G1, &zones, &REFUSED, after)
-}
-
-const WRONG_FIELDS: [Case; 6] = [
+const WRONG_FIELDS: &[Case] = &[
     // 16 bytes are told, and 8 stand beside the entry.
     (
         Step::Entry(0xc1, 8, [0, 0, 16, 0, 0, 0], &[("b700000000000000", 1)]),
@@ -307,19 +284,7 @@ const WRONG_FIELDS: [Case; 6] = [
     ),
 ];
 
-#[test]
-fn fields_that_are_refused(rt: HostRuntime) -> Result<(), Fail> {
-    let zones = [
-        (EMPTY, [].as_slice()),
-        (EMPTY, &[]),
-        (EMPTY, &[]),
-        (EMPTY, &[]),
-    ];
-    let after = "0 empty 0\n1 empty 0\n2 empty 0\n3 empty 0\n";
-    check(&rt, rt.alloc(), &G1, &zones, &WRONG_FIELDS, after)
-}
-
-const RESULTS: [Case; 13] = [
+const RESULTS: &[Case] = &[
     (
         Step::Load(1, 0, 0, ADDING),
         "cpl 1 00000000000000000000010001000000",
@@ -371,14 +336,71 @@ const RESULTS: [Case; 13] = [
     ),
 ];
 
+const SCENES: &[Scene] = &[
+    Scene {
+        name: "programs that are accepted",
+        acts: &[
+            Act::Image("image", &G1, ALL_EMPTY),
+            Act::Events(ACCEPTED),
+            Act::Answers("zscli exec image events"),
+            Act::Prints(
+                "zscli zones image",
+                "0 empty 0\n1 empty 0\n2 empty 0\n3 empty 0\n",
+            ),
+        ],
+    },
+    Scene {
+        name: "programs that are refused",
+        acts: &[
+            Act::Image(
+                "image",
+                &G1,
+                &[(CLOSED, &[0]), (EXPLICIT, &[]), (EMPTY, &[]), (EMPTY, &[])],
+            ),
+            Act::Events(REFUSED),
+            Act::Answers("zscli exec image events"),
+            Act::Prints(
+                "zscli zones image",
+                "0 closed 1\n1 explicit 0\n2 empty 0\n3 empty 0\n",
+            ),
+        ],
+    },
+    Scene {
+        name: "fields that are refused",
+        acts: &[
+            Act::Image("image", &G1, ALL_EMPTY),
+            Act::Events(WRONG_FIELDS),
+            Act::Answers("zscli exec image events"),
+            Act::Prints(
+                "zscli zones image",
+                "0 empty 0\n1 empty 0\n2 empty 0\n3 empty 0\n",
+            ),
+        ],
+    },
+    Scene {
+        name: "results and slots in use",
+        acts: &[
+            Act::Image(
+                "image",
+                &G1,
+                &[
+                    (CLOSED, &[40, 2]),
+                    (EXPLICIT, &[]),
+                    (EMPTY, &[]),
+                    (EMPTY, &[]),
+                ],
+            ),
+            Act::Events(RESULTS),
+            Act::Answers("zscli exec image events"),
+            Act::Prints(
+                "zscli zones image",
+                "0 closed 2\n1 explicit 0\n2 empty 0\n3 empty 0\n",
+            ),
+        ],
+    },
+];
+
 #[test]
-fn results_and_slots_in_use(rt: HostRuntime) -> Result<(), Fail> {
-    let zones = [
-        (CLOSED, [40, 2].as_slice()),
-        (EXPLICIT, &[]),
-        (EMPTY, &[]),
-        (EMPTY, &[]),
-    ];
-    let after = "0 closed 2\n1 explicit 0\n2 empty 0\n3 empty 0\n";
-    check(&rt, rt.alloc(), &G1, &zones, &RESULTS, after)
+fn loading(rt: HostRuntime) -> Result<(), Fail> {
+    play(&rt, rt.alloc(), SCENES)
 }

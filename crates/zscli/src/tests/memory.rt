@@ -16,6 +16,7 @@ struct File {
 #[derive(Drop)]
 pub(super) struct Memory {
     alloc: Global,
+    /// The newest last. It hides what had its name before.
     files: Vec<File>,
     pub(super) room: usize,
     /// Does reading fail behind the first bytes of a file?
@@ -39,24 +40,18 @@ impl Memory {
             name: String::from_str(self.alloc, name)?,
             bytes: Vec::from_slice(self.alloc, bytes)?,
         };
-        self.files.retain(|file| file.name.as_str() != name);
         self.files.push(file)?;
         Ok(())
     }
 
     /// The bytes of the file with this name.
     pub(super) fn bytes(&self, name: &str) -> Option<&[u8]> {
-        for file in self.files.iter() {
+        for file in self.files.iter().rev() {
             if file.name.as_str() == name {
                 return Some(file.bytes.as_slice());
             }
         }
         None
-    }
-
-    fn copy(&self, name: &str) -> Result<Vec<u8>, FileError> {
-        let bytes = self.bytes(name).ok_or(FileError::Failed)?;
-        Vec::from_slice(self.alloc, bytes).map_err(|_| FileError::OutOfMemory)
     }
 }
 
@@ -68,19 +63,20 @@ impl Files for Memory {
     ghost made = { λ _. None };
 
     fn read(&mut self, path: &str) -> Result<Vec<u8>, FileError> {
-        self.copy(path)
+        let bytes = self.bytes(path).ok_or(FileError::Failed)?;
+        Ok(Vec::from_slice(self.alloc, bytes)?)
     }
 
     fn write(&mut self, path: &str, bytes: &[u8]) -> Result<(), FileError> {
         if bytes.len() > self.room {
             return Err(FileError::Failed);
         }
-        self.put(path, bytes).map_err(|_| FileError::OutOfMemory)
+        Ok(self.put(path, bytes)?)
     }
 
     fn open(&mut self, path: &str) -> Result<Reader, FileError> {
         Ok(Reader {
-            bytes: self.copy(path)?,
+            bytes: self.read(path)?,
             fails: self.fails,
             at: 0,
             failures: 0,
@@ -96,8 +92,7 @@ impl Files for Memory {
     }
 
     fn finish(&mut self, path: &str, file: Writer) -> Result<(), FileError> {
-        self.put(path, file.bytes.as_slice())
-            .map_err(|_| FileError::OutOfMemory)
+        Ok(self.put(path, file.bytes.as_slice())?)
     }
 
     fn discard(&mut self, _file: Writer) {}

@@ -1,11 +1,10 @@
 //! Runs, turn by turn.
 
-use super::steps::{
-    CLOSED, Case, EMPTY, EXPLICIT, G1, G2, IMPLICIT, MATCHING, RETURNING, Step, Zone, check,
-};
+use super::scenes::{Act, Scene, play};
+use super::steps::{CLOSED, Case, EMPTY, EXPLICIT, G1, G2, IMPLICIT, MATCHING, RETURNING, Step};
 use std::test::Fail;
 
-const TURNS: [Case; 7] = [
+const TURNS: &[Case] = &[
     (
         Step::Load(1, 0, 0, RETURNING),
         "cpl 1 00000000000000000000010001000000",
@@ -19,19 +18,7 @@ const TURNS: [Case; 7] = [
     (Step::Turns(255, 1), "idle"),
 ];
 
-#[test]
-fn a_turn_for_each_block(rt: HostRuntime) -> Result<(), Fail> {
-    let zones = [
-        (IMPLICIT, [1, 2, 3].as_slice()),
-        (EXPLICIT, &[]),
-        (EMPTY, &[]),
-        (EMPTY, &[]),
-    ];
-    let after = "0 implicit 3\n1 explicit 0\n2 empty 0\n3 empty 0\n";
-    check(&rt, rt.alloc(), &G1, &zones, &TURNS, after)
-}
-
-const PACKED: [Case; 6] = [
+const PACKED: &[Case] = &[
     (
         Step::Load(1, 0, 10, MATCHING),
         "cpl 1 00000000000000000000010001000000",
@@ -62,21 +49,8 @@ const PACKED: [Case; 6] = [
     ),
 ];
 
-#[test]
-fn groups_are_packed_into_blocks(rt: HostRuntime) -> Result<(), Fail> {
-    let zones = [(CLOSED, [7; 52].as_slice()), (EXPLICIT, &[])];
-    check(
-        &rt,
-        rt.alloc(),
-        &G2,
-        &zones,
-        &PACKED,
-        "0 closed 52\n1 explicit 2\n",
-    )
-}
-
 /// Adds the first bytes of blocks in scratch, and returns 1 for the third block.
-const SUMMING: [Case; 6] = [
+const SUMMING: &[Case] = &[
     (
         Step::Load(
             1,
@@ -101,24 +75,8 @@ const SUMMING: [Case; 6] = [
     ),
 ];
 
-#[test]
-fn scratch_lasts_from_block_to_block(rt: HostRuntime) -> Result<(), Fail> {
-    let zones = [
-        (CLOSED, [1, 2, 3, 4, 5, 6, 7, 8, 9, 10].as_slice()),
-        (EXPLICIT, &[]),
-    ];
-    check(
-        &rt,
-        rt.alloc(),
-        &G2,
-        &zones,
-        &SUMMING,
-        "0 closed 10\n1 explicit 0\n",
-    )
-}
-
 /// Emits a byte, and returns 1.
-const ENDING: [Case; 4] = [
+const ENDING: &[Case] = &[
     (
         Step::Load(
             1,
@@ -140,20 +98,8 @@ const ENDING: [Case; 4] = [
     ),
 ];
 
-#[test]
-fn a_program_ends_its_run(rt: HostRuntime) -> Result<(), Fail> {
-    let zones = [
-        (IMPLICIT, [9, 8, 7].as_slice()),
-        (EXPLICIT, &[]),
-        (EMPTY, &[]),
-        (EMPTY, &[]),
-    ];
-    let after = "0 implicit 3\n1 explicit 1\n2 empty 0\n3 empty 0\n";
-    check(&rt, rt.alloc(), &G1, &zones, &ENDING, after)
-}
-
 /// Emits as many of a block's first bytes as its first byte tells, and one more.
-const GROWING: [Case; 5] = [
+const GROWING: &[Case] = &[
     (
         Step::Load(
             1,
@@ -185,20 +131,8 @@ const GROWING: [Case; 5] = [
     ),
 ];
 
-#[test]
-fn records_of_many_lengths(rt: HostRuntime) -> Result<(), Fail> {
-    let zones = [
-        (IMPLICIT, [3, 7].as_slice()),
-        (EXPLICIT, &[]),
-        (EMPTY, &[]),
-        (EMPTY, &[]),
-    ];
-    let after = "0 implicit 2\n1 explicit 1\n2 empty 0\n3 empty 0\n";
-    check(&rt, rt.alloc(), &G1, &zones, &GROWING, after)
-}
-
 /// Emits the context.
-const TOLD: [Case; 5] = [
+const TOLD: &[Case] = &[
     (
         Step::Load(
             1,
@@ -236,20 +170,8 @@ const TOLD: [Case; 5] = [
     ),
 ];
 
-#[test]
-fn what_a_program_is_told(rt: HostRuntime) -> Result<(), Fail> {
-    let zones = [
-        (IMPLICIT, [1, 2, 3].as_slice()),
-        (EXPLICIT, &[]),
-        (EMPTY, &[]),
-        (EMPTY, &[]),
-    ];
-    let after = "0 implicit 3\n1 explicit 1\n2 empty 0\n3 empty 0\n";
-    check(&rt, rt.alloc(), &G1, &zones, &TOLD, after)
-}
-
 /// A run from zone 0 to zone 1, and one from zone 1 to zone 2, in turn.
-const IN_TURN: [Case; 9] = [
+const IN_TURN: &[Case] = &[
     (
         Step::Load(1, 0, 10, MATCHING),
         "cpl 1 00000000000000000000010001000000",
@@ -265,7 +187,7 @@ const IN_TURN: [Case; 9] = [
 ];
 
 /// The same runs, the second before the first.
-const ONE_BY_ONE: [Case; 9] = [
+const ONE_BY_ONE: &[Case] = &[
     (
         Step::Load(1, 0, 10, MATCHING),
         "cpl 1 00000000000000000000010001000000",
@@ -290,21 +212,7 @@ const APPENDED_BY_SECOND: Case = (
     "cpl 1 00000000000000000000010005000000",
 );
 
-#[test]
-fn turns_in_any_order(rt: HostRuntime) -> Result<(), Fail> {
-    let sevens: &[u8] = &[7, 7];
-    let zones: [Zone; 4] = [
-        (CLOSED, sevens),
-        (IMPLICIT, sevens),
-        (EXPLICIT, &[]),
-        (EMPTY, &[]),
-    ];
-    let after = "0 closed 2\n1 implicit 3\n2 explicit 1\n3 empty 0\n";
-    check(&rt, rt.alloc(), &G1, &zones, &IN_TURN, after)?;
-    check(&rt, rt.alloc(), &G1, &zones, &ONE_BY_ONE, after)
-}
-
-const FILLING: [Case; 5] = [
+const FILLING: &[Case] = &[
     (
         Step::Load(1, 0, 10, MATCHING),
         "cpl 1 00000000000000000000010001000000",
@@ -314,19 +222,184 @@ const FILLING: [Case; 5] = [
     (Step::Turns(0, 1), "cpl 1 02000000010000000000010002000000"),
     // The zone is Full.
     (
-        Step::Append(3, 8, &[0]),
+        Step::Append(3, 8, &[("00", 512)]),
         "cpl 1 00000000000000000000010003007203",
     ),
 ];
 
+const SCENES: &[Scene] = &[
+    Scene {
+        name: "a turn for each block",
+        acts: &[
+            Act::Image(
+                "image",
+                &G1,
+                &[
+                    (IMPLICIT, &[1, 2, 3]),
+                    (EXPLICIT, &[]),
+                    (EMPTY, &[]),
+                    (EMPTY, &[]),
+                ],
+            ),
+            Act::Events(TURNS),
+            Act::Answers("zscli exec image events"),
+            Act::Prints(
+                "zscli zones image",
+                "0 implicit 3\n1 explicit 0\n2 empty 0\n3 empty 0\n",
+            ),
+        ],
+    },
+    Scene {
+        name: "groups are packed into blocks",
+        acts: &[
+            Act::Image("image", &G2, &[(CLOSED, &[7; 52]), (EXPLICIT, &[])]),
+            Act::Events(PACKED),
+            Act::Answers("zscli exec image events"),
+            Act::Prints("zscli zones image", "0 closed 52\n1 explicit 2\n"),
+        ],
+    },
+    Scene {
+        name: "scratch lasts from block to block",
+        acts: &[
+            Act::Image(
+                "image",
+                &G2,
+                &[(CLOSED, &[1, 2, 3, 4, 5, 6, 7, 8, 9, 10]), (EXPLICIT, &[])],
+            ),
+            Act::Events(SUMMING),
+            Act::Answers("zscli exec image events"),
+            Act::Prints("zscli zones image", "0 closed 10\n1 explicit 0\n"),
+        ],
+    },
+    Scene {
+        name: "a program ends its run",
+        acts: &[
+            Act::Image(
+                "image",
+                &G1,
+                &[
+                    (IMPLICIT, &[9, 8, 7]),
+                    (EXPLICIT, &[]),
+                    (EMPTY, &[]),
+                    (EMPTY, &[]),
+                ],
+            ),
+            Act::Events(ENDING),
+            Act::Answers("zscli exec image events"),
+            Act::Prints(
+                "zscli zones image",
+                "0 implicit 3\n1 explicit 1\n2 empty 0\n3 empty 0\n",
+            ),
+        ],
+    },
+    Scene {
+        name: "records of many lengths",
+        acts: &[
+            Act::Image(
+                "image",
+                &G1,
+                &[
+                    (IMPLICIT, &[3, 7]),
+                    (EXPLICIT, &[]),
+                    (EMPTY, &[]),
+                    (EMPTY, &[]),
+                ],
+            ),
+            Act::Events(GROWING),
+            Act::Answers("zscli exec image events"),
+            Act::Prints(
+                "zscli zones image",
+                "0 implicit 2\n1 explicit 1\n2 empty 0\n3 empty 0\n",
+            ),
+        ],
+    },
+    Scene {
+        name: "what a program is told",
+        acts: &[
+            Act::Image(
+                "image",
+                &G1,
+                &[
+                    (IMPLICIT, &[1, 2, 3]),
+                    (EXPLICIT, &[]),
+                    (EMPTY, &[]),
+                    (EMPTY, &[]),
+                ],
+            ),
+            Act::Events(TOLD),
+            Act::Answers("zscli exec image events"),
+            Act::Prints(
+                "zscli zones image",
+                "0 implicit 3\n1 explicit 1\n2 empty 0\n3 empty 0\n",
+            ),
+        ],
+    },
+    Scene {
+        name: "turns of two runs, one after the other",
+        acts: &[
+            Act::Image(
+                "image",
+                &G1,
+                &[
+                    (CLOSED, &[7, 7]),
+                    (IMPLICIT, &[7, 7]),
+                    (EXPLICIT, &[]),
+                    (EMPTY, &[]),
+                ],
+            ),
+            Act::Events(IN_TURN),
+            Act::Answers("zscli exec image events"),
+            Act::Prints(
+                "zscli zones image",
+                "0 closed 2\n1 implicit 3\n2 explicit 1\n3 empty 0\n",
+            ),
+        ],
+    },
+    Scene {
+        name: "turns of two runs, the second before the first",
+        acts: &[
+            Act::Image(
+                "image",
+                &G1,
+                &[
+                    (CLOSED, &[7, 7]),
+                    (IMPLICIT, &[7, 7]),
+                    (EXPLICIT, &[]),
+                    (EMPTY, &[]),
+                ],
+            ),
+            Act::Events(ONE_BY_ONE),
+            Act::Answers("zscli exec image events"),
+            Act::Prints(
+                "zscli zones image",
+                "0 closed 2\n1 implicit 3\n2 explicit 1\n3 empty 0\n",
+            ),
+        ],
+    },
+    Scene {
+        name: "a turn fills its zone",
+        acts: &[
+            Act::Image(
+                "image",
+                &G1,
+                &[
+                    (CLOSED, &[7, 7]),
+                    (IMPLICIT, &[1, 2, 3, 4, 5]),
+                    (EMPTY, &[]),
+                    (EMPTY, &[]),
+                ],
+            ),
+            Act::Events(FILLING),
+            Act::Answers("zscli exec image events"),
+            Act::Prints(
+                "zscli zones image",
+                "0 closed 2\n1 full 6\n2 empty 0\n3 empty 0\n",
+            ),
+        ],
+    },
+];
+
 #[test]
-fn a_turn_fills_its_zone(rt: HostRuntime) -> Result<(), Fail> {
-    let zones: [Zone; 4] = [
-        (CLOSED, &[7, 7]),
-        (IMPLICIT, &[1, 2, 3, 4, 5]),
-        (EMPTY, &[]),
-        (EMPTY, &[]),
-    ];
-    let after = "0 closed 2\n1 full 6\n2 empty 0\n3 empty 0\n";
-    check(&rt, rt.alloc(), &G1, &zones, &FILLING, after)
+fn running(rt: HostRuntime) -> Result<(), Fail> {
+    play(&rt, rt.alloc(), SCENES)
 }

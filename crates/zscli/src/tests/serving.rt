@@ -3,11 +3,12 @@
 ghost use Rattle.std.specs.Prelude.{◌≡◌, map, Some};
 
 use runner::{Device, Event, Out, Refusal, Reply, Stopped};
-use std::alloc::Global;
+use std::alloc::{AllocError, Global};
+use std::process::Abort;
 use std::test::Fail;
 use zns_commands::{Geometry, Image, Limits, MOST_TRANSFER};
 
-#[derive(Debug, PartialEq, Eq, Drop)]
+#[derive(Drop)]
 struct Answer {
     reply: Reply,
     bytes: Vec<u8>,
@@ -57,31 +58,45 @@ impl Out for Kept {
     }
 }
 
-#[test]
-fn stops_where_a_reply_is_refused(rt: HostRuntime) -> Result<(), Fail> {
-    let alloc = rt.alloc();
+/// A device whose image has one zone of one block.
+fn device(alloc: Global) -> Result<Device, AllocError> {
+    let limits = Limits {
+        open_limit: 1,
+        active_limit: 1,
+    };
+    let geometry = Geometry::new(512, 1, 1, 1, limits).unwrap();
+    Ok(Device::new(alloc, Image::empty(alloc, geometry)?))
+}
+
+/// Serves three events where there is room for so many answers.
+fn check(
+    rt: &impl Abort,
+    alloc: Global,
+    room: usize,
+    expected: Result<(), Stopped>,
+) -> Result<(), Fail> {
     let events = [
         Event::Turn { run: 0 },
         Event::Turn { run: 1 },
         Event::Turn { run: 2 },
     ];
-    for (room, result) in [
-        (3, Ok(())),
-        (2, Err(Stopped { done: 3 })),
-        (0, Err(Stopped { done: 1 })),
-    ] {
-        let limits = Limits {
-            open_limit: 1,
-            active_limit: 1,
-        };
-        let geometry = Geometry::new(512, 1, 1, 1, limits).unwrap();
-        let mut device = Device::new(alloc, Image::empty(alloc, geometry)?);
-        let mut data = vec![in alloc; 0; MOST_TRANSFER]?;
-        let mut out = Kept::new(alloc, room);
-        let served = device.serve(&events, data.as_mut_slice(), &mut out);
-        assert_eq!(rt; served, result);
-        assert_eq!(rt; out.answers.len(), room);
-        assert_eq!(rt; out.refusals(), u64::from(result.is_err()));
-    }
+    let mut data = vec![in alloc; 0; MOST_TRANSFER]?;
+    let mut device = device(alloc)?;
+    let mut out = Kept::new(alloc, room);
+    let served = device.serve(&events, data.as_mut_slice(), &mut out);
+    assert_eq!(rt; served, expected, "room for {room}");
+    assert_eq!(rt; out.answers.len(), room, "room for {room}");
+    assert_eq!(rt;
+        out.refusals(),
+        u64::from(expected.is_err()),
+        "room for {room}"
+    );
     Ok(())
+}
+
+#[test]
+fn stops_where_a_reply_is_refused(rt: HostRuntime) -> Result<(), Fail> {
+    check(&rt, rt.alloc(), 3, Ok(()))?;
+    check(&rt, rt.alloc(), 2, Err(Stopped { done: 3 }))?;
+    check(&rt, rt.alloc(), 0, Err(Stopped { done: 1 }))
 }

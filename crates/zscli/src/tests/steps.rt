@@ -1,11 +1,7 @@
 //! What happens to a device, as data: steps, each with the lines that answer it.
 
-use super::memory::Memory;
-use super::run_on;
 use std::alloc::{AllocError, Global};
 use std::fmt::Write;
-use std::process::Abort;
-use std::test::Fail;
 
 /// Bytes in hexadecimal: parts, each repeated so many times.
 pub(super) type Bytes = &'static [(&'static str, usize)];
@@ -42,6 +38,12 @@ pub(super) const FULL: u8 = 0xe;
 
 pub(super) const OFFLINE: u8 = 0xf;
 
+/// 4 zones without blocks.
+pub(super) const ALL_EMPTY: &[Zone] = &[(EMPTY, &[]), (EMPTY, &[]), (EMPTY, &[]), (EMPTY, &[])];
+
+/// A block of 512 bytes.
+pub(super) const A_BLOCK: Bytes = &[("a5", 512)];
+
 /// Ends each block run with R0 = 0, and emits nothing.
 pub(super) const RETURNING: Bytes = &[("b7000000000000009500000000000000", 1)];
 
@@ -60,10 +62,10 @@ pub(super) enum Step {
     Line(&'static str),
     /// So many turns of a run, with the same answer each.
     Turns(u8, usize),
-    /// A Write to an address, of blocks that begin with these bytes.
-    Write(u8, u32, &'static [u8]),
-    /// A Zone Append to the zone of an address, of blocks that begin with these bytes.
-    Append(u8, u32, &'static [u8]),
+    /// A Write to an address, of blocks of these bytes.
+    Write(u8, u32, Bytes),
+    /// A Zone Append to the zone of an address, of blocks of these bytes.
+    Append(u8, u32, Bytes),
     /// A Read of so many blocks from an address on, and what it gives.
     Read(u8, u32, u32, Bytes),
     /// A Zone Management Send to an address, with this Command Dword 13.
@@ -78,54 +80,111 @@ pub(super) enum Step {
     Entry(u8, u8, [u32; 6], Bytes),
 }
 
-/// A command file, and what is printed for it.
+/// An entry: its opcode, the command identifier, Command Dwords 10 to 15, the bytes beside it, and those that
+/// it gives.
+#[derive(Clone, Copy)]
+struct Submission {
+    opcode: u8,
+    cid: u8,
+    dwords: [u32; 6],
+    beside: Bytes,
+    gives: Bytes,
+}
+
+/// An entry that gives no bytes.
+fn entry(opcode: u8, cid: u8, dwords: [u32; 6], beside: Bytes) -> Submission {
+    Submission {
+        opcode,
+        cid,
+        dwords,
+        beside,
+        gives: &[],
+    }
+}
+
+impl Step {
+    /// The entry that it submits, if it does.
+    fn entry(self) -> Option<Submission> {
+        let made = match self {
+            Step::Line(_) | Step::Turns(..) => return None,
+            Step::Write(cid, lba, beside) => {
+                entry(0x01, cid, [lba, 0, last_block(beside), 0, 0, 0], beside)
+            }
+            Step::Append(cid, lba, beside) => {
+                entry(0x7d, cid, [lba, 0, last_block(beside), 0, 0, 0], beside)
+            }
+            Step::Read(cid, lba, blocks, gives) => Submission {
+                gives,
+                ..entry(0x02, cid, [lba, 0, blocks.wrapping_sub(1), 0, 0, 0], &[])
+            },
+            Step::Send(cid, lba, dword) => entry(0x79, cid, [lba, 0, 0, dword, 0, 0], &[]),
+            Step::Load(cid, slot, limit, program) => {
+                let bytes = low(byte_count(program));
+                entry(0xc1, cid, [slot, limit, bytes, 0, 0, 0], program)
+            }
+            Step::Run(cid, lba, blocks, to) => {
+                let last = blocks.wrapping_sub(1);
+                let dwords = [low(lba), low(lba >> 32), last, 0, low(to), low(to >> 32)];
+                entry(0xc0, cid, dwords, &[])
+            }
+            Step::Result(cid, slot, gives) => Submission {
+                gives,
+                ..entry(0xc2, cid, [slot, 0, 0, 0, 0, 0], &[])
+            },
+            Step::Entry(opcode, cid, dwords, beside) => entry(opcode, cid, dwords, beside),
+        };
+        Some(made)
+    }
+}
+
+/// A command file, and the lines that answer it.
 #[derive(Drop)]
-pub(super) struct Script {
-    alloc: Global,
-    pub(super) events: String,
+pub(super) struct Lines {
+    events: String,
     answers: String,
 }
 
-impl Script {
-    /// The command file of these steps.
-    pub(super) fn new(alloc: Global, cases: &[Case]) -> Result<Script, Fail> {
-        let mut script = Script {
-            alloc,
+impl Lines {
+    /// No lines.
+    pub(super) fn new(alloc: Global) -> Lines {
+        Lines {
             events: String::new(alloc),
             answers: String::new(alloc),
-        };
-        for (step, answer) in cases {
-            script.add(step, answer)?;
         }
-        Ok(script)
     }
 
-    fn add(&mut self, step: &Step, answer: &str) -> Result<(), Fail> {
-        match *step {
-            Step::Line(line) => writeln!(self.events, "{line}")?,
-            Step::Turns(run, count) => return self.add_turns(run, count, answer),
-            Step::Write(cid, lba, firsts) => self.add_blocks(0x01, cid, lba, firsts)?,
-            Step::Append(cid, lba, firsts) => self.add_blocks(0x7d, cid, lba, firsts)?,
-            Step::Read(cid, lba, blocks, gives) => {
-                self.add_entry(0x02, cid, [lba, 0, blocks.wrapping_sub(1), 0, 0, 0], "")?;
-                return self.add_answer(answer, gives);
-            }
-            Step::Send(cid, lba, dword) => self.add_entry(0x79, cid, [lba, 0, 0, dword, 0, 0], "")?,
-            Step::Load(cid, slot, limit, program) => self.add_load(cid, slot, limit, program)?,
-            Step::Run(cid, lba, blocks, to) => self.add_run(cid, lba, blocks, to)?,
-            Step::Result(cid, slot, gives) => {
-                self.add_entry(0xc2, cid, [slot, 0, 0, 0, 0, 0], "")?;
-                return self.add_answer(answer, gives);
-            }
-            Step::Entry(opcode, cid, dwords, beside) => {
-                let beside = digits(self.alloc, beside)?;
-                self.add_entry(opcode, cid, dwords, beside.as_str())?
-            }
-        }
-        self.add_answer(answer, &[])
+    pub(super) fn clear(&mut self) {
+        self.events.clear();
+        self.answers.clear();
     }
 
-    fn add_turns(&mut self, run: u8, count: usize, answer: &str) -> Result<(), Fail> {
+    /// The command file.
+    pub(super) fn events(&self) -> &[u8] {
+        self.events.as_bytes()
+    }
+
+    /// The lines that answer it.
+    pub(super) fn answers(&self) -> &str {
+        self.answers.as_str()
+    }
+
+    /// Adds the lines of a step, and those that answer it.
+    pub(super) fn add(&mut self, step: Step, answer: &str) -> Result<(), AllocError> {
+        if let Some(entry) = step.entry() {
+            self.add_entry(&entry)?;
+            return self.add_answer(answer, entry.gives);
+        }
+        match step {
+            Step::Turns(run, count) => self.add_turns(run, count, answer),
+            Step::Line(line) => {
+                writeln!(self.events, "{line}")?;
+                self.add_answer(answer, &[])
+            }
+            _ => Ok(()),
+        }
+    }
+
+    fn add_turns(&mut self, run: u8, count: usize, answer: &str) -> Result<(), AllocError> {
         for _ in 0..count {
             writeln!(self.events, "turn {run}")?;
             self.add_answer(answer, &[])?;
@@ -133,60 +192,56 @@ impl Script {
         Ok(())
     }
 
-    fn add_blocks(&mut self, opcode: u8, cid: u8, lba: u32, firsts: &[u8]) -> Result<(), Fail> {
-        let mut beside = String::new(self.alloc);
-        let rest = 0;
-        for first in firsts {
-            write!(beside, "{first:02x}{rest:01022}")?;
-        }
-        let last = low(firsts.len() as u64).wrapping_sub(1);
-        self.add_entry(opcode, cid, [lba, 0, last, 0, 0, 0], beside.as_str())
-    }
-
-    fn add_load(&mut self, cid: u8, slot: u32, limit: u32, program: Bytes) -> Result<(), Fail> {
-        let program = digits(self.alloc, program)?;
-        let bytes = low(program.len() as u64 / 2);
-        self.add_entry(0xc1, cid, [slot, limit, bytes, 0, 0, 0], program.as_str())
-    }
-
-    fn add_run(&mut self, cid: u8, lba: u64, blocks: u32, to: u64) -> Result<(), Fail> {
-        let last = blocks.wrapping_sub(1);
-        let dwords = [low(lba), low(lba >> 32), last, 0, low(to), low(to >> 32)];
-        self.add_entry(0xc0, cid, dwords, "")
-    }
-
-    /// An entry with these Command Dwords 10 to 15, and the digits of the bytes beside it.
-    fn add_entry(
-        &mut self,
-        opcode: u8,
-        cid: u8,
-        dwords: [u32; 6],
-        beside: &str,
-    ) -> Result<(), Fail> {
-        let gap = 0;
+    fn add_entry(&mut self, entry: &Submission) -> Result<(), AllocError> {
+        let (opcode, cid, gap) = (entry.opcode, entry.cid, 0);
         write!(
             self.events,
             "submit 1 {opcode:02x}00{cid:02x}0001000000{gap:064}"
         )?;
-        for dword in dwords {
+        for dword in entry.dwords {
             write!(self.events, "{:08x}", dword.swap_bytes())?;
         }
-        writeln!(self.events, " {beside}")?;
-        Ok(())
+        self.events.push(' ')?;
+        push_digits(&mut self.events, entry.beside)?;
+        self.events.push('\n')
     }
 
-    fn add_answer(&mut self, answer: &str, gives: Bytes) -> Result<(), Fail> {
+    fn add_answer(&mut self, answer: &str, gives: Bytes) -> Result<(), AllocError> {
         if answer.is_empty() {
             return Ok(());
         }
-        let gives = digits(self.alloc, gives)?;
-        if gives.is_empty() {
-            writeln!(self.answers, "{answer}")?;
-        } else {
-            writeln!(self.answers, "{answer} {gives}")?;
+        self.answers.push_str(answer)?;
+        if !gives.is_empty() {
+            self.answers.push(' ')?;
+            push_digits(&mut self.answers, gives)?;
         }
-        Ok(())
+        self.answers.push('\n')
     }
+}
+
+fn push_digits(text: &mut String, bytes: Bytes) -> Result<(), AllocError> {
+    for (part, times) in bytes {
+        for _ in 0..*times {
+            text.push_str(part)?;
+        }
+    }
+    Ok(())
+}
+
+/// How many bytes there are.
+fn byte_count(bytes: Bytes) -> u64 {
+    let mut count = 0;
+    for (part, times) in bytes {
+        count = (part.len() as u64 / 2)
+            .wrapping_mul(*times as u64)
+            .wrapping_add(count);
+    }
+    count
+}
+
+/// The number of the last of blocks of 512 bytes, counted from 0.
+fn last_block(bytes: Bytes) -> u32 {
+    low(byte_count(bytes) / 512).wrapping_sub(1)
 }
 
 /// The lower dword of a number.
@@ -194,64 +249,32 @@ fn low(number: u64) -> u32 {
     (number & 0xffff_ffff) as u32
 }
 
-fn digits(alloc: Global, bytes: Bytes) -> Result<String, AllocError> {
-    let mut text = String::new(alloc);
-    for (part, times) in bytes {
-        for _ in 0..*times {
-            text.push_str(part)?;
-        }
-    }
-    Ok(text)
-}
-
-/// The bytes of an image.
-pub(super) fn image(alloc: Global, shape: &Shape, zones: &[Zone]) -> Result<Vec<u8>, AllocError> {
-    let mut bytes = Vec::from_slice(alloc, b"ZNSIMG01")?;
+/// Writes the bytes of an image.
+pub(super) fn write_image(
+    to: &mut Vec<u8>,
+    shape: &Shape,
+    zones: &[Zone],
+) -> Result<(), AllocError> {
+    to.extend_from_slice(b"ZNSIMG01")?;
     for number in shape {
-        bytes.extend_from_slice(&number.to_le_bytes())?;
+        to.extend_from_slice(&number.to_le_bytes())?;
     }
-    bytes.extend_from_slice(&[0; 32])?;
+    to.extend_from_slice(&[0; 32])?;
     for (state, firsts) in zones {
-        bytes.extend_from_slice(&[*state, 0, 0, 0])?;
-        bytes.extend_from_slice(&low(firsts.len() as u64).to_le_bytes())?;
+        to.extend_from_slice(&[*state, 0, 0, 0])?;
+        to.extend_from_slice(&low(firsts.len() as u64).to_le_bytes())?;
     }
     for (_, firsts) in zones {
-        for first in *firsts {
-            bytes.push(*first)?;
-            bytes.extend_from_slice(&[0; 511])?;
-        }
+        write_blocks(to, firsts)?;
     }
-    Ok(bytes)
+    Ok(())
 }
 
-/// The files `events`, with the command file of these steps, and `image`, with these zones.
-pub(super) fn files_of(
-    alloc: Global,
-    shape: &Shape,
-    zones: &[Zone],
-    script: &Script,
-) -> Result<Memory, Fail> {
-    let mut files = Memory::new(alloc);
-    files.put("image", image(alloc, shape, zones)?.as_slice())?;
-    files.put("events", script.events.as_bytes())?;
-    Ok(files)
-}
-
-/// Does the steps on an image with these zones, and compares what is printed. Then its zones are these.
-pub(super) fn check(
-    rt: &impl Abort,
-    alloc: Global,
-    shape: &Shape,
-    zones: &[Zone],
-    cases: &[Case],
-    after: &str,
-) -> Result<(), Fail> {
-    let script = Script::new(alloc, cases)?;
-    let mut files = files_of(alloc, shape, zones, &script)?;
-    let ended = run_on(alloc, "zscli exec image events", &mut files)?;
-    assert_eq!(rt; ended.out.as_str(), script.answers.as_str());
-    assert_eq!(rt; ended.status, 0);
-    let ended = run_on(alloc, "zscli zones image", &mut files)?;
-    assert_eq!(rt; ended.out.as_str(), after);
+/// Writes blocks that begin with these bytes, and else are zeros.
+fn write_blocks(to: &mut Vec<u8>, firsts: &[u8]) -> Result<(), AllocError> {
+    for first in firsts {
+        to.push(*first)?;
+        to.extend_from_slice(&[0; 511])?;
+    }
     Ok(())
 }

@@ -1,0 +1,113 @@
+//! What is done with files and command lines, as data, and what has to come of it.
+
+use super::stage::{Parts, Stage};
+use super::steps::{ALL_EMPTY, Case, G1, Shape, Zone};
+use std::alloc::Global;
+use std::process::Abort;
+use std::test::Fail;
+
+/// `zscli exec` on the files of [`Act::Start`].
+pub(super) const EXEC: &str = "zscli exec g1 events";
+
+/// An image of 4 zones of 8 blocks, 6 of them writable, at most 2 open and 3 active, all Empty.
+pub(super) const EMPTY_IMAGE: Parts = &[(MAGIC, 1), (NUMBERS, 1), (EMPTY_ZONE, 4)];
+
+pub(super) const MAGIC: &[u8] = b"ZNSIMG01";
+
+pub(super) const NUMBERS: &[u8] = b"\
+\0\x02\0\0\x04\0\0\0\x08\0\0\0\x06\0\0\0\x02\0\0\0\x03\0\0\0\
+\0\0\0\0\0\0\0\0\0\0\0\0\0\0\0\0\0\0\0\0\0\0\0\0\0\0\0\0\0\0\0\0";
+
+pub(super) const EMPTY_ZONE: &[u8] = b"\x01\0\0\0\0\0\0\0";
+
+/// Acts on files, in order. At first there are none.
+#[derive(Clone, Copy)]
+pub(super) struct Scene {
+    /// What it shows.
+    pub(super) name: &'static str,
+    pub(super) acts: &'static [Act],
+}
+
+/// Something that is done, or that has to hold.
+#[derive(Clone, Copy)]
+pub(super) enum Act {
+    /// Puts `g1`, an image of Empty zones, and `events`, a file of these bytes.
+    Start(&'static [u8]),
+    /// Puts a file of these bytes.
+    Put(&'static str, Parts),
+    /// Puts an image with these zones.
+    Image(&'static str, &'static Shape, &'static [Zone]),
+    /// Puts the command file of these steps as `events`.
+    Events(&'static [Case]),
+    /// From now on no file can be larger.
+    Room(usize),
+    /// From now on reading fails behind the first bytes of a file.
+    Unreadable,
+    /// A command line succeeds, and prints this alone.
+    Prints(&'static str, &'static str),
+    /// A command line succeeds, and prints the lines that answer the steps alone.
+    Answers(&'static str),
+    /// A command line ends with this status, standard output and standard error.
+    Fails(&'static str, u8, &'static str, &'static str),
+    /// A command line whose standard output takes so many writes ends with this status and standard error.
+    Stops(&'static str, usize, u8, &'static str),
+    /// A command line tells its usage, and ends with this status.
+    Tells(&'static str, u8),
+    /// A file has these bytes.
+    Has(&'static str, Parts),
+    /// There is no such file.
+    HasNo(&'static str),
+    /// A program as text, the most bytes that it may emit, and what `verify` says of it.
+    Verify(&'static str, u32, &'static str),
+    /// The same of a program in hexadecimal.
+    VerifyDigits(&'static str, u32, &'static str),
+}
+
+/// Plays scenes, each on files of its own.
+pub(super) fn play(rt: &impl Abort, alloc: Global, scenes: &[Scene]) -> Result<(), Fail> {
+    for scene in scenes {
+        play_one(rt, alloc, scene.name, scene.acts)?;
+    }
+    Ok(())
+}
+
+fn play_one(rt: &impl Abort, alloc: Global, scene: &str, acts: &[Act]) -> Result<(), Fail> {
+    let mut stage = Stage::new(alloc);
+    for act in acts {
+        perform(rt, &mut stage, scene, *act)?;
+    }
+    Ok(())
+}
+
+fn perform(rt: &impl Abort, stage: &mut Stage, scene: &str, act: Act) -> Result<(), Fail> {
+    match act {
+        Act::Start(events) => {
+            stage.put_image("g1", &G1, ALL_EMPTY)?;
+            stage.files.put("events", events)?;
+        }
+        Act::Put(file, parts) => stage.put(file, parts)?,
+        Act::Image(file, shape, zones) => stage.put_image(file, shape, zones)?,
+        Act::Events(steps) => stage.put_events(steps)?,
+        Act::Room(room) => stage.files.room = room,
+        Act::Unreadable => stage.files.fails = true,
+        Act::Prints(line, out) => stage.check(rt, scene, line, 0, out, "")?,
+        Act::Answers(line) => stage.check_answers(rt, scene, line)?,
+        Act::Fails(line, status, out, err) => stage.check(rt, scene, line, status, out, err)?,
+        Act::Stops(line, writes, status, err) => {
+            stage.check_stopped(rt, scene, line, writes, status, err)?;
+        }
+        Act::Tells(line, status) => stage.check_usage(rt, scene, line, status)?,
+        Act::Has(file, parts) => stage.check_file(rt, scene, file, parts)?,
+        Act::HasNo(file) => assert!(rt; stage.files.bytes(file).is_none(), "{scene}: {file}"),
+        Act::Verify(text, emit, answer) => {
+            stage.files.put("events", text.as_bytes())?;
+            stage.check(rt, text, "zscli asm events made", 0, "", "")?;
+            stage.check_program(rt, text, "made", emit, answer)?;
+        }
+        Act::VerifyDigits(digits, emit, answer) => {
+            stage.put_program(digits)?;
+            stage.check_program(rt, digits, "events", emit, answer)?;
+        }
+    }
+    Ok(())
+}
