@@ -243,7 +243,7 @@ fn replies_are_handed_out_with_their_data(rt: HostRuntime) -> Result<(), Fail> {
         success(2, 1, 0),
     ];
     compare_kept(&rt, &out, &replies);
-    assert!(rt; out.answers.len() == 7);
+    assert_eq!(rt; out.answers.len(), 7);
     assert_eq!(rt; out.answers[4].1.as_slice(), [7; BLOCK].as_slice());
     Ok(())
 }
