@@ -81,17 +81,48 @@ pub fn trace<'a, F: Files, O: Write>(
 ) -> Result<(), Failure<'a>>
     ensures { F.made files.new ≡ F.made files.old }
 {
-    let limit = number(matches, EMIT)?;
-    let argument = number(matches, ARGUMENT)?;
-    let fuel = number(matches, FUEL)?;
+    let asked = numbers_asked(matches)?;
     let program = read_program(alloc, required(matches, PROGRAM), files)?;
     let block = read(required(matches, BLOCK), files)?;
-    let block = block.as_slice();
+    run_asked(alloc, &program, block.as_slice(), asked, out)
+}
+
+/// The numbers that a user gives.
+#[derive(Clone, Copy)]
+struct Asked {
+    limit: u32,
+    argument: u32,
+    fuel: u32,
+}
+
+fn numbers_asked<'a>(matches: &ArgMatches<'a>) -> Result<Asked, Failure<'a>> {
+    Ok(Asked {
+        limit: number(matches, EMIT)?,
+        argument: number(matches, ARGUMENT)?,
+        fuel: number(matches, FUEL)?,
+    })
+}
+
+/// Runs the program on the block as is asked for.
+fn run_asked<'a, O: Write>(
+    alloc: Global,
+    program: &Program,
+    block: &[u8],
+    asked: Asked,
+    out: &mut O,
+) -> Result<(), Failure<'a>> {
     let size = block_size(block.len())?;
-    let sizes = run_sizes(size, limit)?;
+    let sizes = run_sizes(size, asked.limit)?;
     let mut group = vec![in alloc; 0; sizes.limit() as usize]?;
-    let context = first_and_only(size, argument);
-    printed(run(&program, block, &context, fuel, group.as_mut_slice(), out))
+    let context = first_and_only(size, asked.argument);
+    printed(run(
+        program,
+        block,
+        &context,
+        asked.fuel,
+        group.as_mut_slice(),
+        out,
+    ))
 }
 
 /// The context of the first and only block of a run, at LBA 0.

@@ -57,14 +57,25 @@ pub fn unpack<'a, F: Files, O: Write>(
 {
     let block = number(matches, BLOCK)?;
     let file = read(required(matches, FILE), files)?;
-    let block = block_size(block as usize)?;
-    let records = records_of(alloc, file.as_slice(), block).map_err(|fault| refused(fault))?;
+    let text = text_of(alloc, file.as_slice(), block as usize)?;
+    printed(out.write_all(text.as_bytes()))
+}
+
+/// The lines of the records in output blocks of so many bytes.
+fn text_of<'a>(alloc: Global, bytes: &[u8], block: usize) -> Result<String, Failure<'a>> {
+    let block = block_size(block)?;
+    let records = records_of(alloc, bytes, block).map_err(|fault| refused(fault))?;
+    Ok(lines_of(alloc, records.as_slice())?)
+}
+
+/// Each record in hexadecimal on a line of its own.
+fn lines_of(alloc: Global, records: &[Vec<u8>]) -> Result<String, AllocError> {
     let mut text = String::new(alloc);
-    for record in records.iter() {
+    for record in records {
         text.push_str(hex::encode(alloc, record.as_slice())?.as_str())?;
         text.push_str("\n")?;
     }
-    printed(out.write_all(text.as_bytes()))
+    Ok(text)
 }
 
 /// What the user is told of bytes that are no output blocks.

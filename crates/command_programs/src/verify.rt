@@ -8,6 +8,7 @@ use clap::{Arg, ArgMatches, Command};
 use command_failure::{Failure, printed};
 use command_files::Files;
 use command_files::arguments::{and_argument, block_option, number, option, required};
+use instruction_set::Program;
 use interval_domain::Intervals;
 use std::alloc::{AllocError, Global};
 use std::io::Write;
@@ -70,7 +71,18 @@ pub fn verify<'a, F: Files, O: Write>(
     let block = number(matches, BLOCK)?;
     let limit = number(matches, EMIT)?;
     let program = read_program(alloc, required(matches, PROGRAM), files)?;
-    let sizes = run_sizes(block_size(block as usize)?, limit)?;
+    judge(alloc, program, block as usize, limit, out)
+}
+
+/// Prints whether a program is accepted for blocks of so many bytes and this limit.
+fn judge<'a, O: Write>(
+    alloc: Global,
+    program: Program,
+    block: usize,
+    limit: u32,
+    out: &mut O,
+) -> Result<(), Failure<'a>> {
+    let sizes = run_sizes(block_size(block)?, limit)?;
     let instructions = program.len();
     match verify_over::<Intervals>(alloc, program, sizes) {
         Ok(_) => printed(writeln!(out, "accepted {instructions}")),

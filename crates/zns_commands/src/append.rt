@@ -2,7 +2,7 @@
 
 ghost use Rattle.std.specs.Prelude.{◌≡◌, ◌≤◌, ◌<◌, ◌^◌, length, List, ℕ, OnOk, OnErr};
 ghost use Rattle.nvme_entry.specs.Checks.{first_refused, allowed};
-ghost use Rattle.zns_commands.specs.Address.{zone_number, write_pointer};
+ghost use Rattle.zns_commands.specs.Address.{IsPlace, zone_number, write_pointer};
 ghost use Rattle.zns_commands.specs.Answer.{outcome};
 ghost use Rattle.zns_commands.specs.Append.{append_checks, append_meaning};
 ghost use Rattle.zns_commands.specs.Write.{write_plan, written};
@@ -47,7 +47,15 @@ fn try_append(
     check_data(image, blocks, input)?;
     let zone = lowest(image, lba)?;
     let plan = check_end(image, holds, zone, blocks)?;
-    let assigned = lba + u64::from(image.zone(zone).written());
+    let assigned = pointer(image, zone, lba);
     put(image, plan, blocks, input);
     Ok(assigned)
+}
+
+/// The block that the next write to a zone goes to; `lba` is the zone's lowest.
+fn pointer(image: &Image, zone: u32, lba: u64) -> u64
+    requires { IsPlace image.now lba (record { zone = zone; offset = 0 }) }
+    ensures { result ≡ write_pointer image.now zone }
+{
+    lba + u64::from(image.zone(zone).written())
 }

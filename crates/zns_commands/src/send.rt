@@ -4,6 +4,7 @@ ghost use Rattle.std.specs.Prelude.{true, ◌≡◌, ◌<◌, ◌≤◌, ◌^◌
 ghost use Rattle.nvme_entry.specs.Checks.{first_refused, allowed};
 ghost use Rattle.image_store.specs.Namespace.{zone_at, with_zone, records, IsWithinLimits};
 ghost use Rattle.zns_commands.specs.Answer.{outcome};
+ghost use Rattle.zns_commands.specs.Resources.{closed, moved_to};
 ghost use Rattle.zns_commands.specs.Send.{send_meaning, send_checks, send_effect, room_of, zone_checks, zone_plan, zone_effect, all_checks, all_effect, all_fit, swept, takes, held_among, taken_among, CanMove};
 
 use crate::address::lowest;
@@ -57,9 +58,17 @@ fn send_to_zone(image: &mut Image, holds: &Holds, lba: u64, action: Action) -> R
     ensures err { OnErr result (image.new ≡ image.old) }
 {
     let plan = check_zone(image, holds, lba, action)?;
+    carry_out(image, plan);
+    Ok(())
+}
+
+/// Does what a plan says.
+fn carry_out(image: &mut Image, plan: ZonePlan)
+    requires { CanMove image.old plan }
+    ensures { image.new ≡ moved_to (closed image.old plan.closing) plan.zone plan.to }
+{
     give_way(image, plan.zone, plan.closing);
     move_to(image, plan.zone, plan.to);
-    Ok(())
 }
 
 /// Does Select All take a zone of this state?

@@ -1,6 +1,6 @@
 //! The words of a command line, and what they ask for.
 
-ghost use Rattle.std.specs.Prelude.{◌≡◌, ◌≢◌, ◌≤◌, ◌<◌, IfErr};
+ghost use Rattle.std.specs.Prelude.{◌≡◌, ◌≢◌, ◌≤◌, ◌<◌, IfErr, OnErr};
 ghost use Rattle.command_files.specs.Made.{MakesAtMostOne};
 
 use clap::error::ErrorKind;
@@ -77,11 +77,29 @@ fn perform<'a, F: Files, O: Write>(
         Some((format::NAME, matches)) => format::format(alloc, matches, files),
         Some((zones::NAME, matches)) => zones::zones(alloc, matches, files, out),
         Some((exec::NAME, matches)) => exec::exec(alloc, matches, files, out),
-        Some((asm::NAME, matches)) => asm::asm(alloc, matches, files),
-        Some((disasm::NAME, matches)) => disasm::disasm(alloc, matches, files, out),
-        Some((trace::NAME, matches)) => trace::trace(alloc, matches, files, out),
-        Some((verify::NAME, matches)) => verify::verify(alloc, matches, files, out),
-        Some((unpack::NAME, matches)) => unpack::unpack(alloc, matches, files, out),
+        Some((name, matches)) => perform_on_programs(alloc, line, name, matches, files, out),
+        None => Err(no_command(line)),
+    }
+}
+
+/// Does the command with this name, of those that need no device.
+fn perform_on_programs<'a, F: Files, O: Write>(
+    alloc: Global,
+    line: &mut Command<'a>,
+    name: &str,
+    matches: &ArgMatches<'a>,
+    files: &mut F,
+    out: &mut O,
+) -> Result<(), Failure<'a>>
+    ensures one { MakesAtMostOne (F.made files.old) (F.made files.new) }
+    ensures kept { OnErr result (F.made files.new ≡ F.made files.old) }
+{
+    match name {
+        asm::NAME => asm::asm(alloc, matches, files),
+        disasm::NAME => disasm::disasm(alloc, matches, files, out),
+        trace::NAME => trace::trace(alloc, matches, files, out),
+        verify::NAME => verify::verify(alloc, matches, files, out),
+        unpack::NAME => unpack::unpack(alloc, matches, files, out),
         _ => Err(no_command(line)),
     }
 }

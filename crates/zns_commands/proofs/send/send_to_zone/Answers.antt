@@ -1,6 +1,5 @@
 use Rattle.std.proofs.Common.{ap, ◌∙◌}
 use Rattle.nvme_entry.specs.Checks.{first_refused}
-use Rattle.image_store.specs.Namespace.{ZonedNamespace}
 use Rattle.zns_commands.specs.Resources.{closed, moved_to}
 use Rattle.zns_commands.specs.Send.{zone_checks, zone_plan}
 use Rattle.zns_commands.specs.declared.send.ZonePlan.{ZonePlan}
@@ -12,6 +11,4 @@ returns-clause-ok c =
     let ns = c.args.image.now in
     let plan = zone_plan ns c.args.holds.now c.args.lba c.args.action in
     let same = allowed_ok (first_refused (zone_checks ns c.args.holds.now c.args.lba c.args.action)) plan c.in_ok-plan.plan c.in_ok-plan.ensures.value in
-    c.move_to.ensures
-    ∙ (ap (λ (m : ZonedNamespace). moved_to m c.in_ok-plan.plan.zone c.in_ok-plan.plan.to) c.give_way.ensures
-    ∙ ap (λ (p : ZonePlan). moved_to (closed ns p.closing) p.zone p.to) same)
+    c.carry_out.ensures ∙ ap (λ (p : ZonePlan). moved_to (closed ns p.closing) p.zone p.to) same
