@@ -132,12 +132,12 @@ const ALL_OF_NO_ZONES: &[Case] = &[
 
 const ZONES_THAT_FAIL: &[Case] = &[
     (
-        Step::Append(1, 0, &[("a5", 2 * 512)]),
+        Step::Append(1, 0, "a5*1024"),
         "cpl 1 00000000000000000000010001000000",
     ),
     (Step::Line("fault 0 readonly"), "done"),
     (
-        Step::Read(2, 0, 2, &[("a5", 1024)]),
+        Step::Read(2, 0, 2, "a5*1024"),
         "cpl 1 00000000000000000000010002000000",
     ),
     (
@@ -153,7 +153,7 @@ const ZONES_THAT_FAIL: &[Case] = &[
         "cpl 1 00000000000000000000010005000000",
     ),
     (
-        Step::Read(6, 0, 1, &[]),
+        Step::Read(6, 0, 1, ""),
         "cpl 1 00000000000000000000010006007603",
     ),
     (Step::Line("fault 0 readonly"), "refused"),
@@ -225,11 +225,11 @@ const A_ZONE_IS_OPENED_CLOSED_AND_FINISHED: &[Case] = &[
     ),
 ];
 
-const SCENES: &[Scene] = &[
+const ACTIONS: &[Scene] = &[
     Scene {
         name: "open closes a zone to make room",
         acts: &[
-            Act::Image("g1", &G1, ALL_EMPTY),
+            Act::Image("g1", G1, ALL_EMPTY),
             Act::Events(OPEN_CLOSES_A_ZONE_TO_MAKE_ROOM),
             Act::Answers(EXEC),
             Act::Prints(
@@ -241,7 +241,7 @@ const SCENES: &[Scene] = &[
     Scene {
         name: "open finds no zone to close",
         acts: &[
-            Act::Image("g1", &G1, ALL_EMPTY),
+            Act::Image("g1", G1, ALL_EMPTY),
             Act::Events(OPEN_FINDS_NO_ZONE_TO_CLOSE),
             Act::Answers(EXEC),
             Act::Prints(
@@ -253,7 +253,7 @@ const SCENES: &[Scene] = &[
     Scene {
         name: "open of all closes no zone",
         acts: &[
-            Act::Image("g1", &G1, ALL_EMPTY),
+            Act::Image("g1", G1, ALL_EMPTY),
             Act::Events(OPEN_OF_ALL_CLOSES_NO_ZONE),
             Act::Answers(EXEC),
             Act::Prints(
@@ -265,7 +265,7 @@ const SCENES: &[Scene] = &[
     Scene {
         name: "all of no zones",
         acts: &[
-            Act::Image("g1", &G1, ALL_EMPTY),
+            Act::Image("g1", G1, ALL_EMPTY),
             Act::Events(ALL_OF_NO_ZONES),
             Act::Answers(EXEC),
             Act::Prints(
@@ -277,7 +277,7 @@ const SCENES: &[Scene] = &[
     Scene {
         name: "zones that fail",
         acts: &[
-            Act::Image("g1", &G1, ALL_EMPTY),
+            Act::Image("g1", G1, ALL_EMPTY),
             Act::Events(ZONES_THAT_FAIL),
             Act::Answers(EXEC),
             Act::Prints(
@@ -286,10 +286,18 @@ const SCENES: &[Scene] = &[
             ),
         ],
     },
+];
+
+#[test]
+fn actions_on_zones(rt: HostRuntime) -> Result<(), Fail> {
+    play(&rt, rt.alloc(), ACTIONS)
+}
+
+const LIMITS: &[Scene] = &[
     Scene {
         name: "appends within the limits",
         acts: &[
-            Act::Image("g1", &G1, ALL_EMPTY),
+            Act::Image("g1", G1, ALL_EMPTY),
             Act::Events(APPENDS_WITHIN_THE_LIMITS),
             Act::Answers(EXEC),
             Act::Prints(
@@ -301,7 +309,7 @@ const SCENES: &[Scene] = &[
     Scene {
         name: "append finds no zone to close",
         acts: &[
-            Act::Image("g1", &G1, ALL_EMPTY),
+            Act::Image("g1", G1, ALL_EMPTY),
             Act::Events(APPEND_FINDS_NO_ZONE_TO_CLOSE),
             Act::Answers(EXEC),
             Act::Prints(
@@ -313,7 +321,7 @@ const SCENES: &[Scene] = &[
     Scene {
         name: "a zone is opened closed and finished",
         acts: &[
-            Act::Image("g1", &G1, ALL_EMPTY),
+            Act::Image("g1", G1, ALL_EMPTY),
             Act::Events(A_ZONE_IS_OPENED_CLOSED_AND_FINISHED),
             Act::Answers(EXEC),
             Act::Prints(
@@ -325,6 +333,6 @@ const SCENES: &[Scene] = &[
 ];
 
 #[test]
-fn actions_and_limits(rt: HostRuntime) -> Result<(), Fail> {
-    play(&rt, rt.alloc(), SCENES)
+fn limits_on_open_and_active_zones(rt: HostRuntime) -> Result<(), Fail> {
+    play(&rt, rt.alloc(), LIMITS)
 }

@@ -1,9 +1,7 @@
 //! Which runs are admitted.
 
 use super::scenes::{Act, Scene, play};
-use super::steps::{
-    CLOSED, Case, EMPTY, EXPLICIT, FULL, G1, G2, G3, MATCHING, OFFLINE, RETURNING, Step,
-};
+use super::steps::{Case, G1, G2, G3, MATCHING, RETURNING, Step, Zones};
 use std::test::Fail;
 
 /// Zone 0 has 3 blocks, zone 1 is open, zone 2 is Offline and zone 3 Closed.
@@ -14,17 +12,17 @@ const REFUSED: &[Case] = &[
     ),
     // There are 8 slots.
     (
-        Step::Entry(0xc0, 2, [0, 0, 0x8_0000, 0, 8, 0], &[]),
+        Step::Entry(0xc0, 2, [0, 0, 0x8_0000, 0, 8, 0], ""),
         "cpl 1 00000000000000000000010002000400",
     ),
     // A Run takes no bytes.
     (
-        Step::Entry(0xc0, 2, [0, 0, 0, 0, 8, 0], &[("00", 1)]),
+        Step::Entry(0xc0, 2, [0, 0, 0, 0, 8, 0], "00"),
         "cpl 1 00000000000000000000010002000400",
     ),
     // Slot 1 has no program, which comes before the addresses.
     (
-        Step::Entry(0xc0, 2, [99, 0, 0x1_0000, 0, 8, 0], &[]),
+        Step::Entry(0xc0, 2, [99, 0, 0x1_0000, 0, 8, 0], ""),
         "cpl 1 0000000000000000000001000200820f",
     ),
     // There are 32 blocks.
@@ -178,16 +176,7 @@ const SCENES: &[Scene] = &[
     Scene {
         name: "runs that are refused",
         acts: &[
-            Act::Image(
-                "image",
-                &G1,
-                &[
-                    (CLOSED, &[7, 7, 7]),
-                    (EXPLICIT, &[]),
-                    (OFFLINE, &[]),
-                    (CLOSED, &[1]),
-                ],
-            ),
+            Act::Image("image", G1, "closed 07 07 07, explicit, offline, closed 01"),
             Act::Events(REFUSED),
             Act::Answers("zscli exec image events"),
             Act::Prints(
@@ -199,7 +188,7 @@ const SCENES: &[Scene] = &[
     Scene {
         name: "room for all that could come",
         acts: &[
-            Act::Image("image", &G2, &[(CLOSED, &[7; 52]), (EXPLICIT, &[0; 63])]),
+            Act::Image("image", G2, "closed 07*52, explicit 00*63"),
             Act::Events(ROOM),
             Act::Answers("zscli exec image events"),
             Act::Prints("zscli zones image", "0 closed 52\n1 full 64\n"),
@@ -210,17 +199,8 @@ const SCENES: &[Scene] = &[
         acts: &[
             Act::Image(
                 "image",
-                &G3,
-                &[
-                    (FULL, &[0; 8]),
-                    (EXPLICIT, &[]),
-                    (EXPLICIT, &[]),
-                    (EXPLICIT, &[]),
-                    (EXPLICIT, &[]),
-                    (EXPLICIT, &[]),
-                    (EMPTY, &[]),
-                    (EMPTY, &[]),
-                ],
+                G3,
+                "full 00*8, explicit, explicit, explicit, explicit, explicit, empty, empty",
             ),
             Act::Events(FOUR),
             Act::Answers("zscli exec image events"),

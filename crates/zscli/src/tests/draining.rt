@@ -1,7 +1,7 @@
 //! Turns after the last event.
 
 use super::scenes::{Act, Scene, play};
-use super::steps::{CLOSED, Case, EMPTY, EXPLICIT, FULL, G1, G3, RETURNING, Step, Zone};
+use super::steps::{Case, G1, G3, RETURNING, Step, Zones};
 use std::test::Fail;
 
 /// A run of two blocks, and one of one block, without a turn.
@@ -28,10 +28,7 @@ const COPYING: &[Case] = &[
             1,
             0,
             512,
-            &[(
-                "bf21000000000000b7020000fe0100008500000001000000b7000000000000009500000000000000",
-                1,
-            )],
+            "bf21000000000000b7020000fe0100008500000001000000b7000000000000009500000000000000",
         ),
         "",
     ),
@@ -40,42 +37,42 @@ const COPYING: &[Case] = &[
 
 /// The turn is done whose line standard output doesn't take, and no later one.
 const STOPPED: &[Act] = &[
-    Act::Image("image", &G1, THREE_BLOCKS),
+    Act::Image("image", G1, THREE_BLOCKS),
     Act::Events(COPYING),
     Act::Stops("zscli exec image events", 0, 1, "cannot write -\n"),
     Act::Prints(
         "zscli zones image",
         "0 closed 3\n1 explicit 0\n2 empty 0\n3 empty 0\n",
     ),
-    Act::Image("image", &G1, THREE_BLOCKS),
+    Act::Image("image", G1, THREE_BLOCKS),
     Act::Events(COPYING),
     Act::Stops("zscli exec image events", 1, 1, "cannot write -\n"),
     Act::Prints(
         "zscli zones image",
         "0 closed 3\n1 explicit 0\n2 empty 0\n3 empty 0\n",
     ),
-    Act::Image("image", &G1, THREE_BLOCKS),
+    Act::Image("image", G1, THREE_BLOCKS),
     Act::Events(COPYING),
     Act::Stops("zscli exec image events", 2, 1, "cannot write -\n"),
     Act::Prints(
         "zscli zones image",
         "0 closed 3\n1 explicit 0\n2 empty 0\n3 empty 0\n",
     ),
-    Act::Image("image", &G1, THREE_BLOCKS),
+    Act::Image("image", G1, THREE_BLOCKS),
     Act::Events(COPYING),
     Act::Stops("zscli exec image events", 3, 1, "cannot write -\n"),
     Act::Prints(
         "zscli zones image",
         "0 closed 3\n1 explicit 1\n2 empty 0\n3 empty 0\n",
     ),
-    Act::Image("image", &G1, THREE_BLOCKS),
+    Act::Image("image", G1, THREE_BLOCKS),
     Act::Events(COPYING),
     Act::Stops("zscli exec image events", 4, 1, "cannot write -\n"),
     Act::Prints(
         "zscli zones image",
         "0 closed 3\n1 explicit 3\n2 empty 0\n3 empty 0\n",
     ),
-    Act::Image("image", &G1, THREE_BLOCKS),
+    Act::Image("image", G1, THREE_BLOCKS),
     Act::Events(COPYING),
     Act::Stops("zscli exec image events", 5, 0, ""),
     Act::Prints(
@@ -84,12 +81,7 @@ const STOPPED: &[Act] = &[
     ),
 ];
 
-const THREE_BLOCKS: &[Zone] = &[
-    (CLOSED, &[1, 2, 3]),
-    (EXPLICIT, &[]),
-    (EMPTY, &[]),
-    (EMPTY, &[]),
-];
+const THREE_BLOCKS: Zones = "closed 01 02 03, explicit, empty, empty";
 
 const SCENES: &[Scene] = &[
     Scene {
@@ -97,17 +89,8 @@ const SCENES: &[Scene] = &[
         acts: &[
             Act::Image(
                 "image",
-                &G3,
-                &[
-                    (FULL, &[0; 8]),
-                    (EXPLICIT, &[]),
-                    (EXPLICIT, &[]),
-                    (EMPTY, &[]),
-                    (EMPTY, &[]),
-                    (EMPTY, &[]),
-                    (EMPTY, &[]),
-                    (EMPTY, &[]),
-                ],
+                G3,
+                "full 00*8, explicit, explicit, empty, empty, empty, empty, empty",
             ),
             Act::Events(LEFT),
             Act::Answers("zscli exec image events"),

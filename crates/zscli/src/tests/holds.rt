@@ -1,7 +1,7 @@
 //! What active runs keep from their zones.
 
 use super::scenes::{Act, Scene, play};
-use super::steps::{Case, EMPTY, EXPLICIT, FULL, G1, IMPLICIT, RETURNING, Step};
+use super::steps::{Case, G1, RETURNING, Step};
 use std::test::Fail;
 
 const RESET_OF_ALL: &[Case] = &[
@@ -34,11 +34,11 @@ const BETWEEN: &[Case] = &[
     (Step::Line("fault 0 offline"), "refused"),
     // Its destination.
     (
-        Step::Append(4, 8, &[("01", 1), ("00", 511)]),
+        Step::Append(4, 8, "01 00*511"),
         "cpl 1 0000000000000000000001000400800f",
     ),
     (
-        Step::Write(5, 9, &[("01", 1), ("00", 511)]),
+        Step::Write(5, 9, "01 00*511"),
         "cpl 1 0000000000000000000001000500800f",
     ),
     (
@@ -47,12 +47,12 @@ const BETWEEN: &[Case] = &[
     ),
     (Step::Line("fault 1 readonly"), "refused"),
     (
-        Step::Read(7, 8, 1, &[("02", 1), ("00", 511)]),
+        Step::Read(7, 8, 1, "02 00*511"),
         "cpl 1 00000000000000000000010007000000",
     ),
     // A third zone is opened: zone 2 gives way, and not zone 1, which is lower.
     (
-        Step::Write(8, 24, &[("01", 1), ("00", 511)]),
+        Step::Write(8, 24, "01 00*511"),
         "cpl 1 00000000000000000000010008000000",
     ),
     (Step::Turns(0, 1), "cpl 1 00000000000000000000010002000000"),
@@ -76,7 +76,7 @@ const CLOSING: &[Case] = &[
     ),
     // The source may be appended to, closed and finished.
     (
-        Step::Append(4, 0, &[("01", 1), ("00", 511)]),
+        Step::Append(4, 0, "01 00*511"),
         "cpl 1 02000000000000000000010004000000",
     ),
     (
@@ -95,16 +95,7 @@ const SCENES: &[Scene] = &[
     Scene {
         name: "all zones but a source",
         acts: &[
-            Act::Image(
-                "image",
-                &G1,
-                &[
-                    (FULL, &[1; 6]),
-                    (EXPLICIT, &[]),
-                    (FULL, &[2; 6]),
-                    (EMPTY, &[]),
-                ],
-            ),
+            Act::Image("image", G1, "full 01*6, explicit, full 02*6, empty"),
             Act::Events(RESET_OF_ALL),
             Act::Answers("zscli exec image events"),
             Act::Prints(
@@ -116,16 +107,7 @@ const SCENES: &[Scene] = &[
     Scene {
         name: "zones of a run",
         acts: &[
-            Act::Image(
-                "image",
-                &G1,
-                &[
-                    (FULL, &[1; 6]),
-                    (IMPLICIT, &[2]),
-                    (IMPLICIT, &[3]),
-                    (EMPTY, &[]),
-                ],
-            ),
+            Act::Image("image", G1, "full 01*6, implicit 02, implicit 03, empty"),
             Act::Events(BETWEEN),
             Act::Answers("zscli exec image events"),
             Act::Prints(
@@ -137,16 +119,7 @@ const SCENES: &[Scene] = &[
     Scene {
         name: "a source is closed and finished",
         acts: &[
-            Act::Image(
-                "image",
-                &G1,
-                &[
-                    (IMPLICIT, &[1, 2]),
-                    (EXPLICIT, &[]),
-                    (EMPTY, &[]),
-                    (EMPTY, &[]),
-                ],
-            ),
+            Act::Image("image", G1, "implicit 01 02, explicit, empty, empty"),
             Act::Events(CLOSING),
             Act::Answers("zscli exec image events"),
             Act::Prints(

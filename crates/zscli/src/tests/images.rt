@@ -252,7 +252,7 @@ const FAILING: &[Act] = &[
     Act::Fails("zscli zones g1", 1, "", "cannot read g1\n"),
 ];
 
-const SCENES: &[Scene] = &[
+const MADE: &[Scene] = &[
     Scene {
         name: "format makes an image",
         acts: FORMATTED,
@@ -261,6 +261,14 @@ const SCENES: &[Scene] = &[
         name: "numbers that are no geometry",
         acts: NO_GEOMETRY,
     },
+];
+
+#[test]
+fn images_that_are_made(rt: HostRuntime) -> Result<(), Fail> {
+    play(&rt, rt.alloc(), MADE)
+}
+
+const CHANGED: &[Scene] = &[
     Scene {
         name: "exec writes the image",
         acts: WRITTEN,
@@ -277,6 +285,14 @@ const SCENES: &[Scene] = &[
         name: "exec that can write nothing leaves the image",
         acts: NOT_SAVED,
     },
+];
+
+#[test]
+fn images_that_are_changed(rt: HostRuntime) -> Result<(), Fail> {
+    play(&rt, rt.alloc(), CHANGED)
+}
+
+const OTHERS: &[Scene] = &[
     Scene {
         name: "files that are no image",
         acts: NO_IMAGE,
@@ -288,6 +304,6 @@ const SCENES: &[Scene] = &[
 ];
 
 #[test]
-fn images_in_files(rt: HostRuntime) -> Result<(), Fail> {
-    play(&rt, rt.alloc(), SCENES)
+fn files_that_are_no_image_or_fail(rt: HostRuntime) -> Result<(), Fail> {
+    play(&rt, rt.alloc(), OTHERS)
 }

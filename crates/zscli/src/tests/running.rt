@@ -1,7 +1,7 @@
 //! Runs, turn by turn.
 
 use super::scenes::{Act, Scene, play};
-use super::steps::{CLOSED, Case, EMPTY, EXPLICIT, G1, G2, IMPLICIT, MATCHING, RETURNING, Step};
+use super::steps::{Case, G1, G2, MATCHING, RETURNING, Step};
 use std::test::Fail;
 
 const TURNS: &[Case] = &[
@@ -28,7 +28,7 @@ const PACKED: &[Case] = &[
     (Step::Turns(0, 51), "pending 0"),
     // So nothing is appended yet: a block that isn't written reads as zeros.
     (
-        Step::Read(3, 64, 1, &[("00", 512)]),
+        Step::Read(3, 64, 1, "00*512"),
         "cpl 1 00000000000000000000010003000000",
     ),
     // 52 records in 2 blocks.
@@ -38,12 +38,7 @@ const PACKED: &[Case] = &[
             4,
             64,
             2,
-            &[
-                ("08000700000000000000", 51),
-                ("00", 2),
-                ("08000700000000000000", 1),
-                ("00", 502),
-            ],
+            "08000700000000000000*51 00*2 08000700000000000000 00*502",
         ),
         "cpl 1 00000000000000000000010004000000",
     ),
@@ -56,11 +51,8 @@ const SUMMING: &[Case] = &[
             1,
             0,
             0,
-            &[(
-                "712400000000000079350000000000000f450000000000007b5300000000000061160800000000\
+            "712400000000000079350000000000000f450000000000007b5300000000000061160800000000\
 00b7000000000000005506010002000000b7000000010000009500000000000000",
-                1,
-            )],
         ),
         "cpl 1 00000000000000000000010001000000",
     ),
@@ -70,7 +62,7 @@ const SUMMING: &[Case] = &[
     (Step::Turns(0, 1), "idle"),
     // 1 and 2 and 3.
     (
-        Step::Result(3, 0, &[("06", 1), ("00", 1023)]),
+        Step::Result(3, 0, "06 00*1023"),
         "cpl 1 00000000000000000000010003000000",
     ),
 ];
@@ -82,10 +74,7 @@ const ENDING: &[Case] = &[
             1,
             0,
             3,
-            &[(
-                "bf21000000000000b7020000010000008500000001000000b7000000010000009500000000000000",
-                1,
-            )],
+            "bf21000000000000b7020000010000008500000001000000b7000000010000009500000000000000",
         ),
         "cpl 1 00000000000000000000010001000000",
     ),
@@ -93,7 +82,7 @@ const ENDING: &[Case] = &[
     (Step::Turns(0, 1), "cpl 1 01000000010000000000010002000000"),
     // What it emitted for that block is kept.
     (
-        Step::Read(3, 8, 1, &[("010009", 1), ("00", 509)]),
+        Step::Read(3, 8, 1, "010009 00*509"),
         "cpl 1 00000000000000000000010003000000",
     ),
 ];
@@ -105,11 +94,8 @@ const GROWING: &[Case] = &[
             1,
             0,
             10,
-            &[(
-                "712600000000000057060000070000000706000001000000bf21000000000000bf620000000000\
+            "712600000000000057060000070000000706000001000000bf21000000000000bf620000000000\
 008500000001000000b7000000000000009500000000000000",
-                1,
-            )],
         ),
         "cpl 1 00000000000000000000010001000000",
     ),
@@ -117,16 +103,7 @@ const GROWING: &[Case] = &[
     (Step::Turns(0, 1), "pending 0"),
     (Step::Turns(0, 1), "cpl 1 02000000010000000000010002000000"),
     (
-        Step::Read(
-            3,
-            8,
-            1,
-            &[
-                ("040003000000", 1),
-                ("08000700000000000000", 1),
-                ("00", 496),
-            ],
-        ),
+        Step::Read(3, 8, 1, "040003000000 08000700000000000000 00*496"),
         "cpl 1 00000000000000000000010003000000",
     ),
 ];
@@ -138,16 +115,13 @@ const TOLD: &[Case] = &[
             1,
             5,
             34,
-            &[(
-                "b7020000200000008500000001000000b7000000000000009500000000000000",
-                1,
-            )],
+            "b7020000200000008500000001000000b7000000000000009500000000000000",
         ),
         "cpl 1 00000000000000000000010001000000",
     ),
     // 2 blocks from block 1 on, by slot 5 and with argument abcdh.
     (
-        Step::Entry(0xc0, 2, [1, 0, 0x5_0001, 0xabcd, 8, 0], &[]),
+        Step::Entry(0xc0, 2, [1, 0, 0x5_0001, 0xabcd, 8, 0], ""),
         "pending 0",
     ),
     (Step::Turns(0, 1), "pending 0"),
@@ -158,13 +132,7 @@ const TOLD: &[Case] = &[
             3,
             8,
             1,
-            &[
-                ("200001000000000000000000000002000000", 1),
-                ("00020000cdab00000000000000000000", 1),
-                ("200002000000000000000100000002000000", 1),
-                ("00020000cdab00000000000000000000", 1),
-                ("00", 444),
-            ],
+            "200001000000000000000000000002000000 00020000cdab00000000000000000000 200002000000000000000100000002000000 00020000cdab00000000000000000000 00*444",
         ),
         "cpl 1 00000000000000000000010003000000",
     ),
@@ -203,12 +171,12 @@ const ONE_BY_ONE: &[Case] = &[
 ];
 
 const APPENDED_BY_FIRST: Case = (
-    Step::Read(4, 10, 1, &[("08000700000000000000", 2), ("00", 492)]),
+    Step::Read(4, 10, 1, "08000700000000000000*2 00*492"),
     "cpl 1 00000000000000000000010004000000",
 );
 
 const APPENDED_BY_SECOND: Case = (
-    Step::Read(5, 16, 1, &[("08000700000000000000", 2), ("00", 492)]),
+    Step::Read(5, 16, 1, "08000700000000000000*2 00*492"),
     "cpl 1 00000000000000000000010005000000",
 );
 
@@ -222,25 +190,16 @@ const FILLING: &[Case] = &[
     (Step::Turns(0, 1), "cpl 1 02000000010000000000010002000000"),
     // The zone is Full.
     (
-        Step::Append(3, 8, &[("00", 512)]),
+        Step::Append(3, 8, "00*512"),
         "cpl 1 00000000000000000000010003007203",
     ),
 ];
 
-const SCENES: &[Scene] = &[
+const EMITTED: &[Scene] = &[
     Scene {
         name: "a turn for each block",
         acts: &[
-            Act::Image(
-                "image",
-                &G1,
-                &[
-                    (IMPLICIT, &[1, 2, 3]),
-                    (EXPLICIT, &[]),
-                    (EMPTY, &[]),
-                    (EMPTY, &[]),
-                ],
-            ),
+            Act::Image("image", G1, "implicit 01 02 03, explicit, empty, empty"),
             Act::Events(TURNS),
             Act::Answers("zscli exec image events"),
             Act::Prints(
@@ -252,7 +211,7 @@ const SCENES: &[Scene] = &[
     Scene {
         name: "groups are packed into blocks",
         acts: &[
-            Act::Image("image", &G2, &[(CLOSED, &[7; 52]), (EXPLICIT, &[])]),
+            Act::Image("image", G2, "closed 07*52, explicit"),
             Act::Events(PACKED),
             Act::Answers("zscli exec image events"),
             Act::Prints("zscli zones image", "0 closed 52\n1 explicit 2\n"),
@@ -263,8 +222,8 @@ const SCENES: &[Scene] = &[
         acts: &[
             Act::Image(
                 "image",
-                &G2,
-                &[(CLOSED, &[1, 2, 3, 4, 5, 6, 7, 8, 9, 10]), (EXPLICIT, &[])],
+                G2,
+                "closed 01 02 03 04 05 06 07 08 09 0a, explicit",
             ),
             Act::Events(SUMMING),
             Act::Answers("zscli exec image events"),
@@ -274,16 +233,7 @@ const SCENES: &[Scene] = &[
     Scene {
         name: "a program ends its run",
         acts: &[
-            Act::Image(
-                "image",
-                &G1,
-                &[
-                    (IMPLICIT, &[9, 8, 7]),
-                    (EXPLICIT, &[]),
-                    (EMPTY, &[]),
-                    (EMPTY, &[]),
-                ],
-            ),
+            Act::Image("image", G1, "implicit 09 08 07, explicit, empty, empty"),
             Act::Events(ENDING),
             Act::Answers("zscli exec image events"),
             Act::Prints(
@@ -295,16 +245,7 @@ const SCENES: &[Scene] = &[
     Scene {
         name: "records of many lengths",
         acts: &[
-            Act::Image(
-                "image",
-                &G1,
-                &[
-                    (IMPLICIT, &[3, 7]),
-                    (EXPLICIT, &[]),
-                    (EMPTY, &[]),
-                    (EMPTY, &[]),
-                ],
-            ),
+            Act::Image("image", G1, "implicit 03 07, explicit, empty, empty"),
             Act::Events(GROWING),
             Act::Answers("zscli exec image events"),
             Act::Prints(
@@ -316,16 +257,7 @@ const SCENES: &[Scene] = &[
     Scene {
         name: "what a program is told",
         acts: &[
-            Act::Image(
-                "image",
-                &G1,
-                &[
-                    (IMPLICIT, &[1, 2, 3]),
-                    (EXPLICIT, &[]),
-                    (EMPTY, &[]),
-                    (EMPTY, &[]),
-                ],
-            ),
+            Act::Image("image", G1, "implicit 01 02 03, explicit, empty, empty"),
             Act::Events(TOLD),
             Act::Answers("zscli exec image events"),
             Act::Prints(
@@ -334,19 +266,18 @@ const SCENES: &[Scene] = &[
             ),
         ],
     },
+];
+
+#[test]
+fn what_runs_emit_and_leave(rt: HostRuntime) -> Result<(), Fail> {
+    play(&rt, rt.alloc(), EMITTED)
+}
+
+const TURNS_OF_RUNS: &[Scene] = &[
     Scene {
         name: "turns of two runs, one after the other",
         acts: &[
-            Act::Image(
-                "image",
-                &G1,
-                &[
-                    (CLOSED, &[7, 7]),
-                    (IMPLICIT, &[7, 7]),
-                    (EXPLICIT, &[]),
-                    (EMPTY, &[]),
-                ],
-            ),
+            Act::Image("image", G1, "closed 07 07, implicit 07 07, explicit, empty"),
             Act::Events(IN_TURN),
             Act::Answers("zscli exec image events"),
             Act::Prints(
@@ -358,16 +289,7 @@ const SCENES: &[Scene] = &[
     Scene {
         name: "turns of two runs, the second before the first",
         acts: &[
-            Act::Image(
-                "image",
-                &G1,
-                &[
-                    (CLOSED, &[7, 7]),
-                    (IMPLICIT, &[7, 7]),
-                    (EXPLICIT, &[]),
-                    (EMPTY, &[]),
-                ],
-            ),
+            Act::Image("image", G1, "closed 07 07, implicit 07 07, explicit, empty"),
             Act::Events(ONE_BY_ONE),
             Act::Answers("zscli exec image events"),
             Act::Prints(
@@ -381,13 +303,8 @@ const SCENES: &[Scene] = &[
         acts: &[
             Act::Image(
                 "image",
-                &G1,
-                &[
-                    (CLOSED, &[7, 7]),
-                    (IMPLICIT, &[1, 2, 3, 4, 5]),
-                    (EMPTY, &[]),
-                    (EMPTY, &[]),
-                ],
+                G1,
+                "closed 07 07, implicit 01 02 03 04 05, empty, empty",
             ),
             Act::Events(FILLING),
             Act::Answers("zscli exec image events"),
@@ -400,6 +317,6 @@ const SCENES: &[Scene] = &[
 ];
 
 #[test]
-fn running(rt: HostRuntime) -> Result<(), Fail> {
-    play(&rt, rt.alloc(), SCENES)
+fn turns_in_any_order(rt: HostRuntime) -> Result<(), Fail> {
+    play(&rt, rt.alloc(), TURNS_OF_RUNS)
 }

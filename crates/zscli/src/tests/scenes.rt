@@ -1,7 +1,7 @@
 //! What is done with files and command lines, as data, and what has to come of it.
 
-use super::stage::{Parts, Stage};
-use super::steps::{ALL_EMPTY, Case, G1, Shape, Zone};
+use super::stage::{At, Parts, Stage};
+use super::steps::{ALL_EMPTY, Case, G1, Shape, Zones};
 use std::alloc::Global;
 use std::process::Abort;
 use std::test::Fail;
@@ -36,7 +36,7 @@ pub(super) enum Act {
     /// Puts a file of these bytes.
     Put(&'static str, Parts),
     /// Puts an image with these zones.
-    Image(&'static str, &'static Shape, &'static [Zone]),
+    Image(&'static str, Shape, Zones),
     /// Puts the command file of these steps as `events`.
     Events(&'static [Case]),
     /// From now on no file can be larger.
@@ -86,28 +86,44 @@ fn perform(rt: &impl Abort, stage: &mut Stage, scene: &str, act: Act) -> Result<
             stage.files.put("events", events)?;
         }
         Act::Put(file, parts) => stage.put(file, parts)?,
-        Act::Image(file, shape, zones) => stage.put_image(file, shape, zones)?,
+        Act::Image(file, shape, zones) => stage.put_image(file, &shape, zones)?,
         Act::Events(steps) => stage.put_events(steps)?,
         Act::Room(room) => stage.files.room = room,
         Act::Unreadable => stage.files.fails = true,
-        Act::Prints(line, out) => stage.check(rt, scene, line, 0, out, "")?,
-        Act::Answers(line) => stage.check_answers(rt, scene, line)?,
-        Act::Fails(line, status, out, err) => stage.check(rt, scene, line, status, out, err)?,
-        Act::Stops(line, writes, status, err) => {
-            stage.check_stopped(rt, scene, line, writes, status, err)?;
+        _ => judge(rt, stage, scene, act)?,
+    }
+    Ok(())
+}
+
+/// Runs the command line of an act that has one, and compares.
+fn judge(rt: &impl Abort, stage: &mut Stage, scene: &str, act: Act) -> Result<(), Fail> {
+    match act {
+        Act::Prints(line, out) => stage.check(rt, &At { scene, line }, 0, out, "")?,
+        Act::Answers(line) => stage.check_answers(rt, &At { scene, line })?,
+        Act::Fails(line, status, out, err) => {
+            stage.check(rt, &At { scene, line }, status, out, err)?;
         }
-        Act::Tells(line, status) => stage.check_usage(rt, scene, line, status)?,
-        Act::Has(file, parts) => stage.check_file(rt, scene, file, parts)?,
-        Act::HasNo(file) => assert!(rt; stage.files.bytes(file).is_none(), "{scene}: {file}"),
+        Act::Stops(line, writes, status, err) => {
+            stage.run(line, writes)?;
+            stage.check_end(rt, &At { scene, line }, status, err);
+        }
+        Act::Tells(line, status) => {
+            stage.run(line, usize::MAX)?;
+            stage.check_usage(rt, &At { scene, line }, status);
+        }
+        Act::Has(line, parts) => stage.check_file(rt, &At { scene, line }, parts)?,
+        Act::HasNo(line) => assert!(rt; stage.files.bytes(line).is_none(), "{scene}: {line}"),
         Act::Verify(text, emit, answer) => {
             stage.files.put("events", text.as_bytes())?;
-            stage.check(rt, text, "zscli asm events made", 0, "", "")?;
+            let line = "zscli asm events made";
+            stage.check(rt, &At { scene: text, line }, 0, "", "")?;
             stage.check_program(rt, text, "made", emit, answer)?;
         }
         Act::VerifyDigits(digits, emit, answer) => {
             stage.put_program(digits)?;
             stage.check_program(rt, digits, "events", emit, answer)?;
         }
+        _ => {}
     }
     Ok(())
 }

@@ -84,13 +84,8 @@ fn check(
     let mut device = device(alloc)?;
     let mut out = Kept::new(alloc, room);
     let served = device.serve(&events, data.as_mut_slice(), &mut out);
-    assert_eq!(rt; served, expected, "room for {room}");
-    assert_eq!(rt; out.answers.len(), room, "room for {room}");
-    assert_eq!(rt;
-        out.refusals(),
-        u64::from(expected.is_err()),
-        "room for {room}"
-    );
+    let told = (served, out.answers.len(), out.refusals());
+    assert_eq!(rt; told, (expected, room, u64::from(expected.is_err())));
     Ok(())
 }
 

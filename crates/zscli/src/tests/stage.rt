@@ -1,7 +1,7 @@
 //! Where command lines run.
 
 use super::memory::Memory;
-use super::steps::{Case, Lines, Shape, Zone, write_image};
+use super::steps::{Case, Lines, Shape, bytes_of, write_image};
 use crate::commands::command;
 use std::alloc::{AllocError, Global};
 use std::io::{self, Write};
@@ -34,7 +34,14 @@ impl Write for Printed {
     }
 }
 
-/// Files, and what the last command line printed that ran on them.
+/// Where something was compared: a scene, and a command line of it, a program or a file.
+#[derive(Clone, Copy, Debug)]
+pub(super) struct At<'a> {
+    pub(super) scene: &'a str,
+    pub(super) line: &'a str,
+}
+
+/// Files, and how the last command line ended that ran on them.
 #[derive(Drop)]
 pub(super) struct Stage {
     alloc: Global,
@@ -42,6 +49,7 @@ pub(super) struct Stage {
     lines: Lines,
     out: Printed,
     err: Vec<u8>,
+    status: u8,
 }
 
 impl Stage {
@@ -56,6 +64,7 @@ impl Stage {
                 writes: 0,
             },
             err: Vec::new(alloc),
+            status: 0,
         }
     }
 
@@ -66,35 +75,29 @@ impl Stage {
     }
 
     /// Puts an image with these zones.
-    pub(super) fn put_image(
-        &mut self,
-        file: &str,
-        shape: &Shape,
-        zones: &[Zone],
-    ) -> Result<(), AllocError> {
+    pub(super) fn put_image(&mut self, file: &str, shape: &Shape, zones: &str) -> Result<(), Fail> {
         let mut bytes = Vec::new(self.alloc);
         write_image(&mut bytes, shape, zones)?;
-        self.files.put(file, bytes.as_slice())
+        Ok(self.files.put(file, bytes.as_slice())?)
     }
 
     /// Puts the command file of these steps as `events`.
-    pub(super) fn put_events(&mut self, steps: &[Case]) -> Result<(), AllocError> {
+    pub(super) fn put_events(&mut self, steps: &[Case]) -> Result<(), Fail> {
         self.lines.clear();
         for (step, answer) in steps {
             self.lines.add(*step, answer)?;
         }
-        self.files.put("events", self.lines.events())
+        Ok(self.files.put("events", self.lines.events())?)
     }
 
     /// Puts a program, which these hexadecimal digits spell, as `events`.
     pub(super) fn put_program(&mut self, digits: &str) -> Result<(), Fail> {
-        let bytes = hex::decode(self.alloc, digits)?;
+        let bytes = bytes_of(self.alloc, digits)?;
         Ok(self.files.put("events", bytes.as_slice())?)
     }
 
-    /// Runs a command line, whose words spaces separate, where standard output takes so many writes, and
-    /// answers its status.
-    fn run(&mut self, line: &str, writes: usize) -> Result<u8, AllocError> {
+    /// Runs a command line, whose words spaces separate, where standard output takes so many writes.
+    pub(super) fn run(&mut self, line: &str, writes: usize) -> Result<(), AllocError> {
         let mut words = Vec::new(self.alloc);
         for word in line.split(' ') {
             words.push(String::from_str(self.alloc, word)?)?;
@@ -102,92 +105,58 @@ impl Stage {
         self.out.bytes.clear();
         self.out.writes = writes;
         self.err.clear();
-        Ok(command(
+        self.status = command(
             self.alloc,
             words.as_slice(),
             &mut self.files,
             &mut self.out,
             &mut self.err,
-        ))
+        );
+        Ok(())
     }
 
-    /// Runs a command line, and compares its status and what it prints.
+    /// Runs a command line, and compares how it ends and what it prints.
     pub(super) fn check(
         &mut self,
         rt: &impl Abort,
-        scene: &str,
-        line: &str,
+        at: &At,
         status: u8,
         out: &str,
         err: &str,
     ) -> Result<(), AllocError> {
-        let ended = self.run(line, usize::MAX)?;
-        assert_printed(rt, scene, line, self.err.as_slice(), err);
-        assert_printed(rt, scene, line, self.out.bytes.as_slice(), out);
-        assert_eq!(rt; ended, status, "{scene}: {line}");
+        self.run(at.line, usize::MAX)?;
+        self.check_end(rt, at, status, err);
+        assert_printed(rt, at, self.out.bytes.as_slice(), out);
         Ok(())
     }
 
-    /// The same where what is printed are the answers to the steps of `events`.
-    pub(super) fn check_answers(
-        &mut self,
-        rt: &impl Abort,
-        scene: &str,
-        line: &str,
-    ) -> Result<(), AllocError> {
-        let ended = self.run(line, usize::MAX)?;
-        assert_printed(rt, scene, line, self.err.as_slice(), "");
-        assert_printed(
-            rt,
-            scene,
-            line,
-            self.out.bytes.as_slice(),
-            self.lines.answers(),
-        );
-        assert_eq!(rt; ended, 0, "{scene}: {line}");
+    /// The same where it succeeds, and prints the lines that answer the steps of `events`.
+    pub(super) fn check_answers(&mut self, rt: &impl Abort, at: &At) -> Result<(), AllocError> {
+        self.run(at.line, usize::MAX)?;
+        self.check_end(rt, at, 0, "");
+        assert_printed(rt, at, self.out.bytes.as_slice(), self.lines.answers());
         Ok(())
     }
 
-    /// Runs a command line where standard output takes so many writes, and compares its status and what it
-    /// prints to standard error.
-    pub(super) fn check_stopped(
-        &mut self,
-        rt: &impl Abort,
-        scene: &str,
-        line: &str,
-        writes: usize,
-        status: u8,
-        err: &str,
-    ) -> Result<(), AllocError> {
-        let ended = self.run(line, writes)?;
-        assert_printed(rt, scene, line, self.err.as_slice(), err);
-        assert_eq!(rt; ended, status, "{scene}: {line}, {writes} writes");
-        Ok(())
+    /// Compares the status of the last command line, and what it printed to standard error.
+    pub(super) fn check_end(&self, rt: &impl Abort, at: &At, status: u8, err: &str) {
+        assert_printed(rt, at, self.err.as_slice(), err);
+        assert_eq!(rt; self.status, status, "{at:?}");
     }
 
-    /// Runs a command line which tells its usage: where its status is 0 to standard output, and else to
-    /// standard error.
-    pub(super) fn check_usage(
-        &mut self,
-        rt: &impl Abort,
-        scene: &str,
-        line: &str,
-        status: u8,
-    ) -> Result<(), AllocError> {
-        let ended = self.run(line, usize::MAX)?;
+    /// It told its usage: where its status is 0 to standard output, and else to standard error.
+    pub(super) fn check_usage(&self, rt: &impl Abort, at: &At, status: u8) {
         let (out, err) = (self.out.bytes.as_slice(), self.err.as_slice());
         let (told, other) = if status == 0 { (out, err) } else { (err, out) };
-        assert!(rt; has_usage(told), "{scene}: {line}");
-        assert_printed(rt, scene, line, other, "");
-        assert_eq!(rt; ended, status, "{scene}: {line}");
-        Ok(())
+        assert!(rt; has_usage(told) && other.is_empty(), "{at:?}");
+        assert_eq!(rt; self.status, status, "{at:?}");
     }
 
-    /// Compares what `verify` says of the program in a file, for blocks of 512 bytes.
+    /// Compares what `verify` says of a program, which is in a file, for blocks of 512 bytes.
     pub(super) fn check_program(
         &mut self,
         rt: &impl Abort,
-        scene: &str,
+        program: &str,
         file: &str,
         emit: u32,
         answer: &str,
@@ -195,30 +164,33 @@ impl Stage {
         let line = format!(in self.alloc; "zscli verify {file} --block 512 --emit {emit}")?;
         self.run(line.as_str(), usize::MAX)?;
         let end = self.out.bytes.pop();
-        assert_eq!(rt; end, Some(b'\n'), "{scene}");
-        assert_printed(rt, scene, line.as_str(), self.out.bytes.as_slice(), answer);
+        assert_eq!(rt; end, Some(b'\n'), "{program}");
+        let at = At {
+            scene: program,
+            line: "zscli verify",
+        };
+        assert_printed(rt, &at, self.out.bytes.as_slice(), answer);
         Ok(())
     }
 
-    /// Compares the bytes of a file.
+    /// Compares the bytes of the file of this name.
     pub(super) fn check_file(
         &self,
         rt: &impl Abort,
-        scene: &str,
-        file: &str,
+        at: &At,
         parts: Parts,
     ) -> Result<(), AllocError> {
         let bytes = joined(self.alloc, parts)?;
         assert!(rt;
-            self.files.bytes(file) == Some(bytes.as_slice()),
-            "{scene}: {file}"
+            self.files.bytes(at.line) == Some(bytes.as_slice()),
+            "{at:?}"
         );
         Ok(())
     }
 }
 
-fn assert_printed(rt: &impl Abort, scene: &str, line: &str, printed: &[u8], text: &str) {
-    assert_eq!(rt; str::from_utf8(printed), Ok(text), "{scene}: {line}");
+fn assert_printed(rt: &impl Abort, at: &At, printed: &[u8], text: &str) {
+    assert_eq!(rt; str::from_utf8(printed), Ok(text), "{at:?}");
 }
 
 /// Does this tell how a command line is written?

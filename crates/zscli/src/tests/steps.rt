@@ -2,16 +2,17 @@
 
 use std::alloc::{AllocError, Global};
 use std::fmt::Write;
+use std::test::Fail;
 
-/// Bytes in hexadecimal: parts, each repeated so many times.
-pub(super) type Bytes = &'static [(&'static str, usize)];
+/// Bytes in hexadecimal: words, where `a5*512` stands for 512 bytes a5h.
+pub(super) type Bytes = &'static str;
 
 /// The numbers of a namespace: the bytes of a block, the zones, the blocks of a zone, how many of them can be
 /// written, and the most zones that are open, and active.
 pub(super) type Shape = [u32; 6];
 
-/// A zone: the code of its state, and the first byte of each of its blocks, whose others are zeros.
-pub(super) type Zone = (u8, &'static [u8]);
+/// Zones: the state of each, and then the first byte of each of its blocks, whose others are zeros.
+pub(super) type Zones = &'static str;
 
 /// A step, and the lines that are printed for it. Where it gives bytes, these stand behind.
 pub(super) type Case = (Step, &'static str);
@@ -25,34 +26,19 @@ pub(super) const G2: Shape = [512, 2, 64, 64, 2, 2];
 /// 8 zones of 8 blocks, at most 6 open and active.
 pub(super) const G3: Shape = [512, 8, 8, 8, 6, 6];
 
-/// The states of zones as images have them (ZNS 1.1, figure 37).
-pub(super) const EMPTY: u8 = 0x1;
-
-pub(super) const IMPLICIT: u8 = 0x2;
-
-pub(super) const EXPLICIT: u8 = 0x3;
-
-pub(super) const CLOSED: u8 = 0x4;
-
-pub(super) const FULL: u8 = 0xe;
-
-pub(super) const OFFLINE: u8 = 0xf;
-
 /// 4 zones without blocks.
-pub(super) const ALL_EMPTY: &[Zone] = &[(EMPTY, &[]), (EMPTY, &[]), (EMPTY, &[]), (EMPTY, &[])];
+pub(super) const ALL_EMPTY: Zones = "empty, empty, empty, empty";
 
 /// A block of 512 bytes.
-pub(super) const A_BLOCK: Bytes = &[("a5", 512)];
+pub(super) const A_BLOCK: Bytes = "a5*512";
 
 /// Ends each block run with R0 = 0, and emits nothing.
-pub(super) const RETURNING: Bytes = &[("b7000000000000009500000000000000", 1)];
+pub(super) const RETURNING: Bytes = "b7000000000000009500000000000000";
 
 /// Emits the first 8 bytes of a block whose first byte is 7.
-pub(super) const MATCHING: Bytes = &[(
+pub(super) const MATCHING: Bytes =
     "71260000000000005506030007000000bf21000000000000b702000008000000\
-8500000001000000b7000000000000009500000000000000",
-    1,
-)];
+8500000001000000b7000000000000009500000000000000";
 
 /// Something that happens. Entries come from queue 1; their first number is the command identifier, and blocks
 /// are counted from 1.
@@ -80,60 +66,68 @@ pub(super) enum Step {
     Entry(u8, u8, [u32; 6], Bytes),
 }
 
-/// An entry: its opcode, the command identifier, Command Dwords 10 to 15, the bytes beside it, and those that
-/// it gives.
+/// Fields of an entry: its opcode, the command identifier, and Command Dwords 10 to 15.
 #[derive(Clone, Copy)]
-struct Submission {
+struct Fields {
     opcode: u8,
     cid: u8,
     dwords: [u32; 6],
-    beside: Bytes,
-    gives: Bytes,
 }
 
-/// An entry that gives no bytes.
-fn entry(opcode: u8, cid: u8, dwords: [u32; 6], beside: Bytes) -> Submission {
-    Submission {
+fn with_fields(opcode: u8, cid: u8, dwords: [u32; 6]) -> Option<Fields> {
+    Some(Fields {
         opcode,
         cid,
         dwords,
-        beside,
-        gives: &[],
-    }
+    })
 }
 
 impl Step {
-    /// The entry that it submits, if it does.
-    fn entry(self) -> Option<Submission> {
-        let made = match self {
-            Step::Line(_) | Step::Turns(..) => return None,
-            Step::Write(cid, lba, beside) => {
-                entry(0x01, cid, [lba, 0, last_block(beside), 0, 0, 0], beside)
+    /// The bytes beside its entry.
+    fn beside(self) -> Bytes {
+        match self {
+            Step::Write(_, _, beside) => beside,
+            Step::Append(_, _, beside) => beside,
+            Step::Load(_, _, _, program) => program,
+            Step::Entry(_, _, _, beside) => beside,
+            _ => "",
+        }
+    }
+
+    /// The bytes that it gives.
+    fn gives(self) -> Bytes {
+        match self {
+            Step::Read(_, _, _, gives) => gives,
+            Step::Result(_, _, gives) => gives,
+            _ => "",
+        }
+    }
+
+    /// The fields of the entry that it submits, if it does, with so many bytes beside it.
+    fn entry(self, bytes: u32) -> Option<Fields> {
+        let last = (bytes / 512).wrapping_sub(1);
+        match self {
+            Step::Line(_) => None,
+            Step::Turns(_, _) => None,
+            Step::Write(cid, lba, _) => with_fields(0x01, cid, [lba, 0, last, 0, 0, 0]),
+            Step::Append(cid, lba, _) => with_fields(0x7d, cid, [lba, 0, last, 0, 0, 0]),
+            Step::Read(cid, lba, blocks, _) => {
+                with_fields(0x02, cid, [lba, 0, blocks.wrapping_sub(1), 0, 0, 0])
             }
-            Step::Append(cid, lba, beside) => {
-                entry(0x7d, cid, [lba, 0, last_block(beside), 0, 0, 0], beside)
-            }
-            Step::Read(cid, lba, blocks, gives) => Submission {
-                gives,
-                ..entry(0x02, cid, [lba, 0, blocks.wrapping_sub(1), 0, 0, 0], &[])
-            },
-            Step::Send(cid, lba, dword) => entry(0x79, cid, [lba, 0, 0, dword, 0, 0], &[]),
-            Step::Load(cid, slot, limit, program) => {
-                let bytes = low(byte_count(program));
-                entry(0xc1, cid, [slot, limit, bytes, 0, 0, 0], program)
-            }
+            Step::Send(cid, lba, dword) => with_fields(0x79, cid, [lba, 0, 0, dword, 0, 0]),
+            Step::Load(cid, slot, limit, _) => with_fields(
+                0xc1,
+                cid,
+                [slot, limit, bytes, 0, 0, 0],
+            ),
             Step::Run(cid, lba, blocks, to) => {
                 let last = blocks.wrapping_sub(1);
                 let dwords = [low(lba), low(lba >> 32), last, 0, low(to), low(to >> 32)];
-                entry(0xc0, cid, dwords, &[])
+                with_fields(0xc0, cid, dwords)
             }
-            Step::Result(cid, slot, gives) => Submission {
-                gives,
-                ..entry(0xc2, cid, [slot, 0, 0, 0, 0, 0], &[])
-            },
-            Step::Entry(opcode, cid, dwords, beside) => entry(opcode, cid, dwords, beside),
-        };
-        Some(made)
+            Step::Result(cid, slot, _) => with_fields(0xc2, cid, [slot, 0, 0, 0, 0, 0]),
+            Step::Entry(opcode, cid, dwords, _) => with_fields(opcode, cid, dwords),
+        }
     }
 }
 
@@ -142,6 +136,8 @@ impl Step {
 pub(super) struct Lines {
     events: String,
     answers: String,
+    /// The digits of the bytes beside the last step's entry.
+    beside: String,
 }
 
 impl Lines {
@@ -150,6 +146,7 @@ impl Lines {
         Lines {
             events: String::new(alloc),
             answers: String::new(alloc),
+            beside: String::new(alloc),
         }
     }
 
@@ -169,30 +166,33 @@ impl Lines {
     }
 
     /// Adds the lines of a step, and those that answer it.
-    pub(super) fn add(&mut self, step: Step, answer: &str) -> Result<(), AllocError> {
-        if let Some(entry) = step.entry() {
+    pub(super) fn add(&mut self, step: Step, answer: &str) -> Result<(), Fail> {
+        self.beside.clear();
+        push_digits(&mut self.beside, step.beside())?;
+        let bytes = low(self.beside.len() as u64 / 2);
+        if let Some(entry) = step.entry(bytes) {
             self.add_entry(&entry)?;
-            return self.add_answer(answer, entry.gives);
+            return self.add_answer(answer, step.gives());
         }
         match step {
             Step::Turns(run, count) => self.add_turns(run, count, answer),
             Step::Line(line) => {
                 writeln!(self.events, "{line}")?;
-                self.add_answer(answer, &[])
+                self.add_answer(answer, "")
             }
             _ => Ok(()),
         }
     }
 
-    fn add_turns(&mut self, run: u8, count: usize, answer: &str) -> Result<(), AllocError> {
+    fn add_turns(&mut self, run: u8, count: usize, answer: &str) -> Result<(), Fail> {
         for _ in 0..count {
             writeln!(self.events, "turn {run}")?;
-            self.add_answer(answer, &[])?;
+            self.add_answer(answer, "")?;
         }
         Ok(())
     }
 
-    fn add_entry(&mut self, entry: &Submission) -> Result<(), AllocError> {
+    fn add_entry(&mut self, entry: &Fields) -> Result<(), AllocError> {
         let (opcode, cid, gap) = (entry.opcode, entry.cid, 0);
         write!(
             self.events,
@@ -202,11 +202,11 @@ impl Lines {
             write!(self.events, "{:08x}", dword.swap_bytes())?;
         }
         self.events.push(' ')?;
-        push_digits(&mut self.events, entry.beside)?;
+        self.events.push_str(self.beside.as_str())?;
         self.events.push('\n')
     }
 
-    fn add_answer(&mut self, answer: &str, gives: Bytes) -> Result<(), AllocError> {
+    fn add_answer(&mut self, answer: &str, gives: Bytes) -> Result<(), Fail> {
         if answer.is_empty() {
             return Ok(());
         }
@@ -215,33 +215,23 @@ impl Lines {
             self.answers.push(' ')?;
             push_digits(&mut self.answers, gives)?;
         }
-        self.answers.push('\n')
+        Ok(self.answers.push('\n')?)
     }
 }
 
-fn push_digits(text: &mut String, bytes: Bytes) -> Result<(), AllocError> {
-    for (part, times) in bytes {
-        for _ in 0..*times {
-            text.push_str(part)?;
-        }
+fn push_digits(text: &mut String, bytes: &str) -> Result<(), Fail> {
+    for word in bytes.split(' ') {
+        let (digits, times) = word.split_once('*').unwrap_or((word, "1"));
+        push_times(text, digits, times.parse::<usize>()?)?;
     }
     Ok(())
 }
 
-/// How many bytes there are.
-fn byte_count(bytes: Bytes) -> u64 {
-    let mut count = 0;
-    for (part, times) in bytes {
-        count = (part.len() as u64 / 2)
-            .wrapping_mul(*times as u64)
-            .wrapping_add(count);
+fn push_times(text: &mut String, digits: &str, times: usize) -> Result<(), AllocError> {
+    for _ in 0..times {
+        text.push_str(digits)?;
     }
-    count
-}
-
-/// The number of the last of blocks of 512 bytes, counted from 0.
-fn last_block(bytes: Bytes) -> u32 {
-    low(byte_count(bytes) / 512).wrapping_sub(1)
+    Ok(())
 }
 
 /// The lower dword of a number.
@@ -250,31 +240,55 @@ fn low(number: u64) -> u32 {
 }
 
 /// Writes the bytes of an image.
-pub(super) fn write_image(
-    to: &mut Vec<u8>,
-    shape: &Shape,
-    zones: &[Zone],
-) -> Result<(), AllocError> {
+pub(super) fn write_image(to: &mut Vec<u8>, shape: &Shape, zones: &str) -> Result<(), Fail> {
     to.extend_from_slice(b"ZNSIMG01")?;
     for number in shape {
         to.extend_from_slice(&number.to_le_bytes())?;
     }
     to.extend_from_slice(&[0; 32])?;
-    for (state, firsts) in zones {
-        to.extend_from_slice(&[*state, 0, 0, 0])?;
-        to.extend_from_slice(&low(firsts.len() as u64).to_le_bytes())?;
+    for zone in zones.split(", ") {
+        write_record(to, zone)?;
     }
-    for (_, firsts) in zones {
-        write_blocks(to, firsts)?;
+    for zone in zones.split(", ") {
+        write_blocks(to, zone)?;
     }
     Ok(())
 }
 
-/// Writes blocks that begin with these bytes, and else are zeros.
-fn write_blocks(to: &mut Vec<u8>, firsts: &[u8]) -> Result<(), AllocError> {
-    for first in firsts {
+fn write_record(to: &mut Vec<u8>, zone: &str) -> Result<(), Fail> {
+    let (state, firsts) = zone.split_once(' ').unwrap_or((zone, ""));
+    let blocks = bytes_of(*to.allocator(), firsts)?.len();
+    to.extend_from_slice(&[code_of(state), 0, 0, 0])?;
+    to.extend_from_slice(&low(blocks as u64).to_le_bytes())?;
+    Ok(())
+}
+
+fn write_blocks(to: &mut Vec<u8>, zone: &str) -> Result<(), Fail> {
+    let (_, firsts) = zone.split_once(' ').unwrap_or((zone, ""));
+    let firsts = bytes_of(*to.allocator(), firsts)?;
+    for first in firsts.iter() {
         to.push(*first)?;
         to.extend_from_slice(&[0; 511])?;
     }
     Ok(())
+}
+
+/// The code of a state as images have it (ZNS 1.1, figure 37).
+fn code_of(state: &str) -> u8 {
+    match state {
+        "empty" => 0x1,
+        "implicit" => 0x2,
+        "explicit" => 0x3,
+        "closed" => 0x4,
+        "full" => 0xe,
+        "offline" => 0xf,
+        _ => 0,
+    }
+}
+
+/// The bytes that hexadecimal words spell.
+pub(super) fn bytes_of(alloc: Global, bytes: &str) -> Result<Vec<u8>, Fail> {
+    let mut digits = String::new(alloc);
+    push_digits(&mut digits, bytes)?;
+    Ok(hex::decode(alloc, digits.as_str())?)
 }

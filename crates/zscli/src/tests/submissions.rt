@@ -6,7 +6,7 @@ use std::test::Fail;
 
 const APPEND_TO_A_FULL_ZONE: &[Case] = &[
     (
-        Step::Append(1, 16, &[("a5", 6 * 512)]),
+        Step::Append(1, 16, "a5*3072"),
         "cpl 1 10000000000000000000010001000000",
     ),
     (
@@ -14,22 +14,22 @@ const APPEND_TO_A_FULL_ZONE: &[Case] = &[
         "cpl 1 00000000000000000000010004007203",
     ),
     (
-        Step::Read(5, 22, 2, &[("00", 1024)]),
+        Step::Read(5, 22, 2, "00*1024"),
         "cpl 1 00000000000000000000010005000000",
     ),
     (
-        Step::Read(6, 23, 2, &[]),
+        Step::Read(6, 23, 2, ""),
         "cpl 1 00000000000000000000010006007003",
     ),
 ];
 
 const APPEND_PAST_THE_CAPACITY: &[Case] = &[
     (
-        Step::Append(1, 0, &[("a5", 5 * 512)]),
+        Step::Append(1, 0, "a5*2560"),
         "cpl 1 00000000000000000000010001000000",
     ),
     (
-        Step::Append(2, 0, &[("a5", 2 * 512)]),
+        Step::Append(2, 0, "a5*1024"),
         "cpl 1 00000000000000000000010002007003",
     ),
     (
@@ -58,7 +58,7 @@ const SCENES: &[Scene] = &[
     Scene {
         name: "append to a full zone",
         acts: &[
-            Act::Image("g1", &G1, ALL_EMPTY),
+            Act::Image("g1", G1, ALL_EMPTY),
             Act::Events(APPEND_TO_A_FULL_ZONE),
             Act::Answers(EXEC),
             Act::Prints(
@@ -70,7 +70,7 @@ const SCENES: &[Scene] = &[
     Scene {
         name: "append past the capacity",
         acts: &[
-            Act::Image("g1", &G1, ALL_EMPTY),
+            Act::Image("g1", G1, ALL_EMPTY),
             Act::Events(APPEND_PAST_THE_CAPACITY),
             Act::Answers(EXEC),
             Act::Prints(
@@ -82,7 +82,7 @@ const SCENES: &[Scene] = &[
     Scene {
         name: "entries that are refused",
         acts: &[
-            Act::Image("g1", &G1, ALL_EMPTY),
+            Act::Image("g1", G1, ALL_EMPTY),
             Act::Events(ENTRIES_THAT_ARE_REFUSED),
             Act::Answers(EXEC),
             Act::Prints(
