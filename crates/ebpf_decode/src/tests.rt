@@ -1,4 +1,5 @@
 use super::*;
+use instruction_set::{Insn, Operation, Register, Size, Source, Width};
 use std::alloc::Global;
 use std::test::Fail;
 
