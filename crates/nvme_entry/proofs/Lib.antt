@@ -1,3 +1,4 @@
 pub mod Listings
 pub mod Reports
+pub mod Told
 pub mod Writes

@@ -5,3 +5,4 @@ pub mod Filter
 pub mod Laws
 pub mod ProgramSlot
 pub mod Report
+pub mod Told

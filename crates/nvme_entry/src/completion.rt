@@ -39,7 +39,7 @@ impl Completion {
 fn status_dword(cid: u16, status: Status) -> u32
     ensures { result ≡ status_dword cid status }
 {
-    let code = u64::from(status.code) << 17;
-    let kind = u64::from(status.kind) << 25;
-    ((u64::from(cid) + code + kind) % 0x1_0000_0000) as u32
+    let code = u32::from(status.code) << 17;
+    let kind = u32::from(status.kind.number()) << 25;
+    u32::from(cid) + code + kind
 }

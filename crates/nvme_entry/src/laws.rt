@@ -2,6 +2,13 @@
 //! it ensures is the law.
 
 ghost use Rattle.nvme_entry.specs.Laws.{GivesWhatMatches, ListsEveryZone};
+ghost use Rattle.nvme_entry.specs.Told.{CompletionsTell};
+
+/// A completion's 16 bytes give back its dwords, its queue and its command's identifier, and the code and the
+/// type of its status.
+pub fn completions_tell()
+    ensures { CompletionsTell }
+{}
 
 /// A report gives the descriptors of the zones that match, in order, as many as fit whole.
 pub fn reports_give_what_matches()

@@ -30,7 +30,7 @@ fn statuses_have_the_standards_numbers(rt: HostRuntime) {
         (Status::PROGRAM_IN_USE, 0x7, 0xCA),
     ];
     for (status, kind, code) in statuses {
-        assert_eq!(rt; (status.kind, status.code), (kind, code));
+        assert_eq!(rt; (status.kind.number(), status.code), (kind, code));
     }
 }
 
