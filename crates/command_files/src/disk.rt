@@ -45,12 +45,19 @@ impl<R: rt::Files + AllocGlobal> Files for Disk<'_, R> {
     fn begin(&mut self, path: &str) -> Result<FileWriter<R::File>, FileError> {
         let alloc = self.rt.alloc();
         let name = format!(in alloc; "{path}.unfinished")?;
-        let file = BufWriter::new(alloc, fs::create(self.rt, name.as_str())?)?;
-        Ok(FileWriter {
-            file,
-            name,
-            failures: 0,
-        })
+        let file = fs::create(self.rt, name.as_str())?;
+        match BufWriter::new(alloc, file) {
+            Ok(file) => Ok(FileWriter {
+                file,
+                name,
+                failures: 0,
+            }),
+            Err(error) => {
+                // Want of memory is told; a failure to remove the file would hide it.
+                let _ = fs::remove_file(self.rt, name.as_str());
+                Err(error.into())
+            }
+        }
     }
 
     fn finish(&mut self, path: &str, mut file: FileWriter<R::File>) -> Result<(), FileError> {
