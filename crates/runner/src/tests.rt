@@ -10,6 +10,7 @@ use zns_commands::{FaultState, Geometry, Image, Limits, MOST_TRANSFER};
 use zone_state::ZoneState;
 
 mod accepting;
+mod refusing;
 
 const BLOCK: usize = 512;
 
@@ -177,12 +178,26 @@ fn a_run_takes_a_turn_for_each_block(rt: HostRuntime) {
     assert!(rt; data.starts_with(&frames));
 }
 
-/// Keeps replies, and refuses those that it has no memory for.
+/// Keeps replies, and refuses those that it has no room or no memory for.
 #[derive(Drop)]
 struct Kept {
     alloc: Global,
+    room: usize,
     answers: Vec<(Reply, Vec<u8>)>,
     refusals: u64,
+}
+
+impl Kept {
+    fn new(alloc: Global, room: usize) -> Kept
+        ensures { result.refusals ≡ 0 }
+    {
+        Kept {
+            alloc,
+            room,
+            answers: Vec::new(alloc),
+            refusals: 0,
+        }
+    }
 }
 
 impl Out for Kept {
@@ -191,9 +206,11 @@ impl Out for Kept {
     ghost refused = { λ kept. kept.refusals };
 
     fn take(&mut self, reply: Reply, bytes: &[u8]) -> Result<(), Refusal> {
-        if let Ok(bytes) = Vec::from_slice(self.alloc, bytes) {
-            if self.answers.push((reply, bytes)).is_ok() {
-                return Ok(());
+        if self.answers.len() < self.room {
+            if let Ok(bytes) = Vec::from_slice(self.alloc, bytes) {
+                if self.answers.push((reply, bytes)).is_ok() {
+                    return Ok(());
+                }
             }
         }
         self.refusals += 1;
@@ -219,11 +236,7 @@ fn replies_are_handed_out_with_their_data(rt: HostRuntime) -> Result<(), Fail> {
     let alloc = rt.alloc();
     let mut device = device(&rt, alloc);
     let mut data = room(&rt, alloc);
-    let mut out = Kept {
-        alloc,
-        answers: Vec::new(alloc),
-        refusals: 0,
-    };
+    let mut out = Kept::new(alloc, usize::MAX);
     let events = [
         append(&rt, alloc),
         open(alloc, 1),
@@ -267,11 +280,7 @@ fn four_runs_are_drained(rt: HostRuntime) -> Result<(), Fail> {
         ];
         compare(&rt, &mut device, data, &steps);
     }
-    let mut out = Kept {
-        alloc,
-        answers: Vec::new(alloc),
-        refusals: 0,
-    };
+    let mut out = Kept::new(alloc, usize::MAX);
     device.drain(data, &mut out)?;
     let replies = [
         Reply::Pending { run: 0 },

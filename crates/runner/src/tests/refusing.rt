@@ -1,0 +1,145 @@
+//! Replies that are refused: a device stops there, and what is left to do goes on from there.
+
+ghost use Rattle.std.specs.Prelude.{◌≡◌, ◌+◌, ◌<◌, ◌≤◌, ◌^◌, length};
+
+use super::{Kept, append, open, read, room, run};
+use crate::{Device, Event, Out, Reply};
+use image_store::Buffer;
+use std::alloc::Global;
+use std::process::Abort;
+use std::test::Fail;
+use zns_commands::{FaultState, MOST_TRANSFER};
+
+/// What a device answers to all that it does, and the text of the image that it leaves.
+#[derive(Drop)]
+struct Whole {
+    out: Kept,
+    image: Vec<u8>,
+}
+
+/// Events with two runs, of which the second has a turn left.
+fn events(rt: &impl Abort, alloc: Global) -> [Event; 13] {
+    [
+        append(rt, alloc),
+        open(alloc, 1),
+        open(alloc, 2),
+        super::load(rt, alloc, 0),
+        run(alloc, 0, 1),
+        Event::Turn { run: 0 },
+        run(alloc, 0, 2),
+        Event::Fault {
+            zone: 3,
+            state: FaultState::Offline,
+        },
+        Event::Turn { run: 0 },
+        Event::Turn { run: 0 },
+        read(alloc, 8),
+        super::load(rt, alloc, 0),
+        Event::Turn { run: 1 },
+    ]
+}
+
+/// Does events and then the turns that are left. An `Err` tells how many of both were done where a reply was refused.
+fn serve_and_drain<O: Out>(
+    device: &mut Device,
+    events: &[Event],
+    data_out: &mut [u8],
+    out: &mut O,
+) -> Result<(), usize>
+    requires room { MOST_TRANSFER ≤ length data_out.old }
+    requires counts { O.refused out.old + 1 < 2 ^ 64 }
+{
+    if let Err(stopped) = device.serve(events, data_out, out) {
+        return Err(stopped.done);
+    }
+    match device.drain(data_out, out) {
+        Ok(()) => Ok(()),
+        Err(stopped) => Err(events.len().saturating_add(stopped.done)),
+    }
+}
+
+/// The text of a device's image.
+fn saved(alloc: Global, device: &Device) -> Result<Vec<u8>, Fail> {
+    let mut sink = Buffer::new(alloc);
+    device.image().save(&mut sink)?;
+    Ok(sink.into_bytes())
+}
+
+/// Does all where each reply is taken.
+fn all_taken(rt: &impl Abort, alloc: Global, events: &[Event]) -> Result<Whole, Fail> {
+    let mut device = super::device(rt, alloc);
+    let mut data = room(rt, alloc);
+    let mut out = Kept::new(alloc, usize::MAX);
+    let done = serve_and_drain(&mut device, events, data.as_mut_slice(), &mut out);
+    assert_eq!(rt; done, Ok(()));
+    let image = saved(alloc, &device)?;
+    Ok(Whole { out, image })
+}
+
+/// Refuses the reply behind the first `taken`, and then does what is left: all other replies, with their data, and the
+/// image are those of the whole.
+fn check_refused(
+    rt: &impl Abort,
+    alloc: Global,
+    events: &[Event],
+    whole: &Whole,
+    taken: usize,
+) -> Result<(), Fail> {
+    let done = taken.saturating_add(1);
+    let mut device = super::device(rt, alloc);
+    let mut data = room(rt, alloc);
+    let mut first = Kept::new(alloc, taken);
+    let stopped = serve_and_drain(&mut device, events, data.as_mut_slice(), &mut first);
+    assert_eq!(rt; (stopped, first.refusals()), (Err(done), 1));
+    let mut rest = Kept::new(alloc, usize::MAX);
+    let left = events.get(done..).unwrap_or(&[]);
+    let ended = serve_and_drain(&mut device, left, data.as_mut_slice(), &mut rest);
+    assert_eq!(rt; ended, Ok(()));
+    let answers = whole.out.answers.as_slice();
+    assert!(rt;
+        answers.get(..taken) == Some(first.answers.as_slice()),
+        "{taken} taken"
+    );
+    assert!(rt;
+        answers.get(done..) == Some(rest.answers.as_slice()),
+        "{taken} taken"
+    );
+    assert!(rt;
+        saved(alloc, &device)?.as_slice() == whole.image.as_slice(),
+        "{taken} taken"
+    );
+    Ok(())
+}
+
+#[test]
+fn each_reply_is_refused_in_turn(rt: HostRuntime) -> Result<(), Fail> {
+    let alloc = rt.alloc();
+    let events = events(&rt, alloc);
+    let whole = all_taken(&rt, alloc, &events)?;
+    assert_eq!(rt; whole.out.answers.len(), 14);
+    for taken in 0..14 {
+        check_refused(&rt, alloc, &events, &whole, taken)?;
+    }
+    Ok(())
+}
+
+#[test]
+fn turns_of_no_run(rt: HostRuntime) -> Result<(), Fail> {
+    let alloc = rt.alloc();
+    let mut device = super::device(&rt, alloc);
+    let mut data = room(&rt, alloc);
+    let mut out = Kept::new(alloc, usize::MAX);
+    let events = events(&rt, alloc);
+    device.serve(
+        events.get(..5).unwrap_or(&[]),
+        data.as_mut_slice(),
+        &mut out,
+    )?;
+    let image = saved(alloc, &device)?;
+    for run in 1..=255 {
+        let reply = device.step(&Event::Turn { run }, data.as_mut_slice());
+        assert_eq!(rt; reply, Reply::Idle, "run {run}");
+    }
+    assert!(rt; saved(alloc, &device)?.as_slice() == image.as_slice());
+    Ok(())
+}
