@@ -1,11 +1,14 @@
 //! What no clause says: images that were written down byte by byte, and devices that give little at
 //! a time or fail.
 
-use crate::{
-    Buffer, DeviceFault, Geometry, GeometryFault, Image, Limits, LoadFault, SaveFault, Sink, Source,
-};
+ghost use Rattle.std.specs.Prelude.{◌≤◌};
+
+use crate::{Buffer, DeviceFault, Geometry, GeometryFault, Image, Limits, LoadFault, Sink, Source};
 use std::alloc::{AllocError, Global};
+use std::process::Abort;
 use std::test::Fail;
+
+mod damage;
 
 /// The image of four zones, of which nothing is written: blocks of 512 bytes, eight of them in a
 /// zone, of which six can be written; two zones may be open and three active.
@@ -269,12 +272,14 @@ fn a_slow_source_is_read_to_its_end(rt: HostRuntime) -> Result<(), Fail> {
     Ok(())
 }
 
-/// A sink that takes at most 100 bytes at a time, and fails after some calls.
+/// A sink that takes few bytes at a time, and fails after some calls.
 #[derive(Drop)]
 struct Narrow {
     taken: Vec<u8>,
+    width: usize,
     calls: u64,
     failures: u64,
+    ghost some: { 1 ≤ width },
 }
 
 impl Sink for Narrow {
@@ -285,7 +290,7 @@ impl Sink for Narrow {
     ghost failures = { λ s. s.failures };
 
     fn write(&mut self, from: &[u8]) -> Result<usize, DeviceFault> {
-        let count = from.len().min(100);
+        let count = from.len().min(self.width);
         if self.calls == 0 || self.taken.extend_from_slice(&from[..count]).is_err() {
             self.failures += 1;
             return Err(DeviceFault);
@@ -299,27 +304,37 @@ impl Sink for Narrow {
     }
 }
 
-#[test]
-fn a_narrow_sink_has_a_beginning(rt: HostRuntime) -> Result<(), Fail> {
-    let text = written(rt.alloc())?;
-    let mut source = text.as_slice();
-    let image = Image::load(rt.alloc(), &mut source)?;
-    for calls in 0..11 {
+/// Saves an image to a sink of some width that fails after each number of calls, up to those that it takes.
+fn check_narrow(
+    rt: &impl Abort,
+    alloc: Global,
+    text: &[u8],
+    width: usize,
+    needed: u64,
+) -> Result<(), Fail>
+    requires { 1 ≤ width }
+{
+    let mut source = text;
+    let image = Image::load(alloc, &mut source)?;
+    for calls in 0..=needed {
         let mut sink = Narrow {
-            taken: Vec::new(rt.alloc()),
+            taken: Vec::new(alloc),
+            width,
             calls,
             failures: 0,
         };
-        assert_eq!(rt; image.save(&mut sink), Err(SaveFault::Device));
-        assert_eq!(rt; sink.failures(), 1);
+        let saved = image.save(&mut sink);
+        assert_eq!(rt; saved.is_ok(), calls == needed, "{calls} calls");
+        assert_eq!(rt; sink.failures(), u64::from(saved.is_err()));
+        assert_eq!(rt; sink.taken.len() == text.len(), saved.is_ok());
         assert!(rt; text.starts_with(&sink.taken));
     }
-    let mut sink = Narrow {
-        taken: Vec::new(rt.alloc()),
-        calls: 11,
-        failures: 0,
-    };
-    assert_eq!(rt; image.save(&mut sink), Ok(()));
-    assert_eq!(rt; sink.taken.as_slice(), text.as_slice());
     Ok(())
+}
+
+#[test]
+fn a_narrow_sink_has_a_beginning(rt: HostRuntime) -> Result<(), Fail> {
+    let text = written(rt.alloc())?;
+    check_narrow(&rt, rt.alloc(), text.as_slice(), 100, 11)?;
+    check_narrow(&rt, rt.alloc(), text.as_slice(), 1, 608)
 }
