@@ -1,6 +1,7 @@
 //! Worked commands and faults.
 
 mod actions;
+mod addresses;
 mod blocks;
 mod reports;
 mod resources;
