@@ -1,0 +1,163 @@
+#!/bin/sh
+# Runs each command of zscli again and again on small files, and has one call of the C library fail each time, a later
+# one with each run: a request for memory is refused (alloc), a file's call fails (io), or a read or a write of
+# several bytes moves one (short). Prints how many runs ended in which way: with which status, what they printed and
+# made (all that a whole run does, nothing, or something else), and the last line on standard error. Ends with status
+# 1 where a run left part of an image or a file beside it, or changed a slot by a Load that found no memory.
+set -eu
+cd "$(dirname "$0")/.."
+./zscli --help > /dev/null
+zscli=$PWD/crates/zscli/out/zscli
+work=$(mktemp -d)
+trap 'rm -r "$work"' EXIT
+cc -O2 -shared -fPIC -o "$work/failing.so" failing/failing.c
+wrong=0
+
+# the files that commands are given
+mkdir "$work/given"
+cp examples/empty.img "$work/given/image"
+cp examples/pushdown.cmd "$work/given/events"
+cat > "$work/given/text" << 'END'
+        ldxb r6, [r2+0]
+        jne r6, 7, done
+        mov r1, r2
+        mov r2, 8
+        call 1
+done:   mov r0, 0
+        exit
+END
+"$zscli" asm "$work/given/text" "$work/given/program"
+{ printf '\007'; head -c 511 /dev/zero; } > "$work/given/block"
+{ printf '\003\000abc'; head -c 507 /dev/zero; } > "$work/given/packed"
+
+# Prints an entry with this opcode, identifier, Command Dwords 10 to 15, and data behind it.
+entry() {
+    printf 'submit 1 %s00%s0001000000%064d%s%s%s%s%s%s %s\n' "$1" "$2" 0 "$3" "$4" "$5" "$6" "$7" "$8" "${9-}"
+}
+
+# a block of 7 and zeros; a program that adds its first byte to a sum, which runs; one that does nothing takes its
+# slot, and runs; the results before, between and behind
+zero=00000000
+adding=712400000000000079350000000000000f450000000000007b53000000000000b7000000000000009500000000000000
+{
+    entry 7d 08 $zero $zero $zero $zero $zero $zero "07$(printf '%01022d' 0)"
+    entry 79 09 40000000 $zero $zero 03000000 $zero $zero
+    entry c1 01 $zero $zero 30000000 $zero $zero $zero $adding
+    entry c0 02 $zero $zero $zero $zero 40000000 $zero
+    echo turn 0
+    entry c2 03 $zero $zero $zero $zero $zero $zero
+    entry c1 07 $zero $zero 10000000 $zero $zero $zero b7000000000000009500000000000000
+    entry c2 04 $zero $zero $zero $zero $zero $zero
+    entry c0 05 $zero $zero $zero $zero 40000000 $zero
+    echo turn 0
+    entry c2 06 $zero $zero $zero $zero $zero $zero
+} > "$work/given/loads"
+
+# Runs the command with these words in a folder with the files, where a call fails: `KIND NUMBER`.
+run() {
+    failing=$1
+    shift
+    rm -rf "$work/run" "$work/told"
+    cp -r "$work/given" "$work/run"
+    status=0
+    (
+        cd "$work/run"
+        exec env FAILING="$failing" FAILING_TOLD="$work/told" LD_PRELOAD="$work/failing.so" \
+            "$zscli" "$@"
+    ) > "$work/out" 2> "$work/err" || status=$?
+}
+
+# Prints how the last run ended: what it printed and made, and what it told.
+ending() {
+    made=
+    if [ -s "$work/whole-out" ]; then
+        made=", printed: $(compare /dev/null nothing "$work/whole-out" "$work/out")"
+    fi
+    if [ -n "$file" ]; then
+        whole=$work/whole-$file
+        made="$made, $file: $(compare "$work/given/$file" "as before" "$whole" "$work/run/$file")"
+    fi
+    wants=$(sed -n 's/.*0100\(..\)008e0f$/, Load \1 wants memory/p' "$work/out")
+    echo "status $status$made$wants, told: $(tail -n 1 "$work/err")"
+}
+
+# What is the last file: the first one, which has this name, the third, or another?
+compare() {
+    if [ ! -e "$4" ]; then
+        echo none
+    elif cmp -s "$3" "$4"; then
+        echo all
+    elif [ -e "$1" ] && cmp -s "$1" "$4"; then
+        echo "$2"
+    else
+        echo other
+    fi
+}
+
+# An image is whole, no other file is left, and where the second Load of `loads` finds no memory, the slot has the
+# program and the result of before.
+check() {
+    if grep -q '010007008e0f$' "$work/out" && [ "$(grep -c '0000 07' "$work/out")" != 3 ]; then
+        echo "wrong: run $number changes a slot though its Load was refused"
+        wrong=1
+    fi
+    if [ -e "$work/run/image.unfinished" ] || [ -e "$work/run/new.unfinished" ]; then
+        echo "wrong: run $number leaves an unfinished file"
+        wrong=1
+    fi
+    case $file in
+    image | new)
+        if [ -e "$work/run/$file" ] && ! "$zscli" zones "$work/run/$file" > /dev/null; then
+            echo "wrong: run $number leaves part of an image"
+            wrong=1
+        fi
+        ;;
+    esac
+}
+
+# Has each call of a kind fail in turn.
+series() {
+    kind=$1
+    shift
+    number=0
+    : > "$work/ends"
+    while :; do
+        number=$((number + 1))
+        run "$kind $number" "$@"
+        if [ ! -e "$work/told" ]; then
+            break
+        fi
+        check
+        ending >> "$work/ends"
+    done
+    echo "  $kind: $((number - 1)) calls"
+    sort "$work/ends" | uniq -c
+}
+
+# Has the command with these words, which makes a file ('' for none), run with each failure.
+each() {
+    file=$1
+    shift
+    echo "zscli $*"
+    run "nothing 0" "$@"
+    cp "$work/out" "$work/whole-out"
+    if [ -n "$file" ]; then
+        cp "$work/run/$file" "$work/whole-$file"
+    fi
+    series alloc "$@"
+    series io "$@"
+    series short "$@"
+}
+
+geometry="--block 512 --zones 9 --size 64 --capacity 64 --open 3 --active 3"
+each new format new $geometry
+each image format image $geometry
+each '' zones image
+each image exec image events
+each image exec image loads
+each made asm text made
+each '' disasm program
+each '' trace program block --emit 10
+each '' verify program --block 512 --emit 10
+each '' unpack packed --block 512
+exit "$wrong"
