@@ -280,6 +280,7 @@ fn code_of(state: &str) -> u8 {
         "implicit" => 0x2,
         "explicit" => 0x3,
         "closed" => 0x4,
+        "readonly" => 0xd,
         "full" => 0xe,
         "offline" => 0xf,
         _ => 0,

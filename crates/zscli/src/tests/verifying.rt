@@ -4,6 +4,7 @@
 mod accesses;
 mod arithmetic;
 mod emits;
+mod ends;
 mod from_c;
 mod slots;
 mod ways;

@@ -53,13 +53,13 @@ const LOADS: &[Act] = &[
     ),
     // A word over 2^63 counts as negative.
     Verify(
-        "mov r6, -1\nadd r2, r6\nldxb r0, [r2+1]\nexit",
+        "mov r6, -1\nadd r2, r6\nldxb r0, [r2+1]\nmov r0, 0\nexit",
         0,
-        "accepted 4",
+        "accepted 5",
     ),
     // So this is the byte before the block.
     Verify(
-        "mov r6, -1\nadd r2, r6\nldxb r0, [r2+0]\nexit",
+        "mov r6, -1\nadd r2, r6\nldxb r0, [r2+0]\nmov r0, 0\nexit",
         0,
         "refused 2 5",
     ),
