@@ -141,5 +141,7 @@ fn turns_of_no_run(rt: HostRuntime) -> Result<(), Fail> {
         assert_eq!(rt; reply, Reply::Idle, "run {run}");
     }
     assert!(rt; saved(alloc, &device)?.as_slice() == image.as_slice());
+    let reply = device.step(&Event::Turn { run: 0 }, data.as_mut_slice());
+    assert_eq!(rt; reply, Reply::Pending { run: 0 });
     Ok(())
 }
