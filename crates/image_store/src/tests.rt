@@ -198,13 +198,16 @@ fn a_text_cut_short_is_truncated(rt: HostRuntime) -> Result<(), Fail> {
     let mut text = written(rt.alloc())?;
     for length in 0..text.len() {
         assert_eq!(rt;
-            fault_of_front(rt.alloc(), &text, length),
+            fault_of_front(rt.alloc(), text.as_slice(), length),
             Some(LoadFault::Truncated)
         );
     }
-    assert_eq!(rt; fault_of(rt.alloc(), &text), None);
+    assert_eq!(rt; fault_of(rt.alloc(), text.as_slice()), None);
     text.push(0)?;
-    assert_eq!(rt; fault_of(rt.alloc(), &text), Some(LoadFault::Trailing));
+    assert_eq!(rt;
+        fault_of(rt.alloc(), text.as_slice()),
+        Some(LoadFault::Trailing)
+    );
     Ok(())
 }
 
