@@ -4,7 +4,7 @@ use Rattle.interval_domain.specs.ArithmeticLaws.{alu_law}
 use Rattle.interval_domain.specs.EdgeLaws.{refine_law}
 use Rattle.interval_domain.specs.FactLaws.{any_law, bounds_law, constant_law, join_first, join_second, loaded_law, loaded_signed_law}
 use Rattle.interval_domain.specs.PointerLaws.{access_law, pointer_law}
-use Rattle.reg_domain.specs.PlaceLaws.{block_small}
+use Rattle.program_meaning.specs.PlaceLaws.{block_small}
 use Rattle.interval_domain.specs.Arithmetic.{alu_of}
 use Rattle.reg_domain.specs.Domain.{GiveFacts, IsSound, Operations}
 use Rattle.interval_domain.specs.Edge.{refine_of}

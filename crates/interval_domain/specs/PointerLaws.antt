@@ -8,7 +8,7 @@ use Rattle.program_meaning.specs.Memory.{lies_in}
 use Rattle.program_interface.specs.Area.{address_of, length_of}
 use Rattle.program_interface.specs.declared.area.Area.{Area}
 use Rattle.program_interface.specs.declared.area.Area.TheVariants.{Context, Block, Stack, Scratch}
-use Rattle.reg_domain.specs.PlaceLaws.{length_fits}
+use Rattle.program_meaning.specs.PlaceLaws.{length_fits}
 use Rattle.interval_domain.specs.FactLaws.{any_law, either_fact}
 use Rattle.interval_domain.specs.Arithmetic.{moved_back, moved_on, signed_bounds}
 use Rattle.interval_domain.specs.Fact.{ContainsWord, access_of, farthest, pointer_to}

@@ -1,2 +1,1 @@
 pub mod Domain
-pub mod PlaceLaws

@@ -26,8 +26,8 @@ use Rattle.program_meaning.specs.declared.cause.Cause.TheVariants as cause
 use Rattle.program_interface.specs.declared.area.Area.{Area}
 use Rattle.program_interface.specs.RunSizes.{AreSizes, Sizes}
 use Rattle.reg_domain.specs.Domain.{Belongs, IsSound, Operations}
-use Rattle.reg_domain.specs.PlaceLaws.{placed}
-use Rattle.reg_domain.specs.PlaceLaws.{block_small}
+use Rattle.program_meaning.specs.PlaceLaws.{placed}
+use Rattle.program_meaning.specs.PlaceLaws.{block_small}
 use Rattle.verifier.specs.Accepted.{all_reasons, area_of, begins_at, fails, is_unwritable, leads_nowhere, least_emitted, loads_outside, most_emitted, reason_of, stores_outside, turns_away}
 use Rattle.verifier.specs.Facts.{fact, slot_behind}
 use Rattle.verifier.specs.KnownFacts.{AreFacts}
