@@ -9,7 +9,7 @@ use crate::fault::{DecodeFault, Fault, FaultKind};
 use crate::fields::from_bytes;
 use crate::opcode::{Opcode, Operand, Uses};
 use instruction_set::{
-    Fields, Insn, Operation, Program, Register, SignExtension, Source, SwapSize, Width, flatten,
+    Fields, Insn, Operation, Program, Register, SignExtension, Source, SwapSize, Width,
 };
 use program_interface::MOST_SLOTS;
 use std::alloc::Global;
@@ -290,6 +290,5 @@ pub fn decode(alloc: Global, bytes: &[u8]) -> Result<Program, DecodeFault>
         return Err(DecodeFault::Fault(Fault { slot: 0, kind }));
     }
     let slots = decode_slots(alloc, bytes)?;
-    let flats = flatten(alloc, &slots)?;
-    Ok(Program::from_slots(slots, flats))
+    Ok(Program::from_slots(slots))
 }

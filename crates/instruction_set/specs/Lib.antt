@@ -1,5 +1,4 @@
 pub mod Codes
-pub mod Flat
 pub mod Instruction
 pub mod Program
 pub mod Spelling

@@ -4,14 +4,12 @@
 
 mod codes;
 mod fields;
-mod flat;
 mod insn;
 mod operation;
 mod program;
 mod register;
 
 pub use fields::Fields;
-pub use flat::{Flat, flatten};
 pub use insn::{Insn, Source};
 pub use operation::{Operation, Relation, SignExtension, SignedSize, Size, Swap, SwapSize, Width};
 pub use program::Program;

@@ -1,4 +1,4 @@
-pub mod Flats
+pub mod Places
 pub mod Running
 pub mod Stepping
 pub mod Verified

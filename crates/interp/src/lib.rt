@@ -4,7 +4,7 @@
 mod machine;
 mod memory;
 
-pub use machine::{Exit, Machine, Step};
+pub use machine::{Exit, Flow, Machine, Step};
 
 #[cfg(test)]
 mod tests;

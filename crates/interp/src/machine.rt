@@ -1,16 +1,15 @@
 //! The machine.
 
 mod effect;
-mod flat;
+mod exit;
 mod run;
 mod step;
-mod verified;
 
 ghost use Rattle.std.specs.Prelude.{◌<◌, ◌≤◌, ◌^◌, length};
 
+pub use exit::Exit;
 use program_interface::{CONTEXT_BYTES, REGISTERS, SCRATCH_BYTES, STACK_BYTES, entry_registers};
-pub use step::Step;
-pub use verified::Exit;
+pub use step::{Flow, Step};
 
 /// A machine over one block: its registers, its stack, and what it borrows.
 #[derive(Drop)]
@@ -30,12 +29,13 @@ pub struct Machine<'a> {
 }
 
 impl<'a> Machine<'a> {
-    ghost use Rattle.std.specs.Prelude.{◌≡◌, ◌<◌, ◌^◌, ℕ, List, length};
-    ghost use Rattle.interp.specs.Machine.{IsNew, block_length, frames_of, group_length, scratch_name, slot_of, state_of, steps_of};
+    ghost use Rattle.std.specs.Prelude.{◌≡◌, ◌<◌, ◌^◌, ℕ, List, length, slice_index};
+    ghost use Rattle.interp.specs.Machine.{IsNew, block_length, frames_of, group_length, memory_of, scratch_name, slot_of, state_at, state_of, steps_of};
     ghost use Rattle.program_meaning.specs.State.{entry};
 
     /// A machine at the start of a block run, at slot 0: R1, R2 and R3 are the addresses of
     /// context, block and scratch, R10 is the end of the stack, all else is 0 (profile).
+    #[inline(always)]
     pub fn new(
         block: &'a [u8],
         context: &'a [u8; CONTEXT_BYTES],
@@ -61,6 +61,34 @@ impl<'a> Machine<'a> {
             group_len: 0,
             frames: 0,
         }
+    }
+
+    /// The block.
+    #[inline(always)]
+    pub fn block(&self) -> &'a [u8]
+        ensures { result.now ≡ (memory_of self.now).block }
+    {
+        self.block
+    }
+
+    /// The word in R0.
+    #[inline(always)]
+    pub fn r0(&self) -> u64
+        ensures { result ≡ slice_index self.now.registers 0 }
+    {
+        self.registers[0]
+    }
+
+    /// Says where the machine stands, after how many steps.
+    #[inline(always)]
+    pub fn stand_at(&mut self, slot: usize, steps: u64)
+        ensures state { (group : List ℕ) → state_of self.new group ≡ state_at self.old slot group }
+        ensures steps { steps_of self.new ≡ steps }
+        ensures group_len { group_length self.new ≡ group_length self.old }
+        ensures same_scratch { scratch_name self.new ≡ scratch_name self.old }
+    {
+        self.slot = slot;
+        self.steps = steps;
     }
 
     /// The slot of the instruction at which the machine stands.

@@ -9,14 +9,8 @@ none_left : (fault : Option FaultKind) → ((kind : FaultKind) → fault ≡ Som
 none_left None h = refl
 none_left (Some kind) h = absurd (h kind refl)
 
-pub flatten-requires : goal.flatten-requires
-flatten-requires c =
-    let length_is : length_fault (length c.args.bytes.now) ≡ None = sym c.length_fault.ensures ∙ none_left _ c.in_default.not-Some in
-    let program = (program-read c.args.bytes.now c.in_ok-slots.slots.items (λ i. omega (arith, c.type_inv.bytes i)) length_is c.in_ok-slots.ensures).0 in
-    rw c.deref.ensures.value program.most
-
-pub from_slots-requires-clause-program : goal.from_slots-requires-clause-program
-from_slots-requires-clause-program c =
+pub from_slots-requires : goal.from_slots-requires
+from_slots-requires c =
     let length_is : length_fault (length c.args.bytes.now) ≡ None = sym c.length_fault.ensures ∙ none_left _ c.in_default.not-Some in
     (program-read c.args.bytes.now c.in_ok-slots.slots.items (λ i. omega (arith, c.type_inv.bytes i)) length_is c.in_ok-slots.ensures).0
 
