@@ -68,9 +68,9 @@ module _ (ns : ZonedNamespace) (slots : List (Option LoadedProgram)) (runs : Lis
 
   -- the sizes that the program of a slot was accepted for
   granted : (slot : ℕ) (p : LoadedProgram) → IsReady ns slots runs → get_or slots slot None ≡ Some p
-      → sizes_of p.verified ≡ sizes_in ns (filled (get_or slots slot None))
+      → sizes_of p.prepared ≡ sizes_in ns (filled (get_or slots slot None))
   granted slot p ready at =
-      ap (λ (block : ℕ). record { block = block; limit = (sizes_of p.verified).limit }) (ready.programs slot p at)
+      ap (λ (block : ℕ). record { block = block; limit = (sizes_of p.prepared).limit }) (ready.programs slot p at)
       ∙ ap (λ (o : Option LoadedProgram). sizes_in ns (filled o)) (sym at)
 
   -- the same, by what a device tests before
@@ -78,7 +78,7 @@ module _ (ns : ZonedNamespace) (slots : List (Option LoadedProgram)) (runs : Lis
       → IsReady ns slots runs → true ≡ (length input == 0) → get_or slots order.slot None ≡ Some p
       → ArePlaces ns order source destination → None ≡ first_refused (address_checks ns order)
       → Some run ≡ position is_none runs → None ≡ first_refused (source_checks ns source order.blocks)
-      → holds ≡ held_by runs → blocks ≡ need order.blocks (sizes_of p.verified)
+      → holds ≡ held_by runs → blocks ≡ need order.blocks (sizes_of p.prepared)
       → first_refused (destination_checks ns holds destination blocks)
       ≡ run_refusal ns (held_by runs) (is_some (position is_none runs)) (filled (get_or slots order.slot None)) order input
   destination_decides order input p source destination run blocks holds ready no_input at places addresses free sources held enough =

@@ -46,10 +46,10 @@ module _ (ns : ZonedNamespace) (slots : List (Option LoadedProgram)) (runs : Lis
   place = place_of ns (map filled slots) (active_of a)
 
   abbrev code : List (Option Insn)
-  code = program_of p.verified
+  code = program_of p.prepared
 
   abbrev limit : ℕ
-  limit = (sizes_of p.verified).limit
+  limit = (sizes_of p.prepared).limit
 
   here : place_at s k ≡ Some place
   here = placed_at ns slots runs k a at
@@ -72,7 +72,7 @@ module _ (ns : ZonedNamespace) (slots : List (Option LoadedProgram)) (runs : Lis
       record {
         run = fits;
         some = omega (arith, sound.namespace.shape.block_some);
-        limits = subst (λ (block : ℕ). limit ≤ block) accepted p.verified.are_sizes.fits;
+        limits = subst (λ (block : ℕ). limit ≤ block) accepted p.prepared.are_sizes.fits;
         room =
             subst (λ (z : ℕ). RoomIn ns.capacity (zone_at ns z) (turns_of ns code limit (active_of a))) (sym fits.destination)
             (subst (RoomIn ns.capacity (zone_at ns (zone_number ns a.order.destination))) turns_are (sound.rooms k place here));
@@ -85,7 +85,7 @@ module _ (ns : ZonedNamespace) (slots : List (Option LoadedProgram)) (runs : Lis
 
   module _ (new : ZonedNamespace) (q : LoadedProgram) (r : Option Held) (turn : Turn) (later : List Turn)
       (first : turns_of ns code limit (active_of a) ≡ turn ∷ later) (written : new ≡ added ns a.destination turn.blocks)
-      (same : q.verified ≡ p.verified) (programs : slots_left s place turn.ending ≡ map filled (set slots a.order.slot (Some q))) where
+      (same : q.prepared ≡ p.prepared) (programs : slots_left s place turn.ending ≡ map filled (set slots a.order.slot (Some q))) where
     abbrev slots' : List (Option LoadedProgram)
     slots' = set slots a.order.slot (Some q)
 
@@ -183,8 +183,8 @@ module _ (ns : ZonedNamespace) (slots : List (Option LoadedProgram)) (runs : Lis
     programs_same =
         map-set_same filled slots a.order.slot (Some q) None (ap (λ (x : LoadedProgram). filled (Some x)) same ∙ ap filled (sym loaded))
 
-    verified_same : q.verified ≡ p.verified
-    verified_same = ap (λ (x : LoadedProgram). x.verified) same
+    prepared_same : q.prepared ≡ p.prepared
+    prepared_same = ap (λ (x : LoadedProgram). x.prepared) same
 
     abbrev sees : ℕ → ℕ → RunCommand → ℕ → List Turn → Place
     sees queue cid order size turns = record {
@@ -205,14 +205,14 @@ module _ (ns : ZonedNamespace) (slots : List (Option LoadedProgram)) (runs : Lis
     own_place : place_of new (map filled (set slots a.order.slot (Some q))) (active_of b) ≡ record place { turns = later }
     own_place =
         ap (λ (o : Option Loaded). sees b.queue b.cid b.order new.size (rest (task_of new o b.order) (active_of b).so_far (to_come new (active_of b)))) own_slot
-        ∙ ap (λ (x : Shape). sees b.queue b.cid b.order x.size later) (same_shape new q (Some b) turn later g.turns g.namespace verified_same (sym programs_same))
+        ∙ ap (λ (x : Shape). sees b.queue b.cid b.order x.size later) (same_shape new q (Some b) turn later g.turns g.namespace prepared_same (sym programs_same))
         ∙ ap (λ (order : RunCommand). sees b.queue b.cid order ns.size later) kept.order
         ∙ ap (λ (cid : ℕ). sees b.queue cid a.order ns.size later) kept.cid
         ∙ ap (λ (queue : ℕ). sees queue a.cid a.order ns.size later) kept.queue
 
     goes_turned : Fits new b → IsTurned s k new (set slots a.order.slot (Some q)) (set runs k (Some b)) (reply.Pending k)
     goes_turned fit =
-        is_turned new q (Some b) turn later g.turns g.namespace verified_same (sym programs_same) (reply.Pending k) refl (ap Some own_place) (kept.order, fit)
+        is_turned new q (Some b) turn later g.turns g.namespace prepared_same (sym programs_same) (reply.Pending k) refl (ap Some own_place) (kept.order, fit)
 
   -- ---- a turn that ends it
 
@@ -238,7 +238,7 @@ module _ (ns : ZonedNamespace) (slots : List (Option LoadedProgram)) (runs : Lis
 
     ends_turned : IsTurned s k new (set slots a.order.slot (Some q)) (set runs k None) (complete_reply b.queue b.cid answer)
     ends_turned =
-        is_turned new q None last [] e.turns e.namespace (ap (λ (x : LoadedProgram). x.verified) same) programs_end
+        is_turned new q None last [] e.turns e.namespace (ap (λ (x : LoadedProgram). x.prepared) same) programs_end
         (complete_reply b.queue b.cid answer) told refl tt
 
   -- ---- what its program and its run are afterwards

@@ -78,7 +78,7 @@ module _ (ns : ZonedNamespace) (slots : List (Option Loaded)) (slot : ℕ) (new 
 
 module _ (ns : ZonedNamespace) (slots : List (Option LoadedProgram)) (runs : List (Option Held)) (load : LoadCommand) (payload : List ℕ)
     (new : LoadedProgram) (ready : IsReady ns slots runs) (inside : load.slot < length slots)
-    (loadable : IsLoadable load payload (state_of ns slots runs) (program_of new.verified) (sizes_of new.verified)) where
+    (loadable : IsLoadable load payload (state_of ns slots runs) (program_of new.prepared) (sizes_of new.prepared)) where
   abbrev s : State
   s = state_of ns slots runs
 
@@ -86,19 +86,19 @@ module _ (ns : ZonedNamespace) (slots : List (Option LoadedProgram)) (runs : Lis
   unused = not_true (in_use s load.slot) (demanded (not (in_use s load.slot)) PROGRAM_IN_USE (passed (load_checks s load payload) 3 loadable.checks))
 
   put : new.result ≡ no_scratch → state_of ns (set slots load.slot (Some new)) runs
-      ≡ with_slot s load.slot (Some (just_loaded (program_of new.verified) load.limit))
+      ≡ with_slot s load.slot (Some (just_loaded (program_of new.prepared) load.limit))
   put blank =
       let seen_with : List (Option Loaded) → State = λ all. record { namespace = ns; slots = all; places = map (seen ns all) (map running runs) } in
       ap seen_with (map-set filled slots load.slot (Some new))
-      ∙ ap (λ (n : ℕ). seen_with (set (map filled slots) load.slot (Some (record { program = program_of new.verified; limit = n; result = new.result }))))
+      ∙ ap (λ (n : ℕ). seen_with (set (map filled slots) load.slot (Some (record { program = program_of new.prepared; limit = n; result = new.result }))))
       (ap (λ (sizes : Sizes). sizes.limit) loadable.accepted.kept_is)
-      ∙ ap (λ (bytes : List ℕ). seen_with (set (map filled slots) load.slot (Some (record { program = program_of new.verified; limit = load.limit; result = bytes })))) blank
+      ∙ ap (λ (bytes : List ℕ). seen_with (set (map filled slots) load.slot (Some (record { program = program_of new.prepared; limit = load.limit; result = bytes })))) blank
       ∙ ap (λ (places : List (Option Place)). record {
         namespace = ns;
-        slots = set (map filled slots) load.slot (Some (just_loaded (program_of new.verified) load.limit));
+        slots = set (map filled slots) load.slot (Some (just_loaded (program_of new.prepared) load.limit));
         places = places;
       })
-      (all_seen ns (map filled slots) load.slot (Some (just_loaded (program_of new.verified) load.limit)) (map running runs) unused)
+      (all_seen ns (map filled slots) load.slot (Some (just_loaded (program_of new.prepared) load.limit)) (map running runs) unused)
 
   pub loads : new.result ≡ no_scratch → HasLoaded load payload s (state_of ns (set slots load.slot (Some new)) runs) (success_answer 0 0)
   loads blank = record {
@@ -107,7 +107,7 @@ module _ (ns : ZonedNamespace) (slots : List (Option LoadedProgram)) (runs : Lis
         let sub : Submission = record { queue = queue; entry = entry; payload = payload } in
         ap (λ (why : Option Status). load_unless intervals why false sub s load) loadable.checks
         ∙ ap (read_program intervals sub s load) loadable.accepted.spelled
-        ∙ ap (judged sub s load (program_of new.verified)) loadable.accepted.accepted
+        ∙ ap (judged sub s load (program_of new.prepared)) loadable.accepted.accepted
         ∙ ap (λ (t : State). completed sub SUCCESS 0 0 [] t) (sym (put blank));
   }
 

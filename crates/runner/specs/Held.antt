@@ -42,7 +42,7 @@ running None = None
 running (Some a) = Some (active_of a)
 
 abbrev pub loaded_of : LoadedProgram → Loaded
-loaded_of p = record { program = program_of p.verified; limit = (sizes_of p.verified).limit; result = p.result }
+loaded_of p = record { program = program_of p.prepared; limit = (sizes_of p.prepared).limit; result = p.result }
 
 abbrev pub filled : Option LoadedProgram → Option Loaded
 filled None = None

@@ -28,7 +28,7 @@ pub record Fits (ns : ZonedNamespace) (a : Held) : Type 0 where
 
 -- a program was accepted for the blocks of the namespace
 abbrev pub IsFor : ZonedNamespace → LoadedProgram → Type 0
-IsFor ns p = (sizes_of p.verified).block ≡ ns.block
+IsFor ns p = (sizes_of p.prepared).block ≡ ns.block
 
 -- an active run, and the program in its slot
 pub record IsRunning (ns : ZonedNamespace) (slots : List (Option LoadedProgram)) (a : Held) : Type 0 where

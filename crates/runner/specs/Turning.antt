@@ -80,14 +80,14 @@ pub record Keeps (a b : Held) : Type 0 where
 -- a run that fits, with the program of its slot
 abbrev pub FitsIn : ZonedNamespace → Option LoadedProgram → Held → Type 0
 FitsIn ns None a = ⊥
-FitsIn ns (Some p) a = IsFor ns p × FitsOn ns (program_of p.verified) (sizes_of p.verified).limit a
+FitsIn ns (Some p) a = IsFor ns p × FitsOn ns (program_of p.prepared) (sizes_of p.prepared).limit a
 
 -- a turn of a run, by the program of a slot, which has the scratch bytes as its result once the run has ended
 abbrev pub SlotTurned : ZonedNamespace → ZonedNamespace → Option LoadedProgram → Option LoadedProgram → Held → Held → Option Answer → Type 0
 SlotTurned old new (Some p) (Some q) a b None =
-    (q ≡ p) × GoesOn old new (program_of p.verified) (sizes_of p.verified).limit a b × Keeps a b × Fits new b
+    (q ≡ p) × GoesOn old new (program_of p.prepared) (sizes_of p.prepared).limit a b × Keeps a b × Fits new b
 SlotTurned old new (Some p) (Some q) a b (Some answer) =
-    (q ≡ record p { result = b.scratch }) × HasEnded old new (program_of p.verified) (sizes_of p.verified).limit a b answer × Keeps a b
+    (q ≡ record p { result = b.scratch }) × HasEnded old new (program_of p.prepared) (sizes_of p.prepared).limit a b answer × Keeps a b
 SlotTurned old new _ _ a b answer = ⊥
 
 -- a place at which no run is, or one that fits

@@ -81,7 +81,7 @@ fn admit(
         return Err(Status::NO_RUN_FREE);
     };
     check_source(namespace, source, order.blocks)?;
-    let blocks = need(order.blocks.get(), loaded.verified.sizes());
+    let blocks = need(order.blocks.get(), loaded.prepared.verified().sizes());
     check_destination(namespace, &holds(runs), destination, blocks)?;
     Ok(Admitted {
         run,

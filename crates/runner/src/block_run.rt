@@ -7,23 +7,24 @@ ghost use Rattle.runner.specs.Ran.{HasRun};
 use interp::{Exit, Machine};
 use program_interface::{CONTEXT_BYTES, SCRATCH_BYTES};
 use program_meaning::TrapFree;
+use verified_run::Prepared;
 
 /// Runs a program that never traps over a block. Its group is at the front of `group`.
-pub fn run_block<V: TrapFree>(
-    verified: &V,
+pub fn run_block<V: TrapFree + Drop>(
+    prepared: &Prepared<V>,
     block: &[u8],
     context: &[u8; CONTEXT_BYTES],
     scratch: &mut [u8; SCRATCH_BYTES],
     group: &mut [u8],
 ) -> Exit
-    requires block { length block.now ≡ V.block verified.now }
+    requires block { length block.now ≡ V.block prepared.now }
     requires small { length block.now < 2 ^ 32 }
-    requires room { V.limit verified.now ≤ length group.old }
-    ensures run { HasRun (run_over (V.code verified.now) (V.limit verified.now) block.now context.now scratch.old) result.r0 result.frames (take result.group_len group.new) scratch.new }
-    ensures limit { result.group_len ≤ V.limit verified.now }
+    requires room { V.limit prepared.now ≤ length group.old }
+    ensures run { HasRun (run_over (V.code prepared.now) (V.limit prepared.now) block.now context.now scratch.old) result.r0 result.frames (take result.group_len group.new) scratch.new }
+    ensures limit { result.group_len ≤ V.limit prepared.now }
     ensures few { result.frames ≤ result.group_len }
     ensures within { result.group_len ≤ length group.new }
 {
     let mut machine = Machine::new(block, context, scratch);
-    machine.run_verified(verified, group)
+    prepared.run(&mut machine, group)
 }

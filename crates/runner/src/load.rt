@@ -18,6 +18,7 @@ use interval_domain::Intervals;
 use nvme_entry::{LoadCommand, MOST_TRANSFER, PROGRAM_SLOTS, ProgramSlot, Status};
 use program_interface::{MOST_SLOTS, RunSizes};
 use std::alloc::Global;
+use verified_run::Prepared;
 use verifier::{Verified, VerifyFault, verify};
 use zns_commands::{Answer, Namespace};
 use zone_resources::RUNS;
@@ -37,8 +38,8 @@ pub fn load(
     ensures no_data { result.length ≡ 0 }
 {
     match try_load(alloc, namespace, runs, command, payload) {
-        Ok(verified) => {
-            slots[command.slot.index()] = Some(LoadedProgram::new(verified));
+        Ok(prepared) => {
+            slots[command.slot.index()] = Some(LoadedProgram::new(prepared));
             Answer::success(0, 0)
         }
         Err(refusal) => refusal,
@@ -52,7 +53,7 @@ fn try_load(
     runs: &[Option<Active>; RUNS],
     command: &LoadCommand,
     payload: &[u8],
-) -> Result<Verified<Intervals>, Answer>
+) -> Result<Prepared<Verified<Intervals>>, Answer>
     ensures ok { IfOk result (λ v. (slots : List (Option LoadedProgram)) → IsLoadable command.now payload.now (state_of namespace.now slots runs.now) (program_of v) (sizes_of v)) }
     ensures err { IfErr result (λ answer. (slots : List (Option LoadedProgram)) → let s = state_of namespace.now slots runs.now in HasLoaded command.now payload.now s s answer) }
     ensures no_data { IfErr result (λ answer. answer.length ≡ 0) }
@@ -103,9 +104,13 @@ fn uses(run: &Option<Active>, slot: ProgramSlot) -> bool
     }
 }
 
-/// The program that bytes spell, where it is accepted for runs of these sizes, or the answer that
-/// refuses it.
-fn read_program(alloc: Global, bytes: &[u8], sizes: RunSizes) -> Result<Verified<Intervals>, Answer>
+/// The program that bytes spell, with its records, where it is accepted for runs of these sizes, or the
+/// answer that refuses it.
+fn read_program(
+    alloc: Global,
+    bytes: &[u8],
+    sizes: RunSizes,
+) -> Result<Prepared<Verified<Intervals>>, Answer>
     ensures ok { IfOk result (λ v. IsAccepted bytes.now sizes (program_of v) (sizes_of v)) }
     ensures err { IfErr result (IsNotAccepted bytes.now sizes) }
 {
@@ -114,10 +119,16 @@ fn read_program(alloc: Global, bytes: &[u8], sizes: RunSizes) -> Result<Verified
         Err(DecodeFault::Memory) => return Err(Answer::refused(Status::WANT_OF_MEMORY)),
         Err(DecodeFault::Fault(fault)) => return Err(refuse(fault.slot, fault.kind.number())),
     };
-    match verify::<Intervals>(alloc, program, sizes) {
-        Ok(verified) => Ok(verified),
-        Err(VerifyFault::Memory) => Err(Answer::refused(Status::WANT_OF_MEMORY)),
-        Err(VerifyFault::Refused(refusal)) => Err(refuse(refusal.slot, refusal.reason.number())),
+    let verified = match verify::<Intervals>(alloc, program, sizes) {
+        Ok(verified) => verified,
+        Err(VerifyFault::Memory) => return Err(Answer::refused(Status::WANT_OF_MEMORY)),
+        Err(VerifyFault::Refused(refusal)) => {
+            return Err(refuse(refusal.slot, refusal.reason.number()));
+        }
+    };
+    match Prepared::new(alloc, verified) {
+        Ok(prepared) => Ok(prepared),
+        Err(_) => Err(Answer::refused(Status::WANT_OF_MEMORY)),
     }
 }
 

@@ -5,24 +5,25 @@ ghost use Rattle.pushdown.specs.BlockRuns.{no_scratch};
 
 use interval_domain::Intervals;
 use program_interface::SCRATCH_BYTES;
+use verified_run::Prepared;
 use verifier::Verified;
 
 /// A program that a slot holds, and its result: the scratch bytes that its last run that succeeded left,
 /// zeros before there was one.
 #[derive(Drop)]
 pub struct LoadedProgram {
-    pub verified: Verified<Intervals>,
+    pub prepared: Prepared<Verified<Intervals>>,
     pub result: [u8; SCRATCH_BYTES],
 }
 
 impl LoadedProgram {
     /// A program without a result as yet.
-    pub fn new(verified: Verified<Intervals>) -> LoadedProgram
-        ensures verified { result.verified ≡ verified }
+    pub fn new(prepared: Prepared<Verified<Intervals>>) -> LoadedProgram
+        ensures prepared { result.prepared ≡ prepared }
         ensures result { result.result ≡ no_scratch }
     {
         LoadedProgram {
-            verified,
+            prepared,
             result: [0; SCRATCH_BYTES],
         }
     }

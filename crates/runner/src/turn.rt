@@ -21,6 +21,7 @@ use interp::Exit;
 use nvme_entry::{PROGRAM_SLOTS, Status};
 use program_interface::{Context, LARGEST_BLOCK};
 use program_meaning::TrapFree;
+use verified_run::Prepared;
 use zns_commands::{Answer, Namespace};
 use zone_resources::RUNS;
 
@@ -37,20 +38,20 @@ fn source_block<'a>(namespace: &'a Namespace, active: &Active) -> &'a [u8]
 }
 
 /// Runs the program on the block that is next.
-fn run_next<V: TrapFree>(
+fn run_next<V: TrapFree + Drop>(
     namespace: &Namespace,
-    verified: &V,
+    prepared: &Prepared<V>,
     active: &mut Active,
     group: &mut [u8; LARGEST_BLOCK],
 ) -> Exit
     requires fits { Fits namespace.now active.old }
-    requires block { V.block verified.now ≡ namespace.now.block }
-    requires limit { V.limit verified.now ≤ namespace.now.block }
-    ensures run { HasRun (next_run namespace.now (V.code verified.now) (V.limit verified.now) (active_of active.old)) result.r0 result.frames (take result.group_len group.new) active.new.scratch }
+    requires block { V.block prepared.now ≡ namespace.now.block }
+    requires limit { V.limit prepared.now ≤ namespace.now.block }
+    ensures run { HasRun (next_run namespace.now (V.code prepared.now) (V.limit prepared.now) (active_of active.old)) result.r0 result.frames (take result.group_len group.new) active.new.scratch }
     ensures limit { result.group_len ≤ namespace.now.block }
     ensures few { result.frames ≤ LARGEST_BLOCK }
     ensures within { result.group_len ≤ length group.new }
-    ensures same { active.new ≡ with_scratch active.old (scratch_after (next_run namespace.now (V.code verified.now) (V.limit verified.now) (active_of active.old))) }
+    ensures same { active.new ≡ with_scratch active.old (scratch_after (next_run namespace.now (V.code prepared.now) (V.limit prepared.now) (active_of active.old))) }
 {
     let order = active.order;
     let context = Context {
@@ -62,7 +63,7 @@ fn run_next<V: TrapFree>(
     };
     let block = source_block(namespace, active);
     run_block(
-        verified,
+        prepared,
         block,
         &context.encode(),
         &mut active.scratch,
@@ -114,19 +115,19 @@ fn finish(namespace: &mut Namespace, active: &mut Active)
 
 /// A turn of a run: its program on the next block, and what that emits is packed. Gives the run's answer
 /// where it has ended.
-fn advance<V: TrapFree>(
+fn advance<V: TrapFree + Drop>(
     namespace: &mut Namespace,
-    verified: &V,
+    prepared: &Prepared<V>,
     active: &mut Active,
     group: &mut [u8; LARGEST_BLOCK],
 ) -> Option<Answer>
-    requires fits { FitsOn namespace.old (V.code verified.now) (V.limit verified.now) active.old }
-    requires block { V.block verified.now ≡ namespace.old.block }
-    ensures turn { Turned namespace.old namespace.new (V.code verified.now) (V.limit verified.now) active.old active.new result }
+    requires fits { FitsOn namespace.old (V.code prepared.now) (V.limit prepared.now) active.old }
+    requires block { V.block prepared.now ≡ namespace.old.block }
+    ensures turn { Turned namespace.old namespace.new (V.code prepared.now) (V.limit prepared.now) active.old active.new result }
     ensures kept { Keeps active.old active.new }
     ensures fits { IsNone result → Fits namespace.new active.new }
 {
-    let exit = run_next(namespace, verified, active, group);
+    let exit = run_next(namespace, prepared, active, group);
     put(namespace, active, &group[..exit.group_len]);
     active.index += 1;
     active.frames += exit.frames as u32;
@@ -156,7 +157,7 @@ fn advance_by_slot(
     let Some(loaded) = slot else {
         unreachable!();
     };
-    let answer = advance(namespace, &loaded.verified, active, group)?;
+    let answer = advance(namespace, &loaded.prepared, active, group)?;
     loaded.result = active.scratch;
     Some(answer)
 }

@@ -6,12 +6,12 @@ use Rattle.runner.proofs.turn.advance.Goals as goal
 
 pub put-requires-clause-room : goal.put-requires-clause-room
 put-requires-clause-room g c =
-    room_for_put c.args.namespace.now (g.V.TrapFree.code c.args.verified.now) (g.V.TrapFree.limit c.args.verified.now) c.args.active.now c.requires.fits
+    room_for_put c.args.namespace.now (g.V.TrapFree.code c.args.prepared.now) (g.V.TrapFree.limit c.args.prepared.now) c.args.active.now c.requires.fits
     c.run_next-exit.new.active c.run_next-exit.result.r0 c.run_next-exit.result.frames _ c.run_next-exit.ensures.run c.run_next-exit.ensures.same
 
 pub returns-then-active-get-clause-turn : goal.returns-then-active-get-clause-turn
 returns-then-active-get-clause-turn g c =
-    goes c.args.namespace.now (g.V.TrapFree.code c.args.verified.now) (g.V.TrapFree.limit c.args.verified.now) c.args.active.now c.requires.fits
+    goes c.args.namespace.now (g.V.TrapFree.code c.args.prepared.now) (g.V.TrapFree.limit c.args.prepared.now) c.args.active.now c.requires.fits
     c.run_next-exit.new.active c.run_next-exit.result.r0 c.run_next-exit.result.frames _ c.run_next-exit.ensures.run c.run_next-exit.ensures.same
     c.put.new.namespace c.put.new.active c.put.ensures.namespace c.put.ensures.active
     c.if-exit-eq0.true (omega (arith, c.get.ensures.value, c.if-active-get.true))
@@ -22,7 +22,7 @@ finish-requires-clause-room g c =
       | else-exit-eq0-via-then-exit-eq0+else-active-get w ↦ inr (omega (arith, w.get.ensures.value, w.if-active-get.false))
       | else-exit-eq0-via-else-exit-eq0 w ↦ inl w.if-exit-eq0.false
     ] in
-    room_for_finish c.args.namespace.now (g.V.TrapFree.code c.args.verified.now) (g.V.TrapFree.limit c.args.verified.now) c.args.active.now c.requires.fits
+    room_for_finish c.args.namespace.now (g.V.TrapFree.code c.args.prepared.now) (g.V.TrapFree.limit c.args.prepared.now) c.args.active.now c.requires.fits
     c.run_next-exit.new.active c.run_next-exit.result.r0 c.run_next-exit.result.frames _ c.run_next-exit.ensures.run c.run_next-exit.ensures.same
     c.put.new.namespace c.put.new.active c.put.ensures.namespace c.put.ensures.active over
 
@@ -32,7 +32,7 @@ returns-clause-turn g c =
       | else-exit-eq0-via-then-exit-eq0+else-active-get w ↦ inr (omega (arith, w.get.ensures.value, w.if-active-get.false))
       | else-exit-eq0-via-else-exit-eq0 w ↦ inl w.if-exit-eq0.false
     ] in
-    ends_there c.args.namespace.now (g.V.TrapFree.code c.args.verified.now) (g.V.TrapFree.limit c.args.verified.now) c.args.active.now c.requires.fits
+    ends_there c.args.namespace.now (g.V.TrapFree.code c.args.prepared.now) (g.V.TrapFree.limit c.args.prepared.now) c.args.active.now c.requires.fits
     c.run_next-exit.new.active c.run_next-exit.result.r0 c.run_next-exit.result.frames _ c.run_next-exit.ensures.run c.run_next-exit.ensures.same
     c.put.new.namespace c.put.new.active c.put.ensures.namespace c.put.ensures.active over
     c.finish.new.namespace c.finish.new.active c.finish.ensures.namespace c.finish.ensures.active

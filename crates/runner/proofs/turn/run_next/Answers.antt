@@ -9,8 +9,8 @@ use Rattle.runner.proofs.turn.run_next.Goals as goal
 
 pub returns-clause-run : goal.returns-clause-run
 returns-clause-run g c =
-    let code = g.V.TrapFree.code c.args.verified.now in
-    let limit = g.V.TrapFree.limit c.args.verified.now in
+    let code = g.V.TrapFree.code c.args.prepared.now in
+    let limit = g.V.TrapFree.limit c.args.prepared.now in
     let ns = c.args.namespace.now in
     let a = active_of c.args.active.now in
     let size : c.block.result ≡ ns.block = c.block.ensures.value ∙ ap (λ (s : Shape). s.block) c.geometry.ensures.value in

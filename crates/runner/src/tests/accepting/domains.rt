@@ -12,7 +12,7 @@ const ADD_TO_BLOCK: u64 = 0x0f62_0000_0000_0000; // add r2, r6
 const LOAD_FROM_ZERO: u64 = 0x7900_0000_0000_0000; // ldxdw r0, [r0+0]
 
 /// Loads, by this instruction, from a place that the block's first two bytes tell.
-fn masked(load: u64) -> [u64; 6] {
+pub(super) fn masked(load: u64) -> [u64; 6] {
     [
         0x6926_0000_0000_0000, // ldxh r6, [r2+0]
         0x5706_0000_ff01_0000, // and r6, 511
@@ -24,7 +24,7 @@ fn masked(load: u64) -> [u64; 6] {
 }
 
 /// Loads, by this instruction, from a place up to 99 bytes further.
-fn bounded(load: u64) -> [u64; 6] {
+pub(super) fn bounded(load: u64) -> [u64; 6] {
     [
         FIRST_BYTE,
         0x2506_0300_6300_0000, // jgt r6, 99, +3
