@@ -1,43 +1,67 @@
-//! Runs a program over a block on the checked machine, and prints R0, the number of steps and, after
-//! some rounds, the best time of an instruction in picoseconds.
+//! Runs an accepted program over a block, with every check and over its records. Prints R0 and the number of steps and,
+//! after some rounds, the best time of an instruction both ways, in picoseconds.
 //!
 //! bench_machine PROGRAM BLOCK ROUNDS REPEATS
 #![tactic(auto)]
 
+mod timed;
+
 use anyhow::{Context, Result, bail, ensure};
 use ebpf_decode::decode;
-use instruction_set::Program;
-use interp::Machine;
-use program_interface::{CONTEXT_BYTES, LARGEST_BLOCK, MOST_SLOTS, SCRATCH_BYTES};
-use program_meaning::End;
+use interval_domain::Intervals;
+use program_interface::{BlockSize, CONTEXT_BYTES, LARGEST_BLOCK, RunSizes, SCRATCH_BYTES};
+use std::alloc::Global;
 use std::rt::{Clock, Env, Files};
 use std::time::Instant;
 use std::{env, fs};
+use timed::{Form, repeat, run};
+use verified_run::Prepared;
+use verifier::{Verified, VerifyFault, verify};
 
-/// One run: R0 and the number of steps.
-fn run(program: &Program, block: &[u8]) -> Result<(u64, u64)> {
-    ensure!(block.len() <= LARGEST_BLOCK, "the block is too long");
-    let context = [0; CONTEXT_BYTES];
-    let mut scratch = [0; SCRATCH_BYTES];
-    let mut machine = Machine::new(block, &context, &mut scratch);
-    ensure!(
-        program.at(machine.slot()).is_some(),
-        "no instruction begins at slot 0"
-    );
-    match machine.run_checked(program, 0, MOST_SLOTS as u64, &mut []) {
-        End::Exit { r0 } => Ok((r0, machine.steps())),
-        End::Trap { slot, cause } => bail!("trap at slot {slot}: {cause:?}"),
-        End::OutOfFuel => bail!("out of fuel"),
+/// A program that emits nothing, with its records.
+fn load(alloc: Global, bytes: &[u8], block: BlockSize) -> Result<Prepared<Verified<Intervals>>> {
+    let sizes = RunSizes::new(block, 0).context("nothing emitted fits no block")?;
+    match verify::<Intervals>(alloc, decode(alloc, bytes)?, sizes) {
+        Ok(verified) => Ok(Prepared::new(alloc, verified)?),
+        Err(VerifyFault::Refused(refusal)) => {
+            bail!("refused at slot {}: {:?}", refusal.slot, refusal.reason)
+        }
+        Err(VerifyFault::Memory) => bail!("no memory"),
     }
 }
 
-/// The nanoseconds of some runs.
-fn round(rt: &impl Clock, program: &Program, block: &[u8], repeats: u32) -> Result<u128> {
-    let start = Instant::now(rt)?;
-    for _ in 0..repeats {
-        run(program, block)?;
+/// One run: R0 and the number of steps.
+fn answer(program: &Prepared<Verified<Intervals>>, form: Form, block: &[u8]) -> Result<(u64, u64)> {
+    let exit = run(
+        program,
+        form,
+        block,
+        &[0; CONTEXT_BYTES],
+        &mut [0; SCRATCH_BYTES],
+    )
+    .context("the run has no end")?;
+    Ok((exit.r0, exit.steps))
+}
+
+/// The least number of nanoseconds of some rounds of runs.
+fn best(
+    rt: &impl Clock,
+    program: &Prepared<Verified<Intervals>>,
+    form: Form,
+    block: &[u8],
+    rounds: u32,
+    repeats: u32,
+) -> Result<u128> {
+    let mut scratch = [0; SCRATCH_BYTES];
+    let mut best = u128::MAX;
+    for _ in 0..rounds {
+        let start = Instant::now(rt)?;
+        let done = repeat(program, form, block, repeats, &mut scratch);
+        let spent = start.elapsed(rt)?.as_nanos();
+        ensure!(done, "a run has no end");
+        best = best.min(spent);
     }
-    Ok(start.elapsed(rt)?.as_nanos())
+    Ok(best)
 }
 
 fn main(rt: HostRuntime) -> Result<()> {
@@ -47,17 +71,24 @@ fn main(rt: HostRuntime) -> Result<()> {
     let block = args.next().context("no block")?;
     let rounds = args.next().context("no rounds")?.parse::<u32>()?;
     let repeats = args.next().context("no repeats")?.parse::<u32>()?;
-    let program = decode(rt.alloc(), &fs::read(&rt, &program)?)?;
+    let bytes = fs::read(&rt, &program)?;
     let block = fs::read(&rt, &block)?;
-    let (r0, steps) = run(&program, &block)?;
+    ensure!(block.len() <= LARGEST_BLOCK, "the block is too long");
+    let size = BlockSize::new(block.len() as u32).context("that is the size of no block")?;
+    let program = load(rt.alloc(), &bytes, size)?;
+    let (r0, steps) = answer(&program, Form::Checked, &block)?;
+    ensure!(
+        answer(&program, Form::OverRecords, &block)? == (r0, steps),
+        "the two runs differ"
+    );
     println!(rt; "{r0} {steps}")?;
-    let mut best = u128::MAX;
-    for _ in 0..rounds {
-        best = best.min(round(&rt, &program, &block, repeats)?);
-    }
     let instructions = u128::from(steps) * u128::from(repeats);
-    if rounds > 0 && instructions > 0 {
-        println!(rt; "{} ps", best.saturating_mul(1000) / instructions)?;
+    if rounds == 0 || instructions == 0 {
+        return Ok(());
+    }
+    for form in [Form::Checked, Form::OverRecords] {
+        let spent = best(&rt, &program, form, &block, rounds, repeats)?;
+        println!(rt; "{} ps", spent.saturating_mul(1000) / instructions)?;
     }
     Ok(())
 }

@@ -1,30 +1,27 @@
-//! Loads a program, that is decodes and verifies it for the block's length and nothing emitted, and
-//! runs it over the block. Prints the number of instructions, then R0 and the number of steps and,
-//! after some rounds, the best time of a load in nanoseconds and of an instruction in picoseconds.
+//! Loads a program, that is decodes and verifies it for the block's length and makes its records. Prints the number of
+//! instructions and, after some rounds, the best time of a load in nanoseconds.
 //!
 //! bench_verifier PROGRAM BLOCK ROUNDS REPEATS
 #![tactic(auto)]
 
-ghost use Rattle.std.specs.Prelude.{◌≡◌, ◌≤◌, IfOk, length};
-ghost use Rattle.verifier.specs.Verified.{sizes_of};
+mod timed;
 
 use anyhow::{Context, Result, bail, ensure};
 use ebpf_decode::decode;
-use interp::Machine;
 use interval_domain::Intervals;
-use program_interface::{BlockSize, RunSizes};
+use program_interface::{BlockSize, LARGEST_BLOCK, RunSizes};
 use std::alloc::Global;
 use std::rt::{Clock, Env, Files};
 use std::time::Instant;
 use std::{env, fs};
-use verifier::{Verified, VerifyFault, verify};
+use timed::repeat;
+use verifier::{VerifyFault, verify};
 
-/// One load.
-fn load(alloc: Global, bytes: &[u8], sizes: RunSizes) -> Result<Verified<Intervals>>
-    ensures { IfOk result (λ v. sizes_of v ≡ sizes) }
-{
+/// The number of instructions of a program that is accepted and emits nothing.
+fn accepted(alloc: Global, bytes: &[u8], block: BlockSize) -> Result<usize> {
+    let sizes = RunSizes::new(block, 0).context("nothing emitted fits no block")?;
     match verify::<Intervals>(alloc, decode(alloc, bytes)?, sizes) {
-        Ok(verified) => Ok(verified),
+        Ok(verified) => Ok(verified.program().len()),
         Err(VerifyFault::Refused(refusal)) => {
             bail!("refused at slot {}: {:?}", refusal.slot, refusal.reason)
         }
@@ -32,49 +29,19 @@ fn load(alloc: Global, bytes: &[u8], sizes: RunSizes) -> Result<Verified<Interva
     }
 }
 
-/// One run: R0 and the number of steps.
-fn run(program: &Verified<Intervals>, block: &[u8]) -> (u64, u64)
-    requires most { length block.now ≤ 4096 }
-    requires block { length block.now ≡ (sizes_of program.now).block }
-    requires limit { (sizes_of program.now).limit ≡ 0 }
-{
-    let context = [0; 32];
-    let mut scratch = [0; 1024];
-    let exit = Machine::new(block, &context, &mut scratch).run_verified(program, &mut []);
-    (exit.r0, exit.steps)
-}
-
 /// The nanoseconds of some loads.
-fn load_round(
+fn round(
     rt: &impl Clock,
     alloc: Global,
     bytes: &[u8],
-    sizes: RunSizes,
+    block: BlockSize,
     repeats: u32,
 ) -> Result<u128> {
     let start = Instant::now(rt)?;
-    for _ in 0..repeats {
-        load(alloc, bytes, sizes)?;
-    }
-    Ok(start.elapsed(rt)?.as_nanos())
-}
-
-/// The nanoseconds of some runs.
-fn run_round(
-    rt: &impl Clock,
-    program: &Verified<Intervals>,
-    block: &[u8],
-    repeats: u32,
-) -> Result<u128>
-    requires most { length block.now ≤ 4096 }
-    requires block { length block.now ≡ (sizes_of program.now).block }
-    requires limit { (sizes_of program.now).limit ≡ 0 }
-{
-    let start = Instant::now(rt)?;
-    for _ in 0..repeats {
-        run(program, block);
-    }
-    Ok(start.elapsed(rt)?.as_nanos())
+    let done = repeat(alloc, bytes, block, repeats);
+    let spent = start.elapsed(rt)?.as_nanos();
+    ensure!(done, "a load has failed");
+    Ok(spent)
 }
 
 fn main(rt: HostRuntime) -> Result<()> {
@@ -86,22 +53,15 @@ fn main(rt: HostRuntime) -> Result<()> {
     let repeats = args.next().context("no repeats")?.parse::<u32>()?;
     let bytes = fs::read(&rt, &program)?;
     let block = fs::read(&rt, &block)?;
-    ensure!(block.len() <= 4096, "the block is too long");
+    ensure!(block.len() <= LARGEST_BLOCK, "the block is too long");
     let size = BlockSize::new(block.len() as u32).context("that is the size of no block")?;
-    let sizes = RunSizes::new(size, 0).context("nothing emitted fits no block")?;
-    let program = load(rt.alloc(), &bytes, sizes)?;
-    println!(rt; "accepted {}", program.program().len())?;
-    let (r0, steps) = run(&program, &block);
-    println!(rt; "{r0} {steps}")?;
-    let (mut loading, mut running) = (u128::MAX, u128::MAX);
+    println!(rt; "accepted {}", accepted(rt.alloc(), &bytes, size)?)?;
+    let mut best = u128::MAX;
     for _ in 0..rounds {
-        loading = loading.min(load_round(&rt, rt.alloc(), &bytes, sizes, repeats)?);
-        running = running.min(run_round(&rt, &program, &block, repeats)?);
+        best = best.min(round(&rt, rt.alloc(), &bytes, size, repeats)?);
     }
-    let instructions = u128::from(steps) * u128::from(repeats);
-    if rounds > 0 && instructions > 0 {
-        println!(rt; "{} ns", loading / u128::from(repeats))?;
-        println!(rt; "{} ps", running.saturating_mul(1000) / instructions)?;
+    if rounds > 0 && repeats > 0 {
+        println!(rt; "{} ns", best / u128::from(repeats))?;
     }
     Ok(())
 }

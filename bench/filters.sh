@@ -1,0 +1,52 @@
+#!/bin/sh
+# Runs the filters of examples/ and of bench/filters, as clang -O2 makes them for v2, over a block of 4096 bytes: with every
+# check, over their records, and in DPDK's interpreter (Debian's libdpdk-dev), which takes no 32-bit compares. Prints the
+# nanoseconds of a run, the best of several rounds and launches, with their ratios to DPDK's, and the geometric mean of the
+# ratios of records. A filter that DPDK doesn't load in 5 seconds has no ratio.
+set -eu
+here=$(cd "$(dirname "$0")" && pwd)
+. "$here/least.sh"
+work=$(mktemp -d)
+trap 'rm -rf "$work"' EXIT
+cc -O2 -march=native -o "$work/dpdk" "$here/filters.c" $(pkg-config --cflags --libs libdpdk)
+ours=$here/../crates/bench_programs/out/bench_programs
+awk 'BEGIN { for (i = 0; i < 4096; i++) printf "%02x", (i * i * 31 + int(i / 7)) % 256 }' | xxd -r -p > "$work/block.bin"
+rounds=10
+repeats=1000
+for file in "$here"/../examples/*.c "$here"/filters/*.c; do
+    name=$(basename "$file" .c)
+    clang -target bpf -mcpu=v2 -O2 -I"$here/../examples" -c "$file" -o "$work/$name.o"
+    llvm-objcopy -O binary --only-section=.text "$work/$name.o" "$work/$name.bin"
+done
+# builds the program where it has to
+(cd "$here/../crates/bench_programs" && rt run -- "$work/filter.bin" "$work/block.bin" 0 0 1 > /dev/null 2>&1)
+for file in "$work"/*.bin; do
+    name=$(basename "$file" .bin)
+    if [ "$name" = block ]; then continue; fi
+    if ! wanted=$("$ours" "$file" "$work/block.bin" 0 0 1 2>&1); then
+        echo "$name: $wanted"
+        continue
+    fi
+    if [ "$wanted" != "$("$ours" "$file" "$work/block.bin" 0 0 0)" ]; then
+        echo "$name: the answers differ" >&2
+        exit 1
+    fi
+    checked=$(least 2 "$ours" "$file" "$work/block.bin" $rounds $repeats 0)
+    records=$(least 2 "$ours" "$file" "$work/block.bin" $rounds $repeats 1)
+    if timeout 5 "$work/dpdk" "$file" "$work/block.bin" 0 0 > /dev/null 2>&1; then
+        theirs=$(least 2 "$work/dpdk" "$file" "$work/block.bin" $rounds $repeats 2> /dev/null)
+    else
+        theirs=0
+    fi
+    echo "$name $checked $records $theirs"
+done | awk 'NF == 4 {
+    printf "%s: checked %.1f ns, records %.1f ns", $1, $2 / 1000, $3 / 1000
+    if ($4) {
+        printf ", DPDK %.1f ns, ratios %.2f and %.2f", $4 / 1000, $2 / $4, $3 / $4
+        sum += log($3 / $4); count++
+    }
+    print ""
+    next
+}
+{ print }
+END { if (count) printf "geometric mean of %d: %.2f\n", count, exp(sum / count) }'

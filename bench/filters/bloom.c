@@ -1,0 +1,22 @@
+/* Emits keys that a filter of 1024 bits in scratch hasn't met yet, and enters them. */
+#include "pifnjarl.h"
+
+long bloom(const struct context *context, const u8 *block, u8 *scratch)
+{
+    u64 *bits = (u64 *)scratch;
+
+#pragma unroll
+    for (int i = 0; i < 8; i++) {
+        u64 key = *(const u64 *)(block + 64 * i);
+        u64 hash = key * 0x9e3779b97f4a7c15ull;
+        u64 first = hash >> 54, second = hash >> 44 & 1023;
+        u64 one = bits[first >> 6] >> (first & 63) & 1;
+        u64 two = bits[second >> 6] >> (second & 63) & 1;
+
+        bits[first >> 6] |= 1ull << (first & 63);
+        bits[second >> 6] |= 1ull << (second & 63);
+        if (!(one & two))
+            emit(block + 64 * i, 8);
+    }
+    return 0;
+}

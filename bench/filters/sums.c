@@ -1,0 +1,22 @@
+/* Adds prices by kind in scratch, with a count of each, and emits them with the run's last block. */
+#include "pifnjarl.h"
+
+struct total { u64 sum; u32 count, most; };
+
+long sums(const struct context *context, const u8 *block, u8 *scratch)
+{
+#pragma unroll
+    for (int i = 0; i < 16; i++) {
+        const u8 *row = block + 32 * i;
+        struct total *total = (struct total *)(scratch + 16 * (row[12] & 15));
+        u32 price = *(const u32 *)(row + 8);
+
+        total->sum += price;
+        total->count += 1;
+        if (price > total->most)
+            total->most = price;
+    }
+    if (context->index + 1 == context->count)
+        emit(scratch, 256);
+    return 0;
+}

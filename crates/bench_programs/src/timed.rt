@@ -1,0 +1,78 @@
+//! What is timed: runs, and nothing that could fail or that has to be dropped.
+
+ghost use Rattle.std.specs.Prelude.{◌≡◌, ◌≤◌, length};
+ghost use Rattle.interp.specs.Machine.{group_length, slot_of, steps_of};
+ghost use Rattle.verifier.specs.Verified.{sizes_of};
+
+use interp::{Exit, Machine};
+use interval_domain::Intervals;
+use program_interface::{CONTEXT_BYTES, LARGEST_BLOCK, SCRATCH_BYTES};
+use program_meaning::End;
+use verified_run::Prepared;
+use verifier::Verified;
+
+/// One run, over its records or with every check; none over a block of another size.
+#[inline(always)]
+pub fn run(
+    program: &Prepared<Verified<Intervals>>,
+    records: bool,
+    block: &[u8],
+    context: &[u8; CONTEXT_BYTES],
+    scratch: &mut [u8; SCRATCH_BYTES],
+    group: &mut [u8; LARGEST_BLOCK],
+) -> Option<Exit> {
+    let verified = program.verified();
+    let sizes = verified.sizes();
+    if block.len() != sizes.block().bytes() as usize || sizes.limit() as usize > group.len() {
+        return None;
+    }
+    let mut machine = Machine::new(block, context, scratch);
+    if records {
+        Some(program.run(&mut machine, group))
+    } else {
+        run_checked(verified, &mut machine, group)
+    }
+}
+
+/// One run with every check, to its EXIT.
+#[inline(always)]
+fn run_checked(
+    verified: &Verified<Intervals>,
+    machine: &mut Machine,
+    group: &mut [u8; LARGEST_BLOCK],
+) -> Option<Exit>
+    requires slot { slot_of machine.old ≡ 0 }
+    requires steps { steps_of machine.old ≡ 0 }
+    requires group_len { group_length machine.old ≡ 0 }
+    requires room { (sizes_of verified.now).limit ≤ length group.old }
+{
+    let (program, limit) = (verified.program(), verified.sizes().limit() as usize);
+    let End::Exit { r0 } = machine.run_checked(program, limit, program.slots() as u64, group) else {
+        return None;
+    };
+    Some(Exit {
+        r0,
+        steps: machine.steps(),
+        group_len: machine.group_len(),
+        frames: machine.frames(),
+    })
+}
+
+/// Some runs, each with another context: was each done?
+#[inline(never)]
+pub fn repeat(
+    program: &Prepared<Verified<Intervals>>,
+    records: bool,
+    block: &[u8],
+    repeats: u32,
+    scratch: &mut [u8; SCRATCH_BYTES],
+    group: &mut [u8; LARGEST_BLOCK],
+) -> bool {
+    let mut context = [0; CONTEXT_BYTES];
+    let mut done = true;
+    for repeat in 0..repeats {
+        context[0] = (repeat % 0x100) as u8;
+        done &= run(program, records, block, &context, scratch, group).is_some();
+    }
+    done
+}
