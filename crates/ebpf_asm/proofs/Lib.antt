@@ -8,3 +8,4 @@ pub mod RoundOperands
 pub mod RoundLines
 pub mod RoundProgram
 pub mod Listings
+pub mod SlotListings

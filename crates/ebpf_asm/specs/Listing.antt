@@ -1,7 +1,7 @@
 -- The listing of a program: the text of each of its instructions on a line (profile).
-use Rattle.std.specs.Prelude.{ℕ, ℤ, pos, int_lt, ◌-◌, if◌then◌else◌, false, List, [], ◌∷◌, ◌++◌, length, replicate, Option, codes}
+use Rattle.std.specs.Prelude.{ℕ, ℤ, pos, int_lt, ◌-◌, ◌+◌, ◌^◌, if◌then◌else◌, false, List, [], ◌∷◌, ◌++◌, length, replicate, Option, Some, None, codes}
 use Rattle.std.specs.List.{flat_map}
-use Rattle.std.specs.Fmt.{decimal, signed_decimal, digits}
+use Rattle.std.specs.Fmt.{decimal, signed_decimal, digits, padded_integral, format_spec}
 use Rattle.instruction_set.specs.declared.insn.Insn.{Insn}
 use Rattle.instruction_set.specs.declared.insn.Insn.TheVariants.{LoadImmediate, Load, LoadSigned, StoreImmediate, StoreRegister, Arithmetic, Negate, MoveSigned, SwapBytes, Jump, JumpLong, Branch, Call, Exit}
 use Rattle.instruction_set.specs.declared.insn.Source.{Source}
@@ -79,3 +79,20 @@ line_text insn = insn_text insn ++ codes "\n"
 -- the listing of a program
 abbrev pub listing : List (Option Insn) → List ℕ
 listing slots = flat_map line_text (instructions_of slots)
+
+-- a slot as `{slot:4}` writes it, a decimal number to the right of four columns, and two spaces
+abbrev pub slot_text : ℕ → List ℕ
+slot_text slot = padded_integral (format_spec 32 0 0 4 (2 ^ 64 - 1)) false [] (decimal slot) ++ codes "  "
+
+abbrev pub line_with_slot : ℕ → Insn → List ℕ
+line_with_slot slot insn = slot_text slot ++ line_text insn
+
+-- the instructions of slots, each behind its slot, where the first has this number
+abbrev pub lines_from : ℕ → List (Option Insn) → List ℕ
+lines_from slot [] = []
+lines_from slot (Some insn ∷ rest) = line_with_slot slot insn ++ lines_from (slot + 1) rest
+lines_from slot (None ∷ rest) = lines_from (slot + 1) rest
+
+-- the listing of a program with the slot of each instruction before it
+abbrev pub listing_with_slots : List (Option Insn) → List ℕ
+listing_with_slots slots = lines_from 0 slots

@@ -15,7 +15,7 @@ mod text;
 
 pub use assembly::assemble;
 pub use fault::{AsmFault, AssembleError, FaultKind};
-pub use listing::disassemble;
+pub use listing::{disassemble, disassemble_with_slots, instruction_text};
 
 #[cfg(test)]
 mod tests;

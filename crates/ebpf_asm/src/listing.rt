@@ -1,13 +1,13 @@
 //! Listings: a program as text.
 
-ghost use Rattle.std.specs.Prelude.{◌≡◌, ◌++◌, ◌∷◌, [], OnOk, OnErr, take, codes};
+ghost use Rattle.std.specs.Prelude.{◌≡◌, ◌++◌, ◌∷◌, [], IfOk, OnOk, OnErr, take, codes};
 ghost use Rattle.std.specs.String.{string_bytes};
 ghost use Rattle.std.specs.Fmt.{signed_decimal};
-ghost use Rattle.ebpf_asm.specs.Listing.{register_text, signed_text, memory_text, wide_text, source_text, mnemonic_of, operand_texts, operands_text, line_text, listing};
+ghost use Rattle.ebpf_asm.specs.Listing.{register_text, signed_text, memory_text, wide_text, source_text, mnemonic_of, operand_texts, operands_text, insn_text, line_text, slot_text, line_with_slot, listing, listing_with_slots};
 
 use crate::mnemonic::Mnemonic;
 use instruction_set::{Insn, Program, Register, Source};
-use std::alloc::AllocError;
+use std::alloc::{AllocError, Global};
 
 /// Adds the listing of a program at the end of a text: each instruction on a line, its mnemonic, a
 /// space, and its operands with `, ` between them. Immediates are signed decimal numbers, offsets
@@ -27,14 +27,59 @@ pub fn disassemble(program: &Program, out: &mut String) -> Result<(), AllocError
     out.push_str(&text)
 }
 
+/// As [`disassemble`], with each instruction's slot before it: a decimal number in four columns, and two
+/// spaces. A wide instruction takes two slots, so that the slot behind it is missing.
+pub fn disassemble_with_slots(program: &Program, out: &mut String) -> Result<(), AllocError>
+    ensures ok { OnOk result (string_bytes out.new ≡ string_bytes out.old ++ listing_with_slots program.now) }
+    ensures err { OnErr result (string_bytes out.new ≡ string_bytes out.old) }
+{
+    let mut text = String::new(*out.allocator());
+    for slot in 0..program.slots() {
+        let Some(insn) = program.at(slot) else {
+            continue;
+        };
+        push_line_with_slot(&mut text, slot, insn)?;
+    }
+    out.push_str(&text)
+}
+
+/// The text of an instruction, as it stands in listings, without a line end.
+pub fn instruction_text(alloc: Global, insn: &Insn) -> Result<String, AllocError>
+    ensures { IfOk result (λ text. string_bytes text ≡ insn_text insn.now) }
+{
+    let mut text = String::new(alloc);
+    push_instruction(&mut text, insn)?;
+    Ok(text)
+}
+
 fn push_line(out: &mut String, insn: &Insn) -> Result<(), AllocError>
     ensures { OnOk result (string_bytes out.new ≡ string_bytes out.old ++ line_text insn.now) }
+{
+    push_instruction(out, insn)?;
+    out.push_str("\n")
+}
+
+fn push_line_with_slot(out: &mut String, slot: usize, insn: &Insn) -> Result<(), AllocError>
+    ensures { OnOk result (string_bytes out.new ≡ string_bytes out.old ++ line_with_slot slot insn.now) }
+{
+    push_slot(out, slot)?;
+    push_line(out, insn)
+}
+
+/// A slot in four columns, and two spaces.
+fn push_slot(out: &mut String, slot: usize) -> Result<(), AllocError>
+    ensures { OnOk result (string_bytes out.new ≡ string_bytes out.old ++ slot_text slot) }
+{
+    write!(out, "{slot:4}  ")
+}
+
+fn push_instruction(out: &mut String, insn: &Insn) -> Result<(), AllocError>
+    ensures { OnOk result (string_bytes out.new ≡ string_bytes out.old ++ insn_text insn.now) }
 {
     let (front, back) = mnemonic(insn).parts();
     out.push_str(front)?;
     out.push_str(back)?;
-    push_operands(out, insn)?;
-    out.push_str("\n")
+    push_operands(out, insn)
 }
 
 fn mnemonic(insn: &Insn) -> Mnemonic
