@@ -30,6 +30,16 @@ impl Model for Intervals {
     ghost inverse = { λ f. record { fact = f } };
 }
 
+impl Intervals {
+    /// The fact.
+    pub fn fact(self) -> Fact
+        ensures { result ≡ self }
+    {
+        let Intervals { fact } = self;
+        fact
+    }
+}
+
 impl Domain for Intervals {
     ghost use Rattle.interval_domain.specs.Fact.{ContainsWord};
     ghost use Rattle.interval_domain.specs.Intervals.{EachIsFact, intervals, intervals_sound};

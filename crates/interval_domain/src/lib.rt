@@ -8,9 +8,12 @@ mod edge;
 mod fact;
 mod intervals;
 mod range;
+mod words;
 
 pub use constants::Constants;
+pub use fact::Fact;
 pub use intervals::Intervals;
+pub use words::Offsets;
 
 #[cfg(test)]
 mod tests;
