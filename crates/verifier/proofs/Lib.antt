@@ -3,3 +3,4 @@ pub mod Checks
 pub mod Pushes
 pub mod Refusals
 pub mod Sizes
+pub mod Judgements

@@ -47,7 +47,7 @@ module _ {D : Type 0} (operations : Operations D) (program : List (Option Insn))
   told_here slot None r e = cc
   told_here slot (Some reason) r e = cc
 
-  at_its_slot : (slot : ℕ) (i : Option Insn) (facts : Option (Facts D)) (r : Refusal)
+  pub at_its_slot : (slot : ℕ) (i : Option Insn) (facts : Option (Facts D)) (r : Refusal)
       → refusal_at operations program sizes slot i facts ≡ Some r → r.slot ≡ slot
   at_its_slot slot (Some i) (Some facts) r e = told_here slot (reason_of operations program sizes slot facts i) r e
   at_its_slot slot (Some i) None r e = cc

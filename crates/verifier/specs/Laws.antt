@@ -1,18 +1,30 @@
 -- Laws of the definitions.
-use Rattle.std.specs.Prelude.{◌≡◌, ◌<◌, List, length, Option, Some, None}
-use Rattle.instruction_set.specs.Program.{IsProgram}
+use Rattle.std.specs.Prelude.{ℕ, ◌≡◌, ◌<◌, ◌≤◌, List, length, Option, Some, None}
+use Rattle.instruction_set.specs.Program.{IsProgram, instruction_count}
 use Rattle.instruction_set.specs.declared.insn.Insn.{Insn}
+use Rattle.program_meaning.specs.Run.{run_of}
+use Rattle.program_meaning.specs.State.{IsState, entry}
 use Rattle.program_meaning.specs.TrapFree.{NeverTraps}
 use Rattle.program_interface.specs.RunSizes.{AreSizes, Sizes}
 use Rattle.program_interface.specs.declared.TheConstants.{MOST_SLOTS}
 use Rattle.reg_domain.specs.Domain.{Operations}
 use Rattle.verifier.specs.Accepted.{refusal}
+use Rattle.verifier.specs.Judged.{most_emitted}
 use Rattle.verifier.specs.declared.reason.Refusal.{Refusal}
 
 -- a program that these operations accept never traps
 abbrev pub AcceptedNeverTraps : {D : Type 0} → Operations D → Type 0
 AcceptedNeverTraps operations = (program : List (Option Insn)) → IsProgram program → (sizes : Sizes) → AreSizes sizes
     → refusal operations program sizes ≡ None → NeverTraps program sizes.limit sizes.block
+
+-- over every block of the length, every context and every scratch, a program that these operations accept emits no more
+-- than a group is known to have at some slot
+abbrev pub AcceptedEmitsNoMore : {D : Type 0} → Operations D → Type 0
+AcceptedEmitsNoMore operations = (program : List (Option Insn)) → IsProgram program → (sizes : Sizes) → AreSizes sizes
+    → refusal operations program sizes ≡ None
+    → (bytes context scratch : List ℕ) → length bytes ≡ sizes.block → IsState (entry bytes context scratch)
+    → length (run_of program sizes.limit (instruction_count program) 0 (entry bytes context scratch)).state.group
+    ≤ most_emitted operations program sizes.block
 
 -- the slot of a refusal is one of the program's, and so below the most slots of a program
 abbrev pub RefusalIsInside : {D : Type 0} → Operations D → Type 0

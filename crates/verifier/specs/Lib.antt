@@ -10,5 +10,6 @@ pub mod Moves
 pub mod Unhindered
 pub mod Flow
 pub mod Progress
+pub mod Judged
 pub mod Laws
 pub mod Soundness

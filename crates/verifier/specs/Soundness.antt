@@ -1,6 +1,6 @@
 -- A program that is accepted over a sound domain never traps.
 use Rattle.std.specs.Prelude.{ℕ, zero, suc, ◌≡◌, ◌+◌, ◌<◌, ◌≤◌, Bool, true, false, List, length, drop, count_by, is_some, Option, Some, None}
-use Rattle.std.proofs.Common.{arith, inl, inr, lit<, refl, subst, ◌∙◌}
+use Rattle.std.proofs.Common.{arith, inl, inr, lit<, refl, ap, subst, ◌∙◌}
 use Rattle.std.proofs.lemmas.Bool.{cases_lt}
 use Rattle.instruction_set.specs.Program.{instruction_at, instruction_count}
 use Rattle.instruction_set.specs.declared.insn.Insn.{Insn}
@@ -20,8 +20,9 @@ use Rattle.verifier.specs.Answer.{HasShortOffsets}
 use Rattle.verifier.specs.Facts.{entry_facts, facts_at}
 use Rattle.verifier.specs.Flow.{arrives}
 use Rattle.verifier.specs.Fitting.{short_offsets}
+use Rattle.verifier.specs.Judged.{group_in, most_below, most_emitted}
 use Rattle.verifier.specs.KnownFacts.{known_facts}
-use Rattle.verifier.specs.Laws.{AcceptedNeverTraps}
+use Rattle.verifier.specs.Laws.{AcceptedEmitsNoMore, AcceptedNeverTraps}
 use Rattle.verifier.specs.Meets.{Meets, MeetsSome, Moved}
 use Rattle.verifier.specs.Moves.{moved}
 use Rattle.verifier.specs.Progress.{begins_within, block_kept, fewer, some_left}
@@ -124,11 +125,17 @@ module _ {D : Type 0} {IsFact : D → Type 0} {contains : D → ℕ → Type 0} 
           group = within_limit program sizes.limit s (after s i) i holds.group goes;
         }
 
+    -- a bound on the group, wherever a run is
+    abbrev Bounds : ℕ → Type 0
+    Bounds bound = (s : State) (facts : Facts D) → Holds s → known_at s.slot ≡ Some facts → Meets contains facts s
+        → length s.group ≤ bound
+
     -- ---- a run, after n steps of at most so many
-    module _ (most n : ℕ) (s : State) (holds : Holds s) (one_left : n < most) (more : State → Run)
-        (rest : (s' : State) → Holds s' → s.slot < s'.slot → Exits most sizes.limit (more s')) where
+    module _ (bound : ℕ) (bounds : Bounds bound) (most n : ℕ) (s : State) (holds : Holds s) (one_left : n < most)
+        (more : State → Run)
+        (rest : (s' : State) → Holds s' → s.slot < s'.slot → Exits most bound (more s')) where
       abbrev Done : Option Insn → Type 0
-      Done at = Exits most sizes.limit (continued n s more (step_at program sizes.limit s at))
+      Done at = Exits most bound (continued n s more (step_at program sizes.limit s at))
 
       done_by : (i : Insn) (facts : Facts D) → instruction_at program s.slot ≡ Some i
           → known_at s.slot ≡ Some facts → Meets contains facts s → Done (Some i)
@@ -139,7 +146,7 @@ module _ {D : Type 0} {IsFact : D → Type 0} {contains : D → ℕ → Type 0} 
           let none = unhindered sound program sizes i facts s are_sizes holds.is holds.block_long are meets near reason in
           by_test (Done (Some i)) (is_exit i)
           (λ exits. rw (decided_ends s i (least_cause program sizes.limit s i) none exits)
-          (record { exit = tt; steps = omega arith; group = holds.group }))
+          (record { exit = tt; steps = omega arith; group = bounds s facts holds known meets }))
           (λ runs_on.
           let goes = decided_goes s i (least_cause program sizes.limit s i) none runs_on in
           let there = moved sound program sizes i facts s holds.is are meets runs_on reason in
@@ -151,34 +158,68 @@ module _ {D : Type 0} {IsFact : D → Type 0} {contains : D → ℕ → Type 0} 
       done_at None known begins e here meets = cc
       done_at (Some i) None begins known here meets = absurd meets
 
-    exits : (most fuel n : ℕ) (s : State) → Holds s → count_by is_some (drop s.slot program) ≤ fuel → n + fuel ≤ most
-        → Exits most sizes.limit (run_of program sizes.limit fuel n s)
+    exits : (bound : ℕ) → Bounds bound → (most fuel n : ℕ) (s : State) → Holds s
+        → count_by is_some (drop s.slot program) ≤ fuel → n + fuel ≤ most
+        → Exits most bound (run_of program sizes.limit fuel n s)
     unfolding run_of
-    exits most zero n s holds enough within =
+    exits bound bounds most zero n s holds enough within =
         let some = some_left program s.slot holds.here in absurd (omega (arith, some, enough))
-    exits most (suc fuel) n s holds enough within =
-        done_at most n s holds (omega (arith, within)) (λ s'. run_of program sizes.limit fuel (n + 1) s')
+    exits bound bounds most (suc fuel) n s holds enough within =
+        done_at bound bounds most n s holds (omega (arith, within)) (λ s'. run_of program sizes.limit fuel (n + 1) s')
         (λ s' holds' forward.
         let less = fewer program s.slot s'.slot holds.here forward in
-        exits most fuel (n + 1) s' holds' (omega (arith, less, enough)) (omega (arith, within)))
+        exits bound bounds most fuel (n + 1) s' holds' (omega (arith, less, enough)) (omega (arith, within)))
         (instruction_at program s.slot) (known_at s.slot) refl refl holds.here holds.known
+
+    -- a block run from its start on
+    starts : (bound : ℕ) → Bounds bound → is_some (instruction_at program 0) ≡ true → (bytes context scratch : List ℕ)
+        → length bytes ≡ sizes.block → IsState (entry bytes context scratch)
+        → Exits (instruction_count program) bound
+        (run_of program sizes.limit (instruction_count program) 0 (entry bytes context scratch))
+    starts bound bounds here bytes context scratch long is =
+        let count = instruction_count program in
+        exits bound bounds count count 0 (entry bytes context scratch)
+        (record {
+          is = is;
+          block_long = long;
+          here = here;
+          known = entry_meets bytes context scratch;
+          group = omega arith;
+        })
+        (omega arith) (omega arith)
+
+    -- ---- the greatest bound on the group
+    most_at : (n slot : ℕ) (facts : Facts D) → slot < n → known_at slot ≡ Some facts
+        → facts.emitted ≤ most_below operations program sizes.block n
+    most_at zero slot facts within known = absurd (omega (arith, within))
+    most_at (suc n) slot facts within known = elim (cases_lt slot n) [
+      | inl below ↦ let earlier = most_at n slot facts below known in omega (arith, earlier)
+      | inr from ↦
+          let same : slot ≡ n = omega arith in
+          let P : ℕ → Type 0 = λ k. known_at k ≡ Some facts in
+          let here = ap group_in (subst P same known) in
+          omega (arith, here)
+    ]
 
   -- ---- the theorem
   pub never_traps : (program : List (Option Insn)) (sizes : Sizes) → is_some (instruction_at program 0) ≡ true
       → HasShortOffsets program → AreSizes sizes → refusal operations program sizes ≡ None
       → NeverTraps program sizes.limit sizes.block
-  never_traps program sizes here short are_sizes accepted bytes context scratch long starts =
-      let count = instruction_count program in
-      exits program short sizes are_sizes accepted count count 0 (entry bytes context scratch)
-      (record {
-        is = starts;
-        block_long = long;
-        here = here;
-        known = entry_meets bytes context scratch;
-        group = omega arith;
-      })
-      (omega arith) (omega arith)
+  never_traps program sizes here short are_sizes accepted =
+      starts program short sizes are_sizes accepted sizes.limit (λ s facts holds known meets. holds.group) here
 
   pub accepted_never_traps : AcceptedNeverTraps operations
   accepted_never_traps program is sizes are_sizes accepted =
       never_traps program sizes (begins program is) (short_offsets program is) are_sizes accepted
+
+  pub accepted_emits_no_more : AcceptedEmitsNoMore operations
+  accepted_emits_no_more program is sizes are_sizes accepted bytes context scratch long starting =
+      let short = short_offsets program is in
+      let most = most_emitted operations program sizes.block in
+      let run = starts program short sizes are_sizes accepted most
+      (λ s facts holds known meets.
+      let inside = begins_within program s.slot holds.here in
+      let above = most_at program short sizes are_sizes accepted (length program) s.slot facts inside known in
+      omega (arith, above, meets.group))
+      (begins program is) bytes context scratch long starting in
+      run.group

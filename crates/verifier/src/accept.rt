@@ -17,7 +17,7 @@ use reg_domain::Domain;
 use std::alloc::{AllocError, Global};
 
 /// The facts for so many slots, before any is visited: those of the start at the first.
-fn first_rows<D: Domain>(
+pub(crate) fn first_rows<D: Domain>(
     alloc: Global,
     slots: usize,
     entry: Facts<D>,

@@ -7,7 +7,7 @@ use instruction_set::Register;
 use program_interface::{Area, REGISTERS, STACK_BYTES};
 use reg_domain::Domain;
 
-/// A fact about each register, and a bound on the bytes that were emitted.
+/// A fact about each register, R0 to R10, and a bound on the bytes that were emitted.
 #[derive(Clone, Copy)]
 pub struct Facts<D> {
     pub registers: [D; REGISTERS],
@@ -41,7 +41,7 @@ impl<D: Domain> Facts<D> {
 
     /// The fact about a register.
     #[inline]
-    pub(crate) fn get(&self, register: Register) -> D
+    pub fn get(&self, register: Register) -> D
         ensures { result ≡ fact D.operations self.now register }
     {
         self.registers[register.index()]

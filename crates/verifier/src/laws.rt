@@ -1,6 +1,6 @@
 //! Laws of the definitions: each function's contract is one, and its body is empty.
 
-ghost use Rattle.verifier.specs.Laws.{AcceptedNeverTraps, RefusalIsInside};
+ghost use Rattle.verifier.specs.Laws.{AcceptedEmitsNoMore, AcceptedNeverTraps, RefusalIsInside};
 
 use reg_domain::Domain;
 
@@ -9,6 +9,11 @@ use reg_domain::Domain;
 /// steps as it has instructions, with a group within the limit.
 pub fn accepted_never_traps<D: Domain>()
     ensures { AcceptedNeverTraps D.operations }
+{}
+
+/// A run of a program that is accepted emits no more for a block than [`judge`](crate::judge) says.
+pub fn accepted_emits_no_more<D: Domain>()
+    ensures { AcceptedEmitsNoMore D.operations }
 {}
 
 /// The slot of a refusal is one of the program's, and so below the most slots that a program has.

@@ -5,11 +5,14 @@ mod accept;
 mod check;
 mod edges;
 mod facts;
+mod judging;
 pub mod laws;
 mod reason;
 mod rows;
 mod verified;
 
 pub use accept::verify;
+pub use facts::Facts;
+pub use judging::{Judgement, judge};
 pub use reason::{Reason, Refusal, VerifyFault};
 pub use verified::Verified;

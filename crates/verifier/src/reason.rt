@@ -5,30 +5,40 @@ ghost use Rattle.verifier.specs.Accepted.{number_of};
 
 use thiserror::Error;
 
-/// Why an instruction is refused. Where several reasons hold, the one with the least number is told
-/// (profile).
-#[derive(Clone, Copy, Debug, PartialEq, Eq)]
+/// Why an instruction is refused, with the words that users are told. Where several reasons hold, the one with the least
+/// number is told (profile).
+#[derive(Clone, Copy, Debug, PartialEq, Eq, Error)]
 pub enum Reason {
     /// 1: a jump to a slot before the next one.
+    #[error("a jump backward")]
     JumpBack,
     /// 2: a jump to a slot where no instruction begins: outside the program, or the second slot of
     /// a wide instruction.
+    #[error("a jump to no instruction")]
     JumpOutside,
     /// 3: the program ends behind the instruction, which is no EXIT and no unconditional jump.
+    #[error("a program that falls off")]
     FallsOff,
     /// 4: a write to R10, the read-only frame pointer (RFC 9669, 3).
+    #[error("a write to R10")]
     WriteToFramePointer,
     /// 5: a load whose bytes may not all lie in one area.
+    #[error("a load outside")]
     LoadOutside,
     /// 6: a store whose bytes may not all lie in one writable area.
+    #[error("a store outside, or into the context or the block")]
     StoreOutside,
     /// 7: a helper other than emit.
+    #[error("a helper other than 1")]
     UnknownHelper,
     /// 8: an emit from an address that may lie in no area.
+    #[error("an emit from an unknown address")]
     EmitAddress,
     /// 9: an emit that may be of no bytes, or whose bytes may not all lie in the area.
+    #[error("an emit of an unknown length")]
     EmitLength,
     /// 10: an emit that may take the group over its limit.
+    #[error("an emit over the limit")]
     EmitBudget,
 }
 
