@@ -3,11 +3,11 @@
 ghost use Rattle.std.specs.Prelude.{◌≡◌};
 
 use crate::program::read_program;
-use clap::{Arg, ArgMatches, Command};
+use clap::{Arg, ArgAction, ArgMatches, Command};
 use command_failure::{Failure, printed};
 use command_files::Files;
-use command_files::arguments::required;
-use ebpf_asm::disassemble;
+use command_files::arguments::{and_argument, required};
+use ebpf_asm::{disassemble, disassemble_with_slots};
 use std::alloc::{AllocError, Global};
 use std::io::Write;
 
@@ -16,9 +16,11 @@ pub const NAME: &str = "disasm";
 
 const PROGRAM: &str = "PROGRAM";
 
+const SLOTS: &str = "slots";
+
 const LONG_ABOUT: &str = "\
 Prints a program as assembly text, an instruction on each line, which `asm` assembles to the same \
-bytes.
+bytes. With --slots each line begins with the instruction's slot, as refusals and `trace` name it.
 
 A program is a file of eBPF instructions (RFC 9669), 8 bytes a slot, from 1 to 4096 slots. Of one \
 that isn't so, `program refused SLOT KIND` tells the first fault.";
@@ -29,18 +31,28 @@ Example: the program of the bytes b700000000000000 9500000000000000.
   zscli disasm zero.bin
 
   mov r0, 0
-  exit";
+  exit
+
+  zscli disasm zero.bin --slots
+
+     0  mov r0, 0
+     1  exit";
 
 /// How the command stands on the command line.
 pub fn subcommand<'a>(alloc: Global) -> Result<Command<'a>, AllocError> {
     let program = Arg::new(alloc, PROGRAM)
         .required(true)
         .help("The program, as instruction bytes");
-    Command::new(alloc, NAME)
+    let slots = Arg::new(alloc, SLOTS)
+        .long(SLOTS)
+        .action(ArgAction::SetTrue)
+        .help("Print each instruction's slot before it: a wide one takes two");
+    let command = Command::new(alloc, NAME)
         .about("Prints a program as assembly text")
         .long_about(LONG_ABOUT)
-        .after_help(EXAMPLE)
-        .arg(program)
+        .after_help(EXAMPLE);
+    let command = and_argument(Ok(command), program);
+    and_argument(command, slots)
 }
 
 /// Runs the command.
@@ -54,6 +66,10 @@ pub fn disasm<'a, F: Files, O: Write>(
 {
     let program = read_program(alloc, required(matches, PROGRAM), files)?;
     let mut text = String::new(alloc);
-    disassemble(&program, &mut text)?;
+    if matches.get_flag(SLOTS) {
+        disassemble_with_slots(&program, &mut text)?;
+    } else {
+        disassemble(&program, &mut text)?;
+    }
     printed(out.write_all(text.as_bytes()))
 }

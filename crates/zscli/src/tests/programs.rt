@@ -41,6 +41,20 @@ const LISTED: &[Act] = &[
     Act::Fails("zscli disasm none", 1, "", "cannot read none\n"),
 ];
 
+/// A wide instruction takes slots 0 and 1.
+const WITH_SLOTS: &[Act] = &[
+    Act::Start(b"lddw r0, 7\nja +0\nexit\n"),
+    Act::Prints("zscli asm events made", ""),
+    Act::Prints(
+        "zscli disasm made --slots",
+        "   0  lddw r0, 0x0000000000000007\n   2  ja +0\n   3  exit\n",
+    ),
+    Act::Prints(
+        "zscli disasm made",
+        "lddw r0, 0x0000000000000007\nja +0\nexit\n",
+    ),
+];
+
 const UNPACKED: &[Act] = &[
     Act::Start(b""),
     Act::Put("events", FRAMED),
@@ -129,6 +143,10 @@ const SCENES: &[Scene] = &[
     Scene {
         name: "lists a program",
         acts: LISTED,
+    },
+    Scene {
+        name: "lists a program with slots",
+        acts: WITH_SLOTS,
     },
     Scene {
         name: "unpacks output blocks",
