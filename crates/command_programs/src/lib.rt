@@ -4,7 +4,9 @@
 pub mod asm;
 pub mod disasm;
 mod program;
+mod quantity;
 mod sizes;
+mod step_lines;
 pub mod trace;
 pub mod unpack;
 pub mod verify;

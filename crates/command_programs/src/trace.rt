@@ -7,7 +7,8 @@ ghost use Rattle.program_interface.specs.Context.{context_bytes};
 
 use crate::program::read_program;
 use crate::sizes::{block_size, run_sizes};
-use clap::{Arg, ArgMatches, Command};
+use crate::step_lines::{Emitting, tell_changes};
+use clap::{Arg, ArgAction, ArgMatches, Command};
 use command_failure::{Failure, printed};
 use command_files::arguments::{and_argument, number, option, required};
 use command_files::{Files, read};
@@ -30,6 +31,8 @@ const ARGUMENT: &str = "argument";
 
 const FUEL: &str = "fuel";
 
+const REGISTERS: &str = "registers";
+
 const LONG_ABOUT: &str = "\
 Runs a program on one block, with every check, and prints the slot of each instruction that it \
 executes, and then how the run ended:
@@ -38,13 +41,25 @@ executes, and then how the run ended:
   trap SLOT CAUSE     at an instruction that can't be done
   fuel                after as many steps as it was given
 
+With --registers each slot has its instruction behind it, and what that changed: the register that it \
+writes, with its word, or for emit how many bytes were emitted, and from where.
+
 The block is at LBA 0, the first and only one of its run. Its size is the file's length: 512, 1024, \
 2048 or 4096 bytes.";
 
 const EXAMPLE: &str = "\
-Example:
+Example: the program of `asm --help`, on a block that begins with a 7.
 
-  zscli trace program.bin block.bin --emit 10";
+  zscli trace program.bin block.bin --emit 10 --registers
+
+     0  ldxb r6, [r2+0]  r6 = 0x7
+     1  jne r6, 7, +3
+     2  mov r1, r2  r1 = 0x200000000
+     3  mov r2, 8  r2 = 0x8
+     4  call 1  emit 8 bytes at block + 0  r0 = 0x0
+     5  mov r0, 0  r0 = 0x0
+     6  exit
+  exit 0 7 08000700000000000000";
 
 /// How the command stands on the command line.
 pub fn subcommand<'a>(alloc: Global) -> Result<Command<'a>, AllocError> {
@@ -61,6 +76,10 @@ pub fn subcommand<'a>(alloc: Global) -> Result<Command<'a>, AllocError> {
     let fuel = option(alloc, FUEL, "F")
         .default_value("65536")
         .help("The most steps");
+    let registers = Arg::new(alloc, REGISTERS)
+        .long(REGISTERS)
+        .action(ArgAction::SetTrue)
+        .help("Print each instruction, and the register that it changed");
     let command = Command::new(alloc, NAME)
         .about("Runs a program on one block, step by step")
         .long_about(LONG_ABOUT)
@@ -69,7 +88,8 @@ pub fn subcommand<'a>(alloc: Global) -> Result<Command<'a>, AllocError> {
     let command = and_argument(command, block);
     let command = and_argument(command, emit);
     let command = and_argument(command, argument);
-    and_argument(command, fuel)
+    let command = and_argument(command, fuel);
+    and_argument(command, registers)
 }
 
 /// Runs the command.
@@ -81,25 +101,28 @@ pub fn trace<'a, F: Files, O: Write>(
 ) -> Result<(), Failure<'a>>
     ensures { F.made files.new ≡ F.made files.old }
 {
-    let asked = numbers_asked(matches)?;
+    let asked = asked_for(matches)?;
     let program = read_program(alloc, required(matches, PROGRAM), files)?;
     let block = read(required(matches, BLOCK), files)?;
     run_asked(alloc, &program, block.as_slice(), asked, out)
 }
 
-/// The numbers that a user gives.
+/// What a user asks for.
 #[derive(Clone, Copy)]
 struct Asked {
     limit: u32,
     argument: u32,
     fuel: u32,
+    /// Each instruction, and the register that it changed.
+    registers: bool,
 }
 
-fn numbers_asked<'a>(matches: &ArgMatches<'a>) -> Result<Asked, Failure<'a>> {
+fn asked_for<'a>(matches: &ArgMatches<'a>) -> Result<Asked, Failure<'a>> {
     Ok(Asked {
         limit: number(matches, EMIT)?,
         argument: number(matches, ARGUMENT)?,
         fuel: number(matches, FUEL)?,
+        registers: matches.get_flag(REGISTERS),
     })
 }
 
@@ -115,14 +138,12 @@ fn run_asked<'a, O: Write>(
     let sizes = run_sizes(size, asked.limit)?;
     let mut group = vec![in alloc; 0; sizes.limit() as usize]?;
     let context = first_and_only(size, asked.argument);
-    printed(run(
+    let tracer = Tracer {
+        alloc,
         program,
-        block,
-        &context,
-        asked.fuel,
-        group.as_mut_slice(),
-        out,
-    ))
+        registers: asked.registers,
+    };
+    tracer.run(block, &context, asked.fuel, group.as_mut_slice(), out)
 }
 
 /// The context of the first and only block of a run, at LBA 0.
@@ -139,54 +160,81 @@ fn first_and_only(block: BlockSize, argument: u32) -> [u8; CONTEXT_BYTES]
     context.encode()
 }
 
-/// Runs the program, and prints its steps and its end.
-fn run<O: Write>(
-    program: &Program,
-    block: &[u8],
-    context: &[u8; CONTEXT_BYTES],
-    fuel: u32,
-    group: &mut [u8],
-    out: &mut O,
-) -> io::Result<()>
-    requires block { length block.now ≤ LARGEST_BLOCK }
-    requires group { length group.old ≤ LARGEST_BLOCK }
-{
-    let mut scratch = [0; SCRATCH_BYTES];
-    let mut machine = Machine::new(block, context, &mut scratch);
-    let _ = program.slots();
-    follow(&mut machine, program, fuel, group, out)
+/// What prints the steps of a program.
+#[derive(Clone, Copy)]
+struct Tracer<'p> {
+    alloc: Global,
+    program: &'p Program,
+    registers: bool,
 }
 
-/// Takes the steps of a machine.
-fn follow<O: Write>(
-    machine: &mut Machine<'_>,
-    program: &Program,
-    fuel: u32,
-    group: &mut [u8],
-    out: &mut O,
-) -> io::Result<()>
-    requires at { IsAt program.now (slot_of machine.old) }
-    requires steps { steps_of machine.old ≡ 0 }
-    requires group { length group.old ≤ LARGEST_BLOCK }
-    requires used { group_length machine.old ≤ length group.old }
-{
-    let limit = group.len();
-    for _step in 0..fuel {
-        let slot = machine.slot();
-        match machine.step(program, limit, group) {
-            Step::Next => writeln!(out, "{slot}")?,
-            Step::Exit { r0 } => {
-                writeln!(out, "{slot}")?;
-                let steps = machine.steps();
-                return tell_exit(out, r0, steps, &group[..machine.group_len()]);
-            }
-            Step::Trap { slot, cause } => {
-                let number = cause.number();
-                return writeln!(out, "trap {slot} {number}");
+impl Tracer<'_> {
+    /// Runs the program, and prints its steps and its end.
+    fn run<'a, O: Write>(
+        &self,
+        block: &[u8],
+        context: &[u8; CONTEXT_BYTES],
+        fuel: u32,
+        group: &mut [u8],
+        out: &mut O,
+    ) -> Result<(), Failure<'a>>
+        requires block { length block.now ≤ LARGEST_BLOCK }
+        requires group { length group.old ≤ LARGEST_BLOCK }
+    {
+        let mut scratch = [0; SCRATCH_BYTES];
+        let mut machine = Machine::new(block, context, &mut scratch);
+        let _ = self.program.slots();
+        self.follow(&mut machine, fuel, group, out)
+    }
+
+    /// Takes the steps of a machine.
+    fn follow<'a, O: Write>(
+        &self,
+        machine: &mut Machine<'_>,
+        fuel: u32,
+        group: &mut [u8],
+        out: &mut O,
+    ) -> Result<(), Failure<'a>>
+        requires at { IsAt self.now.program.now (slot_of machine.old) }
+        requires steps { steps_of machine.old ≡ 0 }
+        requires group { length group.old ≤ LARGEST_BLOCK }
+        requires used { group_length machine.old ≤ length group.old }
+    {
+        let limit = group.len();
+        for _step in 0..fuel {
+            let slot = machine.slot();
+            let emitting = Emitting::by(machine);
+            match machine.step(self.program, limit, group) {
+                Step::Next => self.tell(slot, machine, emitting, out)?,
+                Step::Exit { r0 } => {
+                    self.tell(slot, machine, emitting, out)?;
+                    let steps = machine.steps();
+                    return printed(tell_exit(out, r0, steps, &group[..machine.group_len()]));
+                }
+                Step::Trap { slot, cause } => {
+                    let number = cause.number();
+                    return printed(writeln!(out, "trap {slot} {number}"));
+                }
             }
         }
+        printed(writeln!(out, "fuel"))
     }
-    writeln!(out, "fuel")
+
+    /// Prints a step that was taken: the slot of its instruction and, if that is asked for, what it changed.
+    fn tell<'a, O: Write>(
+        &self,
+        slot: usize,
+        machine: &Machine<'_>,
+        emitting: Emitting,
+        out: &mut O,
+    ) -> Result<(), Failure<'a>> {
+        match self.program.at(slot) {
+            Some(insn) if self.registers => {
+                tell_changes(self.alloc, slot, insn, machine, emitting, out)
+            }
+            _ => printed(writeln!(out, "{slot}")),
+        }
+    }
 }
 
 /// Prints the end of a run by EXIT.

@@ -139,6 +139,68 @@ const TRACED: &[Act] = &[
     ),
 ];
 
+/// Each kind of instruction: of 7 and the block's second byte, 2ah, the sum goes to scratch, and its lowest byte,
+/// 31h, is emitted from there.
+const STEPS: &[u8] = b"\
+lddw r6, 0x100000007
+ldxb r7, [r2+1]
+add r6, r7
+stxdw [r3+8], r6
+neg r7
+jsgt r7, 0, +1
+mov r1, r3
+add r1, 8
+mov r2, 1
+call 1
+mov r0, 5
+exit
+";
+
+/// -2ah is ffffffffffffffd6h, and not over 0; scratch begins at 4_0000_0000h.
+const STEPS_WITH_REGISTERS: &str = "   0  lddw r6, 0x0000000100000007  r6 = 0x100000007
+   2  ldxb r7, [r2+1]  r7 = 0x2a
+   3  add r6, r7  r6 = 0x100000031
+   4  stxdw [r3+8], r6
+   5  neg r7  r7 = 0xffffffffffffffd6
+   6  jsgt r7, 0, +1
+   7  mov r1, r3  r1 = 0x400000000
+   8  add r1, 8  r1 = 0x400000008
+   9  mov r2, 1  r2 = 0x1
+  10  call 1  emit 1 byte at scratch + 8  r0 = 0x0
+  11  mov r0, 5  r0 = 0x5
+  12  exit
+exit 5 12 010031
+";
+
+const TRACED_WITH_REGISTERS: &[Act] = &[
+    Act::Start(STEPS),
+    Act::Put("block", &[(b"\0\x2a", 1), (b"\0", 510)]),
+    Act::Prints("zscli asm events made", ""),
+    Act::Prints(
+        "zscli trace made block --emit 3 --registers",
+        STEPS_WITH_REGISTERS,
+    ),
+    Act::Prints(
+        "zscli trace made block --emit 3",
+        "0\n2\n3\n4\n5\n6\n7\n8\n9\n10\n11\n12\nexit 5 12 010031\n",
+    ),
+    Act::Prints(
+        "zscli trace made block --emit 3 --registers --fuel 2",
+        "   0  lddw r6, 0x0000000100000007  r6 = 0x100000007\n   2  ldxb r7, [r2+1]  r7 = 0x2a\nfuel\n",
+    ),
+    // 8 bytes of the block, whose address is 2_0000_0000h; with one less the emit traps.
+    Act::Start(b"mov r1, r2\nadd r1, 16\nmov r2, 8\ncall 1\nexit"),
+    Act::Prints("zscli asm events made", ""),
+    Act::Prints(
+        "zscli trace made block --emit 10 --registers",
+        "   0  mov r1, r2  r1 = 0x200000000\n   1  add r1, 16  r1 = 0x200000010\n   2  mov r2, 8  r2 = 0x8\n   3  call 1  emit 8 bytes at block + 16  r0 = 0x0\n   4  exit\nexit 0 5 08000000000000000000\n",
+    ),
+    Act::Prints(
+        "zscli trace made block --emit 9 --registers",
+        "   0  mov r1, r2  r1 = 0x200000000\n   1  add r1, 16  r1 = 0x200000010\n   2  mov r2, 8  r2 = 0x8\ntrap 3 8\n",
+    ),
+];
+
 const SCENES: &[Scene] = &[
     Scene {
         name: "lists a program",
@@ -163,6 +225,10 @@ const SCENES: &[Scene] = &[
     Scene {
         name: "traces a block run",
         acts: TRACED,
+    },
+    Scene {
+        name: "traces a block run with registers",
+        acts: TRACED_WITH_REGISTERS,
     },
 ];
 

@@ -1,0 +1,84 @@
+//! What an instruction changed, on a line.
+
+use crate::quantity::bytes;
+use command_failure::{Failure, printed};
+use ebpf_asm::instruction_text;
+use instruction_set::{Insn, Register};
+use interp::Machine;
+use interval_domain::Offsets;
+use program_interface::{Area, REGISTERS};
+use std::alloc::Global;
+use std::io::{self, Write};
+
+/// What emit takes of a machine: it leaves 0 in these registers, so that they are read before the step.
+#[derive(Clone, Copy)]
+pub(crate) struct Emitting {
+    /// In R1, the address of the first byte.
+    address: u64,
+    /// In R2, the number of bytes.
+    length: u64,
+}
+
+impl Emitting {
+    /// What emit would take of a machine now.
+    pub(crate) fn by(machine: &Machine<'_>) -> Emitting {
+        Emitting {
+            address: machine.register(Register::from_number(1)),
+            length: machine.register(Register::from_number(2)),
+        }
+    }
+
+    /// Where its bytes begin, of which at least one lies in an area: that with the greatest address up to theirs.
+    fn place(self) -> Option<Offsets> {
+        let area = [Area::Scratch, Area::Stack, Area::Block, Area::Context]
+            .into_iter()
+            .find(|area| area.address() <= self.address)?;
+        let offset = i128::from(self.address) - i128::from(area.address());
+        Some(Offsets {
+            area,
+            low: offset,
+            high: offset,
+        })
+    }
+}
+
+/// Prints a step that was taken: the slot of its instruction, that, and what it changed.
+pub(crate) fn tell_changes<'a, O: Write>(
+    alloc: Global,
+    slot: usize,
+    insn: &Insn,
+    machine: &Machine<'_>,
+    emitting: Emitting,
+    out: &mut O,
+) -> Result<(), Failure<'a>> {
+    let text = instruction_text(alloc, insn)?;
+    printed(write!(out, "{slot:4}  {text}"))?;
+    if let Insn::Call { .. } = *insn {
+        printed(tell_emit(emitting, out))?;
+    }
+    if let Some(register) = changed(insn) {
+        let (number, word) = (register.number(), machine.register(register));
+        printed(write!(out, "  r{number} = {word:#x}"))?;
+    }
+    printed(writeln!(out))
+}
+
+/// Prints what was emitted.
+fn tell_emit<O: Write>(emitting: Emitting, out: &mut O) -> io::Result<()> {
+    let length = bytes(emitting.length);
+    match emitting.place() {
+        Some(place) => write!(out, "  emit {length} at {place}"),
+        None => write!(out, "  emit {length}"),
+    }
+}
+
+/// The register that an instruction changes: its destination, and for a call R0, which has the result (of R1 to R5
+/// nothing is left).
+fn changed(insn: &Insn) -> Option<Register> {
+    if let Insn::Call { .. } = *insn {
+        return Some(Register::from_number(0));
+    }
+    (0..REGISTERS as u8)
+        .map(|number| Register::from_number(number))
+        .find(|register| insn.writes(*register))
+}
