@@ -5,6 +5,7 @@ pub mod asm;
 pub mod disasm;
 mod program;
 mod quantity;
+mod refusal_lines;
 mod sizes;
 mod step_lines;
 pub mod trace;

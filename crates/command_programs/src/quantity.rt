@@ -16,6 +16,13 @@ pub(crate) fn bytes(number: u64) -> Quantity {
     }
 }
 
+pub(crate) fn steps(number: u64) -> Quantity {
+    Quantity {
+        number,
+        name: "step",
+    }
+}
+
 impl fmt::Display for Quantity {
     fn fmt<W: fmt::Write>(&self, f: &mut fmt::Formatter<W>) -> fmt::Result {
         let Quantity { number, name } = *self;

@@ -3,16 +3,22 @@
 ghost use Rattle.std.specs.Prelude.{◌≡◌};
 
 use crate::program::read_program;
+use crate::quantity::{bytes, steps};
+use crate::refusal_lines::Refused;
 use crate::sizes::{block_size, run_sizes};
-use clap::{Arg, ArgMatches, Command};
+use clap::{Arg, ArgAction, ArgMatches, Command};
 use command_failure::{Failure, printed};
 use command_files::Files;
 use command_files::arguments::{and_argument, block_option, number, option, required};
+use ebpf_asm::instruction_text;
 use instruction_set::Program;
 use interval_domain::Intervals;
+use program_interface::RunSizes;
 use std::alloc::{AllocError, Global};
-use std::io::Write;
-use verifier::{Refusal, VerifyFault, verify as verify_over};
+use std::io::{self, Write};
+use verifier::{
+    Facts, Judgement, Refusal, VerifyFault, judge as judge_over, verify as verify_over,
+};
 
 /// The command's name.
 pub const NAME: &str = "verify";
@@ -22,6 +28,8 @@ const PROGRAM: &str = "PROGRAM";
 const BLOCK: &str = "block";
 
 const EMIT: &str = "emit";
+
+const EXPLAIN: &str = "explain";
 
 const LONG_ABOUT: &str = "\
 Says whether a program is accepted for a block size and a limit of what it may emit on a block:
@@ -34,12 +42,22 @@ steps, or emit more than E bytes
   2 a jump to no instruction      7 a helper other than 1
   3 a program that falls off      8 an emit from an unknown address
   4 a write to R10                9 an emit of an unknown length
-  5 a load outside               10 an emit over the limit";
+  5 a load outside               10 an emit over the limit
+
+With --explain lines behind the first say more: of an accepted program the most steps and bytes that a \
+block can take; of a refused one the instruction, the reason with its numbers, and what is known of each \
+register that the instruction reads.";
 
 const EXAMPLE: &str = "\
-Example:
+Example: the program of `asm --help`, with a limit that is too low.
 
-  zscli verify program.bin --block 512 --emit 10";
+  zscli verify program.bin --block 512 --emit 9 --explain
+
+  refused 4 10
+     4  call 1
+  an emit over the limit: behind 0 bytes, 2 for its length and 8 bytes come to 10, and 9 may be emitted
+  r1 is block + 0
+  r2 is 8";
 
 /// How the command stands on the command line.
 pub fn subcommand<'a>(alloc: Global) -> Result<Command<'a>, AllocError> {
@@ -50,13 +68,18 @@ pub fn subcommand<'a>(alloc: Global) -> Result<Command<'a>, AllocError> {
     let emit = option(alloc, EMIT, "E").required(true).help(
         "The most bytes that may be emitted on a block, two for each frame counted: at most B",
     );
+    let explain = Arg::new(alloc, EXPLAIN)
+        .long(EXPLAIN)
+        .action(ArgAction::SetTrue)
+        .help("Say in words what is known");
     let command = Command::new(alloc, NAME)
         .about("Says whether a program is accepted")
         .long_about(LONG_ABOUT)
         .after_help(EXAMPLE);
     let command = and_argument(Ok(command), program);
     let command = and_argument(command, block);
-    and_argument(command, emit)
+    let command = and_argument(command, emit);
+    and_argument(command, explain)
 }
 
 /// Runs the command.
@@ -71,32 +94,123 @@ pub fn verify<'a, F: Files, O: Write>(
     let block = number(matches, BLOCK)?;
     let limit = number(matches, EMIT)?;
     let program = read_program(alloc, required(matches, PROGRAM), files)?;
-    judge(alloc, program, block as usize, limit, out)
+    let sizes = run_sizes(block_size(block as usize)?, limit)?;
+    if matches.get_flag(EXPLAIN) {
+        explain(alloc, &program, sizes, out)
+    } else {
+        answer(alloc, program, sizes, out)
+    }
 }
 
-/// Prints whether a program is accepted for blocks of so many bytes and this limit.
-fn judge<'a, O: Write>(
+/// Prints whether a program is accepted.
+fn answer<'a, O: Write>(
     alloc: Global,
     program: Program,
-    block: usize,
-    limit: u32,
+    sizes: RunSizes,
     out: &mut O,
 ) -> Result<(), Failure<'a>> {
-    let sizes = run_sizes(block_size(block)?, limit)?;
     let instructions = program.len();
     match verify_over::<Intervals>(alloc, program, sizes) {
-        Ok(_) => printed(writeln!(out, "accepted {instructions}")),
-        Err(VerifyFault::Refused(refusal)) => Err(tell_refusal(refusal, out)),
+        Ok(_) => printed(tell_accepted(instructions, out)),
+        Err(VerifyFault::Refused(refusal)) => {
+            printed(tell_refused(refusal, out))?;
+            Err(Failure::NotAccepted)
+        }
         Err(VerifyFault::Memory) => Err(Failure::NoMemory),
     }
 }
 
+/// Prints whether a program is accepted, and what is known.
+fn explain<'a, O: Write>(
+    alloc: Global,
+    program: &Program,
+    sizes: RunSizes,
+    out: &mut O,
+) -> Result<(), Failure<'a>> {
+    match judge_over::<Intervals>(alloc, program, sizes)? {
+        Judgement::Accepted { most_emitted } => {
+            printed(explain_accepted(program.len(), most_emitted, out))
+        }
+        Judgement::Refused { refusal, facts } => {
+            explain_refused(alloc, program, sizes, refusal, &facts, out)
+        }
+    }
+}
+
+fn explain_accepted<O: Write>(
+    instructions: usize,
+    most_emitted: usize,
+    out: &mut O,
+) -> io::Result<()> {
+    tell_accepted(instructions, out)?;
+    let (taken, emitted) = (steps(instructions as u64), bytes(most_emitted as u64));
+    writeln!(out, "for a block at most {taken}, and {emitted} emitted")
+}
+
 /// Prints why a program isn't accepted, and gives the failure that this is.
-fn tell_refusal<'a, O: Write>(refusal: Refusal, out: &mut O) -> Failure<'a> {
+fn explain_refused<'a, O: Write>(
+    alloc: Global,
+    program: &Program,
+    sizes: RunSizes,
+    refusal: Refusal,
+    facts: &Facts<Intervals>,
+    out: &mut O,
+) -> Result<(), Failure<'a>> {
+    let Refusal { slot, reason } = refusal;
+    let Some(insn) = program.at(slot) else {
+        return Err(Failure::NotAccepted);
+    };
+    let text = instruction_text(alloc, insn)?;
+    let refused = Refused {
+        slots: program.slots(),
+        slot,
+        insn,
+        sizes,
+        facts,
+    };
+    printed(tell_refused(refusal, out))?;
+    printed(writeln!(out, "{slot:4}  {text}"))?;
+    printed(refused.tell(reason, out))?;
+    Err(Failure::NotAccepted)
+}
+
+fn tell_accepted<O: Write>(instructions: usize, out: &mut O) -> io::Result<()> {
+    writeln!(out, "accepted {instructions}")
+}
+
+fn tell_refused<O: Write>(refusal: Refusal, out: &mut O) -> io::Result<()> {
     let Refusal { slot, reason } = refusal;
     let number = reason.number();
-    match writeln!(out, "refused {slot} {number}") {
-        Ok(()) => Failure::NotAccepted,
-        Err(_) => Failure::CannotPrint,
+    writeln!(out, "refused {slot} {number}")
+}
+
+#[cfg(test)]
+mod tests {
+    use super::LONG_ABOUT;
+    use std::test::Fail;
+    use verifier::Reason;
+
+    const REASONS: [Reason; 10] = [
+        Reason::JumpBack,
+        Reason::JumpOutside,
+        Reason::FallsOff,
+        Reason::WriteToFramePointer,
+        Reason::LoadOutside,
+        Reason::StoreOutside,
+        Reason::UnknownHelper,
+        Reason::EmitAddress,
+        Reason::EmitLength,
+        Reason::EmitBudget,
+    ];
+
+    /// The help lists each reason by its number, in the words that a refusal is explained with.
+    #[test]
+    fn help_has_the_words_of_each_reason(rt: HostRuntime) -> Result<(), Fail> {
+        for reason in REASONS {
+            let number = reason.number();
+            let line = format!(in rt.alloc(); "{number:3} {reason}")?;
+            assert!(rt; LONG_ABOUT.contains(line.as_str()), "{line}");
+        }
+        Ok(())
     }
 }

@@ -74,6 +74,14 @@ const UNPACKED: &[Act] = &[
     ),
 ];
 
+const EXPLAINED: &str = "\
+refused 4 10
+   4  call 1
+an emit over the limit: behind 0 bytes, 2 for its length and 8 bytes come to 10, and 9 may be emitted
+r1 is block + 0
+r2 is 8
+";
+
 const VERIFIED: &[Act] = &[
     Act::Start(MATCHING),
     Act::Prints("zscli verify events --block 512 --emit 10", "accepted 7\n"),
@@ -81,6 +89,12 @@ const VERIFIED: &[Act] = &[
         "zscli verify events --block 512 --emit 9",
         3,
         "refused 4 10\n",
+        "",
+    ),
+    Act::Fails(
+        "zscli verify events --block 512 --emit 9 --explain",
+        3,
+        EXPLAINED,
         "",
     ),
     Act::Fails(

@@ -152,7 +152,8 @@ impl Stage {
         assert_eq!(rt; self.status, status, "{at:?}");
     }
 
-    /// Compares what `verify` says of a program, which is in a file, for blocks of 512 bytes.
+    /// Compares what `verify` says of a program, which is in a file, for blocks of 512 bytes. Where an answer has
+    /// several lines, it is asked to explain.
     pub(super) fn check_program(
         &mut self,
         rt: &impl Abort,
@@ -161,7 +162,14 @@ impl Stage {
         emit: u32,
         answer: &str,
     ) -> Result<(), AllocError> {
-        let line = format!(in self.alloc; "zscli verify {file} --block 512 --emit {emit}")?;
+        let explain = if answer.contains("\n") {
+            " --explain"
+        } else {
+            ""
+        };
+        let line = format!(in self.alloc;
+            "zscli verify {file} --block 512 --emit {emit}{explain}"
+        )?;
         self.run(line.as_str(), usize::MAX)?;
         let end = self.out.bytes.pop();
         assert_eq!(rt; end, Some(b'\n'), "{program}");

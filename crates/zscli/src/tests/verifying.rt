@@ -5,6 +5,7 @@ mod accesses;
 mod arithmetic;
 mod emits;
 mod ends;
+mod explained;
 mod from_c;
 mod slots;
 mod ways;

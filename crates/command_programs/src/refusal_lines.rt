@@ -1,0 +1,256 @@
+//! Why an instruction is refused, in words: the reason with its numbers, and what is known of the registers.
+
+use crate::quantity::bytes;
+use instruction_set::{Insn, Operation, Register, Source};
+use interval_domain::{Fact, Intervals, Offsets};
+use program_interface::{Area, RunSizes};
+use reg_domain::Domain;
+use std::io::{self, Write};
+use verifier::{Facts, Reason};
+
+/// An instruction that is refused, of a program of so many slots, and what is known at its slot.
+#[derive(Clone, Copy)]
+pub(crate) struct Refused<'p> {
+    pub(crate) slots: usize,
+    pub(crate) slot: usize,
+    pub(crate) insn: &'p Insn,
+    pub(crate) sizes: RunSizes,
+    pub(crate) facts: &'p Facts<Intervals>,
+}
+
+impl Refused<'_> {
+    /// Prints the reason, and a line for each register that the instruction reads.
+    pub(crate) fn tell<O: Write>(&self, reason: Reason, out: &mut O) -> io::Result<()> {
+        write!(out, "{reason}: ")?;
+        match reason {
+            Reason::JumpBack | Reason::JumpOutside => self.tell_target(reason, out)?,
+            Reason::FallsOff => writeln!(out, "no instruction stands behind it")?,
+            Reason::WriteToFramePointer => writeln!(out, "a program can only read it")?,
+            Reason::LoadOutside => self.tell_access(out)?,
+            Reason::StoreOutside => self.tell_store(out)?,
+            Reason::UnknownHelper => tell_helper(self.insn, out)?,
+            Reason::EmitAddress => self.tell_address(out)?,
+            Reason::EmitLength => self.tell_length(out)?,
+            Reason::EmitBudget => self.tell_budget(out)?,
+        }
+        let [first, second] = registers_read(self.insn);
+        self.tell_register(first, out)?;
+        self.tell_register(second, out)
+    }
+
+    /// Where a jump leads.
+    fn tell_target<O: Write>(&self, reason: Reason, out: &mut O) -> io::Result<()> {
+        let distance = self.insn.distance().unwrap_or(0);
+        let target = self.slot as i128 + 1 + i128::from(distance);
+        let slots = self.slots as i128;
+        if target < 0 || target >= slots {
+            writeln!(out, "to slot {target}, of {slots} slots")
+        } else if reason == Reason::JumpOutside {
+            writeln!(out, "to slot {target}, a wide instruction's second")
+        } else {
+            writeln!(out, "to slot {target}")
+        }
+    }
+
+    /// Where the register of an address may point so that all bytes of the access lie in its area.
+    fn tell_access<O: Write>(&self, out: &mut O) -> io::Result<()> {
+        match Access::of(self.insn) {
+            Some(access) => self.tell_allowed(access, out),
+            None => writeln!(out, "of no bytes"),
+        }
+    }
+
+    /// The same of a store, or that the area is one to read.
+    fn tell_store<O: Write>(&self, out: &mut O) -> io::Result<()> {
+        match Access::of(self.insn) {
+            Some(access) => match self.fact(access.base) {
+                Fact::Pointer { area, .. } if !area.is_writable() => {
+                    let number = access.base.number();
+                    writeln!(out, "r{number} leads to what a program can only read")
+                }
+                _ => self.tell_allowed(access, out),
+            },
+            None => writeln!(out, "of no bytes"),
+        }
+    }
+
+    /// The address of an emit, which has to lie in an area or at its end.
+    fn tell_address<O: Write>(&self, out: &mut O) -> io::Result<()> {
+        let access = Access {
+            base: Register::from_number(1),
+            offset: 0,
+            size: 0,
+        };
+        self.tell_allowed(access, out)
+    }
+
+    fn tell_allowed<O: Write>(&self, access: Access, out: &mut O) -> io::Result<()> {
+        let (number, size) = (access.base.number(), bytes(u64::from(access.size)));
+        let Fact::Pointer { area, .. } = self.fact(access.base) else {
+            return writeln!(out, "r{number} isn't known to be an address");
+        };
+        let allowed = offsets_allowed(area, self.length(area), access.offset, access.size);
+        if access.size == 0 {
+            writeln!(out, "r{number} may be {allowed}")
+        } else {
+            writeln!(out, "for {size} r{number} may be {allowed}")
+        }
+    }
+
+    /// How many bytes an emit can take, from its address to the end of the area.
+    fn tell_length<O: Write>(&self, out: &mut O) -> io::Result<()> {
+        let Fact::Pointer { area, high, .. } = self.fact(Register::from_number(1)) else {
+            return writeln!(out, "r1 isn't known to be an address");
+        };
+        let most = bytes_behind(self.length(area), high);
+        if most < 1 {
+            writeln!(out, "no byte is known to lie at r1")
+        } else {
+            writeln!(out, "r2 may be 1 to {most}")
+        }
+    }
+
+    /// What the group has with this emit, and what it may have.
+    fn tell_budget<O: Write>(&self, out: &mut O) -> io::Result<()> {
+        let (emitted, limit) = (self.facts.emitted as u64, self.sizes.limit());
+        let most = self.facts.get(Register::from_number(2)).bounds().high;
+        let (before, frame) = (bytes(emitted), bytes(most));
+        let after = u128::from(emitted) + 2 + u128::from(most);
+        writeln!(
+            out,
+            "behind {before}, 2 for its length and {frame} come to {after}, and {limit} may be emitted"
+        )
+    }
+
+    /// A line that says what is known of a register.
+    fn tell_register<O: Write>(&self, register: Option<Register>, out: &mut O) -> io::Result<()> {
+        match register {
+            Some(register) => {
+                let (number, fact) = (register.number(), self.fact(register));
+                writeln!(out, "r{number} is {fact}")
+            }
+            None => Ok(()),
+        }
+    }
+
+    /// The fact about a register.
+    fn fact(&self, register: Register) -> Fact {
+        self.facts.get(register).fact()
+    }
+
+    /// The bytes of an area.
+    fn length(&self, area: Area) -> u32 {
+        let block = self.sizes.block().bytes();
+        area.length(block as usize) as u32
+    }
+}
+
+/// Where an address may lie, so that so many bytes at an offset from it lie in an area of this length.
+fn offsets_allowed(area: Area, length: u32, offset: i16, size: u32) -> Offsets {
+    let low = -i64::from(offset);
+    let high = low + i64::from(length) - i64::from(size);
+    Offsets {
+        area,
+        low: i128::from(low),
+        high: i128::from(high),
+    }
+}
+
+/// The bytes of an area of this length from an offset on.
+fn bytes_behind(length: u32, offset: i32) -> i64 {
+    i64::from(length) - i64::from(offset)
+}
+
+/// Bytes that an instruction loads or stores: so many, from a register's address and an offset on.
+#[derive(Clone, Copy)]
+struct Access {
+    base: Register,
+    offset: i16,
+    size: u32,
+}
+
+impl Access {
+    /// The bytes that an instruction loads or stores, if it does.
+    fn of(insn: &Insn) -> Option<Access> {
+        let (base, offset, size) = match *insn {
+            Insn::Load {
+                size,
+                src,
+                offset,
+                ..
+            } => (src, offset, size.bytes()),
+            Insn::LoadSigned {
+                size,
+                src,
+                offset,
+                ..
+            } => (src, offset, size.bytes()),
+            Insn::StoreImmediate {
+                size,
+                dst,
+                offset,
+                ..
+            }
+            | Insn::StoreRegister {
+                size,
+                dst,
+                offset,
+                ..
+            } => (dst, offset, size.bytes()),
+            _ => return None,
+        };
+        Some(Access {
+            base,
+            offset,
+            size: size as u32,
+        })
+    }
+}
+
+fn tell_helper<O: Write>(insn: &Insn, out: &mut O) -> io::Result<()> {
+    match *insn {
+        Insn::Call { helper } => writeln!(out, "it calls {helper}"),
+        _ => writeln!(out, "it calls none"),
+    }
+}
+
+/// The registers that an instruction reads, each once: those of an emit are R1 and R2.
+fn registers_read(insn: &Insn) -> [Option<Register>; 2] {
+    match *insn {
+        Insn::Load { src, .. } | Insn::LoadSigned { src, .. } | Insn::MoveSigned { src, .. } => {
+            [Some(src), None]
+        }
+        Insn::StoreImmediate { dst, .. } | Insn::Negate { dst, .. } | Insn::SwapBytes { dst, .. } =>
+            [Some(dst), None],
+        Insn::StoreRegister { dst, src, .. } => both(dst, Source::Register(src)),
+        Insn::Arithmetic {
+            operation: Operation::Move,
+            source,
+            ..
+        } => [register_in(source), None],
+        Insn::Arithmetic { dst, source, .. } | Insn::Branch { dst, source, .. } => {
+            both(dst, source)
+        }
+        Insn::Call { helper: 1 } => [
+            Some(Register::from_number(1)),
+            Some(Register::from_number(2)),
+        ],
+        Insn::LoadImmediate { .. }
+        | Insn::Jump { .. }
+        | Insn::JumpLong { .. }
+        | Insn::Call { .. }
+        | Insn::Exit => [None, None],
+    }
+}
+
+fn both(register: Register, source: Source) -> [Option<Register>; 2] {
+    let other = register_in(source).filter(|other| other.index() != register.index());
+    [Some(register), other]
+}
+
+fn register_in(source: Source) -> Option<Register> {
+    match source {
+        Source::Register(register) => Some(register),
+        Source::Immediate(_) => None,
+    }
+}
