@@ -1,16 +1,17 @@
 #!/bin/sh
-# Counts the instructions of the filters of examples/ and of bench/filters, as clang -O2 makes them for v2 and v3, and
-# the pairs of neighbours. Prints shares in thousandths: each program weighs the same.
+# Counts the instructions of the filters of examples/ and of bench/filters, as examples/Makefile makes them for v2 and v3,
+# and the pairs of neighbours. Prints shares in thousandths: each program weighs the same.
 set -eu
 cd "$(dirname "$0")/.."
 work=$(mktemp -d)
 trap 'rm -r "$work"' EXIT
 for version in v2 v3; do
-    for file in examples/*.c bench/filters/*.c; do
-        object=$work/$(basename "$file" .c).o
-        clang -target bpf -mcpu=$version -O2 -Iexamples -c "$file" -o "$object"
-        llvm-objcopy -O binary --only-section=.text "$object" "$work/program.bin"
-        xxd -p -c 8 "$work/program.bin"
+    mkdir "$work/$version"
+    for folder in examples bench/filters; do
+        make -s -f examples/Makefile FROM=$folder TO="$work/$version" CPU=$version
+    done
+    for program in "$work/$version"/*.bin; do
+        xxd -p -c 8 "$program"
         echo end
     done
 done | awk '

@@ -1,8 +1,8 @@
 #!/bin/sh
-# Runs the filters of examples/ and of bench/filters, as clang -O2 makes them for v2, over a block of 4096 bytes: with every
-# check, over their records, and in DPDK's interpreter (Debian's libdpdk-dev), which takes no 32-bit compares. Prints the
-# nanoseconds of a run, the best of several rounds and launches, with their ratios to DPDK's, and the geometric mean of the
-# ratios of records. A filter that DPDK doesn't load in 5 seconds has no ratio.
+# Runs the filters of examples/ and of bench/filters, as examples/Makefile makes them for v2, over a block of 4096 bytes:
+# with every check, over their records, and in DPDK's interpreter (Debian's libdpdk-dev), which takes no 32-bit compares.
+# Prints the nanoseconds of a run, the best of several rounds and launches, with their ratios to DPDK's, and the geometric
+# mean of the ratios of records. A filter that DPDK doesn't load in 5 seconds has no ratio.
 set -eu
 here=$(cd "$(dirname "$0")" && pwd)
 . "$here/least.sh"
@@ -13,10 +13,8 @@ ours=$here/../crates/bench_programs/out/bench_programs
 awk 'BEGIN { for (i = 0; i < 4096; i++) printf "%02x", (i * i * 31 + int(i / 7)) % 256 }' | xxd -r -p > "$work/block.bin"
 rounds=10
 repeats=1000
-for file in "$here"/../examples/*.c "$here"/filters/*.c; do
-    name=$(basename "$file" .c)
-    clang -target bpf -mcpu=v2 -O2 -I"$here/../examples" -c "$file" -o "$work/$name.o"
-    llvm-objcopy -O binary --only-section=.text "$work/$name.o" "$work/$name.bin"
+for folder in "$here/../examples" "$here/filters"; do
+    make -s -f "$here/../examples/Makefile" FROM="$folder" TO="$work" CPU=v2
 done
 # builds the program where it has to
 (cd "$here/../crates/bench_programs" && rt run -- "$work/filter.bin" "$work/block.bin" 0 0 1 > /dev/null 2>&1)

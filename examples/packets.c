@@ -1,4 +1,10 @@
-/* Emits the first 54 bytes of a captured packet where it is TCP over IPv4 to one of two ports. */
+/* Captured packets: emits the first 54 bytes of a packet that is TCP over IPv4, without options, to port 443 or to
+   another, and not from 127.0.0.0/8.
+
+   Record:   an Ethernet frame, one in a block
+   Block:    512 bytes
+   Emit:     56, a frame of 54 bytes: the headers
+   Argument: the other port */
 #include "pifnjarl.h"
 
 static u16 big16(const u8 *at) { return at[0] << 8 | at[1]; }

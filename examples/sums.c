@@ -1,4 +1,10 @@
-/* Adds prices by kind in scratch, with a count of each, and emits them with the run's last block. */
+/* Sum and count: adds prices by kind in scratch, with the number of each and the highest, and emits all with the run's
+   last block.
+
+   Record:   32 bytes, 16 in a block: a price (u32) at byte 8, a kind at byte 12, of which the low 4 bits count
+   Block:    512 bytes
+   Emit:     258, a frame of 256 bytes: 16 times struct total
+   Argument: none */
 #include "pifnjarl.h"
 
 struct total { u64 sum; u32 count, most; };

@@ -1,4 +1,10 @@
-/* Emits keys that a filter of 1024 bits in scratch hasn't met yet, and enters them. */
+/* Deduplication: emits the keys that weren't met before, by a Bloom filter of 1024 bits in scratch: two for each key. Some
+   keys that are new are taken for known, the more the fuller the filter is.
+
+   Record:   64 bytes, 8 in a block: a key (u64) at byte 0
+   Block:    512 bytes
+   Emit:     80, 8 frames of 8 bytes
+   Argument: none */
 #include "pifnjarl.h"
 
 long bloom(const struct context *context, const u8 *block, u8 *scratch)

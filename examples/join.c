@@ -1,5 +1,10 @@
-/* Emits each of 8 rows whose 16-bit key is in a sorted table of 16 keys at the block's bytes 480 to 511. A search
-   halves the table without a branch: a difference below 0 has all bits above its low 16. */
+/* A dictionary: emits the rows whose key is one of 16 at the block's end. A search halves the dictionary without a branch:
+   a difference below 0 has all bits above its low 16.
+
+   Record:   32 bytes, 8 at the block's start: a key (u16) at byte 2
+   Block:    512 bytes; the dictionary, 16 keys (u16) in order, is its last 32
+   Emit:     272, 8 frames of 32 bytes
+   Argument: none */
 #include "pifnjarl.h"
 
 long join(const struct context *context, const u8 *block)
