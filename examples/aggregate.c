@@ -1,4 +1,9 @@
-/* Adds a field of each block in scratch, and emits the sum with the run's last block. */
+/* A sum: adds a field of each block in scratch, and emits the sum with the run's last block.
+
+   Record:   one at the block's start: a field (u32) at byte 16
+   Block:    512 bytes
+   Emit:     10, a frame of 8 bytes
+   Argument: none */
 #include "pifnjarl.h"
 
 long aggregate(const struct context *context, const u8 *block, u8 *scratch)

@@ -26,19 +26,24 @@ static long (*const emit)(const void *address, u64 length) = (void *)1;
        emit_field(order->price); */
 #define emit_field(field) emit(&(field), sizeof(field))
 
-/* The 2, 4 or 8 bytes at an offset, the least first. An area may be read at any offset within it:
+/* The 2, 4 or 8 bytes at an offset, which may be any within the area, the least first. One load, where clang makes one for
+   each byte of a memcpy:
 
        u64 day = le32(block, 13); */
 static inline u64 le16(const u8 *at, u64 offset) { return *(const u16 *)(at + offset); }
 static inline u64 le32(const u8 *at, u64 offset) { return *(const u32 *)(at + offset); }
 static inline u64 le64(const u8 *at, u64 offset) { return *(const u64 *)(at + offset); }
 
-/* A barrier: from here on clang knows nothing of the variable, which keeps its value. So a compare is one of this very
-   variable, and not of another that goes with it, and a mask stays where clang knows that it changes nothing:
+/* A barrier: from here on clang knows nothing of the variable, of 64 bits, which keeps its value. So a compare is one of
+   this very variable, and not of another that goes with it, and a mask stays where clang knows that it changes nothing:
 
        barrier(length);
        if (length <= 60) */
-#define barrier(variable) asm volatile("" : "+r"(variable))
+#define barrier(variable) \
+    do { \
+        _Static_assert(sizeof(variable) == 8, "a barrier takes a variable of 64 bits"); \
+        asm volatile("" : "+r"(variable)); \
+    } while (0)
 
 /* A bounded index: the low bits of a number, at most the mask, which is a power of 2 less 1. The AND stands in the program
    also where clang could do without, and a sum with the result stays a sum, where clang would write OR:

@@ -1,4 +1,9 @@
-/* Emits two fields of the block, its key and its price, side by side. */
+/* A projection: emits two fields of the block, its key and its price, side by side.
+
+   Record:   one at the block's start: a key (u64) at byte 0, a price (u32) at byte 24
+   Block:    512 bytes
+   Emit:     18, a frame of 16 bytes: the key (u64) and the price (u64)
+   Argument: none */
 #include "pifnjarl.h"
 
 long projection(const struct context *context, const u8 *block, u8 *scratch)
