@@ -5,6 +5,7 @@ mod admitting;
 mod command_lines;
 mod draining;
 mod event_lines;
+mod filters;
 mod holds;
 mod images;
 mod loading;

@@ -181,6 +181,19 @@ impl Stage {
         Ok(())
     }
 
+    /// `verify` accepts the program in `events`, for blocks of 512 bytes.
+    pub(super) fn check_accepted(
+        &mut self,
+        rt: &impl Abort,
+        name: &str,
+        emit: u32,
+    ) -> Result<(), AllocError> {
+        let line = format!(in self.alloc; "zscli verify events --block 512 --emit {emit}")?;
+        self.run(line.as_str(), usize::MAX)?;
+        assert!(rt; self.out.bytes.starts_with(b"accepted "), "{name}");
+        Ok(())
+    }
+
     /// Compares the bytes of the file of this name.
     pub(super) fn check_file(
         &self,

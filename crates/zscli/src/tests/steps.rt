@@ -15,7 +15,7 @@ pub(super) type Shape = [u32; 6];
 pub(super) type Zones = &'static str;
 
 /// A step, and the lines that are printed for it. Where it gives bytes, these stand behind.
-pub(super) type Case = (Step, &'static str);
+pub(super) type Case = (Step<'static>, &'static str);
 
 /// 4 zones of 8 blocks, 6 of them writable, at most 2 open and 3 active.
 pub(super) const G1: Shape = [512, 4, 8, 6, 2, 3];
@@ -43,27 +43,27 @@ pub(super) const MATCHING: Bytes =
 /// Something that happens. Entries come from queue 1; their first number is the command identifier, and blocks
 /// are counted from 1.
 #[derive(Clone, Copy)]
-pub(super) enum Step {
+pub(super) enum Step<'a> {
     /// A line of a command file.
-    Line(&'static str),
+    Line(&'a str),
     /// So many turns of a run, with the same answer each.
     Turns(u8, usize),
     /// A Write to an address, of blocks of these bytes.
-    Write(u8, u32, Bytes),
+    Write(u8, u32, &'a str),
     /// A Zone Append to the zone of an address, of blocks of these bytes.
-    Append(u8, u32, Bytes),
+    Append(u8, u32, &'a str),
     /// A Read of so many blocks from an address on, and what it gives.
-    Read(u8, u32, u32, Bytes),
+    Read(u8, u32, u32, &'a str),
     /// A Zone Management Send to an address, with this Command Dword 13.
     Send(u8, u32, u32),
     /// A Load into a slot, with the most bytes that may be emitted for a block.
-    Load(u8, u32, u32, Bytes),
+    Load(u8, u32, u32, &'a str),
     /// A Run of slot 0 over so many blocks from an address on, to the zone of an address.
     Run(u8, u64, u32, u64),
     /// A Result of a slot, and what it gives.
-    Result(u8, u32, Bytes),
+    Result(u8, u32, &'a str),
     /// An entry with this opcode, with Command Dwords 10 to 15 and the bytes beside it.
-    Entry(u8, u8, [u32; 6], Bytes),
+    Entry(u8, u8, [u32; 6], &'a str),
 }
 
 /// Fields of an entry: its opcode, the command identifier, and Command Dwords 10 to 15.
@@ -82,9 +82,9 @@ fn with_fields(opcode: u8, cid: u8, dwords: [u32; 6]) -> Option<Fields> {
     })
 }
 
-impl Step {
+impl<'a> Step<'a> {
     /// The bytes beside its entry.
-    fn beside(self) -> Bytes {
+    fn beside(self) -> &'a str {
         match self {
             Step::Write(_, _, beside) => beside,
             Step::Append(_, _, beside) => beside,
@@ -95,7 +95,7 @@ impl Step {
     }
 
     /// The bytes that it gives.
-    fn gives(self) -> Bytes {
+    fn gives(self) -> &'a str {
         match self {
             Step::Read(_, _, _, gives) => gives,
             Step::Result(_, _, gives) => gives,
@@ -206,7 +206,7 @@ impl Lines {
         self.events.push('\n')
     }
 
-    fn add_answer(&mut self, answer: &str, gives: Bytes) -> Result<(), Fail> {
+    fn add_answer(&mut self, answer: &str, gives: &str) -> Result<(), Fail> {
         if answer.is_empty() {
             return Ok(());
         }
