@@ -1,7 +1,7 @@
 //! The status of a completed command.
 
 ghost use Rattle.std.specs.Prelude.{◌≡◌, ◌<◌, ◌^◌};
-ghost use Rattle.zone_state.specs.Status.{type_number};
+ghost use Rattle.zone_state.specs.Status.{type_number, type_of};
 
 /// Status code types (NVMe Base 2.0, Status Code Type).
 #[derive(Clone, Copy, Debug, PartialEq, Eq)]
@@ -24,6 +24,18 @@ impl StatusType {
             StatusType::Generic => 0x0,
             StatusType::CommandSpecific => 0x1,
             StatusType::VendorSpecific => 0x7,
+        }
+    }
+
+    /// The type that has this number; `None` where it is that of no type here.
+    pub fn from_number(number: u8) -> Option<StatusType>
+        ensures { result ≡ type_of number }
+    {
+        match number {
+            0x0 => Some(StatusType::Generic),
+            0x1 => Some(StatusType::CommandSpecific),
+            0x7 => Some(StatusType::VendorSpecific),
+            _ => None,
         }
     }
 }

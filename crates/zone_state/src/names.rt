@@ -1,0 +1,175 @@
+//! What states and statuses are called, for people to read.
+
+use crate::state::ZoneState;
+use crate::status::{Status, StatusType};
+use std::fmt;
+
+/// A status with the standard's name for it, and what it says of the command.
+#[derive(Clone, Copy, Debug)]
+struct Meaning {
+    status: Status,
+    name: &'static str,
+    sentence: &'static str,
+}
+
+/// Every status that a device gives, in the order of the numbers.
+const MEANINGS: &[Meaning] = &[
+    Meaning {
+        status: Status::SUCCESS,
+        name: "Successful Completion",
+        sentence: "the command is done",
+    },
+    Meaning {
+        status: Status::INVALID_COMMAND_OPCODE,
+        name: "Invalid Command Opcode",
+        sentence: "the opcode is none that is supported",
+    },
+    Meaning {
+        status: Status::INVALID_FIELD_IN_COMMAND,
+        name: "Invalid Field in Command",
+        sentence: "a field has a value that it may not have, or the data is not as long as the fields say",
+    },
+    Meaning {
+        status: Status::INVALID_NAMESPACE_OR_FORMAT,
+        name: "Invalid Namespace or Format",
+        sentence: "the namespace is not 1",
+    },
+    Meaning {
+        status: Status::LBA_OUT_OF_RANGE,
+        name: "LBA Out of Range",
+        sentence: "the blocks are not all in the namespace",
+    },
+    Meaning {
+        status: Status::ZONE_BOUNDARY_ERROR,
+        name: "Zone Boundary Error",
+        sentence: "a Read or the source of a Run passes its zone's end, or a write its zone's capacity",
+    },
+    Meaning {
+        status: Status::ZONE_IS_FULL,
+        name: "Zone Is Full",
+        sentence: "a write to a Full zone",
+    },
+    Meaning {
+        status: Status::ZONE_IS_READ_ONLY,
+        name: "Zone Is Read Only",
+        sentence: "a write to a Read Only zone",
+    },
+    Meaning {
+        status: Status::ZONE_IS_OFFLINE,
+        name: "Zone Is Offline",
+        sentence: "a Read of an Offline zone, a Run from one, or a write to one",
+    },
+    Meaning {
+        status: Status::ZONE_INVALID_WRITE,
+        name: "Zone Invalid Write",
+        sentence: "a Write that does not begin at the zone's write pointer",
+    },
+    Meaning {
+        status: Status::TOO_MANY_ACTIVE_ZONES,
+        name: "Too Many Active Zones",
+        sentence: "an active resource is wanted and none is free",
+    },
+    Meaning {
+        status: Status::TOO_MANY_OPEN_ZONES,
+        name: "Too Many Open Zones",
+        sentence: "an open resource is wanted, none is free and no zone can be closed",
+    },
+    Meaning {
+        status: Status::INVALID_ZONE_STATE_TRANSITION,
+        name: "Invalid Zone State Transition",
+        sentence: "the zone's state does not allow the action",
+    },
+    Meaning {
+        status: Status::ZONE_HELD,
+        name: "Zone Held",
+        sentence: "an active run holds the zone against the command",
+    },
+    Meaning {
+        status: Status::NO_SUCH_PROGRAM,
+        name: "No Such Program",
+        sentence: "the slot has no program",
+    },
+    Meaning {
+        status: Status::PROGRAM_REFUSED,
+        name: "Program Refused",
+        sentence: "the bytes are no program, or it isn't accepted",
+    },
+    Meaning {
+        status: Status::NO_RUN_FREE,
+        name: "No Run Free",
+        sentence: "four runs are active",
+    },
+    Meaning {
+        status: Status::SOURCE_NOT_WRITTEN,
+        name: "Source Not Written",
+        sentence: "not all of the blocks that the run is to read are written",
+    },
+    Meaning {
+        status: Status::DESTINATION_NOT_OPEN,
+        name: "Destination Not Open",
+        sentence: "the zone that the run is to append to isn't open",
+    },
+    Meaning {
+        status: Status::DESTINATION_LACKS_ROOM,
+        name: "Destination Lacks Room",
+        sentence: "the zone that the run is to append to has less room than the run may need",
+    },
+    Meaning {
+        status: Status::WANT_OF_MEMORY,
+        name: "Want of Memory",
+        sentence: "there is no memory for the program; nothing has changed",
+    },
+    Meaning {
+        status: Status::PROGRAM_TRAPPED,
+        name: "Program Trapped",
+        sentence: "the run's program could not go on",
+    },
+    Meaning {
+        status: Status::SOURCE_IS_DESTINATION,
+        name: "Source Is Destination",
+        sentence: "the run's source and its destination are one zone",
+    },
+    Meaning {
+        status: Status::PROGRAM_IN_USE,
+        name: "Program in Use",
+        sentence: "an active run uses the slot's program",
+    },
+];
+
+/// The name (NVMe Base 2.0, NVM Command Set 1.0, ZNS 1.1; of a vendor specific status: profile), the numbers and
+/// a sentence: `Zone Is Full (type 1h, code B9h): a write to a Full zone`. Of a status that no device here gives,
+/// the numbers alone.
+impl fmt::Display for Status {
+    fn fmt<W: fmt::Write>(&self, f: &mut fmt::Formatter<W>) -> fmt::Result {
+        let kind = self.kind.number();
+        let code = self.code;
+        let whose = match self.kind {
+            StatusType::VendorSpecific => "; profile",
+            StatusType::Generic | StatusType::CommandSpecific => "",
+        };
+        match MEANINGS.iter().find(|meaning| meaning.status == *self) {
+            Some(Meaning { name, sentence, .. }) => {
+                write!(
+                    f,
+                    "{name} (type {kind}h, code {code:02X}h{whose}): {sentence}"
+                )
+            }
+            None => write!(f, "unknown status (type {kind}h, code {code:02X}h{whose})"),
+        }
+    }
+}
+
+/// The standard's name (ZNS Command Set 1.1, Zone State Machine): `Implicitly Opened`.
+impl fmt::Display for ZoneState {
+    fn fmt<W: fmt::Write>(&self, f: &mut fmt::Formatter<W>) -> fmt::Result {
+        f.write_str(match self {
+            ZoneState::Empty => "Empty",
+            ZoneState::ImplicitlyOpened => "Implicitly Opened",
+            ZoneState::ExplicitlyOpened => "Explicitly Opened",
+            ZoneState::Closed => "Closed",
+            ZoneState::ReadOnly => "Read Only",
+            ZoneState::Full => "Full",
+            ZoneState::Offline => "Offline",
+        })
+    }
+}
