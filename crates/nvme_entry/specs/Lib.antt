@@ -1,5 +1,7 @@
 pub mod Checks
 pub mod Completion
+pub mod Descriptor
+pub mod Encoding
 pub mod Entry
 pub mod Filter
 pub mod Laws

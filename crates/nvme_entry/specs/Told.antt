@@ -1,7 +1,9 @@
 -- What the bytes of a completion queue entry tell a host.
-use Rattle.std.specs.Prelude.{ℕ, ◌≡◌, ◌<◌, ◌*◌, ◌/◌, ◌%◌, ◌^◌, List, length, drop}
+use Rattle.std.specs.Prelude.{ℕ, ◌≡◌, ◌<◌, ◌*◌, ◌/◌, ◌%◌, ◌^◌, List, length, drop, Option}
+use Rattle.std.specs.Option.{option_map}
 use Rattle.byteorder.specs.Endian.{little_number}
-use Rattle.zone_state.specs.Status.{type_number}
+use Rattle.zone_state.specs.Status.{type_number, type_of}
+use Rattle.zone_state.specs.declared.status.StatusType.{StatusType}
 use Rattle.nvme_entry.specs.Completion.{completion_bytes}
 use Rattle.nvme_entry.specs.declared.completion.Completion.{Completion}
 
@@ -32,3 +34,15 @@ pub record AreFields (c : Completion) : Type 0 where
 -- a host reads from a completion what the device put into it
 abbrev pub CompletionsTell : Type 0
 CompletionsTell = (c : Completion) → AreFields c → TellCompletion (completion_bytes c) c
+
+-- the completion with the fields that bytes tell, where they tell a known status code type
+abbrev pub completion_in : List ℕ → Option Completion
+completion_in bytes = option_map
+    (λ (kind : StatusType). record {
+      dw0 = dword_in bytes 0;
+      dw1 = dword_in bytes 1;
+      queue = dword_in bytes 2 / 2 ^ 16;
+      cid = dword_in bytes 3 % 2 ^ 16;
+      status = record { kind = kind; code = dword_in bytes 3 / 2 ^ 17 % 2 ^ 8 };
+    })
+    (type_of (dword_in bytes 3 / 2 ^ 25 % 2 ^ 3))

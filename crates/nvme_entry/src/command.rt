@@ -45,6 +45,22 @@ impl Opcode {
             _ => None,
         }
     }
+
+    /// The opcode's code.
+    pub fn code(self) -> u8
+        ensures { opcode_of result ≡ Some self }
+    {
+        match self {
+            Opcode::Write => 0x01,
+            Opcode::Read => 0x02,
+            Opcode::ZoneManagementSend => 0x79,
+            Opcode::ZoneManagementReceive => 0x7A,
+            Opcode::ZoneAppend => 0x7D,
+            Opcode::Run => 0xC0,
+            Opcode::Load => 0xC1,
+            Opcode::Result => 0xC2,
+        }
+    }
 }
 
 /// A number of logical blocks, from 1 to 65536. A clause sees the number.
@@ -73,6 +89,13 @@ impl BlockCount {
         BlockCount {
             blocks: u32::from(field) + 1,
         }
+    }
+
+    /// The number as a zero-based field spells it: one less.
+    pub fn zero_based(self) -> u16
+        ensures { result + 1 ≡ self }
+    {
+        (self.blocks - 1) as u16
     }
 
     /// The number of blocks.
@@ -113,6 +136,13 @@ impl DwordCount {
             return None;
         }
         Some(DwordCount { dwords: field + 1 })
+    }
+
+    /// The number as a zero-based field spells it: one less.
+    pub fn zero_based(self) -> u32
+        ensures { dwords_of result ≡ Some self }
+    {
+        self.dwords - 1
     }
 
     /// The number of bytes.

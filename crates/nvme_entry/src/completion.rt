@@ -1,10 +1,11 @@
 //! Completion queue entries.
 
-ghost use Rattle.std.specs.Prelude.{◌≡◌};
+ghost use Rattle.std.specs.Prelude.{◌≡◌, ◌<◌, ◌/◌, ◌%◌, ◌^◌, IfSome};
 ghost use Rattle.nvme_entry.specs.Completion.{completion_bytes, status_dword};
+ghost use Rattle.nvme_entry.specs.Told.{AreFields, completion_in, dword_in};
 
 use byteorder::{ByteOrder, LittleEndian};
-use zone_state::Status;
+use zone_state::{Status, StatusType};
 
 /// A completion queue entry (NVMe Base 2.0, 3.3.3.2). The submission queue head pointer, the phase
 /// tag, the retry delay, More and Do Not Retry are 0 (profile).
@@ -33,6 +34,72 @@ impl Completion {
         LittleEndian::write_u32_into(&[self.dw0, self.dw1, queue, status], &mut bytes);
         bytes
     }
+
+    /// The completion that 16 bytes spell. `None` where no completion has them: the status code type is none of
+    /// [`StatusType`], or a field that is 0 (profile) isn't.
+    pub fn decode(bytes: &[u8; 16]) -> Option<Completion>
+        ensures spelled { IfSome result (λ completion. bytes.now ≡ completion_bytes completion) }
+        ensures read_back { (completion : Completion) → AreFields completion → bytes.now ≡ completion_bytes completion → result ≡ Some completion }
+    {
+        let completion = fields(bytes)?;
+        if completion.encode() == *bytes {
+            Some(completion)
+        } else {
+            None
+        }
+    }
+}
+
+/// The fields of a completion, where the type of its status is known.
+fn fields(bytes: &[u8; 16]) -> Option<Completion>
+    ensures { result ≡ completion_in bytes.now }
+{
+    let status = dword(bytes, 3);
+    let kind = StatusType::from_number(kind_of(status))?;
+    Some(Completion {
+        dw0: dword(bytes, 0),
+        dw1: dword(bytes, 1),
+        queue: high_half(dword(bytes, 2)),
+        cid: low_half(status),
+        status: Status {
+            kind,
+            code: code_of(status),
+        },
+    })
+}
+
+/// The dword with this number.
+fn dword(bytes: &[u8; 16], number: usize) -> u32
+    requires { number < 4 }
+    ensures { result ≡ dword_in bytes.now number }
+{
+    LittleEndian::read_u32(&bytes[4 * number..])
+}
+
+fn high_half(dword: u32) -> u16
+    ensures { result ≡ dword / 2 ^ 16 }
+{
+    (dword >> 16) as u16
+}
+
+fn low_half(dword: u32) -> u16
+    ensures { result ≡ dword % 2 ^ 16 }
+{
+    (dword % 0x1_0000) as u16
+}
+
+/// The status code type of Dword 3, of three bits.
+fn kind_of(status: u32) -> u8
+    ensures { result ≡ status / 2 ^ 25 % 2 ^ 3 }
+{
+    ((status >> 25) % 8) as u8
+}
+
+/// The status code of Dword 3.
+fn code_of(status: u32) -> u8
+    ensures { result ≡ status / 2 ^ 17 % 2 ^ 8 }
+{
+    ((status >> 17) % 0x100) as u8
 }
 
 /// Dword 3: the command identifier and the status field.

@@ -14,7 +14,7 @@ use byteorder::{ByteOrder, LittleEndian};
 use zone_state::{Action, Status};
 
 /// The one namespace's identifier (profile).
-const NAMESPACE: u32 = 1;
+pub(crate) const NAMESPACE: u32 = 1;
 
 /// The zone receive action Report Zones (ZNS 1.1, 3.4.2), the one that is supported (profile).
 const REPORT_ZONES: u8 = 0x00;

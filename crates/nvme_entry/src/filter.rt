@@ -37,6 +37,22 @@ impl ZoneFilter {
         }
     }
 
+    /// The filter's code.
+    pub fn code(self) -> u8
+        ensures { filter_of result ≡ Some self }
+    {
+        match self {
+            ZoneFilter::All => 0x00,
+            ZoneFilter::Empty => 0x01,
+            ZoneFilter::ImplicitlyOpened => 0x02,
+            ZoneFilter::ExplicitlyOpened => 0x03,
+            ZoneFilter::Closed => 0x04,
+            ZoneFilter::Full => 0x05,
+            ZoneFilter::ReadOnly => 0x06,
+            ZoneFilter::Offline => 0x07,
+        }
+    }
+
     /// Does a report with this filter list a zone of that state?
     pub fn takes(self, state: ZoneState) -> bool
         ensures { result ≡ takes self state }

@@ -4,6 +4,8 @@
 
 mod command;
 mod completion;
+mod descriptor;
+mod encoding;
 mod entry;
 mod filter;
 pub mod laws;
@@ -17,6 +19,7 @@ pub use command::{
     StandardCommand,
 };
 pub use completion::Completion;
+pub use descriptor::{ZoneDescriptor, zones_told};
 pub use entry::Entry;
 pub use filter::ZoneFilter;
 pub use program_slot::{PROGRAM_SLOTS, ProgramSlot};

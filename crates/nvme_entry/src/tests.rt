@@ -1,6 +1,8 @@
 ghost use Rattle.std.specs.Prelude.{◌≡◌, length};
 
+mod encoding;
 mod programs;
+mod reading;
 
 use super::*;
 use std::test::Fail;

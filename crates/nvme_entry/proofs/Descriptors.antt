@@ -1,0 +1,81 @@
+-- The bytes of a zone's descriptor tell its fields.
+use Rattle.std.proofs.Common.{◌≡◌, ℕ, ◌+◌, ◌*◌, ◌/◌, ◌%◌, ◌^◌, ◌<◌, List, ◌∷◌, ◌++◌, drop, replicate, refl, sym, ap, ◌∙◌, arith, Bool, true, false, cond, nat_eq, Option, Some, None}
+use lib.Pointwise.{pointwise, bytes_decides}
+use Rattle.byteorder.specs.Endian.{little_bytes, little_number}
+use Rattle.byteorder.specs.Numbers.{little_number-reads_back}
+use Rattle.zone_state.specs.State.{code_of, state_of}
+use Rattle.zone_state.specs.Zone.{ZoneRecord}
+use Rattle.zone_state.specs.declared.state.ZoneState.{ZoneState}
+use Rattle.zone_state.specs.declared.state.ZoneState.TheVariants.{Empty, ImplicitlyOpened, ExplicitlyOpened, Closed, ReadOnly, Full, Offline}
+use Rattle.nvme_entry.specs.Report.{descriptor, has_write_pointer}
+use Rattle.nvme_entry.specs.declared.descriptor.ZoneDescriptor.{ZoneDescriptor}
+use Rattle.nvme_entry.specs.Descriptor.{described, descriptor_bytes, descriptor_in, first_word, word_in}
+use Rattle.nvme_entry.proofs.Told.{false_is_not_true, some_is_one}
+
+again : (n : ℕ) (rest : List ℕ) → n < 2 ^ 64 → little_number 8 (little_bytes 8 n ++ rest) ≡ n
+again n rest h = little_number-reads_back 8 n rest (omega arith)
+
+front-is : (state : ZoneState) → little_bytes 8 (first_word state) ≡ 0x02 ∷ (code_of state * 2 ^ 4) ∷ replicate 6 0
+front-is Empty = refl
+front-is ImplicitlyOpened = refl
+front-is ExplicitlyOpened = refl
+front-is Closed = refl
+front-is ReadOnly = refl
+front-is Full = refl
+front-is Offline = refl
+
+-- a zone's descriptor, by its words
+descriptor-is_words : (zone : ZoneRecord) (lowest : ℕ) → descriptor zone lowest ≡ descriptor_bytes (described zone lowest)
+unfolding descriptor
+descriptor-is_words zone lowest = ap (λ (front : List ℕ). front ++ drop 8 (descriptor_bytes (described zone lowest))) (sym (front-is zone.state))
+
+state_told : (state : ZoneState) → state_of (first_word state / 2 ^ 12 % 2 ^ 4) ≡ Some state
+state_told Empty = refl
+state_told ImplicitlyOpened = refl
+state_told ExplicitlyOpened = refl
+state_told Closed = refl
+state_told ReadOnly = refl
+state_told Full = refl
+state_told Offline = refl
+
+small : (state : ZoneState) → first_word state < 2 ^ 64
+small Empty = omega arith
+small ImplicitlyOpened = omega arith
+small ExplicitlyOpened = omega arith
+small Closed = omega arith
+small ReadOnly = omega arith
+small Full = omega arith
+small Offline = omega arith
+
+-- the fields read from the bytes of a descriptor are its own
+read_back : (d : ZoneDescriptor) → d.capacity < 2 ^ 64 → d.lowest < 2 ^ 64 → d.write_pointer < 2 ^ 64 → descriptor_in (descriptor_bytes d) ≡ Some d
+read_back d capacity lowest pointer =
+    let bytes = descriptor_bytes d in
+    let first : word_in bytes 0 ≡ first_word d.state = again (first_word d.state) (drop 8 bytes) (small d.state) in
+    let second : word_in bytes 1 ≡ d.capacity = again d.capacity (drop 16 bytes) capacity in
+    let third : word_in bytes 2 ≡ d.lowest = again d.lowest (drop 24 bytes) lowest in
+    let fourth : word_in bytes 3 ≡ d.write_pointer = again d.write_pointer (drop 32 bytes) pointer in
+    let state : state_of (word_in bytes 0 / 2 ^ 12 % 2 ^ 4) ≡ Some d.state = ap (λ (n : ℕ). state_of (n / 2 ^ 12 % 2 ^ 4)) first ∙ state_told d.state in
+    rw (state, second, third, fourth) refl
+
+pointer_if : (has : Bool) (n : ℕ) → n < 2 ^ 64 → cond has n 0xFFFF_FFFF_FFFF_FFFF < 2 ^ 64
+pointer_if true n h = h
+pointer_if false n h = omega arith
+
+-- the fields read from the bytes of a zone's descriptor are the zone's
+zone_read_back : (zone : ZoneRecord) (lowest : ℕ) → zone.capacity < 2 ^ 64 → lowest + zone.written < 2 ^ 64 → descriptor_in (descriptor zone lowest) ≡ Some (described zone lowest)
+zone_read_back zone lowest capacity written =
+    ap descriptor_in (descriptor-is_words zone lowest)
+    ∙ read_back (described zone lowest) capacity (omega (arith, written)) (pointer_if (has_write_pointer zone.state) (lowest + zone.written) written)
+
+pub is_read_back : (bytes : List ℕ) (found : Option ZoneDescriptor) → found ≡ descriptor_in bytes → (zone : ZoneRecord) (lowest : ℕ) → zone.capacity < 2 ^ 64 → lowest + zone.written < 2 ^ 64
+    → bytes ≡ descriptor zone lowest → found ≡ Some (described zone lowest)
+is_read_back bytes found read zone lowest capacity written is = read ∙ ap descriptor_in is ∙ zone_read_back zone lowest capacity written
+
+-- where the descriptor with the fields that bytes tell has other bytes, no zone's descriptor has these
+pub no_other_is_read : (bytes again : List ℕ) (read : ZoneDescriptor) → Some read ≡ descriptor_in bytes → again ≡ descriptor_bytes read → pointwise nat_eq again bytes ≡ false
+    → (zone : ZoneRecord) (lowest : ℕ) → zone.capacity < 2 ^ 64 → lowest + zone.written < 2 ^ 64 → bytes ≡ descriptor zone lowest → None ≡ Some (described zone lowest)
+no_other_is_read bytes again read told spelled differ zone lowest capacity written is =
+    let one : read ≡ described zone lowest = some_is_one read (described zone lowest) (is_read_back bytes (Some read) told zone lowest capacity written is) in
+    let equal : again ≡ bytes = spelled ∙ ap descriptor_bytes one ∙ sym (descriptor-is_words zone lowest) ∙ sym is in
+    absurd (false_is_not_true (sym differ ∙ (bytes_decides again bytes).1 equal))

@@ -1,0 +1,68 @@
+-- What the dwords of an entry tell a decoder.
+use Rattle.std.proofs.Common.{◌≡◌, ℕ, ◌+◌, ◌*◌, ◌/◌, ◌%◌, ◌^◌, ◌<◌, ◌==◌, List, [], ◌∷◌, ◌++◌, drop, Option, Some, slice_index, sym, ap, subst, ◌∙◌, arith}
+use Rattle.std.specs.List.{flat_map}
+use Rattle.std.specs.Int.{byte_at}
+use Rattle.byteorder.specs.Endian.{little_bytes, little_number}
+use Rattle.byteorder.specs.Numbers.{little_from-bytes, little_number-reads_back}
+use Rattle.zone_state.specs.declared.status.TheConstants.Status.{INVALID_FIELD_IN_COMMAND, INVALID_NAMESPACE_OR_FORMAT}
+use Rattle.nvme_entry.specs.Checks.{allowed, demand, first_refused, or_else}
+use Rattle.nvme_entry.specs.Encoding.{HasFields}
+use Rattle.nvme_entry.specs.Entry.{command_of, decoded, decoded_by, field_checks, fuse_of, identifier_of, namespace_of, opcode_of}
+use Rattle.nvme_entry.specs.declared.command.Opcode.{Opcode}
+use Rattle.nvme_entry.specs.declared.encoding.CommandDwords.{CommandDwords}
+
+-- the bytes of sixteen dwords
+abbrev bytes_of : ℕ → CommandDwords → List ℕ
+bytes_of first d = flat_map (little_bytes 4) (first ∷ 1 ∷ 0 ∷ 0 ∷ 0 ∷ 0 ∷ 0 ∷ 0 ∷ 0 ∷ 0 ∷ d.cdw10 ∷ d.cdw11 ∷ d.cdw12 ∷ d.cdw13 ∷ d.cdw14 ∷ d.cdw15 ∷ [])
+
+again : (n : ℕ) (rest : List ℕ) → n < 2 ^ 32 → little_number 4 (little_bytes 4 n ++ rest) ≡ n
+again n rest h = little_number-reads_back 4 n rest (omega arith)
+
+byte_is : (place n : ℕ) → byte_at place n ≡ n / 256 ^ place % 256
+byte_is place n = omega (arith, little_from-bytes 1 place n [])
+
+-- no check of all entries fails
+decoded_is : (entry : List ℕ) (opcode : Opcode) → opcode_of (slice_index entry 0) ≡ Some opcode → fuse_of entry ≡ 0 → namespace_of entry ≡ 1
+    → decoded entry ≡ allowed (first_refused (field_checks opcode entry)) (command_of opcode entry)
+decoded_is entry opcode is_opcode is_fuse is_namespace =
+    let checks = first_refused (field_checks opcode entry) in
+    ap (λ (found : Option Opcode). decoded_by found entry) is_opcode
+    ∙ (ap (λ (n : ℕ). allowed (or_else (demand (n == 0) INVALID_FIELD_IN_COMMAND) (or_else (demand (namespace_of entry == 1) INVALID_NAMESPACE_OR_FORMAT) checks)) (command_of opcode entry)) is_fuse
+    ∙ ap (λ (n : ℕ). allowed (or_else (demand (n == 1) INVALID_NAMESPACE_OR_FORMAT) checks) (command_of opcode entry)) is_namespace)
+
+-- each dword fits
+pub record AreDwords (d : CommandDwords) : Type 0 where
+  pub cdw10 : d.cdw10 < 2 ^ 32
+  pub cdw11 : d.cdw11 < 2 ^ 32
+  pub cdw12 : d.cdw12 < 2 ^ 32
+  pub cdw13 : d.cdw13 < 2 ^ 32
+  pub cdw14 : d.cdw14 < 2 ^ 32
+  pub cdw15 : d.cdw15 < 2 ^ 32
+
+bytes_have : (first code cid : ℕ) (opcode : Opcode) (d : CommandDwords) → first ≡ code + cid * 2 ^ 16 → code < 2 ^ 8 → cid < 2 ^ 16 → opcode_of code ≡ Some opcode → AreDwords d
+    → HasFields (bytes_of first d) opcode cid d
+bytes_have first code cid opcode d is_first byte half is_opcode fit =
+    let entry = bytes_of first d in
+    let lowest : slice_index entry 0 ≡ code = byte_is 0 first ∙ omega arith in
+    let second : fuse_of entry ≡ 0 = ap (λ (n : ℕ). n % 4) (byte_is 1 first) ∙ omega arith in
+    let high : identifier_of entry ≡ cid = little_from-bytes 2 2 first (drop 4 entry) ∙ omega arith in
+    record {
+      command = decoded_is entry opcode (ap opcode_of lowest ∙ is_opcode) second (again 1 (drop 8 entry) (omega arith));
+      identifier = high;
+      cdw10 = again d.cdw10 (drop 44 entry) fit.cdw10;
+      cdw11 = again d.cdw11 (drop 48 entry) fit.cdw11;
+      cdw12 = again d.cdw12 (drop 52 entry) fit.cdw12;
+      cdw13 = again d.cdw13 (drop 56 entry) fit.cdw13;
+      cdw14 = again d.cdw14 (drop 60 entry) fit.cdw14;
+      cdw15 = again d.cdw15 [] fit.cdw15;
+      low_half = little_from-bytes 2 0 d.cdw12 (drop 50 entry) ∙ omega arith;
+      third_byte = byte_is 2 d.cdw12;
+      first_of_13 = byte_is 0 d.cdw13 ∙ omega arith;
+      second_of_13 = byte_is 1 d.cdw13;
+      third_of_13 = byte_is 2 d.cdw13;
+    }
+
+pub dwords_have : (entry : List ℕ) (first code cid : ℕ) (opcode : Opcode) (d : CommandDwords) → entry ≡ bytes_of first d → first ≡ code + cid * 2 ^ 16 → code < 2 ^ 8 → cid < 2 ^ 16 → opcode_of code ≡ Some opcode → AreDwords d
+    → HasFields entry opcode cid d
+dwords_have entry first code cid opcode d is is_first byte half is_opcode fit =
+    subst (λ (e : List ℕ). HasFields e opcode cid d) (sym is) (bytes_have first code cid opcode d is_first byte half is_opcode fit)

@@ -1,0 +1,102 @@
+//! Reports of zones, as a host reads them.
+
+ghost use Rattle.std.specs.Prelude.{◌≡◌, ◌<◌, ◌+◌, ◌/◌, ◌%◌, ◌^◌, ℕ, IfSome};
+ghost use Rattle.zone_state.specs.Zone.{ZoneRecord};
+ghost use Rattle.nvme_entry.specs.Report.{descriptor};
+ghost use Rattle.nvme_entry.specs.Laws.{number_in};
+ghost use Rattle.nvme_entry.specs.Descriptor.{first_word, descriptor_bytes, described, word_in, descriptor_in};
+
+use byteorder::{ByteOrder, LittleEndian};
+use zone_state::ZoneState;
+
+/// The zone descriptor of a report (ZNS 1.1, 3.4.2), of the zone type Sequential Write Required and without attributes.
+#[derive(Clone, Copy, Debug, PartialEq, Eq)]
+pub struct ZoneDescriptor {
+    /// The zone's state.
+    pub state: ZoneState,
+    /// The number of its blocks that can be written.
+    pub capacity: u64,
+    /// Its lowest logical block address.
+    pub lowest: u64,
+    /// The logical block address of its write pointer; all bits are set where it has none (profile).
+    pub write_pointer: u64,
+}
+
+impl ZoneDescriptor {
+    /// The descriptor that 64 bytes spell. `None` where no zone's descriptor has them.
+    pub fn decode(bytes: &[u8; 64]) -> Option<ZoneDescriptor>
+        ensures spelled { IfSome result (λ found. bytes.now ≡ descriptor_bytes found) }
+        ensures read_back { (zone : ZoneRecord) (lowest : ℕ) → zone.capacity < 2 ^ 64 → lowest + zone.written < 2 ^ 64 → bytes.now ≡ descriptor zone lowest → result ≡ Some (described zone lowest) }
+    {
+        let found = fields(bytes)?;
+        if found.encode() == *bytes {
+            Some(found)
+        } else {
+            None
+        }
+    }
+
+    /// The 64 bytes of the descriptor.
+    fn encode(&self) -> [u8; 64]
+        ensures { result ≡ descriptor_bytes self.now }
+    {
+        let mut bytes = [0; 64];
+        LittleEndian::write_u64_into(
+            &[
+                first_word(self.state),
+                self.capacity,
+                self.lowest,
+                self.write_pointer,
+                0,
+                0,
+                0,
+                0,
+            ],
+            &mut bytes,
+        );
+        bytes
+    }
+}
+
+/// The number of zones that the header of a report tells: of those whose descriptors are given, or of all that match
+/// (ZNS 1.1, 3.4.2).
+pub fn zones_told(header: &[u8; 64]) -> u64
+    ensures { result ≡ number_in header.now }
+{
+    LittleEndian::read_u64(header)
+}
+
+/// The first 8 bytes of the descriptor of a zone in this state.
+fn first_word(state: ZoneState) -> u64
+    ensures { result ≡ first_word state }
+{
+    0x02 + 0x1000 * u64::from(state.code())
+}
+
+/// The fields of a descriptor, where its state is one.
+fn fields(bytes: &[u8; 64]) -> Option<ZoneDescriptor>
+    ensures { result ≡ descriptor_in bytes.now }
+{
+    let state = ZoneState::from_code(state_code(word(bytes, 0)))?;
+    Some(ZoneDescriptor {
+        state,
+        capacity: word(bytes, 1),
+        lowest: word(bytes, 2),
+        write_pointer: word(bytes, 3),
+    })
+}
+
+/// The state's code in the first 8 bytes of a descriptor.
+fn state_code(first: u64) -> u8
+    ensures { result ≡ first / 2 ^ 12 % 2 ^ 4 }
+{
+    ((first >> 12) % 0x10) as u8
+}
+
+/// The 8 bytes with this number.
+fn word(bytes: &[u8; 64], number: usize) -> u64
+    requires { number < 8 }
+    ensures { result ≡ word_in bytes.now number }
+{
+    LittleEndian::read_u64(&bytes[8 * number..])
+}
