@@ -1,4 +1,5 @@
 pub mod Blanks
+pub mod Excerpts
 pub mod LineLemmas
 pub mod NumberLemmas
 pub mod PartLemmas

@@ -1,6 +1,6 @@
 //! The lines of a text.
 
-ghost use Rattle.std.specs.Prelude.{◌≡◌, ◌<◌, ◌∷◌, length};
+ghost use Rattle.std.specs.Prelude.{◌≡◌, ◌<◌, ◌∷◌, length, slice_get, option_copied};
 ghost use Rattle.std.specs.List.{list_all};
 ghost use Rattle.std.specs.Char.{is_ascii};
 ghost use Rattle.std.specs.Str.Lines.{lines as text_lines, strip_carriage_return};
@@ -18,6 +18,23 @@ pub fn first_line(text: &[u8]) -> (&[u8], &[u8])
         Some((line, behind)) => (without_return(line), behind),
         None => text.split_at(text.len()),
     }
+}
+
+/// The line behind so many lines of a text, where there is one.
+pub fn line_behind(text: &[u8], lines: usize) -> Option<&[u8]>
+    ensures { option_copied result ≡ slice_get (text_lines text.now) lines }
+{
+    let mut rest = text;
+    let mut before = lines;
+    while !rest.is_empty() {
+        let (line, behind) = first_line(rest);
+        if before == 0 {
+            return Some(line);
+        }
+        rest = behind;
+        before -= 1;
+    }
+    None
 }
 
 /// A line without the carriage return at its end.

@@ -1,0 +1,69 @@
+//! The beginning of a text, kept to be shown.
+
+ghost use Rattle.std.specs.Prelude.{◌≡◌, ◌<◌, ◌↔◌, length, take, IsTrue};
+
+use std::fmt;
+
+/// The most bytes of an excerpt.
+const MOST: usize = 40;
+
+/// The first bytes of a text, at most 40, which a sentence shows when the text itself is gone.
+///
+/// It is shown on one line between quotation marks: what is not printable ASCII as Rust escapes it, and `..`
+/// behind the last mark where the text goes on.
+#[derive(Clone, Copy, Debug, PartialEq, Eq)]
+pub struct Excerpt {
+    bytes: [u8; MOST],
+    kept: usize,
+    goes_on: bool,
+}
+
+impl Excerpt {
+    /// The excerpt of a text.
+    pub fn of(text: &[u8]) -> Excerpt
+        ensures first { take result.kept result.bytes ≡ take 40 text.now }
+        ensures rest { IsTrue result.goes_on ↔ (40 < length text.now) }
+    {
+        let kept = MOST.min(text.len());
+        let mut bytes = [0; MOST];
+        bytes[..kept].copy_from_slice(&text[..kept]);
+        Excerpt {
+            bytes,
+            kept,
+            goes_on: MOST < text.len(),
+        }
+    }
+}
+
+impl fmt::Display for Excerpt {
+    fn fmt<W: fmt::Write>(&self, f: &mut fmt::Formatter<W>) -> fmt::Result {
+        let behind = if self.goes_on { ".." } else { "" };
+        let kept = self.bytes.get(..self.kept).unwrap_or(&self.bytes);
+        write!(f, "\"{}\"{behind}", kept.escape_ascii())
+    }
+}
+
+#[cfg(test)]
+mod tests {
+    use super::*;
+    use std::test::Fail;
+
+    #[test]
+    fn an_excerpt_is_shown(rt: HostRuntime) -> Result<(), Fail> {
+        let alloc = rt.alloc();
+        let shown = |text: &[u8]| format!(in alloc; "{}", Excerpt::of(text));
+        assert_eq!(rt; shown(b"trun 0")?.as_str(), "\"trun 0\"");
+        assert_eq!(rt; shown(b"")?.as_str(), "\"\"");
+        assert_eq!(rt; shown(b"a\t\"\xc3")?.as_str(), "\"a\\t\\\"\\xc3\"");
+        let digits = b"0123456789012345678901234567890123456789x";
+        assert_eq!(rt;
+            shown(&digits[..40])?.as_str(),
+            "\"0123456789012345678901234567890123456789\""
+        );
+        assert_eq!(rt;
+            shown(digits)?.as_str(),
+            "\"0123456789012345678901234567890123456789\".."
+        );
+        Ok(())
+    }
+}
