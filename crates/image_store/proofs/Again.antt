@@ -1,5 +1,5 @@
 -- The text of a namespace is read as that namespace.
-use Rattle.std.proofs.Common.{◌≡◌, ℕ, ◌*◌, ◌^◌, ◌<◌, zero, suc, Bool, true, cond, List, [], ◌∷◌, ◌++◌, length, get_or, map, drop, Some, Result, Ok, Err, refl, ap, sym, subst, ◌∙◌, append_assoc, arith, length-append}
+use Rattle.std.proofs.Common.{◌≡◌, ℕ, ◌+◌, ◌*◌, ◌^◌, ◌<◌, zero, suc, Bool, true, cond, List, [], ◌∷◌, ◌++◌, length, get_or, map, drop, Some, Result, Ok, Err, refl, ap, sym, subst, ◌∙◌, append_assoc, arith, length-append}
 use Rattle.std.proofs.lemmas.Bool.{le-leb, lt-ltb}
 use Rattle.std.proofs.lemmas.List.{append-nil, take_at, drop_at, length-map}
 use Rattle.std.proofs.Math.Nat.{suc-mul}
@@ -12,11 +12,12 @@ use Rattle.zone_resources.specs.Counts.{open_count, active_count}
 use Rattle.zone_resources.specs.declared.admission.Limits.{Limits}
 use Rattle.image_store.specs.declared.fault.LoadFault.{LoadFault}
 use Rattle.image_store.specs.declared.fault.LoadFault.TheVariants as fault
+use Rattle.image_store.specs.declared.fault.RecordFault.TheVariants as record_fault
 use Rattle.image_store.specs.Blocks.{blocks_of, bytes_of}
 use Rattle.image_store.specs.Flat.{no_record, zone_seen}
 use Rattle.image_store.specs.Geometry.{Shape}
 use Rattle.image_store.specs.Namespace.{ZoneBlocks, ZonedNamespace, no_zone, counted, records, shape, IsNamespace}
-use Rattle.image_store.specs.Reading.{◌>>=◌, allows, zone_with, zone_in, zones_in, records_in, limits_kept, blocks_in, namespace_in}
+use Rattle.image_store.specs.Reading.{◌>>=◌, allows, zone_told, zone_in, zones_in, records_in, limits_kept, blocks_in, namespace_in}
 use Rattle.image_store.specs.Text.{record_text, records_text, blocks_text, text}
 use Rattle.image_store.proofs.Fills.{Split, bytes_whole}
 use Rattle.image_store.proofs.Headers.{word_again, header_read}
@@ -48,21 +49,21 @@ pub record CanSpell (capacity : ℕ) (z : ZoneRecord) : Type 0 where
   pub fits : IsZone z.state z.written capacity
   pub small : capacity < 2 ^ 32
 
-record_again : (capacity : ℕ) (z : ZoneRecord) → CanSpell capacity z → zone_in capacity (record_text z) ≡ Ok z
-record_again capacity z can =
+record_again : (zone capacity : ℕ) (z : ZoneRecord) → CanSpell capacity z → zone_in zone capacity (record_text z) ≡ Ok z
+record_again zone capacity z can =
     let most = within_capacity z.state z.written capacity can.fits in
     let small = can.small in
     let number = word_again z.written [] (omega arith) in
-    ap (λ (n : ℕ). zone_with (state_of (code_of z.state)) n capacity) number
-    ∙ (ap (λ state. zone_with state z.written capacity) (code_again z.state)
-    ∙ (ap (λ (test : Bool). let r : Result ZoneRecord LoadFault = cond test (Ok (record { state = z.state; written = z.written; capacity = capacity })) (Err fault.ZoneRecord) in r) (allows_true z.state z.written capacity can.fits)
+    ap (λ (n : ℕ). zone_told zone (code_of z.state) (state_of (code_of z.state)) n capacity) number
+    ∙ (ap (λ state. zone_told zone (code_of z.state) state z.written capacity) (code_again z.state)
+    ∙ (ap (λ (test : Bool). let r : Result ZoneRecord LoadFault = cond test (Ok (record { state = z.state; written = z.written; capacity = capacity })) (Err (fault.ZoneRecord zone (record_fault.Blocks z.state z.written capacity))) in r) (allows_true z.state z.written capacity can.fits)
     ∙ ap (λ (n : ℕ). let same : ZoneRecord = record { state = z.state; written = z.written; capacity = n } in let r : Result ZoneRecord LoadFault = Ok same in r) (sym can.same)))
 
-records_again : (capacity : ℕ) (zs : List ZoneRecord) → ((k : ℕ) → k < length zs → CanSpell capacity (get_or zs k no_record)) → zones_in capacity (length zs) (records_text zs) ≡ Ok zs
-records_again capacity [] can = refl
-records_again capacity (z ∷ zs) can =
-    ap (λ (r : Result ZoneRecord LoadFault). r >>= λ first. zones_in capacity (length zs) (records_text zs) >>= λ more. Ok (first ∷ more)) (record_again capacity z (can 0 (omega arith)))
-    ∙ ap (λ (r : Result (List ZoneRecord) LoadFault). r >>= λ more. Ok (z ∷ more)) (records_again capacity zs (λ k h. can (suc k) (omega arith)))
+records_again : (zone capacity : ℕ) (zs : List ZoneRecord) → ((k : ℕ) → k < length zs → CanSpell capacity (get_or zs k no_record)) → zones_in zone capacity (length zs) (records_text zs) ≡ Ok zs
+records_again zone capacity [] can = refl
+records_again zone capacity (z ∷ zs) can =
+    ap (λ (r : Result ZoneRecord LoadFault). r >>= λ first. zones_in (zone + 1) capacity (length zs) (records_text zs) >>= λ more. Ok (first ∷ more)) (record_again zone capacity z (can 0 (omega arith)))
+    ∙ ap (λ (r : Result (List ZoneRecord) LoadFault). r >>= λ more. Ok (z ∷ more)) (records_again (zone + 1) capacity zs (λ k h. can (suc k) (omega arith)))
 
 pub length-records : (zs : List ZoneRecord) → length (records_text zs) ≡ length zs * 8
 length-records [] = refl
@@ -71,9 +72,9 @@ length-records (z ∷ zs) = omega (arith, length-records zs, suc-mul (length zs)
 pub records_read : (s : Shape) (zs : List ZoneRecord) (rest : List ℕ) → length zs ≡ s.zones → ((k : ℕ) → k < length zs → CanSpell s.capacity (get_or zs k no_record))
     → records_in s (records_text zs ++ rest) ≡ Ok (zs, rest)
 records_read s zs rest count can =
-    ap (λ (r : Result Split LoadFault). r >>= λ front. zones_in s.capacity s.zones front.0 >>= λ all. Ok (all, front.1)) (bytes_whole (s.zones * 8) (records_text zs) rest (length-records zs ∙ ap (λ (n : ℕ). n * 8) count))
-    ∙ (ap (λ (n : ℕ). zones_in s.capacity n (records_text zs) >>= λ all. Ok (all, rest)) (sym count)
-    ∙ ap (λ (r : Result (List ZoneRecord) LoadFault). r >>= λ all. Ok (all, rest)) (records_again s.capacity zs can))
+    ap (λ (r : Result Split LoadFault). r >>= λ front. zones_in 0 s.capacity s.zones front.0 >>= λ all. Ok (all, front.1)) (bytes_whole (s.zones * 8) (records_text zs) rest (length-records zs ∙ ap (λ (n : ℕ). n * 8) count))
+    ∙ (ap (λ (n : ℕ). zones_in 0 s.capacity n (records_text zs) >>= λ all. Ok (all, rest)) (sym count)
+    ∙ ap (λ (r : Result (List ZoneRecord) LoadFault). r >>= λ all. Ok (all, rest)) (records_again 0 s.capacity zs can))
 
 pub limits_read : (limits : Limits) (zs : List ZoneRecord) → IsWithin zs limits → limits_kept limits zs ≡ Ok tt
 limits_read limits zs within = rw (le-leb (open_count zs) limits.open_limit within.opened, le-leb (active_count zs) limits.active_limit within.active) refl

@@ -11,8 +11,8 @@ fails_then wanted may Device read next up h = tt
 fails_then wanted may Memory read next up h = up h
 fails_then wanted may Truncated read next up h = ap (λ r. r >>= next) h
 fails_then wanted may Magic read next up h = ap (λ r. r >>= next) h
-fails_then wanted may Geometry read next up h = ap (λ r. r >>= next) h
-fails_then wanted may ZoneRecord read next up h = ap (λ r. r >>= next) h
+fails_then wanted may (Geometry first) read next up h = ap (λ r. r >>= next) h
+fails_then wanted may (ZoneRecord zone first) read next up h = ap (λ r. r >>= next) h
 fails_then wanted may Limits read next up h = ap (λ r. r >>= next) h
 fails_then wanted may Trailing read next up h = ap (λ r. r >>= next) h
 
@@ -29,10 +29,10 @@ fails_before Truncated (Ok x) f h = absurd cc
 fails_before Truncated (Err first) f h = cc
 fails_before Magic (Ok x) f h = absurd cc
 fails_before Magic (Err first) f h = cc
-fails_before Geometry (Ok x) f h = absurd cc
-fails_before Geometry (Err first) f h = cc
-fails_before ZoneRecord (Ok x) f h = absurd cc
-fails_before ZoneRecord (Err first) f h = cc
+fails_before (Geometry why) (Ok x) f h = absurd cc
+fails_before (Geometry why) (Err first) f h = cc
+fails_before (ZoneRecord zone why) (Ok x) f h = absurd cc
+fails_before (ZoneRecord zone why) (Err first) f h = cc
 fails_before Limits (Ok x) f h = absurd cc
 fails_before Limits (Err first) f h = cc
 fails_before Trailing (Ok x) f h = absurd cc

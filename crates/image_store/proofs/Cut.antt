@@ -95,7 +95,7 @@ past_cut_records ns sound n h =
     let last = blocks_text ns.zones in
     let size : length front ≡ s.zones * 8 = length-records (records ns) ∙ ap (λ (k : ℕ). k * 8) (length-map ns.zones (counted ns.capacity)) in
     let zones : Result Split LoadFault → Result (List ZoneRecord × List ℕ) LoadFault =
-    λ r. r >>= λ part. zones_in s.capacity s.zones part.0 >>= λ zs. Ok (zs, part.1) in
+    λ r. r >>= λ part. zones_in 0 s.capacity s.zones part.0 >>= λ zs. Ok (zs, part.1) in
     elim (leb_tells (length front) n) [
       | inl there ↦
           ap (after_header s) (cut_behind front last n there.1)

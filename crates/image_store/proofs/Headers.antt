@@ -1,18 +1,18 @@
 -- The header of a shape is read as that shape.
-use Rattle.std.proofs.Common.{◌≡◌, ℕ, ◌*◌, ◌^◌, ◌<◌, ◌≤◌, Bool, true, List, [], ◌∷◌, ◌++◌, drop, Result, Ok, is_ok, refl, ap, ◌∙◌, arith}
+use Rattle.std.proofs.Common.{◌≡◌, ℕ, ◌*◌, ◌^◌, ◌<◌, ◌≤◌, Bool, true, List, [], ◌∷◌, ◌++◌, drop, Option, Some, None, Result, Ok, refl, ap, ◌∙◌, arith}
 use Rattle.std.proofs.lemmas.Bool.{le-leb}
 use Rattle.std.proofs.Math.Nat.{mul_assoc}
 use Rattle.byteorder.specs.Endian.{little_number}
 use Rattle.byteorder.specs.Numbers.{little_number-reads_back}
 use Rattle.program_interface.specs.BlockSize.{IsBlockSize}
 use Rattle.image_store.specs.declared.fault.LoadFault.{LoadFault}
-use Rattle.image_store.specs.declared.fault.LoadFault.TheVariants as fault
 use Rattle.image_store.specs.declared.geometry.GeometryFault.{GeometryFault}
-use Rattle.image_store.specs.Geometry.{Shape, IsShape, shape_of, is_counted, are_limits, tested}
-use Rattle.image_store.specs.Checks.{first_fault, unless_fault, demand}
+use Rattle.image_store.specs.Geometry.{Shape, IsShape, shape_of, is_counted, are_limits, shape_checks, tested}
+use Rattle.image_store.specs.Checks.{first_fault, unless_fault}
 use Rattle.image_store.specs.Reading.{◌>>=◌, are_zeros, shape_in, shape_told, header_in}
 use Rattle.image_store.specs.Text.{word, header, is_version_1_block}
 use Rattle.image_store.proofs.Fills.{Split, bytes_whole}
+use Rattle.image_store.proofs.HeaderTests.{decide}
 
 pub word_again : (n : ℕ) (rest : List ℕ) → n < 2 ^ 32 → little_number 4 (word n ++ rest) ≡ n
 word_again n rest h = little_number-reads_back 4 n rest (omega arith)
@@ -53,11 +53,16 @@ told s known =
 in_version_1 : (bytes : ℕ) → IsBlockSize bytes → is_version_1_block bytes ≡ true
 in_version_1 bytes known = known
 
+none_fails : (check : Option GeometryFault) (s : Shape) → unless_fault check s ≡ Ok s → check ≡ None
+none_fails None s e = refl
+none_fails (Some first) s e = absurd cc
+
 header_again : (s : Shape) → IsShape s → shape_in (header s) ≡ Ok s
 header_again s known =
-    ap (λ (x : Shape). let r : Result Shape LoadFault = unless_fault (first_fault (demand (is_version_1_block x.block) fault.Geometry ∷ demand (is_ok (tested x)) fault.Geometry ∷ demand (are_zeros (drop 32 (header s))) fault.Geometry ∷ [])) x in r) (told s known)
-    ∙ (ap (λ (r : Result Shape GeometryFault). let all : Result Shape LoadFault = unless_fault (first_fault (demand (is_version_1_block s.block) fault.Geometry ∷ demand (is_ok r) fault.Geometry ∷ [])) s in all) (shape_passes s known)
-    ∙ ap (λ (size : Bool). let all : Result Shape LoadFault = unless_fault (first_fault (demand size fault.Geometry ∷ [])) s in all) (in_version_1 s.block known.block_size))
+    let zeros = are_zeros (drop 32 (header s)) in
+    ap (λ (x : Shape). decide true (is_version_1_block x.block) (first_fault (shape_checks x)) zeros x) (told s known)
+    ∙ (ap (λ (check : Option GeometryFault). decide true (is_version_1_block s.block) check zeros s) (none_fails (first_fault (shape_checks s)) s (shape_passes s known))
+    ∙ ap (λ (size : Bool). decide true size None zeros s) (in_version_1 s.block known.block_size))
 
 -- the header in front is read
 pub header_read : (s : Shape) (rest : List ℕ) → IsShape s → header_in (header s ++ rest) ≡ Ok (s, rest)

@@ -4,7 +4,7 @@ use Rattle.std.proofs.lemmas.Bool.{leb-true, and_parts}
 use Rattle.std.proofs.lemmas.Bool.Decides.{nat_tests}
 use Rattle.std.proofs.lemmas.List.{length-map}
 use Rattle.std.proofs.Math.Nat.{mul_assoc, mul-le-mul_right, suc-mul}
-use Rattle.std.specs.Prelude.{nat_le, is_ok, ◌==◌, ◌&&◌}
+use Rattle.std.specs.Prelude.{nat_le, ◌==◌, ◌&&◌}
 use Rattle.std.specs.List.{starts_with}
 use Rattle.program_interface.specs.BlockSize.{is_block_size, IsBlockSize}
 use Rattle.zone_state.specs.Zone.{ZoneRecord, IsZone}
@@ -86,26 +86,21 @@ shape_is s t e =
       room = all;
     }
 
-tested_header : (a b d : Bool) (told s : Shape) → decide a b (is_ok (tested told)) d told ≡ Ok s → (is_ok (tested told) ≡ true) × (told ≡ s)
-tested_header true true true told s e = let P : Bool → Type 0 = λ test. decide true true test true told ≡ Ok s → (test ≡ true) × (told ≡ s) in
-    elim (is_ok (tested told)) as P [ true ↦ λ same. (refl, ok_is told s same) | false ↦ λ no. absurd cc ] e
-tested_header false b d told s e = absurd cc
-tested_header true false d told s e = absurd cc
-tested_header true true false told s e = let P : Bool → Type 0 = λ test. decide true true test false told ≡ Ok s → (test ≡ true) × (told ≡ s) in
-    elim (is_ok (tested told)) as P [ true ↦ λ no. absurd cc | false ↦ λ no. absurd cc ] e
-
-passes : (check : Option GeometryFault) (s : Shape) → is_ok (unless_fault check s) ≡ true → unless_fault check s ≡ Ok s
-passes None s e = refl
-passes (Some first) s e = absurd cc
+tested_header : (a b : Bool) (check : Option GeometryFault) (d : Bool) (told s : Shape) → decide a b check d told ≡ Ok s → (check ≡ None) × (told ≡ s)
+tested_header true true None true told s e = (refl, ok_is told s e)
+tested_header false b check d told s e = absurd cc
+tested_header true false check d told s e = absurd cc
+tested_header true true (Some first) d told s e = absurd cc
+tested_header true true None false told s e = absurd cc
 
 header_shape : (bytes rest : List ℕ) (s : Shape) → header_in bytes ≡ Ok (s, rest) → IsShape s
 header_shape bytes rest s e =
     let a = bind_ok (bytes_in 64 bytes) (λ front. shape_in front.0 >>= λ told. Ok (told, front.1)) (s, rest) e in
     let b = bind_ok (shape_in a.0.0) (λ told. Ok (told, a.0.1)) (s, rest) a.2 in
     let told = shape_told a.0.0 in
-    let tests = tested_header (starts_with (λ x y. x == y) a.0.0 magic) (is_version_1_block (number_at a.0.0 8)) (are_zeros (drop 32 a.0.0)) told b.0 b.1 in
+    let tests = tested_header (starts_with (λ x y. x == y) a.0.0 magic) (is_version_1_block (number_at a.0.0 8)) (first_fault (shape_checks told)) (are_zeros (drop 32 a.0.0)) told b.0 b.1 in
     let same : b.0 ≡ s = ap (λ (x : Shape × List ℕ). x.0) (ok_is (b.0, a.0.1) (s, rest) b.2) in
-    subst IsShape (tests.1 ∙ same) (shape_is told told (passes (first_fault (shape_checks told)) told tests.0))
+    subst IsShape (tests.1 ∙ same) (shape_is told told (ap (λ (check : Option GeometryFault). unless_fault check told) tests.0))
 
 -- zones of whole blocks
 record AreWhole (block : ℕ) (zones : List ZoneBlocks) : Type 0 where
@@ -171,9 +166,9 @@ record AreAllowed (s : Shape) (zs : List ZoneRecord) : Type 0 where
 
 records_allowed : (s : Shape) (bytes : List ℕ) (got : List ZoneRecord × List ℕ) → IsShape s → records_in s bytes ≡ Ok got → AreAllowed s got.0
 records_allowed s bytes got known e =
-    let r = bind_ok (bytes_in (s.zones * 8) bytes) (λ front. zones_in s.capacity s.zones front.0 >>= λ all. Ok (all, front.1)) got e in
-    let q = bind_ok (zones_in s.capacity s.zones r.0.0) (λ all. Ok (all, r.0.1)) got r.2 in
-    let fit = zones_fit s.capacity s.zones r.0.0 q.0 known.capacity_some q.1 in
+    let r = bind_ok (bytes_in (s.zones * 8) bytes) (λ front. zones_in 0 s.capacity s.zones front.0 >>= λ all. Ok (all, front.1)) got e in
+    let q = bind_ok (zones_in 0 s.capacity s.zones r.0.0) (λ all. Ok (all, r.0.1)) got r.2 in
+    let fit = zones_fit 0 s.capacity s.zones r.0.0 q.0 known.capacity_some q.1 in
     subst (λ (x : List ZoneRecord × List ℕ). AreAllowed s x.0) (ok_is (q.0, r.0.1) got q.2) (record {
       count = fit.count;
       each = λ k h. (fit.each k h).1;

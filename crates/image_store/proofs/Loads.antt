@@ -1,5 +1,5 @@
 -- One part of an image read after another.
-use Rattle.std.proofs.Common.{◌≡◌, ℕ, ◌<◌, ◌≤◌, zero, suc, true, List, [], ◌∷◌, length, get_or, take, drop, Option, Some, None, Result, Ok, Err, refl, ap, sym, subst, arith}
+use Rattle.std.proofs.Common.{◌≡◌, ℕ, ◌+◌, ◌<◌, ◌≤◌, zero, suc, true, List, [], ◌∷◌, length, get_or, take, drop, Option, Some, None, Result, Ok, Err, refl, ap, sym, subst, arith}
 use Rattle.std.specs.Prelude.{IfOk, IsOk, nat_le, nat_lt}
 use Rattle.std.proofs.lemmas.Bool.{leb-true, ltb-true, eqb-true, and_parts}
 use Rattle.zone_state.specs.declared.state.ZoneState.{ZoneState}
@@ -8,11 +8,12 @@ use Rattle.zone_state.specs.State.{state_of}
 use Rattle.zone_state.specs.Zone.{ZoneRecord, IsZone}
 use Rattle.image_store.specs.declared.fault.LoadFault.{LoadFault}
 use Rattle.image_store.specs.declared.fault.LoadFault.TheVariants as fault
+use Rattle.image_store.specs.declared.fault.RecordFault.TheVariants as record_fault
 use Rattle.image_store.specs.Flat.{no_record}
 use Rattle.image_store.specs.Geometry.{Shape, IsShape}
 use Rattle.image_store.specs.Loading.{Fails, Gives, NoDeviceFails, AreZones}
 use Rattle.image_store.specs.Namespace.{ZoneBlocks, ZonedNamespace}
-use Rattle.image_store.specs.Reading.{◌>>=◌, are_zeros, number_at, allows, bytes_in, shape_in, header_in, zone_with, zone_in, zones_in, records_in, limits_kept, blocks_in, end_in, namespace_with, namespace_in}
+use Rattle.image_store.specs.Reading.{◌>>=◌, are_zeros, number_at, allows, bytes_in, shape_in, header_in, zone_told, zone_in, zones_in, records_in, limits_kept, blocks_in, end_in, namespace_with, namespace_in}
 use Rattle.image_store.proofs.Answered.{bind_ok, ok_is, chosen, passed, fails_then}
 use Rattle.image_store.proofs.Faults.{no_device, fails_text, header_text_fault}
 use Rattle.image_store.proofs.Fills.{Split}
@@ -45,17 +46,19 @@ allows_zone ReadOnly written capacity some h = (some, leb-true written capacity 
 allows_zone Full written capacity some h = (some, leb-true written capacity h)
 allows_zone Offline written capacity some h = (some, eqb-true written 0 h)
 
-with_fits : (told : Option ZoneState) (written capacity : ℕ) (z : ZoneRecord) → 1 ≤ capacity → zone_with told written capacity ≡ Ok z → (z.capacity ≡ capacity) × IsZone z.state z.written capacity
-with_fits None written capacity z some e = absurd cc
-with_fits (Some state) written capacity z some e =
+with_fits : (zone code : ℕ) (told : Option ZoneState) (written capacity : ℕ) (z : ZoneRecord) → 1 ≤ capacity → zone_told zone code told written capacity ≡ Ok z
+    → (z.capacity ≡ capacity) × IsZone z.state z.written capacity
+with_fits zone code None written capacity z some e = absurd cc
+with_fits zone code (Some state) written capacity z some e =
     let made : ZoneRecord = record { state = state; written = written; capacity = capacity } in
-    let p = chosen (allows state written capacity) made z fault.ZoneRecord e in
+    let p = chosen (allows state written capacity) made z (fault.ZoneRecord zone (record_fault.Blocks state written capacity)) e in
     (sym (ap (λ (x : ZoneRecord). x.capacity) p.1), subst (λ (x : ZoneRecord). IsZone x.state x.written capacity) p.1 (allows_zone state written capacity some p.0))
 
-zone_fits : (capacity : ℕ) (bytes : List ℕ) (z : ZoneRecord) → 1 ≤ capacity → zone_in capacity bytes ≡ Ok z → (z.capacity ≡ capacity) × IsZone z.state z.written capacity
-zone_fits capacity bytes z some e =
-    with_fits (state_of (get_or bytes 0 0)) (number_at bytes 4) capacity z some
-    (passed (are_zeros (take 3 (drop 1 bytes))) (zone_with (state_of (get_or bytes 0 0)) (number_at bytes 4) capacity) z fault.ZoneRecord e).1
+zone_fits : (zone capacity : ℕ) (bytes : List ℕ) (z : ZoneRecord) → 1 ≤ capacity → zone_in zone capacity bytes ≡ Ok z → (z.capacity ≡ capacity) × IsZone z.state z.written capacity
+zone_fits zone capacity bytes z some e =
+    let code = get_or bytes 0 0 in
+    with_fits zone code (state_of code) (number_at bytes 4) capacity z some
+    (passed (are_zeros (take 3 (drop 1 bytes))) (zone_told zone code (state_of code) (number_at bytes 4) capacity) z (fault.ZoneRecord zone record_fault.Reserved) e).1
 
 -- the zones of records, as many as were wanted
 pub record HaveFit (capacity n : ℕ) (zs : List ZoneRecord) : Type 0 where
@@ -68,19 +71,19 @@ fit_more : (capacity : ℕ) (z : ZoneRecord) (zs : List ZoneRecord) → (z.capac
 fit_more capacity z zs first more zero h = first
 fit_more capacity z zs first more (suc k) h = more k (omega arith)
 
-pub zones_fit : (capacity n : ℕ) (bytes : List ℕ) (zs : List ZoneRecord) → 1 ≤ capacity → zones_in capacity n bytes ≡ Ok zs → HaveFit capacity n zs
-zones_fit capacity zero bytes zs some e = subst (HaveFit capacity 0) (ok_is [] zs e) (record { count = refl; each = λ k h. absurd (omega arith) })
-zones_fit capacity (suc n) bytes zs some e =
-    let a = bind_ok (zone_in capacity (take 8 bytes)) (λ z. zones_in capacity n (drop 8 bytes) >>= λ more. Ok (z ∷ more)) zs e in
-    let b = bind_ok (zones_in capacity n (drop 8 bytes)) (λ more. Ok (a.0 ∷ more)) zs a.2 in
-    let first = zone_fits capacity (take 8 bytes) a.0 some a.1 in
-    let more = zones_fit capacity n (drop 8 bytes) b.0 some b.1 in
+pub zones_fit : (zone capacity n : ℕ) (bytes : List ℕ) (zs : List ZoneRecord) → 1 ≤ capacity → zones_in zone capacity n bytes ≡ Ok zs → HaveFit capacity n zs
+zones_fit zone capacity zero bytes zs some e = subst (HaveFit capacity 0) (ok_is [] zs e) (record { count = refl; each = λ k h. absurd (omega arith) })
+zones_fit zone capacity (suc n) bytes zs some e =
+    let a = bind_ok (zone_in zone capacity (take 8 bytes)) (λ z. zones_in (zone + 1) capacity n (drop 8 bytes) >>= λ more. Ok (z ∷ more)) zs e in
+    let b = bind_ok (zones_in (zone + 1) capacity n (drop 8 bytes)) (λ more. Ok (a.0 ∷ more)) zs a.2 in
+    let first = zone_fits zone capacity (take 8 bytes) a.0 some a.1 in
+    let more = zones_fit (zone + 1) capacity n (drop 8 bytes) b.0 some b.1 in
     subst (HaveFit capacity (suc n)) (ok_is (a.0 ∷ b.0) zs b.2) (record { count = ap suc more.count; each = fit_more capacity a.0 b.0 first more.each })
 
 pub records_fit : {X : Type 0} (view : X → List ZoneRecord) (s : Shape) (result : Result X LoadFault) (bytes : List ℕ) → IsShape s
-    → Gives (Unit {0}) view result (zones_in s.capacity s.zones bytes) → IfOk result (λ x. AreZones s (view x))
+    → Gives (Unit {0}) view result (zones_in 0 s.capacity s.zones bytes) → IfOk result (λ x. AreZones s (view x))
 records_fit view s (Ok x) bytes known e =
-    let fit = zones_fit s.capacity s.zones bytes (view x) known.capacity_some e in
+    let fit = zones_fit 0 s.capacity s.zones bytes (view x) known.capacity_some e in
     λ room size. record {
       shape = known;
       count = fit.count;

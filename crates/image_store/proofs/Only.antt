@@ -1,20 +1,23 @@
 -- What is read as a namespace is that namespace's text.
-use Rattle.std.proofs.Common.{◌≡◌, ℕ, ◌*◌, ◌<◌, ◌≤◌, zero, suc, Bool, true, false, cond, List, [], ◌∷◌, ◌++◌, length, get_or, map, take, drop, Option, Some, None, Ok, refl, ap, sym, subst, ◌∙◌, append_assoc, arith, length-drop}
+use Rattle.std.proofs.Common.{◌≡◌, ℕ, ◌+◌, ◌*◌, ◌<◌, ◌≤◌, zero, suc, Bool, true, false, cond, List, [], ◌∷◌, ◌++◌, length, get_or, map, take, drop, Option, Some, None, Ok, refl, ap, sym, subst, ◌∙◌, append_assoc, arith, length-drop}
 use Rattle.std.proofs.lemmas.Bool.{eqb-true}
 use Rattle.std.proofs.lemmas.List.{append-nil, drop_all, length-map, length-take-le, nil_from_length, take_all, take-append-drop}
 use Rattle.std.proofs.Math.Nat.{suc-mul}
 use Rattle.std.specs.List.{find, starts_with}
-use Rattle.std.specs.Prelude.{◌==◌, is_ok}
+use Rattle.std.specs.Prelude.{◌==◌}
 use Rattle.zone_state.specs.declared.state.ZoneState.{ZoneState}
 use Rattle.zone_state.specs.State.{code_of, state_of, states}
 use Rattle.zone_state.specs.Zone.{ZoneRecord}
 use Rattle.byteorder.specs.Endian.{little_number}
 use Rattle.image_store.specs.declared.fault.LoadFault.TheVariants as fault
+use Rattle.image_store.specs.declared.fault.RecordFault.TheVariants as record_fault
 use Rattle.image_store.specs.Blocks.{AreBytes, blocks_of, bytes_of}
 use Rattle.image_store.specs.Flat.{no_record, zone_seen}
-use Rattle.image_store.specs.Geometry.{Shape, tested}
+use Rattle.image_store.specs.declared.geometry.GeometryFault.{GeometryFault}
+use Rattle.image_store.specs.Checks.{first_fault}
+use Rattle.image_store.specs.Geometry.{Shape, shape_checks}
 use Rattle.image_store.specs.Namespace.{ZoneBlocks, ZonedNamespace, counted}
-use Rattle.image_store.specs.Reading.{◌>>=◌, are_zeros, number_at, shape_told, shape_in, header_in, allows, zone_with, zone_in, zones_in, records_in, limits_kept, blocks_in, end_in, namespace_with, namespace_in, bytes_in}
+use Rattle.image_store.specs.Reading.{◌>>=◌, are_zeros, number_at, shape_told, shape_in, header_in, allows, zone_told, zone_in, zones_in, records_in, limits_kept, blocks_in, end_in, namespace_with, namespace_in, bytes_in}
 use Rattle.image_store.specs.Text.{magic, is_version_1_block, word, header, record_text, records_text, blocks_text, text}
 use Rattle.image_store.proofs.Answered.{bind_ok, ok_is, chosen, passed}
 use Rattle.image_store.proofs.ByteParts.{front_fit, rest_fit}
@@ -31,12 +34,12 @@ record Passed (a d : Bool) (told s : Shape) : Type 0 where
   pub zeros : d ≡ true
   pub same : told ≡ s
 
-decided : (a b c d : Bool) (told s : Shape) → decide a b c d told ≡ Ok s → Passed a d told s
-decided true true true true told s e = record { begins = refl; zeros = refl; same = ok_is told s e }
-decided false b c d told s e = absurd cc
-decided true false c d told s e = absurd cc
-decided true true false d told s e = absurd cc
-decided true true true false told s e = absurd cc
+decided : (a b : Bool) (check : Option GeometryFault) (d : Bool) (told s : Shape) → decide a b check d told ≡ Ok s → Passed a d told s
+decided true true None true told s e = record { begins = refl; zeros = refl; same = ok_is told s e }
+decided false b check d told s e = absurd cc
+decided true false check d told s e = absurd cc
+decided true true (Some first) d told s e = absurd cc
+decided true true None false told s e = absurd cc
 
 pub header_only : (bytes : List ℕ) (s : Shape) (rest : List ℕ) → AreBytes bytes → header_in bytes ≡ Ok (s, rest) → header s ++ rest ≡ bytes
 header_only bytes s rest fit e =
@@ -45,7 +48,7 @@ header_only bytes s rest fit e =
     let parts = bytes_parts 64 bytes a.0 a.1 in
     let size = bytes_size 64 bytes a.0 a.1 in
     let front = front_fit a.0.0 a.0.1 (subst AreBytes (sym parts) fit) in
-    let tests = decided (starts_with (λ x y. x == y) a.0.0 magic) (is_version_1_block (number_at a.0.0 8)) (is_ok (tested (shape_told a.0.0))) (are_zeros (drop 32 a.0.0)) (shape_told a.0.0) b.0 b.1 in
+    let tests = decided (starts_with (λ x y. x == y) a.0.0 magic) (is_version_1_block (number_at a.0.0 8)) (first_fault (shape_checks (shape_told a.0.0))) (are_zeros (drop 32 a.0.0)) (shape_told a.0.0) b.0 b.1 in
     let spelled = header_spelled a.0.0 size front tests.begins tests.zeros in
     let both = ok_is (b.0, a.0.1) (s, rest) b.2 in
     ap (λ (x : Shape × List ℕ). header x.0 ++ x.1) (sym both)
@@ -62,24 +65,24 @@ found (x ∷ xs) n s e =
     let P : Bool → Type 0 = λ test. (code_of x == n) ≡ test → cond test (Some x) (find (λ y. code_of y == n) xs) ≡ Some s → code_of s ≡ n in
     elim (code_of x == n) as P [ true ↦ λ here same. ap code_of (sym (some_is x s same)) ∙ eqb-true (code_of x) n here | false ↦ λ here later. found xs n s later ] refl e
 
-zone_with_only : (told : Option ZoneState) (written capacity : ℕ) (z : ZoneRecord) → zone_with told written capacity ≡ Ok z
+zone_told_only : (zone code : ℕ) (told : Option ZoneState) (written capacity : ℕ) (z : ZoneRecord) → zone_told zone code told written capacity ≡ Ok z
     → (told ≡ Some z.state) × (z.written ≡ written) × (z.capacity ≡ capacity)
-zone_with_only None written capacity z e = absurd cc
-zone_with_only (Some state) written capacity z e =
+zone_told_only zone code None written capacity z e = absurd cc
+zone_told_only zone code (Some state) written capacity z e =
     let made : ZoneRecord = record { state = state; written = written; capacity = capacity } in
-    let same = (chosen (allows state written capacity) made z fault.ZoneRecord e).1 in
+    let same = (chosen (allows state written capacity) made z (fault.ZoneRecord zone (record_fault.Blocks state written capacity)) e).1 in
     (ap (λ (x : ZoneRecord). Some x.state) same, sym (ap (λ (x : ZoneRecord). x.written) same), sym (ap (λ (x : ZoneRecord). x.capacity) same))
 
 -- a record that is read is spelled so
-record_only : (capacity : ℕ) (xs : List ℕ) (z : ZoneRecord) → length xs ≡ 8 → AreBytes xs → zone_in capacity xs ≡ Ok z → (record_text z ≡ xs) × (z.capacity ≡ capacity)
-record_only capacity [] z size fit e = absurd (omega arith)
-record_only capacity (a ∷ []) z size fit e = absurd (omega arith)
-record_only capacity (a ∷ p ∷ []) z size fit e = absurd (omega arith)
-record_only capacity (a ∷ p ∷ q ∷ []) z size fit e = absurd (omega arith)
-record_only capacity (a ∷ p ∷ q ∷ r ∷ xs) z size fit e =
+record_only : (zone capacity : ℕ) (xs : List ℕ) (z : ZoneRecord) → length xs ≡ 8 → AreBytes xs → zone_in zone capacity xs ≡ Ok z → (record_text z ≡ xs) × (z.capacity ≡ capacity)
+record_only zone capacity [] z size fit e = absurd (omega arith)
+record_only zone capacity (a ∷ []) z size fit e = absurd (omega arith)
+record_only zone capacity (a ∷ p ∷ []) z size fit e = absurd (omega arith)
+record_only zone capacity (a ∷ p ∷ q ∷ []) z size fit e = absurd (omega arith)
+record_only zone capacity (a ∷ p ∷ q ∷ r ∷ xs) z size fit e =
     let few : length xs ≡ 4 = omega arith in
-    let tests = passed (are_zeros (p ∷ q ∷ r ∷ [])) (zone_with (state_of a) (little_number 4 xs) capacity) z fault.ZoneRecord e in
-    let told = zone_with_only (state_of a) (little_number 4 xs) capacity z tests.1 in
+    let tests = passed (are_zeros (p ∷ q ∷ r ∷ [])) (zone_told zone a (state_of a) (little_number 4 xs) capacity) z (fault.ZoneRecord zone record_fault.Reserved) e in
+    let told = zone_told_only zone a (state_of a) (little_number 4 xs) capacity z tests.1 in
     let zeros = zeros_spelled (p ∷ q ∷ r ∷ []) tests.0 in
     let none : drop 4 xs ≡ [] = drop_all 4 xs (omega arith) in
     let spelled : word (little_number 4 xs) ≡ xs =
@@ -103,19 +106,19 @@ same_more : (capacity : ℕ) (z : ZoneRecord) (zs : List ZoneRecord) → z.capac
 same_more capacity z zs first more zero h = first
 same_more capacity z zs first more (suc k) h = more k (omega arith)
 
-zones_only : (capacity n : ℕ) (xs : List ℕ) (zs : List ZoneRecord) → length xs ≡ n * 8 → AreBytes xs → zones_in capacity n xs ≡ Ok zs → AreSpelled capacity n xs zs
-zones_only capacity zero xs zs size fit e =
+zones_only : (zone capacity n : ℕ) (xs : List ℕ) (zs : List ZoneRecord) → length xs ≡ n * 8 → AreBytes xs → zones_in zone capacity n xs ≡ Ok zs → AreSpelled capacity n xs zs
+zones_only zone capacity zero xs zs size fit e =
     let none : xs ≡ [] = nil_from_length xs (omega arith) in
     let same : [] ≡ zs = ok_is [] zs e in
     subst (AreSpelled capacity 0 xs) same (record { spelled = sym none; count = refl; same = λ k h. absurd (omega arith) })
-zones_only capacity (suc n) xs zs size fit e =
-    let a = bind_ok (zone_in capacity (take 8 xs)) (λ z. zones_in capacity n (drop 8 xs) >>= λ more. Ok (z ∷ more)) zs e in
-    let b = bind_ok (zones_in capacity n (drop 8 xs)) (λ more. Ok (a.0 ∷ more)) zs a.2 in
+zones_only zone capacity (suc n) xs zs size fit e =
+    let a = bind_ok (zone_in zone capacity (take 8 xs)) (λ z. zones_in (zone + 1) capacity n (drop 8 xs) >>= λ more. Ok (z ∷ more)) zs e in
+    let b = bind_ok (zones_in (zone + 1) capacity n (drop 8 xs)) (λ more. Ok (a.0 ∷ more)) zs a.2 in
     let parts = take-append-drop 8 xs in
     let all = subst AreBytes (sym parts) fit in
     let long : 8 ≤ length xs = omega (arith, suc-mul n 8) in
-    let first = record_only capacity (take 8 xs) a.0 (length-take-le 8 xs long) (front_fit (take 8 xs) (drop 8 xs) all) a.1 in
-    let more = zones_only capacity n (drop 8 xs) b.0 (omega (arith, length-drop 8 xs, suc-mul n 8)) (rest_fit (take 8 xs) (drop 8 xs) all) b.1 in
+    let first = record_only zone capacity (take 8 xs) a.0 (length-take-le 8 xs long) (front_fit (take 8 xs) (drop 8 xs) all) a.1 in
+    let more = zones_only (zone + 1) capacity n (drop 8 xs) b.0 (omega (arith, length-drop 8 xs, suc-mul n 8)) (rest_fit (take 8 xs) (drop 8 xs) all) b.1 in
     let same : a.0 ∷ b.0 ≡ zs = ok_is (a.0 ∷ b.0) zs b.2 in
     subst (AreSpelled capacity (suc n) xs) same (record {
       spelled = ap (λ (front : List ℕ). front ++ records_text b.0) first.0 ∙ (ap (λ (rest : List ℕ). take 8 xs ++ rest) more.spelled ∙ parts);
@@ -153,11 +156,11 @@ pub record AreRecords (s : Shape) (bytes : List ℕ) (zs : List ZoneRecord) (res
 
 pub records_only : (s : Shape) (bytes : List ℕ) (got : List ZoneRecord × List ℕ) → AreBytes bytes → records_in s bytes ≡ Ok got → AreRecords s bytes got.0 got.1
 records_only s bytes got fit e =
-    let r = bind_ok (bytes_in (s.zones * 8) bytes) (λ front. zones_in s.capacity s.zones front.0 >>= λ all. Ok (all, front.1)) got e in
-    let q = bind_ok (zones_in s.capacity s.zones r.0.0) (λ all. Ok (all, r.0.1)) got r.2 in
+    let r = bind_ok (bytes_in (s.zones * 8) bytes) (λ front. zones_in 0 s.capacity s.zones front.0 >>= λ all. Ok (all, front.1)) got e in
+    let q = bind_ok (zones_in 0 s.capacity s.zones r.0.0) (λ all. Ok (all, r.0.1)) got r.2 in
     let parts = bytes_parts (s.zones * 8) bytes r.0 r.1 in
     let front = front_fit r.0.0 r.0.1 (subst AreBytes (sym parts) fit) in
-    let records = zones_only s.capacity s.zones r.0.0 q.0 (bytes_size (s.zones * 8) bytes r.0 r.1) front q.1 in
+    let records = zones_only 0 s.capacity s.zones r.0.0 q.0 (bytes_size (s.zones * 8) bytes r.0 r.1) front q.1 in
     subst (λ (x : List ZoneRecord × List ℕ). AreRecords s bytes x.0 x.1) (ok_is (q.0, r.0.1) got q.2) (record {
       spelled = ap (λ (xs : List ℕ). xs ++ r.0.1) records.spelled ∙ parts;
       count = records.count;

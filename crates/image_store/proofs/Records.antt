@@ -15,26 +15,26 @@ regroup : (front : List ZoneRecord) (z : ZoneRecord) (read : Result (List ZoneRe
 regroup front z (Ok zs) = ap (λ (all : List ZoneRecord). let r : Result (List ZoneRecord) LoadFault = Ok all in r) (sym (append_assoc front (z ∷ []) zs))
 regroup front z (Err fault) = refl
 
-pub goes_on : (front : List ZoneRecord) (capacity count i : ℕ) (bytes : List ℕ) (z : ZoneRecord) (total : Result (List ZoneRecord) LoadFault) → i < count → zone_in capacity (take 8 bytes) ≡ Ok z
-    → with_front front (zones_in capacity (count - i) bytes) ≡ total → with_front (front ++ z ∷ []) (zones_in capacity (count - (i + 1)) (drop 8 bytes)) ≡ total
+pub goes_on : (front : List ZoneRecord) (capacity count i : ℕ) (bytes : List ℕ) (z : ZoneRecord) (total : Result (List ZoneRecord) LoadFault) → i < count → zone_in i capacity (take 8 bytes) ≡ Ok z
+    → with_front front (zones_in i capacity (count - i) bytes) ≡ total → with_front (front ++ z ∷ []) (zones_in (i + 1) capacity (count - (i + 1)) (drop 8 bytes)) ≡ total
 goes_on front capacity count i bytes z total lt h so_far =
     let k : count - i ≡ suc (count - (i + 1)) = omega arith in
-    sym (regroup front z (zones_in capacity (count - (i + 1)) (drop 8 bytes)))
-    ∙ (sym (ap (λ (n : ℕ). with_front front (zones_in capacity n bytes)) k ∙ ap (λ r. with_front front (r >>= λ first. zones_in capacity (count - (i + 1)) (drop 8 bytes) >>= λ zs. Ok (first ∷ zs))) h)
+    sym (regroup front z (zones_in (i + 1) capacity (count - (i + 1)) (drop 8 bytes)))
+    ∙ (sym (ap (λ (n : ℕ). with_front front (zones_in i capacity n bytes)) k ∙ ap (λ r. with_front front (r >>= λ first. zones_in (i + 1) capacity (count - (i + 1)) (drop 8 bytes) >>= λ zs. Ok (first ∷ zs))) h)
     ∙ so_far)
 
-pub stops : (front : List ZoneRecord) (capacity count i : ℕ) (bytes : List ℕ) (fault : LoadFault) (total : Result (List ZoneRecord) LoadFault) → i < count → zone_in capacity (take 8 bytes) ≡ Err fault
-    → with_front front (zones_in capacity (count - i) bytes) ≡ total → total ≡ Err fault
+pub stops : (front : List ZoneRecord) (capacity count i : ℕ) (bytes : List ℕ) (fault : LoadFault) (total : Result (List ZoneRecord) LoadFault) → i < count → zone_in i capacity (take 8 bytes) ≡ Err fault
+    → with_front front (zones_in i capacity (count - i) bytes) ≡ total → total ≡ Err fault
 stops front capacity count i bytes fault total lt h so_far =
     let k : count - i ≡ suc (count - (i + 1)) = omega arith in
     sym so_far
-    ∙ (ap (λ (n : ℕ). with_front front (zones_in capacity n bytes)) k ∙ ap (λ r. with_front front (r >>= λ first. zones_in capacity (count - (i + 1)) (drop 8 bytes) >>= λ zs. Ok (first ∷ zs))) h)
+    ∙ (ap (λ (n : ℕ). with_front front (zones_in i capacity n bytes)) k ∙ ap (λ r. with_front front (r >>= λ first. zones_in (i + 1) capacity (count - (i + 1)) (drop 8 bytes) >>= λ zs. Ok (first ∷ zs))) h)
 
-pub is_done : (front : List ZoneRecord) (capacity count i : ℕ) (bytes : List ℕ) (total : Result (List ZoneRecord) LoadFault) → count ≤ i → with_front front (zones_in capacity (count - i) bytes) ≡ total → total ≡ Ok front
+pub is_done : (front : List ZoneRecord) (capacity count i : ℕ) (bytes : List ℕ) (total : Result (List ZoneRecord) LoadFault) → count ≤ i → with_front front (zones_in i capacity (count - i) bytes) ≡ total → total ≡ Ok front
 is_done front capacity count i bytes total le so_far =
     let k : count - i ≡ 0 = omega arith in
     sym so_far
-    ∙ (ap (λ (n : ℕ). with_front front (zones_in capacity n bytes)) k ∙ ap (λ (all : List ZoneRecord). let r : Result (List ZoneRecord) LoadFault = Ok all in r) (append-nil front))
+    ∙ (ap (λ (n : ℕ). with_front front (zones_in i capacity n bytes)) k ∙ ap (λ (all : List ZoneRecord). let r : Result (List ZoneRecord) LoadFault = Ok all in r) (append-nil front))
 
 -- a fault that reading gives is one of a call that may want memory
 pub fails_free : {Y : Type 0} (fault : LoadFault) (reading : Result Y LoadFault) → reading ≡ Err fault → Fails (Unit {0}) fault reading
@@ -42,7 +42,7 @@ fails_free Device reading h = tt
 fails_free Memory reading h = tt
 fails_free Truncated reading h = h
 fails_free Magic reading h = h
-fails_free Geometry reading h = h
-fails_free BadRecord reading h = h
+fails_free (Geometry first) reading h = h
+fails_free (BadRecord zone first) reading h = h
 fails_free Limits reading h = h
 fails_free Trailing reading h = h

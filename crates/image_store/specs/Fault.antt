@@ -9,8 +9,8 @@ use Rattle.image_store.specs.declared.fault.SaveFault.TheVariants as save
 abbrev pub load_number : LoadFault → ℕ
 load_number Truncated = 10
 load_number Magic = 11
-load_number Geometry = 12
-load_number ZoneRecord = 13
+load_number (Geometry fault) = 12
+load_number (ZoneRecord zone fault) = 13
 load_number Limits = 14
 load_number Trailing = 15
 load_number Device = 16

@@ -8,4 +8,5 @@ pub mod Laws
 pub mod Loading
 pub mod Namespace
 pub mod Reading
+pub mod Refusal
 pub mod Text

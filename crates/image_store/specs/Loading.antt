@@ -14,8 +14,8 @@ Fails wanted Device reading = Unit {0}
 Fails wanted Memory reading = wanted
 Fails wanted Truncated reading = reading ≡ Err Truncated
 Fails wanted Magic reading = reading ≡ Err Magic
-Fails wanted Geometry reading = reading ≡ Err Geometry
-Fails wanted BadRecord reading = reading ≡ Err BadRecord
+Fails wanted (Geometry first) reading = reading ≡ Err (Geometry first)
+Fails wanted (BadRecord zone first) reading = reading ≡ Err (BadRecord zone first)
 Fails wanted Limits reading = reading ≡ Err Limits
 Fails wanted Trailing reading = reading ≡ Err Trailing
 

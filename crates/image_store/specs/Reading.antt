@@ -1,7 +1,8 @@
 -- Reading the text of an image, version 1 (profile): the namespace that it stands for, or its first
 -- fault from the left.
-use Rattle.std.specs.Prelude.{ℕ, zero, suc, Bool, ◌*◌, ◌==◌, ◌&&◌, nat_le, nat_lt, List, [], ◌∷◌, length, get_or, take, drop, Option, Some, None, Result, Ok, Err, is_ok, if◌then◌else◌}
+use Rattle.std.specs.Prelude.{ℕ, zero, suc, Bool, ◌+◌, ◌*◌, ◌==◌, ◌&&◌, nat_le, nat_lt, List, [], ◌∷◌, length, get_or, take, drop, Option, Some, None, Result, Ok, Err, if◌then◌else◌}
 use Rattle.std.specs.List.{list_all, starts_with}
+use Rattle.std.specs.Option.{option_map}
 use Rattle.byteorder.specs.Endian.{little_number}
 use Rattle.zone_state.specs.declared.state.ZoneState.{ZoneState}
 use Rattle.zone_state.specs.declared.state.ZoneState.TheVariants.{Empty, ImplicitlyOpened, ExplicitlyOpened, Closed, ReadOnly, Full, Offline}
@@ -11,9 +12,14 @@ use Rattle.zone_resources.specs.declared.admission.Limits.{Limits}
 use Rattle.zone_resources.specs.Counts.{open_count, active_count}
 use Rattle.image_store.specs.declared.fault.LoadFault.{LoadFault}
 use Rattle.image_store.specs.declared.fault.LoadFault.TheVariants as fault
+use Rattle.image_store.specs.declared.fault.RecordFault.TheVariants as record_fault
 use Rattle.image_store.specs.Checks.{demand, first_fault, unless_fault}
 use Rattle.image_store.specs.Flat.{zone_seen}
-use Rattle.image_store.specs.Geometry.{Shape, shape_of, tested}
+use Rattle.image_store.specs.declared.fault.HeaderFault.TheVariants as header_fault
+use Rattle.image_store.specs.declared.geometry.GeometryFault.{GeometryFault}
+use Rattle.image_store.specs.declared.geometry.GeometryFault.TheVariants.{BlockSize}
+use Rattle.image_store.specs.Geometry.{Shape, shape_of, shape_checks}
+use Rattle.image_store.specs.Refusal.{refusal_of}
 use Rattle.image_store.specs.Namespace.{ZoneBlocks, ZonedNamespace}
 use Rattle.image_store.specs.Text.{magic, is_version_1_block}
 
@@ -39,12 +45,23 @@ shape_told bytes =
     shape_of (number_at bytes 8) (number_at bytes 12) (number_at bytes 16) (number_at bytes 20)
     (record { open_limit = number_at bytes 24; active_limit = number_at bytes 28 })
 
+-- what is told of the numbers of a header that are none of a geometry
+abbrev pub numbers_fault : Shape → GeometryFault → LoadFault
+numbers_fault s first = fault.Geometry (header_fault.Numbers (refusal_of first s))
+
+-- the first test of a geometry that they fail, so told
+abbrev pub numbers_check : Shape → Option LoadFault
+numbers_check s = option_map (numbers_fault s) (first_fault (shape_checks s))
+
+abbrev pub numbers_in : Shape → Result Shape LoadFault
+numbers_in s = unless_fault (numbers_check s) s
+
 abbrev pub header_checks : List ℕ → List (Option LoadFault)
 header_checks bytes =
     demand (starts_with (λ a b. a == b) bytes magic) fault.Magic
-    ∷ demand (is_version_1_block (number_at bytes 8)) fault.Geometry
-    ∷ demand (is_ok (tested (shape_told bytes))) fault.Geometry
-    ∷ demand (are_zeros (drop 32 bytes)) fault.Geometry
+    ∷ demand (is_version_1_block (number_at bytes 8)) (numbers_fault (shape_told bytes) BlockSize)
+    ∷ numbers_check (shape_told bytes)
+    ∷ demand (are_zeros (drop 32 bytes)) (fault.Geometry header_fault.Reserved)
     ∷ []
 
 -- the shape that 64 bytes tell
@@ -65,30 +82,35 @@ allows ReadOnly written capacity = nat_le written capacity
 allows Full written capacity = nat_le written capacity
 allows Offline written capacity = written == 0
 
--- the zone of the state that a code told, if it told one
-abbrev pub zone_with : Option ZoneState → ℕ → ℕ → Result ZoneRecord LoadFault
-zone_with None written capacity = Err fault.ZoneRecord
-zone_with (Some state) written capacity =
+-- the zone of a number in a state, with so many blocks written
+abbrev pub zone_with : ℕ → ZoneState → ℕ → ℕ → Result ZoneRecord LoadFault
+zone_with zone state written capacity =
     if allows state written capacity
     then Ok (record { state = state; written = written; capacity = capacity })
-    else Err fault.ZoneRecord
+    else Err (fault.ZoneRecord zone (record_fault.Blocks state written capacity))
 
--- the zone that 8 bytes tell
-abbrev pub zone_in : ℕ → List ℕ → Result ZoneRecord LoadFault
-zone_in capacity bytes =
+-- the same in the state that a code tells, if it tells one
+abbrev pub zone_told : ℕ → ℕ → Option ZoneState → ℕ → ℕ → Result ZoneRecord LoadFault
+zone_told zone code None written capacity = Err (fault.ZoneRecord zone (record_fault.State code))
+zone_told zone code (Some state) written capacity = zone_with zone state written capacity
+
+-- what the 8 bytes of the zone with this number tell
+abbrev pub zone_in : ℕ → ℕ → List ℕ → Result ZoneRecord LoadFault
+zone_in zone capacity bytes =
     if are_zeros (take 3 (drop 1 bytes))
-    then zone_with (state_of (get_or bytes 0 0)) (number_at bytes 4) capacity
-    else Err fault.ZoneRecord
+    then zone_told zone (get_or bytes 0 0) (state_of (get_or bytes 0 0)) (number_at bytes 4) capacity
+    else Err (fault.ZoneRecord zone record_fault.Reserved)
 
-abbrev pub zones_in : ℕ → ℕ → List ℕ → Result (List ZoneRecord) LoadFault
-zones_in capacity zero bytes = Ok []
-zones_in capacity (suc n) bytes =
-    zone_in capacity (take 8 bytes) >>= λ z. zones_in capacity n (drop 8 bytes) >>= λ zs. Ok (z ∷ zs)
+-- what the bytes of so many zones tell, from the one with this number on
+abbrev pub zones_in : ℕ → ℕ → ℕ → List ℕ → Result (List ZoneRecord) LoadFault
+zones_in zone capacity zero bytes = Ok []
+zones_in zone capacity (suc n) bytes =
+    zone_in zone capacity (take 8 bytes) >>= λ z. zones_in (zone + 1) capacity n (drop 8 bytes) >>= λ zs. Ok (z ∷ zs)
 
 -- the zones of records, all of which are there before any is looked at
 abbrev pub records_in : Shape → List ℕ → Result (List ZoneRecord × List ℕ) LoadFault
 records_in s bytes =
-    bytes_in (s.zones * 8) bytes >>= λ front. zones_in s.capacity s.zones front.0 >>= λ zs. Ok (zs, front.1)
+    bytes_in (s.zones * 8) bytes >>= λ front. zones_in 0 s.capacity s.zones front.0 >>= λ zs. Ok (zs, front.1)
 
 -- no more zones are open or active than may be
 abbrev pub limits_kept : Limits → List ZoneRecord → Result Unit LoadFault

@@ -6,29 +6,61 @@ ghost use Rattle.image_store.specs.declared.fault.LoadFault.TheVariants as load_
 ghost use Rattle.image_store.specs.declared.fault.SaveFault.TheVariants as save_fault;
 
 use crate::device::DeviceFault;
-use crate::geometry::GeometryFault;
+use crate::refusal::GeometryRefusal;
 use std::alloc::{AllocError, AllocFailed};
 use thiserror::Error;
+use zone_state::ZoneState;
 
-/// Why an image could not be loaded. The variants have the numbers that a user is told (profile).
+/// Why a header tells no geometry.
+#[derive(Clone, Copy, Debug, PartialEq, Eq, Error)]
+pub enum HeaderFault {
+    /// Those of its numbers that are none of a geometry.
+    #[error("{0}")]
+    Numbers(GeometryRefusal),
+    #[error("bytes 32 to 63 are not zero")]
+    Reserved,
+}
+
+/// Why the record of a zone tells none.
+#[derive(Clone, Copy, Debug, PartialEq, Eq, Error)]
+pub enum RecordFault {
+    #[error("bytes 1 to 3 are not zero")]
+    Reserved,
+    /// The code that stands for no state.
+    #[error("no state has code {0:x}h")]
+    State(u8),
+    /// So many blocks that the state doesn't allow them.
+    #[error("{state}, with {written} of {capacity} blocks written")]
+    Blocks {
+        state: ZoneState,
+        written: u32,
+        capacity: u32,
+    },
+}
+
+/// Why an image could not be loaded.
 #[derive(Clone, Copy, Debug, PartialEq, Eq, Error)]
 pub enum LoadFault {
     #[error("the image ends before its last block")]
-    Truncated = 10,
-    #[error("the image doesn't begin as one does")]
-    Magic = 11,
-    #[error("the header's numbers are no geometry, or it isn't zero where it has to be")]
-    Geometry = 12,
-    #[error("a zone's record isn't zero where it has to be, or its state doesn't allow its blocks")]
-    ZoneRecord = 13,
+    Truncated,
+    #[error("the first 8 bytes are not ZNSIMG01")]
+    Magic,
+    #[error("header: {0}")]
+    Geometry(HeaderFault),
+    /// The lowest zone whose record tells none, and why.
+    #[error("record of zone {zone}: {fault}")]
+    ZoneRecord {
+        zone: u32,
+        fault: RecordFault,
+    },
     #[error("more zones are open or active than may be")]
-    Limits = 14,
+    Limits,
     #[error("bytes follow the last block")]
-    Trailing = 15,
+    Trailing,
     #[error("the device failed")]
-    Device = 16,
+    Device,
     #[error("want of memory")]
-    Memory = 17,
+    Memory,
 }
 
 /// Why an image could not be saved. The variant has the number that a user is told (profile).
@@ -39,11 +71,20 @@ pub enum SaveFault {
 }
 
 impl LoadFault {
-    /// The fault's number, from 10 to 17.
+    /// The fault's number, from 10 to 17, by which a user is told of it (profile).
     pub fn number(self) -> u8
         ensures { result ≡ load_number self }
     {
-        self as u8
+        match self {
+            LoadFault::Truncated => 10,
+            LoadFault::Magic => 11,
+            LoadFault::Geometry(_) => 12,
+            LoadFault::ZoneRecord { .. } => 13,
+            LoadFault::Limits => 14,
+            LoadFault::Trailing => 15,
+            LoadFault::Device => 16,
+            LoadFault::Memory => 17,
+        }
     }
 }
 
@@ -69,14 +110,6 @@ impl From<DeviceFault> for SaveFault {
 
     fn from(_fault: DeviceFault) -> SaveFault {
         SaveFault::Device
-    }
-}
-
-impl From<GeometryFault> for LoadFault {
-    ghost from_gives = { λ _ e. e ≡ load_fault.Geometry };
-
-    fn from(_fault: GeometryFault) -> LoadFault {
-        LoadFault::Geometry
     }
 }
 

@@ -1,12 +1,14 @@
 //! The first part of an image: that it is one, and the shape of its namespace.
 
 ghost use Rattle.std.specs.Prelude.{◌≡◌, ◌+◌, ◌≤◌, length};
-ghost use Rattle.image_store.specs.Reading.{number_at, shape_in};
+ghost use Rattle.image_store.specs.Geometry.{shape_of};
+ghost use Rattle.image_store.specs.Reading.{number_at, numbers_in, shape_in};
 ghost use Rattle.image_store.specs.Text.{header, is_version_1_block};
 
 use crate::bytes::are_zeros;
-use crate::fault::LoadFault;
+use crate::fault::{HeaderFault, LoadFault};
 use crate::geometry::Geometry;
+use crate::refusal::GeometryRefusal;
 use byteorder::{ByteOrder, LittleEndian};
 use zone_resources::Limits;
 
@@ -48,13 +50,14 @@ pub fn decode(bytes: &[u8]) -> Result<Geometry, LoadFault>
     }
     let block = number(bytes, 8);
     if !is_version_1_block(block) {
-        return Err(LoadFault::Geometry);
+        let refusal = GeometryRefusal::BlockSize(block as usize);
+        return Err(LoadFault::Geometry(HeaderFault::Numbers(refusal)));
     }
     let limits = Limits {
         open_limit: number(bytes, 24),
         active_limit: number(bytes, 28),
     };
-    let geometry = Geometry::new(
+    let geometry = geometry_of(
         block,
         number(bytes, 12),
         number(bytes, 16),
@@ -62,9 +65,28 @@ pub fn decode(bytes: &[u8]) -> Result<Geometry, LoadFault>
         limits,
     )?;
     if !are_zeros(&bytes[32..]) {
-        return Err(LoadFault::Geometry);
+        return Err(LoadFault::Geometry(HeaderFault::Reserved));
     }
     Ok(geometry)
+}
+
+/// The geometry of a header's numbers.
+fn geometry_of(
+    block: u32,
+    zones: u32,
+    size: u32,
+    capacity: u32,
+    limits: Limits,
+) -> Result<Geometry, LoadFault>
+    ensures { result ≡ numbers_in (shape_of block zones size capacity limits) }
+{
+    match Geometry::new(block, zones, size, capacity, limits) {
+        Ok(geometry) => Ok(geometry),
+        Err(fault) => {
+            let refusal = GeometryRefusal::of(fault, block, zones, size, capacity, limits);
+            Err(LoadFault::Geometry(HeaderFault::Numbers(refusal)))
+        }
+    }
 }
 
 /// Can an image of version 1 have blocks of this many bytes?

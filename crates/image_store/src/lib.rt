@@ -11,15 +11,17 @@ pub mod laws;
 mod load;
 mod memory;
 mod record;
+mod refusal;
 mod save;
 mod slots;
 #[cfg(test)]
 mod tests;
 
 pub use device::{DeviceFault, Sink, Source};
-pub use fault::{LoadFault, SaveFault};
+pub use fault::{HeaderFault, LoadFault, RecordFault, SaveFault};
 pub use geometry::{Geometry, GeometryFault, Place};
 pub use image::Image;
 pub use memory::Buffer;
+pub use refusal::GeometryRefusal;
 pub use zone_resources::{Counts, Limits};
 pub use zone_state::{Status, Zone, ZoneState};

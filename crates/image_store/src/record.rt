@@ -6,7 +6,7 @@ ghost use Rattle.image_store.specs.Reading.{zone_in, zone_with, zones_in};
 ghost use Rattle.image_store.specs.Text.{record_text};
 
 use crate::bytes::are_zeros;
-use crate::fault::LoadFault;
+use crate::fault::{LoadFault, RecordFault};
 use byteorder::{ByteOrder, LittleEndian};
 use std::alloc::Global;
 use zone_state::{Zone, ZoneState};
@@ -33,45 +33,58 @@ pub fn decode_all(
 ) -> Result<Vec<Zone>, LoadFault>
     requires size { length bytes.now ≡ count * 8 }
     requires some { 1 ≤ capacity }
-    ensures zones { Gives (Unit {0}) (λ zones. zones.items) result (zones_in capacity count bytes.now) }
+    ensures zones { Gives (Unit {0}) (λ zones. zones.items) result (zones_in 0 capacity count bytes.now) }
     ensures no_device { NoDeviceFails result }
 {
     let mut zones = Vec::with_capacity(alloc, count as usize)?;
     let mut rest = bytes;
-    for _ in 0..count {
+    for zone in 0..count {
         let (record, after) = rest.split_at(RECORD);
-        zones.push(decode(record, capacity)?)?;
+        zones.push(decode(zone, record, capacity)?)?;
         rest = after;
     }
     Ok(zones)
 }
 
-/// The zone that a record tells.
-fn decode(bytes: &[u8], capacity: u32) -> Result<Zone, LoadFault>
+/// What the record of a zone with this number tells.
+fn decode(zone: u32, bytes: &[u8], capacity: u32) -> Result<Zone, LoadFault>
     requires size { length bytes.now ≡ 8 }
     requires some { 1 ≤ capacity }
-    ensures { result ≡ zone_in capacity bytes.now }
+    ensures { result ≡ zone_in zone capacity bytes.now }
 {
     if !are_zeros(&bytes[1..4]) {
-        return Err(LoadFault::ZoneRecord);
+        let fault = RecordFault::Reserved;
+        return Err(LoadFault::ZoneRecord { zone, fault });
     }
-    zone_of(
-        ZoneState::from_code(bytes[0]),
-        LittleEndian::read_u32(&bytes[4..]),
-        capacity,
-    )
+    let written = LittleEndian::read_u32(&bytes[4..]);
+    match ZoneState::from_code(bytes[0]) {
+        Some(state) => zone_of(zone, state, written, capacity),
+        None => {
+            let fault = RecordFault::State(bytes[0]);
+            Err(LoadFault::ZoneRecord { zone, fault })
+        }
+    }
 }
 
-/// The zone of a state, if its code was one.
-fn zone_of(state: Option<ZoneState>, written: u32, capacity: u32) -> Result<Zone, LoadFault>
+/// The zone in a state with so many blocks written, if the state allows them.
+fn zone_of(
+    zone: u32,
+    state: ZoneState,
+    written: u32,
+    capacity: u32,
+) -> Result<Zone, LoadFault>
     requires { 1 ≤ capacity }
-    ensures { result ≡ zone_with state written capacity }
+    ensures { result ≡ zone_with zone state written capacity }
 {
-    let Some(state) = state else {
-        return Err(LoadFault::ZoneRecord);
-    };
     match Zone::new(state, written, capacity) {
-        Some(zone) => Ok(zone),
-        None => Err(LoadFault::ZoneRecord),
+        Some(told) => Ok(told),
+        None => {
+            let fault = RecordFault::Blocks {
+                state,
+                written,
+                capacity,
+            };
+            Err(LoadFault::ZoneRecord { zone, fault })
+        }
     }
 }

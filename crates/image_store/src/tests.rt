@@ -3,10 +3,14 @@
 
 ghost use Rattle.std.specs.Prelude.{◌≤◌};
 
-use crate::{Buffer, DeviceFault, Geometry, GeometryFault, Image, Limits, LoadFault, Sink, Source};
+use crate::{
+    Buffer, DeviceFault, Geometry, GeometryFault, GeometryRefusal, HeaderFault, Image, Limits, LoadFault,
+    RecordFault, Sink, Source,
+};
 use std::alloc::{AllocError, Global};
 use std::process::Abort;
 use std::test::Fail;
+use zone_state::ZoneState;
 
 mod damage;
 
@@ -129,36 +133,60 @@ fn each_damage_has_its_fault(rt: HostRuntime) -> Result<(), Fail> {
     );
     assert_eq!(rt;
         fault_of(rt.alloc(), &changed(&[(8, 1)])),
-        Some(LoadFault::Geometry)
+        bad_header(HeaderFault::Numbers(GeometryRefusal::BlockSize(513)))
+    );
+    assert_eq!(rt;
+        fault_of(rt.alloc(), &changed(&[(20, 9)])),
+        bad_header(HeaderFault::Numbers(GeometryRefusal::ZoneCapacity {
+            capacity: 9,
+            size: 8
+        }))
     );
     assert_eq!(rt;
         fault_of(rt.alloc(), &changed(&[(32, 1)])),
-        Some(LoadFault::Geometry)
+        bad_header(HeaderFault::Reserved)
     );
     assert_eq!(rt;
         fault_of(rt.alloc(), &changed(&[(63, 1)])),
-        Some(LoadFault::Geometry)
+        bad_header(HeaderFault::Reserved)
     );
     Ok(())
 }
 
+/// What is told of a header that has this fault.
+fn bad_header(fault: HeaderFault) -> Option<LoadFault> {
+    Some(LoadFault::Geometry(fault))
+}
+
+/// What is told of the record of a zone that has this fault.
+fn bad_record(zone: u32, fault: RecordFault) -> Option<LoadFault> {
+    Some(LoadFault::ZoneRecord { zone, fault })
+}
+
+/// What is told of zone 0, in an implicitly opened state with so many of its 6 blocks written.
+fn bad_count(written: u32) -> Option<LoadFault> {
+    let fault = RecordFault::Blocks {
+        state: ZoneState::ImplicitlyOpened,
+        written,
+        capacity: 6,
+    };
+    bad_record(0, fault)
+}
+
 #[test]
 fn each_bad_record_has_its_fault(rt: HostRuntime) -> Result<(), Fail> {
-    assert_eq!(rt;
-        fault_of(rt.alloc(), &changed(&[(64, 2)])),
-        Some(LoadFault::ZoneRecord)
-    );
-    assert_eq!(rt;
-        fault_of(rt.alloc(), &changed(&[(64, 5)])),
-        Some(LoadFault::ZoneRecord)
-    );
+    assert_eq!(rt; fault_of(rt.alloc(), &changed(&[(64, 2)])), bad_count(0));
     assert_eq!(rt;
         fault_of(rt.alloc(), &changed(&[(64, 2), (68, 6)])),
-        Some(LoadFault::ZoneRecord)
+        bad_count(6)
+    );
+    assert_eq!(rt;
+        fault_of(rt.alloc(), &changed(&[(72, 5)])),
+        bad_record(1, RecordFault::State(5))
     );
     assert_eq!(rt;
         fault_of(rt.alloc(), &changed(&[(91, 1)])),
-        Some(LoadFault::ZoneRecord)
+        bad_record(3, RecordFault::Reserved)
     );
     let many = changed(&[(64, 3), (72, 3), (80, 3)]);
     assert_eq!(rt; fault_of(rt.alloc(), &many), Some(LoadFault::Limits));
@@ -182,7 +210,7 @@ fn the_first_fault_decides(rt: HostRuntime) -> Result<(), Fail> {
     );
     assert_eq!(rt;
         fault_of_front(rt.alloc(), &changed(&[(8, 1)]), 64),
-        Some(LoadFault::Geometry)
+        bad_header(HeaderFault::Numbers(GeometryRefusal::BlockSize(513)))
     );
     assert_eq!(rt;
         fault_of_front(rt.alloc(), &changed(&[(64, 5)]), 95),

@@ -7,21 +7,21 @@ use Rattle.image_store.proofs.record.decode_all.Goals as goal
 
 pub returns-in_err-decode-clause-zones : goal.returns-in_err-decode-clause-zones
 returns-in_err-decode-clause-zones c =
-    let l = c.loop in
+    let l = c.loop-zone in
     let p = err_from_is_err_and c.from_residual-in_err-decode.result c.from_residual-in_err-decode.ensures.1 in
     let fault = c.in_err-decode.field-0.0 in
-    let read : zone_in c.args.capacity (take 8 l.rest.now) ≡ Err fault = ap (zone_in c.args.capacity) (sym c.split_at.ensures.front) ∙ sym c.in_err-decode.ensures in
-    let all = stops l.zones.items c.args.capacity c.args.count l.counter l.rest.now fault (zones_in c.args.capacity c.args.count c.args.bytes.now) c.loop-test.true read l.invariant.read in
-    rw (p.1, p.2) (fails_free fault (zones_in c.args.capacity c.args.count c.args.bytes.now) all)
+    let read : zone_in l.zone c.args.capacity (take 8 l.rest.now) ≡ Err fault = ap (zone_in l.zone c.args.capacity) (sym c.split_at.ensures.front) ∙ sym c.in_err-decode.ensures in
+    let all = stops l.zones.items c.args.capacity c.args.count l.zone l.rest.now fault (zones_in 0 c.args.capacity c.args.count c.args.bytes.now) c.loop-zone-test.true read l.invariant.read in
+    rw (p.1, p.2) (fails_free fault (zones_in 0 c.args.capacity c.args.count c.args.bytes.now) all)
 
-pub loop-preserved : goal.loop-preserved
-loop-preserved c =
-    let l = c.loop in
+pub loop-zone-preserved : goal.loop-zone-preserved
+loop-zone-preserved c =
+    let l = c.loop-zone in
     let z = c.in_ok-decode.field-0 in
-    let read : zone_in c.args.capacity (take 8 l.rest.now) ≡ Ok z = ap (zone_in c.args.capacity) (sym c.split_at.ensures.front) ∙ sym c.in_ok-decode.ensures in
-    let next = goes_on l.zones.items c.args.capacity c.args.count l.counter l.rest.now z (zones_in c.args.capacity c.args.count c.args.bytes.now) c.loop-test.true read l.invariant.read in
+    let read : zone_in l.zone c.args.capacity (take 8 l.rest.now) ≡ Ok z = ap (zone_in l.zone c.args.capacity) (sym c.split_at.ensures.front) ∙ sym c.in_ok-decode.ensures in
+    let next = goes_on l.zones.items c.args.capacity c.args.count l.zone l.rest.now z (zones_in 0 c.args.capacity c.args.count c.args.bytes.now) c.loop-zone-test.true read l.invariant.read in
     let size = l.invariant.left in
-    let more = c.loop-test.true in
+    let more = c.loop-zone-test.true in
     record {
       read = rw (c.in_ok-push.ensures.items, c.split_at.ensures.back) next;
       left = omega (arith, c.split_at.ensures.back_len);
@@ -31,5 +31,5 @@ pub returns-in_err-decode-clause-no_device : goal.returns-in_err-decode-clause-n
 returns-in_err-decode-clause-no_device c =
     let p = err_from_is_err_and c.from_residual-in_err-decode.result c.from_residual-in_err-decode.ensures.1 in
     let fault = c.in_err-decode.field-0.0 in
-    let read : zone_in c.args.capacity c.split_at.result.0.now ≡ Err fault = sym c.in_err-decode.ensures in
-    rw (p.1, p.2) (no_device fault (zone_text_fault c.args.capacity c.split_at.result.0.now fault read))
+    let read : zone_in c.loop-zone.zone c.args.capacity c.split_at.result.0.now ≡ Err fault = sym c.in_err-decode.ensures in
+    rw (p.1, p.2) (no_device fault (zone_text_fault c.loop-zone.zone c.args.capacity c.split_at.result.0.now fault read))

@@ -3,8 +3,8 @@ use Rattle.image_store.specs.Reading.{zones_in}
 use Rattle.image_store.proofs.Records.{with_front}
 use Rattle.image_store.proofs.record.decode_all.Given as goal
 
-abbrev pub invariant-loop : goal.invariant-loop
-invariant-loop l = record {
-  read : with_front l.zones.items (zones_in l.capacity (l.count - l.counter) l.rest) ≡ zones_in l.capacity l.count l.bytes;
-  left : length l.rest ≡ (l.count - l.counter) * 8;
+abbrev pub invariant-loop-zone : goal.invariant-loop-zone
+invariant-loop-zone l = record {
+  read : with_front l.zones.items (zones_in l.zone l.capacity (l.count - l.zone) l.rest) ≡ zones_in 0 l.capacity l.count l.bytes;
+  left : length l.rest ≡ (l.count - l.zone) * 8;
 }

@@ -1,0 +1,24 @@
+-- What a user is told of numbers that are no geometry (profile).
+use Rattle.image_store.specs.Geometry.{Shape}
+use Rattle.image_store.specs.declared.geometry.GeometryFault.{GeometryFault}
+use Rattle.image_store.specs.declared.geometry.GeometryFault.TheVariants as faults
+use Rattle.image_store.specs.declared.refusal.GeometryRefusal.{GeometryRefusal}
+use Rattle.image_store.specs.declared.refusal.GeometryRefusal.TheVariants.{BlockSize, ZoneCount, ZoneSize, ZoneCapacity, ResourceLimits, TooLarge}
+
+-- those of the numbers that have a fault
+abbrev pub refusal_of : GeometryFault → Shape → GeometryRefusal
+refusal_of faults.BlockSize s = BlockSize s.block
+refusal_of faults.ZoneCount s = ZoneCount s.zones
+refusal_of faults.ZoneSize s = ZoneSize s.size
+refusal_of faults.ZoneCapacity s = ZoneCapacity s.capacity s.size
+refusal_of faults.ResourceLimits s = ResourceLimits s.limits.open_limit s.limits.active_limit s.zones
+refusal_of faults.TooLarge s = TooLarge s.zones s.capacity s.block
+
+-- the fault that they have
+abbrev pub fault_of : GeometryRefusal → GeometryFault
+fault_of (BlockSize bytes) = faults.BlockSize
+fault_of (ZoneCount zones) = faults.ZoneCount
+fault_of (ZoneSize blocks) = faults.ZoneSize
+fault_of (ZoneCapacity capacity size) = faults.ZoneCapacity
+fault_of (ResourceLimits open_limit active_limit zones) = faults.ResourceLimits
+fault_of (TooLarge zones capacity block) = faults.TooLarge

@@ -1,0 +1,85 @@
+//! What a user is told of numbers that are no geometry.
+
+ghost use Rattle.std.specs.Prelude.{◌≡◌};
+ghost use Rattle.image_store.specs.Geometry.{shape_of};
+ghost use Rattle.image_store.specs.Refusal.{refusal_of, fault_of};
+
+use crate::geometry::GeometryFault;
+use thiserror::Error;
+use zone_resources::Limits;
+
+/// Those of the numbers of a geometry that have its fault.
+#[derive(Clone, Copy, Debug, PartialEq, Eq, Error)]
+pub enum GeometryRefusal {
+    /// Bytes of a block.
+    #[error("a block of {0} bytes: {fault}", fault = GeometryFault::BlockSize)]
+    BlockSize(usize),
+    #[error("{0} zones: {fault}", fault = GeometryFault::ZoneCount)]
+    ZoneCount(u32),
+    /// Blocks of a zone.
+    #[error("zones of {0} blocks: {fault}", fault = GeometryFault::ZoneSize)]
+    ZoneSize(u32),
+    /// Blocks of a zone that can be written, and all of them.
+    #[error("{capacity} writable of {size} blocks: {fault}", fault = GeometryFault::ZoneCapacity)]
+    ZoneCapacity {
+        capacity: u32,
+        size: u32,
+    },
+    #[error("{open_limit} open and {active_limit} active of {zones} zones: {fault}", fault = GeometryFault::ResourceLimits)]
+    ResourceLimits {
+        open_limit: u32,
+        active_limit: u32,
+        zones: u32,
+    },
+    #[error("{zones} zones of {capacity} writable blocks of {block} bytes: {fault}", fault = GeometryFault::TooLarge)]
+    TooLarge {
+        zones: u32,
+        capacity: u32,
+        block: u32,
+    },
+}
+
+impl GeometryRefusal {
+    /// What has this fault, of the numbers that [`Geometry::new`](crate::Geometry::new) was given.
+    pub fn of(
+        fault: GeometryFault,
+        block: u32,
+        zones: u32,
+        size: u32,
+        capacity: u32,
+        limits: Limits,
+    ) -> GeometryRefusal
+        ensures { result ≡ refusal_of fault (shape_of block zones size capacity limits) }
+    {
+        match fault {
+            GeometryFault::BlockSize => GeometryRefusal::BlockSize(block as usize),
+            GeometryFault::ZoneCount => GeometryRefusal::ZoneCount(zones),
+            GeometryFault::ZoneSize => GeometryRefusal::ZoneSize(size),
+            GeometryFault::ZoneCapacity => GeometryRefusal::ZoneCapacity { capacity, size },
+            GeometryFault::ResourceLimits => GeometryRefusal::ResourceLimits {
+                open_limit: limits.open_limit,
+                active_limit: limits.active_limit,
+                zones,
+            },
+            GeometryFault::TooLarge => GeometryRefusal::TooLarge {
+                zones,
+                capacity,
+                block,
+            },
+        }
+    }
+
+    /// The fault.
+    pub fn fault(self) -> GeometryFault
+        ensures { result ≡ fault_of self }
+    {
+        match self {
+            GeometryRefusal::BlockSize(_) => GeometryFault::BlockSize,
+            GeometryRefusal::ZoneCount(_) => GeometryFault::ZoneCount,
+            GeometryRefusal::ZoneSize(_) => GeometryFault::ZoneSize,
+            GeometryRefusal::ZoneCapacity { .. } => GeometryFault::ZoneCapacity,
+            GeometryRefusal::ResourceLimits { .. } => GeometryFault::ResourceLimits,
+            GeometryRefusal::TooLarge { .. } => GeometryFault::TooLarge,
+        }
+    }
+}
