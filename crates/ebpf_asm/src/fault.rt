@@ -7,23 +7,23 @@ use std::alloc::{AllocError, AllocFailed};
 use thiserror::Error;
 
 /// Why a line can't be assembled.
-#[derive(Clone, Copy, Debug, PartialEq, Eq)]
+#[derive(Clone, Copy, Debug, PartialEq, Eq, Error)]
 pub enum FaultKind {
-    /// The first word behind the label is no mnemonic.
+    #[error("a mnemonic is expected as the first word, or behind the label")]
     UnknownMnemonic = 1,
-    /// The operands aren't those of the mnemonic.
+    #[error("the mnemonic takes other operands")]
     Operand = 2,
-    /// A number is too small or too great for its field.
+    #[error("a number is too small or too great for its field")]
     OutOfRange = 3,
-    /// No line has the label that a jump names.
+    #[error("no line has the label that is jumped to")]
     UnknownLabel = 4,
-    /// An earlier line has the same label.
+    #[error("an earlier line has the same label")]
     LabelTwice = 5,
-    /// The distance to a label is too great for its field.
+    #[error("the label that is jumped to is too far away")]
     LabelTooFar = 6,
-    /// The instruction ends behind slot 4095.
+    #[error("the instruction ends behind slot 4095, the last that a program can have")]
     TooLong = 7,
-    /// A byte is over 127.
+    #[error("only ASCII text is expected")]
     NotAscii = 8,
 }
 
@@ -39,7 +39,8 @@ impl FaultKind {
 }
 
 /// The lowest line, counted from 1, that can't be assembled, and why.
-#[derive(Clone, Copy, Debug, PartialEq, Eq)]
+#[derive(Clone, Copy, Debug, PartialEq, Eq, Error)]
+#[error("line {line}: {kind}")]
 pub struct AsmFault {
     pub line: usize,
     pub kind: FaultKind,
@@ -50,7 +51,7 @@ pub struct AsmFault {
 pub enum AssembleError {
     #[error("out of memory")]
     Memory,
-    #[error("line {}: {:?}", .0.line, .0.kind)]
+    #[error(transparent)]
     Fault(AsmFault),
 }
 

@@ -10,12 +10,14 @@ mod listing;
 mod mnemonic;
 mod number;
 mod operand;
+mod refusal;
 mod statement;
 mod text;
 
 pub use assembly::assemble;
 pub use fault::{AsmFault, AssembleError, FaultKind};
 pub use listing::{disassemble, disassemble_with_slots, instruction_text};
+pub use refusal::AssemblyRefusal;
 
 #[cfg(test)]
 mod tests;

@@ -307,6 +307,20 @@ fn more_than_4096_slots_are_refused(rt: HostRuntime) -> Result<(), Fail> {
     Ok(())
 }
 
+/// No text gives this fault: a program has at most 4096 slots, and a jump reaches 32767.
+#[test]
+fn a_label_too_far_away_has_a_sentence(rt: HostRuntime) -> Result<(), Fail> {
+    let fault = AsmFault {
+        line: 2,
+        kind: FaultKind::LabelTooFar,
+    };
+    let refusal = AssemblyRefusal::of(fault, b"exit\n ja far\n");
+    let text = format!(in rt.alloc(); "{refusal}")?;
+    let said = "line 2: \"ja far\": the label that is jumped to is too far away";
+    assert_eq!(rt; text.as_str(), said);
+    Ok(())
+}
+
 /// Lists the program with these bytes behind a comment, and assembles the text again.
 fn check_listing(
     rt: &(impl Abort + AllocGlobal),

@@ -1,4 +1,5 @@
 pub mod Opcodes
 pub mod Faults
 pub mod Reading
+pub mod Refusal
 pub mod Laws

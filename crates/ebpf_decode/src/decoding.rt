@@ -215,7 +215,8 @@ fn read(fields: &Fields, next: Option<Fields>) -> Result<Insn, FaultKind>
     }
 }
 
-fn slot_at(bytes: &[u8], slot: usize) -> Option<Fields>
+/// The fields of a slot, where the bytes have it.
+pub(crate) fn slot_at(bytes: &[u8], slot: usize) -> Option<Fields>
     requires { slot ≤ MOST_SLOTS }
     ensures { result ≡ slice_get (slots_at (length bytes.now / 8) bytes.now) slot }
 {

@@ -16,17 +16,17 @@ pub enum FaultKind {
     Empty,
     #[error("there are more than 4096 slots")]
     TooLong,
-    #[error("unknown opcode")]
+    #[error("no instruction has this opcode")]
     Opcode,
-    #[error("no such register")]
+    #[error("there are the registers 0 to 10 alone")]
     Register,
-    #[error("an unused field is not 0")]
+    #[error("a field that the instruction does not use is not 0")]
     UnusedField,
     #[error("a wide instruction lacks its second slot")]
     CutWide,
     #[error("a field has a value that the instruction cannot have")]
     Value,
-    #[error("the instruction is left out of this profile")]
+    #[error("the instruction is left out here")]
     NotInProfile,
 }
 

@@ -7,10 +7,12 @@ mod fault;
 mod fields;
 pub mod laws;
 mod opcode;
+mod refusal;
 
 pub use decoding::decode;
 pub use encoding::{encode, push_instruction};
 pub use fault::{DecodeFault, Fault, FaultKind};
+pub use refusal::ProgramRefusal;
 
 #[cfg(test)]
 mod tests;

@@ -5,4 +5,5 @@ pub mod OutputBlocks
 pub mod Packed
 pub mod Packer
 pub mod Packing
+pub mod Refusal
 pub mod Unpacking

@@ -7,6 +7,7 @@ mod fault;
 pub mod laws;
 mod packer;
 mod reader;
+mod refusal;
 #[cfg(test)]
 mod tests;
 
@@ -15,3 +16,4 @@ pub use fault::UnpackFault;
 pub use packer::{Full, Packer};
 pub use program_interface::{BlockSize, RunSizes};
 pub use reader::unpack;
+pub use refusal::FrameRefusal;

@@ -1,0 +1,29 @@
+//! What a user is told of text that can't be assembled.
+
+ghost use Rattle.std.specs.Prelude.{◌≡◌};
+
+use crate::fault::AsmFault;
+use text_lines::{Excerpt, line_behind, trim};
+use thiserror::Error;
+
+/// A fault of a text, and the line that has it.
+#[derive(Clone, Copy, Debug, PartialEq, Eq, Error)]
+#[error("line {}: {text}: {}", .fault.line, .fault.kind)]
+pub struct AssemblyRefusal {
+    pub fault: AsmFault,
+    /// The line, without the blanks at its ends.
+    pub text: Excerpt,
+}
+
+impl AssemblyRefusal {
+    /// What stands in this text where [`assemble`](crate::assemble) finds this fault.
+    pub fn of(fault: AsmFault, text: &[u8]) -> AssemblyRefusal
+        ensures { result.fault ≡ fault }
+    {
+        let line = line_behind(text, fault.line.saturating_sub(1)).unwrap_or(&[]);
+        AssemblyRefusal {
+            fault,
+            text: Excerpt::of(trim(line)),
+        }
+    }
+}

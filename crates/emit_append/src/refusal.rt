@@ -1,0 +1,44 @@
+//! What a user is told of bytes that are no output blocks.
+
+ghost use Rattle.std.specs.Prelude.{◌≡◌};
+ghost use Rattle.emit_append.specs.Refusal.{place_of};
+
+use program_interface::BlockSize;
+use thiserror::Error;
+
+/// The lowest byte of output blocks that is refused, counted from 0, and what stands there.
+#[derive(Clone, Copy, Debug, PartialEq, Eq, Error)]
+pub enum FrameRefusal {
+    /// So many bytes stand behind the last whole block.
+    #[error("byte {at}: {left} of the {block} bytes of a block; whole blocks are expected")]
+    Part { at: usize, left: usize, block: u32 },
+    /// A byte that begins neither a frame nor zeros.
+    #[error("byte {at}: {byte:02x}h; a frame that ends in its block, or zeros to its end, are expected")]
+    Byte { at: usize, byte: u8 },
+}
+
+impl FrameRefusal {
+    /// What stands at this place of these bytes, where [`unpack`](crate::unpack) refuses it.
+    pub fn of(at: usize, bytes: &[u8], block: BlockSize) -> FrameRefusal
+        ensures { place_of result ≡ at }
+    {
+        let block = block.bytes();
+        let left = bytes.len() % block as usize;
+        if left > 0 && bytes.len() - left == at {
+            return FrameRefusal::Part { at, left, block };
+        }
+        FrameRefusal::Byte {
+            at,
+            byte: bytes.get(at).copied().unwrap_or(0),
+        }
+    }
+
+    /// The place of the byte.
+    pub fn place(self) -> usize
+        ensures { result ≡ place_of self }
+    {
+        match self {
+            FrameRefusal::Part { at, .. } | FrameRefusal::Byte { at, .. } => at,
+        }
+    }
+}
