@@ -5,14 +5,13 @@ ghost use Rattle.interval_domain.specs.Intervals.{intervals};
 ghost use Rattle.pushdown.specs.Parts.{HasFinished};
 ghost use Rattle.command_files.specs.Made.{MakesOne};
 ghost use Rattle.command_exec.specs.Saved.{HasBegun, SavesAll, SavesFirst};
-ghost use Rattle.command_exec.specs.Told.{told_of_line};
 
 use clap::{Arg, ArgMatches, Command};
 use command_failure::Failure;
 use command_files::arguments::{and_argument, required};
 use command_files::{Files, read};
 use command_images::image_file;
-use event_text::{Lines, ParseError};
+use event_text::Lines;
 use runner::{Device, Event, Out, Stopped};
 use std::alloc::{AllocError, Global};
 use std::io::Write;
@@ -89,21 +88,11 @@ pub fn exec<'a, F: Files, O: Write>(
 {
     let path = required(matches, IMAGE);
     let image = image_file::load(alloc, path, files)?;
-    let file = read(required(matches, COMMANDS), files)?;
+    let commands = required(matches, COMMANDS);
+    let file = read(commands, files)?;
     match event_text::parse(alloc, file.as_slice()) {
         Ok(events) => run(alloc, image, events.as_slice(), path, files, out),
-        Err(error) => Err(refused(error)),
-    }
-}
-
-/// What the user is told of a command file that isn't one.
-fn refused<'a>(error: ParseError) -> Failure<'a>
-    ensures told { result ≡ told_of_line error }
-    ensures elsewhere { result ≢ Failure.CannotPrint }
-{
-    match error {
-        ParseError::Line(line) => Failure::LineRefused(line),
-        ParseError::OutOfMemory => Failure::NoMemory,
+        Err(error) => Err(Failure::of_commands(commands, error)),
     }
 }
 

@@ -1,7 +1,7 @@
 -- How the program ends (profile).
 use Rattle.std.specs.Prelude.{ℕ}
 use Rattle.command_failure.specs.declared.failure.Failure.{Failure}
-use Rattle.command_failure.specs.declared.failure.Failure.TheVariants.{CommandLine, NotText, NotNumber, CannotRead, CannotWrite, CannotPrint, NoMemory, LineRefused, GeometryRefused, ImageRefused, AssemblyRefused, ProgramRefused, FrameRefused, EmitExceedsBlock, NotAccepted}
+use Rattle.command_failure.specs.declared.failure.Failure.TheVariants.{CommandLine, NotText, NotNumber, NotInRange, CannotRead, CannotWrite, CannotPrint, NoMemory, LineRefused, ReplyRefused, GeometryRefused, ImageRefused, AssemblyRefused, ProgramRefused, FrameRefused, DataRefused, EmitExceedsBlock, NotAccepted}
 
 -- the exit status of a failure: 1 for a file or memory, 2 for the command line, 3 for input that is refused
 abbrev pub status_of : Failure → ℕ
@@ -12,11 +12,14 @@ status_of NoMemory = 1
 status_of (CommandLine error) = 2
 status_of NotText = 2
 status_of (NotNumber text) = 2
+status_of (NotInRange text low high) = 2
 status_of EmitExceedsBlock = 2
-status_of (LineRefused line) = 3
-status_of (GeometryRefused kind) = 3
-status_of (ImageRefused kind) = 3
-status_of (AssemblyRefused line kind) = 3
-status_of (ProgramRefused slot kind) = 3
-status_of (FrameRefused byte) = 3
+status_of (LineRefused path line fault) = 3
+status_of (ReplyRefused path line) = 3
+status_of (GeometryRefused refusal) = 3
+status_of (ImageRefused path fault) = 3
+status_of (AssemblyRefused path refusal) = 3
+status_of (ProgramRefused path refusal) = 3
+status_of (FrameRefused path refusal) = 3
+status_of (DataRefused file fault) = 3
 status_of NotAccepted = 3

@@ -1,12 +1,16 @@
--- What an error of reading the command line is told as (profile).
+-- What errors of reading the command line and a command file are told as (profile).
+use Rattle.std.specs.Prelude.{ℕ, List}
+use Rattle.std.specs.Borrow.{Bor}
 use Rattle.std.specs.declared.io.ErrorKind.{ErrorKind}
 use Rattle.std.specs.declared.io.ErrorKind.TheVariants as system
 use Rattle.clap.specs.Words.{kind_of}
 use Rattle.clap.specs.declared.error.Error.{Error}
 use Rattle.clap.specs.declared.error.kind.ErrorKind as clap
 use Rattle.clap.specs.declared.error.kind.ErrorKind.TheVariants as kind
+use Rattle.event_text.specs.declared.command_file.ParseError.{ParseError}
+use Rattle.event_text.specs.declared.command_file.ParseError.TheVariants.{Line, OutOfMemory}
 use Rattle.command_failure.specs.declared.failure.Failure.{Failure}
-use Rattle.command_failure.specs.declared.failure.Failure.TheVariants.{CommandLine, NotText, NoMemory}
+use Rattle.command_failure.specs.declared.failure.Failure.TheVariants.{CommandLine, LineRefused, NotText, NoMemory}
 
 -- a word of the command line that can't be read
 abbrev pub told_of_words : ErrorKind → Failure
@@ -20,3 +24,8 @@ told_of_kind error _ = CommandLine error
 
 abbrev pub told_of_command_line : Error → Failure
 told_of_command_line error = told_of_kind error (kind_of error)
+
+-- a file that is no command file: its name, the number of its lowest line that has no event, and why it has none
+abbrev pub told_of_commands : Bor (List ℕ) → ParseError → Failure
+told_of_commands path (Line number fault) = LineRefused path number fault
+told_of_commands path OutOfMemory = NoMemory

@@ -1,16 +1,23 @@
 //! Why a command ends before its work is done, and what the user is told.
 
-ghost use Rattle.std.specs.Prelude.{◌≡◌, OnOk, OnErr};
+ghost use Rattle.std.specs.Prelude.{◌≡◌, ◌≢◌, OnOk, OnErr};
 ghost use Rattle.std.specs.IoError.{error_kind};
 ghost use Rattle.command_failure.specs.Failure.{status_of};
 ghost use Rattle.command_failure.specs.declared.failure.Failure.TheVariants.{NoMemory};
-ghost use Rattle.command_failure.specs.Told.{told_of_command_line, told_of_words};
+ghost use Rattle.command_failure.specs.Told.{told_of_command_line, told_of_commands, told_of_words};
 
+use crate::data_fault::DataFault;
+use ebpf_asm::AssemblyRefusal;
+use ebpf_decode::ProgramRefusal;
+use emit_append::FrameRefusal;
+use event_text::{LineFault, ParseError};
+use image_store::{GeometryRefusal, LoadFault};
 use std::alloc::AllocError;
 use std::io::{self, ErrorKind, Write};
 use thiserror::Error;
 
-/// Why a command ended. Its text is the last on standard error.
+/// Why a command ended. Its text is the last on standard error: of input that is refused a sentence, and behind it a
+/// line for programs.
 #[derive(Debug, Drop, Error)]
 pub enum Failure<'a> {
     #[error("{0}")]
@@ -19,6 +26,8 @@ pub enum Failure<'a> {
     NotText,
     #[error("error: '{0}' is not a number from 0 to 4294967295")]
     NotNumber(&'a str),
+    #[error("error: '{0}' is not a number from {1} to {2}")]
+    NotInRange(&'a str, u64, u64),
     #[error("cannot read {0}")]
     CannotRead(&'a str),
     #[error("cannot write {0}")]
@@ -28,18 +37,49 @@ pub enum Failure<'a> {
     CannotPrint,
     #[error("no memory")]
     NoMemory,
-    #[error("line {0} refused")]
-    LineRefused(usize),
-    #[error("geometry refused {0}")]
-    GeometryRefused(u8),
-    #[error("image refused {0}")]
-    ImageRefused(u8),
-    #[error("assembly refused {0} {1}")]
-    AssemblyRefused(usize, u8),
-    #[error("program refused {0} {1}")]
-    ProgramRefused(usize, u8),
-    #[error("frame refused {0}")]
-    FrameRefused(usize),
+    /// A line of a command file that has no event.
+    #[error("{path}, line {line}: {fault}\nline {line} refused")]
+    LineRefused {
+        path: &'a str,
+        line: usize,
+        fault: LineFault,
+    },
+    /// A line of a file of replies that no reply is printed as.
+    #[error("{path}, line {line}: not one that `exec` prints\nline {line} refused")]
+    ReplyRefused {
+        path: &'a str,
+        line: usize,
+    },
+    /// Numbers that are no geometry.
+    #[error("{0}\ngeometry refused {number}", number = .0.fault().number())]
+    GeometryRefused(GeometryRefusal),
+    /// A file that is no image.
+    #[error("{path}: {fault}\nimage refused {}", .fault.number())]
+    ImageRefused {
+        path: &'a str,
+        fault: LoadFault,
+    },
+    /// A file that is no assembly text.
+    #[error("{path}, {refusal}\nassembly refused {} {}", .refusal.fault.line, .refusal.fault.kind.number())]
+    AssemblyRefused {
+        path: &'a str,
+        refusal: AssemblyRefusal,
+    },
+    /// A file that is no program.
+    #[error("{path}, {refusal}\nprogram refused {} {}", .refusal.fault.slot, .refusal.fault.kind.number())]
+    ProgramRefused {
+        path: &'a str,
+        refusal: ProgramRefusal,
+    },
+    /// A file of other bytes than output blocks.
+    #[error("{path}, {refusal}\nframe refused {}", .refusal.place())]
+    FrameRefused {
+        path: &'a str,
+        refusal: FrameRefusal,
+    },
+    /// A file isn't what a command can move.
+    #[error("{0} {1}")]
+    DataRefused(&'a str, DataFault),
     #[error("emit exceeds block")]
     EmitExceedsBlock,
     /// What a verifier says of a program stands on standard output alone.
@@ -55,6 +95,21 @@ impl<'a> Failure<'a> {
         match error.kind() {
             ErrorKind::OutOfMemory => Failure::NoMemory,
             _ => Failure::NotText,
+        }
+    }
+
+    /// That of a file with this name that is no command file.
+    pub fn of_commands(path: &'a str, error: ParseError) -> Failure<'a>
+        ensures told { result ≡ told_of_commands path.entry error }
+        ensures elsewhere { result ≢ Failure.CannotPrint }
+    {
+        match error {
+            ParseError::Line { number, fault } => Failure::LineRefused {
+                path,
+                line: number,
+                fault,
+            },
+            ParseError::OutOfMemory => Failure::NoMemory,
         }
     }
 
@@ -84,13 +139,16 @@ impl<'a> Failure<'a> {
             Failure::CommandLine(_)
             | Failure::NotText
             | Failure::NotNumber(_)
+            | Failure::NotInRange(..)
             | Failure::EmitExceedsBlock => 2,
-            Failure::LineRefused(_)
+            Failure::LineRefused { .. }
+            | Failure::ReplyRefused { .. }
             | Failure::GeometryRefused(_)
-            | Failure::ImageRefused(_)
-            | Failure::AssemblyRefused(..)
-            | Failure::ProgramRefused(..)
-            | Failure::FrameRefused(_)
+            | Failure::ImageRefused { .. }
+            | Failure::AssemblyRefused { .. }
+            | Failure::ProgramRefused { .. }
+            | Failure::FrameRefused { .. }
+            | Failure::DataRefused(..)
             | Failure::NotAccepted => 3,
         }
     }

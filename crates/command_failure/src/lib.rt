@@ -1,6 +1,8 @@
 //! Why a command ends before its work is done, and what the user is told.
 #![tactic(auto)]
 
+mod data_fault;
 mod failure;
 
+pub use data_fault::DataFault;
 pub use failure::{Failure, printed};

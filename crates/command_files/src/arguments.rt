@@ -1,5 +1,6 @@
 //! The words that follow a command's name.
 
+use clap::error::ErrorKind;
 use clap::{Arg, ArgAction, ArgMatches, Command};
 use command_failure::Failure;
 use std::alloc::{AllocError, Global};
@@ -27,6 +28,22 @@ pub fn and_argument<'a>(
     argument: Arg<'a>,
 ) -> Result<Command<'a>, AllocError> {
     command?.arg(argument)
+}
+
+/// A command that has this one below it too. Want of memory passes through, as with [`and_argument`].
+pub fn and_command<'a>(
+    command: Result<Command<'a>, AllocError>,
+    below: Result<Command<'a>, AllocError>,
+) -> Result<Command<'a>, AllocError> {
+    command?.subcommand(below?)
+}
+
+/// Why a command line that names no command is wrong.
+pub fn no_command<'a>(line: &mut Command<'a>) -> Failure<'a> {
+    match line.error(ErrorKind::MissingSubcommand, "a command is required") {
+        Ok(error) => Failure::from(error),
+        Err(error) => Failure::from(error),
+    }
 }
 
 /// The value of a required argument. A command line without it is refused before this.

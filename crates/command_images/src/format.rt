@@ -2,6 +2,7 @@
 
 ghost use Rattle.std.specs.Prelude.{◌≡◌, OnOk, OnErr};
 ghost use Rattle.command_files.specs.Made.{MakesOne};
+ghost use Rattle.image_store.specs.Geometry.{shape_of};
 ghost use Rattle.command_images.specs.Told.{told_of_geometry};
 
 use crate::image_file;
@@ -9,7 +10,7 @@ use clap::{Arg, ArgMatches, Command};
 use command_failure::Failure;
 use command_files::Files;
 use command_files::arguments::{and_argument, block_option, number, option, required};
-use image_store::{Geometry, GeometryFault, Image, Limits};
+use image_store::{Geometry, GeometryFault, GeometryRefusal, Image, Limits};
 use std::alloc::{AllocError, Global};
 
 /// The command's name.
@@ -35,7 +36,7 @@ Writes an image: a namespace of zones of which nothing is written.
 The blocks of a zone count towards its size; of these the first, as many as its capacity, can be \
 written. At most so many zones are open at a time, and so many active.
 
-Of numbers that are no namespace, `geometry refused N` tells what is wrong first: 1 the block size, 2 \
+Of numbers that are no namespace, `geometry refused REASON` tells what is wrong first: 1 the block size, 2 \
 the number of zones (1 to 1024), 3 the size (1 to 16777216), 4 the capacity (1 to the size), 5 the \
 limits (1 to the active limit, and that to the number of zones), 6 all in all more than 268435456 \
 bytes. No file is written then.";
@@ -102,12 +103,21 @@ fn geometry<'a>(matches: &ArgMatches<'a>) -> Result<Geometry, Failure<'a>> {
         open_limit: number(matches, OPEN)?,
         active_limit: number(matches, ACTIVE)?,
     };
-    Geometry::new(block, zones, size, capacity, limits).map_err(|fault| refused(fault))
+    Geometry::new(block, zones, size, capacity, limits).map_err(|fault| refused(
+        fault, block, zones, size, capacity, limits,
+    ))
 }
 
 /// What the user is told of numbers that are no geometry.
-fn refused<'a>(fault: GeometryFault) -> Failure<'a>
-    ensures { result ≡ told_of_geometry fault }
+fn refused<'a>(
+    fault: GeometryFault,
+    block: u32,
+    zones: u32,
+    size: u32,
+    capacity: u32,
+    limits: Limits,
+) -> Failure<'a>
+    ensures { result ≡ told_of_geometry fault (shape_of block zones size capacity limits) }
 {
-    Failure::GeometryRefused(fault.number())
+    Failure::GeometryRefused(GeometryRefusal::of(fault, block, zones, size, capacity, limits))
 }

@@ -1,7 +1,6 @@
 //! Images in files.
 
 ghost use Rattle.std.specs.Prelude.{◌≡◌, ◌≢◌, OnOk, OnErr};
-ghost use Rattle.image_store.specs.Fault.{load_number};
 ghost use Rattle.image_store.specs.Text.{text};
 ghost use Rattle.command_files.specs.Made.{MakesOne, then_made};
 
@@ -29,13 +28,13 @@ pub fn load<'a, F: Files>(alloc: Global, path: &'a str, files: &mut F) -> Result
 fn refused<'a>(path: &'a str, fault: LoadFault) -> Failure<'a>
     ensures device { fault ≡ LoadFault.Device → result ≡ Failure.CannotRead path.entry }
     ensures memory { fault ≡ LoadFault.Memory → result ≡ Failure.NoMemory }
-    ensures others { fault ≢ LoadFault.Device → fault ≢ LoadFault.Memory → result ≡ Failure.ImageRefused (load_number fault) }
+    ensures others { fault ≢ LoadFault.Device → fault ≢ LoadFault.Memory → result ≡ Failure.ImageRefused path.entry fault }
     ensures elsewhere { result ≢ Failure.CannotPrint }
 {
     match fault {
         LoadFault::Device => Failure::CannotRead(path),
         LoadFault::Memory => Failure::NoMemory,
-        _ => Failure::ImageRefused(fault.number()),
+        _ => Failure::ImageRefused { path, fault },
     }
 }
 

@@ -23,7 +23,7 @@ written.
 The states: empty, implicit and explicit (opened by a write, and by a command), closed, readonly, \
 full, offline.
 
-Of a file that is no image, `image refused N` tells the first fault.";
+Of a file that is no image, `image refused REASON` tells the first fault.";
 
 const EXAMPLE: &str = "\
 Example:

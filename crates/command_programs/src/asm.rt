@@ -4,13 +4,13 @@ ghost use Rattle.std.specs.Prelude.{◌≡◌, OnOk, OnErr};
 ghost use Rattle.ebpf_asm.specs.Assembly.{assembled};
 ghost use Rattle.command_files.specs.Made.{MakesOne};
 ghost use Rattle.command_programs.specs.Made.{MakesProgram};
-ghost use Rattle.command_programs.specs.Told.{told_of_assembly};
+ghost use Rattle.command_programs.specs.Told.{IsToldOfAssembly};
 
 use clap::{Arg, ArgMatches, Command};
 use command_failure::Failure;
 use command_files::arguments::{and_argument, required};
 use command_files::{Files, read, write};
-use ebpf_asm::{AssembleError, assemble};
+use ebpf_asm::{AssembleError, AssemblyRefusal, assemble};
 use std::alloc::{AllocError, Global};
 
 /// The command's name.
@@ -24,7 +24,7 @@ const LONG_ABOUT: &str = "\
 Assembles text to a program, a file of eBPF instructions (RFC 9669).
 
 A line has an optional label, as `next:`, and an optional instruction: a mnemonic, and operands \
-between commas. `;` begins a comment. Of text that isn't so, `assembly refused LINE KIND` tells the \
+between commas. `;` begins a comment. Of text that isn't so, `assembly refused LINE REASON` tells the \
 first fault, and no file is written.";
 
 const EXAMPLE: &str = "\
@@ -63,13 +63,21 @@ pub fn asm<'a, F: Files>(
     ensures made { OnOk result (MakesOne (F.made files.old) (F.made files.new)) }
     ensures kept { OnErr result (F.made files.new ≡ F.made files.old) }
 {
-    let text = read(required(matches, TEXT), files)?;
-    make(alloc, text.as_slice(), required(matches, PROGRAM), files)
+    let source = required(matches, TEXT);
+    let text = read(source, files)?;
+    make(
+        alloc,
+        source,
+        text.as_slice(),
+        required(matches, PROGRAM),
+        files,
+    )
 }
 
-/// Makes a file of the program that a text assembles to.
+/// Makes a file of the program that the text of a source assembles to.
 fn make<'a, F: Files>(
     alloc: Global,
+    source: &'a str,
     text: &[u8],
     path: &'a str,
     files: &mut F,
@@ -78,16 +86,19 @@ fn make<'a, F: Files>(
     ensures made { OnOk result (MakesOne (F.made files.old) (F.made files.new)) }
     ensures kept { OnErr result (F.made files.new ≡ F.made files.old) }
 {
-    let program = assemble(alloc, text).map_err(|error| refused(error))?;
+    let program = assemble(alloc, text).map_err(|error| refused(source, text, error))?;
     write(path, program.as_slice(), files)
 }
 
-/// What the user is told of text that is no program.
-fn refused<'a>(error: AssembleError) -> Failure<'a>
-    ensures { result ≡ told_of_assembly error }
+/// What the user is told of a file of this text that can't be assembled.
+fn refused<'a>(path: &'a str, text: &[u8], error: AssembleError) -> Failure<'a>
+    ensures { IsToldOfAssembly path.entry error result }
 {
     match error {
-        AssembleError::Fault(fault) => Failure::AssemblyRefused(fault.line, fault.kind.number()),
+        AssembleError::Fault(fault) => Failure::AssemblyRefused {
+            path,
+            refusal: AssemblyRefusal::of(fault, text),
+        },
         AssembleError::Memory => Failure::NoMemory,
     }
 }

@@ -5,7 +5,7 @@ ghost use Rattle.command_programs.specs.Told.{told_of_program};
 
 use command_failure::Failure;
 use command_files::{Files, read};
-use ebpf_decode::{DecodeFault, decode};
+use ebpf_decode::{DecodeFault, ProgramRefusal, decode};
 use instruction_set::Program;
 use std::alloc::Global;
 
@@ -18,15 +18,18 @@ pub(crate) fn read_program<'a, F: Files>(
     ensures { F.made files.new ≡ F.made files.old }
 {
     let file = read(path, files)?;
-    decode(alloc, file.as_slice()).map_err(|fault| refused(fault))
+    decode(alloc, file.as_slice()).map_err(|fault| refused(path, file.as_slice(), fault))
 }
 
-/// What the user is told of bytes that are no program.
-fn refused<'a>(fault: DecodeFault) -> Failure<'a>
-    ensures { result ≡ told_of_program fault }
+/// What the user is told of a file of these bytes that is no program.
+fn refused<'a>(path: &'a str, bytes: &[u8], fault: DecodeFault) -> Failure<'a>
+    ensures { result ≡ told_of_program path.entry bytes.now fault }
 {
     match fault {
-        DecodeFault::Fault(fault) => Failure::ProgramRefused(fault.slot, fault.kind.number()),
+        DecodeFault::Fault(fault) => Failure::ProgramRefused {
+            path,
+            refusal: ProgramRefusal::of(fault, bytes),
+        },
         DecodeFault::Memory => Failure::NoMemory,
     }
 }

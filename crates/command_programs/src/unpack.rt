@@ -1,14 +1,14 @@
 //! The command `unpack`: the records of output blocks.
 
 ghost use Rattle.std.specs.Prelude.{◌≡◌};
-ghost use Rattle.command_programs.specs.Told.{told_of_frame};
+ghost use Rattle.command_programs.specs.Told.{IsToldOfFrame};
 
 use crate::sizes::block_size;
 use clap::{Arg, ArgMatches, Command};
 use command_failure::{Failure, printed};
 use command_files::arguments::{and_argument, block_option, number, required};
 use command_files::{Files, read};
-use emit_append::{UnpackFault, unpack as records_of};
+use emit_append::{BlockSize, FrameRefusal, UnpackFault, unpack as records_of};
 use std::alloc::{AllocError, Global};
 use std::io::Write;
 
@@ -25,7 +25,7 @@ Prints the records of a file of output blocks, each in hexadecimal on a line of 
 Programs emit records, which the device packs into whole blocks: each record is a frame, its length \
 in two bytes (the lower one first) and then its bytes. Frames lie from a block's front on, and what \
 lies behind the last is zeros. Of a file with a byte that isn't so, nothing is printed, and \
-`frame refused AT` tells the lowest such byte.";
+`frame refused BYTE` tells the lowest such byte.";
 
 const EXAMPLE: &str = "\
 Example: a block that begins 0300616263 holds the record 616263.
@@ -56,15 +56,23 @@ pub fn unpack<'a, F: Files, O: Write>(
     ensures { F.made files.new ≡ F.made files.old }
 {
     let block = number(matches, BLOCK)?;
-    let file = read(required(matches, FILE), files)?;
-    let text = text_of(alloc, file.as_slice(), block as usize)?;
+    let path = required(matches, FILE);
+    let file = read(path, files)?;
+    let text = text_of(alloc, path, file.as_slice(), block as usize)?;
     printed(out.write_all(text.as_bytes()))
 }
 
-/// The lines of the records in output blocks of so many bytes.
-fn text_of<'a>(alloc: Global, bytes: &[u8], block: usize) -> Result<String, Failure<'a>> {
+/// The lines of the records in a file of output blocks of so many bytes.
+fn text_of<'a>(
+    alloc: Global,
+    path: &'a str,
+    bytes: &[u8],
+    block: usize,
+) -> Result<String, Failure<'a>> {
     let block = block_size(block)?;
-    let records = records_of(alloc, bytes, block).map_err(|fault| refused(fault))?;
+    let records = records_of(alloc, bytes, block).map_err(|fault| refused(
+        path, bytes, block, fault,
+    ))?;
     Ok(lines_of(alloc, records.as_slice())?)
 }
 
@@ -78,12 +86,15 @@ fn lines_of(alloc: Global, records: &[Vec<u8>]) -> Result<String, AllocError> {
     Ok(text)
 }
 
-/// What the user is told of bytes that are no output blocks.
-fn refused<'a>(fault: UnpackFault) -> Failure<'a>
-    ensures { result ≡ told_of_frame fault }
+/// What the user is told of a file of these bytes, which are no output blocks of this size.
+fn refused<'a>(path: &'a str, bytes: &[u8], block: BlockSize, fault: UnpackFault) -> Failure<'a>
+    ensures { IsToldOfFrame path.entry fault result }
 {
     match fault {
-        UnpackFault::At(byte) => Failure::FrameRefused(byte),
+        UnpackFault::At(byte) => Failure::FrameRefused {
+            path,
+            refusal: FrameRefusal::of(byte, bytes, block),
+        },
         UnpackFault::Memory => Failure::NoMemory,
     }
 }

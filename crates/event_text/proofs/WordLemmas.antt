@@ -1,9 +1,9 @@
 -- The words of a line, one after the other.
-use Rattle.std.proofs.Common.{◌≡◌, ℕ, ◌+◌, ◌<◌, ◌≤◌, zero, suc, not, Bool, true, false, cond, ltb, List, [], ◌∷◌, length, take, drop, get_or, filter, refl, sym, ap, ◌∙◌, subst, ◌⊎◌, inl, inr, arith}
-use Rattle.std.specs.List.{slice_split, position_or_len, before_first}
+use Rattle.std.proofs.Common.{◌≡◌, ℕ, ◌+◌, ◌<◌, ◌≤◌, zero, suc, not, Bool, true, false, cond, ltb, List, [], ◌∷◌, ◌++◌, length, take, drop, get_or, filter, refl, sym, ap, ◌∙◌, subst, ◌⊎◌, inl, inr, arith}
+use Rattle.std.specs.List.{All, slice_split, position_or_len, before_first}
 use Rattle.std.proofs.lemmas.Bool.{lt-ltb, cases_lt}
 use Rattle.std.proofs.lemmas.List.{drop_more, length-take-le, take_all, drop_all}
-use Rattle.std.proofs.lemmas.List.Splits.{slice_split_first, slice_split-cons_yes}
+use Rattle.std.proofs.lemmas.List.Splits.{slice_split_at, slice_split_first, slice_split_none, slice_split-cons_yes}
 use Rattle.std.proofs.lemmas.List.Sums.{passes_at_first, prefix_len-le-length}
 use Rattle.text_lines.specs.Cut.{is_blank_byte, without_first_blanks}
 use Rattle.text_lines.proofs.PartLemmas.{whole}
@@ -76,3 +76,10 @@ next_word line text word behind e some front rest =
     let k = position_or_len is_blank_byte text in
     let begins : is_blank_byte (get_or text 0 0) ≡ false = rw e (starts line (omega (arith, some, ap length e))) in
     sym (words_of-trimmed line) ∙ sym (ap words_of e) ∙ first_at text k some begins refl (cases_lt k (length text)) ∙ rw (front, rest) refl
+
+-- a word with no blank in it, at the end of a text and in front of a space
+pub word_last : (word : List ℕ) → 0 < length word → All (λ b. is_blank_byte b ≡ false) word → words_of word ≡ word ∷ []
+word_last word some plain = ap (filter is_word) (slice_split_none is_blank_byte word plain) ∙ kept word [] some
+
+pub word_first : (word behind : List ℕ) → 0 < length word → All (λ b. is_blank_byte b ≡ false) word → words_of (word ++ 32 ∷ behind) ≡ word ∷ words_of behind
+word_first word behind some plain = ap (filter is_word) (slice_split_at is_blank_byte word 32 behind plain refl) ∙ kept word (slice_split is_blank_byte behind) some

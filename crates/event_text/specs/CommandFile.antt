@@ -18,6 +18,7 @@ use Rattle.event_text.specs.declared.command_file.ParseError.{ParseError}
 use Rattle.event_text.specs.declared.command_file.ParseError.TheVariants.{Line, OutOfMemory}
 use Rattle.event_text.specs.declared.command_file.LineError.{LineError}
 use Rattle.event_text.specs.declared.command_file.LineError.TheVariants as reasons
+use Rattle.event_text.specs.declared.fault.LineFault.TheVariants as fault
 use Rattle.event_text.specs.Words.{words_of, one_of, two_of, three_of}
 
 -- an event as a line tells it
@@ -95,14 +96,21 @@ events_from number (line ∷ rest) = line_before number (line_told line) (events
 abbrev pub events_in : List ℕ → Result (List Told) ℕ
 events_in file = events_from 1 (lines file)
 
--- why digits that spell no bytes refuse their line
-abbrev pub reason_of : FromHexError → LineError
-reason_of digits.OutOfMemory = reasons.OutOfMemory
-reason_of _ = reasons.Malformed
+-- why an entry of so many characters that spells no 64 bytes refuses its line
+abbrev pub entry_reason : ℕ → FromHexError → LineError
+entry_reason characters digits.OutOfMemory = reasons.OutOfMemory
+entry_reason characters (digits.InvalidHexCharacter character before) = reasons.Refused (fault.EntryDigit character before)
+entry_reason characters _ = reasons.Refused (fault.EntryLength characters)
+
+-- why data of so many characters that spells no bytes refuses its line
+abbrev pub data_reason : ℕ → FromHexError → LineError
+data_reason characters digits.OutOfMemory = reasons.OutOfMemory
+data_reason characters (digits.InvalidHexCharacter character before) = reasons.Refused (fault.DataDigit character before)
+data_reason characters _ = reasons.Refused (fault.DataLength characters)
 
 -- the event that is given, or the refusal, is the one that is told, unless memory ran out
 abbrev pub RefusesEvent : LineError → Option Told → Type 0
-RefusesEvent reasons.Malformed meant = meant ≡ None
+RefusesEvent (reasons.Refused fault) meant = meant ≡ None
 RefusesEvent reasons.OutOfMemory meant = Unit {0}
 
 abbrev pub GivesEvent : Result Event LineError → Option Told → Type 0
@@ -110,7 +118,7 @@ GivesEvent (Ok event) meant = meant ≡ Some (told_of event)
 GivesEvent (Err error) meant = RefusesEvent error meant
 
 abbrev pub RefusesLine : LineError → Option (Option Told) → Type 0
-RefusesLine reasons.Malformed meant = meant ≡ None
+RefusesLine (reasons.Refused fault) meant = meant ≡ None
 RefusesLine reasons.OutOfMemory meant = Unit {0}
 
 abbrev pub GivesLine : Result (Option Event) LineError → Option (Option Told) → Type 0
@@ -118,5 +126,5 @@ GivesLine (Ok event) meant = meant ≡ Some (option_map told_of event)
 GivesLine (Err error) meant = RefusesLine error meant
 
 abbrev pub RefusesFile : ParseError → Result (List Told) ℕ → Type 0
-RefusesFile (Line number) meant = meant ≡ Err number
+RefusesFile (Line number fault) meant = meant ≡ Err number
 RefusesFile OutOfMemory meant = Unit {0}

@@ -1,3 +1,5 @@
 pub mod CommandFile
 pub mod Lines
+pub mod ReplyFile
+pub mod Submission
 pub mod Words

@@ -11,28 +11,29 @@ ghost use Rattle.std.specs.Prelude.{◌≡◌, ◌^◌, map, option_and_then, Ok
 ghost use Rattle.text_lines.specs.Number.{number_of};
 ghost use Rattle.event_text.specs.Words.{words_of};
 ghost use Rattle.event_text.specs.declared.command_file.ParseError.TheVariants.{OutOfMemory};
-ghost use Rattle.event_text.specs.CommandFile.{told_of, below, submission_of, turn_of, fault_of, state_named, event_named as named_event, line_told, events_in, reason_of, GivesEvent, GivesLine, RefusesFile};
+ghost use Rattle.event_text.specs.CommandFile.{told_of, below, submission_of, turn_of, fault_of, state_named, event_named as named_event, line_told, events_in, entry_reason, data_reason, GivesEvent, GivesLine, RefusesFile};
 
+use crate::fault::LineFault;
 use crate::words::Words;
 use device_events::Event;
 use hex::{FromHex, FromHexError};
 use std::alloc::{AllocFailed, Global};
-use text_lines::{decimal, first_line, is_all_ascii, without_comment};
+use text_lines::{Excerpt, decimal, first_line, is_all_ascii, without_comment};
 use zone_state::FaultState;
 
 /// Why a command file has no events.
 #[derive(Clone, Copy, Debug, PartialEq, Eq)]
 pub enum ParseError {
-    /// A line isn't of the form; the first line is 1.
-    Line(usize),
+    /// The number of a line, the first being 1, and why it has no event.
+    Line { number: usize, fault: LineFault },
     /// No memory for the events.
     OutOfMemory,
 }
 
-/// Why a line has no event.
+/// Why there is no event of a line.
 #[derive(Clone, Copy, Debug, PartialEq, Eq)]
 enum LineError {
-    Malformed,
+    Refused(LineFault),
     OutOfMemory,
 }
 
@@ -54,7 +55,7 @@ pub fn parse(alloc: Global, file: &[u8]) -> Result<Vec<Event>, ParseError>
         match event_of(alloc, line) {
             Ok(Some(event)) => events.push(event)?,
             Ok(None) => {}
-            Err(LineError::Malformed) => return Err(ParseError::Line(number)),
+            Err(LineError::Refused(fault)) => return Err(ParseError::Line { number, fault }),
             Err(LineError::OutOfMemory) => return Err(ParseError::OutOfMemory),
         }
         rest = behind;
@@ -68,7 +69,7 @@ fn event_of(alloc: Global, line: &[u8]) -> Result<Option<Event>, LineError>
     ensures { GivesLine result (line_told line.now) }
 {
     if !is_all_ascii(line) {
-        return Err(LineError::Malformed);
+        return Err(LineError::Refused(LineFault::NotAscii(other_bytes(line))));
     }
     let mut words = Words::new(without_comment(line));
     let Some(name) = words.next() else {
@@ -76,6 +77,12 @@ fn event_of(alloc: Global, line: &[u8]) -> Result<Option<Event>, LineError>
     };
     let event = event_named(alloc, name, words)?;
     Ok(Some(event))
+}
+
+/// The line from its first byte that isn't ASCII on, to be shown.
+fn other_bytes(line: &[u8]) -> Excerpt {
+    let before = line.iter().take_while(|byte| byte.is_ascii()).count();
+    Excerpt::of(line.get(before..).unwrap_or(line))
 }
 
 /// The event that a word names and the words behind it describe.
@@ -86,41 +93,83 @@ fn event_named(alloc: Global, name: &[u8], words: Words<'_>) -> Result<Event, Li
         b"submit" => submit(alloc, words),
         b"turn" => turn(words),
         b"fault" => fault(words),
-        _ => Err(LineError::Malformed),
+        _ => Err(LineError::Refused(LineFault::NoSuchEvent(words.shown()))),
     }
 }
 
 fn submit(alloc: Global, words: Words<'_>) -> Result<Event, LineError>
     ensures { GivesEvent result (submission_of (words_of words.entry.rest.now)) }
 {
-    let (queue, entry, payload) = words.three().ok_or(LineError::Malformed)?;
-    let queue = queue_number(queue).ok_or(LineError::Malformed)?;
-    let entry = <[u8; 64]>::from_hex(entry)?;
-    let payload = hex::decode(alloc, payload)?;
+    let line = words.shown();
+    let Some((queue, entry, payload)) = words.three() else {
+        return Err(LineError::Refused(LineFault::SubmitWords(line)));
+    };
+    let Some(number) = queue_number(queue) else {
+        return Err(LineError::Refused(LineFault::Queue(Excerpt::of(queue))));
+    };
+    let entry = <[u8; 64]>::from_hex(entry).map_err(|error| entry_error(error, entry.len()))?;
+    let payload = hex::decode(alloc, payload).map_err(|error| data_error(error, payload.len()))?;
     Ok(Event::Submit {
-        queue,
+        queue: number,
         entry,
         payload,
     })
 }
 
 /// A number below 2^16.
-fn queue_number(word: &[u8]) -> Option<u16>
+pub(crate) fn queue_number(word: &[u8]) -> Option<u16>
     ensures { result ≡ option_and_then (below (2 ^ 16)) (number_of word.now) }
 {
     u16::try_from(decimal(word)?).ok()
 }
 
+/// Why an entry of so many characters spells no 64 bytes.
+fn entry_error(error: FromHexError, characters: usize) -> LineError
+    ensures { result ≡ entry_reason characters error }
+{
+    match error {
+        FromHexError::OutOfMemory => LineError::OutOfMemory,
+        FromHexError::InvalidHexCharacter { c, index } => LineError::Refused(
+            LineFault::EntryDigit {
+                character: c,
+                before: index,
+            },
+        ),
+        _ => LineError::Refused(LineFault::EntryLength(characters)),
+    }
+}
+
+/// Why data of so many characters spells no bytes.
+fn data_error(error: FromHexError, characters: usize) -> LineError
+    ensures { result ≡ data_reason characters error }
+{
+    match error {
+        FromHexError::OutOfMemory => LineError::OutOfMemory,
+        FromHexError::InvalidHexCharacter { c, index } => LineError::Refused(
+            LineFault::DataDigit {
+                character: c,
+                before: index,
+            },
+        ),
+        _ => LineError::Refused(LineFault::DataLength(characters)),
+    }
+}
+
 fn turn(words: Words<'_>) -> Result<Event, LineError>
     ensures { GivesEvent result (turn_of (words_of words.entry.rest.now)) }
 {
-    let word = words.one().ok_or(LineError::Malformed)?;
-    let run = run_number(word).ok_or(LineError::Malformed)?;
-    Ok(Event::Turn { run })
+    let line = words.shown();
+    let Some(word) = words.one() else {
+        return Err(LineError::Refused(LineFault::TurnWords(line)));
+    };
+    match run_number(word) {
+        Some(run) => Ok(Event::Turn { run }),
+        None => Err(LineError::Refused(LineFault::Run(Excerpt::of(word)))),
+    }
 }
 
 /// A number below 2^8.
-fn run_number(word: &[u8]) -> Option<u8>
+pub(crate) fn run_number(word: &[u8]) -> Option<u8>
     ensures { result ≡ option_and_then (below (2 ^ 8)) (number_of word.now) }
 {
     u8::try_from(decimal(word)?).ok()
@@ -129,10 +178,20 @@ fn run_number(word: &[u8]) -> Option<u8>
 fn fault(words: Words<'_>) -> Result<Event, LineError>
     ensures { GivesEvent result (fault_of (words_of words.entry.rest.now)) }
 {
-    let (zone, state) = words.two().ok_or(LineError::Malformed)?;
-    let zone = decimal(zone).ok_or(LineError::Malformed)?;
-    let state = fault_state(state).ok_or(LineError::Malformed)?;
-    Ok(Event::Fault { zone, state })
+    let line = words.shown();
+    let Some((zone, state)) = words.two() else {
+        return Err(LineError::Refused(LineFault::FaultWords(line)));
+    };
+    let Some(number) = decimal(zone) else {
+        return Err(LineError::Refused(LineFault::Zone(Excerpt::of(zone))));
+    };
+    match fault_state(state) {
+        Some(state) => Ok(Event::Fault {
+            zone: number,
+            state,
+        }),
+        None => Err(LineError::Refused(LineFault::State(Excerpt::of(state)))),
+    }
 }
 
 fn fault_state(word: &[u8]) -> Option<FaultState>
@@ -142,17 +201,6 @@ fn fault_state(word: &[u8]) -> Option<FaultState>
         b"readonly" => Some(FaultState::ReadOnly),
         b"offline" => Some(FaultState::Offline),
         _ => None,
-    }
-}
-
-impl From<FromHexError> for LineError {
-    ghost from_gives = { λ error reason. reason ≡ reason_of error };
-
-    fn from(error: FromHexError) -> LineError {
-        match error {
-            FromHexError::OutOfMemory => LineError::OutOfMemory,
-            _ => LineError::Malformed,
-        }
     }
 }
 

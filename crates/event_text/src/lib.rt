@@ -1,10 +1,16 @@
 //! Events as text: the lines of a command file that tell them, and the lines that their replies are
-//! printed as.
+//! printed as and read back from.
 #![tactic(auto)]
 
 mod command_file;
+mod fault;
 mod lines;
+mod reply_file;
+mod submission;
 mod words;
 
 pub use command_file::{ParseError, parse};
+pub use fault::LineFault;
 pub use lines::Lines;
+pub use reply_file::{Answer, ReplyFileError, replies};
+pub use submission::submission_line;

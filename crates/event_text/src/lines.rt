@@ -4,7 +4,7 @@ ghost use Rattle.std.specs.Prelude.{◌≡◌, ◌≤◌, ◌<◌, ◌+◌, ◌^
 ghost use Rattle.device_events.specs.Refusals.{CountsRefusals};
 ghost use Rattle.std.specs.Io.KnownBytes.{Appends};
 ghost use Rattle.hex.specs.Hex.{encode_lower};
-ghost use Rattle.event_text.specs.Lines.{line_text};
+ghost use Rattle.event_text.specs.Lines.{data_text, line_text, reply_text};
 
 use device_events::{Out, Refusal, Reply};
 use std::alloc::{AllocError, Global};
@@ -77,26 +77,42 @@ fn print<W: Write>(out: &mut W, line: &mut Vec<u8>, reply: Reply, bytes: &[u8]) 
 fn push_line(line: &mut Vec<u8>, reply: Reply, bytes: &[u8]) -> io::Result<()>
     ensures { OnOk result (line.new.items ≡ line.old.items ++ line_text reply bytes.now) }
 {
+    push_reply(line, reply, bytes)?;
+    line.push(b'\n')?;
+    Ok(())
+}
+
+/// Adds a reply without the end of its line.
+pub(crate) fn push_reply(line: &mut Vec<u8>, reply: Reply, bytes: &[u8]) -> io::Result<()>
+    ensures { OnOk result (line.new.items ≡ line.old.items ++ reply_text reply bytes.now) }
+{
     match reply {
         Reply::Complete { queue, entry, .. } => {
             write!(line, "cpl {queue} ")?;
             push_hex(line, &entry)?;
-            if !bytes.is_empty() {
-                line.push(b' ')?;
-                push_hex(line, bytes)?;
-            }
+            push_data(line, bytes)?;
         }
         Reply::Pending { run } => write!(line, "pending {run}")?,
         Reply::Idle => write!(line, "idle")?,
         Reply::Done => write!(line, "done")?,
         Reply::FaultRefused => write!(line, "refused")?,
     }
-    line.push(b'\n')?;
+    Ok(())
+}
+
+/// Adds a space and the digits of the data, where there is any.
+pub(crate) fn push_data(line: &mut Vec<u8>, bytes: &[u8]) -> Result<(), AllocError>
+    ensures { OnOk result (line.new.items ≡ line.old.items ++ data_text bytes.now) }
+{
+    if !bytes.is_empty() {
+        line.push(b' ')?;
+        push_hex(line, bytes)?;
+    }
     Ok(())
 }
 
 /// Adds two lower case hexadecimal digits for each byte.
-fn push_hex(line: &mut Vec<u8>, bytes: &[u8]) -> Result<(), AllocError>
+pub(crate) fn push_hex(line: &mut Vec<u8>, bytes: &[u8]) -> Result<(), AllocError>
     ensures { OnOk result (line.new.items ≡ line.old.items ++ encode_lower bytes.now) }
 {
     let mut rest = bytes;

@@ -3,11 +3,12 @@
 ghost use Rattle.std.specs.Prelude.{◌≡◌, [], ◌∷◌, MatchOption, option_copied, option_map};
 ghost use Rattle.event_text.specs.Words.{words_of, one_of, two_of, three_of};
 
-use text_lines::{trim_start, word};
+use text_lines::{Excerpt, trim, trim_start, word};
 
 /// The words of a line, which spaces and tabs separate.
 #[derive(Drop)]
 pub(crate) struct Words<'a> {
+    line: &'a [u8],
     rest: &'a [u8],
 }
 
@@ -16,7 +17,12 @@ impl<'a> Words<'a> {
     pub(crate) fn new(line: &'a [u8]) -> Words<'a>
         ensures { result.rest.now ≡ line.now }
     {
-        Words { rest: line }
+        Words { line, rest: line }
+    }
+
+    /// The line, to be shown.
+    pub(crate) fn shown(&self) -> Excerpt {
+        Excerpt::of(trim(self.line))
     }
 
     /// The next word, if there is one.

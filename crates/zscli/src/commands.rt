@@ -8,6 +8,7 @@ use clap::{ArgMatches, Command};
 use command_exec::exec;
 use command_failure::{Failure, printed};
 use command_files::Files;
+use command_files::arguments::{and_command, no_command};
 use command_images::{format, zones};
 use command_programs::{asm, disasm, trace, unpack, verify};
 use std::alloc::{AllocError, Global};
@@ -104,14 +105,6 @@ fn perform_on_programs<'a, F: Files, O: Write>(
     }
 }
 
-/// Why a command line that names no command is wrong.
-fn no_command<'a>(line: &mut Command<'a>) -> Failure<'a> {
-    match line.error(ErrorKind::MissingSubcommand, "a command is required") {
-        Ok(error) => Failure::from(error),
-        Err(error) => Failure::from(error),
-    }
-}
-
 /// How a command line is written.
 fn command_line<'a>(alloc: Global) -> Result<Command<'a>, AllocError> {
     let line = Command::new(alloc, "zscli")
@@ -126,12 +119,4 @@ fn command_line<'a>(alloc: Global) -> Result<Command<'a>, AllocError> {
     let line = and_command(line, trace::subcommand(alloc));
     let line = and_command(line, verify::subcommand(alloc));
     and_command(line, unpack::subcommand(alloc))
-}
-
-/// A command line that has this command too.
-fn and_command<'a>(
-    line: Result<Command<'a>, AllocError>,
-    command: Result<Command<'a>, AllocError>,
-) -> Result<Command<'a>, AllocError> {
-    line?.subcommand(command?)
 }

@@ -11,6 +11,7 @@ mod images;
 mod loading;
 mod memory;
 mod programs;
+mod refusals;
 mod running;
 mod scenes;
 mod stage;

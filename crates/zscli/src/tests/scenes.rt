@@ -47,8 +47,12 @@ pub(super) enum Act {
     Prints(&'static str, &'static str),
     /// A command line succeeds, and prints the lines that answer the steps alone.
     Answers(&'static str),
-    /// A command line ends with this status, standard output and standard error.
+    /// A command line succeeds, and what it prints is put behind `events`.
+    Adds(&'static str),
+    /// A command line ends with this status, standard output and last line on standard error.
     Fails(&'static str, u8, &'static str, &'static str),
+    /// A command line refuses its input: it prints nothing, and this to standard error.
+    Refuses(&'static str, &'static str),
     /// A command line whose standard output takes so many writes ends with this status and standard error.
     Stops(&'static str, usize, u8, &'static str),
     /// A command line tells its usage, and ends with this status.
@@ -100,9 +104,11 @@ fn judge(rt: &impl Abort, stage: &mut Stage, scene: &str, act: Act) -> Result<()
     match act {
         Act::Prints(line, out) => stage.check(rt, &At { scene, line }, 0, out, "")?,
         Act::Answers(line) => stage.check_answers(rt, &At { scene, line })?,
+        Act::Adds(line) => stage.add_printed(rt, &At { scene, line })?,
         Act::Fails(line, status, out, err) => {
             stage.check(rt, &At { scene, line }, status, out, err)?;
         }
+        Act::Refuses(line, err) => stage.check_refusal(rt, &At { scene, line }, err)?,
         Act::Stops(line, writes, status, err) => {
             stage.run(line, writes)?;
             stage.check_end(rt, &At { scene, line }, status, err);

@@ -138,10 +138,36 @@ impl Stage {
         Ok(())
     }
 
-    /// Compares the status of the last command line, and what it printed to standard error.
+    /// The same where it succeeds, and what it prints goes behind the bytes of `events`.
+    pub(super) fn add_printed(&mut self, rt: &impl Abort, at: &At) -> Result<(), AllocError> {
+        self.run(at.line, usize::MAX)?;
+        self.check_end(rt, at, 0, "");
+        let mut bytes = Vec::new(self.alloc);
+        if let Some(before) = self.files.bytes("events") {
+            bytes.extend_from_slice(before)?;
+        }
+        bytes.extend_from_slice(self.out.bytes.as_slice())?;
+        self.files.put("events", bytes.as_slice())
+    }
+
+    /// Compares the status of the last command line, and the last line that it printed to standard error.
     pub(super) fn check_end(&self, rt: &impl Abort, at: &At, status: u8, err: &str) {
-        assert_printed(rt, at, self.err.as_slice(), err);
+        assert_printed(rt, at, last_line(self.err.as_slice()), err);
         assert_eq!(rt; self.status, status, "{at:?}");
+    }
+
+    /// Runs a command line whose input is refused, and compares all that it prints to standard error.
+    pub(super) fn check_refusal(
+        &mut self,
+        rt: &impl Abort,
+        at: &At,
+        err: &str,
+    ) -> Result<(), AllocError> {
+        self.run(at.line, usize::MAX)?;
+        assert_printed(rt, at, self.err.as_slice(), err);
+        assert_printed(rt, at, self.out.bytes.as_slice(), "");
+        assert_eq!(rt; self.status, 3, "{at:?}");
+        Ok(())
     }
 
     /// It told its usage: where its status is 0 to standard output, and else to standard error.
@@ -207,6 +233,15 @@ impl Stage {
             "{at:?}"
         );
         Ok(())
+    }
+}
+
+/// The last line of what was printed, with its end.
+fn last_line(printed: &[u8]) -> &[u8] {
+    let front = printed.strip_suffix(b"\n").unwrap_or(printed);
+    match front.iter().rposition(|byte| *byte == b'\n') {
+        Some(end) => printed.get(end + 1..).unwrap_or(printed),
+        None => printed,
     }
 }
 

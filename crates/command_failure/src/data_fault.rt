@@ -1,0 +1,16 @@
+//! Why the bytes of a file can't be moved by a command.
+
+use thiserror::Error;
+
+/// Why the bytes of a file can't be moved by a command of the device. Its text goes on from the file's name.
+#[derive(Clone, Copy, Debug, PartialEq, Eq, Error)]
+pub enum DataFault {
+    #[error("has no bytes")]
+    Empty,
+    /// It has more bytes than one command moves.
+    #[error("has more than the 131072 bytes that a command moves")]
+    TooLong,
+    /// It isn't whole blocks of so many bytes.
+    #[error("isn't whole blocks of {0} bytes")]
+    NotWholeBlocks(u32),
+}
