@@ -5,7 +5,9 @@ ghost use Rattle.command_files.specs.Made.{MakesAtMostOne};
 
 use clap::error::ErrorKind;
 use clap::{ArgMatches, Command};
+use command_entry::entry;
 use command_exec::exec;
+use command_explain::explain;
 use command_failure::{Failure, printed};
 use command_files::Files;
 use command_files::arguments::{and_command, no_command};
@@ -101,6 +103,8 @@ fn perform_on_programs<'a, F: Files, O: Write>(
         trace::NAME => trace::trace(alloc, matches, files, out),
         verify::NAME => verify::verify(alloc, matches, files, out),
         unpack::NAME => unpack::unpack(alloc, matches, files, out),
+        entry::NAME => entry::entry(alloc, line, matches, files, out),
+        explain::NAME => explain::explain(alloc, matches, files, out),
         _ => Err(no_command(line)),
     }
 }
@@ -118,5 +122,7 @@ fn command_line<'a>(alloc: Global) -> Result<Command<'a>, AllocError> {
     let line = and_command(line, disasm::subcommand(alloc));
     let line = and_command(line, trace::subcommand(alloc));
     let line = and_command(line, verify::subcommand(alloc));
-    and_command(line, unpack::subcommand(alloc))
+    let line = and_command(line, unpack::subcommand(alloc));
+    let line = and_command(line, entry::subcommand(alloc));
+    and_command(line, explain::subcommand(alloc))
 }

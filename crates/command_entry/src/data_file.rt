@@ -1,0 +1,52 @@
+//! Files whose bytes stand beside an entry.
+
+ghost use Rattle.std.specs.Prelude.{◌≡◌, ◌≤◌, IfOk, vec_len};
+
+use crate::numbers::block_count;
+use command_failure::{DataFault, Failure};
+use command_files::{Files, read};
+use image_store::GeometryRefusal;
+use nvme_entry::{BlockCount, MOST_TRANSFER};
+use program_interface::BlockSize;
+
+/// All bytes of a file: one at least, and no more than a command moves.
+pub(crate) fn read_data<'a, F: Files>(path: &'a str, files: &mut F) -> Result<Vec<u8>, Failure<'a>>
+    ensures made { F.made files.new ≡ F.made files.old }
+    ensures most { IfOk result (λ bytes. vec_len bytes ≤ MOST_TRANSFER) }
+{
+    let data = read(path, files)?;
+    if data.is_empty() {
+        return Err(Failure::DataRefused(path, DataFault::Empty));
+    }
+    if data.len() > MOST_TRANSFER {
+        return Err(Failure::DataRefused(path, DataFault::TooLong));
+    }
+    Ok(data)
+}
+
+/// The number of blocks that so many bytes of a file are.
+pub(crate) fn whole_blocks<'a>(
+    path: &'a str,
+    bytes: usize,
+    block: BlockSize,
+) -> Result<BlockCount, Failure<'a>> {
+    let size = block.bytes();
+    if bytes % size as usize != 0 {
+        return Err(Failure::DataRefused(path, DataFault::NotWholeBlocks(size)));
+    }
+    match block_count(bytes / size as usize) {
+        Some(blocks) => Ok(blocks),
+        None => Err(Failure::DataRefused(path, DataFault::TooLong)),
+    }
+}
+
+/// The block size of so many bytes. Of other numbers the user is told what `format` tells.
+pub(crate) fn block_size<'a>(bytes: u32) -> Result<BlockSize, Failure<'a>> {
+    match BlockSize::new(bytes) {
+        Some(block) => Ok(block),
+        None => {
+            let refusal = GeometryRefusal::BlockSize(bytes as usize);
+            Err(Failure::GeometryRefused(refusal))
+        }
+    }
+}

@@ -1,0 +1,121 @@
+//! The command `entry`: a line of a command file, made of words.
+
+ghost use Rattle.std.specs.Prelude.{◌≡◌};
+
+use crate::asked::Asked;
+use crate::printing::{Target, print};
+use crate::{programs, transfers, zones};
+use clap::{ArgMatches, Command};
+use command_failure::Failure;
+use command_files::Files;
+use command_files::arguments::{and_command, no_command};
+use std::alloc::{AllocError, Global};
+use std::io::Write;
+use zone_state::Action;
+
+/// The command's name.
+pub const NAME: &str = "entry";
+
+const LONG_ABOUT: &str = "\
+Prints the line of a command file that submits an entry, made of words. Many such lines are a command file, \
+which `exec` runs.
+
+An entry goes to queue 1 and has command identifier 1, where `--queue` and `--cid` say nothing else. \
+Numbers are in decimal. A file with data is whole blocks, of 512 bytes where `--block` says nothing else, \
+and has at most 131072 bytes; so has a program.";
+
+const EXAMPLE: &str = "\
+Example: a command file that appends a block to the zone of block 8, and reads it back.
+
+  zscli entry append --lba 8 --data block.bin > work.cmd
+  zscli entry read --lba 8 --blocks 1 --cid 2 >> work.cmd
+  zscli exec zoned.img work.cmd";
+
+/// How the command stands on the command line.
+pub fn subcommand<'a>(alloc: Global) -> Result<Command<'a>, AllocError> {
+    let command = Command::new(alloc, NAME)
+        .about("Prints a line of a command file, made of words")
+        .long_about(LONG_ABOUT)
+        .after_help(EXAMPLE)
+        .subcommand_required(true)
+        .arg_required_else_help(true);
+    let command = and_command(Ok(command), transfers::append_command(alloc));
+    let command = and_command(command, transfers::write_command(alloc));
+    let command = and_command(command, transfers::read_command(alloc));
+    let command = zones::and_actions(alloc, command);
+    let command = and_command(command, zones::report_command(alloc));
+    let command = and_command(command, programs::load_command(alloc));
+    let command = and_command(command, programs::run_command(alloc));
+    and_command(command, programs::result_command(alloc))
+}
+
+/// Runs the command.
+pub fn entry<'a, F: Files, O: Write>(
+    alloc: Global,
+    line: &mut Command<'a>,
+    matches: &ArgMatches<'a>,
+    files: &mut F,
+    out: &mut O,
+) -> Result<(), Failure<'a>>
+    ensures { F.made files.new ≡ F.made files.old }
+{
+    match matches.subcommand() {
+        Some((name, matches)) => submit(alloc, line, name, matches, files, out),
+        None => Err(no_command(line)),
+    }
+}
+
+/// Prints the line of the kind of entry that has this name.
+fn submit<'a, F: Files, O: Write>(
+    alloc: Global,
+    line: &mut Command<'a>,
+    name: &str,
+    matches: &ArgMatches<'a>,
+    files: &mut F,
+    out: &mut O,
+) -> Result<(), Failure<'a>>
+    ensures { F.made files.new ≡ F.made files.old }
+{
+    let target = Target::of_words(matches)?;
+    let asked = words_asked(alloc, line, name, matches, files)?;
+    print(alloc, target, asked.command, asked.data.as_slice(), out)
+}
+
+/// What the words of the kind of entry that has this name ask for.
+fn words_asked<'a, F: Files>(
+    alloc: Global,
+    line: &mut Command<'a>,
+    name: &str,
+    matches: &ArgMatches<'a>,
+    files: &mut F,
+) -> Result<Asked, Failure<'a>>
+    ensures { F.made files.new ≡ F.made files.old }
+{
+    match name {
+        transfers::APPEND => transfers::append(matches, files),
+        transfers::WRITE => transfers::write(matches, files),
+        programs::LOAD => programs::load(matches, files),
+        _ => without_files(alloc, line, name, matches),
+    }
+}
+
+/// What the words of a kind of entry ask for that needs no file.
+fn without_files<'a>(
+    alloc: Global,
+    line: &mut Command<'a>,
+    name: &str,
+    matches: &ArgMatches<'a>,
+) -> Result<Asked, Failure<'a>> {
+    match name {
+        transfers::READ => transfers::read(alloc, matches),
+        zones::OPEN => zones::send(alloc, Action::Open, matches),
+        zones::CLOSE => zones::send(alloc, Action::Close, matches),
+        zones::FINISH => zones::send(alloc, Action::Finish, matches),
+        zones::RESET => zones::send(alloc, Action::Reset, matches),
+        zones::OFFLINE => zones::send(alloc, Action::Offline, matches),
+        zones::REPORT => zones::report(alloc, matches),
+        programs::RUN => programs::run(alloc, matches),
+        programs::RESULT => programs::result_of(alloc, matches),
+        _ => Err(no_command(line)),
+    }
+}

@@ -1,0 +1,11 @@
+//! The command `entry`: lines of a command file, made of words.
+#![tactic(auto)]
+
+mod asked;
+mod data_file;
+pub mod entry;
+mod numbers;
+mod printing;
+mod programs;
+mod transfers;
+mod zones;

@@ -1,0 +1,138 @@
+//! Entries for programs: `load`, `run` and `result`.
+
+ghost use Rattle.std.specs.Prelude.{◌≡◌};
+
+use crate::asked::Asked;
+use crate::data_file::read_data;
+use crate::numbers::{address, blocks, slot};
+use crate::printing::and_target;
+use clap::{Arg, ArgMatches, Command};
+use command_failure::Failure;
+use command_files::Files;
+use command_files::arguments::{and_argument, number, option, required};
+use nvme_entry::{LoadCommand, RunCommand};
+use std::alloc::{AllocError, Global};
+
+pub(crate) const LOAD: &str = "load";
+
+pub(crate) const RUN: &str = "run";
+
+pub(crate) const RESULT: &str = "result";
+
+const SLOT: &str = "slot";
+
+const PROGRAM: &str = "program";
+
+const EMIT: &str = "emit";
+
+const FROM: &str = "from";
+
+const BLOCKS: &str = "blocks";
+
+const TO: &str = "to";
+
+const ARGUMENT: &str = "argument";
+
+/// How `load` stands on the command line.
+pub(crate) fn load_command<'a>(alloc: Global) -> Result<Command<'a>, AllocError> {
+    let program = option(alloc, PROGRAM, "FILE")
+        .required(true)
+        .help("The program, as instruction bytes");
+    let emit = option(alloc, EMIT, "E").required(true).help(
+        "The most bytes that it may emit for a block, two for each record counted: at most a block",
+    );
+    let command = Command::new(alloc, LOAD)
+        .about("Loads a program into a slot")
+        .after_help("Example:\n\n  zscli entry load --slot 0 --program filter.bin --emit 66");
+    let command = and_argument(Ok(command), slot_option(alloc));
+    let command = and_argument(command, program);
+    let command = and_argument(command, emit);
+    and_target(alloc, command)
+}
+
+/// How `run` stands on the command line.
+pub(crate) fn run_command<'a>(alloc: Global) -> Result<Command<'a>, AllocError> {
+    let from = option(alloc, FROM, "LBA").required(true).help(
+        "The logical block address of the first block that the program runs on",
+    );
+    let blocks = option(alloc, BLOCKS, "N")
+        .required(true)
+        .help("The number of these blocks, from 1 to 65536");
+    let to = option(alloc, TO, "LBA").required(true).help(
+        "The lowest logical block address of the zone that is appended to",
+    );
+    let argument = option(alloc, ARGUMENT, "A")
+        .default_value("0")
+        .help("A number that the program is told");
+    let command = Command::new(alloc, RUN)
+        .about("Starts a run of a slot's program")
+        .after_help(
+            "Example:\n\n  zscli entry run --slot 0 --from 0 --blocks 52 --to 64 --argument 7",
+        );
+    let command = and_argument(Ok(command), slot_option(alloc));
+    let command = and_argument(command, from);
+    let command = and_argument(command, blocks);
+    let command = and_argument(command, to);
+    let command = and_argument(command, argument);
+    and_target(alloc, command)
+}
+
+/// How `result` stands on the command line.
+pub(crate) fn result_command<'a>(alloc: Global) -> Result<Command<'a>, AllocError> {
+    let command = Command::new(alloc, RESULT)
+        .about("Gives the scratch bytes that the last run of a slot's program left")
+        .after_help("Example:\n\n  zscli entry result --slot 0");
+    let command = and_argument(Ok(command), slot_option(alloc));
+    and_target(alloc, command)
+}
+
+fn slot_option<'a>(alloc: Global) -> Arg<'a> {
+    option(alloc, SLOT, "S")
+        .required(true)
+        .help("The slot of the program, from 0 to 7")
+}
+
+/// What the words of a `load` ask for.
+pub(crate) fn load<'a, F: Files>(
+    matches: &ArgMatches<'a>,
+    files: &mut F,
+) -> Result<Asked, Failure<'a>>
+    ensures { F.made files.new ≡ F.made files.old }
+{
+    let slot = slot(matches, SLOT)?;
+    let limit = number(matches, EMIT)?;
+    let data = read_data(required(matches, PROGRAM), files)?;
+    let load = LoadCommand {
+        slot,
+        limit,
+        bytes: data.len() as u32,
+    };
+    Ok(Asked {
+        command: nvme_entry::Command::Load(load),
+        data,
+    })
+}
+
+/// What the words of a `run` ask for.
+pub(crate) fn run<'a>(alloc: Global, matches: &ArgMatches<'a>) -> Result<Asked, Failure<'a>> {
+    let run = RunCommand {
+        lba: address(matches, FROM)?,
+        blocks: blocks(matches, BLOCKS)?,
+        slot: slot(matches, SLOT)?,
+        argument: number(matches, ARGUMENT)?,
+        destination: address(matches, TO)?,
+    };
+    Ok(Asked {
+        command: nvme_entry::Command::Run(run),
+        data: Vec::new(alloc),
+    })
+}
+
+/// What the words of a `result` ask for.
+pub(crate) fn result_of<'a>(alloc: Global, matches: &ArgMatches<'a>) -> Result<Asked, Failure<'a>> {
+    let slot = slot(matches, SLOT)?;
+    Ok(Asked {
+        command: nvme_entry::Command::Result(slot),
+        data: Vec::new(alloc),
+    })
+}

@@ -1,0 +1,136 @@
+//! Entries that move blocks: `append`, `write` and `read`.
+
+ghost use Rattle.std.specs.Prelude.{◌≡◌};
+
+use crate::asked::Asked;
+use crate::data_file::{block_size, read_data, whole_blocks};
+use crate::numbers::{address, blocks};
+use crate::printing::and_target;
+use clap::{Arg, ArgMatches, Command};
+use command_failure::Failure;
+use command_files::Files;
+use command_files::arguments::{and_argument, number, option, required};
+use nvme_entry::{BlockCount, StandardCommand};
+use std::alloc::{AllocError, Global};
+
+pub(crate) const APPEND: &str = "append";
+
+pub(crate) const WRITE: &str = "write";
+
+pub(crate) const READ: &str = "read";
+
+const LBA: &str = "lba";
+
+const DATA: &str = "data";
+
+const BLOCK: &str = "block";
+
+const BLOCKS: &str = "blocks";
+
+/// How `append` stands on the command line.
+pub(crate) fn append_command<'a>(alloc: Global) -> Result<Command<'a>, AllocError> {
+    let command = Command::new(alloc, APPEND)
+        .about("Appends the blocks of a file to a zone")
+        .after_help("Example:\n\n  zscli entry append --lba 8 --data block.bin");
+    and_data(
+        alloc,
+        command,
+        "The lowest logical block address of the zone",
+    )
+}
+
+/// How `write` stands on the command line.
+pub(crate) fn write_command<'a>(alloc: Global) -> Result<Command<'a>, AllocError> {
+    let command = Command::new(alloc, WRITE)
+        .about("Writes the blocks of a file at a zone's write pointer")
+        .after_help("Example:\n\n  zscli entry write --lba 10 --data block.bin");
+    and_data(
+        alloc,
+        command,
+        "The logical block address of the first block",
+    )
+}
+
+/// How `read` stands on the command line.
+pub(crate) fn read_command<'a>(alloc: Global) -> Result<Command<'a>, AllocError> {
+    let command = Command::new(alloc, READ)
+        .about("Reads blocks of a zone")
+        .after_help("Example:\n\n  zscli entry read --lba 0 --blocks 2");
+    let lba = lba_option(alloc, "The logical block address of the first block");
+    let blocks = option(alloc, BLOCKS, "N")
+        .required(true)
+        .help("The number of blocks, from 1 to 65536");
+    let command = and_argument(Ok(command), lba);
+    let command = and_argument(command, blocks);
+    and_target(alloc, command)
+}
+
+/// A command that takes an address and a file of blocks too.
+fn and_data<'a>(
+    alloc: Global,
+    command: Command<'a>,
+    address: &'a str,
+) -> Result<Command<'a>, AllocError> {
+    let data = option(alloc, DATA, "FILE")
+        .required(true)
+        .help("The file: whole blocks, at most 131072 bytes");
+    let block = option(alloc, BLOCK, "B")
+        .default_value("512")
+        .help("Bytes of a block: 512, 1024, 2048 or 4096");
+    let command = and_argument(Ok(command), lba_option(alloc, address));
+    let command = and_argument(command, data);
+    let command = and_argument(command, block);
+    and_target(alloc, command)
+}
+
+fn lba_option<'a>(alloc: Global, help: &'a str) -> Arg<'a> {
+    option(alloc, LBA, "LBA").required(true).help(help)
+}
+
+/// What the words of an `append` ask for.
+pub(crate) fn append<'a, F: Files>(
+    matches: &ArgMatches<'a>,
+    files: &mut F,
+) -> Result<Asked, Failure<'a>>
+    ensures { F.made files.new ≡ F.made files.old }
+{
+    let lba = address(matches, LBA)?;
+    let (blocks, data) = data_blocks(matches, files)?;
+    let command = StandardCommand::Append { lba, blocks };
+    Ok(Asked::standard(command, data))
+}
+
+/// What the words of a `write` ask for.
+pub(crate) fn write<'a, F: Files>(
+    matches: &ArgMatches<'a>,
+    files: &mut F,
+) -> Result<Asked, Failure<'a>>
+    ensures { F.made files.new ≡ F.made files.old }
+{
+    let lba = address(matches, LBA)?;
+    let (blocks, data) = data_blocks(matches, files)?;
+    let command = StandardCommand::Write { lba, blocks };
+    Ok(Asked::standard(command, data))
+}
+
+/// What the words of a `read` ask for.
+pub(crate) fn read<'a>(alloc: Global, matches: &ArgMatches<'a>) -> Result<Asked, Failure<'a>> {
+    let lba = address(matches, LBA)?;
+    let blocks = blocks(matches, BLOCKS)?;
+    let command = StandardCommand::Read { lba, blocks };
+    Ok(Asked::alone(alloc, command))
+}
+
+/// The blocks of the file that the words name, with their number.
+fn data_blocks<'a, F: Files>(
+    matches: &ArgMatches<'a>,
+    files: &mut F,
+) -> Result<(BlockCount, Vec<u8>), Failure<'a>>
+    ensures { F.made files.new ≡ F.made files.old }
+{
+    let block = block_size(number(matches, BLOCK)?)?;
+    let path = required(matches, DATA);
+    let data = read_data(path, files)?;
+    let blocks = whole_blocks(path, data.len(), block)?;
+    Ok((blocks, data))
+}

@@ -1,0 +1,185 @@
+//! Entries for zones: `open`, `close`, `finish`, `reset`, `offline` and `report`.
+
+use crate::asked::Asked;
+use crate::numbers::{address, dwords};
+use crate::printing::and_target;
+use clap::{Arg, ArgAction, ArgGroup, ArgMatches, Command};
+use command_failure::Failure;
+use command_files::arguments::{and_argument, and_command, option, required};
+use nvme_entry::{StandardCommand, ZoneFilter};
+use std::alloc::{AllocError, Global};
+use zone_state::Action;
+
+pub(crate) const OPEN: &str = "open";
+
+pub(crate) const CLOSE: &str = "close";
+
+pub(crate) const FINISH: &str = "finish";
+
+pub(crate) const RESET: &str = "reset";
+
+pub(crate) const OFFLINE: &str = "offline";
+
+pub(crate) const REPORT: &str = "report";
+
+const LBA: &str = "lba";
+
+const ALL: &str = "all";
+
+const STATE: &str = "state";
+
+const PARTIAL: &str = "partial";
+
+const DWORDS: &str = "dwords";
+
+const STATES: &[&str] = &[
+    "all", "empty", "implicit", "explicit", "closed", "full", "readonly", "offline",
+];
+
+/// A command that has the actions on zones below it too.
+pub(crate) fn and_actions<'a>(
+    alloc: Global,
+    command: Result<Command<'a>, AllocError>,
+) -> Result<Command<'a>, AllocError> {
+    let open = action_command(
+        alloc,
+        OPEN,
+        "Opens a zone, or all Closed zones",
+        "Example:\n\n  zscli entry open --lba 64",
+    );
+    let close = action_command(
+        alloc,
+        CLOSE,
+        "Closes a zone, or all open zones",
+        "Example:\n\n  zscli entry close --lba 64",
+    );
+    let command = and_command(command, open);
+    let command = and_command(command, close);
+    and_last_actions(alloc, command)
+}
+
+/// A command that has the actions below it too that end a zone's writing.
+fn and_last_actions<'a>(
+    alloc: Global,
+    command: Result<Command<'a>, AllocError>,
+) -> Result<Command<'a>, AllocError> {
+    let finish = action_command(
+        alloc,
+        FINISH,
+        "Makes a zone Full, or all open and Closed zones",
+        "Example:\n\n  zscli entry finish --lba 64",
+    );
+    let reset = action_command(
+        alloc,
+        RESET,
+        "Empties a zone, or all open, Closed and Full zones",
+        "Example:\n\n  zscli entry reset --all",
+    );
+    let offline = action_command(
+        alloc,
+        OFFLINE,
+        "Takes a Read Only zone offline, or all of them",
+        "Example:\n\n  zscli entry offline --lba 64",
+    );
+    let command = and_command(command, finish);
+    let command = and_command(command, reset);
+    and_command(command, offline)
+}
+
+/// How an action with this name stands on the command line.
+fn action_command<'a>(
+    alloc: Global,
+    name: &'a str,
+    about: &'a str,
+    example: &'a str,
+) -> Result<Command<'a>, AllocError> {
+    let lba = option(alloc, LBA, "LBA").help("The lowest logical block address of the zone");
+    let all = Arg::new(alloc, ALL)
+        .long(ALL)
+        .action(ArgAction::SetTrue)
+        .help("All zones that the action takes");
+    let command = Command::new(alloc, name).about(about).after_help(example);
+    let command = and_argument(Ok(command), lba);
+    let command = and_argument(command, all);
+    and_target(alloc, and_zones(alloc, command))
+}
+
+/// A command that takes either a zone or all of them.
+fn and_zones<'a>(
+    alloc: Global,
+    command: Result<Command<'a>, AllocError>,
+) -> Result<Command<'a>, AllocError> {
+    let zones = ArgGroup::new(alloc, "zones").required(true);
+    command?.group(zones.arg(LBA)?.arg(ALL)?)
+}
+
+/// How `report` stands on the command line.
+pub(crate) fn report_command<'a>(alloc: Global) -> Result<Command<'a>, AllocError> {
+    let lba = option(alloc, LBA, "LBA")
+        .required(true)
+        .help("A logical block address of the first zone");
+    let state = option(alloc, STATE, "STATE")
+        .default_value("all")
+        .value_parser(STATES)
+        .help("The zones that are reported");
+    let partial = Arg::new(alloc, PARTIAL)
+        .long(PARTIAL)
+        .action(ArgAction::SetTrue)
+        .help("Tell the number of the descriptors that are given, and not of all zones that match");
+    let dwords = option(alloc, DWORDS, "D").default_value("1024").help(
+        "The dwords of the report, from 1 to 32768: 16 for its header, and 16 for each zone",
+    );
+    let command = Command::new(alloc, REPORT)
+        .about("Reports zones")
+        .after_help("Example:\n\n  zscli entry report --lba 0 --state full --partial");
+    let command = and_argument(Ok(command), lba);
+    let command = and_argument(command, state);
+    let command = and_argument(command, partial);
+    let command = and_argument(command, dwords);
+    and_target(alloc, command)
+}
+
+/// What the words of an action ask for.
+pub(crate) fn send<'a>(
+    alloc: Global,
+    action: Action,
+    matches: &ArgMatches<'a>,
+) -> Result<Asked, Failure<'a>> {
+    let select_all = matches.get_flag(ALL);
+    let lba = if select_all {
+        0
+    } else {
+        address(matches, LBA)?
+    };
+    let command = StandardCommand::Send {
+        lba,
+        action,
+        select_all,
+    };
+    Ok(Asked::alone(alloc, command))
+}
+
+/// What the words of a `report` ask for.
+pub(crate) fn report<'a>(alloc: Global, matches: &ArgMatches<'a>) -> Result<Asked, Failure<'a>> {
+    let command = StandardCommand::Receive {
+        lba: address(matches, LBA)?,
+        dwords: dwords(matches, DWORDS)?,
+        filter: filter(required(matches, STATE)),
+        partial: matches.get_flag(PARTIAL),
+    };
+    Ok(Asked::alone(alloc, command))
+}
+
+/// The filter with this name, one of [`STATES`]. Another name is refused before this.
+fn filter(name: &str) -> ZoneFilter {
+    match name {
+        "empty" => ZoneFilter::Empty,
+        "implicit" => ZoneFilter::ImplicitlyOpened,
+        "explicit" => ZoneFilter::ExplicitlyOpened,
+        "closed" => ZoneFilter::Closed,
+        "full" => ZoneFilter::Full,
+        "readonly" => ZoneFilter::ReadOnly,
+        "offline" => ZoneFilter::Offline,
+        _ => ZoneFilter::All,
+    }
+}

@@ -1,0 +1,15 @@
+-- The submissions that wait for their completions.
+use Rattle.std.specs.Prelude.{ℕ, ◌≡◌, Bool, ◌==◌, ◌&&◌, List, Option, None, MatchOption, position, remove, slice_get}
+use Rattle.std.specs.Option.{option_map}
+use Rattle.nvme_entry.specs.Entry.{identifier_of}
+use Rattle.command_explain.specs.declared.waiting.Submission.{Submission}
+
+-- is it from this queue, with this command identifier?
+abbrev pub is_of : ℕ → ℕ → Submission → Bool
+is_of queue cid submission = (submission.queue == queue) && (identifier_of submission.entry == cid)
+
+-- the first that is waits no longer, and its entry is given; where none is, nothing changes
+abbrev pub TakesFirst : ℕ → ℕ → List Submission → List Submission → Option (List ℕ) → Type 0
+TakesFirst queue cid old new given = MatchOption (position (is_of queue cid) old)
+    ((given ≡ None) × (new ≡ old))
+    (λ at. (given ≡ option_map (λ (submission : Submission). submission.entry) (slice_get old at)) × (new ≡ remove old at))

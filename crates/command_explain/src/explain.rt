@@ -1,0 +1,162 @@
+//! The command `explain`: what `exec` printed, in words.
+
+ghost use Rattle.std.specs.Prelude.{◌≡◌};
+ghost use Rattle.command_explain.specs.Told.{told_of_replies};
+
+use crate::completion_words::{Answered, tell_completion};
+use crate::waiting::Waiting;
+use clap::{Arg, ArgMatches, Command};
+use command_failure::{Failure, printed};
+use command_files::arguments::{and_argument, option, required};
+use command_files::{Files, read};
+use device_events::Reply;
+use event_text::{Answer, ReplyFileError, parse, replies};
+use nvme_entry::Completion;
+use std::alloc::{AllocError, Global};
+use std::io::{self, Write};
+
+/// The command's name.
+pub const NAME: &str = "explain";
+
+const FILE: &str = "FILE";
+
+const COMMANDS: &str = "commands";
+
+const LONG_ABOUT: &str = "\
+Says in words what each line that `exec` printed tells: of a completion the queue, the command identifier, \
+the status by its name with a sentence, and what the command gave; and what came of a turn or a fault.
+
+A completion doesn't name its command, and what its dwords 0 and 1 are depends on that: of an append they are \
+an LBA, of a run its records and its blocks. So without --commands both are said. With it each completion is \
+taken for that of the first submission in the command file that has its queue and its command identifier and no \
+completion yet, and is told as that command's, with each zone of a report on a line. This is right where the \
+commands of a queue that wait at the same time have identifiers that differ, as they must have.
+
+Of a file with a line that `exec` doesn't print nothing is explained, and `line LINE refused` tells the lowest.";
+
+const EXAMPLE: &str = "\
+Example, in the folder of the sources:
+
+  zscli exec zoned.img examples/pushdown.cmd > replies
+  zscli explain replies --commands examples/pushdown.cmd";
+
+/// How the command stands on the command line.
+pub fn subcommand<'a>(alloc: Global) -> Result<Command<'a>, AllocError> {
+    let file = Arg::new(alloc, FILE)
+        .required(true)
+        .help("What `exec` printed");
+    let commands = option(alloc, COMMANDS, "COMMANDS").help(
+        "The command file that `exec` was given",
+    );
+    let command = Command::new(alloc, NAME)
+        .about("Says in words what `exec` printed")
+        .long_about(LONG_ABOUT)
+        .after_help(EXAMPLE);
+    let command = and_argument(Ok(command), file);
+    and_argument(command, commands)
+}
+
+/// Runs the command.
+pub fn explain<'a, F: Files, O: Write>(
+    alloc: Global,
+    matches: &ArgMatches<'a>,
+    files: &mut F,
+    out: &mut O,
+) -> Result<(), Failure<'a>>
+    ensures { F.made files.new ≡ F.made files.old }
+{
+    let path = required(matches, FILE);
+    let file = read(path, files)?;
+    let answers = replies(alloc, file.as_slice()).map_err(|error| no_replies(path, error))?;
+    let mut waiting = match matches.get_str(COMMANDS) {
+        Some(path) => Some(submissions(alloc, path, files)?),
+        None => None,
+    };
+    printed(tell(answers.as_slice(), &mut waiting, out))
+}
+
+/// The submissions of a command file.
+fn submissions<'a, F: Files>(
+    alloc: Global,
+    path: &'a str,
+    files: &mut F,
+) -> Result<Waiting, Failure<'a>>
+    ensures { F.made files.new ≡ F.made files.old }
+{
+    let file = read(path, files)?;
+    let events = parse(alloc, file.as_slice()).map_err(|error| Failure::of_commands(path, error))?;
+    Ok(Waiting::new(alloc, events.as_slice())?)
+}
+
+/// What the user is told of a file with this name, with a line that `exec` doesn't print.
+fn no_replies<'a>(path: &'a str, error: ReplyFileError) -> Failure<'a>
+    ensures { result ≡ told_of_replies path.entry error }
+{
+    match error {
+        ReplyFileError::Line(line) => Failure::ReplyRefused { path, line },
+        ReplyFileError::OutOfMemory => Failure::NoMemory,
+    }
+}
+
+/// Prints each answer in words.
+fn tell<O: Write>(
+    answers: &[Answer],
+    waiting: &mut Option<Waiting>,
+    out: &mut O,
+) -> io::Result<()> {
+    for answer in answers {
+        tell_one(answer.reply, answer.bytes.as_slice(), waiting, out)?;
+    }
+    Ok(())
+}
+
+fn tell_one<O: Write>(
+    reply: Reply,
+    data: &[u8],
+    waiting: &mut Option<Waiting>,
+    out: &mut O,
+) -> io::Result<()> {
+    match reply {
+        Reply::Complete { queue, entry, .. } => match completion_from(queue, &entry) {
+            Some(completion) => {
+                let answered = answered(waiting, &completion);
+                tell_completion(&completion, data, &answered, out)
+            }
+            None => writeln!(
+                out,
+                "queue {queue}: 16 bytes that are no completion of this device"
+            ),
+        },
+        Reply::Pending { run } => writeln!(
+            out,
+            "pending {run}: run {run} was admitted, or had a turn, and has turns left"
+        ),
+        Reply::Idle => writeln!(out, "idle: a turn for a run that isn't active"),
+        Reply::Done => writeln!(out, "done: a zone has its fault"),
+        Reply::FaultRefused => writeln!(
+            out,
+            "refused: a fault of a zone that there isn't, that a run uses, or that is Offline and can't become Read Only"
+        ),
+    }
+}
+
+/// The completion that an entry of this queue is, if it is one.
+fn completion_from(queue: u16, entry: &[u8; 16]) -> Option<Completion> {
+    let completion = Completion::decode(entry)?;
+    if completion.queue == queue {
+        Some(completion)
+    } else {
+        None
+    }
+}
+
+/// What the command file tells of the command that a completion answers.
+fn answered(waiting: &mut Option<Waiting>, completion: &Completion) -> Answered {
+    match waiting {
+        None => Answered::Unnamed,
+        Some(waiting) => match waiting.complete(completion.queue, completion.cid) {
+            Some(entry) => Answered::Submitted(entry),
+            None => Answered::NotThere,
+        },
+    }
+}

@@ -1,0 +1,8 @@
+//! The command that says in words what `exec` printed.
+#![tactic(auto)]
+
+mod command_words;
+mod completion_words;
+pub mod explain;
+mod report_words;
+mod waiting;

@@ -1,0 +1,53 @@
+//! Reports of zones, as `nvme zns report-zones` shows them.
+
+use crate::command_words::Counted;
+use nvme_entry::{ZoneDescriptor, zones_told};
+use std::io::{self, Write};
+
+/// The bytes of a report's header, and of a zone descriptor (ZNS 1.1, 3.4.2).
+const PIECE: usize = 64;
+
+/// Prints what a report tells: how many zones, and on a line each those whose descriptors it has.
+pub(crate) fn tell_report<O: Write>(report: &[u8], out: &mut O) -> io::Result<()> {
+    match report.split_first_chunk::<PIECE>() {
+        Some((header, descriptors)) => {
+            let told = zones_told(header);
+            let zones = Counted(told, "zone");
+            writeln!(out, "{zones}")?;
+            tell_zones(told, descriptors, out)
+        }
+        None => {
+            let bytes = Counted(report.len() as u64, "byte");
+            writeln!(out, "{bytes}, a beginning of its header")
+        }
+    }
+}
+
+/// Prints the zones of so many descriptors, or of as many as there are.
+fn tell_zones<O: Write>(told: u64, descriptors: &[u8], out: &mut O) -> io::Result<()> {
+    let mut rest = descriptors;
+    for _zone in 0..told {
+        let Some((bytes, behind)) = rest.split_first_chunk::<PIECE>() else {
+            break;
+        };
+        tell_zone(bytes, out)?;
+        rest = behind;
+    }
+    Ok(())
+}
+
+/// Prints a zone. The type and the attributes are those of every descriptor that is read.
+fn tell_zone<O: Write>(bytes: &[u8; PIECE], out: &mut O) -> io::Result<()> {
+    let Some(zone) = ZoneDescriptor::decode(bytes) else {
+        return writeln!(out, "  64 bytes that are no zone's descriptor");
+    };
+    let lowest = zone.lowest;
+    let pointer = zone.write_pointer;
+    let capacity = zone.capacity;
+    let state = zone.state;
+    let code = u16::from(state.code()) << 4;
+    writeln!(
+        out,
+        "  SLBA: {lowest:#x}  WP: {pointer:#x}  Cap: {capacity:#x}  State: {code:#x} ({state})  Type: 0x2  Attrs: 0x0"
+    )
+}

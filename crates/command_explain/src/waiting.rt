@@ -1,0 +1,63 @@
+//! The submissions of a command file that wait for their completions.
+
+ghost use Rattle.std.specs.Prelude.{◌≡◌, position};
+ghost use Rattle.command_explain.specs.Waiting.{is_of, TakesFirst};
+
+use device_events::Event;
+use nvme_entry::Entry;
+use std::alloc::{AllocError, Global};
+use std::collections::VecDeque;
+
+/// An entry and the queue that it was submitted to.
+#[derive(Clone, Copy)]
+pub(crate) struct Submission {
+    queue: u16,
+    entry: [u8; 64],
+}
+
+/// The submissions that wait for their completions, in order.
+#[derive(Drop)]
+pub(crate) struct Waiting {
+    submissions: VecDeque<Submission>,
+}
+
+impl Waiting {
+    /// Those of a command file's events: none has its completion yet.
+    pub(crate) fn new(alloc: Global, events: &[Event]) -> Result<Waiting, AllocError> {
+        let mut submissions = VecDeque::new(alloc);
+        for event in events {
+            if let Event::Submit { queue, entry, .. } = event {
+                submissions.push_back(Submission {
+                    queue: *queue,
+                    entry: *entry,
+                })?;
+            }
+        }
+        Ok(Waiting { submissions })
+    }
+
+    /// The entry of the first that waits with this queue and this command identifier. It waits no longer.
+    pub(crate) fn complete(&mut self, queue: u16, cid: u16) -> Option<[u8; 64]>
+        ensures { TakesFirst queue cid self.old.submissions.items self.new.submissions.items result }
+    {
+        let at = self.place(queue, cid)?;
+        let submission = self.submissions.remove(at)?;
+        Some(submission.entry)
+    }
+
+    /// The place of the first that waits with this queue and this command identifier.
+    fn place(&self, queue: u16, cid: u16) -> Option<usize>
+        ensures { result ≡ position (is_of queue cid) self.now.submissions.items }
+    {
+        self.submissions
+            .iter()
+            .position(|submission| is_of(submission, queue, cid))
+    }
+}
+
+/// Is it from this queue, with this command identifier?
+fn is_of(submission: &Submission, queue: u16, cid: u16) -> bool
+    ensures { result ≡ is_of queue cid submission.now }
+{
+    submission.queue == queue && Entry::cid(&submission.entry) == cid
+}

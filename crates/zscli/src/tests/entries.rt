@@ -1,0 +1,230 @@
+//! Lines of a command file, made of words.
+
+use super::scenes::{Act, EMPTY_ZONE, EXEC, MAGIC, NUMBERS, Scene, play};
+use std::test::Fail;
+
+/// A program that emits nothing.
+const EXIT: &[u8] = b"\xb7\0\0\0\0\0\0\0\x95\0\0\0\0\0\0\0";
+
+/// Each kind that moves no block.
+const LINES: &[Act] = &[
+    Act::Put("exit", &[(EXIT, 1)]),
+    Act::Prints(
+        "zscli entry read --lba 8589934600 --blocks 3 --cid 9",
+        "submit 1 02000900010000000000000000000000000000000000000000000000000000000000000000000000080000000200000002000000000000000000000000000000\n",
+    ),
+    Act::Prints(
+        "zscli entry open --lba 8 --queue 65535",
+        "submit 65535 79000100010000000000000000000000000000000000000000000000000000000000000000000000080000000000000000000000030000000000000000000000\n",
+    ),
+    Act::Prints(
+        "zscli entry close --lba 8",
+        "submit 1 79000100010000000000000000000000000000000000000000000000000000000000000000000000080000000000000000000000010000000000000000000000\n",
+    ),
+    Act::Prints(
+        "zscli entry finish --lba 8",
+        "submit 1 79000100010000000000000000000000000000000000000000000000000000000000000000000000080000000000000000000000020000000000000000000000\n",
+    ),
+    Act::Prints(
+        "zscli entry reset --all",
+        "submit 1 79000100010000000000000000000000000000000000000000000000000000000000000000000000000000000000000000000000040100000000000000000000\n",
+    ),
+    Act::Prints(
+        "zscli entry offline --lba 8",
+        "submit 1 79000100010000000000000000000000000000000000000000000000000000000000000000000000080000000000000000000000050000000000000000000000\n",
+    ),
+    Act::Prints(
+        "zscli entry report --lba 9",
+        "submit 1 7a0001000100000000000000000000000000000000000000000000000000000000000000000000000900000000000000ff030000000000000000000000000000\n",
+    ),
+    Act::Prints(
+        "zscli entry report --lba 0 --state readonly --partial --dwords 40",
+        "submit 1 7a000100010000000000000000000000000000000000000000000000000000000000000000000000000000000000000027000000000601000000000000000000\n",
+    ),
+    Act::Prints(
+        "zscli entry load --slot 7 --program exit --emit 66",
+        "submit 1 c1000100010000000000000000000000000000000000000000000000000000000000000000000000070000004200000010000000000000000000000000000000 b7000000000000009500000000000000\n",
+    ),
+    Act::Prints(
+        "zscli entry run --slot 1 --from 8 --blocks 52 --to 64 --argument 7",
+        "submit 1 c0000100010000000000000000000000000000000000000000000000000000000000000000000000080000000000000033000100070000004000000000000000\n",
+    ),
+    Act::Prints(
+        "zscli entry result --slot 3 --cid 65535",
+        "submit 1 c200ffff010000000000000000000000000000000000000000000000000000000000000000000000030000000000000000000000000000000000000000000000\n",
+    ),
+];
+
+/// A command file of lines that are printed one after another, and what it does.
+const WORK: &[Act] = &[
+    Act::Start(b""),
+    Act::Put("exit", &[(EXIT, 1)]),
+    Act::Put("block", &[(b"a", 512)]),
+    Act::Adds("zscli entry append --lba 8 --data block"),
+    Act::Adds("zscli entry write --lba 9 --data block --block 512 --cid 2"),
+    Act::Adds("zscli entry open --lba 16 --queue 2 --cid 3"),
+    Act::Adds("zscli entry load --slot 0 --program exit --emit 0 --cid 4"),
+    Act::Adds("zscli entry run --slot 0 --from 8 --blocks 2 --to 16 --cid 5"),
+    Act::Prints(
+        EXEC,
+        "\
+cpl 1 08000000000000000000010001000000
+cpl 1 00000000000000000000010002000000
+cpl 2 00000000000000000000020003000000
+cpl 1 00000000000000000000010004000000
+pending 0
+pending 0
+cpl 1 00000000000000000000010005000000
+",
+    ),
+    Act::Has(
+        "g1",
+        &[
+            (MAGIC, 1),
+            (NUMBERS, 1),
+            (EMPTY_ZONE, 1),
+            (b"\x02\0\0\0\x02\0\0\0", 1),
+            (b"\x03\0\0\0\0\0\0\0", 1),
+            (EMPTY_ZONE, 1),
+            (b"a", 1024),
+        ],
+    ),
+];
+
+/// Files that no command can move.
+const FILES: &[Act] = &[
+    Act::Put("none", &[]),
+    Act::Put("short", &[(b"a", 511)]),
+    Act::Put("most", &[(b"a", 131_072)]),
+    Act::Put("long", &[(b"a", 131_584)]),
+    Act::Fails(
+        "zscli entry append --lba 8 --data none",
+        3,
+        "",
+        "none has no bytes\n",
+    ),
+    Act::Fails(
+        "zscli entry write --lba 8 --data short",
+        3,
+        "",
+        "short isn't whole blocks of 512 bytes\n",
+    ),
+    Act::Fails(
+        "zscli entry append --lba 8 --data long",
+        3,
+        "",
+        "long has more than the 131072 bytes that a command moves\n",
+    ),
+    Act::Fails(
+        "zscli entry load --slot 0 --program long --emit 0",
+        3,
+        "",
+        "long has more than the 131072 bytes that a command moves\n",
+    ),
+    Act::Fails(
+        "zscli entry append --lba 8 --data most --block 513",
+        3,
+        "",
+        "geometry refused 1\n",
+    ),
+    Act::Fails(
+        "zscli entry append --lba 8 --data gone",
+        1,
+        "",
+        "cannot read gone\n",
+    ),
+    Act::Stops(
+        "zscli entry append --lba 8 --data most",
+        0,
+        1,
+        "cannot write -\n",
+    ),
+    Act::Stops(
+        "zscli entry append --lba 8 --data most --block 4096",
+        1,
+        0,
+        "",
+    ),
+];
+
+/// Numbers out of their fields, and words that are wanting.
+const WORDS: &[Act] = &[
+    Act::Fails(
+        "zscli entry read --lba 0 --blocks 0",
+        2,
+        "",
+        "error: '0' is not a number from 1 to 65536\n",
+    ),
+    Act::Fails(
+        "zscli entry read --lba 0 --blocks 65537",
+        2,
+        "",
+        "error: '65537' is not a number from 1 to 65536\n",
+    ),
+    Act::Fails(
+        "zscli entry read --lba +1 --blocks 1",
+        2,
+        "",
+        "error: '+1' is not a number from 0 to 18446744073709551615\n",
+    ),
+    Act::Fails(
+        "zscli entry reset --lba 18446744073709551616",
+        2,
+        "",
+        "error: '18446744073709551616' is not a number from 0 to 18446744073709551615\n",
+    ),
+    Act::Fails(
+        "zscli entry reset --all --queue 65536",
+        2,
+        "",
+        "error: '65536' is not a number from 0 to 65535\n",
+    ),
+    Act::Fails(
+        "zscli entry result --slot 8",
+        2,
+        "",
+        "error: '8' is not a number from 0 to 7\n",
+    ),
+    Act::Fails(
+        "zscli entry report --lba 0 --dwords 32769",
+        2,
+        "",
+        "error: '32769' is not a number from 1 to 32768\n",
+    ),
+    Act::Fails(
+        "zscli entry load --slot 0 --program exit --emit 4294967296",
+        2,
+        "",
+        "error: '4294967296' is not a number from 0 to 4294967295\n",
+    ),
+    Act::Tells("zscli entry", 2),
+    Act::Tells("zscli entry fly", 2),
+    Act::Tells("zscli entry open", 2),
+    Act::Tells("zscli entry open --lba 8 --all", 2),
+    Act::Tells("zscli entry --help", 0),
+    Act::Tells("zscli entry append -h", 0),
+];
+
+const SCENES: &[Scene] = &[
+    Scene {
+        name: "a line of each kind",
+        acts: LINES,
+    },
+    Scene {
+        name: "a command file of lines",
+        acts: WORK,
+    },
+    Scene {
+        name: "files that are refused",
+        acts: FILES,
+    },
+    Scene {
+        name: "words that are refused",
+        acts: WORDS,
+    },
+];
+
+#[test]
+fn entries_of_words(rt: HostRuntime) -> Result<(), Fail> {
+    play(&rt, rt.alloc(), SCENES)
+}

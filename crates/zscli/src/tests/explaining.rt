@@ -1,0 +1,240 @@
+//! What `exec` printed, in words.
+
+use super::scenes::{Act, Scene, play};
+use super::stage::Parts;
+use std::test::Fail;
+
+/// The entries of `examples/pushdown.cmd`, whose data no words depend on.
+const PUSHDOWN: Parts = &[(
+    b"\
+submit 1 7d00010001000000000000000000000000000000000000000000000000000000000000000000000000000000000000000c000000000000000000000000000000
+submit 1 7d00020001000000000000000000000000000000000000000000000000000000000000000000000000000000000000000c000000000000000000000000000000
+submit 1 79000500010000000000000000000000000000000000000000000000000000000000000000000000400000000000000000000000030000000000000000000000
+submit 1 c1000600010000000000000000000000000000000000000000000000000000000000000000000000000000004200000040000000000000000000000000000000
+submit 1 c0000700010000000000000000000000000000000000000000000000000000000000000000000000000000000000000033000000030000004000000000000000
+turn 0
+submit 2 7d000100010000000000000000000000000000000000000000000000000000000000000000000000800000000000000000000000000000000000000000000000
+submit 2 7d000200010000000000000000000000000000000000000000000000000000000000000000000000400000000000000000000000000000000000000000000000
+submit 3 79000200010000000000000000000000000000000000000000000000000000000000000000000000000000000000000000000000040000000000000000000000
+submit 1 02000800010000000000000000000000000000000000000000000000000000000000000000000000400000000000000001000000000000000000000000000000
+",
+    1,
+)];
+
+/// What it prints, of one turn and of a last one, with the two blocks read being zeros.
+const PUSHDOWN_REPLIES: Parts = &[
+    (
+        b"\
+cpl 1 00000000000000000000010001000000
+cpl 1 0d000000000000000000010002000000
+cpl 1 00000000000000000000010005000000
+cpl 1 00000000000000000000010006000000
+pending 0
+cpl 2 80000000000000000000020001000000
+cpl 2 0000000000000000000002000200800f
+cpl 3 0000000000000000000003000200800f
+cpl 1 09000000020000000000010007000000
+cpl 1 00000000000000000000010008000000 ",
+        1,
+    ),
+    (b"00", 1024),
+    (b"\n", 1),
+];
+
+const PUSHDOWN_WORDS: &str = "\
+queue 1, command 1: append of 13 blocks to the zone of LBA 0: the first is at LBA 0
+queue 1, command 2: append of 13 blocks to the zone of LBA 0: the first is at LBA 13
+queue 1, command 5: open of the zone of LBA 64: done
+queue 1, command 6: load of 64 bytes into slot 0: done
+pending 0: run 0 was admitted, or had a turn, and has turns left
+queue 2, command 1: append of 1 block to the zone of LBA 128: the first is at LBA 128
+queue 2, command 2: append of 1 block to the zone of LBA 64: refused: Zone Held (type 7h, code C0h; profile): \
+an active run holds the zone against the command
+queue 3, command 2: reset of the zone of LBA 0: refused: Zone Held (type 7h, code C0h; profile): an active run \
+holds the zone against the command
+queue 1, command 7: run of slot 0 over 52 blocks from LBA 0 on, to the zone of LBA 64: 9 records in 2 blocks
+queue 1, command 8: read of 2 blocks from LBA 64 on: 1024 bytes
+";
+
+/// The same without the command file.
+const PUSHDOWN_ALONE: &str = "\
+queue 1, command 1: done; dwords 0 and 1: 0, 0
+queue 1, command 2: done; dwords 0 and 1: 13, 0 (of an append: the first block is at LBA 13; of a run: 13 records \
+in 0 blocks)
+queue 1, command 5: done; dwords 0 and 1: 0, 0
+queue 1, command 6: done; dwords 0 and 1: 0, 0
+pending 0: run 0 was admitted, or had a turn, and has turns left
+queue 2, command 1: done; dwords 0 and 1: 128, 0 (of an append: the first block is at LBA 128; of a run: 128 \
+records in 0 blocks)
+queue 2, command 2: refused: Zone Held (type 7h, code C0h; profile): an active run holds the zone against the command
+queue 3, command 2: refused: Zone Held (type 7h, code C0h; profile): an active run holds the zone against the command
+queue 1, command 7: done; dwords 0 and 1: 9, 2 (of an append: the first block is at LBA 8589934601; of a run: 9 \
+records in 2 blocks)
+queue 1, command 8: done; dwords 0 and 1: 0, 0; 1024 bytes of data
+";
+
+const PUSHED_DOWN: &[Act] = &[
+    Act::Put("commands", PUSHDOWN),
+    Act::Put("replies", PUSHDOWN_REPLIES),
+    Act::Prints("zscli explain replies --commands commands", PUSHDOWN_WORDS),
+    Act::Prints("zscli explain replies", PUSHDOWN_ALONE),
+];
+
+/// A report of 192 bytes: three zones match, and there is room for the descriptors of two.
+const REPORT: Parts = &[
+    (
+        b"submit 1 7a00040001000000000000000000000000000000000000000000000000000000000000000000000000000000000000002f00000000000000",
+        1,
+    ),
+    (b"00", 8),
+    (b"\n", 1),
+];
+
+const REPORT_REPLIES: Parts = &[
+    (b"cpl 1 00000000000000000000010004000000 03", 1),
+    (b"00", 63),
+    (b"0220", 1),
+    (b"00", 6),
+    (b"06", 1),
+    (b"00", 15),
+    (b"03", 1),
+    (b"00", 39),
+    (b"02e0", 1),
+    (b"00", 6),
+    (b"06", 1),
+    (b"00", 7),
+    (b"08", 1),
+    (b"00", 7),
+    (b"ff", 8),
+    (b"00", 32),
+    (b"\n", 1),
+];
+
+const REPORTED: &[Act] = &[
+    Act::Put("commands", REPORT),
+    Act::Put("replies", REPORT_REPLIES),
+    Act::Prints(
+        "zscli explain replies --commands commands",
+        "\
+queue 1, command 4: report of zones from that of LBA 0 on: 3 zones
+  SLBA: 0x0  WP: 0x3  Cap: 0x6  State: 0x20 (Implicitly Opened)  Type: 0x2  Attrs: 0x0
+  SLBA: 0x8  WP: 0xffffffffffffffff  Cap: 0x6  State: 0xe0 (Full)  Type: 0x2  Attrs: 0x0
+",
+    ),
+    Act::Prints(
+        "zscli explain replies",
+        "queue 1, command 4: done; dwords 0 and 1: 0, 0; 192 bytes of data\n",
+    ),
+];
+
+/// Two submissions with one identifier, and other commands.
+const COMMANDS: Parts = &[
+    (b"submit 1 0100030001", 1),
+    (b"00", 35),
+    (b"0a", 1),
+    (b"00", 23),
+    (b"\nsubmit 1 7900030001", 1),
+    (b"00", 47),
+    (b"0301", 1),
+    (b"00", 10),
+    (b"\nsubmit 1 c200080001", 1),
+    (b"00", 59),
+    (b"\nsubmit 1 c100090001", 1),
+    (b"00", 59),
+    (b"\nsubmit 1 030006", 1),
+    (b"00", 61),
+    (b"\nfault 2 offline\n", 1),
+];
+
+const REPLIES: Parts = &[(
+    b"\
+cpl 1 00000000000000000000010003007203
+cpl 1 00000000000000000000010003000000
+cpl 1 00000000000000000000010008000000 abcd
+cpl 1 030000000a000000000001000900840f
+cpl 1 00000000000000000000010006000200
+done
+cpl 1 00000000000000000000010003000000
+refused
+idle
+pending 3
+cpl 2 00000000000000000000010003000000
+",
+    1,
+)];
+
+const ANSWERED: &[Act] = &[
+    Act::Put("commands", COMMANDS),
+    Act::Put("replies", REPLIES),
+    Act::Prints(
+        "zscli explain replies --commands commands",
+        "\
+queue 1, command 3: write of 1 block from LBA 10 on: refused: Zone Is Full (type 1h, code B9h): a write to a Full zone
+queue 1, command 3: open of all zones that it takes: done
+queue 1, command 8: result of slot 0: 2 bytes
+queue 1, command 9: load of 0 bytes into slot 0: refused: Program Refused (type 7h, code C2h; profile): the bytes \
+are no program, or it isn't accepted; slot 3, reason 10
+queue 1, command 6: an entry that is no command: refused: Invalid Command Opcode (type 0h, code 01h): the opcode is \
+none that is supported
+done: a zone has its fault
+queue 1, command 3: no submission of the command file waits for it: done; dwords 0 and 1: 0, 0
+refused: a fault of a zone that there isn't, that a run uses, or that is Offline and can't become Read Only
+idle: a turn for a run that isn't active
+pending 3: run 3 was admitted, or had a turn, and has turns left
+queue 2: 16 bytes that are no completion of this device
+",
+    ),
+];
+
+const REFUSED: &[Act] = &[
+    Act::Put("commands", &[(b"turn 0\nturn 256\n", 1)]),
+    Act::Put("replies", &[(b"", 1)]),
+    Act::Prints("zscli explain replies", ""),
+    Act::Fails(
+        "zscli explain replies --commands commands",
+        3,
+        "",
+        "line 2 refused\n",
+    ),
+    Act::Fails("zscli explain none", 1, "", "cannot read none\n"),
+    Act::Tells("zscli explain", 2),
+    Act::Put("replies", &[(b"idle\ndone\nturn 0\nrefused 1\n", 1)]),
+    Act::Refuses(
+        "zscli explain replies",
+        "replies, line 3: not one that `exec` prints\nline 3 refused\n",
+    ),
+    Act::Put("replies", &[(b"pending 03\n", 1)]),
+    Act::Refuses(
+        "zscli explain replies",
+        "replies, line 1: not one that `exec` prints\nline 1 refused\n",
+    ),
+    Act::Put("replies", &[(b"cpl 1 0000000000000000000001000300000", 1)]),
+    Act::Refuses(
+        "zscli explain replies",
+        "replies, line 1: not one that `exec` prints\nline 1 refused\n",
+    ),
+];
+
+const SCENES: &[Scene] = &[
+    Scene {
+        name: "a pushdown",
+        acts: PUSHED_DOWN,
+    },
+    Scene {
+        name: "a report",
+        acts: REPORTED,
+    },
+    Scene {
+        name: "other commands and lines",
+        acts: ANSWERED,
+    },
+    Scene {
+        name: "files that are refused",
+        acts: REFUSED,
+    },
+];
+
+#[test]
+fn what_exec_printed_in_words(rt: HostRuntime) -> Result<(), Fail> {
+    play(&rt, rt.alloc(), SCENES)
+}
