@@ -13,6 +13,7 @@ mod images;
 mod loading;
 mod memory;
 mod programs;
+mod readme;
 mod refusals;
 mod running;
 mod scenes;

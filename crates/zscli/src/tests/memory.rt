@@ -44,6 +44,16 @@ impl Memory {
         Ok(())
     }
 
+    /// Puts bytes behind those of the file with this name, if there is one.
+    pub(super) fn add(&mut self, name: &str, bytes: &[u8]) -> Result<(), AllocError> {
+        let mut all = Vec::new(self.alloc);
+        if let Some(before) = self.bytes(name) {
+            all.extend_from_slice(before)?;
+        }
+        all.extend_from_slice(bytes)?;
+        self.put(name, all.as_slice())
+    }
+
     /// The bytes of the file with this name.
     pub(super) fn bytes(&self, name: &str) -> Option<&[u8]> {
         for file in self.files.iter().rev() {

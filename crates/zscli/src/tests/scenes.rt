@@ -49,6 +49,10 @@ pub(super) enum Act {
     Answers(&'static str),
     /// A command line succeeds, and what it prints is put behind `events`.
     Adds(&'static str),
+    /// The same, behind a file.
+    AddsTo(&'static str, &'static str),
+    /// Puts bytes behind a file.
+    Add(&'static str, &'static [u8]),
     /// A command line ends with this status, standard output and last line on standard error.
     Fails(&'static str, u8, &'static str, &'static str),
     /// A command line refuses its input: it prints nothing, and this to standard error.
@@ -90,6 +94,7 @@ fn perform(rt: &impl Abort, stage: &mut Stage, scene: &str, act: Act) -> Result<
             stage.files.put("events", events)?;
         }
         Act::Put(file, parts) => stage.put(file, parts)?,
+        Act::Add(file, bytes) => stage.files.add(file, bytes)?,
         Act::Image(file, shape, zones) => stage.put_image(file, &shape, zones)?,
         Act::Events(steps) => stage.put_events(steps)?,
         Act::Room(room) => stage.files.room = room,
@@ -104,7 +109,8 @@ fn judge(rt: &impl Abort, stage: &mut Stage, scene: &str, act: Act) -> Result<()
     match act {
         Act::Prints(line, out) => stage.check(rt, &At { scene, line }, 0, out, "")?,
         Act::Answers(line) => stage.check_answers(rt, &At { scene, line })?,
-        Act::Adds(line) => stage.add_printed(rt, &At { scene, line })?,
+        Act::Adds(line) => stage.add_printed(rt, &At { scene, line }, "events")?,
+        Act::AddsTo(file, line) => stage.add_printed(rt, &At { scene, line }, file)?,
         Act::Fails(line, status, out, err) => {
             stage.check(rt, &At { scene, line }, status, out, err)?;
         }

@@ -138,16 +138,16 @@ impl Stage {
         Ok(())
     }
 
-    /// The same where it succeeds, and what it prints goes behind the bytes of `events`.
-    pub(super) fn add_printed(&mut self, rt: &impl Abort, at: &At) -> Result<(), AllocError> {
+    /// The same where it succeeds, and what it prints goes behind the bytes of a file.
+    pub(super) fn add_printed(
+        &mut self,
+        rt: &impl Abort,
+        at: &At,
+        file: &str,
+    ) -> Result<(), AllocError> {
         self.run(at.line, usize::MAX)?;
         self.check_end(rt, at, 0, "");
-        let mut bytes = Vec::new(self.alloc);
-        if let Some(before) = self.files.bytes("events") {
-            bytes.extend_from_slice(before)?;
-        }
-        bytes.extend_from_slice(self.out.bytes.as_slice())?;
-        self.files.put("events", bytes.as_slice())
+        self.files.add(file, self.out.bytes.as_slice())
     }
 
     /// Compares the status of the last command line, and the last line that it printed to standard error.
