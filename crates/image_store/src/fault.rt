@@ -49,10 +49,7 @@ pub enum LoadFault {
     Geometry(HeaderFault),
     /// The lowest zone whose record tells none, and why.
     #[error("record of zone {zone}: {fault}")]
-    ZoneRecord {
-        zone: u32,
-        fault: RecordFault,
-    },
+    ZoneRecord { zone: u32, fault: RecordFault },
     #[error("more zones are open or active than may be")]
     Limits,
     #[error("bytes follow the last block")]

@@ -67,12 +67,7 @@ fn decode(zone: u32, bytes: &[u8], capacity: u32) -> Result<Zone, LoadFault>
 }
 
 /// The zone in a state with so many blocks written, if the state allows them.
-fn zone_of(
-    zone: u32,
-    state: ZoneState,
-    written: u32,
-    capacity: u32,
-) -> Result<Zone, LoadFault>
+fn zone_of(zone: u32, state: ZoneState, written: u32, capacity: u32) -> Result<Zone, LoadFault>
     requires { 1 ≤ capacity }
     ensures { result ≡ zone_with zone state written capacity }
 {

@@ -4,8 +4,8 @@
 ghost use Rattle.std.specs.Prelude.{◌≤◌};
 
 use crate::{
-    Buffer, DeviceFault, Geometry, GeometryFault, GeometryRefusal, HeaderFault, Image, Limits, LoadFault,
-    RecordFault, Sink, Source,
+    Buffer, DeviceFault, Geometry, GeometryFault, GeometryRefusal, HeaderFault, Image, Limits,
+    LoadFault, RecordFault, Sink, Source,
 };
 use std::alloc::{AllocError, Global};
 use std::process::Abort;

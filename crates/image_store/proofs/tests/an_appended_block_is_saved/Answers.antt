@@ -1,6 +1,5 @@
-use Rattle.std.proofs.Common.{◌≡◌, ℕ, ◌<◌, ◌≤◌, Bool, true, false, List, length, get_or, set, Some, arith, ap, sym, subst, ◌∙◌}
-use Rattle.std.specs.Prelude.{slice_get}
-use Rattle.std.proofs.lemmas.List.{length-map, map-set}
+use Rattle.std.proofs.Common.{◌≡◌, ℕ, ◌<◌, ◌≤◌, Bool, true, false, List, length, get_or, set, arith, ap}
+use Rattle.std.proofs.lemmas.List.{map-set}
 use Rattle.std.proofs.lemmas.Option.{slice_get-get_or}
 use Rattle.zone_state.specs.State.{is_open, is_active}
 use Rattle.zone_state.specs.Zone.{ZoneRecord}
@@ -9,10 +8,9 @@ use Rattle.zone_resources.specs.Counts.{open_count, active_count, one_if}
 use Rattle.zone_resources.specs.declared.admission.Limits.{Limits}
 use Rattle.zone_resources.specs.declared.counts.Counts.{Counts}
 use Rattle.zone_resources.proofs.CountLemmas.{counts_follow_one}
-use Rattle.image_store.specs.Blocks.{as_blocks}
 use Rattle.image_store.specs.Flat.{no_record}
 use Rattle.image_store.specs.Geometry.{Shape}
-use Rattle.image_store.specs.Namespace.{ZoneBlocks, counted, grown, records, zone_at}
+use Rattle.image_store.specs.Namespace.{records}
 use Rattle.image_store.proofs.tests.an_appended_block_is_saved.Goals as goal
 
 most_one : (counted : Bool) → one_if counted ≤ 1
