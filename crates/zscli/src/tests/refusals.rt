@@ -1,6 +1,6 @@
 //! What the user is told of input that is refused: a sentence, and behind it a line for programs.
 
-mod command_files;
 mod images;
+mod lines;
 mod output_blocks;
 mod programs;
