@@ -2,9 +2,9 @@
 
 use crate::quantity::bytes;
 use instruction_set::{Insn, Operation, Register, Source};
-use interval_domain::{Fact, Intervals, Offsets};
+use interval_domain::{Fact, Intervals};
 use program_interface::{Area, RunSizes};
-use reg_domain::Domain;
+use reg_domain::{Domain, Offsets};
 use std::io::{self, Write};
 use verifier::{Facts, Reason};
 
@@ -149,11 +149,7 @@ impl Refused<'_> {
 fn offsets_allowed(area: Area, length: u32, offset: i16, size: u32) -> Offsets {
     let low = -i64::from(offset);
     let high = low + i64::from(length) - i64::from(size);
-    Offsets {
-        area,
-        low: i128::from(low),
-        high: i128::from(high),
-    }
+    Offsets { area, low, high }
 }
 
 /// The bytes of an area of this length from an offset on.

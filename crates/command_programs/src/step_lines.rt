@@ -5,8 +5,8 @@ use command_failure::{Failure, printed};
 use ebpf_asm::instruction_text;
 use instruction_set::{Insn, Register};
 use interp::Machine;
-use interval_domain::Offsets;
 use program_interface::{Area, REGISTERS};
+use reg_domain::Offsets;
 use std::alloc::Global;
 use std::io::{self, Write};
 
@@ -33,7 +33,7 @@ impl Emitting {
         let area = [Area::Scratch, Area::Stack, Area::Block, Area::Context]
             .into_iter()
             .find(|area| area.address() <= self.address)?;
-        let offset = i128::from(self.address) - i128::from(area.address());
+        let offset = i64::try_from(self.address.checked_sub(area.address())?).ok()?;
         Some(Offsets {
             area,
             low: offset,

@@ -13,7 +13,6 @@ mod words;
 pub use constants::Constants;
 pub use fact::Fact;
 pub use intervals::Intervals;
-pub use words::Offsets;
 
 #[cfg(test)]
 mod tests;

@@ -3,6 +3,8 @@
 
 mod bounds;
 mod domain;
+mod offsets;
 
 pub use bounds::Bounds;
 pub use domain::Domain;
+pub use offsets::Offsets;
