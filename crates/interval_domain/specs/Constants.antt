@@ -45,4 +45,5 @@ constants_sound = record {
       (intervals_sound.refine width relation taken d e same x y hd he one is);
   access = intervals_sound.access;
   bounds = intervals_sound.bounds;
+  offsets = intervals_sound.offsets;
 }

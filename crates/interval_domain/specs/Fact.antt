@@ -8,6 +8,7 @@ use Rattle.instruction_set.specs.declared.operation.Size.TheVariants.{Byte, Half
 use Rattle.program_interface.specs.Area.{address_of, length_of}
 use Rattle.program_interface.specs.declared.area.Area.{Area}
 use Rattle.reg_domain.specs.declared.bounds.Bounds.{Bounds}
+use Rattle.reg_domain.specs.declared.offsets.Offsets.{Offsets}
 use Rattle.interval_domain.specs.declared.fact.Fact.{Fact}
 use Rattle.interval_domain.specs.declared.fact.Fact.TheVariants.{Words, Pointer}
 
@@ -78,6 +79,11 @@ access_of block (Pointer area low high) offset size =
     if int_le (pos 0) (low +ℤ offset) && int_le (high +ℤ offset +ℤ pos size) (pos (length_of block area))
     then Some area
     else None
+
+-- the area and the distances of a pointer
+abbrev pub offsets_of : Fact → Option Offsets
+offsets_of (Words b) = None
+offsets_of (Pointer area low high) = Some (record { area = area; low = low; high = high })
 
 -- a fact with two different bounds widened to every word
 abbrev pub widened : Fact → Fact

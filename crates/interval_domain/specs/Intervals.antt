@@ -3,12 +3,12 @@ use Rattle.std.specs.Prelude.{pos, Option, Some, None, IfSome}
 use Rattle.interval_domain.specs.ArithmeticLaws.{alu_law}
 use Rattle.interval_domain.specs.EdgeLaws.{refine_law}
 use Rattle.interval_domain.specs.FactLaws.{any_law, bounds_law, constant_law, join_first, join_second, loaded_law, loaded_signed_law}
-use Rattle.interval_domain.specs.PointerLaws.{access_law, pointer_law}
+use Rattle.interval_domain.specs.PointerLaws.{access_law, offsets_law, pointer_law}
 use Rattle.program_meaning.specs.PlaceLaws.{block_small}
 use Rattle.interval_domain.specs.Arithmetic.{alu_of}
 use Rattle.reg_domain.specs.Domain.{GiveFacts, IsSound, Operations}
 use Rattle.interval_domain.specs.Edge.{refine_of}
-use Rattle.interval_domain.specs.Fact.{ContainsWord, access_of, bounds_of, full, join_of, loaded_of, loaded_signed_of, pointer_to, single}
+use Rattle.interval_domain.specs.Fact.{ContainsWord, access_of, bounds_of, full, join_of, loaded_of, loaded_signed_of, offsets_of, pointer_to, single}
 use Rattle.interval_domain.specs.declared.fact.Fact.{Fact}
 use Rattle.interval_domain.specs.declared.fact.Fact.TheVariants.{Words}
 
@@ -24,6 +24,7 @@ intervals = record {
   refine = refine_of;
   access = access_of;
   bounds = bounds_of;
+  offsets = offsets_of;
 }
 
 -- each value is a fact: the laws hold also of bounds out of order, to which no word belongs
@@ -60,4 +61,5 @@ intervals_sound = record {
   refine = λ width relation taken d e same x y hd he _ is. refine_law width relation taken d e same x y hd.within he.within is;
   access = λ block d offset size area w is told belongs. access_law block d offset size area w (block_small block is.beside) told belongs.within;
   bounds = λ d w is. bounds_law d w is.within;
+  offsets = λ d told w are_told is. offsets_law d told w are_told is.within;
 }

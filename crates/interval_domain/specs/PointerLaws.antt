@@ -1,4 +1,4 @@
--- Pointers: where they lead, moved by words, and which bytes they reach.
+-- Pointers: where they lead, moved by words, how far from their area, and which bytes they reach.
 use Rattle.std.proofs.Common.{ℕ, ℤ, suc, pos, negsuc, ◌≡◌, ◌+◌, ◌-◌, ◌%◌, ◌^◌, ◌<◌, ◌≤◌, ◌+ℤ◌, ◌-ℤ◌, Bool, true, false, cond, Some, None, inl, inr, refl, subst, arith}
 use Rattle.std.proofs.lemmas.Bool.{cond_both, and_parts, and_from, le-leb, le-ltb, or_cases, ltb-true, leb-true}
 use Rattle.std.proofs.lemmas.Int.{ints}
@@ -11,8 +11,10 @@ use Rattle.program_interface.specs.declared.area.Area.TheVariants.{Context, Bloc
 use Rattle.program_meaning.specs.PlaceLaws.{length_fits}
 use Rattle.interval_domain.specs.FactLaws.{any_law, either_fact}
 use Rattle.interval_domain.specs.Arithmetic.{moved_back, moved_on, signed_bounds}
-use Rattle.interval_domain.specs.Fact.{ContainsWord, access_of, farthest, pointer_to}
+use Rattle.interval_domain.specs.Fact.{ContainsWord, access_of, farthest, offsets_of, pointer_to}
+use Rattle.reg_domain.specs.Domain.{IsAtOffset}
 use Rattle.reg_domain.specs.declared.bounds.Bounds.{Bounds}
+use Rattle.reg_domain.specs.declared.offsets.Offsets.{Offsets}
 use Rattle.interval_domain.specs.declared.fact.Fact.{Fact}
 use Rattle.interval_domain.specs.declared.fact.Fact.TheVariants.{Words, Pointer}
 
@@ -118,6 +120,14 @@ moved_back_law area low high b x y hx hy =
       | inr negative ↦ back_negative (address_of area) x y b.low b.high low high (far_in area) hx.2 hy.1 hx.0 hx.1 hy.0.0 hy.0.1 (leb-true (2 ^ 63) b.low negative) most
     ]))
     (λ _. any_law n (mod_word (x + (2 ^ 64 - y))))
+
+-- ---- offsets
+
+pub offsets_law : (f : Fact) (told : Offsets) (w : ℕ) → offsets_of f ≡ Some told → ContainsWord f w → IsAtOffset told w
+offsets_law (Words b) told w are_told is = cc
+offsets_law (Pointer area low high) told w are_told is =
+    let same : record { area = area; low = low; high = high } ≡ told = cc in
+    subst (λ offsets. IsAtOffset offsets w) same (is.0, is.1)
 
 -- ---- access
 

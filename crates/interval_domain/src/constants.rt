@@ -4,11 +4,11 @@ ghost use Rattle.std.specs.Prelude.{◌≡◌};
 
 use crate::arithmetic::arithmetic_on;
 use crate::edge::refine;
-use crate::fact::{Fact, access, join, load, one, pointer_between, widen, words_of};
+use crate::fact::{Fact, access, join, load, offsets, one, pointer_between, widen, words_of};
 use instruction_set::{Relation, SignedSize, Size, Width};
 use program_interface::{Area, BlockSize};
 use program_meaning::Arithmetic;
-use reg_domain::{Bounds, Domain};
+use reg_domain::{Bounds, Domain, Offsets};
 use std::marker::Model;
 
 /// A word that is known, an address at a known distance from an area's, or any word.
@@ -108,5 +108,9 @@ impl Domain for Constants {
 
     fn bounds(self) -> Bounds {
         words_of(self.fact)
+    }
+
+    fn offsets(self) -> Option<Offsets> {
+        offsets(self.fact)
     }
 }

@@ -2,11 +2,11 @@
 
 ghost use Rattle.std.specs.Prelude.{◌≡◌, ◌≤◌, ◌≤ℤ◌, ◌+ℤ◌, int_le, pos};
 ghost use Rattle.std.specs.Int.{int_min, int_max};
-ghost use Rattle.interval_domain.specs.Fact.{IsFact, is_single, single, full, pointer_to, loaded_of, join_of, bounds_of, access_of, widened};
+ghost use Rattle.interval_domain.specs.Fact.{IsFact, is_single, single, full, pointer_to, loaded_of, join_of, bounds_of, access_of, offsets_of, widened};
 
 use instruction_set::Size;
 use program_interface::{Area, BlockSize};
-use reg_domain::Bounds;
+use reg_domain::{Bounds, Offsets};
 
 /// A fact about a word.
 #[derive(Clone, Copy, Debug, PartialEq, Eq)]
@@ -155,6 +155,20 @@ pub fn access(fact: Fact, block: BlockSize, offset: i16, size: u64) -> Option<Ar
     } else {
         None
     }
+}
+
+/// The area and the distances of a pointer, none of words.
+pub fn offsets(fact: Fact) -> Option<Offsets>
+    ensures { result ≡ offsets_of fact }
+{
+    let Fact::Pointer { area, low, high } = fact else {
+        return None;
+    };
+    Some(Offsets {
+        area,
+        low: i64::from(low),
+        high: i64::from(high),
+    })
 }
 
 /// The fact, or every word where its two bounds are different.

@@ -7,11 +7,15 @@ use crate::{Constants, Intervals};
 use instruction_set::{Operation, Size, Width};
 use program_interface::{Area, BlockSize};
 use program_meaning::Arithmetic;
-use reg_domain::{Bounds, Domain};
+use reg_domain::{Bounds, Domain, Offsets};
 use std::process::Abort;
 
 fn between(low: u64, high: u64) -> Bounds {
     Bounds { low, high }
+}
+
+fn offsets(area: Area, low: i64, high: i64) -> Offsets {
+    Offsets { area, low, high }
 }
 
 /// A 64-bit operation.
@@ -50,6 +54,9 @@ fn check_domain<D: Domain>(rt: &impl Abort) {
     );
     assert_eq!(rt; D::pointer(Area::Block, 0).access(block, 511, 2), None);
     assert_eq!(rt; D::constant(512).access(block, 0, 1), None);
+    let end = offsets(Area::Stack, 512, 512);
+    assert_eq!(rt; D::pointer(Area::Stack, 512).offsets(), Some(end));
+    assert_eq!(rt; D::constant(512).offsets(), None);
 }
 
 #[test]
@@ -79,4 +86,14 @@ fn pointers_move_by_an_index(rt: HostRuntime) {
     );
     assert_eq!(rt; moved.access(block, 412, 1), Some(Area::Block));
     assert_eq!(rt; moved.access(block, 413, 1), None);
+    assert_eq!(rt; moved.offsets(), Some(offsets(Area::Block, 0, 99)));
+}
+
+#[test]
+fn constants_keep_single_offsets(rt: HostRuntime) {
+    let first = Constants::pointer(Area::Scratch, 8);
+    let second = Constants::pointer(Area::Scratch, 16);
+    let known = first.join(first).offsets();
+    assert_eq!(rt; known, Some(offsets(Area::Scratch, 8, 8)));
+    assert_eq!(rt; first.join(second).offsets(), None);
 }

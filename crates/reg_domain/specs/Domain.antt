@@ -1,6 +1,6 @@
 -- What a domain's operations give, and when they are sound: the words that belong to a fact before an
 -- instruction belong to what the operation gives for it after.
-use Rattle.std.specs.Prelude.{ℕ, ℤ, Bool, true, Option, Some, None, IfSome, FitsSigned, ◌≡◌, ◌<◌, ◌≤◌, ◌+◌, ◌%◌, ◌^◌}
+use Rattle.std.specs.Prelude.{ℕ, ℤ, Bool, true, Option, Some, None, IfSome, FitsSigned, pos, ◌≡◌, ◌<◌, ◌≤◌, ◌≤ℤ◌, ◌-ℤ◌, ◌+◌, ◌%◌, ◌^◌}
 use Rattle.std.specs.Int.{w16, w64, cast_unsigned}
 use Rattle.instruction_set.specs.Instruction.{signed_size_of, size_of}
 use Rattle.instruction_set.specs.declared.operation.Relation.{Relation}
@@ -15,6 +15,7 @@ use Rattle.program_interface.specs.declared.area.Area.{Area}
 use Rattle.program_meaning.specs.declared.word.Arithmetic.{Arithmetic}
 use Rattle.program_interface.specs.BlockSize.{IsBlockSize}
 use Rattle.reg_domain.specs.declared.bounds.Bounds.{Bounds}
+use Rattle.reg_domain.specs.declared.offsets.Offsets.{Offsets}
 
 -- the operations of a domain, whose facts are of type D
 pub record Operations (D : Type 0) : Type 0 where
@@ -39,6 +40,8 @@ pub record Operations (D : Type 0) : Type 0 where
   pub access : ℕ → D → ℤ → ℕ → Option Area
   -- the lowest and the greatest word, or wider
   pub bounds : D → Bounds
+  -- the area from whose address every word is a distance away, and the least and the greatest distance, or wider
+  pub offsets : D → Option Offsets
 
 -- the edge exists, and both words belong after it
 abbrev pub BelongAfter : {D : Type 0} → (D → ℕ → Type 0) → ℕ → ℕ → Option (D × D) → Type 0
@@ -57,6 +60,11 @@ pub record IsAccess (block : ℕ) (offset : ℤ) (size : ℕ) : Type 0 where
   pub beside : IsBlockSize block
   pub near : FitsSigned w16 offset
   pub counted : size < 2 ^ 64
+
+-- an address whose distance from the area's is between the two
+abbrev pub IsAtOffset : Offsets → ℕ → Type 0
+IsAtOffset told w =
+    (told.low ≤ℤ (pos w -ℤ pos (address_of told.area))) × ((pos w -ℤ pos (address_of told.area)) ≤ℤ told.high)
 
 -- what operations give is a fact
 pub record GiveFacts {D : Type 0} (IsFact : D → Type 0) (operations : Operations D) : Type 0 where
@@ -92,3 +100,5 @@ pub record IsSound {D : Type 0} (IsFact : D → Type 0) (contains : D → ℕ �
       → lies_in block area ((w + cast_unsigned w64 offset) % 2 ^ 64) size ≡ true
   pub bounds : (d : D) (w : ℕ) → Belongs IsFact contains d w
       → ((operations.bounds d).low ≤ w) × (w ≤ (operations.bounds d).high)
+  pub offsets : (d : D) (told : Offsets) (w : ℕ) → operations.offsets d ≡ Some told → Belongs IsFact contains d w
+      → IsAtOffset told w

@@ -6,6 +6,7 @@ ghost use Rattle.std.specs.Mem.{type_size};
 ghost use Rattle.reg_domain.specs.Domain.{Operations, IsSound};
 
 use crate::bounds::Bounds;
+use crate::offsets::Offsets;
 use instruction_set::{Relation, SignedSize, Size, Width};
 use program_interface::{Area, BlockSize};
 use program_meaning::Arithmetic;
@@ -77,6 +78,11 @@ pub trait Domain: Copy {
     /// The lowest and the greatest word, or wider.
     fn bounds(self) -> Bounds
         ensures { result ≡ operations.bounds self };
+
+    /// The area whose address every word of the fact is but for a distance, and the distances between which
+    /// that lies, or wider. None: they are not known to be such addresses.
+    fn offsets(self) -> Option<Offsets>
+        ensures { result ≡ operations.offsets self };
 
     /// The operations are sound.
     ghost sound: { IsSound is_fact contains operations };
