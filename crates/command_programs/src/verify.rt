@@ -132,7 +132,7 @@ fn explain<'a, O: Write>(
             printed(explain_accepted(program.len(), most_emitted, out))
         }
         Judgement::Refused { refusal, facts } => {
-            explain_refused(alloc, program, sizes, refusal, &facts, out)
+            explain_refused(alloc, program, sizes, refusal, &*facts, out)
         }
     }
 }

@@ -79,8 +79,8 @@ pub trait Domain: Copy {
     fn bounds(self) -> Bounds
         ensures { result ≡ operations.bounds self };
 
-    /// The area whose address every word of the fact is but for a distance, and the distances between which
-    /// that lies, or wider. None: they are not known to be such addresses.
+    /// The area from whose address each word of the fact is some distance away, and the least and the greatest
+    /// distance, or wider. None where that isn't known.
     fn offsets(self) -> Option<Offsets>
         ensures { result ≡ operations.offsets self };
 

@@ -1,6 +1,7 @@
 pub mod Joins
+pub mod Stores
+pub mod Gifts
 pub mod Checks
-pub mod Pushes
 pub mod Refusals
 pub mod Sizes
 pub mod Judgements

@@ -1,5 +1,6 @@
 -- The first refusal of a program.
-use Rattle.std.proofs.Common.{◌≡◌, ℕ, zero, suc, ◌+◌, ◌-◌, ◌<◌, List, length, get_or, Option, Some, None, add-zero, add-one, add-suc, arith, subst, ap, ◌∙◌}
+use Rattle.std.proofs.Common.{◌≡◌, ℕ, zero, suc, ◌+◌, ◌-◌, ◌<◌, ◌≤◌, List, length, Option, Some, None, add-zero, add-one, add-suc, arith, subst, ap, ◌∙◌}
+use Rattle.std.specs.Prelude.{Box}
 use Rattle.instruction_set.specs.Program.{instruction_at}
 use Rattle.instruction_set.specs.declared.insn.Insn.{Insn}
 use Rattle.program_interface.specs.RunSizes.{Sizes}
@@ -7,6 +8,7 @@ use Rattle.reg_domain.specs.Domain.{Operations}
 use Rattle.verifier.specs.Accepted.{or_else, reason_of, refusal_at, refusal_below, refused}
 use Rattle.verifier.specs.Laws.{RefusalIsInside}
 use Rattle.verifier.specs.Facts.{facts_at, given_below, gives}
+use Rattle.verifier.specs.Rows.{held_at}
 use Rattle.verifier.specs.declared.facts.Facts.{Facts}
 use Rattle.verifier.specs.declared.reason.Reason.{Reason}
 use Rattle.verifier.specs.declared.reason.Refusal.{Refusal}
@@ -33,14 +35,15 @@ module _ {D : Type 0} (operations : Operations D) (program : List (Option Insn))
   pub none_more : (slot : ℕ) → below slot ≡ None → here slot ≡ None → below (slot + 1) ≡ None
   none_more slot before is = rw (add-one, before) is
 
-  -- the facts after a visit are what the slots up to it give
-  pub rows_more : (slot : ℕ) (rows later : List (Option (Facts D))) → slot < length rows
-      → ((s : ℕ) → s < length rows → get_or rows s None ≡ given_below operations sizes.block program slot s)
-      → ((s : ℕ) → s < length rows → get_or later s None ≡ gives operations sizes.block (instruction_at program slot) slot (get_or rows slot None) s (get_or rows s None))
-      → (s : ℕ) → s < length rows → get_or later s None ≡ given_below operations sizes.block program (slot + 1) s
-  rows_more slot rows later inside old new s within = rw add-one
-      (new s within ∙ ap (λ r. gives operations sizes.block (instruction_at program slot) slot r s (get_or rows s None)) (old slot inside)
-      ∙ ap (λ r. gives operations sizes.block (instruction_at program slot) slot (facts_at operations sizes.block program slot) s r) (old s within))
+  -- the rows behind a slot that was visited hold what the slots up to it give
+  pub rows_more : {Z : Type 0} (slot : ℕ) (rows later : List (Option (Box (Facts D) Z))) → slot < length rows
+      → ((s : ℕ) → slot ≤ s → s < length rows → held_at rows s ≡ given_below operations sizes.block program slot s)
+      → ((s : ℕ) → slot < s → s < length rows → held_at later s ≡ gives operations sizes.block (instruction_at program slot) slot (held_at rows slot) s (held_at rows s))
+      → (s : ℕ) → slot + 1 ≤ s → s < length rows → held_at later s ≡ given_below operations sizes.block program (slot + 1) s
+  rows_more slot rows later inside old new s behind within = rw add-one
+      (new s (omega arith) within
+      ∙ ap (λ r. gives operations sizes.block (instruction_at program slot) slot r s (held_at rows s)) (old slot (omega arith) inside)
+      ∙ ap (λ r. gives operations sizes.block (instruction_at program slot) slot (facts_at operations sizes.block program slot) s r) (old s (omega arith) within))
 
   -- ---- where a refusal is
   told_here : (slot : ℕ) (reason : Option Reason) (r : Refusal) → refused slot reason ≡ Some r → r.slot ≡ slot

@@ -9,7 +9,7 @@ use Rattle.program_interface.specs.Area.{is_writable}
 use Rattle.program_interface.specs.declared.area.Area.{Area}
 use Rattle.program_interface.specs.RunSizes.{Sizes}
 use Rattle.reg_domain.specs.Domain.{Operations}
-use Rattle.verifier.specs.Facts.{fact, facts_at, slot_behind}
+use Rattle.verifier.specs.Facts.{area_of, fact, facts_at, slot_behind}
 use Rattle.verifier.specs.declared.facts.Facts.{Facts}
 use Rattle.verifier.specs.declared.reason.Reason.{Reason}
 use Rattle.verifier.specs.declared.reason.Reason.TheVariants.{JumpBack, JumpOutside, FallsOff, WriteToFramePointer, LoadOutside, StoreOutside, UnknownHelper, EmitAddress, EmitLength, EmitBudget}
@@ -66,20 +66,16 @@ or_else (Some refusal) _ = Some refusal
 or_else None refusal = refusal
 
 module _ {D : Type 0} (operations : Operations D) where
-  -- the area that holds the bytes of an access, beside a block of this length
-  abbrev pub area_of : ℕ → Facts D → ℕ → ℤ → ℕ → Option Area
-  area_of block facts r offset size = operations.access block (fact operations facts r) offset size
-
   abbrev pub loads_outside : ℕ → Facts D → Insn → Bool
-  loads_outside block facts (Load size dst src offset) = is_none (area_of block facts src offset (size_of size))
-  loads_outside block facts (LoadSigned size dst src offset) = is_none (area_of block facts src offset (signed_size_of size))
+  loads_outside block facts (Load size dst src offset) = is_none (area_of operations block facts src offset (size_of size))
+  loads_outside block facts (LoadSigned size dst src offset) = is_none (area_of operations block facts src offset (signed_size_of size))
   loads_outside block facts _ = false
 
   abbrev pub stores_outside : ℕ → Facts D → Insn → Bool
   stores_outside block facts (StoreImmediate size dst offset value) =
-      is_unwritable (area_of block facts dst offset (size_of size))
+      is_unwritable (area_of operations block facts dst offset (size_of size))
   stores_outside block facts (StoreRegister size dst src offset) =
-      is_unwritable (area_of block facts dst offset (size_of size))
+      is_unwritable (area_of operations block facts dst offset (size_of size))
   stores_outside block facts _ = false
 
   -- the least and the most bytes that emit can take
@@ -99,9 +95,9 @@ module _ {D : Type 0} (operations : Operations D) where
     fails slot facts i LoadOutside = loads_outside sizes.block facts i
     fails slot facts i StoreOutside = stores_outside sizes.block facts i
     fails slot facts i UnknownHelper = calls_unknown i
-    fails slot facts i EmitAddress = is_emit i && is_none (area_of sizes.block facts 1 (pos 0) 0)
+    fails slot facts i EmitAddress = is_emit i && is_none (area_of operations sizes.block facts 1 (pos 0) 0)
     fails slot facts i EmitLength =
-        is_emit i && (least_emitted facts == 0 || is_none (area_of sizes.block facts 1 (pos 0) (most_emitted facts)))
+        is_emit i && (least_emitted facts == 0 || is_none (area_of operations sizes.block facts 1 (pos 0) (most_emitted facts)))
     fails slot facts i EmitBudget = is_emit i && nat_lt sizes.limit (facts.emitted + 2 + most_emitted facts)
 
     -- the least reason to refuse an instruction at a slot with these facts

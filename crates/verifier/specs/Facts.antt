@@ -1,19 +1,23 @@
 -- What is known at each slot of a program, by the operations of a domain (profile).
-use Rattle.std.specs.Prelude.{ℕ, ℤ, zero, suc, Bool, true, false, ◌+◌, ◌%◌, ◌^◌, ◌==◌, ◌++◌, List, [], ◌∷◌, drop, replicate, get_or, set, max, Option, Some, None, if◌then◌else◌, pos}
+use Rattle.std.specs.Prelude.{ℕ, ℤ, zero, suc, Bool, true, false, ◌+◌, ◌%◌, ◌^◌, ◌==◌, ◌&&◌, ◌++◌, nat_le, List, [], ◌∷◌, drop, replicate, get_or, set, max, Option, Some, None, unwrap_or, if◌then◌else◌, pos}
 use Rattle.std.specs.Ordering.{int_eq}
-use Rattle.instruction_set.specs.Instruction.{distance_of, immediate_word, target}
+use Rattle.instruction_set.specs.Instruction.{distance_of, immediate_word, size_of, target}
 use Rattle.instruction_set.specs.Program.{instruction_at}
 use Rattle.instruction_set.specs.declared.insn.Insn.{Insn}
 use Rattle.instruction_set.specs.declared.insn.Insn.TheVariants.{LoadImmediate, Load, LoadSigned, StoreImmediate, StoreRegister, Arithmetic, Negate, MoveSigned, SwapBytes, Jump, JumpLong, Branch, Call, Exit}
 use Rattle.instruction_set.specs.declared.insn.Source.{Source}
 use Rattle.instruction_set.specs.declared.insn.Source.TheVariants.{Immediate, Register}
 use Rattle.instruction_set.specs.declared.operation.Relation.{Relation}
+use Rattle.instruction_set.specs.declared.operation.Size.{Size}
+use Rattle.instruction_set.specs.declared.operation.Size.TheVariants.{DoubleWord}
 use Rattle.instruction_set.specs.declared.operation.Width.{Width}
 use Rattle.program_meaning.specs.Word.{low_bits}
 use Rattle.program_interface.specs.declared.area.Area.TheVariants.{Context, Block, Stack, Scratch}
 use Rattle.program_meaning.specs.declared.word.Arithmetic.TheVariants as word
 use Rattle.program_interface.specs.declared.area.TheConstants.{STACK_BYTES}
+use Rattle.program_interface.specs.declared.area.Area.{Area}
 use Rattle.reg_domain.specs.Domain.{Operations}
+use Rattle.verifier.specs.Cells.{cell_of, filled, is_stack, join_cells, known_in, no_cells, overwritten}
 use Rattle.verifier.specs.declared.facts.Facts.{Facts}
 
 -- the slot behind an instruction, which takes two slots if it is wide (RFC 9669, 5.4)
@@ -25,6 +29,11 @@ slot_behind slot _ = slot + 1
 abbrev pub leads : ℕ → Option ℤ → ℕ → Bool
 leads slot (Some distance) other = int_eq (target slot distance) (pos other)
 leads slot None other = false
+
+-- does a store go into the stack?
+abbrev pub enters_stack : Option Area → Bool
+enters_stack (Some area) = is_stack area
+enters_stack None = false
 
 -- is the source this register?
 abbrev pub is_register : ℕ → Source → Bool
@@ -46,6 +55,7 @@ module _ {D : Type 0} (operations : Operations D) where
         operations.constant 0 ∷ operations.pointer Context 0 ∷ operations.pointer Block 0 ∷ operations.pointer Scratch 0
         ∷ operations.constant 0 ∷ operations.constant 0 ∷ operations.constant 0 ∷ operations.constant 0
         ∷ operations.constant 0 ∷ operations.constant 0 ∷ operations.pointer Stack STACK_BYTES ∷ [];
+    cells = no_cells;
     emitted = 0;
   }
 
@@ -75,10 +85,42 @@ module _ {D : Type 0} (operations : Operations D) where
 
   -- after emit R0 to R5 are 0, and the group has grown by a frame of at most R2 bytes
   abbrev pub after_emit : Facts D → Facts D
-  after_emit facts = record {
+  after_emit facts = record facts {
     registers = replicate 6 (operations.constant 0) ++ drop 6 facts.registers;
     emitted = facts.emitted + 2 + (operations.bounds (fact facts 2)).high;
   }
+
+  -- ---- the stack
+
+  -- the area that holds the bytes of an access, beside a block of this length
+  abbrev pub area_of : ℕ → Facts D → ℕ → ℤ → ℕ → Option Area
+  area_of block facts r offset size = operations.access block (fact facts r) offset size
+
+  -- the cell that the eight bytes at an offset from a register are
+  abbrev pub cell_at : Facts D → ℕ → ℤ → Option ℕ
+  cell_at facts r offset = cell_of (operations.offsets (fact facts r)) offset
+
+  -- a cell keeps whole words, of R1 to R9
+  abbrev pub kept : Facts D → Size → ℕ → Option D
+  kept facts DoubleWord src = if nat_le 1 src && nat_le src 9 then Some (fact facts src) else None
+  kept facts size src = None
+
+  -- after a store; a fact, if there is one to be kept, fills the cell that the store goes to
+  abbrev pub after_store : ℕ → Facts D → Size → ℕ → ℤ → Option D → Facts D
+  after_store block facts size dst offset word =
+      if enters_stack (area_of block facts dst offset (size_of size))
+      then record facts {
+        cells =
+            filled (cell_at facts dst offset) word facts.cells
+            (overwritten (operations.offsets (fact facts dst)) offset (size_of size) facts.cells);
+      }
+      else facts
+
+  -- what a load gives: of eight bytes the fact of their cell, if there is one, else any number of this size
+  abbrev pub loaded_fact : Facts D → Size → ℕ → ℤ → D
+  loaded_fact facts DoubleWord src offset =
+      unwrap_or (known_in facts.cells (cell_at facts src offset)) (operations.loaded DoubleWord)
+  loaded_fact facts size src offset = operations.loaded size
 
   -- ---- joins
 
@@ -89,6 +131,7 @@ module _ {D : Type 0} (operations : Operations D) where
   abbrev pub join_facts : Facts D → Facts D → Facts D
   join_facts a b = record {
     registers = join_registers a.registers b.registers;
+    cells = join_cells operations.join a.cells b.cells;
     emitted = max a.emitted b.emitted;
   }
 
@@ -98,15 +141,16 @@ module _ {D : Type 0} (operations : Operations D) where
   merge (Some a) None = Some a
   merge None b = b
 
-  -- ---- what is known at a slot, beside a block of this length: a fact about memory would rest on it
+  -- ---- what is known at a slot, beside a block of this length, which tells the area of a store
   module _ (block : ℕ) where
     -- at the slot behind an instruction; none where it doesn't go on there
     abbrev pub facts_behind : Insn → Facts D → Option (Facts D)
     facts_behind (LoadImmediate dst value) facts = Some (with_fact facts dst (operations.constant (value % 2 ^ 64)))
-    facts_behind (Load size dst src offset) facts = Some (with_fact facts dst (operations.loaded size))
+    facts_behind (Load size dst src offset) facts = Some (with_fact facts dst (loaded_fact facts size src offset))
     facts_behind (LoadSigned size dst src offset) facts = Some (with_fact facts dst (operations.loaded_signed size))
-    facts_behind (StoreImmediate size dst offset value) facts = Some facts
-    facts_behind (StoreRegister size dst src offset) facts = Some facts
+    facts_behind (StoreImmediate size dst offset value) facts = Some (after_store block facts size dst offset None)
+    facts_behind (StoreRegister size dst src offset) facts =
+        Some (after_store block facts size dst offset (kept facts size src))
     facts_behind (Arithmetic width operation dst source) facts =
         Some (with_fact facts dst (operations.alu (word.Binary width operation) (fact facts dst) (source_fact facts source)))
     facts_behind (Negate width dst) facts =

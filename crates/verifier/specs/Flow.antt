@@ -7,10 +7,12 @@ use Rattle.instruction_set.specs.Instruction.{distance_of}
 use Rattle.instruction_set.specs.Program.{instruction_at}
 use Rattle.instruction_set.specs.declared.insn.Insn.{Insn}
 use Rattle.program_meaning.specs.State.{IsState, State}
+use Rattle.program_interface.specs.declared.area.Area.TheVariants.{Stack}
 use Rattle.reg_domain.specs.Domain.{IsSound, Operations}
+use Rattle.verifier.specs.CellLaws.{joined_known, word_fits}
 use Rattle.verifier.specs.Facts.{facts_at, facts_at_target, facts_behind, given_below, gives, join_registers, leads, merge, slot_behind}
 use Rattle.verifier.specs.KnownFacts.{AreFacts, SomeAreFacts, ahead_given, behind_given, given_facts, known_facts, merge_facts}
-use Rattle.verifier.specs.Meets.{Belong, IsAlong, MeetsSome, Moved}
+use Rattle.verifier.specs.Meets.{Belong, IsAlong, MeetsSome, Moved, word_in}
 use Rattle.verifier.specs.declared.facts.Facts.{Facts}
 
 module _ {D : Type 0} {IsFact : D → Type 0} {contains : D → ℕ → Type 0} {operations : Operations D}
@@ -40,7 +42,17 @@ module _ {D : Type 0} {IsFact : D → Type 0} {contains : D → ℕ → Type 0} 
     merge_first : (a b : Option (Facts D)) → SomeAreFacts IsFact a → SomeAreFacts IsFact b → MeetsSome contains a s
         → MeetsSome contains (merge operations a b) s
     merge_first (Some a) (Some b) first second h = record {
-      registers = belong_first a.registers b.registers s.registers is.words first second h.registers;
+      registers = belong_first a.registers b.registers s.registers is.words first.registers second.registers h.registers;
+      cells = λ j d e.
+          let joined = joined_known operations.join a.cells b.cells j d e in
+          subst (λ x. contains x (word_in s.memory.stack j)) joined.is
+          (sound.join_first joined.first joined.second (word_in s.memory.stack j)
+          (record {
+            fact = first.cells j joined.first joined.in_first;
+            word = word_fits s.memory.stack j (is.memory.bytes Stack);
+            within = h.cells j joined.first joined.in_first;
+          })
+          (second.cells j joined.second joined.in_second));
       group = omega (arith, h.group);
     }
     merge_first (Some a) None first second h = h
@@ -49,7 +61,17 @@ module _ {D : Type 0} {IsFact : D → Type 0} {contains : D → ℕ → Type 0} 
     merge_second : (a b : Option (Facts D)) → SomeAreFacts IsFact a → SomeAreFacts IsFact b → MeetsSome contains b s
         → MeetsSome contains (merge operations a b) s
     merge_second (Some a) (Some b) first second h = record {
-      registers = belong_second a.registers b.registers s.registers is.words first second h.registers;
+      registers = belong_second a.registers b.registers s.registers is.words first.registers second.registers h.registers;
+      cells = λ j d e.
+          let joined = joined_known operations.join a.cells b.cells j d e in
+          subst (λ x. contains x (word_in s.memory.stack j)) joined.is
+          (sound.join_second joined.first joined.second (word_in s.memory.stack j)
+          (first.cells j joined.first joined.in_first)
+          (record {
+            fact = second.cells j joined.second joined.in_second;
+            word = word_fits s.memory.stack j (is.memory.bytes Stack);
+            within = h.cells j joined.second joined.in_second;
+          }));
       group = omega (arith, h.group);
     }
     merge_second (Some a) None first second h = absurd h

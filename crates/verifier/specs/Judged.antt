@@ -28,4 +28,4 @@ module _ {D : Type 0} (operations : Operations D) (program : List (Option Insn))
   abbrev pub IsJudged : Sizes → Judgement D → Type 0
   IsJudged sizes (Accepted most) = (refusal operations program sizes ≡ None) × (most ≡ most_emitted sizes.block)
   IsJudged sizes (Refused r facts) =
-      (refusal operations program sizes ≡ Some r) × (facts_at operations sizes.block program r.slot ≡ Some facts)
+      (refusal operations program sizes ≡ Some r) × (facts_at operations sizes.block program r.slot ≡ Some facts.value)

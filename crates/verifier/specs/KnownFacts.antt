@@ -1,22 +1,28 @@
 -- What is known at a slot is made of facts.
-use Rattle.std.proofs.Common.{ℕ, zero, suc, ◌≡◌, ◌<◌, ◌%◌, ℤ, ◌^◌, ◌++◌, Bool, true, false, List, [], ◌∷◌, drop, get_or, replicate, set, Option, Some, None, IfSome, arith, lit<, subst}
+use Rattle.std.proofs.Common.{ℕ, zero, suc, ◌≡◌, ◌<◌, ◌%◌, ℤ, ◌^◌, ◌++◌, Bool, true, false, List, [], ◌∷◌, drop, get_or, replicate, set, Option, Some, None, IfSome, inl, inr, refl, arith, lit<, subst}
 use Rattle.std.proofs.Math.Nat.{mod-lt}
 use Rattle.std.specs.List.{AllByRecursion}
-use Rattle.std.specs.Prelude.{◌==◌, if◌then◌else◌}
-use Rattle.instruction_set.specs.Instruction.{distance_of, immediate_word}
+use Rattle.std.specs.Prelude.{◌==◌, ◌&&◌, nat_le, unwrap_or, if◌then◌else◌}
+use Rattle.instruction_set.specs.Instruction.{distance_of, immediate_word, size_of}
 use Rattle.instruction_set.specs.Program.{instruction_at}
 use Rattle.instruction_set.specs.declared.insn.Insn.{Insn}
 use Rattle.instruction_set.specs.declared.insn.Insn.TheVariants.{LoadImmediate, Load, LoadSigned, StoreImmediate, StoreRegister, Arithmetic, Negate, MoveSigned, SwapBytes, Jump, JumpLong, Branch, Call, Exit}
 use Rattle.instruction_set.specs.declared.insn.Source.{Source}
 use Rattle.instruction_set.specs.declared.insn.Source.TheVariants.{Immediate, Register}
 use Rattle.instruction_set.specs.declared.operation.Relation.{Relation}
+use Rattle.instruction_set.specs.declared.operation.Size.{Size}
+use Rattle.instruction_set.specs.declared.operation.Size.TheVariants.{Byte, HalfWord, Word, DoubleWord}
 use Rattle.instruction_set.specs.declared.operation.Width.{Width}
 use Rattle.instruction_set.specs.declared.operation.Width.TheVariants.{Bits32, Bits64}
 use Rattle.program_meaning.specs.Word.{low_bits}
 use Rattle.program_interface.specs.declared.area.Area.TheVariants.{Context, Block, Stack, Scratch}
 use Rattle.program_meaning.specs.declared.word.Arithmetic.TheVariants as word
 use Rattle.reg_domain.specs.Domain.{GiveFacts, Operations}
-use Rattle.verifier.specs.Facts.{along, compared_fact, entry_facts, fact, facts_at, facts_at_target, facts_behind, given_below, gives, is_register, join_registers, leads, merge, slot_behind, source_fact, with_both, with_fact}
+use Rattle.reg_domain.specs.declared.offsets.Offsets.{Offsets}
+use Rattle.verifier.specs.Cells.{cell_of, filled, forgotten, is_stack, join_cells, known_in, no_cells, overwritten}
+use Rattle.verifier.specs.CellLaws.{if_some, joined_known, left_known, none_known, set_known}
+use Rattle.verifier.specs.declared.facts.TheConstants.{CELLS}
+use Rattle.verifier.specs.Facts.{after_store, along, area_of, cell_at, compared_fact, enters_stack, entry_facts, fact, facts_at, facts_at_target, facts_behind, given_below, gives, is_register, join_registers, kept, leads, loaded_fact, merge, slot_behind, source_fact, with_both, with_fact}
 use Rattle.verifier.specs.declared.facts.Facts.{Facts}
 
 -- ---- the words of an instruction
@@ -28,9 +34,14 @@ pub immediate_fits : (z : ℤ) → immediate_word z < 2 ^ 64
 immediate_fits z = mod-lt _ (lit< tt)
 
 module _ {D : Type 0} (IsFact : D → Type 0) where
+  -- what is known in each cell is a fact
+  abbrev pub AreCellFacts : List (Option D) → Type 0
+  AreCellFacts cells = (j : ℕ) (d : D) → get_or cells j None ≡ Some d → IsFact d
+
   -- each is a fact
-  abbrev pub AreFacts : Facts D → Type 0
-  AreFacts facts = AllByRecursion IsFact facts.registers
+  pub record AreFacts (facts : Facts D) : Type 0 where
+    pub registers : AllByRecursion IsFact facts.registers
+    pub cells : AreCellFacts facts.cells
 
   abbrev pub SomeAreFacts : Option (Facts D) → Type 0
   SomeAreFacts None = Unit {0}
@@ -57,13 +68,53 @@ module _ {D : Type 0} (IsFact : D → Type 0) where
   all_replicate zero d ds is all = all
   all_replicate (suc n) d ds is all = (is, all_replicate n d ds is all)
 
+  -- ---- cells
+  pub no_cell_facts : AreCellFacts no_cells
+  no_cell_facts j d e = absurd (none_known CELLS j d e)
+
+  cells_chosen : (is : Bool) (cells others : List (Option D)) → AreCellFacts cells → AreCellFacts others
+      → AreCellFacts (if is then cells else others)
+  cells_chosen true cells others first second = first
+  cells_chosen false cells others first second = second
+
+  overwritten_facts : (told : Option Offsets) (offset : ℤ) (size : ℕ) (cells : List (Option D)) → AreCellFacts cells
+      → AreCellFacts (overwritten told offset size cells)
+  overwritten_facts None offset size cells are = no_cell_facts
+  overwritten_facts (Some told) offset size cells are =
+      cells_chosen (is_stack told.area) _ no_cells
+      (λ j d e. are j d (left_known _ _ j cells d e).1)
+      no_cell_facts
+
+  filled_facts : (cell : Option ℕ) (word : Option D) (cells others : List (Option D))
+      → ((d : D) → word ≡ Some d → IsFact d) → AreCellFacts cells → AreCellFacts others
+      → AreCellFacts (filled cell word cells others)
+  filled_facts (Some j) (Some d) cells others is are rest k e known = elim (set_known cells j k d e known) [
+    | inl here ↦ subst IsFact here.1 (is d refl)
+    | inr there ↦ are k e there.1
+  ]
+  filled_facts (Some j) None cells others is are rest k e known = rest k e known
+  filled_facts None word cells others is are rest k e known = rest k e known
+
+  known_fact : (cells : List (Option D)) (cell : Option ℕ) (d : D) → AreCellFacts cells → known_in cells cell ≡ Some d → IsFact d
+  known_fact cells (Some j) d are e = are j d e
+  known_fact cells None d are e = cc
+
+  or_fact : (o : Option D) (d : D) → ((x : D) → o ≡ Some x → IsFact x) → IsFact d → IsFact (unwrap_or o d)
+  or_fact (Some x) d first second = first x refl
+  or_fact None d first second = second
+
+  facts_chosen : (is : Bool) (facts others : Facts D) → AreFacts facts → AreFacts others
+      → AreFacts (if is then facts else others)
+  facts_chosen true facts others first second = first
+  facts_chosen false facts others first second = second
+
   chosen : (is : Bool) (facts : Option (Facts D)) → SomeAreFacts facts → SomeAreFacts (if is then facts else None)
   chosen true facts are = are
   chosen false facts are = tt
 
 module _ {D : Type 0} {IsFact : D → Type 0} {operations : Operations D} (give : GiveFacts IsFact operations) where
   pub fact_is : (facts : Facts D) (r : ℕ) → AreFacts IsFact facts → IsFact (fact operations facts r)
-  fact_is facts r are = all_get IsFact facts.registers r operations.any give.any are
+  fact_is facts r are = all_get IsFact facts.registers r operations.any give.any are.registers
 
   pub source_is : (facts : Facts D) (source : Source) → AreFacts IsFact facts → IsFact (source_fact operations facts source)
   source_is facts (Register r) are = fact_is facts r are
@@ -78,7 +129,7 @@ module _ {D : Type 0} {IsFact : D → Type 0} {operations : Operations D} (give 
   -- ---- edges
   with_facts : (facts : Facts D) (r : ℕ) (d : D) → AreFacts IsFact facts → IsFact d
       → AreFacts IsFact (with_fact operations facts r d)
-  with_facts facts r d are is = all_set IsFact facts.registers r d is are
+  with_facts facts r d are is = record { registers = all_set IsFact facts.registers r d is are.registers; cells = are.cells }
 
   both_facts : (facts : Facts D) (dst : ℕ) (source : Source) (both : Option (D × D)) → AreFacts IsFact facts
       → IfSome both (λ facts. IsFact facts.0 × IsFact facts.1) → SomeAreFacts IsFact (with_both operations facts dst source both)
@@ -94,15 +145,50 @@ module _ {D : Type 0} {IsFact : D → Type 0} {operations : Operations D} (give 
       (give.refine width relation taken (fact operations facts dst) (compared_fact operations width facts source)
       (is_register dst source) (fact_is facts dst are) (compared_is facts width source are))
 
+  -- ---- the stack
+  kept_is : (facts : Facts D) (size : Size) (src : ℕ) (d : D) → AreFacts IsFact facts → kept operations facts size src ≡ Some d
+      → IsFact d
+  kept_is facts DoubleWord src d are e =
+      let from = if_some (nat_le 1 src && nat_le src 9) (Some (fact operations facts src)) d e in
+      let same : fact operations facts src ≡ d = cc in
+      subst IsFact same (fact_is facts src are)
+  kept_is facts Byte src d are e = cc
+  kept_is facts HalfWord src d are e = cc
+  kept_is facts Word src d are e = cc
+
+  stored_facts : (block : ℕ) (facts : Facts D) (size : Size) (dst : ℕ) (offset : ℤ) (word : Option D) → AreFacts IsFact facts
+      → ((d : D) → word ≡ Some d → IsFact d) → AreFacts IsFact (after_store operations block facts size dst offset word)
+  stored_facts block facts size dst offset word are is =
+      let told = operations.offsets (fact operations facts dst) in
+      facts_chosen IsFact (enters_stack (area_of operations block facts dst offset (size_of size))) _ facts
+      (record {
+        registers = are.registers;
+        cells = filled_facts IsFact (cell_of told offset) word facts.cells _ is are.cells
+            (overwritten_facts IsFact told offset (size_of size) facts.cells are.cells);
+      })
+      are
+
+  loaded_is : (facts : Facts D) (size : Size) (src : ℕ) (offset : ℤ) → AreFacts IsFact facts
+      → IsFact (loaded_fact operations facts size src offset)
+  loaded_is facts DoubleWord src offset are =
+      let cell = cell_at operations facts src offset in
+      or_fact IsFact (known_in facts.cells cell) (operations.loaded DoubleWord)
+      (λ d e. known_fact IsFact facts.cells cell d are.cells e) (give.loaded DoubleWord)
+  loaded_is facts Byte src offset are = give.loaded Byte
+  loaded_is facts HalfWord src offset are = give.loaded HalfWord
+  loaded_is facts Word src offset are = give.loaded Word
+
   module _ (block : ℕ) where
     behind_facts : (i : Insn) (facts : Facts D) → AreFacts IsFact facts
         → SomeAreFacts IsFact (facts_behind operations block i facts)
     behind_facts (LoadImmediate dst value) facts are =
         with_facts facts dst _ are (give.constant (value % 2 ^ 64) (mod-lt value (lit< tt)))
-    behind_facts (Load size dst src offset) facts are = with_facts facts dst _ are (give.loaded size)
+    behind_facts (Load size dst src offset) facts are = with_facts facts dst _ are (loaded_is facts size src offset are)
     behind_facts (LoadSigned size dst src offset) facts are = with_facts facts dst _ are (give.loaded_signed size)
-    behind_facts (StoreImmediate size dst offset value) facts are = are
-    behind_facts (StoreRegister size dst src offset) facts are = are
+    behind_facts (StoreImmediate size dst offset value) facts are =
+        stored_facts block facts size dst offset None are (λ d e. cc)
+    behind_facts (StoreRegister size dst src offset) facts are =
+        stored_facts block facts size dst offset (kept operations facts size src) are (λ d e. kept_is facts size src d are e)
     behind_facts (Arithmetic width operation dst source) facts are =
         with_facts facts dst _ are
         (give.alu (word.Binary width operation) _ _ (fact_is facts dst are) (source_is facts source are))
@@ -119,9 +205,12 @@ module _ {D : Type 0} {IsFact : D → Type 0} {operations : Operations D} (give 
     behind_facts (JumpLong distance) facts are = tt
     behind_facts (Branch width relation dst source distance) facts are =
         along_facts facts false width relation dst source are
-    behind_facts (Call helper) facts are =
-        all_replicate IsFact 6 (operations.constant 0) (drop 6 facts.registers) (give.constant 0 (lit< tt))
-        (all_drop IsFact 6 facts.registers are)
+    behind_facts (Call helper) facts are = record {
+      registers =
+          all_replicate IsFact 6 (operations.constant 0) (drop 6 facts.registers) (give.constant 0 (lit< tt))
+          (all_drop IsFact 6 facts.registers are.registers);
+      cells = are.cells;
+    }
     behind_facts Exit facts are = tt
 
     target_facts : (i : Insn) (facts : Facts D) → AreFacts IsFact facts
@@ -163,26 +252,30 @@ module _ {D : Type 0} {IsFact : D → Type 0} {operations : Operations D} (give 
 
   pub merge_facts : (a b : Option (Facts D)) → SomeAreFacts IsFact a → SomeAreFacts IsFact b
       → SomeAreFacts IsFact (merge operations a b)
-  merge_facts (Some a) (Some b) first second = join_facts_are a.registers b.registers first second
+  merge_facts (Some a) (Some b) first second = record {
+    registers = join_facts_are a.registers b.registers first.registers second.registers;
+    cells = λ j d e.
+        let joined = joined_known operations.join a.cells b.cells j d e in
+        subst IsFact joined.is
+        (give.join joined.first joined.second (first.cells j joined.first joined.in_first)
+        (second.cells j joined.second joined.in_second));
+  }
   merge_facts (Some a) None first second = first
   merge_facts None b first second = second
 
   -- ---- slots
   entry_are : AreFacts IsFact (entry_facts operations)
   entry_are =
-      let none = give.constant 0 (lit< tt) in (
-        none,
-        (
-          give.pointer Context 0 (lit< tt),
-          (
-            give.pointer Block 0 (lit< tt),
-            (
-              give.pointer Scratch 0 (lit< tt),
-              (none, (none, (none, (none, (none, (none, (give.pointer Stack 512 (lit< tt), tt))))))),
-            ),
-          ),
-        ),
-      )
+      let none = give.constant 0 (lit< tt) in
+      let context = give.pointer Context 0 (lit< tt) in
+      let block = give.pointer Block 0 (lit< tt) in
+      let scratch = give.pointer Scratch 0 (lit< tt) in
+      let stack = give.pointer Stack 512 (lit< tt) in
+      record {
+        registers =
+            (none, (context, (block, (scratch, (none, (none, (none, (none, (none, (none, (stack, tt)))))))))));
+        cells = no_cell_facts IsFact;
+      }
 
   gives_facts : (block : ℕ) (i : Option Insn) (slot : ℕ) (facts : Option (Facts D)) (other : ℕ) (sofar : Option (Facts D))
       → SomeAreFacts IsFact facts → SomeAreFacts IsFact sofar

@@ -1,9 +1,13 @@
+pub mod Cells
 pub mod Facts
 pub mod Accepted
 pub mod Answer
 pub mod Verified
+pub mod Rows
 pub mod Meets
 pub mod Fitting
+pub mod CellLaws
+pub mod StoreLaws
 pub mod KnownFacts
 pub mod Registers
 pub mod Moves

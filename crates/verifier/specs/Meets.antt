@@ -1,11 +1,16 @@
 -- When a state meets what is known of it.
-use Rattle.std.specs.Prelude.{ℕ, Bool, true, false, ◌≡◌, ◌<◌, ◌≤◌, List, [], ◌∷◌, length, Option, Some, None}
+use Rattle.std.specs.Prelude.{ℕ, Bool, true, false, ◌≡◌, ◌<◌, ◌≤◌, List, [], ◌∷◌, length, drop, get_or, ◌*◌, Option, Some, None}
+use Rattle.byteorder.specs.Endian.{little_number}
 use Rattle.instruction_set.specs.Instruction.{distance_of}
 use Rattle.instruction_set.specs.declared.insn.Insn.{Insn}
 use Rattle.program_meaning.specs.State.{State}
 use Rattle.reg_domain.specs.Domain.{Operations}
 use Rattle.verifier.specs.Facts.{facts_at_target, facts_behind, leads, slot_behind}
 use Rattle.verifier.specs.declared.facts.Facts.{Facts}
+
+-- the little-endian word that a cell's eight bytes are
+abbrev pub word_in : List ℕ → ℕ → ℕ
+word_in stack j = little_number 8 (drop (8 * j) stack)
 
 module _ {D : Type 0} (contains : D → ℕ → Type 0) where
   -- each word belongs to the fact at its place
@@ -14,8 +19,13 @@ module _ {D : Type 0} (contains : D → ℕ → Type 0) where
   Belong (d ∷ ds) [] = ⊥
   Belong (d ∷ ds) (w ∷ ws) = contains d w × Belong ds ws
 
+  -- the word of each cell of which something is known belongs to the fact
+  abbrev pub BelongInCells : List (Option D) → List ℕ → Type 0
+  BelongInCells cells stack = (j : ℕ) (d : D) → get_or cells j None ≡ Some d → contains d (word_in stack j)
+
   pub record Meets (facts : Facts D) (s : State) : Type 0 where
     pub registers : Belong facts.registers s.registers
+    pub cells : BelongInCells facts.cells s.memory.stack
     pub group : length s.group ≤ facts.emitted
 
   abbrev pub MeetsSome : Option (Facts D) → State → Type 0

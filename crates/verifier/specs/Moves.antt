@@ -1,37 +1,46 @@
 -- An accepted instruction leads along one of its edges to a state that meets what the edge gives.
-use Rattle.std.proofs.Common.{ℕ, ℤ, pos, negsuc, ◌+◌, ◌≡◌, ◌<◌, ◌≤◌, ◌%◌, ◌^◌, Bool, true, false, cond, List, drop, length, set, Option, Some, None, refl, sym, ap, ◌∙◌, arith, lit<, length-append}
+use Rattle.std.proofs.Common.{ℕ, ℤ, pos, negsuc, ◌+◌, ◌≡◌, ◌<◌, ◌≤◌, ◌%◌, ◌^◌, Bool, true, false, cond, subst, List, drop, length, set, Option, Some, None, refl, sym, ap, ◌∙◌, arith, lit<, length-append}
 use Rattle.std.proofs.Math.Nat.{mod-lt}
 use Rattle.std.proofs.lemmas.List.{length-take}
 use Rattle.std.proofs.lemmas.Cmp.{int_eq_equiv}
-use Rattle.instruction_set.specs.Instruction.{distance_of, signed_size_of, size_of, target}
+use Rattle.std.specs.Int.{w16}
+use Rattle.std.specs.Prelude.{◌&&◌, FitsSigned, nat_le, unwrap_or, if◌then◌else◌}
+use Rattle.instruction_set.specs.Instruction.{distance_of, immediate_word, signed_size_of, size_of, target}
+use Rattle.instruction_set.specs.Spelling.{first_slot}
 use Rattle.instruction_set.specs.declared.insn.Insn.{Insn}
 use Rattle.instruction_set.specs.declared.insn.Insn.TheVariants.{LoadImmediate, Load, LoadSigned, StoreImmediate, StoreRegister, Arithmetic, Negate, MoveSigned, SwapBytes, Jump, JumpLong, Branch, Call, Exit}
 use Rattle.instruction_set.specs.declared.insn.Source.{Source}
 use Rattle.instruction_set.specs.declared.insn.Source.TheVariants.{Immediate, Register}
 use Rattle.instruction_set.specs.declared.operation.Relation.{Relation}
+use Rattle.instruction_set.specs.declared.operation.Size.{Size}
+use Rattle.instruction_set.specs.declared.operation.Size.TheVariants.{Byte, HalfWord, Word, DoubleWord}
 use Rattle.instruction_set.specs.declared.operation.Width.{Width}
 use Rattle.program_meaning.proofs.MemoryLemmas.{loaded_fits}
 use Rattle.program_meaning.specs.Cause.{is_exit, next_slot}
 use Rattle.program_meaning.specs.Effect.{address_from, bytes_at, emitted, operand, put, register}
-use Rattle.program_meaning.specs.Memory.{Memory, bytes_from, loaded, place_of}
+use Rattle.program_meaning.specs.Memory.{Memory, bytes_from, lies_in, loaded, place_of, stored}
 use Rattle.program_meaning.specs.State.{IsState, State}
 use Rattle.program_meaning.specs.Step.{after, slot_number}
 use Rattle.program_meaning.specs.Word.{is_taken}
 use Rattle.program_meaning.specs.declared.word.Arithmetic.TheVariants as word
 use Rattle.program_interface.specs.Frame.{frame}
-use Rattle.program_interface.specs.RunSizes.{Sizes}
-use Rattle.reg_domain.specs.Domain.{BelongAfter, Belongs, IsSound, Operations}
-use Rattle.verifier.specs.Accepted.{goes_back, reason_of}
-use Rattle.verifier.specs.Facts.{after_emit, along, compared_fact, fact, facts_at_target, facts_behind, is_register, slot_behind, with_both, with_fact}
-use Rattle.verifier.specs.KnownFacts.{AreFacts}
+use Rattle.program_interface.specs.BlockSize.{IsBlockSize}
+use Rattle.program_interface.specs.RunSizes.{AreSizes, Sizes}
+use Rattle.program_interface.specs.declared.area.Area.{Area}
+use Rattle.program_interface.specs.declared.area.Area.TheVariants.{Context, Block, Stack, Scratch}
+use Rattle.reg_domain.specs.Domain.{BelongAfter, Belongs, IsAtOffset, IsSound, Operations}
+use Rattle.reg_domain.specs.declared.offsets.Offsets.{Offsets}
+use Rattle.verifier.specs.Accepted.{all_reasons, fails, goes_back, is_unwritable, reason_of, stores_outside}
+use Rattle.verifier.specs.CellLaws.{if_some}
+use Rattle.verifier.specs.Cells.{cell_of, filled, is_stack, known_in, overwritten}
+use Rattle.verifier.specs.Facts.{after_emit, after_store, along, area_of, cell_at, compared_fact, enters_stack, fact, facts_at_target, facts_behind, is_register, kept, loaded_fact, slot_behind, with_both, with_fact}
+use Rattle.verifier.specs.KnownFacts.{AreFacts, immediate_fits}
+use Rattle.verifier.specs.StoreLaws.{cell_loaded, in_stack, stack_stays, stack_written, stored_belong}
+use Rattle.verifier.specs.Unhindered.{all_fail, of_all, size_fits}
+use Rattle.verifier.specs.declared.reason.Reason.TheVariants as reason
 use Rattle.verifier.specs.Meets.{Meets, MeetsSome, Moved}
 use Rattle.verifier.specs.Registers.{belong_drop, belong_refined, belong_replicate, belong_set, belongs, compared, compared_belongs, compares_low, constant_belongs, one_register, source_belongs}
 use Rattle.verifier.specs.declared.facts.Facts.{Facts}
-
--- what wasn't chosen first didn't pass
-not_chosen : {X : Type 0} (passes : Bool) (x : X) (rest : Option X) → cond passes (Some x) rest ≡ None → passes ≡ false
-not_chosen true x rest e = cc
-not_chosen false x rest e = refl
 
 behind_is_later : (slot : ℕ) (i : Insn) → slot < slot_behind slot i
 behind_is_later slot (LoadImmediate dst value) = omega arith
@@ -51,8 +60,8 @@ frame_length m address n =
 
 module _ {D : Type 0} {IsFact : D → Type 0} {contains : D → ℕ → Type 0} {operations : Operations D}
     (sound : IsSound IsFact contains operations) where
-  module _ (block : ℕ) (facts : Facts D) (s : State) (is : IsState s) (are : AreFacts IsFact facts)
-      (meets : Meets contains facts s) where
+  module _ (block : ℕ) (facts : Facts D) (s : State) (is_size : IsBlockSize block) (is : IsState s)
+      (long : length s.memory.block ≡ block) (are : AreFacts IsFact facts) (meets : Meets contains facts s) where
     -- ---- where it leads
 
     behind : (i : Insn) → next_slot s.slot s.registers i ≡ pos (slot_behind s.slot i)
@@ -84,13 +93,14 @@ module _ {D : Type 0} {IsFact : D → Type 0} {contains : D → ℕ → Type 0} 
     zero_is : Belongs IsFact contains (operations.constant 0) 0
     zero_is = constant_belongs sound 0 (lit< tt)
 
-    same_registers : (memory : Memory) (slot : ℕ) → Meets contains facts (record s { memory = memory; slot = slot })
-    same_registers memory slot = record { registers = meets.registers; group = meets.group }
+    elsewhere : (slot : ℕ) → Meets contains facts (record s { slot = slot })
+    elsewhere slot = record { registers = meets.registers; cells = meets.cells; group = meets.group }
 
     put_meets : (r : ℕ) (d : D) (w slot : ℕ) → contains d w
         → Meets contains (with_fact operations facts r d) (record (put s r w) { slot = slot })
     put_meets r d w slot belongs = record {
       registers = belong_set contains facts.registers s.registers r d w belongs meets.registers;
+      cells = meets.cells;
       group = meets.group;
     }
 
@@ -102,10 +112,12 @@ module _ {D : Type 0} {IsFact : D → Type 0} {contains : D → ℕ → Type 0} 
       registers =
           belong_refined contains (set facts.registers dst both.0) s.registers r both.1 after.1
           (belong_refined contains facts.registers s.registers dst both.0 after.0 meets.registers);
+      cells = meets.cells;
       group = meets.group;
     }
     both_meet dst width (Immediate z) slot (Some both) after = record {
       registers = belong_refined contains facts.registers s.registers dst both.0 after.0 meets.registers;
+      cells = meets.cells;
       group = meets.group;
     }
 
@@ -125,6 +137,7 @@ module _ {D : Type 0} {IsFact : D → Type 0} {contains : D → ℕ → Type 0} 
       registers =
           belong_replicate contains 6 (operations.constant 0) 0 (drop 6 facts.registers) (drop 6 s.registers)
           (sound.constant 0 (lit< tt)) (belong_drop contains 6 facts.registers s.registers meets.registers);
+      cells = meets.cells;
       group =
           let n = register s 2 in
           let most = sound.bounds (fact operations facts 2) n (word_of 2) in
@@ -132,6 +145,111 @@ module _ {D : Type 0} {IsFact : D → Type 0} {contains : D → ℕ → Type 0} 
           let before = meets.group in
           rw length-append (omega (arith, most, longer, before));
     }
+
+    -- ---- the stack
+
+    -- what is told of the address of an access
+    told_at : (r : ℕ) (offsets : Offsets) → operations.offsets (fact operations facts r) ≡ Some offsets
+        → IsAtOffset offsets (register s r)
+    told_at r offsets told = sound.offsets (fact operations facts r) offsets (register s r) told (word_of r)
+
+    any_loaded : (size : Size) (src : ℕ) (offset : ℤ)
+        → contains (operations.loaded size) (loaded s.memory (address_from s.registers src offset) (size_of size))
+    any_loaded size src offset =
+        let address = address_from s.registers src offset in
+        sound.loaded size (loaded s.memory address (size_of size)) (loaded_fits s.memory address (size_of size) is.memory)
+
+    module _ (src : ℕ) (offset : ℤ) (near : FitsSigned w16 offset) where
+      abbrev eight : ℕ
+      eight = loaded s.memory (address_from s.registers src offset) 8
+
+      cell_belongs : (cell : Option ℕ) (d : D) → cell_at operations facts src offset ≡ cell → known_in facts.cells cell ≡ Some d
+          → contains d eight
+      cell_belongs (Some j) d here known =
+          let same = cell_loaded s.memory is.memory (operations.offsets (fact operations facts src)) offset j (register s src)
+          (is.words src) near (told_at src) here in
+          rw same (meets.cells j d known)
+      cell_belongs None d here known = cc
+
+      word_belongs : (o : Option D) → known_in facts.cells (cell_at operations facts src offset) ≡ o
+          → contains (unwrap_or o (operations.loaded DoubleWord)) eight
+      word_belongs (Some d) known = cell_belongs (cell_at operations facts src offset) d refl known
+      word_belongs None known = any_loaded DoubleWord src offset
+
+      load_belongs : (size : Size)
+          → contains (loaded_fact operations facts size src offset)
+          (loaded s.memory (address_from s.registers src offset) (size_of size))
+      load_belongs DoubleWord = word_belongs (known_in facts.cells (cell_at operations facts src offset)) refl
+      load_belongs Word = any_loaded Word src offset
+      load_belongs HalfWord = any_loaded HalfWord src offset
+      load_belongs Byte = any_loaded Byte src offset
+
+    module _ (size : Size) (dst : ℕ) (offset : ℤ) (near : FitsSigned w16 offset) (word slot : ℕ) (small : word < 2 ^ 64)
+        (keeps : Option D) (is_kept : (d : D) → keeps ≡ Some d → (size ≡ DoubleWord) × contains d word) where
+      abbrev address : ℕ
+      address = address_from s.registers dst offset
+
+      abbrev told : Option Offsets
+      told = operations.offsets (fact operations facts dst)
+
+      -- the state after the store
+      abbrev then_at : State
+      then_at = record s { memory = stored s.memory address size word; slot = slot }
+
+      abbrev known_after : Option Area → Facts D
+      known_after area =
+          if enters_stack area
+          then record facts {
+            cells = filled (cell_of told offset) keeps facts.cells (overwritten told offset (size_of size) facts.cells);
+          }
+          else facts
+
+      lies : (area : Area) → area_of operations block facts dst offset (size_of size) ≡ Some area
+          → lies_in (length s.memory.block) area address (size_of size) ≡ true
+      lies area e = rw long
+          (sound.access block (fact operations facts dst) offset (size_of size) area (register s dst)
+          (record { beside = is_size; near = near; counted = size_fits size }) e (word_of dst))
+
+      outside_stack : (area : Area) → is_stack area ≡ false → area_of operations block facts dst offset (size_of size) ≡ Some area
+          → Meets contains facts then_at
+      outside_stack area other e = record {
+        registers = meets.registers;
+        cells = rw (stack_stays s.memory is.memory address size word area other (lies area e)) meets.cells;
+        group = meets.group;
+      }
+
+      inside_stack : area_of operations block facts dst offset (size_of size) ≡ Some Stack
+          → Meets contains (known_after (Some Stack)) then_at
+      inside_stack e = record {
+        registers = meets.registers;
+        cells = rw (stack_written s.memory is.memory address size word (lies Stack e))
+            (stored_belong contains s.memory.stack size word small (register s dst) told offset (is.memory.lengths Stack) (is.words dst)
+            near (told_at dst) (in_stack (length s.memory.block) address (size_of size) (lies Stack e)) facts.cells meets.cells keeps is_kept);
+        group = meets.group;
+      }
+
+      by_area : (o : Option Area) → area_of operations block facts dst offset (size_of size) ≡ o → is_unwritable o ≡ false
+          → Meets contains (known_after o) then_at
+      by_area (Some Stack) e writable = inside_stack e
+      by_area (Some Scratch) e writable = outside_stack Scratch refl e
+      by_area (Some Context) e writable = cc
+      by_area (Some Block) e writable = cc
+      by_area None e writable = cc
+
+      store_meets : is_unwritable (area_of operations block facts dst offset (size_of size)) ≡ false
+          → Meets contains (after_store operations block facts size dst offset keeps) then_at
+      store_meets writable = by_area _ refl writable
+
+    -- a kept word is a whole one
+    kept_belongs : (size : Size) (src : ℕ) (d : D) → kept operations facts size src ≡ Some d
+        → (size ≡ DoubleWord) × contains d (register s src)
+    kept_belongs DoubleWord src d e =
+        let from = if_some (nat_le 1 src && nat_le src 9) (Some (fact operations facts src)) d e in
+        let same : fact operations facts src ≡ d = cc in
+        (refl, subst (λ x. contains x (register s src)) same (word_of src).within)
+    kept_belongs Byte src d e = cc
+    kept_belongs HalfWord src d e = cc
+    kept_belongs Word src d e = cc
 
     -- ---- the instructions
 
@@ -149,56 +267,59 @@ module _ {D : Type 0} {IsFact : D → Type 0} {contains : D → ℕ → Type 0} 
         (ap (λ (t : Bool). cond t (target s.slot distance) (pos (s.slot + 1))) answer)
         (along_meets false width relation dst source _ answer)
 
-    moves : (i : Insn) → is_exit i ≡ false → goes_back (distance_of i) ≡ false
-        → Moved contains operations block i facts s (after s i)
-    moves (LoadImmediate dst value) goes forth =
+    moves : (i : Insn) → FitsSigned w16 (first_slot i).offset → is_exit i ≡ false → goes_back (distance_of i) ≡ false
+        → stores_outside operations block facts i ≡ false → Moved contains operations block i facts s (after s i)
+    moves (LoadImmediate dst value) near goes forth inside =
         behind (LoadImmediate dst value) refl
         (put_meets dst _ _ _ (sound.constant (value % 2 ^ 64) (mod-lt value (lit< tt))))
-    moves (Load size dst src offset) goes forth =
-        let address = address_from s.registers src offset in
-        behind (Load size dst src offset) refl
-        (put_meets dst _ _ _
-        (sound.loaded size (loaded s.memory address (size_of size))
-        (loaded_fits s.memory address (size_of size) is.memory)))
-    moves (LoadSigned size dst src offset) goes forth =
+    moves (Load size dst src offset) near goes forth inside =
+        behind (Load size dst src offset) refl (put_meets dst _ _ _ (load_belongs src offset near size))
+    moves (LoadSigned size dst src offset) near goes forth inside =
         behind (LoadSigned size dst src offset) refl
         (put_meets dst _ _ _
         (sound.loaded_signed size (loaded s.memory (address_from s.registers src offset) (signed_size_of size))
         (loaded_fits s.memory (address_from s.registers src offset) (signed_size_of size) is.memory)))
-    moves (StoreImmediate size dst offset value) goes forth =
-        behind (StoreImmediate size dst offset value) refl (same_registers _ _)
-    moves (StoreRegister size dst src offset) goes forth =
-        behind (StoreRegister size dst src offset) refl (same_registers _ _)
-    moves (Arithmetic width operation dst source) goes forth =
+    moves (StoreImmediate size dst offset value) near goes forth inside =
+        behind (StoreImmediate size dst offset value) refl
+        (store_meets size dst offset near (immediate_word value) _ (immediate_fits value) None (λ d e. cc) inside)
+    moves (StoreRegister size dst src offset) near goes forth inside =
+        behind (StoreRegister size dst src offset) refl
+        (store_meets size dst offset near (register s src) _ (is.words src) (kept operations facts size src)
+        (λ d e. kept_belongs size src d e) inside)
+    moves (Arithmetic width operation dst source) near goes forth inside =
         behind (Arithmetic width operation dst source) refl
         (put_meets dst _ _ _
         (sound.alu (word.Binary width operation) _ _ (register s dst) (operand s.registers source) (word_of dst)
         (source_belongs sound facts s.registers are is.words meets.registers source)))
-    moves (Negate width dst) goes forth =
+    moves (Negate width dst) near goes forth inside =
         behind (Negate width dst) refl
         (put_meets dst _ _ _
         (sound.alu (word.Negate width) _ _ (register s dst) 0 (word_of dst) zero_is))
-    moves (MoveSigned extension dst src) goes forth =
+    moves (MoveSigned extension dst src) near goes forth inside =
         behind (MoveSigned extension dst src) refl
         (put_meets dst _ _ _
         (sound.alu (word.MoveSigned extension) _ _ 0 (register s src) zero_is (word_of src)))
-    moves (SwapBytes swap size dst) goes forth =
+    moves (SwapBytes swap size dst) near goes forth inside =
         behind (SwapBytes swap size dst) refl
         (put_meets dst _ _ _
         (sound.alu (word.SwapBytes swap size) _ _ (register s dst) 0 (word_of dst) zero_is))
-    moves (Jump distance) goes forth =
-        ahead (Jump distance) distance refl forth refl (same_registers _ _)
-    moves (JumpLong distance) goes forth =
-        ahead (JumpLong distance) distance refl forth refl (same_registers _ _)
-    moves (Branch width relation dst source distance) goes forth =
+    moves (Jump distance) near goes forth inside =
+        ahead (Jump distance) distance refl forth refl (elsewhere _)
+    moves (JumpLong distance) near goes forth inside =
+        ahead (JumpLong distance) distance refl forth refl (elsewhere _)
+    moves (Branch width relation dst source distance) near goes forth inside =
         branches width relation dst source distance _ forth refl
-    moves (Call helper) goes forth = behind (Call helper) refl (emit_meets _)
-    moves Exit goes forth = cc
+    moves (Call helper) near goes forth inside = behind (Call helper) refl (emit_meets _)
+    moves Exit near goes forth inside = cc
 
-  -- the theorem; of the reasons to refuse, a jump back alone bears on it
+  -- the theorem; of the reasons to refuse, a jump back and a store outside bear on it
   pub moved : (program : List (Option Insn)) (sizes : Sizes) (i : Insn) (facts : Facts D) (s : State)
-      → IsState s → AreFacts IsFact facts → Meets contains facts s → is_exit i ≡ false
+      → AreSizes sizes → IsState s → length s.memory.block ≡ sizes.block → AreFacts IsFact facts → Meets contains facts s
+      → FitsSigned w16 (first_slot i).offset → is_exit i ≡ false
       → reason_of operations program sizes s.slot facts i ≡ None
       → Moved contains operations sizes.block i facts s (after s i)
-  moved program sizes i facts s is are meets goes accepted =
-      moves sizes.block facts s is are meets i goes (not_chosen (goes_back (distance_of i)) _ _ accepted)
+  moved program sizes i facts s are_sizes is long are meets near goes accepted =
+      let test = fails operations program sizes s.slot facts i in
+      let passed = all_fail test all_reasons accepted in
+      moves sizes.block facts s are_sizes.block_size is long are meets i near goes (of_all test passed reason.JumpBack)
+      (of_all test passed reason.StoreOutside)

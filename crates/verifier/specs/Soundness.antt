@@ -17,6 +17,7 @@ use Rattle.program_interface.specs.RunSizes.{AreSizes, Sizes}
 use Rattle.reg_domain.specs.Domain.{IsSound, Operations}
 use Rattle.verifier.specs.Accepted.{or_else, reason_of, refusal, refusal_at, refusal_below, refused}
 use Rattle.verifier.specs.Answer.{HasShortOffsets}
+use Rattle.verifier.specs.CellLaws.{none_known}
 use Rattle.verifier.specs.Facts.{entry_facts, facts_at}
 use Rattle.verifier.specs.Flow.{arrives}
 use Rattle.verifier.specs.Fitting.{short_offsets}
@@ -29,6 +30,7 @@ use Rattle.verifier.specs.Progress.{begins_within, block_kept, fewer, some_left}
 use Rattle.program_meaning.specs.TrapFree.{Exits, NeverTraps}
 use Rattle.verifier.specs.Unhindered.{unhindered}
 use Rattle.verifier.specs.declared.facts.Facts.{Facts}
+use Rattle.verifier.specs.declared.facts.TheConstants.{CELLS}
 use Rattle.verifier.specs.declared.reason.Reason.{Reason}
 use Rattle.verifier.specs.declared.reason.Refusal.{Refusal}
 
@@ -68,6 +70,7 @@ module _ {D : Type 0} {IsFact : D → Type 0} {contains : D → ℕ → Type 0} 
       record {
         registers =
             (none, (context_at, (block_at, (scratch_at, (none, (none, (none, (none, (none, (none, (stack_end, tt)))))))))));
+        cells = λ j d e. absurd (none_known CELLS j d e);
         group = omega arith;
       }
 
@@ -149,7 +152,7 @@ module _ {D : Type 0} {IsFact : D → Type 0} {contains : D → ℕ → Type 0} 
           (record { exit = tt; steps = omega arith; group = bounds s facts holds known meets }))
           (λ runs_on.
           let goes = decided_goes s i (least_cause program sizes.limit s i) none runs_on in
-          let there = moved sound program sizes i facts s holds.is are meets runs_on reason in
+          let there = moved sound program sizes i facts s are_sizes holds.is holds.block_long are meets near runs_on reason in
           rw goes (rest (after s i) (next i facts s holds goes begins known there) there.forward))
 
       done_at : (at : Option Insn) (known : Option (Facts D)) → instruction_at program s.slot ≡ at

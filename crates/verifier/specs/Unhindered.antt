@@ -28,8 +28,8 @@ use Rattle.program_interface.specs.RunSizes.{AreSizes, Sizes}
 use Rattle.reg_domain.specs.Domain.{Belongs, IsSound, Operations}
 use Rattle.program_meaning.specs.PlaceLaws.{placed}
 use Rattle.program_meaning.specs.PlaceLaws.{block_small}
-use Rattle.verifier.specs.Accepted.{all_reasons, area_of, begins_at, fails, is_unwritable, leads_nowhere, least_emitted, loads_outside, most_emitted, reason_of, stores_outside, turns_away}
-use Rattle.verifier.specs.Facts.{fact, slot_behind}
+use Rattle.verifier.specs.Accepted.{all_reasons, begins_at, fails, is_unwritable, leads_nowhere, least_emitted, loads_outside, most_emitted, reason_of, stores_outside, turns_away}
+use Rattle.verifier.specs.Facts.{area_of, fact, slot_behind}
 use Rattle.verifier.specs.KnownFacts.{AreFacts}
 use Rattle.verifier.specs.Meets.{Meets}
 use Rattle.verifier.specs.Registers.{belongs}
@@ -118,7 +118,7 @@ shorter block area address n most less lies =
 no_offset_fits : FitsSigned w16 (pos 0)
 no_offset_fits = record { sfits = lit< tt }
 
-size_fits : (size : Size) → size_of size < 2 ^ 64
+pub size_fits : (size : Size) → size_of size < 2 ^ 64
 size_fits Byte = lit< tt
 size_fits HalfWord = lit< tt
 size_fits Word = lit< tt

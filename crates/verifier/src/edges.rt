@@ -1,12 +1,16 @@
 //! What an instruction leaves known along its edges.
 
-ghost use Rattle.std.specs.Prelude.{◌≡◌, ◌+◌, ◌<◌, ◌^◌, IsSome, Bool, true, ℕ};
-ghost use Rattle.verifier.specs.Facts.{source_fact, compared_fact, along, after_emit, facts_behind, facts_at_target, is_register as source_is, with_fact, with_source};
+ghost use Rattle.std.specs.Prelude.{◌≡◌, ◌+◌, ◌<◌, ◌^◌, None};
+ghost use Rattle.instruction_set.specs.Instruction.{distance_of};
+ghost use Rattle.verifier.specs.Facts.{source_fact, compared_fact, after_emit, after_store, enters_stack as area_is_stack, fact, facts_behind, is_register as source_is, kept as kept_fact, loaded_fact, with_fact, with_source};
 ghost use Rattle.verifier.specs.Accepted.{most_emitted};
 ghost use Rattle.verifier.specs.Answer.{HasRoom};
+ghost use Rattle.verifier.specs.Rows.{where_it_goes_on};
 
+use crate::cells::{cell_of, is_stack, known, store_into};
 use crate::facts::Facts;
-use instruction_set::{Insn, Register, Relation, Source, Width};
+use instruction_set::{Insn, Register, Relation, Size, Source, Width};
+use program_interface::{Area, BlockSize};
 use program_meaning::Arithmetic;
 use reg_domain::Domain;
 
@@ -46,62 +50,134 @@ fn is_register(register: Register, source: &Source) -> bool
     }
 }
 
-/// Replaces the facts about the destination and the source, unless that is an immediate.
-#[inline]
-fn set_both<D: Domain>(facts: &mut Facts<D>, dst: Register, source: &Source, first: D, second: D)
-    ensures { facts.new ≡ with_source D.operations (with_fact D.operations facts.old dst first) source.now second }
-{
-    facts.set(dst, first);
-    if let Source::Register(register) = *source {
-        facts.set(register, second);
-    }
-}
-
-/// The facts along an edge of a compare, if there is such an edge.
-fn refined<D: Domain>(
+/// What a compare tells along the edge that is taken, or along the other.
+pub fn refined<D: Domain>(
     taken: bool,
     width: Width,
     relation: Relation,
     dst: Register,
     source: &Source,
     facts: &Facts<D>,
-) -> Option<Facts<D>>
-    ensures { result ≡ along D.operations taken width relation dst source.now facts.now }
+) -> Option<(D, D)>
+    ensures { result ≡ D.operations.refine width relation taken (fact D.operations facts.now dst) (compared_fact D.operations width facts.now source.now) (source_is dst source.now) }
 {
     let (first, second) = (facts.get(dst), compared(width, facts, source));
     let same = is_register(dst, source);
-    let both = D::refine(width, relation, taken, first, second, same)?;
-    let mut after = *facts;
-    set_both(&mut after, dst, source, both.0, both.1);
-    Some(after)
+    D::refine(width, relation, taken, first, second, same)
 }
 
-/// The facts after emit.
+/// Replaces the facts about the destination and the source, unless that is an immediate.
+#[inline]
+pub fn set_both<D: Domain>(facts: &mut Facts<D>, dst: Register, source: &Source, both: (D, D))
+    ensures { facts.new ≡ with_source D.operations (with_fact D.operations facts.old dst both.0) source.now both.1 }
+{
+    facts.set(dst, both.0);
+    if let Source::Register(register) = *source {
+        facts.set(register, both.1);
+    }
+}
+
+/// Changes the facts to those after emit.
 #[tactic(auto, using(crate::proofs::Joins::filled_more))]
-fn emitted<D: Domain>(facts: &Facts<D>) -> Facts<D>
-    requires { facts.now.emitted + 2 + most_emitted D.operations facts.now < 2 ^ 64 }
-    ensures { result ≡ after_emit D.operations facts.now }
+fn emit<D: Domain>(facts: &mut Facts<D>)
+    requires { facts.old.emitted + 2 + most_emitted D.operations facts.old < 2 ^ 64 }
+    ensures { facts.new ≡ after_emit D.operations facts.old }
 {
     let zero = D::constant(0);
     let most = facts.registers[2].bounds().high;
-    let mut after = *facts;
     for i in 0..6 {
-        after.registers[i] = zero;
+        facts.registers[i] = zero;
     }
-    after.emitted = facts.emitted + 2 + most as usize;
-    after
+    facts.emitted = facts.emitted + 2 + most as usize;
 }
 
-/// The facts at the slot behind an instruction; none where it doesn't go on there.
-pub fn behind<D: Domain>(insn: &Insn, facts: &Facts<D>) -> Option<Facts<D>>
-    requires { HasRoom D.operations insn.now facts.now }
-    ensures { (block : ℕ) → result ≡ facts_behind D.operations block insn.now facts.now }
+/// What a cell keeps of a store: whole words, of R1 to R9.
+fn kept<D: Domain>(facts: &Facts<D>, size: Size, src: Register) -> Option<D>
+    ensures { result ≡ kept_fact D.operations facts.now size src }
+{
+    match size {
+        Size::DoubleWord if 1 <= src.index() && src.index() <= 9 => Some(facts.get(src)),
+        _ => None,
+    }
+}
+
+/// Does an access go into the stack?
+#[inline]
+fn enters_stack(area: Option<Area>) -> bool
+    ensures { result ≡ area_is_stack area }
+{
+    match area {
+        Some(area) => is_stack(area),
+        None => false,
+    }
+}
+
+/// Changes the facts to those after a store, of which a fact may be kept.
+fn store<D: Domain>(
+    block: BlockSize,
+    facts: &mut Facts<D>,
+    size: Size,
+    dst: Register,
+    offset: i16,
+    word: Option<D>,
+)
+    ensures { facts.new ≡ after_store D.operations block facts.old size dst offset word }
+{
+    let address = facts.get(dst);
+    if !enters_stack(address.access(block, offset, size.bytes())) {
+        return;
+    }
+    let size = size.bytes();
+    store_into(&mut facts.cells, address.offsets(), offset, size, word);
+}
+
+/// What a load gives.
+fn load<D: Domain>(facts: &Facts<D>, size: Size, src: Register, offset: i16) -> D
+    ensures { result ≡ loaded_fact D.operations facts.now size src offset }
+{
+    match size {
+        Size::DoubleWord => known(
+            &facts.cells,
+            cell_of(facts.get(src).offsets(), offset),
+        ).unwrap_or(D::loaded(size)),
+        _ => D::loaded(size),
+    }
+}
+
+/// Changes the facts to those at the slot behind an instruction that doesn't jump; false where the program ends.
+pub fn step<D: Domain>(insn: &Insn, block: BlockSize, facts: &mut Facts<D>) -> bool
+    requires straight { distance_of insn.now ≡ None }
+    requires room { HasRoom D.operations insn.now facts.old }
+    ensures { where_it_goes_on result facts.new ≡ facts_behind D.operations block insn.now facts.old }
 {
     let (dst, fact) = match *insn {
         Insn::LoadImmediate { dst, value } => (dst, D::constant(value)),
-        Insn::Load { size, dst, .. } => (dst, D::loaded(size)),
+        Insn::Load {
+            size,
+            dst,
+            src,
+            offset,
+        } => (dst, load(facts, size, src, offset)),
         Insn::LoadSigned { size, dst, .. } => (dst, D::loaded_signed(size)),
-        Insn::StoreImmediate { .. } | Insn::StoreRegister { .. } => return Some(*facts),
+        Insn::StoreImmediate {
+            size,
+            dst,
+            offset,
+            ..
+        } => {
+            store(block, facts, size, dst, offset, None);
+            return true;
+        }
+        Insn::StoreRegister {
+            size,
+            dst,
+            src,
+            offset,
+        } => {
+            let word = kept(facts, size, src);
+            store(block, facts, size, dst, offset, word);
+            return true;
+        }
         Insn::Arithmetic {
             width,
             operation,
@@ -139,34 +215,12 @@ pub fn behind<D: Domain>(insn: &Insn, facts: &Facts<D>) -> Option<Facts<D>>
                 D::constant(0),
             ),
         ),
-        Insn::Jump { .. } | Insn::JumpLong { .. } | Insn::Exit => return None,
-        Insn::Branch {
-            width,
-            relation,
-            dst,
-            source,
-            ..
-        } => return refined(false, width, relation, dst, &source, facts),
-        Insn::Call { .. } => return Some(emitted(facts)),
+        Insn::Call { .. } => {
+            emit(facts);
+            return true;
+        }
+        _ => return false,
     };
-    let mut after = *facts;
-    after.set(dst, fact);
-    Some(after)
-}
-
-/// The facts at the target of a jump that is taken; none where there is no such edge.
-pub fn at_target<D: Domain>(insn: &Insn, facts: &Facts<D>) -> Option<Facts<D>>
-    ensures { (block : ℕ) → result ≡ facts_at_target D.operations block insn.now facts.now }
-{
-    match *insn {
-        Insn::Jump { .. } | Insn::JumpLong { .. } => Some(*facts),
-        Insn::Branch {
-            width,
-            relation,
-            dst,
-            source,
-            ..
-        } => refined(true, width, relation, dst, &source, facts),
-        _ => None,
-    }
+    facts.set(dst, fact);
+    true
 }

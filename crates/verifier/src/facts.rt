@@ -3,17 +3,33 @@
 ghost use Rattle.std.specs.Prelude.{◌≡◌};
 ghost use Rattle.verifier.specs.Facts.{fact, with_fact, entry_facts, join_facts};
 
+use crate::cells::join as join_cells;
 use instruction_set::Register;
 use program_interface::{Area, REGISTERS, STACK_BYTES};
 use reg_domain::Domain;
+use std::alloc::AllocError;
 
-/// A fact about each register, R0 to R10, and a bound on the bytes that were emitted.
-#[derive(Clone, Copy)]
+/// The cells of the stack: words of eight bytes, each of which can be known.
+pub const CELLS: usize = 64;
+
+/// A fact about each register, R0 to R10, and about words of the stack, and a bound on the bytes that were emitted.
 pub struct Facts<D> {
     pub registers: [D; REGISTERS],
+    /// What is known of the words of the stack, from its first byte on.
+    pub cells: [Option<D>; CELLS],
     /// The group has at most so many bytes, frame lengths counted.
     pub emitted: usize,
 }
+
+impl<D: Copy> Clone for Facts<D> {
+    ghost is_clone = { λ facts copy. facts ≡ copy };
+
+    fn clone(&self) -> Result<Facts<D>, AllocError> {
+        Ok(*self)
+    }
+}
+
+impl<D: Copy> Copy for Facts<D> {}
 
 impl<D: Domain> Facts<D> {
     /// What is known at the start of a block run.
@@ -35,6 +51,7 @@ impl<D: Domain> Facts<D> {
                 zero,
                 D::pointer(Area::Stack, STACK_BYTES as u32),
             ],
+            cells: [None; CELLS],
             emitted: 0,
         }
     }
@@ -64,6 +81,7 @@ impl<D: Domain> Facts<D> {
             let joined = self.registers[i].join(other.registers[i]);
             self.registers[i] = joined;
         }
+        join_cells(&mut self.cells, &other.cells);
         self.emitted = self.emitted.max(other.emitted);
     }
 }

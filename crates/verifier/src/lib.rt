@@ -1,7 +1,9 @@
-//! The verifier: says of a program that it never traps, over any domain of facts about registers.
+//! The verifier: says of a program that it never traps, over any domain of facts about registers
+//! and the stack.
 #![tactic(auto)]
 
 mod accept;
+mod cells;
 mod check;
 mod edges;
 mod facts;

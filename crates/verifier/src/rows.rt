@@ -1,77 +1,254 @@
 //! The facts for all slots, one slot visited after the other.
 
-ghost use Rattle.std.specs.Prelude.{◌≡◌, ◌+◌, ◌<◌, ◌≤◌, ◌^◌, ◌==◌, if◌then◌else◌, ℕ, length, get_or, Option, Some, None, IsSome, IfNone};
+ghost use Rattle.std.specs.Prelude.{◌≡◌, ◌<◌, ◌==◌, if◌then◌else◌, ℕ, length, Option, Some, None, IsSome, IfSome, IfNone, IfOk, OnOk, false};
+ghost use Rattle.instruction_set.specs.Instruction.{distance_of};
 ghost use Rattle.instruction_set.specs.Program.{instruction_at};
-ghost use Rattle.verifier.specs.Accepted.{refusal_at};
-ghost use Rattle.verifier.specs.Facts.{gives, merge};
+ghost use Rattle.verifier.specs.Accepted.{refusal_at, turns_away};
+ghost use Rattle.verifier.specs.Facts.{facts_at_target, facts_behind, gives, merge, with_both};
 ghost use Rattle.verifier.specs.Answer.{HasRoom, StaysInside};
+ghost use Rattle.verifier.specs.Rows.{held, held_at, refusal_in};
 
 use crate::check::{find_reason, slot_behind};
-use crate::edges::{at_target, behind};
+use crate::edges::{refined, set_both, step};
 use crate::facts::Facts;
 use crate::reason::Refusal;
-use instruction_set::{Insn, Program};
-use program_interface::{MOST_SLOTS, RunSizes};
+use instruction_set::{Insn, Program, Register, Source};
+use program_interface::{BlockSize, MOST_SLOTS, RunSizes};
 use reg_domain::Domain;
+use std::alloc::{AllocError, Global};
 
-/// Joins facts, where there are some, into what a slot was given so far.
-fn give<D: Domain>(rows: &mut [Option<Facts<D>>], to: usize, facts: Option<Facts<D>>)
-    requires { IsSome facts → to < length rows.old }
-    ensures len { length rows.new ≡ length rows.old }
-    ensures given { (s : ℕ) → s < length rows.old → get_or rows.new s None ≡ merge D.operations (get_or rows.old s None) (if to == s then facts else None) }
+/// What a slot was given so far.
+pub(crate) type Row<D> = Option<Box<Facts<D>>>;
+
+/// A slot that is refused, and what is known there.
+#[derive(Drop)]
+pub(crate) struct Refused<D> {
+    pub refusal: Refusal,
+    pub facts: Box<Facts<D>>,
+}
+
+/// The facts in a box of their own, the spare one if there is one.
+fn copied<D: Domain>(
+    alloc: Global,
+    spare: &mut Row<D>,
+    facts: &Facts<D>,
+) -> Result<Box<Facts<D>>, AllocError>
+    ensures { IfOk result (λ copy. copy.value ≡ facts.now) }
 {
-    let Some(facts) = &facts else {
-        return;
-    };
-    match &mut rows[to] {
-        Some(earlier) => earlier.join(facts),
-        empty => *empty = Some(*facts),
+    match spare.take() {
+        Some(mut copy) => {
+            *copy = *facts;
+            Ok(copy)
+        }
+        None => Ok(Box::new(alloc, *facts)?),
     }
+}
+
+/// Joins facts into what a slot was given so far; a box that this frees is spare.
+fn add<D: Domain>(row: &mut Row<D>, spare: &mut Row<D>, facts: Box<Facts<D>>)
+    ensures { held row.new ≡ merge D.operations (held row.old) (Some facts.value) }
+{
+    match row {
+        Some(earlier) => {
+            earlier.join(&facts);
+            *spare = Some(facts);
+        }
+        empty => *empty = Some(facts),
+    }
+}
+
+/// Joins facts into what a slot was given so far.
+fn give<D: Domain>(rows: &mut [Row<D>], spare: &mut Row<D>, to: usize, facts: Box<Facts<D>>)
+    requires { to < length rows.old }
+    ensures len { length rows.new ≡ length rows.old }
+    ensures given { (s : ℕ) → s < length rows.old → held_at rows.new s ≡ merge D.operations (held_at rows.old s) (if to == s then Some facts.value else None) }
+{
+    add(&mut rows[to], spare, facts);
+}
+
+/// Joins facts into those that a slot was given, if it was given some.
+fn join_into<D: Domain>(row: &mut Row<D>, facts: &Facts<D>)
+    ensures { IsSome row.old → held row.new ≡ merge D.operations (held row.old) (Some facts.now) }
+{
+    if let Some(earlier) = row {
+        earlier.join(facts);
+    }
+}
+
+/// Where the two edges of a compare lead, and what they are known to change.
+#[derive(Clone, Copy)]
+struct Fork<D> {
+    behind: usize,
+    target: usize,
+    dst: Register,
+    source: Source,
+    /// The destination and the source along the edge that isn't taken, if there is such an edge.
+    not_taken: Option<(D, D)>,
+    /// The same along the edge that is taken.
+    taken: Option<(D, D)>,
+}
+
+/// Gives facts along both edges of a compare. Where the target was given some already, these are joined into those in
+/// place, before the slot behind takes their box; else the target takes a box of its own.
+fn give_both<D: Domain>(
+    alloc: Global,
+    rows: &mut [Row<D>],
+    spare: &mut Row<D>,
+    fork: &Fork<D>,
+    not_taken: (D, D),
+    taken: (D, D),
+    mut facts: Box<Facts<D>>,
+) -> Result<(), AllocError>
+    requires behind { fork.now.behind < length rows.old }
+    requires target { fork.now.target < length rows.old }
+    ensures len { length rows.new ≡ length rows.old }
+    ensures given { OnOk result ((s : ℕ) → s < length rows.old → held_at rows.new s ≡ merge D.operations (merge D.operations (held_at rows.old s) (if fork.now.behind == s then with_both D.operations facts.value fork.now.dst fork.now.source (Some not_taken) else None)) (if fork.now.target == s then with_both D.operations facts.value fork.now.dst fork.now.source (Some taken) else None)) }
+{
+    // one slot at the end of both edges joins what comes along the taken one last
+    if fork.target != fork.behind && rows[fork.target].is_some() {
+        set_both(&mut facts, fork.dst, &fork.source, taken);
+        join_into(&mut rows[fork.target], &facts);
+        set_both(&mut facts, fork.dst, &fork.source, not_taken);
+        give(rows, spare, fork.behind, facts);
+    } else {
+        let mut copy = copied(alloc, spare, &facts)?;
+        set_both(&mut facts, fork.dst, &fork.source, not_taken);
+        give(rows, spare, fork.behind, facts);
+        set_both(&mut copy, fork.dst, &fork.source, taken);
+        give(rows, spare, fork.target, copy);
+    }
+    Ok(())
+}
+
+/// Gives facts along the edges of a compare that there are.
+fn give_edges<D: Domain>(
+    alloc: Global,
+    rows: &mut [Row<D>],
+    spare: &mut Row<D>,
+    fork: &Fork<D>,
+    mut facts: Box<Facts<D>>,
+) -> Result<(), AllocError>
+    requires behind { fork.now.behind < length rows.old }
+    requires target { fork.now.target < length rows.old }
+    ensures len { length rows.new ≡ length rows.old }
+    ensures given { OnOk result ((s : ℕ) → s < length rows.old → held_at rows.new s ≡ merge D.operations (merge D.operations (held_at rows.old s) (if fork.now.behind == s then with_both D.operations facts.value fork.now.dst fork.now.source fork.now.not_taken else None)) (if fork.now.target == s then with_both D.operations facts.value fork.now.dst fork.now.source fork.now.taken else None)) }
+{
+    match (fork.not_taken, fork.taken) {
+        (Some(not_taken), Some(taken)) => {
+            give_both(alloc, rows, spare, fork, not_taken, taken, facts)?;
+        }
+        (Some(not_taken), None) => {
+            set_both(&mut facts, fork.dst, &fork.source, not_taken);
+            give(rows, spare, fork.behind, facts);
+        }
+        (None, Some(taken)) => {
+            set_both(&mut facts, fork.dst, &fork.source, taken);
+            give(rows, spare, fork.target, facts);
+        }
+        (None, None) => *spare = Some(facts),
+    }
+    Ok(())
+}
+
+/// Gives what a jump leaves known to the slots that it leads to.
+fn jump<D: Domain>(
+    alloc: Global,
+    rows: &mut [Row<D>],
+    spare: &mut Row<D>,
+    behind: usize,
+    target: usize,
+    insn: &Insn,
+    facts: Box<Facts<D>>,
+) -> Result<(), AllocError>
+    requires jumps { IsSome (distance_of insn.now) }
+    requires behind { turns_away insn.now ≡ false → behind < length rows.old }
+    requires target { target < length rows.old }
+    ensures len { length rows.new ≡ length rows.old }
+    ensures given { OnOk result ((block s : ℕ) → s < length rows.old → held_at rows.new s ≡ merge D.operations (merge D.operations (held_at rows.old s) (if behind == s then facts_behind D.operations block insn.now facts.value else None)) (if target == s then facts_at_target D.operations block insn.now facts.value else None)) }
+{
+    let Insn::Branch {
+        width,
+        relation,
+        dst,
+        source,
+        ..
+    } = *insn
+    else {
+        give(rows, spare, target, facts);
+        return Ok(());
+    };
+    let fork = Fork {
+        behind,
+        target,
+        dst,
+        source,
+        not_taken: refined(false, width, relation, dst, &source, &facts),
+        taken: refined(true, width, relation, dst, &source, &facts),
+    };
+    give_edges(alloc, rows, spare, &fork, facts)
 }
 
 /// Gives what an instruction leaves known to the slots that it leads to.
-fn push<D: Domain>(rows: &mut [Option<Facts<D>>], slot: usize, insn: &Insn, facts: &Facts<D>)
+fn push<D: Domain>(
+    alloc: Global,
+    rows: &mut [Row<D>],
+    spare: &mut Row<D>,
+    slot: usize,
+    insn: &Insn,
+    block: BlockSize,
+    mut facts: Box<Facts<D>>,
+) -> Result<(), AllocError>
     requires slot { slot < MOST_SLOTS }
     requires inside { StaysInside (length rows.old) slot insn.now }
-    requires room { HasRoom D.operations insn.now facts.now }
+    requires room { HasRoom D.operations insn.now facts.value }
     ensures len { length rows.new ≡ length rows.old }
-    ensures given { (block s : ℕ) → s < length rows.old → get_or rows.new s None ≡ gives D.operations block (Some insn.now) slot (Some facts.now) s (get_or rows.old s None) }
+    ensures given { OnOk result ((s : ℕ) → s < length rows.old → held_at rows.new s ≡ gives D.operations block (Some insn.now) slot (Some facts.value) s (held_at rows.old s)) }
 {
-    give(rows, slot_behind(slot, insn), behind(insn, facts));
+    let behind = slot_behind(slot, insn);
     if let Some(distance) = insn.distance() {
-        give(
-            rows,
-            Insn::target(slot, distance).unsigned_abs() as usize,
-            at_target(insn, facts),
-        );
+        let target = Insn::target(slot, distance).unsigned_abs() as usize;
+        jump(alloc, rows, spare, behind, target, insn, facts)?;
+        return Ok(());
     }
+    if step(insn, block, &mut facts) {
+        give(rows, spare, behind, facts);
+    } else {
+        *spare = Some(facts);
+    }
+    Ok(())
 }
 
-/// Looks at one slot, and gives what its instruction leaves known to the slots that it leads to.
-#[tactic(auto, using(crate::proofs::Checks::stays_inside, crate::proofs::Checks::room_left))]
-pub fn visit<D: Domain>(
-    rows: &mut [Option<Facts<D>>],
+/// Looks at one slot, and gives what its instruction leaves known to the slots that it leads to. The slot's own facts
+/// are moved along, or handed out with the refusal.
+#[tactic(auto, using(crate::proofs::Sizes::facts_fit, crate::proofs::Checks::stays_inside, crate::proofs::Checks::room_left))]
+pub(crate) fn visit<D: Domain>(
+    alloc: Global,
+    rows: &mut [Row<D>],
+    spare: &mut Row<D>,
     program: &Program,
     sizes: RunSizes,
     slot: usize,
-) -> Option<Refusal>
+) -> Result<Option<Refused<D>>, AllocError>
     requires long { length rows.old ≡ length program.now }
     requires within { slot < length program.now }
     ensures len { length rows.new ≡ length rows.old }
-    ensures found { result ≡ refusal_at D.operations program.now sizes slot (instruction_at program.now slot) (get_or rows.old slot None) }
-    ensures given { IfNone result ((s : ℕ) → s < length rows.old → get_or rows.new s None ≡ gives D.operations sizes.block (instruction_at program.now slot) slot (get_or rows.old slot None) s (get_or rows.old s None)) }
+    ensures found { IfOk result (λ found. refusal_in found ≡ refusal_at D.operations program.now sizes slot (instruction_at program.now slot) (held_at rows.old slot)) }
+    ensures facts { IfOk result (λ found. IfSome found (λ refused. Some refused.facts.value ≡ held_at rows.old slot)) }
+    ensures given { IfOk result (λ found. IfNone found ((s : ℕ) → slot < s → s < length rows.old → held_at rows.new s ≡ gives D.operations sizes.block (instruction_at program.now slot) slot (held_at rows.old slot) s (held_at rows.old s))) }
 {
+    D::row_fits();
     // what an instruction emits within the limit can be counted
     let _limit = sizes.limit();
     let Some(insn) = program.at(slot) else {
-        return None;
+        return Ok(None);
     };
-    let Some(facts) = rows[slot] else {
-        return None;
+    let Some(facts) = rows[slot].take() else {
+        return Ok(None);
     };
     if let Some(reason) = find_reason(program, sizes, slot, insn, &facts) {
-        return Some(Refusal { slot, reason });
+        let refusal = Refusal { slot, reason };
+        return Ok(Some(Refused { refusal, facts }));
     }
-    push(rows, slot, insn, &facts);
-    None
+    push(alloc, rows, spare, slot, insn, sizes.block(), facts)?;
+    Ok(None)
 }

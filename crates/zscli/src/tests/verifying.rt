@@ -7,5 +7,6 @@ mod emits;
 mod ends;
 mod explained;
 mod from_c;
+mod kept;
 mod slots;
 mod ways;

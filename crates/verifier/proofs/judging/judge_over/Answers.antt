@@ -1,9 +1,10 @@
-use Rattle.std.proofs.Common.{arith, sym, ap, subst, ◌∙◌, ◌≡◌, ◌<◌, ℕ, length, get_or, Some, None}
+use Rattle.std.proofs.Common.{arith, sym, ap, subst, ◌∙◌, ◌≡◌, ◌<◌, ◌≤◌, ℕ, length, None, Some}
 use Rattle.std.proofs.lemmas.List.{get_or_default}
 use Rattle.instruction_set.specs.Program.{instruction_at}
 use Rattle.verifier.specs.Accepted.{refusal_at}
 use Rattle.verifier.specs.Facts.{facts_at}
 use Rattle.verifier.specs.Judged.{group_in}
+use Rattle.verifier.specs.Rows.{held, held_at, refusal_in}
 use Rattle.verifier.proofs.Judgements.{most_more}
 use Rattle.verifier.proofs.Refusals.{at_its_slot, first_found, none_more, rows_more}
 use Rattle.verifier.proofs.judging.judge_over.Goals as goal
@@ -14,15 +15,16 @@ returns-in-Some g c =
     let program = c.args.program.now in
     let sizes = c.args.sizes in
     let slot = c.loop-slot.slot in
+    let refusal = c.in-Some.refused.refusal in
     let inside : slot < length c.loop-slot.rows = omega (arith, c.loop-slot.invariant.long, c.slots-slot-end.ensures.value, c.loop-slot-test.true) in
-    let facts = c.loop-slot.invariant.rows slot inside in
-    let here : get_or c.loop-slot.rows slot None ≡ Some c.in-Some-here.facts =
-    get_or_default c.loop-slot.rows slot None _ inside ∙ sym c.index-rows-slot.is ∙ c.in-Some-here.is in
-    let known : facts_at ops sizes.block program slot ≡ Some c.in-Some-here.facts = sym facts ∙ here in
-    let found = sym (ap (refusal_at ops program sizes slot (instruction_at program slot)) facts) ∙ sym c.visit.ensures.found ∙ c.in-Some.is in
-    let at = at_its_slot ops program sizes slot (instruction_at program slot) (facts_at ops sizes.block program slot) c.in-Some.refusal found in
-    let P : ℕ → Type 0 = λ k. facts_at ops sizes.block program k ≡ Some c.in-Some-here.facts in (
-      first_found ops program sizes (length program) slot c.in-Some.refusal
+    let facts = c.loop-slot.invariant.rows slot (omega arith) inside in
+    let here : Some c.in-Some.refused.facts.value ≡ held_at c.loop-slot.rows slot = rw c.in-Some.is at c.in_ok-refused.ensures.facts in
+    let known : facts_at ops sizes.block program slot ≡ Some c.in-Some.refused.facts.value = sym facts ∙ sym here in
+    let found = sym (ap (refusal_at ops program sizes slot (instruction_at program slot)) facts) ∙ sym c.in_ok-refused.ensures.found
+    ∙ ap refusal_in c.in-Some.is in
+    let at = at_its_slot ops program sizes slot (instruction_at program slot) (facts_at ops sizes.block program slot) refusal found in
+    let P : ℕ → Type 0 = λ k. facts_at ops sizes.block program k ≡ Some c.in-Some.refused.facts.value in (
+      first_found ops program sizes (length program) slot refusal
           (omega (arith, c.slots-slot-end.ensures.value, c.loop-slot-test.true)) c.loop-slot.invariant.none found,
       subst P (sym at) known,
     )
@@ -34,15 +36,15 @@ loop-slot-preserved g c =
     let slot = c.loop-slot.slot in
     let rows = c.loop-slot.invariant.rows in
     let inside : slot < length c.loop-slot.rows = omega (arith, c.loop-slot.invariant.long, c.slots-slot-end.ensures.value, c.loop-slot-test.true) in
-    let facts = rows slot inside in
-    let here : c.index-rows-slot.result ≡ facts_at ops c.args.sizes.block program slot =
-    c.index-rows-slot.is ∙ get_or_default c.loop-slot.rows slot _ None inside ∙ facts in
+    let facts = rows slot (omega arith) inside in
+    let here = ap held (get_or_default c.loop-slot.rows slot c.index-rows-slot.result None inside) ∙ facts in
     record {
       long = c.visit.ensures.len ∙ c.loop-slot.invariant.long;
-      rows = λ s within. rows_more ops program c.args.sizes slot c.loop-slot.rows c.visit.new.rows inside rows
-          (rw c.in_default.is at c.visit.ensures.given) s (omega (arith, c.visit.ensures.len, within));
+      rows = λ s behind within. rows_more ops program c.args.sizes slot c.loop-slot.rows c.visit.new.rows inside rows
+          (rw c.in_default.is at c.in_ok-refused.ensures.given) s behind (omega (arith, c.visit.ensures.len, within));
       none = none_more ops program c.args.sizes slot c.loop-slot.invariant.none
-          (sym (ap (refusal_at ops program c.args.sizes slot (instruction_at program slot)) facts) ∙ sym c.visit.ensures.found ∙ c.in_default.is);
+          (sym (ap (refusal_at ops program c.args.sizes slot (instruction_at program slot)) facts) ∙ sym c.in_ok-refused.ensures.found
+          ∙ ap refusal_in c.in_default.is);
       most = c.max-most_emitted.ensures ∙ most_more ops program c.args.sizes.block slot c.group.result c.loop-slot.most_emitted
           (c.group.ensures ∙ ap group_in here) c.loop-slot.invariant.most;
     }

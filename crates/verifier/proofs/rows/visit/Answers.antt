@@ -1,12 +1,33 @@
-use Rattle.std.proofs.Common.{◌≡◌, ap, arith, get_or, None, option_copied, Some, sym, ◌∙◌}
-use Rattle.std.proofs.lemmas.List.{get_or_default}
+use Rattle.std.proofs.Common.{◌≡◌, ap, arith, get_or, None, option_copied, rules, Some, sym, ◌∙◌}
+use Rattle.std.proofs.lemmas.List.{get_or_default, get_or-set_other, length-set}
 use Rattle.instruction_set.specs.Program.{instruction_at}
+use Rattle.verifier.specs.Rows.{held, held_at}
+use Rattle.verifier.specs.Accepted.{reason_of}
+use Rattle.verifier.proofs.Checks.{room_left, stays_inside}
+use Rattle.verifier.proofs.Sizes.{facts_fit}
 use Rattle.verifier.proofs.rows.visit.Goals as goal
 
+pub push-requires : goal.push-requires
+push-requires g c =
+    let ops = g.D.Domain.operations in
+    let none : reason_of ops c.args.program.now c.args.sizes c.args.slot c.in-Some-take.facts.value c.in-Some.insn.now ≡ None =
+    rw c.deref.ensures at (sym c.find_reason.ensures ∙ c.in_default-find_reason.is) in (
+      facts_fit _ _ c.row_fits.ensures.size c.row_fits.ensures.align,
+      (
+        search rules,
+        (
+          simp (length-set, c.requires.long) (stays_inside ops c.args.program.now c.args.sizes c.args.slot c.in-Some-take.facts.value c.in-Some.insn.now none),
+          room_left ops c.args.program.now c.args.sizes c.args.slot c.in-Some-take.facts.value c.in-Some.insn.now none
+              (rw c.limit-limit.ensures.value at c.limit-limit.ensures.most),
+        ),
+      ),
+    )
+
 pub returns-clause-given : goal.returns-clause-given
-returns-clause-given g c = λ s within.
+returns-clause-given g c = λ s behind within.
     let at : instruction_at c.args.program.now c.args.slot ≡ Some c.in-Some.insn.now =
     sym c.at.ensures.value ∙ ap option_copied c.in-Some.is in
-    let known : get_or c.args.rows.now c.args.slot None ≡ Some c.in-Some-rows.facts =
-    get_or_default c.args.rows.now c.args.slot None _ (omega (arith, c.requires.long, c.requires.within)) ∙ c.in-Some-rows.is in
-    rw (at, known) (c.push.ensures.given c.args.sizes.block s within)
+    let known : held_at c.args.rows.now c.args.slot ≡ Some c.in-Some-take.facts.value =
+    ap held (get_or_default c.args.rows.now c.args.slot None _ (omega (arith, c.requires.long, c.requires.within)) ∙ sym c.take.ensures.value ∙ c.in-Some-take.is) in
+    let other = ap held (get_or-set_other c.args.rows.now c.args.slot s c.take.new.self None (λ e. absurd (omega (arith, e, behind)))) in
+    rw (at, known, sym other) (rw c.block.ensures at (c.in_ok-push.ensures.given s (simp length-set within)))

@@ -77,11 +77,11 @@ const LOADS: &[Act] = &[
     Verify("movw r2, r2\nldxb r0, [r2+0]\nexit", 0, "refused 1 5"),
     // A byte swap forgets an address, also one that changes nothing.
     Verify("le64 r2\nldxb r0, [r2+0]\nexit", 0, "refused 1 5"),
-    // What the stack holds isn't known.
+    // A word of the stack keeps it.
     Verify(
         "stxdw [r10-8], r2\nldxdw r6, [r10-8]\nldxb r0, [r6+0]\nexit",
         0,
-        "refused 2 5",
+        "accepted 4",
     ),
 ];
 

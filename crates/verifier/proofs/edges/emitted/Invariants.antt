@@ -1,5 +1,0 @@
-use Rattle.std.proofs.Common.{◌≡◌, ◌++◌, replicate, drop}
-use Rattle.verifier.proofs.edges.emitted.Given as goal
-
-abbrev pub invariant-loop-i : goal.invariant-loop-i
-invariant-loop-i g l = l.after.registers ≡ replicate l.i l.zero ++ drop l.i l.facts.registers

@@ -1,0 +1,25 @@
+-- The facts of the slots, each in a box of its own.
+use Rattle.std.specs.Prelude.{ℕ, ◌≡◌, Bool, true, false, Box, List, get_or, Option, Some, None, IfSome}
+use Rattle.verifier.specs.declared.facts.Facts.{Facts}
+use Rattle.verifier.specs.declared.reason.Refusal.{Refusal}
+use Rattle.verifier.specs.declared.rows.Refused.{Refused}
+
+-- the facts, where the program goes on with them
+abbrev pub where_it_goes_on : {D : Type 0} → Bool → Facts D → Option (Facts D)
+where_it_goes_on true facts = Some facts
+where_it_goes_on false facts = None
+
+module _ {D Z : Type 0} where
+  -- the facts in a box, if there is one
+  abbrev pub held : Option (Box (Facts D) Z) → Option (Facts D)
+  held None = None
+  held (Some facts) = Some facts.value
+
+  -- what a slot was given so far
+  abbrev pub held_at : List (Option (Box (Facts D) Z)) → ℕ → Option (Facts D)
+  held_at rows slot = held (get_or rows slot None)
+
+-- the refusal that a visit found, if it did
+abbrev pub refusal_in : {D : Type 0} → Option (Refused D) → Option Refusal
+refusal_in None = None
+refusal_in (Some refused) = Some refused.refusal
