@@ -22,11 +22,23 @@ static void branchy(uint32_t slots) {
   }
 }
 
+// words kept on the stack, all 64 of them known, between branches
+static void spilling(uint32_t slots) {
+  for (int i = 0; i < 64; i++) add(0x7b, 10, 6, -8 * i - 8, 0); // *(u64 *)(r10 - 8 i - 8) = r6
+  for (int i = 0; length + 9 <= slots; i = (i + 1) % 400) {
+    int at = -8 * (i % 64) - 8;
+    add(0x7b, 10, 6, at, 0); // *(u64 *)(r10 + at) = r6
+    add(0x79, 6, 10, at, 0); // r6 = *(u64 *)(r10 + at)
+    branch_on_byte(i);
+  }
+}
+
 static const struct { const char *name; void (*body)(uint32_t); uint32_t slots; } programs[] = {
   {"straight-1000", straight, 1000},
   {"straight-4000", straight, 4000},
   {"branchy-1000", branchy, 1000},
   {"branchy-4000", branchy, 4000},
+  {"spilling-4000", spilling, 4000},
 };
 
 static void make(int program, int entry) {

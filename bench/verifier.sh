@@ -12,7 +12,7 @@ rounds=10
 repeats=20
 # builds the program where it has to
 (cd "$here/../crates/bench_verifier" && rt run -- "$work/straight-1000.bin" "$work/block.bin" 0 0 >/dev/null)
-for name in straight-1000 straight-4000 branchy-1000 branchy-4000; do
+for name in straight-1000 straight-4000 branchy-1000 branchy-4000 spilling-4000; do
     wanted=$("$work/dpdk" time $name 1 1 | sed -n 1p)
     if [ "$wanted" != "$("$loads" "$work/$name.bin" "$work/block.bin" 0 0 | sed -n 1p)" ]; then
         echo "$name: the answers differ" >&2
