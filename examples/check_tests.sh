@@ -1,25 +1,37 @@
 #!/bin/sh
-# Compares the programs in zscli's tests with what clang makes of this folder's files today, for both versions of the
-# instruction set. Prints the digits of those that aren't there, and then ends with status 1.
+# Compares the programs in the tests of filters with what clang makes of this folder's files today, for both versions of the
+# instruction set, and of those of spills/. Prints the digits of those that aren't there, and then ends with status 1.
 set -eu
 cd "$(dirname "$0")"
 work=$(mktemp -d)
 trap 'rm -r "$work"' EXIT
-tests=$(cat ../crates/zscli/src/tests/filters/*.rt | tr -d ' \\\n')
 status=0
-for version in v2 v3; do
-    mkdir "$work/$version"
-    make -s TO="$work/$version" CPU=$version
-    for program in "$work/$version"/*.bin; do
+
+# compare FIELD FOLDER TESTS..: are a folder's programs in the tests, behind this field's name?
+compare() {
+    field=$1
+    folder=$2
+    shift 2
+    tests=$(cat "$@" | tr -d ' \\\n')
+    for program in "$folder"/*.bin; do
         digits=$(xxd -p "$program" | tr -d '\n')
         case $tests in
-        *"$version:\"$digits\""*) ;;
+        *"$field:\"$digits\""*) ;;
         *)
-            echo "$(basename "$program" .bin) for $version isn't in the tests:"
+            echo "the $field of $(basename "$program" .bin) isn't in the tests:"
             echo "$digits" | fold -w 100
             status=1
             ;;
         esac
     done
+}
+
+for version in v2 v3; do
+    mkdir "$work/$version"
+    make -s TO="$work/$version" CPU=$version
+    compare $version "$work/$version" ../crates/zscli/src/tests/filters/*.rt
 done
+mkdir "$work/spills"
+make -s -C spills TO="$work/spills"
+compare program "$work/spills" ../crates/spilled_filters/src/tests/*.rt
 exit $status
