@@ -49,11 +49,12 @@ pub(super) fn frames_of(alloc: Global, frames: &str) -> Result<Vec<u8>, Fail> {
 
 /// Puts bytes at their offsets.
 pub(super) fn put(alloc: Global, area: &mut [u8], words: &str) -> Result<(), Fail> {
-    for word in words.split(' ') {
-        if let Some((offset, bytes)) = word.split_once(':') {
-            let bytes = bytes_of(alloc, bytes)?;
-            put_at(area, offset.parse::<usize>()?, bytes.as_slice())?;
-        }
+    for word in words.split_whitespace() {
+        let Some((offset, bytes)) = word.split_once(':') else {
+            return Err(Fail::from("bytes without an offset"));
+        };
+        let bytes = bytes_of(alloc, bytes)?;
+        put_at(area, offset.parse::<usize>()?, bytes.as_slice())?;
     }
     Ok(())
 }
