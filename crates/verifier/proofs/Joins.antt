@@ -1,5 +1,5 @@
 -- Lists of facts that are made from the front.
-use Rattle.std.proofs.Common.{◌≡◌, ℕ, zero, suc, ◌+◌, ◌<◌, ◌++◌, List, [], ◌∷◌, length, get_or, set, drop, replicate, Option, None, refl, ap, arith, add-one, subst}
+use Rattle.std.proofs.Common.{◌≡◌, ℕ, zero, suc, ◌+◌, ◌<◌, ◌++◌, List, [], ◌∷◌, length, get_or, set, drop, replicate, Option, refl, ap, arith, add-one, subst}
 use Rattle.program_interface.specs.declared.entry.TheConstants.{REGISTERS}
 use Rattle.reg_domain.specs.Domain.{Operations}
 use Rattle.verifier.specs.Cells.{join_cell, join_cells}

@@ -1,5 +1,5 @@
 -- Cells that are forgotten from the front.
-use Rattle.std.proofs.Common.{◌≡◌, ℕ, ℤ, zero, suc, ◌+◌, ◌<◌, Bool, true, false, List, [], ◌∷◌, length, set, Option, None, refl, ap, arith, add-zero, add-one, zero-add, suc-add, add-suc, sym, ◌∙◌, subst, if◌then◌else◌}
+use Rattle.std.proofs.Common.{◌≡◌, ℕ, ℤ, zero, suc, ◌+◌, ◌<◌, true, false, List, [], ◌∷◌, length, set, Option, None, refl, ap, arith, add-zero, add-one, zero-add, suc-add, add-suc, sym, ◌∙◌, subst, if◌then◌else◌}
 use Rattle.verifier.specs.Cells.{forgotten, has_byte}
 use Rattle.verifier.specs.declared.facts.TheConstants.{CELLS}
 

@@ -1,5 +1,5 @@
 -- The facts of the slots, each in a box of its own.
-use Rattle.std.specs.Prelude.{ℕ, ◌≡◌, Bool, true, false, Box, List, get_or, Option, Some, None, IfSome}
+use Rattle.std.specs.Prelude.{ℕ, Bool, true, false, Box, List, get_or, Option, Some, None}
 use Rattle.verifier.specs.declared.facts.Facts.{Facts}
 use Rattle.verifier.specs.declared.reason.Refusal.{Refusal}
 use Rattle.verifier.specs.declared.rows.Refused.{Refused}

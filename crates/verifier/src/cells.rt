@@ -141,8 +141,7 @@ pub(crate) fn store_into<D: Domain>(
 {
     match (cell_of(told, offset), word) {
         (Some(cell), Some(word)) => cells[cell] = Some(word),
-        (Some(_), None) => overwrite(cells, told, offset, size),
-        (None, _) => overwrite(cells, told, offset, size),
+        _ => overwrite(cells, told, offset, size),
     }
 }
 

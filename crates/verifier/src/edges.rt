@@ -124,11 +124,10 @@ fn store<D: Domain>(
     ensures { facts.new ≡ after_store D.operations block facts.old size dst offset word }
 {
     let address = facts.get(dst);
-    if !enters_stack(address.access(block, offset, size.bytes())) {
-        return;
-    }
     let size = size.bytes();
-    store_into(&mut facts.cells, address.offsets(), offset, size, word);
+    if enters_stack(address.access(block, offset, size)) {
+        store_into(&mut facts.cells, address.offsets(), offset, size, word);
+    }
 }
 
 /// What a load gives.
@@ -136,10 +135,10 @@ fn load<D: Domain>(facts: &Facts<D>, size: Size, src: Register, offset: i16) -> 
     ensures { result ≡ loaded_fact D.operations facts.now size src offset }
 {
     match size {
-        Size::DoubleWord => known(
-            &facts.cells,
-            cell_of(facts.get(src).offsets(), offset),
-        ).unwrap_or(D::loaded(size)),
+        Size::DoubleWord => {
+            let cell = cell_of(facts.get(src).offsets(), offset);
+            known(&facts.cells, cell).unwrap_or(D::loaded(size))
+        }
         _ => D::loaded(size),
     }
 }

@@ -1,4 +1,4 @@
-use Rattle.std.proofs.Common.{arith, sym, ap, ◌∙◌, ◌<◌, ◌≤◌, length}
+use Rattle.std.proofs.Common.{arith, sym, ap, ◌∙◌, ◌<◌, length}
 use Rattle.instruction_set.specs.Program.{instruction_at}
 use Rattle.verifier.specs.Accepted.{refusal_at}
 use Rattle.verifier.specs.Rows.{refusal_in}

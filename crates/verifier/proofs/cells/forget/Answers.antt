@@ -1,6 +1,6 @@
 use Rattle.std.proofs.Common.{arith, ap, sym, ◌∙◌, ◌≡◌, None, slice_set}
 use Rattle.std.proofs.lemmas.Int.{to_z-of_z}
-use Rattle.verifier.proofs.Stores.{met_more, left_more, forgotten_all, forgotten_upto}
+use Rattle.verifier.proofs.Stores.{met_more, left_more, forgotten_all}
 use Rattle.verifier.proofs.cells.forget.Goals as goal
 use Rattle.verifier.proofs.cells.forget.Goals.{then-has_byte, else-has_byte}
 

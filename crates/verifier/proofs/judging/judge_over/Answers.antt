@@ -1,4 +1,4 @@
-use Rattle.std.proofs.Common.{arith, sym, ap, subst, ◌∙◌, ◌≡◌, ◌<◌, ◌≤◌, ℕ, length, None, Some}
+use Rattle.std.proofs.Common.{arith, sym, ap, subst, ◌∙◌, ◌≡◌, ◌<◌, ℕ, length, None, Some}
 use Rattle.std.proofs.lemmas.List.{get_or_default}
 use Rattle.instruction_set.specs.Program.{instruction_at}
 use Rattle.verifier.specs.Accepted.{refusal_at}

@@ -1,4 +1,4 @@
-use Rattle.std.proofs.Common.{◌≡◌, ap, arith, get_or, None, option_copied, rules, Some, sym, ◌∙◌}
+use Rattle.std.proofs.Common.{◌≡◌, ap, arith, None, option_copied, rules, Some, sym, ◌∙◌}
 use Rattle.std.proofs.lemmas.List.{get_or_default, get_or-set_other, length-set}
 use Rattle.instruction_set.specs.Program.{instruction_at}
 use Rattle.verifier.specs.Rows.{held, held_at}
