@@ -1,10 +1,9 @@
 -- What is known in a cell after a change of cells, and the words of the stack after a store.
-use Rattle.std.proofs.Common.{ℕ, ℤ, zero, suc, pos, ◌≡◌, ◌≢◌, ◌+◌, ◌*◌, ◌-◌, ◌<◌, ◌≤◌, ◌^◌, ◌⊎◌, inl, inr, Bool, true, false, List, [], ◌∷◌, ◌++◌, drop, length, replicate, set, get_or, Option, Some, None, refl, sym, ap, ◌∙◌, arith, lit<, subst}
-use Rattle.std.proofs.lemmas.Bool.{cases_lt}
+use Rattle.std.proofs.Common.{ℕ, ℤ, zero, suc, ◌≡◌, ◌≢◌, ◌+◌, ◌*◌, ◌<◌, ◌≤◌, ◌^◌, ◌⊎◌, inl, inr, Bool, true, false, List, [], ◌∷◌, ◌++◌, drop, length, replicate, set, get_or, Option, Some, None, refl, sym, ap, ◌∙◌, arith, subst}
 use Rattle.std.proofs.lemmas.List.{append-nil, get_or-drop}
 use Rattle.std.specs.Prelude.{if◌then◌else◌}
 use Rattle.byteorder.specs.Endian.{little_bytes, little_from, little_number}
-use Rattle.byteorder.specs.Numbers.{length-bytes_low_first, little_from-lt, little_from-bytes, little_number-reads_back}
+use Rattle.byteorder.specs.Numbers.{length-bytes_low_first, little_from-lt, little_number-reads_back}
 use Rattle.program_meaning.proofs.MemoryLemmas.{get_or-written, get_or-written_below, get_or-written_past}
 use Rattle.program_meaning.specs.Memory.{written}
 use Rattle.verifier.specs.Cells.{forgotten, has_byte, join_cell, join_cells}

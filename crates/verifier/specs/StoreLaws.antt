@@ -1,5 +1,5 @@
 -- What is known of the stack is met after a store, and met by what a load of a cell gives.
-use Rattle.std.proofs.Common.{ℕ, ℤ, pos, negsuc, ◌≡◌, ◌≢◌, ◌+◌, ◌*◌, ◌-◌, ◌/◌, ◌%◌, ◌<◌, ◌≤◌, ◌^◌, ◌+ℤ◌, ◌-ℤ◌, ◌⊎◌, inl, inr, Bool, true, false, List, length, drop, set, get_or, Option, Some, None, FitsSigned, refl, sym, ap, ◌∙◌, arith, subst}
+use Rattle.std.proofs.Common.{ℕ, ℤ, pos, negsuc, ◌≡◌, ◌+◌, ◌*◌, ◌-◌, ◌/◌, ◌%◌, ◌<◌, ◌≤◌, ◌^◌, ◌+ℤ◌, ◌-ℤ◌, ◌⊎◌, inl, inr, Bool, true, false, List, length, set, Option, Some, None, FitsSigned, refl, sym, ap, ◌∙◌, arith, subst}
 use Rattle.std.proofs.lemmas.Bool.{and_from, and_parts, cases_lt, false≢true, leb-true}
 use Rattle.std.proofs.lemmas.Bool.Decides.{nat_tests}
 use Rattle.std.proofs.lemmas.Int.{ints}
@@ -11,15 +11,15 @@ use Rattle.byteorder.specs.Numbers.{length-bytes_low_first}
 use Rattle.instruction_set.specs.Instruction.{size_of}
 use Rattle.instruction_set.specs.declared.operation.Size.{Size}
 use Rattle.instruction_set.specs.declared.operation.Size.TheVariants.{Byte, HalfWord, Word, DoubleWord}
-use Rattle.program_interface.specs.Area.{address_of, length_of}
+use Rattle.program_interface.specs.Area.{address_of}
 use Rattle.program_interface.specs.declared.area.Area.{Area}
 use Rattle.program_interface.specs.declared.area.Area.TheVariants.{Context, Block, Stack, Scratch}
 use Rattle.program_interface.specs.declared.area.TheConstants.{STACK_BYTES}
-use Rattle.program_meaning.specs.Memory.{IsMemory, Memory, bytes_of, lies_in, loaded, place_in, stored, stored_at, truncated, with_bytes, written}
+use Rattle.program_meaning.specs.Memory.{IsMemory, Memory, lies_in, loaded, stored, truncated, written}
 use Rattle.program_meaning.specs.PlaceLaws.{placed}
 use Rattle.reg_domain.specs.Domain.{IsAtOffset}
 use Rattle.reg_domain.specs.declared.offsets.Offsets.{Offsets}
-use Rattle.verifier.specs.Cells.{cell_from, cell_of, filled, forgotten, has_byte, is_stack, no_cells, overwritten}
+use Rattle.verifier.specs.Cells.{cell_from, cell_of, filled, has_byte, is_stack, no_cells, overwritten}
 use Rattle.verifier.specs.CellLaws.{if_some, left_known, none_known, set_known, word_kept, word_written}
 use Rattle.verifier.specs.Meets.{BelongInCells, word_in}
 use Rattle.verifier.specs.declared.facts.TheConstants.{CELLS}
