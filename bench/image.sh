@@ -15,10 +15,12 @@ geometry="--block 4096 --zones 16 --size 4096 --capacity 4096 --open 1 --active 
 ./zscli --help > /dev/null
 zscli=crates/zscli/out/zscli
 
-# the zones Full: the header, a record of each, and the blocks
+# the zones Full: the header with the number of their blocks, a record of each, and the blocks
 "$zscli" format "$work/empty.img" $geometry
 {
-    head -c 64 "$work/empty.img"
+    head -c 32 "$work/empty.img"
+    printf '\0\0\1\0\0\0\0\0'
+    head -c 24 /dev/zero
     for _ in $(seq 16); do printf '\016\0\0\0\0\020\0\0'; done
     head -c "$bytes" /dev/urandom
 } > "$work/full.img"

@@ -76,7 +76,7 @@ fn and_data<'a>(
         .help("The file: whole blocks, at most 131072 bytes");
     let block = option(alloc, BLOCK, "B")
         .default_value("512")
-        .help("Bytes of a block: 512, 1024, 2048 or 4096");
+        .help("Bytes of a block: a power of 2 from 512 to 16384");
     let command = and_argument(Ok(command), lba_option(alloc, address));
     let command = and_argument(command, data);
     let command = and_argument(command, block);

@@ -18,7 +18,7 @@ pub fn option<'a>(alloc: Global, name: &'a str, letter: &'a str) -> Arg<'a> {
 pub fn block_option<'a>(alloc: Global, name: &'a str) -> Arg<'a> {
     option(alloc, name, "B")
         .required(true)
-        .help("Bytes of a block: 512, 1024, 2048 or 4096")
+        .help("Bytes of a block: a power of 2 from 512 to 16384")
 }
 
 /// A command that takes this argument too. Want of memory passes through, so that what adds arguments

@@ -1,6 +1,7 @@
-//! The commands that make an image and list its zones, and images in files.
+//! The commands that make an image, list its zones and save it in the last version, and images in files.
 #![tactic(auto)]
 
 pub mod format;
 pub mod image_file;
+pub mod upgrade;
 pub mod zones;

@@ -44,8 +44,8 @@ executes, and then how the run ended:
 With --registers each slot has its instruction behind it, and what that changed: the register that it \
 writes, with its word, or for emit how many bytes were emitted, and from where.
 
-The block is at LBA 0, the first and only one of its run. Its size is the file's length: 512, 1024, \
-2048 or 4096 bytes.";
+The block is at LBA 0, the first and only one of its run. Its size is the file's length: a power of 2 \
+from 512 to 16384 bytes.";
 
 const EXAMPLE: &str = "\
 Example: the program of `asm --help`, on a block that begins with a 7.

@@ -28,6 +28,7 @@ fn bounds_the_blocks(rt: HostRuntime) {
         (65536, 1, 512, 128),
         (9, 0, 512, 0),
         (65536, 4096, 4096, 65536),
+        (65536, 16384, 16384, 65536),
     ] {
         let size = BlockSize::new(block).expect(&rt, "a block size");
         let sizes = RunSizes::new(size, limit).expect(&rt, "a group that fits");
@@ -179,6 +180,17 @@ fn reads_block_after_block(rt: HostRuntime) -> Result<(), Fail> {
     assert_eq!(rt; records[0].as_slice(), [9].as_slice());
     assert_eq!(rt; records[1].as_slice(), [8, 8].as_slice());
     assert_eq!(rt; records[2].as_slice(), [7].as_slice());
+    Ok(())
+}
+
+#[test]
+fn reads_a_record_that_fills_the_largest_block(rt: HostRuntime) -> Result<(), Fail> {
+    let size = BlockSize::new(16384).unwrap();
+    let block = block_with(rt.alloc(), &[0xFE, 0x3F], 16384, 9)?;
+    let records = unpack(rt.alloc(), &block, size)?;
+    assert_eq!(rt; records.len(), 1);
+    assert_eq!(rt; records[0].len(), 16382);
+    assert_eq!(rt; records[0].last(), Some(&9));
     Ok(())
 }
 

@@ -1,8 +1,11 @@
--- The text of a namespace is read as that namespace.
-use Rattle.std.proofs.Common.{◌≡◌, ℕ, ◌+◌, ◌*◌, ◌^◌, ◌<◌, zero, suc, Bool, true, cond, List, [], ◌∷◌, ◌++◌, length, get_or, map, drop, Some, Result, Ok, Err, refl, ap, sym, subst, ◌∙◌, append_assoc, arith, length-append}
+-- A text of a namespace is read as that namespace.
+use Rattle.std.proofs.Common.{◌≡◌, ℕ, ◌+◌, ◌*◌, ◌^◌, ◌<◌, ◌≤◌, zero, suc, Bool, true, cond, nat_eq, List, [], ◌∷◌, ◌++◌, length, get_or, map, drop, Some, Result, Ok, Err, refl, ap, sym, subst, ◌∙◌, append_assoc, arith, length-append}
 use Rattle.std.proofs.lemmas.Bool.{le-leb, lt-ltb}
 use Rattle.std.proofs.lemmas.List.{append-nil, take_at, drop_at, length-map}
-use Rattle.std.proofs.Math.Nat.{suc-mul}
+use Rattle.std.proofs.lemmas.Bool.Decides.{nat_tests}
+use Rattle.std.proofs.lemmas.List.Elements.{All-from_get_or}
+use Rattle.std.proofs.lemmas.List.Sums.{sum_by-le}
+use Rattle.std.proofs.Math.Nat.{mul-le-mul, suc-mul}
 use Rattle.zone_state.specs.declared.state.ZoneState.{ZoneState}
 use Rattle.zone_state.specs.declared.state.ZoneState.TheVariants.{Empty, ImplicitlyOpened, ExplicitlyOpened, Closed, ReadOnly, Full, Offline}
 use Rattle.zone_state.specs.State.{code_of, state_of}
@@ -15,14 +18,19 @@ use Rattle.image_store.specs.declared.fault.LoadFault.TheVariants as fault
 use Rattle.image_store.specs.declared.fault.RecordFault.TheVariants as record_fault
 use Rattle.image_store.specs.Blocks.{blocks_of, bytes_of}
 use Rattle.image_store.specs.Flat.{no_record, zone_seen}
-use Rattle.image_store.specs.Geometry.{Shape}
+use Rattle.image_store.specs.declared.geometry.TheConstants.{MOST_ZONES, MOST_ZONE_BLOCKS}
+use Rattle.image_store.specs.declared.header.Header.{Header}
+use Rattle.image_store.specs.declared.version.Version.{Version}
+use Rattle.image_store.specs.declared.version.Version.TheVariants.{One, Two}
+use Rattle.image_store.specs.Geometry.{Shape, IsShape}
 use Rattle.image_store.specs.Namespace.{ZoneBlocks, ZonedNamespace, no_zone, counted, records, shape, IsNamespace}
-use Rattle.image_store.specs.Reading.{◌>>=◌, allows, zone_told, zone_in, zones_in, records_in, limits_kept, blocks_in, namespace_in}
-use Rattle.image_store.specs.Text.{record_text, records_text, blocks_text, text}
+use Rattle.image_store.specs.Reading.{◌>>=◌, allows, zone_told, zone_in, zones_in, records_in, total_kept, limits_kept, blocks_in, namespace_in}
+use Rattle.image_store.specs.Text.{header, written_blocks, record_text, records_text, blocks_text, text, text_of}
+use Rattle.image_store.specs.Version.{Has}
 use Rattle.image_store.proofs.Fills.{Split, bytes_whole}
-use Rattle.image_store.proofs.Headers.{word_again, header_read}
+use Rattle.image_store.proofs.Headers.{word_again, header_read, header_seen, total_in}
 use Rattle.image_store.proofs.Images.{within_capacity}
-use Rattle.image_store.proofs.Loads.{past_header, past_records, past_limits, past_blocks, past_end}
+use Rattle.image_store.proofs.Loads.{after_limits, past_header, past_records, past_total, past_limits, past_blocks, past_end}
 
 -- the table of states as a test
 pub allows_true : (state : ZoneState) (written capacity : ℕ) → IsZone state written capacity → allows state written capacity ≡ true
@@ -116,13 +124,58 @@ can_spell ns sound k h =
     let size = sound.shape.size_most in
     subst (CanSpell ns.capacity) (sym (at-counted ns.capacity ns.zones k there)) (record { same = refl; fits = sound.fits k there; small = omega arith })
 
-pub text_again : (ns : ZonedNamespace) → IsNamespace ns → namespace_in (text ns) ≡ Ok ns
-text_again ns sound =
+-- no namespace has more written blocks than can be told
+pub total_small : (ns : ZonedNamespace) → IsNamespace ns → written_blocks (records ns) < 2 ^ 64
+total_small ns sound =
+    let each : (k : ℕ) → k < length (records ns) → (get_or (records ns) k no_record).written ≤ ns.capacity =
+    λ k h. let z = get_or (records ns) k no_record in within_capacity z.state z.written ns.capacity (can_spell ns sound k h).fits in
+    let most = sum_by-le (λ z. z.written) ns.capacity (records ns) (All-from_get_or (λ (z : ZoneRecord). z.written ≤ ns.capacity) (records ns) no_record each) in
+    let known = sound.shape in
+    let zones : length (records ns) ≤ MOST_ZONES = let count = length-map ns.zones (counted ns.capacity) in let few = known.zones_most in omega arith in
+    let capacity : ns.capacity ≤ MOST_ZONE_BLOCKS = let some = known.capacity_most in let few = known.size_most in omega arith in
+    let product : length (records ns) * ns.capacity ≤ MOST_ZONES * MOST_ZONE_BLOCKS = mul-le-mul zones capacity in
+    omega arith
+
+same_number : (n : ℕ) → nat_eq n n ≡ true
+same_number n = grind (arith, nat_tests)
+
+-- the number of written blocks that the header tells is that of the records
+pub total_read : (version : Version) (zs : List ZoneRecord) → total_kept (total_in version (written_blocks zs)) zs ≡ Ok tt
+total_read One zs = refl
+total_read Two zs =
+    let total = written_blocks zs in
+    ap (λ (test : Bool). let r : Result (Unit {0}) LoadFault = cond test (Ok tt) (Err (fault.Total total total)) in r) (same_number total)
+
+-- what the header of a namespace tells
+abbrev pub told_of : Version → ZonedNamespace → Header
+told_of version ns = header_seen version (shape ns) (written_blocks (records ns))
+
+-- header and records are read, whatever is behind them
+pub front_read : (version : Version) (ns : ZonedNamespace) (rest : List ℕ) → IsNamespace ns → Has version (shape ns)
+    → namespace_in (header version (shape ns) (written_blocks (records ns)) ++ (records_text (records ns) ++ rest)) ≡ after_limits (shape ns) (records ns) rest
+front_read version ns rest sound has =
+    let s = shape ns in
+    let zs = records ns in
+    let total = written_blocks zs in
+    let h = told_of version ns in
+    let bytes = records_text zs ++ rest in
+    past_header (header version s total ++ bytes) bytes h (header_read version s total bytes sound.shape has (total_small ns sound))
+    ∙ (past_records h bytes rest zs (records_read s zs rest (length-map ns.zones (counted ns.capacity)) (can_spell ns sound))
+    ∙ (past_total h zs rest (total_read version zs)
+    ∙ past_limits s zs rest (limits_read ns.limits zs sound.within)))
+
+pub text_again : (version : Version) (ns : ZonedNamespace) → IsNamespace ns → Has version (shape ns) → namespace_in (text_of version ns) ≡ Ok ns
+text_again version ns sound has =
     let s = shape ns in
     let zs = records ns in
     let last = blocks_text ns.zones in
     let blocks : blocks_in ns.block zs last ≡ Ok (ns.zones, []) = ap (blocks_in ns.block zs) (sym (append-nil last)) ∙ blocks_read ns.block ns.capacity ns.zones [] sound.whole in
-    past_header (text ns) (records_text zs ++ last) s (header_read s (records_text zs ++ last) sound.shape)
-    ∙ (past_records s (records_text zs ++ last) last zs (records_read s zs last (length-map ns.zones (counted ns.capacity)) (can_spell ns sound))
-    ∙ (past_limits s zs last (limits_read ns.limits zs sound.within)
-    ∙ (past_blocks s zs last [] ns.zones blocks ∙ past_end s ns.zones [] refl)))
+    front_read version ns last sound has ∙ (past_blocks s zs last [] ns.zones blocks ∙ past_end s ns.zones [] refl)
+
+-- the last version has the shape of each namespace
+pub last_has : (s : Shape) → IsShape s → Has Two s
+last_has s known = record { block = known.block_size; zones = known.zones_most }
+
+-- what is saved is read as what it was saved of
+pub saved_again : (ns : ZonedNamespace) → IsNamespace ns → namespace_in (text ns) ≡ Ok ns
+saved_again ns sound = text_again Two ns sound (last_has (shape ns) sound.shape)

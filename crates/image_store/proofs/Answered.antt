@@ -1,7 +1,7 @@
 -- What calls that read answer, one after another.
 use Rattle.std.proofs.Common.{◌≡◌, Bool, true, false, cond, Result, Ok, Err, refl, ap, sym, subst}
 use Rattle.image_store.specs.declared.fault.LoadFault.{LoadFault}
-use Rattle.image_store.specs.declared.fault.LoadFault.TheVariants.{Truncated, Magic, Geometry, ZoneRecord, Limits, Trailing, Device, Memory}
+use Rattle.image_store.specs.declared.fault.LoadFault.TheVariants.{Truncated, Magic, Geometry, ZoneRecord, Total, Limits, Trailing, Device, Memory}
 use Rattle.image_store.specs.Loading.{Fails, Gives}
 use Rattle.image_store.specs.Reading.{◌>>=◌}
 
@@ -13,6 +13,7 @@ fails_then wanted may Truncated read next up h = ap (λ r. r >>= next) h
 fails_then wanted may Magic read next up h = ap (λ r. r >>= next) h
 fails_then wanted may (Geometry first) read next up h = ap (λ r. r >>= next) h
 fails_then wanted may (ZoneRecord zone first) read next up h = ap (λ r. r >>= next) h
+fails_then wanted may (Total told counted) read next up h = ap (λ r. r >>= next) h
 fails_then wanted may Limits read next up h = ap (λ r. r >>= next) h
 fails_then wanted may Trailing read next up h = ap (λ r. r >>= next) h
 
@@ -33,6 +34,8 @@ fails_before (Geometry why) (Ok x) f h = absurd cc
 fails_before (Geometry why) (Err first) f h = cc
 fails_before (ZoneRecord zone why) (Ok x) f h = absurd cc
 fails_before (ZoneRecord zone why) (Err first) f h = cc
+fails_before (Total told counted) (Ok x) f h = absurd cc
+fails_before (Total told counted) (Err first) f h = cc
 fails_before Limits (Ok x) f h = absurd cc
 fails_before Limits (Err first) f h = cc
 fails_before Trailing (Ok x) f h = absurd cc
@@ -45,6 +48,12 @@ bind_ok (Err first) next y e = absurd cc
 
 pub ok_is : {X : Type 0} (x y : X) → (let r : Result X LoadFault = Ok x in r) ≡ Ok y → x ≡ y
 ok_is x y e = cc
+
+-- what fails has failed in the first part or in the next
+pub bind_err : {X Y : Type 0} (P : LoadFault → Type 0) (read : Result X LoadFault) (next : X → Result Y LoadFault) (fault : LoadFault) → (read >>= next) ≡ Err fault
+    → ((first : LoadFault) → read ≡ Err first → P first) → ((x : X) → next x ≡ Err fault → P fault) → P fault
+bind_err P (Ok x) next fault e first later = later x e
+bind_err {Y = Y} P (Err found) next fault e first later = let same : (let r : Result Y LoadFault = Err found in r) ≡ Err fault = e in let is : found ≡ fault = cc in subst P is (first found refl)
 
 -- what is only where a test holds
 pub chosen : {X : Type 0} (test : Bool) (x y : X) (first : LoadFault) → cond test (Ok x) (Err first) ≡ Ok y → (test ≡ true) × (x ≡ y)

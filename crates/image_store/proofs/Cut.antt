@@ -9,14 +9,17 @@ use Rattle.image_store.specs.declared.fault.LoadFault.{LoadFault}
 use Rattle.image_store.specs.declared.fault.LoadFault.TheVariants as fault
 use Rattle.image_store.specs.Blocks.{bytes_of}
 use Rattle.image_store.specs.Flat.{zone_seen}
+use Rattle.image_store.specs.declared.header.Header.{Header}
+use Rattle.image_store.specs.declared.version.Version.{Version}
 use Rattle.image_store.specs.Geometry.{Shape}
 use Rattle.image_store.specs.Namespace.{ZoneBlocks, ZonedNamespace, no_zone, counted, records, shape, IsNamespace}
-use Rattle.image_store.specs.Reading.{◌>>=◌, bytes_in, shape_in, zones_in, blocks_in, end_in, namespace_with, namespace_in}
-use Rattle.image_store.specs.Text.{header, records_text, blocks_text, text}
-use Rattle.image_store.proofs.Again.{blocks_read, can_spell, length-bytes, length-records, limits_read, records_read}
+use Rattle.image_store.specs.Reading.{◌>>=◌, bytes_in, header_told, zones_in, blocks_in, end_in, namespace_with, namespace_in}
+use Rattle.image_store.specs.Text.{header, written_blocks, records_text, blocks_text, text_of}
+use Rattle.image_store.specs.Version.{Has}
+use Rattle.image_store.proofs.Again.{blocks_read, front_read, length-bytes, length-records, told_of, total_small}
 use Rattle.image_store.proofs.Fills.{Split, bytes_short, bytes_whole}
-use Rattle.image_store.proofs.Headers.{header_read}
-use Rattle.image_store.proofs.Loads.{after_blocks, after_header, after_records, past_header, past_records, past_limits, past_blocks}
+use Rattle.image_store.proofs.Headers.{header_length, header_read}
+use Rattle.image_store.proofs.Loads.{after_blocks, after_header, after_records, past_header, past_blocks}
 
 -- ---- more behind the text
 
@@ -29,20 +32,20 @@ past_trailing : (s : Shape) (zones : List ZoneBlocks) (more : List ℕ) → more
 past_trailing s zones more some =
     ap (λ (r : Result Unit LoadFault). r >>= λ end. let all : Result ZonedNamespace LoadFault = Ok (namespace_with s zones) in all) (end_trailing more some)
 
-pub longer_is_trailing : (ns : ZonedNamespace) → IsNamespace ns → (more : List ℕ) → more ≢ [] → namespace_in (text ns ++ more) ≡ Err fault.Trailing
-longer_is_trailing ns sound more some =
+pub longer_is_trailing : (version : Version) (ns : ZonedNamespace) → IsNamespace ns → Has version (shape ns) → (more : List ℕ) → more ≢ []
+    → namespace_in (text_of version ns ++ more) ≡ Err fault.Trailing
+longer_is_trailing version ns sound has more some =
     let s = shape ns in
     let zs = records ns in
+    let front = header version s (written_blocks zs) in
     let last = blocks_text ns.zones in
-    let parts : text ns ++ more ≡ header s ++ (records_text zs ++ (last ++ more)) =
-    append_assoc (header s) (records_text zs ++ last) more
-    ∙ ap (λ (rest : List ℕ). header s ++ rest) (append_assoc (records_text zs) last more) in
+    let parts : text_of version ns ++ more ≡ front ++ (records_text zs ++ (last ++ more)) =
+    append_assoc front (records_text zs ++ last) more
+    ∙ ap (λ (rest : List ℕ). front ++ rest) (append_assoc (records_text zs) last more) in
     ap namespace_in parts
-    ∙ (past_header (header s ++ (records_text zs ++ (last ++ more))) (records_text zs ++ (last ++ more)) s (header_read s (records_text zs ++ (last ++ more)) sound.shape)
-    ∙ (past_records s (records_text zs ++ (last ++ more)) (last ++ more) zs (records_read s zs (last ++ more) (length-map ns.zones (counted ns.capacity)) (can_spell ns sound))
-    ∙ (past_limits s zs (last ++ more) (limits_read ns.limits zs sound.within)
+    ∙ (front_read version ns (last ++ more) sound has
     ∙ (past_blocks s zs (last ++ more) more ns.zones (blocks_read ns.block ns.capacity ns.zones more sound.whole)
-    ∙ past_trailing s ns.zones more some))))
+    ∙ past_trailing s ns.zones more some))
 
 -- ---- the end of the text missing
 
@@ -75,50 +78,48 @@ blocks_cut b c (zone ∷ zones) n whole h =
       | inr short ↦ ap read (cut_within (length zone.blocks * b) front rest n size (omega (arith, short.1, size)))
     ]
 
--- the blocks cut, behind records that are whole
-past_cut_blocks : (ns : ZonedNamespace) → IsNamespace ns → (n : ℕ) → n < length (blocks_text ns.zones)
-    → after_header (shape ns) (records_text (records ns) ++ take n (blocks_text ns.zones)) ≡ Err fault.Truncated
-past_cut_blocks ns sound n h =
+-- the records cut, or what is behind them
+past_cut_records : (version : Version) (ns : ZonedNamespace) → IsNamespace ns → Has version (shape ns) → (n : ℕ) → n < length (records_text (records ns) ++ blocks_text ns.zones)
+    → namespace_in (header version (shape ns) (written_blocks (records ns)) ++ take n (records_text (records ns) ++ blocks_text ns.zones)) ≡ Err fault.Truncated
+past_cut_records version ns sound has n h =
     let s = shape ns in
     let zs = records ns in
-    let last = take n (blocks_text ns.zones) in
-    past_records s (records_text zs ++ last) last zs (records_read s zs last (length-map ns.zones (counted ns.capacity)) (can_spell ns sound))
-    ∙ (past_limits s zs last (limits_read ns.limits zs sound.within)
-    ∙ ap (λ (r : Result (List ZoneBlocks × List ℕ) LoadFault). r >>= λ blocks. after_blocks s blocks.0 blocks.1) (blocks_cut ns.block ns.capacity ns.zones n sound.whole h))
-
--- the records cut, or what is behind them
-past_cut_records : (ns : ZonedNamespace) → IsNamespace ns → (n : ℕ) → n < length (records_text (records ns) ++ blocks_text ns.zones)
-    → after_header (shape ns) (take n (records_text (records ns) ++ blocks_text ns.zones)) ≡ Err fault.Truncated
-past_cut_records ns sound n h =
-    let s = shape ns in
-    let front = records_text (records ns) in
+    let total = written_blocks zs in
+    let front = records_text zs in
     let last = blocks_text ns.zones in
-    let size : length front ≡ s.zones * 8 = length-records (records ns) ∙ ap (λ (k : ℕ). k * 8) (length-map ns.zones (counted ns.capacity)) in
+    let cut = take n (front ++ last) in
+    let size : length front ≡ s.zones * 8 = length-records zs ∙ ap (λ (k : ℕ). k * 8) (length-map ns.zones (counted ns.capacity)) in
     let zones : Result Split LoadFault → Result (List ZoneRecord × List ℕ) LoadFault =
     λ r. r >>= λ part. zones_in 0 s.capacity s.zones part.0 >>= λ zs. Ok (zs, part.1) in
     elim (leb_tells (length front) n) [
       | inl there ↦
-          ap (after_header s) (cut_behind front last n there.1)
-          ∙ past_cut_blocks ns sound (n - length front) (omega (arith, length-append front last, there.1))
+          let left = n - length front in
+          ap (λ (xs : List ℕ). namespace_in (header version s total ++ xs)) (cut_behind front last n there.1)
+          ∙ (front_read version ns (take left last) sound has
+          ∙ ap (λ (r : Result (List ZoneBlocks × List ℕ) LoadFault). r >>= λ blocks. after_blocks s blocks.0 blocks.1)
+          (blocks_cut ns.block ns.capacity ns.zones left sound.whole (omega (arith, length-append front last, there.1))))
       | inr short ↦
-          ap (λ (r : Result (List ZoneRecord × List ℕ) LoadFault). r >>= λ got. after_records s got.0 got.1)
+          past_header (header version s total ++ cut) cut (told_of version ns) (header_read version s total cut sound.shape has (total_small ns sound))
+          ∙ ap (λ (r : Result (List ZoneRecord × List ℕ) LoadFault). r >>= λ got. after_records (told_of version ns) got.0 got.1)
           (ap zones (cut_within (s.zones * 8) front last n size (omega (arith, short.1, size))))
     ]
 
-pub cut_is_truncated : (ns : ZonedNamespace) → IsNamespace ns → (n : ℕ) → n < length (text ns) → namespace_in (take n (text ns)) ≡ Err fault.Truncated
+pub cut_is_truncated : (version : Version) (ns : ZonedNamespace) → IsNamespace ns → Has version (shape ns) → (n : ℕ) → n < length (text_of version ns)
+    → namespace_in (take n (text_of version ns)) ≡ Err fault.Truncated
 unfolding namespace_in
-cut_is_truncated ns sound n h =
+cut_is_truncated version ns sound has n h =
     let s = shape ns in
-    let front = header s in
+    let total = written_blocks (records ns) in
+    let front = header version s total in
+    let size = header_length version s total in
     let rest = records_text (records ns) ++ blocks_text ns.zones in
-    let told : Result Split LoadFault → Result (Shape × List ℕ) LoadFault =
-    λ r. r >>= λ part. shape_in part.0 >>= λ shape. Ok (shape, part.1) in
+    let told : Result Split LoadFault → Result (Header × List ℕ) LoadFault =
+    λ r. r >>= λ part. header_told part.0 >>= λ header. Ok (header, part.1) in
     elim (leb_tells (length front) n) [
       | inl there ↦
           ap namespace_in (cut_behind front rest n there.1)
-          ∙ (past_header (front ++ take (n - length front) rest) (take (n - length front) rest) s (header_read s (take (n - length front) rest) sound.shape)
-          ∙ past_cut_records ns sound (n - length front) (omega (arith, length-append front rest, there.1)))
+          ∙ past_cut_records version ns sound has (n - length front) (omega (arith, length-append front rest, there.1))
       | inr short ↦
-          ap (λ (r : Result (Shape × List ℕ) LoadFault). r >>= λ got. after_header got.0 got.1)
-          (ap told (cut_within 64 front rest n refl (omega (arith, short.1))))
+          ap (λ (r : Result (Header × List ℕ) LoadFault). r >>= λ got. after_header got.0 got.1)
+          (ap told (cut_within 64 front rest n size (omega (arith, short.1, size))))
     ]

@@ -1,6 +1,6 @@
 -- Which faults a text has: none of a device, and no want of memory.
-use Rattle.std.proofs.Common.{◌≡◌, ℕ, Bool, true, false, cond, List, take, drop, get_or, Option, Some, None, Result, Ok, Err, subst}
-use Rattle.std.specs.List.{starts_with}
+use Rattle.std.proofs.Common.{◌≡◌, ℕ, Bool, true, false, cond, List, [], ◌∷◌, take, drop, get_or, Option, Some, None, Result, Ok, Err, subst}
+use Rattle.std.specs.Option.{ok_or, option_map}
 use Rattle.std.specs.Prelude.{◌==◌, ◌&&◌, nat_le}
 use Rattle.zone_state.specs.declared.state.ZoneState.{ZoneState}
 use Rattle.zone_state.specs.State.{state_of}
@@ -8,18 +8,21 @@ use Rattle.zone_state.specs.Zone.{ZoneRecord}
 use Rattle.zone_resources.specs.declared.admission.Limits.{Limits}
 use Rattle.zone_resources.specs.Counts.{open_count, active_count}
 use Rattle.image_store.specs.declared.fault.LoadFault.{LoadFault}
-use Rattle.image_store.specs.declared.fault.LoadFault.TheVariants.{Truncated, Magic, Geometry, ZoneRecord as BadRecord, Limits as PastLimits, Trailing, Device, Memory}
+use Rattle.image_store.specs.declared.fault.LoadFault.TheVariants.{Truncated, Magic, Geometry, ZoneRecord as BadRecord, Total, Limits as PastLimits, Trailing, Device, Memory}
 use Rattle.image_store.specs.declared.fault.RecordFault.{RecordFault}
 use Rattle.image_store.specs.declared.fault.RecordFault.TheVariants.{Reserved, State, Blocks}
-use Rattle.image_store.specs.declared.fault.HeaderFault.TheVariants.{Reserved as ReservedHeader}
+use Rattle.image_store.specs.declared.fault.HeaderFault.{HeaderFault}
+use Rattle.image_store.specs.declared.fault.HeaderFault.TheVariants.{VersionBlock, VersionZones, Reserved as ReservedHeader}
 use Rattle.image_store.specs.declared.geometry.GeometryFault.{GeometryFault}
-use Rattle.image_store.specs.declared.geometry.GeometryFault.TheVariants.{BlockSize}
-use Rattle.image_store.specs.Checks.{first_fault}
+use Rattle.image_store.specs.declared.header.Header.{Header}
+use Rattle.image_store.specs.declared.version.Version.{Version}
+use Rattle.image_store.specs.Checks.{demand, first_fault, unless_fault}
 use Rattle.image_store.specs.Geometry.{Shape, shape_checks}
 use Rattle.image_store.specs.Loading.{Fails, CountsFault, CountsLoad, IsNoDevice, NoDeviceFails}
-use Rattle.image_store.specs.Reading.{are_zeros, number_at, numbers_fault, shape_told, shape_in, allows, zone_told, zone_in, limits_kept}
-use Rattle.image_store.specs.Text.{magic, is_version_1_block}
-use Rattle.image_store.proofs.HeaderTests.{decide}
+use Rattle.image_store.specs.Reading.{◌>>=◌, are_zeros, number_at, numbers_fault, numbers_in, shape_told, version_in, version_kept, zeros_kept, total_told, header_of, header_told, allows, zone_told, zone_in, total_kept, limits_kept}
+use Rattle.image_store.specs.Text.{written_blocks}
+use Rattle.image_store.specs.Version.{has_block, numbers}
+use Rattle.image_store.proofs.Answered.{bind_err}
 
 abbrev pub IsOfText : LoadFault → Type 0
 IsOfText Device = ⊥
@@ -33,6 +36,7 @@ no_device Truncated h = tt
 no_device Magic h = tt
 no_device (Geometry first) h = tt
 no_device (BadRecord zone first) h = tt
+no_device (Total told counted) h = tt
 no_device PastLimits h = tt
 no_device Trailing h = tt
 
@@ -43,6 +47,7 @@ fails_text wanted Truncated reading h e = e
 fails_text wanted Magic reading h e = e
 fails_text wanted (Geometry first) reading h e = e
 fails_text wanted (BadRecord zone first) reading h e = e
+fails_text wanted (Total told counted) reading h e = e
 fails_text wanted PastLimits reading h e = e
 fails_text wanted Trailing reading h e = e
 
@@ -53,6 +58,7 @@ counts_no_device before after Truncated h e = e
 counts_no_device before after Magic h e = e
 counts_no_device before after (Geometry first) h e = e
 counts_no_device before after (BadRecord zone first) h e = e
+counts_no_device before after (Total told counted) h e = e
 counts_no_device before after PastLimits h e = e
 counts_no_device before after Trailing h e = e
 
@@ -64,16 +70,39 @@ counts_last before after (Err fault) h e = counts_no_device before after fault h
 is_this : {X : Type 0} (x fault : LoadFault) → (let r : Result X LoadFault = Err x in r) ≡ Err fault → x ≡ fault
 is_this x fault e = cc
 
-decided_fault : (a b : Bool) (check : Option GeometryFault) (d : Bool) (told : Shape) (fault : LoadFault) → decide a b check d told ≡ Err fault → IsOfText fault
-decided_fault true true None true told fault e = absurd cc
-decided_fault false b check d told fault e = subst IsOfText (is_this {X = Shape} Magic fault e) tt
-decided_fault true false check d told fault e = subst IsOfText (is_this {X = Shape} (numbers_fault told BlockSize) fault e) tt
-decided_fault true true (Some first) d told fault e = subst IsOfText (is_this {X = Shape} (numbers_fault told first) fault e) tt
-decided_fault true true None false told fault e = subst IsOfText (is_this {X = Shape} (Geometry ReservedHeader) fault e) tt
+-- a test that fails with a fault of the text
+kept_fault : (test : Bool) (first fault : LoadFault) → IsOfText first → (let r : Result (Unit {0}) LoadFault = cond test (Ok tt) (Err first) in r) ≡ Err fault → IsOfText fault
+kept_fault true first fault h e = absurd cc
+kept_fault false first fault h e = subst IsOfText (is_this {X = Unit {0}} first fault e) h
 
-pub header_text_fault : (bytes : List ℕ) (fault : LoadFault) → shape_in bytes ≡ Err fault → IsOfText fault
+magic_fault : (version : Option Version) (fault : LoadFault) → ok_or version Magic ≡ Err fault → IsOfText fault
+magic_fault None fault e = subst IsOfText (is_this {X = Version} Magic fault e) tt
+magic_fault (Some version) fault e = absurd cc
+
+numbers_text_fault : (check : Option GeometryFault) (s : Shape) (fault : LoadFault) → unless_fault (option_map (numbers_fault s) check) s ≡ Err fault → IsOfText fault
+numbers_text_fault None s fault e = absurd cc
+numbers_text_fault (Some first) s fault e = subst IsOfText (is_this {X = Shape} (numbers_fault s first) fault e) tt
+
+version_text_fault : (a b : Bool) (f g : HeaderFault) (fault : LoadFault)
+    → (let r : Result (Unit {0}) LoadFault = unless_fault (first_fault (demand a (Geometry f) ∷ demand b (Geometry g) ∷ [])) tt in r) ≡ Err fault → IsOfText fault
+version_text_fault true true f g fault e = absurd cc
+version_text_fault true false f g fault e = subst IsOfText (is_this {X = Unit {0}} (Geometry g) fault e) tt
+version_text_fault false b f g fault e = subst IsOfText (is_this {X = Unit {0}} (Geometry f) fault e) tt
+
+header_of_fault : (bytes : List ℕ) (version : Version) (fault : LoadFault) → header_of bytes version ≡ Err fault → IsOfText fault
+header_of_fault bytes version fault e =
+    let made : Shape → Header = λ s. record { geometry = s; total = total_told version bytes } in
+    let zeros : Shape → Result Header LoadFault = λ s. zeros_kept version bytes >>= λ z. Ok (made s) in
+    let kept : Shape → Result Header LoadFault = λ s. version_kept version s >>= λ k. zeros s in
+    bind_err IsOfText (numbers_in (shape_told bytes)) kept fault e (numbers_text_fault (first_fault (shape_checks (shape_told bytes))) (shape_told bytes)) (λ s e2.
+    bind_err IsOfText (version_kept version s) (λ k. zeros s) fault e2
+    (version_text_fault (has_block version s.block) (nat_le s.zones (numbers version).most_zones) (VersionBlock version s.block) (VersionZones version s.zones)) (λ k e3.
+    bind_err IsOfText (zeros_kept version bytes) (λ z. Ok (made s)) fault e3
+    (λ first. kept_fault (are_zeros (drop (numbers version).zeros_from bytes)) (Geometry (ReservedHeader version)) first tt) (λ z e4. absurd cc)))
+
+pub header_text_fault : (bytes : List ℕ) (fault : LoadFault) → header_told bytes ≡ Err fault → IsOfText fault
 header_text_fault bytes fault e =
-    decided_fault (starts_with (λ a b. a == b) bytes magic) (is_version_1_block (number_at bytes 8)) (first_fault (shape_checks (shape_told bytes))) (are_zeros (drop 32 bytes)) (shape_told bytes) fault e
+    bind_err IsOfText (ok_or (version_in bytes) Magic) (header_of bytes) fault e (magic_fault (version_in bytes)) (λ version. header_of_fault bytes version fault)
 
 allowed_fault : (test : Bool) (zone : ℕ) (first : RecordFault) (z : ZoneRecord) (fault : LoadFault) → cond test (Ok z) (Err (BadRecord zone first)) ≡ Err fault → IsOfText fault
 allowed_fault true zone first z fault e = absurd cc
@@ -93,10 +122,10 @@ pub zone_text_fault : (zone capacity : ℕ) (bytes : List ℕ) (fault : LoadFaul
 zone_text_fault zone capacity bytes fault e =
     padding_fault (are_zeros (take 3 (drop 1 bytes))) zone (get_or bytes 0 0) (state_of (get_or bytes 0 0)) (number_at bytes 4) capacity fault e
 
-kept_fault : (test : Bool) (fault : LoadFault) → (let r : Result (Unit {0}) LoadFault = cond test (Ok tt) (Err PastLimits) in r) ≡ Err fault → IsOfText fault
-kept_fault true fault e = absurd cc
-kept_fault false fault e = subst IsOfText (is_this {X = Unit {0}} PastLimits fault e) tt
+pub total_text_fault : (total : Option ℕ) (zs : List ZoneRecord) (fault : LoadFault) → total_kept total zs ≡ Err fault → IsOfText fault
+total_text_fault None zs fault e = absurd cc
+total_text_fault (Some total) zs fault e = kept_fault (total == written_blocks zs) (Total total (written_blocks zs)) fault tt e
 
 pub limits_text_fault : (limits : Limits) (zs : List ZoneRecord) (fault : LoadFault) → limits_kept limits zs ≡ Err fault → IsOfText fault
 limits_text_fault limits zs fault e =
-    kept_fault (nat_le (open_count zs) limits.open_limit && nat_le (active_count zs) limits.active_limit) fault e
+    kept_fault (nat_le (open_count zs) limits.open_limit && nat_le (active_count zs) limits.active_limit) PastLimits fault tt e

@@ -1,71 +1,102 @@
--- The header of a shape is read as that shape.
-use Rattle.std.proofs.Common.{◌≡◌, ℕ, ◌*◌, ◌^◌, ◌<◌, ◌≤◌, Bool, true, List, ◌++◌, drop, Option, Some, None, Result, Ok, refl, ap, ◌∙◌, arith}
+-- The header of a shape, in each version, is read as that shape.
+use Rattle.std.proofs.Common.{◌≡◌, ℕ, ◌^◌, ◌<◌, List, ◌∷◌, ◌++◌, length, drop, replicate, Option, Some, None, Result, Ok, refl, ap, ◌∙◌, arith}
 use Rattle.std.proofs.lemmas.Bool.{le-leb}
-use Rattle.std.proofs.Math.Nat.{mul_assoc}
+use Rattle.std.specs.List.{flat_map}
+use Rattle.std.specs.Option.{option_map}
+use Rattle.std.specs.Prelude.{codes}
 use Rattle.byteorder.specs.Endian.{little_number}
 use Rattle.byteorder.specs.Numbers.{little_number-reads_back}
-use Rattle.program_interface.specs.BlockSize.{IsBlockSize}
 use Rattle.image_store.specs.declared.fault.LoadFault.{LoadFault}
 use Rattle.image_store.specs.declared.geometry.GeometryFault.{GeometryFault}
-use Rattle.image_store.specs.Geometry.{Shape, IsShape, shape_of, is_counted, are_limits, shape_checks, tested}
+use Rattle.image_store.specs.declared.header.Header.{Header}
+use Rattle.image_store.specs.declared.version.Version.{Version}
+use Rattle.image_store.specs.declared.version.Version.TheVariants.{One, Two}
 use Rattle.image_store.specs.Checks.{first_fault, unless_fault}
-use Rattle.image_store.specs.Reading.{◌>>=◌, are_zeros, shape_in, shape_told, header_in}
-use Rattle.image_store.specs.Text.{word, header, is_version_1_block}
+use Rattle.image_store.specs.Geometry.{Shape, IsShape, shape_of, shape_checks}
+use Rattle.image_store.specs.Reading.{◌>>=◌, numbers_fault, numbers_in, shape_told, version_kept, zeros_kept, total_told, header_of, header_told, header_in}
+use Rattle.image_store.specs.Text.{word, numbers_of, header_end, header}
+use Rattle.image_store.specs.Version.{Has, numbers}
 use Rattle.image_store.proofs.Fills.{Split, bytes_whole}
-use Rattle.image_store.proofs.HeaderTests.{decide}
+use Rattle.image_store.proofs.Shapes.{none_fails, shape_passes}
 
 pub word_again : (n : ℕ) (rest : List ℕ) → n < 2 ^ 32 → little_number 4 (word n ++ rest) ≡ n
 word_again n rest h = little_number-reads_back 4 n rest (omega arith)
 
-counted_true : (n most : ℕ) → 1 ≤ n → n ≤ most → is_counted n most ≡ true
-counted_true n most low high = rw (le-leb 1 n low, le-leb n most high) refl
-
--- a shape passes the tests of a geometry
-pub shape_passes : (s : Shape) → IsShape s → tested s ≡ Ok s
-shape_passes s known =
-    let zones = counted_true s.zones 1024 known.zones_some known.zones_most in
-    let size = counted_true s.size 16777216 known.size_some known.size_most in
-    let capacity = counted_true s.capacity s.size known.capacity_some known.capacity_most in
-    let limits : are_limits s.limits s.zones ≡ true = rw (counted_true s.limits.open_limit s.limits.active_limit known.open_some known.open_most, le-leb s.limits.active_limit s.zones known.active_most) refl in
-    let room : s.zones * s.capacity * s.block ≤ 268435456 = let e = mul_assoc s.zones s.capacity s.block in let most = known.room in omega arith in
-    rw (known.block_size, zones, size, capacity, limits, le-leb (s.zones * s.capacity * s.block) 268435456 room) refl
-
 abbrev shape_with : ℕ → ℕ → ℕ → ℕ → ℕ → ℕ → Shape
 shape_with block zones size capacity opened active = shape_of block zones size capacity (record { open_limit = opened; active_limit = active })
 
-told : (s : Shape) → IsShape s → shape_told (header s) ≡ s
-told s known =
+-- 64 bytes of a version with this digit
+abbrev with_digit : ℕ → Shape → List ℕ → List ℕ
+with_digit digit s last = codes "ZNSIMG0" ++ (digit ∷ (flat_map word (numbers_of s) ++ last))
+
+numbers_again : (digit : ℕ) (s : Shape) (last : List ℕ) → IsShape s → shape_told (with_digit digit s last) ≡ s
+numbers_again digit s last known =
+    let bytes = with_digit digit s last in
     let most : s.zones < 2 ^ 32 = let h = known.zones_most in omega arith in
-    let e1 : little_number 4 (drop 8 (header s)) ≡ s.block = let h = known.block_most in word_again s.block (drop 12 (header s)) (omega arith) in
-    let e2 : little_number 4 (drop 12 (header s)) ≡ s.zones = word_again s.zones (drop 16 (header s)) most in
-    let e3 : little_number 4 (drop 16 (header s)) ≡ s.size = let h = known.size_most in word_again s.size (drop 20 (header s)) (omega arith) in
-    let e4 : little_number 4 (drop 20 (header s)) ≡ s.capacity = let h = known.size_most in let k = known.capacity_most in word_again s.capacity (drop 24 (header s)) (omega arith) in
-    let e5 : little_number 4 (drop 24 (header s)) ≡ s.limits.open_limit = let h = known.open_most in let k = known.active_most in word_again s.limits.open_limit (drop 28 (header s)) (omega arith) in
-    let e6 : little_number 4 (drop 28 (header s)) ≡ s.limits.active_limit = let h = known.active_most in word_again s.limits.active_limit (drop 32 (header s)) (omega arith) in
-    ap (λ (n : ℕ). shape_with n (little_number 4 (drop 12 (header s))) (little_number 4 (drop 16 (header s))) (little_number 4 (drop 20 (header s))) (little_number 4 (drop 24 (header s))) (little_number 4 (drop 28 (header s)))) e1
-    ∙ (ap (λ (n : ℕ). shape_with s.block n (little_number 4 (drop 16 (header s))) (little_number 4 (drop 20 (header s))) (little_number 4 (drop 24 (header s))) (little_number 4 (drop 28 (header s)))) e2
-    ∙ (ap (λ (n : ℕ). shape_with s.block s.zones n (little_number 4 (drop 20 (header s))) (little_number 4 (drop 24 (header s))) (little_number 4 (drop 28 (header s)))) e3
-    ∙ (ap (λ (n : ℕ). shape_with s.block s.zones s.size n (little_number 4 (drop 24 (header s))) (little_number 4 (drop 28 (header s)))) e4
-    ∙ (ap (λ (n : ℕ). shape_with s.block s.zones s.size s.capacity n (little_number 4 (drop 28 (header s)))) e5
+    let e1 : little_number 4 (drop 8 bytes) ≡ s.block = let h = known.block_most in word_again s.block (drop 12 bytes) (omega arith) in
+    let e2 : little_number 4 (drop 12 bytes) ≡ s.zones = word_again s.zones (drop 16 bytes) most in
+    let e3 : little_number 4 (drop 16 bytes) ≡ s.size = let h = known.size_most in word_again s.size (drop 20 bytes) (omega arith) in
+    let e4 : little_number 4 (drop 20 bytes) ≡ s.capacity = let h = known.size_most in let k = known.capacity_most in word_again s.capacity (drop 24 bytes) (omega arith) in
+    let e5 : little_number 4 (drop 24 bytes) ≡ s.limits.open_limit = let h = known.open_most in let k = known.active_most in word_again s.limits.open_limit (drop 28 bytes) (omega arith) in
+    let e6 : little_number 4 (drop 28 bytes) ≡ s.limits.active_limit = let h = known.active_most in word_again s.limits.active_limit last (omega arith) in
+    ap (λ (n : ℕ). shape_with n (little_number 4 (drop 12 bytes)) (little_number 4 (drop 16 bytes)) (little_number 4 (drop 20 bytes)) (little_number 4 (drop 24 bytes)) (little_number 4 (drop 28 bytes))) e1
+    ∙ (ap (λ (n : ℕ). shape_with s.block n (little_number 4 (drop 16 bytes)) (little_number 4 (drop 20 bytes)) (little_number 4 (drop 24 bytes)) (little_number 4 (drop 28 bytes))) e2
+    ∙ (ap (λ (n : ℕ). shape_with s.block s.zones n (little_number 4 (drop 20 bytes)) (little_number 4 (drop 24 bytes)) (little_number 4 (drop 28 bytes))) e3
+    ∙ (ap (λ (n : ℕ). shape_with s.block s.zones s.size n (little_number 4 (drop 24 bytes)) (little_number 4 (drop 28 bytes))) e4
+    ∙ (ap (λ (n : ℕ). shape_with s.block s.zones s.size s.capacity n (little_number 4 (drop 28 bytes))) e5
     ∙ ap (λ (n : ℕ). shape_with s.block s.zones s.size s.capacity s.limits.open_limit n) e6))))
 
--- now each of the device's block sizes is one of version 1
-in_version_1 : (bytes : ℕ) → IsBlockSize bytes → is_version_1_block bytes ≡ true
-in_version_1 bytes known = known
+told : (version : Version) (s : Shape) (total : ℕ) → IsShape s → shape_told (header version s total) ≡ s
+told One s total known = numbers_again 49 s (header_end One total) known
+told Two s total known = numbers_again 50 s (header_end Two total) known
 
-none_fails : (check : Option GeometryFault) (s : Shape) → unless_fault check s ≡ Ok s → check ≡ None
-none_fails None s e = refl
-none_fails (Some first) s e = absurd cc
+numbers_pass : (s : Shape) → IsShape s → numbers_in s ≡ Ok s
+numbers_pass s known =
+    ap (λ (check : Option GeometryFault). unless_fault (option_map (numbers_fault s) check) s) (none_fails (first_fault (shape_checks s)) s s (shape_passes s known))
 
-header_again : (s : Shape) → IsShape s → shape_in (header s) ≡ Ok s
-header_again s known =
-    let zeros = are_zeros (drop 32 (header s)) in
-    ap (λ (x : Shape). decide true (is_version_1_block x.block) (first_fault (shape_checks x)) zeros x) (told s known)
-    ∙ (ap (λ (check : Option GeometryFault). decide true (is_version_1_block s.block) check zeros s) (none_fails (first_fault (shape_checks s)) s (shape_passes s known))
-    ∙ ap (λ (size : Bool). decide true size None zeros s) (in_version_1 s.block known.block_size))
+version_passes : (version : Version) (s : Shape) → Has version s → version_kept version s ≡ Ok tt
+version_passes version s has = rw (has.block, le-leb s.zones (numbers version).most_zones has.zones) refl
+
+zeros_pass : (version : Version) (s : Shape) (total : ℕ) → zeros_kept version (header version s total) ≡ Ok tt
+zeros_pass One s total = refl
+zeros_pass Two s total = refl
+
+-- the number of all written blocks, where a version tells it
+abbrev pub total_in : Version → ℕ → Option ℕ
+total_in One total = None
+total_in Two total = Some total
+
+total_again : (version : Version) (s : Shape) (total : ℕ) → total < 2 ^ 64 → total_told version (header version s total) ≡ total_in version total
+total_again One s total small = refl
+total_again Two s total small = ap (λ (n : ℕ). Some n) (little_number-reads_back 8 total (replicate 24 0) (omega arith))
+
+-- what the header of a shape tells
+abbrev pub header_seen : Version → Shape → ℕ → Header
+header_seen version s total = record { geometry = s; total = total_in version total }
+
+version_again : (version : Version) (s : Shape) (total : ℕ) → header_told (header version s total) ≡ header_of (header version s total) version
+version_again One s total = refl
+version_again Two s total = refl
+
+header_again : (version : Version) (s : Shape) (total : ℕ) → IsShape s → Has version s → total < 2 ^ 64 → header_told (header version s total) ≡ Ok (header_seen version s total)
+header_again version s total known has small =
+    let bytes = header version s total in
+    let made : Shape → Option ℕ → Result Header LoadFault = λ s n. Ok (record { geometry = s; total = n }) in
+    let zeros : Shape → Result Header LoadFault = λ s. zeros_kept version bytes >>= λ z. made s (total_told version bytes) in
+    version_again version s total
+    ∙ (ap (λ (x : Shape). numbers_in x >>= λ s. version_kept version s >>= λ k. zeros s) (told version s total known)
+    ∙ (ap (λ (r : Result Shape LoadFault). r >>= λ s. version_kept version s >>= λ k. zeros s) (numbers_pass s known)
+    ∙ (ap (λ (r : Result (Unit {0}) LoadFault). r >>= λ k. zeros s) (version_passes version s has)
+    ∙ (ap (λ (r : Result (Unit {0}) LoadFault). r >>= λ z. made s (total_told version bytes)) (zeros_pass version s total)
+    ∙ ap (made s) (total_again version s total small)))))
+
+pub header_length : (version : Version) (s : Shape) (total : ℕ) → length (header version s total) ≡ 64
+header_length One s total = refl
+header_length Two s total = refl
 
 -- the header in front is read
-pub header_read : (s : Shape) (rest : List ℕ) → IsShape s → header_in (header s ++ rest) ≡ Ok (s, rest)
-header_read s rest known =
-    ap (λ (r : Result Split LoadFault). r >>= λ front. shape_in front.0 >>= λ told. Ok (told, front.1)) (bytes_whole 64 (header s) rest refl)
-    ∙ ap (λ (r : Result Shape LoadFault). r >>= λ told. let all : Result (Shape × List ℕ) LoadFault = Ok (told, rest) in all) (header_again s known)
+pub header_read : (version : Version) (s : Shape) (total : ℕ) (rest : List ℕ) → IsShape s → Has version s → total < 2 ^ 64
+    → header_in (header version s total ++ rest) ≡ Ok (header_seen version s total, rest)
+header_read version s total rest known has small =
+    ap (λ (r : Result Split LoadFault). r >>= λ front. header_told front.0 >>= λ told. Ok (told, front.1)) (bytes_whole 64 (header version s total) rest (header_length version s total))
+    ∙ ap (λ (r : Result Header LoadFault). r >>= λ told. let all : Result (Header × List ℕ) LoadFault = Ok (told, rest) in all) (header_again version s total known has small)

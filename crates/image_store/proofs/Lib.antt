@@ -12,7 +12,9 @@ pub mod Fills
 pub mod Records
 pub mod SlotsRead
 pub mod Headers
-pub mod HeaderTests
+pub mod Shapes
+pub mod HeaderParts
+pub mod Upgrades
 pub mod Faults
 pub mod Loads
 pub mod Again

@@ -1,106 +1,29 @@
 -- What is read as a namespace is one that an image can have.
-use Rattle.std.proofs.Common.{◌≡◌, ℕ, ◌*◌, ◌<◌, ◌≤◌, zero, suc, Bool, true, false, List, [], ◌∷◌, length, get_or, map, drop, Option, Some, None, Ok, refl, ap, sym, subst, ◌∙◌, arith, length-take, length-drop}
+use Rattle.std.proofs.Common.{◌≡◌, ℕ, ◌*◌, ◌<◌, ◌≤◌, zero, suc, List, [], ◌∷◌, length, get_or, map, drop, Ok, ap, sym, subst, ◌∙◌, arith, length-take, length-drop}
 use Rattle.std.proofs.lemmas.Bool.{leb-true, and_parts}
-use Rattle.std.proofs.lemmas.Bool.Decides.{nat_tests}
 use Rattle.std.proofs.lemmas.List.{length-map}
-use Rattle.std.proofs.Math.Nat.{mul_assoc, mul-le-mul_right, suc-mul}
-use Rattle.std.specs.Prelude.{nat_le, ◌==◌, ◌&&◌}
-use Rattle.std.specs.List.{starts_with}
-use Rattle.program_interface.specs.BlockSize.{is_block_size, IsBlockSize}
+use Rattle.std.proofs.Math.Nat.{mul-le-mul_right, suc-mul}
+use Rattle.std.specs.Prelude.{nat_le, ◌&&◌}
 use Rattle.zone_state.specs.Zone.{ZoneRecord, IsZone}
 use Rattle.zone_resources.specs.Admission.{IsWithin}
 use Rattle.zone_resources.specs.Counts.{open_count, active_count}
 use Rattle.zone_resources.specs.declared.admission.Limits.{Limits}
 use Rattle.image_store.specs.declared.fault.LoadFault.TheVariants as fault
-use Rattle.image_store.specs.declared.geometry.GeometryFault.{GeometryFault}
-use Rattle.image_store.specs.declared.geometry.GeometryFault.TheVariants.{BlockSize, ZoneCount, ZoneSize, ZoneCapacity, ResourceLimits, TooLarge}
 use Rattle.image_store.specs.Blocks.{AreBytes, blocks_of}
-use Rattle.image_store.specs.Checks.{demand, or_else, first_fault, unless_fault}
 use Rattle.image_store.specs.Flat.{no_record, zone_seen}
-use Rattle.image_store.specs.Geometry.{Shape, IsShape, is_counted, are_limits, shape_checks, tested}
+use Rattle.image_store.specs.Geometry.{Shape, IsShape}
 use Rattle.image_store.specs.Laws.{LoadedIsNamespace}
 use Rattle.image_store.specs.Namespace.{ZoneBlocks, no_zone, counted, IsNamespace}
-use Rattle.image_store.specs.Reading.{◌>>=◌, bytes_in, header_in, shape_in, shape_told, are_zeros, number_at, records_in, zones_in, limits_kept, blocks_in, end_in, namespace_with, namespace_in}
-use Rattle.image_store.specs.Text.{magic, is_version_1_block, header, records_text}
+use Rattle.image_store.specs.Reading.{◌>>=◌, bytes_in, header_in, records_in, zones_in, total_kept, limits_kept, blocks_in, end_in, namespace_with, namespace_in}
+use Rattle.image_store.specs.Text.{header, records_text}
 use Rattle.image_store.proofs.Again.{at-counted}
 use Rattle.image_store.proofs.Answered.{bind_ok, ok_is, chosen}
 use Rattle.image_store.proofs.ByteParts.{front_fit, rest_fit, blocks_fit}
 use Rattle.image_store.proofs.Fills.{bytes_parts, bytes_size}
-use Rattle.image_store.proofs.HeaderTests.{decide}
-use Rattle.image_store.proofs.Loads.{after_header, after_records, after_limits, after_blocks, zones_fit}
+use Rattle.image_store.proofs.Loads.{after_header, after_records, after_total, after_limits, after_blocks, zones_fit}
 use Rattle.image_store.proofs.Only.{header_only, records_only, blocks_only}
 use Rattle.image_store.proofs.Pieces.{length-blocks}
 use Rattle.image_store.proofs.Sound.{block-at}
-
--- a check that passes, and those behind it
-both : (test : Bool) (first : GeometryFault) (rest : Option GeometryFault) → or_else (demand test first) rest ≡ None → (test ≡ true) × (rest ≡ None)
-both true first rest e = (refl, e)
-both false first rest e = absurd cc
-
-none_fails : (check : Option GeometryFault) (s t : Shape) → unless_fault check s ≡ Ok t → check ≡ None
-none_fails None s t e = refl
-none_fails (Some first) s t e = absurd cc
-
-in_range : (n most : ℕ) → is_counted n most ≡ true → (1 ≤ n) × (n ≤ most)
-in_range n most e = let p = and_parts (nat_le 1 n) (nat_le n most) e in (leb-true 1 n p.0, leb-true n most p.1)
-
-block_range : (bytes : ℕ) → IsBlockSize bytes → (512 ≤ bytes) × (bytes ≤ 4096)
-block_range bytes is = grind (arith, nat_tests)
-
-shape_is : (s t : Shape) → tested s ≡ Ok t → IsShape s
-shape_is s t e =
-    let room = nat_le (s.zones * s.capacity * s.block) 268435456 in
-    let last = demand room TooLarge ∷ [] in
-    let limits = demand (are_limits s.limits s.zones) ResourceLimits ∷ last in
-    let capacity = demand (is_counted s.capacity s.size) ZoneCapacity ∷ limits in
-    let size = demand (is_counted s.size 16777216) ZoneSize ∷ capacity in
-    let zones = demand (is_counted s.zones 1024) ZoneCount ∷ size in
-    let a = both (is_block_size s.block) BlockSize (first_fault zones) (none_fails (first_fault (shape_checks s)) s t e) in
-    let b = both (is_counted s.zones 1024) ZoneCount (first_fault size) a.1 in
-    let c = both (is_counted s.size 16777216) ZoneSize (first_fault capacity) b.1 in
-    let d = both (is_counted s.capacity s.size) ZoneCapacity (first_fault limits) c.1 in
-    let f = both (are_limits s.limits s.zones) ResourceLimits (first_fault last) d.1 in
-    let g = both room TooLarge None f.1 in
-    let block = block_range s.block a.0 in
-    let many = in_range s.zones 1024 b.0 in
-    let long = in_range s.size 16777216 c.0 in
-    let some = in_range s.capacity s.size d.0 in
-    let both_limits = and_parts (is_counted s.limits.open_limit s.limits.active_limit) (nat_le s.limits.active_limit s.zones) f.0 in
-    let opened = in_range s.limits.open_limit s.limits.active_limit both_limits.0 in
-    let all : s.zones * (s.capacity * s.block) ≤ 268435456 = let most = leb-true (s.zones * s.capacity * s.block) 268435456 g.0 in omega (arith, mul_assoc s.zones s.capacity s.block) in
-    let one : 1 * (s.capacity * s.block) ≤ s.zones * (s.capacity * s.block) = mul-le-mul_right (s.capacity * s.block) many.0 in
-    record {
-      block_size = a.0;
-      block_some = block.0;
-      block_most = block.1;
-      zones_some = many.0;
-      zones_most = many.1;
-      size_some = long.0;
-      size_most = long.1;
-      capacity_some = some.0;
-      capacity_most = some.1;
-      open_some = opened.0;
-      open_most = opened.1;
-      active_most = leb-true s.limits.active_limit s.zones both_limits.1;
-      slot = omega arith;
-      room = all;
-    }
-
-tested_header : (a b : Bool) (check : Option GeometryFault) (d : Bool) (told s : Shape) → decide a b check d told ≡ Ok s → (check ≡ None) × (told ≡ s)
-tested_header true true None true told s e = (refl, ok_is told s e)
-tested_header false b check d told s e = absurd cc
-tested_header true false check d told s e = absurd cc
-tested_header true true (Some first) d told s e = absurd cc
-tested_header true true None false told s e = absurd cc
-
-header_shape : (bytes rest : List ℕ) (s : Shape) → header_in bytes ≡ Ok (s, rest) → IsShape s
-header_shape bytes rest s e =
-    let a = bind_ok (bytes_in 64 bytes) (λ front. shape_in front.0 >>= λ told. Ok (told, front.1)) (s, rest) e in
-    let b = bind_ok (shape_in a.0.0) (λ told. Ok (told, a.0.1)) (s, rest) a.2 in
-    let told = shape_told a.0.0 in
-    let tests = tested_header (starts_with (λ x y. x == y) a.0.0 magic) (is_version_1_block (number_at a.0.0 8)) (first_fault (shape_checks told)) (are_zeros (drop 32 a.0.0)) told b.0 b.1 in
-    let same : b.0 ≡ s = ap (λ (x : Shape × List ℕ). x.0) (ok_is (b.0, a.0.1) (s, rest) b.2) in
-    subst IsShape (tests.1 ∙ same) (shape_is told told (ap (λ (check : Option GeometryFault). unless_fault check told) tests.0))
 
 -- zones of whole blocks
 record AreWhole (block : ℕ) (zones : List ZoneBlocks) : Type 0 where
@@ -191,17 +114,18 @@ pub loaded_is_namespace : LoadedIsNamespace
 unfolding namespace_in
 loaded_is_namespace bytes ns fit e =
     let a = bind_ok (header_in bytes) (λ h. after_header h.0 h.1) ns e in
-    let s = a.0.0 in
-    let b = bind_ok (records_in s a.0.1) (λ records. after_records s records.0 records.1) ns a.2 in
-    let c = bind_ok (limits_kept s.limits b.0.0) (λ kept. after_limits s b.0.0 b.0.1) ns b.2 in
+    let h = a.0.0 in
+    let s = h.geometry in
+    let b = bind_ok (records_in s a.0.1) (λ records. after_records h records.0 records.1) ns a.2 in
+    let t = bind_ok (total_kept h.total b.0.0) (λ same. after_total s b.0.0 b.0.1) ns b.2 in
+    let c = bind_ok (limits_kept s.limits b.0.0) (λ kept. after_limits s b.0.0 b.0.1) ns t.2 in
     let d = bind_ok (blocks_in s.block b.0.0 b.0.1) (λ blocks. after_blocks s blocks.0 blocks.1) ns c.2 in
     let f = bind_ok (end_in d.0.1) (λ end. Ok (namespace_with s d.0.0)) ns d.2 in
-    let known = header_shape bytes a.0.1 s a.1 in
-    let start = header_only bytes s a.0.1 fit a.1 in
-    let later = rest_fit (header s) a.0.1 (subst AreBytes (sym start) fit) in
+    let headed = header_only bytes h a.0.1 fit a.1 in
+    let later = rest_fit (header headed.version s headed.total) a.0.1 (subst AreBytes (sym headed.spelled) fit) in
     let records = records_only s a.0.1 b.0 later b.1 in
     let last = rest_fit (records_text b.0.0) b.0.1 (subst AreBytes (sym records.spelled) later) in
     let blocks = blocks_only s.block s.capacity b.0.0 b.0.1 d.0 records.same d.1 in
     subst IsNamespace (ok_is (namespace_with s d.0.0) ns f.2)
-    (parts_are s b.0.0 d.0.0 known (records_allowed s a.0.1 b.0 known b.1) (kept_within s.limits b.0.0 c.0 c.1) blocks.counted
+    (parts_are s b.0.0 d.0.0 headed.known (records_allowed s a.0.1 b.0 headed.known b.1) (kept_within s.limits b.0.0 c.0 c.1) blocks.counted
     (blocks_whole s.block b.0.0 b.0.1 d.0 last d.1))

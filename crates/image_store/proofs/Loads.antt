@@ -1,6 +1,7 @@
 -- One part of an image read after another.
-use Rattle.std.proofs.Common.{◌≡◌, ℕ, ◌+◌, ◌<◌, ◌≤◌, zero, suc, true, List, [], ◌∷◌, length, get_or, take, drop, Option, Some, None, Result, Ok, Err, refl, ap, sym, subst, arith}
+use Rattle.std.proofs.Common.{◌≡◌, ℕ, ◌+◌, ◌*◌, ◌^◌, ◌<◌, ◌≤◌, zero, suc, true, List, [], ◌∷◌, length, get_or, replicate, take, drop, Option, Some, None, Result, Ok, Err, refl, ap, sym, subst, arith}
 use Rattle.std.specs.Prelude.{IfOk, IsOk, nat_le, nat_lt}
+use Rattle.std.proofs.lemmas.List.{length-replicate}
 use Rattle.std.proofs.lemmas.Bool.{leb-true, ltb-true, eqb-true, and_parts}
 use Rattle.zone_state.specs.declared.state.ZoneState.{ZoneState}
 use Rattle.zone_state.specs.declared.state.ZoneState.TheVariants.{Empty, ImplicitlyOpened, ExplicitlyOpened, Closed, ReadOnly, Full, Offline}
@@ -9,29 +10,30 @@ use Rattle.zone_state.specs.Zone.{ZoneRecord, IsZone}
 use Rattle.image_store.specs.declared.fault.LoadFault.{LoadFault}
 use Rattle.image_store.specs.declared.fault.LoadFault.TheVariants as fault
 use Rattle.image_store.specs.declared.fault.RecordFault.TheVariants as record_fault
+use Rattle.image_store.specs.declared.header.Header.{Header}
 use Rattle.image_store.specs.Flat.{no_record}
 use Rattle.image_store.specs.Geometry.{Shape, IsShape}
 use Rattle.image_store.specs.Loading.{Fails, Gives, NoDeviceFails, AreZones}
 use Rattle.image_store.specs.Namespace.{ZoneBlocks, ZonedNamespace}
-use Rattle.image_store.specs.Reading.{◌>>=◌, are_zeros, number_at, allows, bytes_in, shape_in, header_in, zone_told, zone_in, zones_in, records_in, limits_kept, blocks_in, end_in, namespace_with, namespace_in}
+use Rattle.image_store.specs.Reading.{◌>>=◌, are_zeros, number_at, allows, bytes_in, header_told, header_in, zone_told, zone_in, zones_in, records_in, total_kept, limits_kept, blocks_in, end_in, namespace_with, namespace_in}
 use Rattle.image_store.proofs.Answered.{bind_ok, ok_is, chosen, passed, fails_then}
 use Rattle.image_store.proofs.Faults.{no_device, fails_text, header_text_fault}
 use Rattle.image_store.proofs.Fills.{Split}
 
-told : (result : Result Shape LoadFault) (front rest : List ℕ) → result ≡ shape_in front → Gives {Y = Shape × List ℕ} ⊥ (λ (s : Shape). (s, rest)) result (shape_in front >>= λ s. Ok (s, rest))
-told (Ok s) front rest e = ap (λ (r : Result Shape LoadFault). r >>= λ x. let all : Result (Shape × List ℕ) LoadFault = Ok (x, rest) in all) (sym e)
+told : (result : Result Header LoadFault) (front rest : List ℕ) → result ≡ header_told front → Gives {Y = Header × List ℕ} ⊥ (λ (h : Header). (h, rest)) result (header_told front >>= λ h. Ok (h, rest))
+told (Ok h) front rest e = ap (λ (r : Result Header LoadFault). r >>= λ x. let all : Result (Header × List ℕ) LoadFault = Ok (x, rest) in all) (sym e)
 told (Err first) front rest e =
-    fails_then ⊥ ⊥ first (shape_in front) (λ (s : Shape). let all : Result (Shape × List ℕ) LoadFault = Ok (s, rest) in all) (λ no. no)
-    (fails_text ⊥ first (shape_in front) (header_text_fault front first (sym e)) (sym e))
+    fails_then ⊥ ⊥ first (header_told front) (λ (h : Header). let all : Result (Header × List ℕ) LoadFault = Ok (h, rest) in all) (λ no. no)
+    (fails_text ⊥ first (header_told front) (header_text_fault front first (sym e)) (sym e))
 
 -- the header, of 64 bytes that were read
-pub header_given : (result : Result Shape LoadFault) (front rest all : List ℕ) → bytes_in 64 all ≡ Ok (front, rest) → result ≡ shape_in front → Gives {Y = Shape × List ℕ} ⊥ (λ (s : Shape). (s, rest)) result (header_in all)
+pub header_given : (result : Result Header LoadFault) (front rest all : List ℕ) → bytes_in 64 all ≡ Ok (front, rest) → result ≡ header_told front → Gives {Y = Header × List ℕ} ⊥ (λ (h : Header). (h, rest)) result (header_in all)
 header_given result front rest all read given =
-    let step : header_in all ≡ (shape_in front >>= λ s. Ok (s, rest)) = ap (λ (r : Result Split LoadFault). r >>= λ part. shape_in part.0 >>= λ s. Ok (s, part.1)) read in
-    subst (λ (r : Result (Shape × List ℕ) LoadFault). Gives {Y = Shape × List ℕ} ⊥ (λ (s : Shape). (s, rest)) result r) (sym step) (told result front rest given)
+    let step : header_in all ≡ (header_told front >>= λ h. Ok (h, rest)) = ap (λ (r : Result Split LoadFault). r >>= λ part. header_told part.0 >>= λ h. Ok (h, part.1)) read in
+    subst (λ (r : Result (Header × List ℕ) LoadFault). Gives {Y = Header × List ℕ} ⊥ (λ (h : Header). (h, rest)) result r) (sym step) (told result front rest given)
 
-pub header_no_device : (result : Result Shape LoadFault) (front : List ℕ) → result ≡ shape_in front → NoDeviceFails result
-header_no_device (Ok s) front e = tt
+pub header_no_device : (result : Result Header LoadFault) (front : List ℕ) → result ≡ header_told front → NoDeviceFails result
+header_no_device (Ok h) front e = tt
 header_no_device (Err first) front e = no_device first (header_text_fault front first (sym e))
 
 -- the test of the state table says what the table does
@@ -93,6 +95,13 @@ records_fit view s (Ok x) bytes known e =
     }
 records_fit view s (Err first) bytes known e = tt
 
+-- zones that fit their shape are few
+pub zones_few : (s : Shape) (zs : List ZoneRecord) → AreZones s zs → length zs < 2 ^ 32
+zones_few s zs fit =
+    let room = s.zones * (s.capacity * s.block) in
+    let flat = fit (replicate room 0) (length-replicate {A = ℕ} room 0) in
+    omega (arith, flat.count, flat.shape.zones_most)
+
 -- what is still to be read, after each part
 abbrev pub after_blocks : Shape → List ZoneBlocks → List ℕ → Result ZonedNamespace LoadFault
 after_blocks s zones bytes = end_in bytes >>= λ end. Ok (namespace_with s zones)
@@ -100,20 +109,26 @@ after_blocks s zones bytes = end_in bytes >>= λ end. Ok (namespace_with s zones
 abbrev pub after_limits : Shape → List ZoneRecord → List ℕ → Result ZonedNamespace LoadFault
 after_limits s zs bytes = blocks_in s.block zs bytes >>= λ blocks. after_blocks s blocks.0 blocks.1
 
-abbrev pub after_records : Shape → List ZoneRecord → List ℕ → Result ZonedNamespace LoadFault
-after_records s zs bytes = limits_kept s.limits zs >>= λ kept. after_limits s zs bytes
+abbrev pub after_total : Shape → List ZoneRecord → List ℕ → Result ZonedNamespace LoadFault
+after_total s zs bytes = limits_kept s.limits zs >>= λ kept. after_limits s zs bytes
 
-abbrev pub after_header : Shape → List ℕ → Result ZonedNamespace LoadFault
-after_header s bytes = records_in s bytes >>= λ records. after_records s records.0 records.1
+abbrev pub after_records : Header → List ZoneRecord → List ℕ → Result ZonedNamespace LoadFault
+after_records h zs bytes = total_kept h.total zs >>= λ same. after_total h.geometry zs bytes
 
-pub past_header : (all rest : List ℕ) (s : Shape) → header_in all ≡ Ok (s, rest) → namespace_in all ≡ after_header s rest
+abbrev pub after_header : Header → List ℕ → Result ZonedNamespace LoadFault
+after_header h bytes = records_in h.geometry bytes >>= λ records. after_records h records.0 records.1
+
+pub past_header : (all rest : List ℕ) (h : Header) → header_in all ≡ Ok (h, rest) → namespace_in all ≡ after_header h rest
 unfolding namespace_in
-past_header all rest s e = ap (λ (r : Result (Shape × List ℕ) LoadFault). r >>= λ h. after_header h.0 h.1) e
+past_header all rest h e = ap (λ (r : Result (Header × List ℕ) LoadFault). r >>= λ x. after_header x.0 x.1) e
 
-pub past_records : (s : Shape) (bytes rest : List ℕ) (zs : List ZoneRecord) → records_in s bytes ≡ Ok (zs, rest) → after_header s bytes ≡ after_records s zs rest
-past_records s bytes rest zs e = ap (λ (r : Result (List ZoneRecord × List ℕ) LoadFault). r >>= λ records. after_records s records.0 records.1) e
+pub past_records : (h : Header) (bytes rest : List ℕ) (zs : List ZoneRecord) → records_in h.geometry bytes ≡ Ok (zs, rest) → after_header h bytes ≡ after_records h zs rest
+past_records h bytes rest zs e = ap (λ (r : Result (List ZoneRecord × List ℕ) LoadFault). r >>= λ records. after_records h records.0 records.1) e
 
-pub past_limits : (s : Shape) (zs : List ZoneRecord) (bytes : List ℕ) → limits_kept s.limits zs ≡ Ok tt → after_records s zs bytes ≡ after_limits s zs bytes
+pub past_total : (h : Header) (zs : List ZoneRecord) (bytes : List ℕ) → total_kept h.total zs ≡ Ok tt → after_records h zs bytes ≡ after_total h.geometry zs bytes
+past_total h zs bytes e = ap (λ (r : Result (Unit {0}) LoadFault). r >>= λ same. after_total h.geometry zs bytes) e
+
+pub past_limits : (s : Shape) (zs : List ZoneRecord) (bytes : List ℕ) → limits_kept s.limits zs ≡ Ok tt → after_total s zs bytes ≡ after_limits s zs bytes
 past_limits s zs bytes e = ap (λ (r : Result Unit LoadFault). r >>= λ kept. after_limits s zs bytes) e
 
 pub past_blocks : (s : Shape) (zs : List ZoneRecord) (bytes rest : List ℕ) (zones : List ZoneBlocks) → blocks_in s.block zs bytes ≡ Ok (zones, rest) → after_limits s zs bytes ≡ after_blocks s zones rest
@@ -122,8 +137,8 @@ past_blocks s zs bytes rest zones e = ap (λ (r : Result (List ZoneBlocks × Lis
 pub past_end : (s : Shape) (zones : List ZoneBlocks) (bytes : List ℕ) → end_in bytes ≡ Ok tt → after_blocks s zones bytes ≡ Ok (namespace_with s zones)
 past_end s zones bytes e = ap (λ (r : Result Unit LoadFault). r >>= λ end. let all : Result ZonedNamespace LoadFault = Ok (namespace_with s zones) in all) e
 
-pub header_accepted : (all rest : List ℕ) (s : Shape) → header_in all ≡ Ok (s, rest) → IsOk (header_in all)
-header_accepted all rest s e = subst (λ (r : Result (Shape × List ℕ) LoadFault). IsOk r) (sym e) refl
+pub header_accepted : (all rest : List ℕ) (h : Header) → header_in all ≡ Ok (h, rest) → IsOk (header_in all)
+header_accepted all rest h e = subst (λ (r : Result (Header × List ℕ) LoadFault). IsOk r) (sym e) refl
 
 -- a part that fails, by what was still to be read
 pub fails_at : {X : Type 0} (wanted may : Type 0) (first : LoadFault) (part : Result X LoadFault) (next : X → Result ZonedNamespace LoadFault) (all : Result ZonedNamespace LoadFault)

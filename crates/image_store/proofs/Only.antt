@@ -1,9 +1,9 @@
--- What is read as a namespace is that namespace's text.
+-- What is read as a namespace is a text of that namespace.
 use Rattle.std.proofs.Common.{◌≡◌, ℕ, ◌+◌, ◌*◌, ◌<◌, ◌≤◌, zero, suc, Bool, true, false, cond, List, [], ◌∷◌, ◌++◌, length, get_or, map, take, drop, Option, Some, None, Ok, refl, ap, sym, subst, ◌∙◌, append_assoc, arith, length-drop}
 use Rattle.std.proofs.lemmas.Bool.{eqb-true}
 use Rattle.std.proofs.lemmas.List.{append-nil, drop_all, length-map, length-take-le, nil_from_length, take_all, take-append-drop}
 use Rattle.std.proofs.Math.Nat.{suc-mul}
-use Rattle.std.specs.List.{find, starts_with}
+use Rattle.std.specs.List.{find}
 use Rattle.std.specs.Prelude.{◌==◌}
 use Rattle.zone_state.specs.declared.state.ZoneState.{ZoneState}
 use Rattle.zone_state.specs.State.{code_of, state_of, states}
@@ -13,47 +13,63 @@ use Rattle.image_store.specs.declared.fault.LoadFault.TheVariants as fault
 use Rattle.image_store.specs.declared.fault.RecordFault.TheVariants as record_fault
 use Rattle.image_store.specs.Blocks.{AreBytes, blocks_of, bytes_of}
 use Rattle.image_store.specs.Flat.{no_record, zone_seen}
-use Rattle.image_store.specs.declared.geometry.GeometryFault.{GeometryFault}
-use Rattle.image_store.specs.Checks.{first_fault}
-use Rattle.image_store.specs.Geometry.{Shape, shape_checks}
-use Rattle.image_store.specs.Namespace.{ZoneBlocks, ZonedNamespace, counted}
-use Rattle.image_store.specs.Reading.{◌>>=◌, are_zeros, number_at, shape_told, shape_in, header_in, allows, zone_told, zone_in, zones_in, records_in, limits_kept, blocks_in, end_in, namespace_with, namespace_in, bytes_in}
-use Rattle.image_store.specs.Text.{magic, is_version_1_block, word, header, record_text, records_text, blocks_text, text}
+use Rattle.image_store.specs.declared.header.Header.{Header}
+use Rattle.image_store.specs.declared.version.Version.{Version}
+use Rattle.image_store.specs.declared.version.Version.TheVariants.{One, Two}
+use Rattle.image_store.specs.Geometry.{Shape, IsShape}
+use Rattle.image_store.specs.Namespace.{ZoneBlocks, ZonedNamespace, counted, shape}
+use Rattle.image_store.specs.Reading.{◌>>=◌, are_zeros, total_told, header_told, header_in, total_kept, allows, zone_told, zone_in, zones_in, records_in, limits_kept, blocks_in, end_in, namespace_with, namespace_in, bytes_in}
+use Rattle.image_store.specs.Text.{word, header, written_blocks, record_text, records_text, blocks_text, text_of}
+use Rattle.image_store.specs.Version.{Has}
 use Rattle.image_store.proofs.Answered.{bind_ok, ok_is, chosen, passed}
 use Rattle.image_store.proofs.ByteParts.{front_fit, rest_fit}
 use Rattle.image_store.proofs.Fills.{bytes_parts, bytes_size}
-use Rattle.image_store.proofs.HeaderTests.{decide}
+use Rattle.image_store.proofs.HeaderParts.{header_parts}
+use Rattle.image_store.proofs.Headers.{total_in}
 use Rattle.image_store.proofs.Images.{counted_seen}
-use Rattle.image_store.proofs.Loads.{after_header, after_records, after_limits, after_blocks}
+use Rattle.image_store.proofs.Loads.{after_header, after_records, after_total, after_limits, after_blocks}
 use Rattle.image_store.proofs.Pieces.{bytes-blocks}
-use Rattle.image_store.proofs.Spelled.{word_spelled, zeros_spelled, header_spelled}
+use Rattle.image_store.proofs.Spelled.{word_spelled, zeros_spelled, header_spelled, total_or_none}
 
--- the tests that a header has passed
-record Passed (a d : Bool) (told s : Shape) : Type 0 where
-  pub begins : a ≡ true
-  pub zeros : d ≡ true
-  pub same : told ≡ s
+-- a header that is read stands in front
+pub record IsHeaded (bytes : List ℕ) (told : Header) (rest : List ℕ) : Type 0 where
+  pub version : Version
+  pub total : ℕ
+  pub spelled : header version told.geometry total ++ rest ≡ bytes
+  pub known : IsShape told.geometry
+  pub has : Has version told.geometry
+  pub same : told.total ≡ total_in version total
 
-decided : (a b : Bool) (check : Option GeometryFault) (d : Bool) (told s : Shape) → decide a b check d told ≡ Ok s → Passed a d told s
-decided true true None true told s e = record { begins = refl; zeros = refl; same = ok_is told s e }
-decided false b check d told s e = absurd cc
-decided true false check d told s e = absurd cc
-decided true true (Some first) d told s e = absurd cc
-decided true true None false told s e = absurd cc
+total_is : (version : Version) (xs : List ℕ) → total_told version xs ≡ total_in version (total_or_none (total_told version xs))
+total_is One xs = refl
+total_is Two xs = refl
 
-pub header_only : (bytes : List ℕ) (s : Shape) (rest : List ℕ) → AreBytes bytes → header_in bytes ≡ Ok (s, rest) → header s ++ rest ≡ bytes
-header_only bytes s rest fit e =
-    let a = bind_ok (bytes_in 64 bytes) (λ front. shape_in front.0 >>= λ told. Ok (told, front.1)) (s, rest) e in
-    let b = bind_ok (shape_in a.0.0) (λ told. Ok (told, a.0.1)) (s, rest) a.2 in
+pub header_only : (bytes : List ℕ) (told : Header) (rest : List ℕ) → AreBytes bytes → header_in bytes ≡ Ok (told, rest) → IsHeaded bytes told rest
+header_only bytes told rest fit e =
+    let a = bind_ok (bytes_in 64 bytes) (λ front. header_told front.0 >>= λ all. Ok (all, front.1)) (told, rest) e in
+    let b = bind_ok (header_told a.0.0) (λ all. Ok (all, a.0.1)) (told, rest) a.2 in
     let parts = bytes_parts 64 bytes a.0 a.1 in
     let size = bytes_size 64 bytes a.0 a.1 in
     let front = front_fit a.0.0 a.0.1 (subst AreBytes (sym parts) fit) in
-    let tests = decided (starts_with (λ x y. x == y) a.0.0 magic) (is_version_1_block (number_at a.0.0 8)) (first_fault (shape_checks (shape_told a.0.0))) (are_zeros (drop 32 a.0.0)) (shape_told a.0.0) b.0 b.1 in
-    let spelled = header_spelled a.0.0 size front tests.begins tests.zeros in
-    let both = ok_is (b.0, a.0.1) (s, rest) b.2 in
-    ap (λ (x : Shape × List ℕ). header x.0 ++ x.1) (sym both)
-    ∙ (ap (λ (x : Shape). header x ++ a.0.1) (sym tests.same)
-    ∙ (ap (λ (xs : List ℕ). xs ++ a.0.1) spelled ∙ parts))
+    let h = header_parts a.0.0 b.0 b.1 in
+    let total = total_or_none (total_told h.version a.0.0) in
+    let spelled = header_spelled h.version a.0.0 size front h.begins h.zeros in
+    let both = ok_is (b.0, a.0.1) (told, rest) b.2 in
+    subst (λ (x : Header × List ℕ). IsHeaded bytes x.0 x.1) both (record {
+      version = h.version;
+      total = total;
+      spelled = ap (λ (s : Shape). header h.version s total ++ a.0.1) (sym h.same) ∙ (ap (λ (xs : List ℕ). xs ++ a.0.1) spelled ∙ parts);
+      known = h.known;
+      has = h.has;
+      same = h.total ∙ total_is h.version a.0.0;
+    })
+
+-- a number of written blocks that is told is that of the records
+pub header_counted : (version : Version) (s : Shape) (total : ℕ) (zs : List ZoneRecord) (done : Unit {0}) → total_kept (total_in version total) zs ≡ Ok done
+    → header version s total ≡ header version s (written_blocks zs)
+header_counted One s total zs done e = refl
+header_counted Two s total zs done e =
+    ap (header Two s) (eqb-true total (written_blocks zs) (chosen (total == written_blocks zs) tt done (fault.Total total (written_blocks zs)) e).0)
 
 some_is : (x y : ZoneState) → Some x ≡ Some y → x ≡ y
 some_is x y e = cc
@@ -168,34 +184,53 @@ records_only s bytes got fit e =
     })
 
 -- header, records and blocks, one behind another
-joined : (s : Shape) (zs : List ZoneRecord) (zones : List ZoneBlocks) (bytes rest later last : List ℕ) → header s ++ rest ≡ bytes → records_text zs ++ later ≡ rest → blocks_text zones ++ last ≡ later → last ≡ []
-    → bytes ≡ header s ++ (records_text zs ++ blocks_text zones)
-joined s zs zones bytes rest later last start records blocks ended =
+joined : (front : List ℕ) (zs : List ZoneRecord) (zones : List ZoneBlocks) (bytes rest later last : List ℕ) → front ++ rest ≡ bytes → records_text zs ++ later ≡ rest → blocks_text zones ++ last ≡ later → last ≡ []
+    → bytes ≡ front ++ (records_text zs ++ blocks_text zones)
+joined front zs zones bytes rest later last start records blocks ended =
     let written : later ≡ blocks_text zones = sym blocks ∙ (ap (λ (xs : List ℕ). blocks_text zones ++ xs) ended ∙ append-nil (blocks_text zones)) in
     sym start
-    ∙ (ap (λ (xs : List ℕ). header s ++ xs) (sym records)
-    ∙ ap (λ (xs : List ℕ). header s ++ (records_text zs ++ xs)) written)
+    ∙ (ap (λ (xs : List ℕ). front ++ xs) (sym records)
+    ∙ ap (λ (xs : List ℕ). front ++ (records_text zs ++ xs)) written)
+
+size_read : (s : Shape) (zs : List ZoneRecord) (zones : List ZoneBlocks) → length zs ≡ s.zones → map (counted s.capacity) zones ≡ zs → s.zones ≡ length zones
+size_read s zs zones count same = sym (sym (length-map zones (counted s.capacity)) ∙ (ap length same ∙ count))
+
+-- the shape with another number of zones
+abbrev resized : Shape → ℕ → Shape
+resized s n = record { block = s.block; zones = n; size = s.size; capacity = s.capacity; limits = s.limits }
 
 -- the text of the namespace that is read
-text_with : (s : Shape) (zs : List ZoneRecord) (zones : List ZoneBlocks) → length zs ≡ s.zones → map (counted s.capacity) zones ≡ zs
-    → header s ++ (records_text zs ++ blocks_text zones) ≡ text (namespace_with s zones)
-text_with s zs zones count same =
-    let size : s.zones ≡ length zones = sym (sym (length-map zones (counted s.capacity)) ∙ (ap length same ∙ count)) in
-    ap (λ (all : List ZoneRecord). header s ++ (records_text all ++ blocks_text zones)) (sym same)
-    ∙ ap (λ (n : ℕ). let told : Shape = record { block = s.block; zones = n; size = s.size; capacity = s.capacity; limits = s.limits } in header told ++ (records_text (map (counted s.capacity) zones) ++ blocks_text zones)) size
+text_with : (version : Version) (s : Shape) (zs : List ZoneRecord) (zones : List ZoneBlocks) → s.zones ≡ length zones → map (counted s.capacity) zones ≡ zs
+    → header version s (written_blocks zs) ++ (records_text zs ++ blocks_text zones) ≡ text_of version (namespace_with s zones)
+text_with version s zs zones size same =
+    let all = map (counted s.capacity) zones in
+    ap (λ (read : List ZoneRecord). header version s (written_blocks read) ++ (records_text read ++ blocks_text zones)) (sym same)
+    ∙ ap (λ (n : ℕ). header version (resized s n) (written_blocks all) ++ (records_text all ++ blocks_text zones)) size
 
-pub text_only : (bytes : List ℕ) (ns : ZonedNamespace) → AreBytes bytes → namespace_in bytes ≡ Ok ns → bytes ≡ text ns
+pub text_only : (bytes : List ℕ) (ns : ZonedNamespace) → AreBytes bytes → namespace_in bytes ≡ Ok ns
+    → (version : Version) × Has version (shape ns) × (bytes ≡ text_of version ns)
 unfolding namespace_in
 text_only bytes ns fit e =
     let a = bind_ok (header_in bytes) (λ h. after_header h.0 h.1) ns e in
-    let s = a.0.0 in
-    let b = bind_ok (records_in s a.0.1) (λ records. after_records s records.0 records.1) ns a.2 in
-    let c = bind_ok (limits_kept s.limits b.0.0) (λ kept. after_limits s b.0.0 b.0.1) ns b.2 in
+    let h = a.0.0 in
+    let s = h.geometry in
+    let b = bind_ok (records_in s a.0.1) (λ records. after_records h records.0 records.1) ns a.2 in
+    let t = bind_ok (total_kept h.total b.0.0) (λ same. after_total s b.0.0 b.0.1) ns b.2 in
+    let c = bind_ok (limits_kept s.limits b.0.0) (λ kept. after_limits s b.0.0 b.0.1) ns t.2 in
     let d = bind_ok (blocks_in s.block b.0.0 b.0.1) (λ blocks. after_blocks s blocks.0 blocks.1) ns c.2 in
     let f = bind_ok (end_in d.0.1) (λ end. Ok (namespace_with s d.0.0)) ns d.2 in
     let ended : d.0.1 ≡ [] = nil_from_length d.0.1 (eqb-true (length d.0.1) 0 (chosen (length d.0.1 == 0) tt f.0 fault.Trailing f.1).0) in
-    let start = header_only bytes s a.0.1 fit a.1 in
-    let records = records_only s a.0.1 b.0 (rest_fit (header s) a.0.1 (subst AreBytes (sym start) fit)) b.1 in
+    let headed = header_only bytes h a.0.1 fit a.1 in
+    let version = headed.version in
+    let front = header version s headed.total in
+    let counts = header_counted version s headed.total b.0.0 t.0 (ap (λ (n : Option ℕ). total_kept n b.0.0) (sym headed.same) ∙ t.1) in
+    let records = records_only s a.0.1 b.0 (rest_fit front a.0.1 (subst AreBytes (sym headed.spelled) fit)) b.1 in
     let blocks = blocks_only s.block s.capacity b.0.0 b.0.1 d.0 records.same d.1 in
-    joined s b.0.0 d.0.0 bytes a.0.1 b.0.1 d.0.1 start records.spelled blocks.spelled ended
-    ∙ (text_with s b.0.0 d.0.0 records.count blocks.counted ∙ ap text (ok_is (namespace_with s d.0.0) ns f.2))
+    let size = size_read s b.0.0 d.0.0 records.count blocks.counted in
+    let read = ok_is (namespace_with s d.0.0) ns f.2 in (
+      version,
+      subst (λ (x : ZonedNamespace). Has version (shape x)) read (subst (λ (n : ℕ). Has version (resized s n)) size headed.has),
+      joined front b.0.0 d.0.0 bytes a.0.1 b.0.1 d.0.1 headed.spelled records.spelled blocks.spelled ended
+          ∙ (ap (λ (xs : List ℕ). xs ++ (records_text b.0.0 ++ blocks_text d.0.0)) counts
+          ∙ (text_with version s b.0.0 d.0.0 size blocks.counted ∙ ap (text_of version) read)),
+    )

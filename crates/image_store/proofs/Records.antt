@@ -3,7 +3,7 @@ use Rattle.std.proofs.Common.{◌≡◌, ℕ, suc, ◌-◌, ◌+◌, ◌≤◌, 
 use Rattle.std.proofs.lemmas.List.{append-nil}
 use Rattle.zone_state.specs.Zone.{ZoneRecord}
 use Rattle.image_store.specs.declared.fault.LoadFault.{LoadFault}
-use Rattle.image_store.specs.declared.fault.LoadFault.TheVariants.{Truncated, Magic, Geometry, ZoneRecord as BadRecord, Limits, Trailing, Device, Memory}
+use Rattle.image_store.specs.declared.fault.LoadFault.TheVariants.{Truncated, Magic, Geometry, ZoneRecord as BadRecord, Total, Limits, Trailing, Device, Memory}
 use Rattle.image_store.specs.Loading.{Fails}
 use Rattle.image_store.specs.Reading.{◌>>=◌, zone_in, zones_in}
 
@@ -44,5 +44,6 @@ fails_free Truncated reading h = h
 fails_free Magic reading h = h
 fails_free (Geometry first) reading h = h
 fails_free (BadRecord zone first) reading h = h
+fails_free (Total told counted) reading h = h
 fails_free Limits reading h = h
 fails_free Trailing reading h = h

@@ -1,23 +1,19 @@
 -- The parts of a text that are read are those that are spelled.
-use Rattle.std.proofs.Common.{◌≡◌, ℕ, ◌+◌, ◌-◌, ◌*◌, ◌<◌, ◌≤◌, zero, suc, true, nat_eq, List, [], ◌∷◌, ◌++◌, length, replicate, take, drop, refl, ap, sym, ◌∙◌, arith, length-drop}
+use Rattle.std.proofs.Common.{◌≡◌, ℕ, ◌+◌, ◌*◌, ◌≤◌, true, nat_eq, List, [], ◌∷◌, ◌++◌, length, replicate, take, drop, Option, Some, None, refl, ap, sym, ◌∙◌, arith, length-drop}
 use Rattle.std.proofs.lemmas.Bool.{eqb-true, and_parts}
 use Rattle.std.proofs.lemmas.List.{take-append-drop, drop-drop}
-use Rattle.std.proofs.lemmas.Nat.{le_bytes_4}
+use Rattle.std.proofs.lemmas.Nat.{le_bytes_4, le_bytes_8}
 use Rattle.std.proofs.lemmas.Slice.Eq.{bytes_eq-Decides}
-use Rattle.std.specs.List.{starts_with}
-use Rattle.std.specs.Prelude.{◌==◌}
-use Rattle.byteorder.specs.Endian.{little_number}
+use Rattle.std.specs.Str.{bytes_eq}
+use Rattle.byteorder.specs.Endian.{little_bytes, little_number}
+use Rattle.image_store.specs.declared.version.Version.{Version}
+use Rattle.image_store.specs.declared.version.Version.TheVariants.{One, Two}
 use Rattle.image_store.specs.Blocks.{AreBytes}
-use Rattle.image_store.specs.Reading.{are_zeros, number_at, shape_told}
-use Rattle.image_store.specs.Text.{word, magic, header}
-use Rattle.image_store.proofs.ByteParts.{bytes_from}
-
-four_fit : (a b c d : ℕ) → a < 256 → b < 256 → c < 256 → d < 256 → AreBytes (a ∷ b ∷ c ∷ d ∷ [])
-four_fit a b c d ha hb hc hd zero = ha
-four_fit a b c d ha hb hc hd (suc zero) = hb
-four_fit a b c d ha hb hc hd (suc (suc zero)) = hc
-four_fit a b c d ha hb hc hd (suc (suc (suc zero))) = hd
-four_fit a b c d ha hb hc hd (suc (suc (suc (suc i)))) = omega arith
+use Rattle.image_store.specs.Reading.{are_zeros, number_at, shape_told, total_told}
+use Rattle.image_store.specs.Text.{word, header_end, header}
+use Rattle.image_store.specs.Version.{numbers}
+use Rattle.image_store.proofs.ByteParts.{bytes_from, front_fit}
+use Rattle.image_store.proofs.HeaderParts.{begins}
 
 -- four bytes spell the number that they tell
 pub word_spelled : (xs : List ℕ) → 4 ≤ length xs → AreBytes xs → word (little_number 4 xs) ++ drop 4 xs ≡ xs
@@ -27,7 +23,7 @@ word_spelled (a ∷ b ∷ []) h fit = absurd (omega arith)
 word_spelled (a ∷ b ∷ c ∷ []) h fit = absurd (omega arith)
 word_spelled (a ∷ b ∷ c ∷ d ∷ xs) h fit =
     let number : little_number 4 (a ∷ b ∷ c ∷ d ∷ xs) ≡ a + 256 * (b + 256 * (c + 256 * (d + 256 * 0))) = refl in
-    ap (λ (front : List ℕ). front ++ xs) (le_bytes_4 (a ∷ b ∷ c ∷ d ∷ []) (little_number 4 (a ∷ b ∷ c ∷ d ∷ xs)) refl (four_fit a b c d (fit 0) (fit 1) (fit 2) (fit 3)) (omega arith))
+    ap (λ (front : List ℕ). front ++ xs) (le_bytes_4 (a ∷ b ∷ c ∷ d ∷ []) (little_number 4 (a ∷ b ∷ c ∷ d ∷ xs)) refl (front_fit (a ∷ b ∷ c ∷ d ∷ []) xs fit) (omega arith))
 
 -- the number at a place, and what follows
 pub number_spelled : (xs : List ℕ) (at : ℕ) → at + 4 ≤ length xs → AreBytes xs → word (number_at xs at) ++ drop (at + 4) xs ≡ drop at xs
@@ -41,24 +37,62 @@ zeros_spelled (x ∷ xs) h =
     let parts = and_parts (nat_eq x 0) (are_zeros xs) h in
     ap (λ (first : ℕ). first ∷ replicate (length xs) 0) (sym (eqb-true x 0 parts.0)) ∙ ap (λ (rest : List ℕ). x ∷ rest) (zeros_spelled xs parts.1)
 
-magic_spelled : (xs : List ℕ) → starts_with (λ a b. a == b) xs magic ≡ true → magic ++ drop 8 xs ≡ xs
-magic_spelled xs h = ap (λ (front : List ℕ). front ++ drop 8 xs) ((bytes_eq-Decides magic (take 8 xs)).0 h) ∙ take-append-drop 8 xs
+-- eight bytes spell the number that they tell
+long_spelled : (xs : List ℕ) → 8 ≤ length xs → AreBytes xs → little_bytes 8 (little_number 8 xs) ++ drop 8 xs ≡ xs
+long_spelled [] h fit = absurd (omega arith)
+long_spelled (a ∷ []) h fit = absurd (omega arith)
+long_spelled (a ∷ b ∷ []) h fit = absurd (omega arith)
+long_spelled (a ∷ b ∷ c ∷ []) h fit = absurd (omega arith)
+long_spelled (a ∷ b ∷ c ∷ d ∷ []) h fit = absurd (omega arith)
+long_spelled (a ∷ b ∷ c ∷ d ∷ e ∷ []) h fit = absurd (omega arith)
+long_spelled (a ∷ b ∷ c ∷ d ∷ e ∷ f ∷ []) h fit = absurd (omega arith)
+long_spelled (a ∷ b ∷ c ∷ d ∷ e ∷ f ∷ g ∷ []) h fit = absurd (omega arith)
+long_spelled (a ∷ b ∷ c ∷ d ∷ e ∷ f ∷ g ∷ i ∷ xs) h fit =
+    let front = a ∷ b ∷ c ∷ d ∷ e ∷ f ∷ g ∷ i ∷ [] in
+    let number : little_number 8 (front ++ xs) ≡ a + 256 * (b + 256 * (c + 256 * (d + 256 * (e + 256 * (f + 256 * (g + 256 * (i + 256 * 0))))))) = refl in
+    ap (λ (bytes : List ℕ). bytes ++ xs) (le_bytes_8 front (little_number 8 (front ++ xs)) refl (front_fit front xs fit) (omega arith))
+
+zeros_behind : (n k : ℕ) (xs : List ℕ) → length xs ≡ k + n → are_zeros (drop k xs) ≡ true → replicate n 0 ≡ drop k xs
+zeros_behind n k xs size zeros =
+    let left : n ≡ length (drop k xs) = omega (arith, length-drop k xs) in
+    ap (λ (m : ℕ). replicate m 0) left ∙ zeros_spelled (drop k xs) zeros
+
+magic_by : (magic xs : List ℕ) → bytes_eq magic (take 8 xs) ≡ true → magic ++ drop 8 xs ≡ xs
+magic_by magic xs h = ap (λ (front : List ℕ). front ++ drop 8 xs) ((bytes_eq-Decides magic (take 8 xs)).0 h) ∙ take-append-drop 8 xs
+
+magic_spelled : (version : Version) (xs : List ℕ) → begins xs version ≡ true → (numbers version).magic ++ drop 8 xs ≡ xs
+magic_spelled One xs h = magic_by (numbers One).magic xs h
+magic_spelled Two xs h = magic_by (numbers Two).magic xs h
+
+-- the number that is told, if one is
+abbrev pub total_or_none : Option ℕ → ℕ
+total_or_none None = 0
+total_or_none (Some n) = n
+
+end_spelled : (version : Version) (xs : List ℕ) → length xs ≡ 64 → AreBytes xs → are_zeros (drop (numbers version).zeros_from xs) ≡ true
+    → header_end version (total_or_none (total_told version xs)) ≡ drop 32 xs
+end_spelled One xs size fit zeros = zeros_behind 32 32 xs size zeros
+end_spelled Two xs size fit zeros =
+    let number = little_bytes 8 (little_number 8 (drop 32 xs)) in
+    ap (λ (rest : List ℕ). number ++ rest) (zeros_behind 24 40 xs size zeros ∙ sym (drop-drop 8 32 xs))
+    ∙ long_spelled (drop 32 xs) (omega (arith, length-drop 32 xs)) (bytes_from 32 xs fit)
 
 -- 64 bytes that pass the tests are the header of the shape that they tell
-pub header_spelled : (xs : List ℕ) → length xs ≡ 64 → AreBytes xs → starts_with (λ a b. a == b) xs magic ≡ true → are_zeros (drop 32 xs) ≡ true → header (shape_told xs) ≡ xs
-header_spelled xs size fit begins zeros =
+pub header_spelled : (version : Version) (xs : List ℕ) → length xs ≡ 64 → AreBytes xs → begins xs version ≡ true → are_zeros (drop (numbers version).zeros_from xs) ≡ true
+    → header version (shape_told xs) (total_or_none (total_told version xs)) ≡ xs
+header_spelled version xs size fit magic zeros =
+    let front = (numbers version).magic in
     let n1 = number_at xs 8 in
     let n2 = number_at xs 12 in
     let n3 = number_at xs 16 in
     let n4 = number_at xs 20 in
     let n5 = number_at xs 24 in
     let n6 = number_at xs 28 in
-    let last : replicate 32 0 ≡ drop 32 xs = ap (λ (n : ℕ). replicate n 0) (sym (length-drop 32 xs ∙ ap (λ (n : ℕ). n - 32) size)) ∙ zeros_spelled (drop 32 xs) zeros in
-    ap (λ (rest : List ℕ). magic ++ (word n1 ++ (word n2 ++ (word n3 ++ (word n4 ++ (word n5 ++ (word n6 ++ rest))))))) last
-    ∙ (ap (λ (rest : List ℕ). magic ++ (word n1 ++ (word n2 ++ (word n3 ++ (word n4 ++ (word n5 ++ rest)))))) (number_spelled xs 28 (omega arith) fit)
-    ∙ (ap (λ (rest : List ℕ). magic ++ (word n1 ++ (word n2 ++ (word n3 ++ (word n4 ++ rest))))) (number_spelled xs 24 (omega arith) fit)
-    ∙ (ap (λ (rest : List ℕ). magic ++ (word n1 ++ (word n2 ++ (word n3 ++ rest)))) (number_spelled xs 20 (omega arith) fit)
-    ∙ (ap (λ (rest : List ℕ). magic ++ (word n1 ++ (word n2 ++ rest))) (number_spelled xs 16 (omega arith) fit)
-    ∙ (ap (λ (rest : List ℕ). magic ++ (word n1 ++ rest)) (number_spelled xs 12 (omega arith) fit)
-    ∙ (ap (λ (rest : List ℕ). magic ++ rest) (number_spelled xs 8 (omega arith) fit)
-    ∙ magic_spelled xs begins))))))
+    ap (λ (rest : List ℕ). front ++ (word n1 ++ (word n2 ++ (word n3 ++ (word n4 ++ (word n5 ++ (word n6 ++ rest))))))) (end_spelled version xs size fit zeros)
+    ∙ (ap (λ (rest : List ℕ). front ++ (word n1 ++ (word n2 ++ (word n3 ++ (word n4 ++ (word n5 ++ rest)))))) (number_spelled xs 28 (omega arith) fit)
+    ∙ (ap (λ (rest : List ℕ). front ++ (word n1 ++ (word n2 ++ (word n3 ++ (word n4 ++ rest))))) (number_spelled xs 24 (omega arith) fit)
+    ∙ (ap (λ (rest : List ℕ). front ++ (word n1 ++ (word n2 ++ (word n3 ++ rest)))) (number_spelled xs 20 (omega arith) fit)
+    ∙ (ap (λ (rest : List ℕ). front ++ (word n1 ++ (word n2 ++ rest))) (number_spelled xs 16 (omega arith) fit)
+    ∙ (ap (λ (rest : List ℕ). front ++ (word n1 ++ rest)) (number_spelled xs 12 (omega arith) fit)
+    ∙ (ap (λ (rest : List ℕ). front ++ rest) (number_spelled xs 8 (omega arith) fit)
+    ∙ magic_spelled version xs magic))))))

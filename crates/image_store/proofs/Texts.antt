@@ -2,25 +2,26 @@
 use Rattle.std.proofs.Common.{◌≡◌, ℕ, ◌+◌, ◌*◌, ◌<◌, List, ◌++◌, length, get_or, take, drop, refl, ap, sym, ◌∙◌, arith}
 use Rattle.std.proofs.lemmas.List.{take_all, at_drop_more, get_or_default}
 use Rattle.zone_state.specs.Zone.{ZoneRecord}
+use Rattle.image_store.specs.declared.version.Version.TheVariants.{Two}
 use Rattle.image_store.specs.Blocks.{bytes_of}
 use Rattle.image_store.specs.Flat.{namespace_of, zones_of, no_record, IsFlat}
 use Rattle.image_store.specs.Geometry.{Shape}
 use Rattle.image_store.specs.Namespace.{ZoneBlocks, no_zone, zone_at, shape}
-use Rattle.image_store.specs.Text.{header, records_text, blocks_text, text}
+use Rattle.image_store.specs.Text.{header, written_blocks, records_text, blocks_text, text}
 use Rattle.image_store.proofs.Pieces.{length-blocks}
 use Rattle.image_store.proofs.Zones.{length-zones, zone-at}
 use Rattle.image_store.proofs.Images.{counted_zones, shape_seen}
 
 -- the text of the namespace, by the fields
 abbrev pub fields_text : Shape → List ZoneRecord → List ℕ → List ℕ
-fields_text s zs xs = header s ++ (records_text zs ++ blocks_text (zones_of s.block s.capacity zs xs))
+fields_text s zs xs = header Two s (written_blocks zs) ++ (records_text zs ++ blocks_text (zones_of s.block s.capacity zs xs))
 
 pub text_seen : (s : Shape) (zs : List ZoneRecord) (xs : List ℕ) → IsFlat s zs xs → fields_text s zs xs ≡ text (namespace_of s zs xs)
 text_seen s zs xs flat =
     let blocks = blocks_text (zones_of s.block s.capacity zs xs) in
     let records = sym (counted_zones s.block s.capacity zs xs flat.capacities) in
-    ap (λ (known : Shape). header known ++ (records_text zs ++ blocks)) (shape_seen s zs xs (namespace_of s zs xs) refl flat)
-    ∙ ap (λ (all : List ZoneRecord). header (shape (namespace_of s zs xs)) ++ (records_text all ++ blocks)) records
+    ap (λ (known : Shape). header Two known (written_blocks zs) ++ (records_text zs ++ blocks)) (shape_seen s zs xs (namespace_of s zs xs) refl flat)
+    ∙ ap (λ (all : List ZoneRecord). header Two (shape (namespace_of s zs xs)) (written_blocks all) ++ (records_text all ++ blocks)) records
 
 -- the blocks of one zone, as a call gave them, and those of the zones behind it
 pub blocks_step : (s : Shape) (zs : List ZoneRecord) (xs : List ℕ) (i w : ℕ) (z : ZoneRecord) (piece : List ℕ) → i < length zs → z ≡ get_or zs i z → w ≡ z.written

@@ -2,7 +2,9 @@
 use Rattle.std.specs.Prelude.{ℕ, Bool, ◌≤◌, ◌*◌, ◌/◌, ◌%◌, ◌&&◌, nat_le, nat_lt, List, [], ◌∷◌, Option, Some, None, Result, if◌then◌else◌}
 use Rattle.program_interface.specs.BlockSize.{is_block_size, IsBlockSize}
 use Rattle.zone_resources.specs.declared.admission.Limits.{Limits}
+use Rattle.program_interface.specs.declared.block_size.TheConstants.{LARGEST_BLOCK}
 use Rattle.image_store.specs.declared.geometry.Place.{Place}
+use Rattle.image_store.specs.declared.geometry.TheConstants.{MOST_BYTES, MOST_ZONES, MOST_ZONE_BLOCKS}
 use Rattle.image_store.specs.declared.geometry.GeometryFault.{GeometryFault}
 use Rattle.image_store.specs.declared.geometry.GeometryFault.TheVariants.{BlockSize, ZoneCount, ZoneSize, ZoneCapacity, ResourceLimits, TooLarge}
 use Rattle.image_store.specs.Checks.{demand, first_fault, unless_fault}
@@ -37,11 +39,11 @@ number_of TooLarge = 6
 abbrev pub shape_checks : Shape → List (Option GeometryFault)
 shape_checks s =
     demand (is_block_size s.block) BlockSize
-    ∷ demand (is_counted s.zones 1024) ZoneCount
-    ∷ demand (is_counted s.size 16777216) ZoneSize
+    ∷ demand (is_counted s.zones MOST_ZONES) ZoneCount
+    ∷ demand (is_counted s.size MOST_ZONE_BLOCKS) ZoneSize
     ∷ demand (is_counted s.capacity s.size) ZoneCapacity
     ∷ demand (are_limits s.limits s.zones) ResourceLimits
-    ∷ demand (nat_le (s.zones * s.capacity * s.block) 268435456) TooLarge
+    ∷ demand (nat_le (s.zones * s.capacity * s.block) MOST_BYTES) TooLarge
     ∷ []
 
 abbrev pub shape_of : ℕ → ℕ → ℕ → ℕ → Limits → Shape
@@ -55,18 +57,18 @@ tested s = unless_fault (first_fault (shape_checks s)) s
 pub record IsShape (s : Shape) : Type 0 where
   pub block_size : IsBlockSize s.block
   pub block_some : 512 ≤ s.block
-  pub block_most : s.block ≤ 4096
+  pub block_most : s.block ≤ LARGEST_BLOCK
   pub zones_some : 1 ≤ s.zones
-  pub zones_most : s.zones ≤ 1024
+  pub zones_most : s.zones ≤ MOST_ZONES
   pub size_some : 1 ≤ s.size
-  pub size_most : s.size ≤ 16777216
+  pub size_most : s.size ≤ MOST_ZONE_BLOCKS
   pub capacity_some : 1 ≤ s.capacity
   pub capacity_most : s.capacity ≤ s.size
   pub open_some : 1 ≤ s.limits.open_limit
   pub open_most : s.limits.open_limit ≤ s.limits.active_limit
   pub active_most : s.limits.active_limit ≤ s.zones
-  pub slot : s.capacity * s.block ≤ 268435456
-  pub room : s.zones * (s.capacity * s.block) ≤ 268435456
+  pub slot : s.capacity * s.block ≤ MOST_BYTES
+  pub room : s.zones * (s.capacity * s.block) ≤ MOST_BYTES
 
 -- the zone that contains a logical block, and the block's place from the zone's lowest one on
 abbrev pub place_of : Shape → ℕ → Option Place

@@ -1,34 +1,67 @@
--- What the text of a namespace is for.
-use Rattle.std.specs.Prelude.{ℕ, ◌≡◌, ◌≢◌, ◌<◌, true, List, [], ◌++◌, length, take, Ok, Err}
+-- What the texts of a namespace are for.
+use Rattle.std.specs.Prelude.{ℕ, ◌≡◌, ◌≢◌, ◌<◌, ◌≤◌, true, List, [], ◌++◌, length, take, Result, Ok, Err}
 use Rattle.program_interface.specs.BlockSize.{IsBlockSize}
+use Rattle.image_store.specs.declared.fault.LoadFault.{LoadFault}
 use Rattle.image_store.specs.declared.fault.LoadFault.TheVariants as fault
+use Rattle.image_store.specs.declared.geometry.TheConstants.{MOST_ZONES}
+use Rattle.image_store.specs.declared.version.Version.{Version}
+use Rattle.image_store.specs.declared.version.Version.TheVariants.{Two}
 use Rattle.image_store.specs.Blocks.{AreBytes}
-use Rattle.image_store.specs.Namespace.{ZonedNamespace, IsNamespace}
-use Rattle.image_store.specs.Reading.{namespace_in}
-use Rattle.image_store.specs.Text.{text, is_version_1_block}
+use Rattle.image_store.specs.Geometry.{Shape, IsShape}
+use Rattle.image_store.specs.Namespace.{ZonedNamespace, shape, IsNamespace}
+use Rattle.image_store.specs.Reading.{◌>>=◌, namespace_in}
+use Rattle.image_store.specs.Text.{text, text_of}
+use Rattle.image_store.specs.Version.{Has, has_block, numbers}
 
 -- what is saved loads again as the same namespace
 abbrev pub SavedTextsLoad : Type 0
 SavedTextsLoad = (ns : ZonedNamespace) → IsNamespace ns → namespace_in (text ns) ≡ Ok ns
 
+-- and so does its text of each version that has its shape
+abbrev pub EachVersionLoads : Type 0
+EachVersionLoads =
+    (version : Version) (ns : ZonedNamespace) → IsNamespace ns → Has version (shape ns) → namespace_in (text_of version ns) ≡ Ok ns
+
 -- what loads is a namespace that an image can have
 abbrev pub LoadedIsNamespace : Type 0
 LoadedIsNamespace = (bytes : List ℕ) (ns : ZonedNamespace) → AreBytes bytes → namespace_in bytes ≡ Ok ns → IsNamespace ns
 
--- no other text loads: what does is the text of the namespace that it stands for
+-- no other text loads: what does is the text, of a version, of the namespace that it stands for
 abbrev pub OnlyTextsLoad : Type 0
-OnlyTextsLoad = (bytes : List ℕ) (ns : ZonedNamespace) → AreBytes bytes → namespace_in bytes ≡ Ok ns → bytes ≡ text ns
+OnlyTextsLoad =
+    (bytes : List ℕ) (ns : ZonedNamespace) → AreBytes bytes → namespace_in bytes ≡ Ok ns
+    → (version : Version) × Has version (shape ns) × (bytes ≡ text_of version ns)
+
+-- what is saved of an image that was loaded stands for the same namespace as what was loaded
+abbrev pub UpgradedStandsForTheSame : Type 0
+UpgradedStandsForTheSame =
+    (bytes : List ℕ) (ns : ZonedNamespace) → AreBytes bytes → namespace_in bytes ≡ Ok ns → namespace_in (text ns) ≡ Ok ns
+
+-- a text loaded and saved again
+abbrev pub upgraded : List ℕ → Result (List ℕ) LoadFault
+upgraded bytes = namespace_in bytes >>= λ ns. Ok (text ns)
+
+-- to do that twice is to do it once
+abbrev pub UpgradingTwiceIsOnce : Type 0
+UpgradingTwiceIsOnce = (bytes new : List ℕ) → AreBytes bytes → upgraded bytes ≡ Ok new → upgraded new ≡ Ok new
 
 -- a text that was cut, wherever, is refused as cut short
 abbrev pub CutTextsAreTruncated : Type 0
 CutTextsAreTruncated =
-    (ns : ZonedNamespace) → IsNamespace ns → (n : ℕ) → n < length (text ns) → namespace_in (take n (text ns)) ≡ Err fault.Truncated
+    (version : Version) (ns : ZonedNamespace) → IsNamespace ns → Has version (shape ns)
+    → (n : ℕ) → n < length (text_of version ns) → namespace_in (take n (text_of version ns)) ≡ Err fault.Truncated
 
 -- and one with more behind it, whatever that is, as trailing
 abbrev pub LongerTextsAreTrailing : Type 0
 LongerTextsAreTrailing =
-    (ns : ZonedNamespace) → IsNamespace ns → (more : List ℕ) → more ≢ [] → namespace_in (text ns ++ more) ≡ Err fault.Trailing
+    (version : Version) (ns : ZonedNamespace) → IsNamespace ns → Has version (shape ns)
+    → (more : List ℕ) → more ≢ [] → namespace_in (text_of version ns ++ more) ≡ Err fault.Trailing
 
--- each block size of version 1 is one of the device's
-abbrev pub Version1BlocksAreKnown : Type 0
-Version1BlocksAreKnown = (bytes : ℕ) → is_version_1_block bytes ≡ true → IsBlockSize bytes
+-- the device has each block size, and as many zones, as a version has
+abbrev pub VersionsAreKnown : Type 0
+VersionsAreKnown =
+    (version : Version) → ((bytes : ℕ) → has_block version bytes ≡ true → IsBlockSize bytes) × ((numbers version).most_zones ≤ MOST_ZONES)
+
+-- and the last version has all that the device has
+abbrev pub LastVersionHasAll : Type 0
+LastVersionHasAll = (s : Shape) → IsShape s → Has Two s

@@ -10,3 +10,4 @@ pub mod Namespace
 pub mod Reading
 pub mod Refusal
 pub mod Text
+pub mod Version

@@ -2,7 +2,7 @@
 use Rattle.std.specs.Prelude.{ℕ, ◌≡◌, ◌<◌, ◌*◌, List, length, Result, Ok, Err}
 use Rattle.zone_state.specs.Zone.{ZoneRecord}
 use Rattle.image_store.specs.declared.fault.LoadFault.{LoadFault}
-use Rattle.image_store.specs.declared.fault.LoadFault.TheVariants.{Truncated, Magic, Geometry, ZoneRecord as BadRecord, Limits, Trailing, Device, Memory}
+use Rattle.image_store.specs.declared.fault.LoadFault.TheVariants.{Truncated, Magic, Geometry, ZoneRecord as BadRecord, Total, Limits, Trailing, Device, Memory}
 use Rattle.image_store.specs.Flat.{IsFlat, spliced}
 use Rattle.image_store.specs.Geometry.{Shape}
 use Rattle.image_store.specs.Reading.{◌>>=◌, bytes_in}
@@ -16,6 +16,7 @@ Fails wanted Truncated reading = reading ≡ Err Truncated
 Fails wanted Magic reading = reading ≡ Err Magic
 Fails wanted (Geometry first) reading = reading ≡ Err (Geometry first)
 Fails wanted (BadRecord zone first) reading = reading ≡ Err (BadRecord zone first)
+Fails wanted (Total told counted) reading = reading ≡ Err (Total told counted)
 Fails wanted Limits reading = reading ≡ Err Limits
 Fails wanted Trailing reading = reading ≡ Err Trailing
 

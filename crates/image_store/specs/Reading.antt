@@ -1,8 +1,8 @@
--- Reading the text of an image, version 1 (profile): the namespace that it stands for, or its first
--- fault from the left.
+-- Reading the text of an image, of either version (profile): the namespace that it stands for, or its
+-- first fault from the left.
 use Rattle.std.specs.Prelude.{ℕ, zero, suc, Bool, ◌+◌, ◌*◌, ◌==◌, ◌&&◌, nat_le, nat_lt, List, [], ◌∷◌, length, get_or, take, drop, Option, Some, None, Result, Ok, Err, if◌then◌else◌}
-use Rattle.std.specs.List.{list_all, starts_with}
-use Rattle.std.specs.Option.{option_map}
+use Rattle.std.specs.List.{find, list_all, starts_with}
+use Rattle.std.specs.Option.{ok_or, option_map}
 use Rattle.byteorder.specs.Endian.{little_number}
 use Rattle.zone_state.specs.declared.state.ZoneState.{ZoneState}
 use Rattle.zone_state.specs.declared.state.ZoneState.TheVariants.{Empty, ImplicitlyOpened, ExplicitlyOpened, Closed, ReadOnly, Full, Offline}
@@ -17,11 +17,14 @@ use Rattle.image_store.specs.Checks.{demand, first_fault, unless_fault}
 use Rattle.image_store.specs.Flat.{zone_seen}
 use Rattle.image_store.specs.declared.fault.HeaderFault.TheVariants as header_fault
 use Rattle.image_store.specs.declared.geometry.GeometryFault.{GeometryFault}
-use Rattle.image_store.specs.declared.geometry.GeometryFault.TheVariants.{BlockSize}
+use Rattle.image_store.specs.declared.header.Header.{Header}
+use Rattle.image_store.specs.declared.version.Version.{Version}
+use Rattle.image_store.specs.declared.version.Version.TheVariants.{One, Two}
 use Rattle.image_store.specs.Geometry.{Shape, shape_of, shape_checks}
 use Rattle.image_store.specs.Refusal.{refusal_of}
 use Rattle.image_store.specs.Namespace.{ZoneBlocks, ZonedNamespace}
-use Rattle.image_store.specs.Text.{magic, is_version_1_block}
+use Rattle.image_store.specs.Text.{written_blocks}
+use Rattle.image_store.specs.Version.{numbers, has_block}
 
 infixl 10 ◌>>=◌
 abbrev pub ◌>>=◌ : {X Y : Type 0} → Result X LoadFault → (X → Result Y LoadFault) → Result Y LoadFault
@@ -56,20 +59,45 @@ numbers_check s = option_map (numbers_fault s) (first_fault (shape_checks s))
 abbrev pub numbers_in : Shape → Result Shape LoadFault
 numbers_in s = unless_fault (numbers_check s) s
 
-abbrev pub header_checks : List ℕ → List (Option LoadFault)
-header_checks bytes =
-    demand (starts_with (λ a b. a == b) bytes magic) fault.Magic
-    ∷ demand (is_version_1_block (number_at bytes 8)) (numbers_fault (shape_told bytes) BlockSize)
-    ∷ numbers_check (shape_told bytes)
-    ∷ demand (are_zeros (drop 32 bytes)) (fault.Geometry header_fault.Reserved)
+-- the version whose magic the bytes begin with
+abbrev pub version_in : List ℕ → Option Version
+version_in bytes = find (λ version. starts_with (λ a b. a == b) bytes (numbers version).magic) (One ∷ Two ∷ [])
+
+-- the shapes that there are, but in no text of the version
+abbrev pub version_checks : Version → Shape → List (Option LoadFault)
+version_checks version s =
+    demand (has_block version s.block) (fault.Geometry (header_fault.VersionBlock version s.block))
+    ∷ demand (nat_le s.zones (numbers version).most_zones) (fault.Geometry (header_fault.VersionZones version s.zones))
     ∷ []
 
--- the shape that 64 bytes tell
-abbrev pub shape_in : List ℕ → Result Shape LoadFault
-shape_in bytes = unless_fault (first_fault (header_checks bytes)) (shape_told bytes)
+abbrev pub version_kept : Version → Shape → Result (Unit {0}) LoadFault
+version_kept version s = unless_fault (first_fault (version_checks version s)) tt
 
-abbrev pub header_in : List ℕ → Result (Shape × List ℕ) LoadFault
-header_in bytes = bytes_in 64 bytes >>= λ front. shape_in front.0 >>= λ s. Ok (s, front.1)
+-- the bytes behind what a header tells are zero
+abbrev pub zeros_kept : Version → List ℕ → Result (Unit {0}) LoadFault
+zeros_kept version bytes =
+    if are_zeros (drop (numbers version).zeros_from bytes)
+    then Ok tt
+    else Err (fault.Geometry (header_fault.Reserved version))
+
+-- how many blocks are written in all, if the version tells it
+abbrev pub total_told : Version → List ℕ → Option ℕ
+total_told One bytes = None
+total_told Two bytes = Some (little_number 8 (drop 32 bytes))
+
+-- what 64 bytes of a version tell
+abbrev pub header_of : List ℕ → Version → Result Header LoadFault
+header_of bytes version =
+    numbers_in (shape_told bytes)
+    >>= λ s. version_kept version s
+    >>= λ kept. zeros_kept version bytes
+    >>= λ zeros. Ok (record { geometry = s; total = total_told version bytes })
+
+abbrev pub header_told : List ℕ → Result Header LoadFault
+header_told bytes = ok_or (version_in bytes) fault.Magic >>= header_of bytes
+
+abbrev pub header_in : List ℕ → Result (Header × List ℕ) LoadFault
+header_in bytes = bytes_in 64 bytes >>= λ front. header_told front.0 >>= λ header. Ok (header, front.1)
 
 -- may so many blocks be written in a zone of the state? (ZNS 1.1, Zone State Machine; that an
 -- implicitly opened zone has some and an offline one none: profile)
@@ -112,6 +140,11 @@ abbrev pub records_in : Shape → List ℕ → Result (List ZoneRecord × List �
 records_in s bytes =
     bytes_in (s.zones * 8) bytes >>= λ front. zones_in 0 s.capacity s.zones front.0 >>= λ zs. Ok (zs, front.1)
 
+-- the records have as many written blocks as the header tells, if it tells that
+abbrev pub total_kept : Option ℕ → List ZoneRecord → Result (Unit {0}) LoadFault
+total_kept None zs = Ok tt
+total_kept (Some total) zs = if total == written_blocks zs then Ok tt else Err (fault.Total total (written_blocks zs))
+
 -- no more zones are open or active than may be
 abbrev pub limits_kept : Limits → List ZoneRecord → Result Unit LoadFault
 limits_kept limits zs =
@@ -137,8 +170,9 @@ namespace_with s zones = record { block = s.block; size = s.size; capacity = s.c
 unfoldable pub namespace_in : List ℕ → Result ZonedNamespace LoadFault
 namespace_in bytes =
     header_in bytes
-    >>= λ header. records_in header.0 header.1
-    >>= λ records. limits_kept header.0.limits records.0
-    >>= λ kept. blocks_in header.0.block records.0 records.1
+    >>= λ header. records_in header.0.geometry header.1
+    >>= λ records. total_kept header.0.total records.0
+    >>= λ same. limits_kept header.0.geometry.limits records.0
+    >>= λ kept. blocks_in header.0.geometry.block records.0 records.1
     >>= λ blocks. end_in blocks.1
-    >>= λ end. Ok (namespace_with header.0 blocks.0)
+    >>= λ end. Ok (namespace_with header.0.geometry blocks.0)

@@ -1,21 +1,15 @@
--- The text of an image, version 1 (profile).
-use Rattle.std.specs.Prelude.{ℕ, Bool, ◌==◌, List, [], ◌∷◌, ◌++◌, replicate, codes}
-use Rattle.std.specs.List.{flat_map, list_any}
+-- The texts of an image, one of each version (profile).
+use Rattle.std.specs.Prelude.{ℕ, List, [], ◌∷◌, ◌++◌, replicate}
+use Rattle.std.specs.List.{flat_map, sum_by}
 use Rattle.byteorder.specs.Endian.{little_bytes}
 use Rattle.zone_state.specs.State.{code_of}
 use Rattle.zone_state.specs.Zone.{ZoneRecord}
-use Rattle.image_store.specs.declared.header.TheConstants.{VERSION_1_BLOCK_SIZES}
+use Rattle.image_store.specs.declared.version.Version.{Version}
+use Rattle.image_store.specs.declared.version.Version.TheVariants.{One, Two}
 use Rattle.image_store.specs.Blocks.{bytes_of}
 use Rattle.image_store.specs.Geometry.{Shape}
 use Rattle.image_store.specs.Namespace.{ZoneBlocks, ZonedNamespace, records, shape}
-
--- the first eight bytes of each image
-abbrev pub magic : List ℕ
-magic = codes "ZNSIMG01"
-
--- can an image of version 1 have blocks of this many bytes? (profile)
-abbrev pub is_version_1_block : ℕ → Bool
-is_version_1_block bytes = list_any (λ size. size == bytes) VERSION_1_BLOCK_SIZES
+use Rattle.image_store.specs.Version.{numbers}
 
 -- 32 bits, the lowest byte first
 abbrev pub word : ℕ → List ℕ
@@ -25,9 +19,18 @@ word n = little_bytes 4 n
 abbrev pub numbers_of : Shape → List ℕ
 numbers_of s = s.block ∷ s.zones ∷ s.size ∷ s.capacity ∷ s.limits.open_limit ∷ s.limits.active_limit ∷ []
 
--- 64 bytes: the magic, the numbers, and zeros
-abbrev pub header : Shape → List ℕ
-header s = magic ++ (flat_map word (numbers_of s) ++ replicate 32 0)
+-- the last 32 bytes of a header: zeros, in version 2 behind the number of all written blocks, in 64 bits
+abbrev pub header_end : Version → ℕ → List ℕ
+header_end One total = replicate 32 0
+header_end Two total = little_bytes 8 total ++ replicate 24 0
+
+-- 64 bytes: the magic, the numbers, and the end
+abbrev pub header : Version → Shape → ℕ → List ℕ
+header version s total = (numbers version).magic ++ (flat_map word (numbers_of s) ++ header_end version total)
+
+-- how many blocks of zones are written
+abbrev pub written_blocks : List ZoneRecord → ℕ
+written_blocks zones = sum_by (λ zone. zone.written) zones
 
 -- 8 bytes: the state's code, zeros, and how many blocks are written
 abbrev pub record_text : ZoneRecord → List ℕ
@@ -42,5 +45,9 @@ abbrev pub blocks_text : List ZoneBlocks → List ℕ
 blocks_text zones = flat_map (λ zone. bytes_of zone.blocks) zones
 
 -- the header, the record of each zone, and the written blocks of each zone
+abbrev pub text_of : Version → ZonedNamespace → List ℕ
+text_of version ns = header version (shape ns) (written_blocks (records ns)) ++ (records_text (records ns) ++ blocks_text ns.zones)
+
+-- what is saved
 abbrev pub text : ZonedNamespace → List ℕ
-text ns = header (shape ns) ++ (records_text (records ns) ++ blocks_text ns.zones)
+text ns = text_of Two ns

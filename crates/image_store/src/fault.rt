@@ -7,6 +7,7 @@ ghost use Rattle.image_store.specs.declared.fault.SaveFault.TheVariants as save_
 
 use crate::device::DeviceFault;
 use crate::refusal::GeometryRefusal;
+use crate::version::Version;
 use std::alloc::{AllocError, AllocFailed};
 use thiserror::Error;
 use zone_state::ZoneState;
@@ -17,8 +18,15 @@ pub enum HeaderFault {
     /// Those of its numbers that are none of a geometry.
     #[error("{0}")]
     Numbers(GeometryRefusal),
-    #[error("bytes 32 to 63 are not zero")]
-    Reserved,
+    /// A size that blocks can have, but none of its version.
+    #[error("a block of {bytes} bytes: version {} has no such size", .version.number())]
+    VersionBlock { version: Version, bytes: u32 },
+    /// More zones than its version has.
+    #[error("{zones} zones: version {} has at most {}", .version.number(), .version.most_zones())]
+    VersionZones { version: Version, zones: u32 },
+    /// Bytes at its end that are zero in its version.
+    #[error("bytes {} to 63 are not zero", .0.zeros_from())]
+    Reserved(Version),
 }
 
 /// Why the record of a zone tells none.
@@ -43,13 +51,16 @@ pub enum RecordFault {
 pub enum LoadFault {
     #[error("the image ends before its last block")]
     Truncated,
-    #[error("the first 8 bytes are not ZNSIMG01")]
+    #[error("the first 8 bytes are neither ZNSIMG01 nor ZNSIMG02")]
     Magic,
     #[error("header: {0}")]
     Geometry(HeaderFault),
     /// The lowest zone whose record tells none, and why.
     #[error("record of zone {zone}: {fault}")]
     ZoneRecord { zone: u32, fault: RecordFault },
+    /// The header tells another number of written blocks than the records have in all.
+    #[error("the header tells of {told} written blocks, the records of {counted}")]
+    Total { told: u64, counted: u64 },
     #[error("more zones are open or active than may be")]
     Limits,
     #[error("bytes follow the last block")]
@@ -68,7 +79,7 @@ pub enum SaveFault {
 }
 
 impl LoadFault {
-    /// The fault's number, from 10 to 17, by which a user is told of it (profile).
+    /// The fault's number, from 10 to 18, by which a user is told of it (profile).
     pub fn number(self) -> u8
         ensures { result ≡ load_number self }
     {
@@ -77,6 +88,7 @@ impl LoadFault {
             LoadFault::Magic => 11,
             LoadFault::Geometry(_) => 12,
             LoadFault::ZoneRecord { .. } => 13,
+            LoadFault::Total { .. } => 18,
             LoadFault::Limits => 14,
             LoadFault::Trailing => 15,
             LoadFault::Device => 16,

@@ -3,29 +3,35 @@
 ghost use Rattle.std.specs.Prelude.{◌≡◌, ◌≤◌, ◌<◌, ◌*◌, ◌^◌, ◌+◌, IfSome, OnSome};
 ghost use Rattle.image_store.specs.Geometry.{tested, shape_of, place_of, number_of, is_counted, are_limits, IsShape};
 
-use program_interface::BlockSize;
+use program_interface::{BlockSize, LARGEST_BLOCK};
 use std::marker::Model;
 use thiserror::Error;
 use zone_resources::Limits;
 
-/// The most bytes that the blocks of all zones may take.
+/// The most zones that a namespace can have (profile).
+pub const MOST_ZONES: u32 = 4096;
+
+/// The most blocks that a zone can have (profile).
+const MOST_ZONE_BLOCKS: u32 = 16_777_216;
+
+/// The most bytes that the blocks of all zones may take (profile).
 const MOST_BYTES: u64 = 268_435_456;
 
 /// Why numbers are no geometry. The variants stand in the order of the tests, and have the numbers
 /// that a user is told (profile).
 #[derive(Clone, Copy, Debug, PartialEq, Eq, Error)]
 pub enum GeometryFault {
-    #[error("the block size is none of 512, 1024, 2048 and 4096")]
+    #[error("the block size is no power of 2 from 512 to {most}", most = LARGEST_BLOCK)]
     BlockSize = 1,
-    #[error("the number of zones is not from 1 to 1024")]
+    #[error("the number of zones is not from 1 to {most}", most = MOST_ZONES)]
     ZoneCount = 2,
-    #[error("the zone size is not from 1 to 16777216 blocks")]
+    #[error("the zone size is not from 1 to {most} blocks", most = MOST_ZONE_BLOCKS)]
     ZoneSize = 3,
     #[error("the zone capacity is not from 1 to the zone size")]
     ZoneCapacity = 4,
     #[error("the limits are not 1 open zone or more, as many active ones, and no more than zones")]
     ResourceLimits = 5,
-    #[error("the zones' capacity is more than 268435456 bytes in all")]
+    #[error("the zones' capacity is more than {most} bytes in all", most = MOST_BYTES)]
     TooLarge = 6,
 }
 
@@ -88,10 +94,10 @@ impl Geometry {
         let Some(block) = BlockSize::new(block) else {
             return Err(GeometryFault::BlockSize);
         };
-        if !is_counted(zones, 1024) {
+        if !is_counted(zones, MOST_ZONES) {
             return Err(GeometryFault::ZoneCount);
         }
-        if !is_counted(size, 16_777_216) {
+        if !is_counted(size, MOST_ZONE_BLOCKS) {
             return Err(GeometryFault::ZoneSize);
         }
         if !is_counted(capacity, size) {
@@ -151,7 +157,7 @@ impl Geometry {
     /// The number of logical blocks of the namespace.
     pub fn blocks(self) -> u64
         ensures value { result ≡ self.zones * self.size }
-        ensures most { result ≤ 2 ^ 34 }
+        ensures most { result ≤ 2 ^ 36 }
     {
         u64::from(self.zones) * u64::from(self.size)
     }
@@ -161,7 +167,7 @@ impl Geometry {
         ensures value { result ≡ place_of self lba }
         ensures inside { IfSome result (λ place. place.zone < self.zones) }
         ensures lowest { IfSome result (λ place. place.zone * self.size + place.offset ≡ lba) }
-        ensures small { OnSome result (lba < 2 ^ 34) }
+        ensures small { OnSome result (lba < 2 ^ 36) }
     {
         if lba >= self.blocks() {
             return None;

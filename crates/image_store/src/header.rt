@@ -1,29 +1,32 @@
-//! The first part of an image: that it is one, and the shape of its namespace.
+//! The first part of an image: its version, the shape of its namespace, and how much is written.
 
 ghost use Rattle.std.specs.Prelude.{◌≡◌, ◌+◌, ◌≤◌, length};
-ghost use Rattle.image_store.specs.Geometry.{shape_of};
-ghost use Rattle.image_store.specs.Reading.{number_at, numbers_in, shape_in};
-ghost use Rattle.image_store.specs.Text.{header, is_version_1_block};
+ghost use Rattle.image_store.specs.Reading.{header_of, header_told, number_at, numbers_in, shape_told, total_told, version_kept, zeros_kept};
+ghost use Rattle.image_store.specs.Text.{header};
 
 use crate::bytes::are_zeros;
 use crate::fault::{HeaderFault, LoadFault};
 use crate::geometry::Geometry;
 use crate::refusal::GeometryRefusal;
+use crate::version::Version;
 use byteorder::{ByteOrder, LittleEndian};
 use zone_resources::Limits;
 
 /// Bytes of a header.
-pub const HEADER: usize = 64;
+pub const LENGTH: usize = 64;
 
-/// The first bytes of a header.
-const MAGIC: [u8; 8] = *b"ZNSIMG01";
+/// What a header tells.
+#[derive(Clone, Copy, Debug, PartialEq, Eq)]
+pub struct Header {
+    /// The shape of the namespace.
+    pub geometry: Geometry,
+    /// How many blocks of all zones are written, where the version tells it.
+    pub total: Option<u64>,
+}
 
-/// The block sizes that an image of version 1 can have, in bytes (profile).
-const VERSION_1_BLOCK_SIZES: [u32; 4] = [512, 1024, 2048, 4096];
-
-/// The header of an image of this geometry.
-pub fn encode(geometry: Geometry) -> [u8; HEADER]
-    ensures { result ≡ header geometry }
+/// The header of an image that is saved: of this geometry, with so many written blocks.
+pub fn encode(geometry: Geometry, total: u64) -> [u8; LENGTH]
+    ensures { result ≡ header Version.Two geometry total }
 {
     let limits = geometry.limits();
     let numbers = [
@@ -34,52 +37,51 @@ pub fn encode(geometry: Geometry) -> [u8; HEADER]
         limits.open_limit,
         limits.active_limit,
     ];
-    let mut bytes = [0; HEADER];
-    bytes[..8].copy_from_slice(&MAGIC);
+    let mut bytes = [0; LENGTH];
+    bytes[..8].copy_from_slice(&Version::Two.magic());
     LittleEndian::write_u32_into(&numbers, &mut bytes[8..32]);
+    LittleEndian::write_u64(&mut bytes[32..], total);
     bytes
 }
 
-/// The geometry that a header tells.
-pub fn decode(bytes: &[u8]) -> Result<Geometry, LoadFault>
+/// What a header of either version tells.
+pub fn decode(bytes: &[u8]) -> Result<Header, LoadFault>
     requires { length bytes.now ≡ 64 }
-    ensures { result ≡ shape_in bytes.now }
+    ensures { result ≡ header_told bytes.now }
 {
-    if !bytes.starts_with(&MAGIC) {
-        return Err(LoadFault::Magic);
+    match Version::of(bytes) {
+        Some(version) => decode_as(version, bytes),
+        None => Err(LoadFault::Magic),
     }
+}
+
+/// What a header of this version tells.
+fn decode_as(version: Version, bytes: &[u8]) -> Result<Header, LoadFault>
+    requires { length bytes.now ≡ 64 }
+    ensures { result ≡ header_of bytes.now version }
+{
+    let geometry = geometry_told(bytes)?;
+    check_version(version, geometry)?;
+    check_zeros(version, bytes)?;
+    Ok(Header {
+        geometry,
+        total: total(version, bytes),
+    })
+}
+
+/// The geometry of a header's numbers.
+fn geometry_told(bytes: &[u8]) -> Result<Geometry, LoadFault>
+    requires { length bytes.now ≡ 64 }
+    ensures { result ≡ numbers_in (shape_told bytes.now) }
+{
     let block = number(bytes, 8);
-    if !is_version_1_block(block) {
-        let refusal = GeometryRefusal::BlockSize(block as usize);
-        return Err(LoadFault::Geometry(HeaderFault::Numbers(refusal)));
-    }
+    let zones = number(bytes, 12);
+    let size = number(bytes, 16);
+    let capacity = number(bytes, 20);
     let limits = Limits {
         open_limit: number(bytes, 24),
         active_limit: number(bytes, 28),
     };
-    let geometry = geometry_of(
-        block,
-        number(bytes, 12),
-        number(bytes, 16),
-        number(bytes, 20),
-        limits,
-    )?;
-    if !are_zeros(&bytes[32..]) {
-        return Err(LoadFault::Geometry(HeaderFault::Reserved));
-    }
-    Ok(geometry)
-}
-
-/// The geometry of a header's numbers.
-fn geometry_of(
-    block: u32,
-    zones: u32,
-    size: u32,
-    capacity: u32,
-    limits: Limits,
-) -> Result<Geometry, LoadFault>
-    ensures { result ≡ numbers_in (shape_of block zones size capacity limits) }
-{
     match Geometry::new(block, zones, size, capacity, limits) {
         Ok(geometry) => Ok(geometry),
         Err(fault) => {
@@ -89,11 +91,44 @@ fn geometry_of(
     }
 }
 
-/// Can an image of version 1 have blocks of this many bytes?
-fn is_version_1_block(bytes: u32) -> bool
-    ensures { result ≡ is_version_1_block bytes }
+/// Refuses a geometry that no text of the version has.
+fn check_version(version: Version, geometry: Geometry) -> Result<(), LoadFault>
+    ensures { result ≡ version_kept version geometry }
 {
-    VERSION_1_BLOCK_SIZES.contains(&bytes)
+    let bytes = geometry.block().bytes();
+    if !version.has_block(bytes) {
+        let fault = HeaderFault::VersionBlock { version, bytes };
+        return Err(LoadFault::Geometry(fault));
+    }
+    let zones = geometry.zones();
+    if zones > version.most_zones() {
+        let fault = HeaderFault::VersionZones { version, zones };
+        return Err(LoadFault::Geometry(fault));
+    }
+    Ok(())
+}
+
+/// Refuses bytes other than zeros behind what the version tells.
+fn check_zeros(version: Version, bytes: &[u8]) -> Result<(), LoadFault>
+    requires { length bytes.now ≡ 64 }
+    ensures { result ≡ zeros_kept version bytes.now }
+{
+    if are_zeros(&bytes[version.zeros_from()..]) {
+        Ok(())
+    } else {
+        Err(LoadFault::Geometry(HeaderFault::Reserved(version)))
+    }
+}
+
+/// How many blocks are written, where the version tells it.
+fn total(version: Version, bytes: &[u8]) -> Option<u64>
+    requires { length bytes.now ≡ 64 }
+    ensures { result ≡ total_told version bytes.now }
+{
+    match version {
+        Version::One => None,
+        Version::Two => Some(LittleEndian::read_u64(&bytes[32..])),
+    }
 }
 
 /// The number that begins at a byte.

@@ -1,10 +1,11 @@
-//! Laws of the text of an image. Each function does nothing: what it ensures is the law.
+//! Laws of the texts of an image. Each function does nothing: what it ensures is the law.
 
-ghost use Rattle.image_store.specs.Laws.{CutTextsAreTruncated, LoadedIsNamespace, LongerTextsAreTrailing, OnlyTextsLoad, SavedTextsLoad, Version1BlocksAreKnown};
+ghost use Rattle.image_store.specs.Laws.{CutTextsAreTruncated, EachVersionLoads, LastVersionHasAll, LoadedIsNamespace, LongerTextsAreTrailing, OnlyTextsLoad, SavedTextsLoad, UpgradedStandsForTheSame, UpgradingTwiceIsOnce, VersionsAreKnown};
 
-/// What is saved loads again as the same namespace.
+/// What is saved loads again as the same namespace, and so does the text of each version that has its shape.
 pub fn saved_texts_load()
-    ensures { SavedTextsLoad }
+    ensures saved { SavedTextsLoad }
+    ensures each { EachVersionLoads }
 {}
 
 /// What loads is a namespace that an image can have: its zones' states, their blocks and the limits fit
@@ -13,9 +14,16 @@ pub fn loaded_texts_are_namespaces()
     ensures { LoadedIsNamespace }
 {}
 
-/// Nothing else loads: what does is the text of the namespace that it stands for.
+/// Nothing else loads: what does is the text, of a version, of the namespace that it stands for.
 pub fn only_texts_load()
     ensures { OnlyTextsLoad }
+{}
+
+/// A text of any version and what is saved of it stand for the same namespace, and to load and save that
+/// again changes nothing more.
+pub fn upgrading_keeps_the_namespace()
+    ensures same { UpgradedStandsForTheSame }
+    ensures once { UpgradingTwiceIsOnce }
 {}
 
 /// A text is refused as cut short where any of its end is missing, and as trailing where anything is behind it.
@@ -24,8 +32,9 @@ pub fn texts_have_one_length()
     ensures longer { LongerTextsAreTrailing }
 {}
 
-/// The device has each block size that an image of version 1 can have: however the device's sizes grow,
-/// no such image is refused for its own.
-pub fn version_1_blocks_are_known()
-    ensures { Version1BlocksAreKnown }
+/// The device has each block size and as many zones as an image of each version can have, and an image of the
+/// last version can have whatever the device has.
+pub fn versions_are_known()
+    ensures known { VersionsAreKnown }
+    ensures all { LastVersionHasAll }
 {}

@@ -16,12 +16,14 @@ mod save;
 mod slots;
 #[cfg(test)]
 mod tests;
+mod version;
 
 pub use device::{DeviceFault, Sink, Source};
 pub use fault::{HeaderFault, LoadFault, RecordFault, SaveFault};
-pub use geometry::{Geometry, GeometryFault, Place};
+pub use geometry::{Geometry, GeometryFault, MOST_ZONES, Place};
 pub use image::Image;
 pub use memory::Buffer;
 pub use refusal::GeometryRefusal;
+pub use version::Version;
 pub use zone_resources::{Counts, Limits};
 pub use zone_state::{Status, Zone, ZoneState};

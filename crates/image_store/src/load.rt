@@ -4,11 +4,12 @@ ghost use Rattle.std.specs.Prelude.{◌≡◌, ◌≤◌, ◌<◌, ◌-◌, ◌+
 ghost use Rattle.zone_resources.specs.Admission.{IsWithin};
 ghost use Rattle.image_store.specs.Flat.{IsFlat, namespace_of, zones_of};
 ghost use Rattle.image_store.specs.Loading.{Gives, CountsLoad, AreZones, spliced_in};
-ghost use Rattle.image_store.specs.Reading.{bytes_in, header_in, records_in, limits_kept, blocks_in, end_in, namespace_in};
+ghost use Rattle.image_store.specs.Reading.{bytes_in, header_in, records_in, total_kept, limits_kept, blocks_in, end_in, namespace_in};
 
 use crate::device::Source;
 use crate::fault::LoadFault;
 use crate::geometry::Geometry;
+use crate::header::Header;
 use crate::{header, record};
 use std::alloc::Global;
 use zone_resources::{Counts, Limits};
@@ -25,8 +26,10 @@ pub fn load<R: Source>(
     ensures within { IfOk result (λ parts. IsWithin parts.1.items parts.0.limits) }
     ensures failures { CountsLoad (R.failures source.old) (R.failures source.new) result }
 {
-    let geometry = read_header(source)?;
+    let header = read_header(source)?;
+    let geometry = header.geometry;
     let zones = read_records(alloc, source, geometry)?;
+    check_total(&zones, header.total)?;
     check_limits(&zones, geometry.limits())?;
     let blocks = read_blocks(alloc, source, geometry, &zones)?;
     read_end(source)?;
@@ -34,12 +37,12 @@ pub fn load<R: Source>(
 }
 
 /// Reads the header.
-fn read_header<R: Source>(source: &mut R) -> Result<Geometry, LoadFault>
+fn read_header<R: Source>(source: &mut R) -> Result<Header, LoadFault>
     requires { R.failures source.old < 2 ^ 64 - 1 }
-    ensures header { R.tells → Gives ⊥ (λ geometry. (geometry, R.rest source.new)) result (header_in (R.rest source.old)) }
+    ensures header { R.tells → Gives ⊥ (λ header. (header, R.rest source.new)) result (header_in (R.rest source.old)) }
     ensures failures { CountsLoad (R.failures source.old) (R.failures source.new) result }
 {
-    let mut bytes = [0; header::HEADER];
+    let mut bytes = [0; header::LENGTH];
     fill(source, &mut bytes)?;
     header::decode(&bytes)
 }
@@ -59,6 +62,21 @@ fn read_records<R: Source>(
     let mut bytes = vec![in alloc; 0; count as usize * record::RECORD]?;
     fill(source, &mut bytes)?;
     record::decode_all(alloc, &bytes, count, geometry.capacity())
+}
+
+/// Refuses zones with another number of written blocks than the header tells, if it tells one.
+fn check_total(zones: &[Zone], total: Option<u64>) -> Result<(), LoadFault>
+    requires { length zones.now < 2 ^ 32 }
+    ensures { result ≡ total_kept total zones.now }
+{
+    let Some(told) = total else {
+        return Ok(());
+    };
+    let counted = record::written_blocks(zones);
+    if told != counted {
+        return Err(LoadFault::Total { told, counted });
+    }
+    Ok(())
 }
 
 /// Refuses zones that hold more resources than may be held.

@@ -3,7 +3,7 @@
 ghost use Rattle.std.specs.Prelude.{◌≡◌, ◌≤◌, ◌*◌, ◌<◌, ◌^◌, length};
 ghost use Rattle.image_store.specs.Loading.{Gives, NoDeviceFails};
 ghost use Rattle.image_store.specs.Reading.{zone_in, zone_with, zones_in};
-ghost use Rattle.image_store.specs.Text.{record_text};
+ghost use Rattle.image_store.specs.Text.{record_text, written_blocks};
 
 use crate::bytes::are_zeros;
 use crate::fault::{LoadFault, RecordFault};
@@ -13,6 +13,14 @@ use zone_state::{Zone, ZoneState};
 
 /// Bytes of a record.
 pub const RECORD: usize = 8;
+
+/// How many blocks of the zones are written.
+pub fn written_blocks(zones: &[Zone]) -> u64
+    requires { length zones.now < 2 ^ 32 }
+    ensures { result ≡ written_blocks zones.now }
+{
+    zones.iter().map(|zone| u64::from(zone.written())).sum()
+}
 
 /// The record of a zone.
 pub fn encode(zone: Zone) -> [u8; RECORD]

@@ -23,7 +23,8 @@ pub fn save<W: Sink>(
     ensures text { W.tells → Takes (W.taken sink.old) (W.taken sink.new) (text (namespace_of geometry zones.now blocks.now)) result }
     ensures failures { CountsFailure (W.failures sink.old) (W.failures sink.new) result }
 {
-    write_all(sink, &header::encode(geometry))?;
+    let total = record::written_blocks(zones);
+    write_all(sink, &header::encode(geometry, total))?;
     write_records(sink, zones)?;
     write_blocks(sink, geometry, zones, blocks)
 }

@@ -5,7 +5,7 @@ ghost use Rattle.std.specs.Prelude.{◌≤◌};
 
 use crate::{
     Buffer, DeviceFault, Geometry, GeometryFault, GeometryRefusal, HeaderFault, Image, Limits,
-    LoadFault, RecordFault, Sink, Source,
+    LoadFault, RecordFault, Sink, Source, Version,
 };
 use std::alloc::{AllocError, Global};
 use std::process::Abort;
@@ -13,11 +13,12 @@ use std::test::Fail;
 use zone_state::ZoneState;
 
 mod damage;
+mod versions;
 
 /// The image of four zones, of which nothing is written: blocks of 512 bytes, eight of them in a
 /// zone, of which six can be written; two zones may be open and three active.
 const EMPTY: [u8; 96] =
-    *b"ZNSIMG01\x00\x02\x00\x00\x04\x00\x00\x00\x08\x00\x00\x00\x06\x00\x00\x00\x02\x00\x00\x00\x03\x00\x00\x00\
+    *b"ZNSIMG02\x00\x02\x00\x00\x04\x00\x00\x00\x08\x00\x00\x00\x06\x00\x00\x00\x02\x00\x00\x00\x03\x00\x00\x00\
 \x00\x00\x00\x00\x00\x00\x00\x00\x00\x00\x00\x00\x00\x00\x00\x00\x00\x00\x00\x00\x00\x00\x00\x00\x00\x00\x00\x00\x00\x00\x00\x00\
 \x01\x00\x00\x00\x00\x00\x00\x00\x01\x00\x00\x00\x00\x00\x00\x00\x01\x00\x00\x00\x00\x00\x00\x00\x01\x00\x00\x00\x00\x00\x00\x00";
 
@@ -43,7 +44,7 @@ fn changed(changes: &[(usize, u8)]) -> [u8; 96] {
 /// The image whose zone 1 is implicitly opened and has one block, all of it 5a.
 fn written(alloc: Global) -> Result<Vec<u8>, AllocError> {
     let mut text = Vec::new(alloc);
-    text.extend_from_slice(&changed(&[(72, 2), (76, 1)]))?;
+    text.extend_from_slice(&changed(&[(32, 1), (72, 2), (76, 1)]))?;
     text.extend_from_slice(&[0x5a; 512])?;
     Ok(text)
 }
@@ -77,7 +78,9 @@ fn an_appended_block_is_saved(rt: HostRuntime) -> Result<(), Fail> {
     assert_eq!(rt; image.zones().len(), 4);
     assert_eq!(rt; image.geometry().block().bytes(), 512);
     assert_eq!(rt; image.zone(1).written(), 0);
-    assert_eq!(rt; image.zone(1).check_write(0, 1), Ok(()));
+    let Ok(()) = image.zone(1).check_write(0, 1) else {
+        return Err(Fail::from("zone 1 takes a block"));
+    };
     let counts = image.counts();
     let limits = image.geometry().limits();
     assert!(rt; counts.opened < limits.open_limit as usize);
@@ -128,7 +131,7 @@ fn each_damage_has_its_fault(rt: HostRuntime) -> Result<(), Fail> {
         Some(LoadFault::Magic)
     );
     assert_eq!(rt;
-        fault_of(rt.alloc(), &changed(&[(7, 0x32)])),
+        fault_of(rt.alloc(), &changed(&[(7, 0x33)])),
         Some(LoadFault::Magic)
     );
     assert_eq!(rt;
@@ -142,14 +145,18 @@ fn each_damage_has_its_fault(rt: HostRuntime) -> Result<(), Fail> {
             size: 8
         }))
     );
-    assert_eq!(rt;
-        fault_of(rt.alloc(), &changed(&[(32, 1)])),
-        bad_header(HeaderFault::Reserved)
-    );
-    assert_eq!(rt;
-        fault_of(rt.alloc(), &changed(&[(63, 1)])),
-        bad_header(HeaderFault::Reserved)
-    );
+    for place in [40, 63] {
+        assert_eq!(rt;
+            fault_of(rt.alloc(), &changed(&[(place, 1)])),
+            bad_header(HeaderFault::Reserved(Version::Two))
+        );
+    }
+    for (place, told) in [(32, 1), (39, 1 << 56)] {
+        assert_eq!(rt;
+            fault_of(rt.alloc(), &changed(&[(place, 1)])),
+            Some(LoadFault::Total { told, counted: 0 })
+        );
+    }
     Ok(())
 }
 
@@ -216,8 +223,19 @@ fn the_first_fault_decides(rt: HostRuntime) -> Result<(), Fail> {
         fault_of_front(rt.alloc(), &changed(&[(64, 5)]), 95),
         Some(LoadFault::Truncated)
     );
-    let many = changed(&[(64, 3), (68, 1), (72, 3), (80, 3)]);
+    let many = changed(&[(32, 1), (64, 3), (68, 1), (72, 3), (80, 3)]);
     assert_eq!(rt; fault_of(rt.alloc(), &many), Some(LoadFault::Limits));
+    let miscounted = changed(&[(64, 3), (68, 1), (72, 3), (80, 3)]);
+    let total = LoadFault::Total {
+        told: 0,
+        counted: 1,
+    };
+    assert_eq!(rt; fault_of(rt.alloc(), &miscounted), Some(total));
+    let no_record = changed(&[(32, 1), (91, 1)]);
+    assert_eq!(rt;
+        fault_of(rt.alloc(), &no_record),
+        bad_record(3, RecordFault::Reserved)
+    );
     Ok(())
 }
 

@@ -7,7 +7,7 @@ mod vectors;
 use crate::{Machine, Step};
 use ebpf_decode::decode;
 use instruction_set::Program;
-use program_interface::Area;
+use program_interface::{Area, LARGEST_BLOCK};
 use program_meaning::{Cause, End};
 use std::alloc::Global;
 use std::process::Abort;
@@ -118,6 +118,34 @@ fn a_frame_of_a_block_that_matches(rt: HostRuntime) -> Result<(), Fail> {
         }
     }
     assert_eq!(rt; run(&rt, &filter, &[0; 512]), (End::Exit { r0: 0 }, 4));
+    Ok(())
+}
+
+#[test]
+fn a_frame_that_fills_the_largest_block(rt: HostRuntime) -> Result<(), Fail> {
+    let slots = [
+        0x7926_f83f_0000_0000, // ldxdw r6, [r2+16376]
+        0xbf21_0000_0000_0000, // mov r1, r2
+        0xb702_0000_fe3f_0000, // mov r2, 16382
+        0x8500_0000_0100_0000, // call 1
+        0xbf60_0000_0000_0000, // mov r0, r6
+        EXIT,
+    ];
+    let program = program(rt.alloc(), &slots)?;
+    let mut block = [3; LARGEST_BLOCK];
+    block[LARGEST_BLOCK - 1] = 0;
+    let context = [0; 32];
+    let mut scratch = [0; 1024];
+    let mut group = [0; LARGEST_BLOCK];
+    let mut machine = Machine::new(&block, &context, &mut scratch);
+    assert!(rt; program.at(machine.slot()).is_some());
+    let end = machine.run_checked(&program, LARGEST_BLOCK, 100, &mut group);
+    assert_eq!(rt; end, End::Exit { r0: 0x03_0303_0303_0303 });
+    assert_eq!(rt; machine.group_len(), LARGEST_BLOCK);
+    assert_eq!(rt; machine.frames(), 1);
+    assert_eq!(rt; group[0], 0xfe);
+    assert_eq!(rt; group[1], 0x3f);
+    assert_eq!(rt; group[LARGEST_BLOCK - 1], 3);
     Ok(())
 }
 

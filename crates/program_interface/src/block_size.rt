@@ -6,7 +6,7 @@ ghost use Rattle.program_interface.specs.BlockSize.{IsBlockSize, block_size};
 use std::marker::Model;
 
 /// The sizes that a logical block may have, in bytes, the smallest first (profile).
-pub const BLOCK_SIZES: [u32; 4] = [512, 1024, 2048, 4096];
+pub const BLOCK_SIZES: [u32; 6] = [512, 1024, 2048, 4096, 8192, 16384];
 
 /// The largest of them.
 pub const LARGEST_BLOCK: usize = BLOCK_SIZES[BLOCK_SIZES.len() - 1] as usize;

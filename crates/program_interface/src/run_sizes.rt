@@ -2,6 +2,7 @@
 
 ghost use Rattle.std.specs.Prelude.{◌≡◌, ◌≤◌};
 ghost use Rattle.program_interface.specs.RunSizes.{sizes_of};
+ghost use Rattle.program_interface.specs.declared.block_size.TheConstants.{LARGEST_BLOCK};
 
 use crate::block_size::BlockSize;
 use std::marker::Model;
@@ -49,7 +50,7 @@ impl RunSizes {
     pub fn limit(self) -> u32
         ensures value { result ≡ self.limit }
         ensures fits { result ≤ self.block }
-        ensures most { result ≤ 4096 }
+        ensures most { result ≤ LARGEST_BLOCK }
     {
         let _ = self.block.bytes();
         self.limit

@@ -14,7 +14,7 @@ use Rattle.pushdown.specs.Draining.{answers_to_turns, state_after_turns}
 use Rattle.pushdown.specs.Machine.{failed, submitted}
 use Rattle.pushdown.specs.State.{State, new_state}
 use Rattle.device_events.specs.declared.reply.Reply.TheVariants.{Complete, FaultRefused, Idle, Pending}
-use Rattle.pushdown.proofs.Examples.{block_of, eight_zones, entry_of, four_zones, frame, passes, run_entry, sevens, slots_with, two_zones}
+use Rattle.pushdown.proofs.Examples.{block_of, entry_of, four_zones, frame, passes, run_entry, sevens, slots_with, twelve_zones, two_zones}
 
 -- a completion to queue 1 with these first dwords, this identifier, and these last two bytes
 abbrev pub completes_with : ℕ → ℕ → ℕ → ℕ → ℕ → Taken
@@ -168,25 +168,28 @@ module _ {D : Type 0} (operations : Operations D) where
   unfolding run_of
   by_one_block = refl
 
-  -- ---- four runs of one block, and no more
+  -- ---- eight runs of one block, and no more
 
-  abbrev six_open : State
-  six_open = device (eight_zones (
-      zone_of zone.Full (replicate 8 (block_of 1)) ∷ replicate 5 (zone_of zone.ExplicitlyOpened []) ++ replicate 2 (zone_of zone.Empty []))) passes 0
+  abbrev nine_open : State
+  nine_open = device (twelve_zones (
+      zone_of zone.Full (replicate 8 (block_of 1)) ∷ replicate 9 (zone_of zone.ExplicitlyOpened []) ++ replicate 2 (zone_of zone.Empty []))) passes 0
 
-  abbrev four_runs : List (List ℕ)
-  four_runs = run_entry 1 0 0 8 ∷ run_entry 2 0 0 16 ∷ run_entry 3 0 0 24 ∷ run_entry 4 0 0 32 ∷ []
+  abbrev eight_runs : List (List ℕ)
+  eight_runs =
+      run_entry 1 0 0 8 ∷ run_entry 2 0 0 16 ∷ run_entry 3 0 0 24 ∷ run_entry 4 0 0 32
+      ∷ run_entry 5 0 0 40 ∷ run_entry 6 0 0 48 ∷ run_entry 7 0 0 56 ∷ run_entry 8 0 0 64 ∷ []
 
-  pub four_are_admitted : answers_asked four_runs six_open ≡ pending 0 ∷ pending 1 ∷ pending 2 ∷ pending 3 ∷ []
-  four_are_admitted = refl
+  pub eight_are_admitted : answers_asked eight_runs nine_open
+      ≡ pending 0 ∷ pending 1 ∷ pending 2 ∷ pending 3 ∷ pending 4 ∷ pending 5 ∷ pending 6 ∷ pending 7 ∷ []
+  eight_are_admitted = refl
 
-  -- a fifth finds no place; to its own source, or outside, it is refused before that
-  pub no_fifth : answers_asked (run_entry 9 0 0 40 ∷ run_entry 9 0 0 0 ∷ run_entry 9 0 0 64 ∷ []) (state_asked four_runs six_open)
+  -- a ninth finds no place; to its own source, or outside, it is refused before that
+  pub no_ninth : answers_asked (run_entry 9 0 0 72 ∷ run_entry 9 0 0 0 ∷ run_entry 9 0 0 96 ∷ []) (state_asked eight_runs nine_open)
       ≡ completes 9 0x86 0x0f ∷ completes 9 0x92 0x0f ∷ completes 9 0x00 0x01 ∷ []
-  no_fifth = refl
+  no_ninth = refl
 
   -- the place of a run that ended is the next one's, but another run's destination is not
-  pub a_place_is_free : answers_asked (run_entry 9 0 0 8 ∷ run_entry 9 0 0 40 ∷ []) (state_after_turns (2 ∷ []) (state_asked four_runs six_open))
+  pub a_place_is_free : answers_asked (run_entry 9 0 0 8 ∷ run_entry 9 0 0 72 ∷ []) (state_after_turns (2 ∷ []) (state_asked eight_runs nine_open))
       ≡ completes 9 0x80 0x0f ∷ pending 2 ∷ []
   unfolding run_of
   a_place_is_free = refl

@@ -112,9 +112,9 @@ four_zones zones = record { block = 512; size = 8; capacity = 6; limits = record
 abbrev pub two_zones : List ZoneBlocks → ZonedNamespace
 two_zones zones = record { block = 512; size = 64; capacity = 64; limits = record { open_limit = 2; active_limit = 2 }; zones = zones }
 
--- eight zones of 8 blocks, of which six may be open
-abbrev pub eight_zones : List ZoneBlocks → ZonedNamespace
-eight_zones zones = record { block = 512; size = 8; capacity = 8; limits = record { open_limit = 6; active_limit = 6 }; zones = zones }
+-- twelve zones of 8 blocks, of which ten may be open
+abbrev pub twelve_zones : List ZoneBlocks → ZonedNamespace
+twelve_zones zones = record { block = 512; size = 8; capacity = 8; limits = record { open_limit = 10; active_limit = 10 }; zones = zones }
 
 -- ---- entries
 

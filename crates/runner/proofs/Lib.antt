@@ -1,3 +1,4 @@
+pub mod Arrays
 pub mod Admissions
 pub mod Appends
 pub mod DeviceTurns

@@ -13,7 +13,7 @@ pub record ArePlaces (ns : ZonedNamespace) (order : RunCommand) (source : Place)
   pub source_is : source ≡ place_in ns order.lba
   pub destination_is : destination ≡ zone_number ns order.destination
   pub other : source.zone ≢ destination
-  pub address : order.lba < 2 ^ 34
+  pub address : order.lba < 2 ^ 36
   pub source_inside : source.zone < length ns.zones
   pub destination_inside : destination < length ns.zones
 

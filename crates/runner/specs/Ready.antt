@@ -21,7 +21,7 @@ pub record Fits (ns : ZonedNamespace) (a : Held) : Type 0 where
   pub most : a.order.blocks ≤ 65536
   pub written : a.source.offset + a.order.blocks ≤ length (zone_at ns a.source.zone).blocks
   pub small : a.source.offset + a.order.blocks < 2 ^ 32
-  pub address : a.order.lba < 2 ^ 34
+  pub address : a.order.lba < 2 ^ 36
   pub packer : a.packer.block ≡ ns.block
   pub frames : a.frames ≤ a.index * LARGEST_BLOCK
   pub appended : a.appended ≤ a.index

@@ -67,7 +67,7 @@ impl Device {
             alloc,
             namespace,
             slots: [None, None, None, None, None, None, None, None],
-            runs: [None, None, None, None],
+            runs: [None, None, None, None, None, None, None, None],
             group: [0; LARGEST_BLOCK],
         }
     }

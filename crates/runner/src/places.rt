@@ -28,19 +28,15 @@ pub fn free_run(runs: &[Option<Active>; RUNS]) -> Option<u8>
 pub fn holds(runs: &[Option<Active>; RUNS]) -> Holds
     ensures { result ≡ held_by runs.now }
 {
+    let mut sources = [None; RUNS];
+    let mut destinations = [None; RUNS];
+    for (number, run) in runs.iter().enumerate() {
+        sources[number] = source(run);
+        destinations[number] = destination(run);
+    }
     Holds {
-        sources: [
-            source(&runs[0]),
-            source(&runs[1]),
-            source(&runs[2]),
-            source(&runs[3]),
-        ],
-        destinations: [
-            destination(&runs[0]),
-            destination(&runs[1]),
-            destination(&runs[2]),
-            destination(&runs[3]),
-        ],
+        sources,
+        destinations,
     }
 }
 

@@ -7,6 +7,7 @@ use std::alloc::Global;
 use std::process::Abort;
 use std::test::Fail;
 use zns_commands::{FaultState, Geometry, Image, Limits, MOST_TRANSFER};
+use zone_resources::RUNS;
 use zone_state::ZoneState;
 
 mod accepting;
@@ -26,13 +27,13 @@ const EMITTING: [u8; 40] = [
 /// The limit of a run that emits 8 bytes with their length, as a Load has it in Command Dword 11.
 const LIMIT: u64 = 10 << 32;
 
-/// A device of five empty zones, which may all be open.
+/// A device of nine empty zones, which may all be open.
 fn device(rt: &impl Abort, alloc: Global) -> Device {
     let limits = Limits {
-        open_limit: 5,
-        active_limit: 5,
+        open_limit: 9,
+        active_limit: 9,
     };
-    let geometry = Geometry::new(512, 5, 8, 8, limits).expect(rt, "a geometry");
+    let geometry = Geometry::new(512, 9, 8, 8, limits).expect(rt, "a geometry");
     let image = Image::empty(alloc, geometry).expect(rt, "memory");
     Device::new(alloc, image)
 }
@@ -262,14 +263,14 @@ fn replies_are_handed_out_with_their_data(rt: HostRuntime) -> Result<(), Fail> {
 }
 
 #[test]
-fn four_runs_are_drained(rt: HostRuntime) -> Result<(), Fail> {
+fn all_runs_are_drained(rt: HostRuntime) -> Result<(), Fail> {
     let alloc = rt.alloc();
     let mut device = device(&rt, alloc);
     let mut room = room(&rt, alloc);
     let data = room.as_mut_slice();
     let append = [(append(&rt, alloc), success(0, 0, 0))];
     compare(&rt, &mut device, data, &append);
-    for number in 0..4u8 {
+    for number in 0..RUNS as u8 {
         let steps = [
             (load(&rt, alloc, number), success(0, 0, 0)),
             (open(alloc, number + 1), success(0, 0, 0)),
@@ -282,16 +283,11 @@ fn four_runs_are_drained(rt: HostRuntime) -> Result<(), Fail> {
     }
     let mut out = Kept::new(alloc, usize::MAX);
     device.drain(data, &mut out)?;
-    let replies = [
-        Reply::Pending { run: 0 },
-        success(2, 1, 0),
-        Reply::Pending { run: 1 },
-        success(2, 1, 0),
-        Reply::Pending { run: 2 },
-        success(2, 1, 0),
-        Reply::Pending { run: 3 },
-        success(2, 1, 0),
-    ];
+    let mut replies = Vec::new(alloc);
+    for run in 0..RUNS as u8 {
+        replies.push(Reply::Pending { run })?;
+        replies.push(success(2, 1, 0))?;
+    }
     compare_kept(&rt, &out, &replies);
     let last = [
         (

@@ -8,6 +8,7 @@ use Rattle.instruction_set.specs.Program.{instruction_in}
 use Rattle.instruction_set.specs.declared.insn.Insn.{Insn}
 use Rattle.instruction_set.specs.declared.insn.Insn.TheVariants.{LoadImmediate, Load, LoadSigned, StoreImmediate, StoreRegister, Arithmetic, Negate, MoveSigned, SwapBytes, Jump, JumpLong, Branch, Call, Exit}
 use Rattle.program_meaning.specs.Cause.{is_emit}
+use Rattle.program_interface.specs.declared.block_size.TheConstants.{LARGEST_BLOCK}
 use Rattle.program_interface.specs.RunSizes.{Sizes}
 use Rattle.reg_domain.specs.Domain.{Operations}
 use Rattle.verifier.specs.Accepted.{all_reasons, begins_at, fails, leads_nowhere, most_emitted, reason_of, turns_away}
@@ -53,7 +54,7 @@ goes_last : (program : List (Option Insn)) (slot : ℕ) (distance : Option ℤ) 
 goes_last program slot (Some d) e = inside_last program (target slot d) (not_false _ e)
 goes_last program slot None e = tt
 
-within_limit : (emit : Bool) (limit most : ℕ) → not emit ≡ false → (emit && nat_lt limit most) ≡ false → limit ≤ 4096
+within_limit : (emit : Bool) (limit most : ℕ) → not emit ≡ false → (emit && nat_lt limit most) ≡ false → limit ≤ LARGEST_BLOCK
     → most < 2 ^ 64
 within_limit true limit most is e fits = grind (arith, nat_tests, e, fits)
 within_limit false limit most is e fits = cc
@@ -92,7 +93,7 @@ module _ {D : Type 0} (operations : Operations D) where
     }
 
   pub room_left : (program : List (Option Insn)) (sizes : Sizes) (slot : ℕ) (facts : Facts D) (i : Insn)
-      → reason_of operations program sizes slot facts i ≡ None → sizes.limit ≤ 4096 → HasRoom operations i facts
+      → reason_of operations program sizes slot facts i ≡ None → sizes.limit ≤ LARGEST_BLOCK → HasRoom operations i facts
   room_left program sizes slot facts (Call helper) none fits =
       within_limit (is_emit (Call helper)) sizes.limit (facts.emitted + 2 + most_emitted operations facts)
       (free program sizes slot facts (Call helper) none UnknownHelper)

@@ -60,4 +60,4 @@ place_in ns lba = record { zone = zone_number ns lba; offset = lba % ns.size }
 pub record IsPlace (ns : ZonedNamespace) (lba : ℕ) (place : Place) : Type 0 where
   pub inside : place.zone < length ns.zones
   pub address : place.zone * ns.size + place.offset ≡ lba
-  pub small : lba < 2 ^ 34
+  pub small : lba < 2 ^ 36

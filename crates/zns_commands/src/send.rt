@@ -2,6 +2,7 @@
 
 ghost use Rattle.std.specs.Prelude.{true, ◌≡◌, ◌<◌, ◌≤◌, ◌^◌, length, List, ℕ, IfOk, OnOk, OnErr};
 ghost use Rattle.nvme_entry.specs.Checks.{first_refused, allowed};
+ghost use Rattle.image_store.specs.declared.geometry.TheConstants.{MOST_ZONES};
 ghost use Rattle.image_store.specs.Namespace.{zone_at, with_zone, records, IsWithinLimits};
 ghost use Rattle.zns_commands.specs.Answer.{outcome};
 ghost use Rattle.zns_commands.specs.Resources.{closed, moved_to};
@@ -107,7 +108,7 @@ fn taken(zones: &[Zone], action: Action) -> usize
 /// The zones of an image, of which there are at most as many as a geometry allows.
 fn few_zones(image: &Image) -> &[Zone]
     ensures value { result.now ≡ records image.now }
-    ensures few { length result.now ≤ 1024 }
+    ensures few { length result.now ≤ MOST_ZONES }
 {
     let _ = image.geometry();
     image.zones()

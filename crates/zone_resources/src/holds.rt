@@ -6,7 +6,7 @@ ghost use Rattle.zone_resources.specs.Holds.{no_holds, is_source, is_destination
 use zone_state::Action;
 
 /// How many runs can be active at one time (profile).
-pub const RUNS: usize = 4;
+pub const RUNS: usize = 8;
 
 /// The zones that each active run reads from and appends to (profile). A zone may be the source of
 /// several runs, and also the destination of one.

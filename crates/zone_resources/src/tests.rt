@@ -63,7 +63,7 @@ fn an_implicitly_opened_zone_gives_way(rt: HostRuntime) -> Result<(), Fail> {
     ] {
         assert_eq!(rt; answer(&zones, &holds, Wanted::OpenOnly), told);
     }
-    holds.destinations[3] = Some(0);
+    holds.destinations[RUNS - 1] = Some(0);
     let zones = [implicit, implicit, closed, empty];
     assert_eq!(rt; answer(&zones, &holds, Wanted::OpenOnly), Ok(Some(1)));
     assert_eq!(rt; Wanted::of(empty.state()), Some(Wanted::OpenAndActive));

@@ -97,7 +97,7 @@ const MEANINGS: &[Meaning] = &[
     Meaning {
         status: Status::NO_RUN_FREE,
         name: "No Run Free",
-        sentence: "four runs are active",
+        sentence: "as many runs are active as can be",
     },
     Meaning {
         status: Status::SOURCE_NOT_WRITTEN,

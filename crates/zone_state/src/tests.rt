@@ -72,7 +72,7 @@ closed",
     ),
     (
         Status::NO_RUN_FREE,
-        "No Run Free (type 7h, code C3h; profile): four runs are active",
+        "No Run Free (type 7h, code C3h; profile): as many runs are active as can be",
     ),
     (
         Status::SOURCE_NOT_WRITTEN,

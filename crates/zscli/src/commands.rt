@@ -11,7 +11,7 @@ use command_explain::explain;
 use command_failure::{Failure, printed};
 use command_files::Files;
 use command_files::arguments::{and_command, no_command};
-use command_images::{format, zones};
+use command_images::{format, upgrade, zones};
 use command_programs::{asm, disasm, trace, unpack, verify};
 use std::alloc::{AllocError, Global};
 use std::io::Write;
@@ -79,6 +79,7 @@ fn perform<'a, F: Files, O: Write>(
     match matches.subcommand() {
         Some((format::NAME, matches)) => format::format(alloc, matches, files),
         Some((zones::NAME, matches)) => zones::zones(alloc, matches, files, out),
+        Some((upgrade::NAME, matches)) => upgrade::upgrade(alloc, matches, files),
         Some((exec::NAME, matches)) => exec::exec(alloc, matches, files, out),
         Some((name, matches)) => perform_on_programs(alloc, line, name, matches, files, out),
         None => Err(no_command(line)),
@@ -117,6 +118,7 @@ fn command_line<'a>(alloc: Global) -> Result<Command<'a>, AllocError> {
         .arg_required_else_help(true);
     let line = and_command(Ok(line), format::subcommand(alloc));
     let line = and_command(line, zones::subcommand(alloc));
+    let line = and_command(line, upgrade::subcommand(alloc));
     let line = and_command(line, exec::subcommand(alloc));
     let line = and_command(line, asm::subcommand(alloc));
     let line = and_command(line, disasm::subcommand(alloc));

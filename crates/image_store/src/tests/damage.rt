@@ -3,14 +3,17 @@
 use super::changed;
 use crate::{Buffer, Image};
 use std::alloc::{AllocError, Global};
+use std::process::Abort;
 use std::test::Fail;
 
 /// Bytes of the header and of four records.
 const FRONT: usize = 96;
 
-/// How many of the changed texts load, as 0, and how many have the fault of a number, counted by the table of
-/// docs/formats.md.
-const OUTCOMES: [(u8, usize); 7] = [
+/// How many of the changed texts of a version load, as 0, and how many have the fault of a number, counted by the
+/// tables of docs/formats.md.
+type Outcomes = [(u8, usize); 8];
+
+const VERSION_1: Outcomes = [
     (0, 29),
     (10, 9),
     (11, 64),
@@ -18,18 +21,45 @@ const OUTCOMES: [(u8, usize); 7] = [
     (13, 252),
     (14, 2),
     (15, 1),
+    (18, 0),
+];
+
+const VERSION_2: Outcomes = [
+    (0, 29),
+    (10, 4),
+    (11, 64),
+    (12, 345),
+    (13, 252),
+    (14, 2),
+    (15, 0),
+    (18, 72),
 ];
 
 /// An image with an explicitly and an implicitly opened zone of one block each, a closed and an empty one: no
-/// further zone may be open or active.
-fn at_its_limits(alloc: Global) -> Result<Vec<u8>, AllocError> {
+/// further zone may be open or active. A version has this digit and tells this number of written blocks.
+fn at_its_limits(alloc: Global, digit: u8, total: u8) -> Result<Vec<u8>, AllocError> {
     let mut text = Vec::new(alloc);
-    text.extend_from_slice(&changed(&[(64, 3), (68, 1), (72, 2), (76, 1), (80, 4)]))?;
+    text.extend_from_slice(&changed(&[
+        (7, digit),
+        (32, total),
+        (64, 3),
+        (68, 1),
+        (72, 2),
+        (76, 1),
+        (80, 4),
+    ]))?;
     text.extend_from_slice(&[0x5a; 1024])?;
     Ok(text)
 }
 
-/// The number of a text's fault, or 0 where it loads and is saved as it was.
+/// Are these the same but for the magic and the number of all written blocks?
+fn are_alike(first: &[u8], second: &[u8]) -> bool {
+    first.len() == second.len()
+        && first.get(8..32) == second.get(8..32)
+        && first.get(40..) == second.get(40..)
+}
+
+/// The number of a text's fault, or 0 where it loads and is saved as it was, in the last version.
 fn outcome(alloc: Global, text: &[u8]) -> Result<u8, Fail> {
     let mut source = text;
     let image = match Image::load(alloc, &mut source) {
@@ -38,7 +68,7 @@ fn outcome(alloc: Global, text: &[u8]) -> Result<u8, Fail> {
     };
     let mut sink = Buffer::new(alloc);
     image.save(&mut sink)?;
-    if sink.bytes() == text {
+    if are_alike(sink.bytes(), text) {
         Ok(0)
     } else {
         Err(Fail::from("it is saved as another text"))
@@ -63,14 +93,26 @@ fn outcomes(alloc: Global, text: &mut [u8]) -> Result<Vec<u8>, Fail> {
     Ok(numbers)
 }
 
-#[test]
-fn each_bit_of_header_and_records(rt: HostRuntime) -> Result<(), Fail> {
-    let mut text = at_its_limits(rt.alloc())?;
-    assert_eq!(rt; outcome(rt.alloc(), text.as_slice())?, 0);
-    let numbers = outcomes(rt.alloc(), text.as_mut_slice())?;
-    for (number, count) in OUTCOMES {
-        let found = numbers.iter().filter(|seen| **seen == number).count();
-        assert_eq!(rt; found, count, "number {number}");
+/// Compares what comes of a text with each bit changed.
+fn compare(
+    rt: &impl Abort,
+    alloc: Global,
+    text: &mut [u8],
+    expected: &Outcomes,
+) -> Result<(), Fail> {
+    assert_eq!(rt; outcome(alloc, text)?, 0);
+    let numbers = outcomes(alloc, text)?;
+    for (number, count) in expected {
+        let found = numbers.iter().filter(|seen| *seen == number).count();
+        assert_eq!(rt; found, *count, "number {number}");
     }
     Ok(())
+}
+
+#[test]
+fn each_bit_of_header_and_records(rt: HostRuntime) -> Result<(), Fail> {
+    let mut new = at_its_limits(rt.alloc(), b'2', 2)?;
+    compare(&rt, rt.alloc(), new.as_mut_slice(), &VERSION_2)?;
+    let mut old = at_its_limits(rt.alloc(), b'1', 0)?;
+    compare(&rt, rt.alloc(), old.as_mut_slice(), &VERSION_1)
 }

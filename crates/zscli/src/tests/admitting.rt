@@ -1,7 +1,7 @@
 //! Which runs are admitted.
 
 use super::scenes::{Act, Scene, play};
-use super::steps::{Case, G1, G2, G3, MATCHING, RETURNING, Step, Zones};
+use super::steps::{Case, G1, G2, G4, MATCHING, RETURNING, Step, Zones};
 use std::test::Fail;
 
 /// Zone 0 has 3 blocks, zone 1 is open, zone 2 is Offline and zone 3 Closed.
@@ -133,7 +133,7 @@ const ROOM: &[Case] = &[
     (Step::Turns(0, 1), "cpl 1 33000000010000000000010003000000"),
 ];
 
-const FOUR: &[Case] = &[
+const EIGHT: &[Case] = &[
     (
         Step::Load(1, 0, 0, RETURNING),
         "cpl 1 00000000000000000000010001000000",
@@ -142,33 +142,41 @@ const FOUR: &[Case] = &[
     (Step::Run(3, 0, 1, 16), "pending 1"),
     (Step::Run(4, 0, 1, 24), "pending 2"),
     (Step::Run(5, 0, 1, 32), "pending 3"),
+    (Step::Run(6, 0, 1, 40), "pending 4"),
+    (Step::Run(7, 0, 1, 48), "pending 5"),
+    (Step::Run(8, 0, 1, 56), "pending 6"),
+    (Step::Run(9, 0, 1, 64), "pending 7"),
     // None is free; what is wrong with the addresses comes first.
     (
-        Step::Run(9, 0, 1, 40),
-        "cpl 1 0000000000000000000001000900860f",
+        Step::Run(11, 0, 1, 72),
+        "cpl 1 0000000000000000000001000b00860f",
     ),
     (
-        Step::Run(9, 0, 1, 0),
-        "cpl 1 0000000000000000000001000900920f",
+        Step::Run(11, 0, 1, 0),
+        "cpl 1 0000000000000000000001000b00920f",
     ),
     (
-        Step::Run(9, 0, 1, 64),
-        "cpl 1 00000000000000000000010009000001",
+        Step::Run(11, 0, 1, 96),
+        "cpl 1 0000000000000000000001000b000001",
     ),
     (Step::Turns(2, 1), "cpl 1 00000000000000000000010004000000"),
     // Zone 1 is the destination of another run.
     (
-        Step::Run(9, 0, 1, 8),
-        "cpl 1 0000000000000000000001000900800f",
+        Step::Run(11, 0, 1, 8),
+        "cpl 1 0000000000000000000001000b00800f",
     ),
-    (Step::Run(10, 0, 1, 40), "pending 2"),
+    (Step::Run(12, 0, 1, 72), "pending 2"),
     // The turns that are left.
     (
         Step::Line("; all"),
         "cpl 1 00000000000000000000010002000000
 cpl 1 00000000000000000000010003000000
-cpl 1 0000000000000000000001000a000000
-cpl 1 00000000000000000000010005000000",
+cpl 1 0000000000000000000001000c000000
+cpl 1 00000000000000000000010005000000
+cpl 1 00000000000000000000010006000000
+cpl 1 00000000000000000000010007000000
+cpl 1 00000000000000000000010008000000
+cpl 1 00000000000000000000010009000000",
     ),
 ];
 
@@ -195,18 +203,20 @@ const SCENES: &[Scene] = &[
         ],
     },
     Scene {
-        name: "four runs are active",
+        name: "eight runs are active",
         acts: &[
             Act::Image(
                 "image",
-                G3,
-                "full 00*8, explicit, explicit, explicit, explicit, explicit, empty, empty",
+                G4,
+                "full 00*8, explicit, explicit, explicit, explicit, explicit, explicit, explicit, explicit, explicit, \
+                 empty, empty",
             ),
-            Act::Events(FOUR),
+            Act::Events(EIGHT),
             Act::Answers("zscli exec image events"),
             Act::Prints(
                 "zscli zones image",
-                "0 full 8\n1 explicit 0\n2 explicit 0\n3 explicit 0\n4 explicit 0\n5 explicit 0\n6 empty 0\n7 empty 0\n",
+                "0 full 8\n1 explicit 0\n2 explicit 0\n3 explicit 0\n4 explicit 0\n5 explicit 0\n6 explicit 0\n\
+                 7 explicit 0\n8 explicit 0\n9 explicit 0\n10 empty 0\n11 empty 0\n",
             ),
         ],
     },

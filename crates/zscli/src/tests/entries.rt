@@ -1,6 +1,6 @@
 //! Lines of a command file, made of words.
 
-use super::scenes::{Act, EMPTY_ZONE, EXEC, MAGIC, NUMBERS, Scene, play};
+use super::scenes::{Act, EMPTY_ZONE, EXEC, MAGIC, SHAPE, Scene, play};
 use std::test::Fail;
 
 /// A program that emits nothing.
@@ -81,7 +81,9 @@ cpl 1 00000000000000000000010005000000
         "g1",
         &[
             (MAGIC, 1),
-            (NUMBERS, 1),
+            (SHAPE, 1),
+            (b"\x02", 1),
+            (b"\0", 31),
             (EMPTY_ZONE, 1),
             (b"\x02\0\0\0\x02\0\0\0", 1),
             (b"\x03\0\0\0\0\0\0\0", 1),

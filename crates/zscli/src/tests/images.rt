@@ -1,6 +1,7 @@
 //! Images in files: made, listed, changed and refused.
 
-use super::scenes::{Act, EMPTY_IMAGE, EMPTY_ZONE, EXEC, MAGIC, NUMBERS, Scene, play};
+use super::scenes::{Act, EMPTY_IMAGE, EMPTY_ZONE, EXEC, MAGIC, NUMBERS, SHAPE, Scene, play};
+use super::stage::Parts;
 use super::steps::{A_BLOCK, Case, Step};
 use std::test::Fail;
 
@@ -88,17 +89,7 @@ const WRITTEN: &[Act] = &[
     Act::Start(b""),
     Act::Events(FIRST),
     Act::Answers(EXEC),
-    Act::Has(
-        "g1",
-        &[
-            (MAGIC, 1),
-            (NUMBERS, 1),
-            (EMPTY_ZONE, 1),
-            (b"\x02\0\0\0\x01\0\0\0", 1),
-            (EMPTY_ZONE, 2),
-            (b"\xa5", 512),
-        ],
-    ),
+    Act::Has("g1", NEW),
     Act::Prints(
         "zscli zones g1",
         "0 empty 0\n1 implicit 1\n2 empty 0\n3 empty 0\n",
@@ -109,6 +100,59 @@ const WRITTEN: &[Act] = &[
         "zscli zones g1",
         "0 empty 0\n1 implicit 2\n2 empty 0\n3 empty 0\n",
     ),
+];
+
+/// The image of one written block that is saved.
+const NEW: Parts = &[
+    (MAGIC, 1),
+    (SHAPE, 1),
+    (b"\x01", 1),
+    (b"\0", 31),
+    (EMPTY_ZONE, 1),
+    (b"\x02\0\0\0\x01\0\0\0", 1),
+    (EMPTY_ZONE, 2),
+    (b"\xa5", 512),
+];
+
+/// An image of version 1, whose header doesn't tell that a block is written.
+const OLD_IMAGE: Parts = &[
+    (b"ZNSIMG01", 1),
+    (NUMBERS, 1),
+    (EMPTY_ZONE, 1),
+    (b"\x02\0\0\0\x01\0\0\0", 1),
+    (EMPTY_ZONE, 2),
+    (b"\xa5", 512),
+];
+
+const OLD: &[Act] = &[
+    Act::Put("old", OLD_IMAGE),
+    Act::Put("none", &[]),
+    Act::Prints("zscli exec old none", ""),
+    Act::Has("old", NEW),
+];
+
+/// The same image is saved as version 2, and then no more changed. One that tells another number of written blocks
+/// is refused.
+const UPGRADED: &[Act] = &[
+    Act::Put("old", OLD_IMAGE),
+    Act::Prints("zscli upgrade old", ""),
+    Act::Has("old", NEW),
+    Act::Prints("zscli upgrade old", ""),
+    Act::Has("old", NEW),
+    Act::Put(
+        "old",
+        &[
+            (MAGIC, 1),
+            (SHAPE, 1),
+            (b"\x02", 1),
+            (b"\0", 31),
+            (EMPTY_ZONE, 1),
+            (b"\x02\0\0\0\x01\0\0\0", 1),
+            (EMPTY_ZONE, 2),
+            (b"\xa5", 512),
+        ],
+    ),
+    Act::Fails("zscli upgrade old", 3, "", "image refused 18\n"),
 ];
 
 const LEFT: &[Act] = &[
@@ -182,7 +226,7 @@ const NO_IMAGE: &[Act] = &[
     Act::Fails("zscli zones bad", 3, "", "image refused 15\n"),
     Act::Fails("zscli exec bad missing", 3, "", "image refused 15\n"),
     // Other first bytes.
-    Act::Put("bad", &[(b"\0NSIMG01", 1), (NUMBERS, 1), (EMPTY_ZONE, 4)]),
+    Act::Put("bad", &[(b"\0NSIMG02", 1), (NUMBERS, 1), (EMPTY_ZONE, 4)]),
     Act::Fails("zscli zones bad", 3, "", "image refused 11\n"),
     Act::Fails("zscli exec bad missing", 3, "", "image refused 11\n"),
     // Blocks of 513 bytes.
@@ -228,6 +272,19 @@ const NO_IMAGE: &[Act] = &[
     ),
     Act::Fails("zscli zones bad", 3, "", "image refused 13\n"),
     Act::Fails("zscli exec bad missing", 3, "", "image refused 13\n"),
+    // A block that is written, of which the header doesn't tell.
+    Act::Put(
+        "bad",
+        &[
+            (MAGIC, 1),
+            (NUMBERS, 1),
+            (b"\x02\0\0\0\x01\0\0\0", 1),
+            (EMPTY_ZONE, 3),
+            (b"\0", 512),
+        ],
+    ),
+    Act::Fails("zscli zones bad", 3, "", "image refused 18\n"),
+    Act::Fails("zscli exec bad missing", 3, "", "image refused 18\n"),
     // Three open zones.
     Act::Put(
         "bad",
@@ -272,6 +329,14 @@ const CHANGED: &[Scene] = &[
     Scene {
         name: "exec writes the image",
         acts: WRITTEN,
+    },
+    Scene {
+        name: "exec writes an image of version 1 as one of version 2",
+        acts: OLD,
+    },
+    Scene {
+        name: "an image that is upgraded",
+        acts: UPGRADED,
     },
     Scene {
         name: "exec that ends early leaves the image",

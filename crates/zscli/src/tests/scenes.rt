@@ -12,8 +12,12 @@ pub(super) const EXEC: &str = "zscli exec g1 events";
 /// An image of 4 zones of 8 blocks, 6 of them writable, at most 2 open and 3 active, all Empty.
 pub(super) const EMPTY_IMAGE: Parts = &[(MAGIC, 1), (NUMBERS, 1), (EMPTY_ZONE, 4)];
 
-pub(super) const MAGIC: &[u8] = b"ZNSIMG01";
+pub(super) const MAGIC: &[u8] = b"ZNSIMG02";
 
+/// The numbers of such an image, without that of its written blocks.
+pub(super) const SHAPE: &[u8] = b"\0\x02\0\0\x04\0\0\0\x08\0\0\0\x06\0\0\0\x02\0\0\0\x03\0\0\0";
+
+/// The same, where nothing is written.
 pub(super) const NUMBERS: &[u8] = b"\
 \0\x02\0\0\x04\0\0\0\x08\0\0\0\x06\0\0\0\x02\0\0\0\x03\0\0\0\
 \0\0\0\0\0\0\0\0\0\0\0\0\0\0\0\0\0\0\0\0\0\0\0\0\0\0\0\0\0\0\0\0";

@@ -26,6 +26,9 @@ pub(super) const G2: Shape = [512, 2, 64, 64, 2, 2];
 /// 8 zones of 8 blocks, at most 6 open and active.
 pub(super) const G3: Shape = [512, 8, 8, 8, 6, 6];
 
+/// 12 zones of 8 blocks, at most 10 open and active.
+pub(super) const G4: Shape = [512, 12, 8, 8, 10, 10];
+
 /// 4 zones without blocks.
 pub(super) const ALL_EMPTY: Zones = "empty, empty, empty, empty";
 
@@ -241,11 +244,16 @@ fn low(number: u64) -> u32 {
 
 /// Writes the bytes of an image.
 pub(super) fn write_image(to: &mut Vec<u8>, shape: &Shape, zones: &str) -> Result<(), Fail> {
-    to.extend_from_slice(b"ZNSIMG01")?;
+    to.extend_from_slice(b"ZNSIMG02")?;
     for number in shape {
         to.extend_from_slice(&number.to_le_bytes())?;
     }
-    to.extend_from_slice(&[0; 32])?;
+    let mut total = 0u64;
+    for zone in zones.split(", ") {
+        total = total.wrapping_add(firsts_of(*to.allocator(), zone)?.len() as u64);
+    }
+    to.extend_from_slice(&total.to_le_bytes())?;
+    to.extend_from_slice(&[0; 24])?;
     for zone in zones.split(", ") {
         write_record(to, zone)?;
     }
@@ -256,21 +264,25 @@ pub(super) fn write_image(to: &mut Vec<u8>, shape: &Shape, zones: &str) -> Resul
 }
 
 fn write_record(to: &mut Vec<u8>, zone: &str) -> Result<(), Fail> {
-    let (state, firsts) = zone.split_once(' ').unwrap_or((zone, ""));
-    let blocks = bytes_of(*to.allocator(), firsts)?.len();
+    let (state, _) = zone.split_once(' ').unwrap_or((zone, ""));
+    let blocks = firsts_of(*to.allocator(), zone)?.len();
     to.extend_from_slice(&[code_of(state), 0, 0, 0])?;
     to.extend_from_slice(&low(blocks as u64).to_le_bytes())?;
     Ok(())
 }
 
 fn write_blocks(to: &mut Vec<u8>, zone: &str) -> Result<(), Fail> {
-    let (_, firsts) = zone.split_once(' ').unwrap_or((zone, ""));
-    let firsts = bytes_of(*to.allocator(), firsts)?;
-    for first in firsts.iter() {
+    for first in firsts_of(*to.allocator(), zone)?.iter() {
         to.push(*first)?;
         to.extend_from_slice(&[0; 511])?;
     }
     Ok(())
+}
+
+/// The first bytes of a zone's blocks.
+fn firsts_of(alloc: Global, zone: &str) -> Result<Vec<u8>, Fail> {
+    let (_, firsts) = zone.split_once(' ').unwrap_or((zone, ""));
+    bytes_of(alloc, firsts)
 }
 
 /// The code of a state as images have it (ZNS 1.1, figure 37).

@@ -1,5 +1,8 @@
-use Rattle.image_store.proofs.Again.{text_again}
+use Rattle.image_store.proofs.Again.{saved_again, text_again}
 use Rattle.image_store.proofs.laws.saved_texts_load.Goals as goal
 
-pub returns : goal.returns
-returns c = text_again
+pub returns-clause-saved : goal.returns-clause-saved
+returns-clause-saved c = saved_again
+
+pub returns-clause-each : goal.returns-clause-each
+returns-clause-each c = text_again

@@ -16,7 +16,7 @@ returns-in_err-write_all-clause-text g c =
     let before = g.W.Sink.taken c.args.sink.now in
     let all = text (namespace_of s zs xs) in
     let blocks = blocks_text (zones_of s.block s.capacity zs xs) in
-    let parts = sym (text_seen s zs xs c.requires.flat) ∙ ap (λ first. first ++ (records_text zs ++ blocks)) (sym c.encode.ensures) in
+    let parts = sym (text_seen s zs xs c.requires.flat) ∙ ap (λ first. first ++ (records_text zs ++ blocks)) (sym (rw c.written_blocks-total.ensures at c.encode.ensures)) in
     let begun = subst (IsBegun before before all) parts (begins before all) in
     rw p.1 (λ told. stops before before (g.W.Sink.taken c.write_all.new.sink) all c.encode.result (records_text zs ++ blocks) begun (c.in_err-write_all.ensures.text told))
 
@@ -30,7 +30,7 @@ returns-in_err-write_records-clause-text g c =
     let mid = g.W.Sink.taken c.write_all.new.sink in
     let all = text (namespace_of s zs xs) in
     let blocks = blocks_text (zones_of s.block s.capacity zs xs) in
-    let parts = sym (text_seen s zs xs c.requires.flat) ∙ ap (λ first. first ++ (records_text zs ++ blocks)) (sym c.encode.ensures) in
+    let parts = sym (text_seen s zs xs c.requires.flat) ∙ ap (λ first. first ++ (records_text zs ++ blocks)) (sym (rw c.written_blocks-total.ensures at c.encode.ensures)) in
     let begun = subst (IsBegun before before all) parts (begins before all) in
     rw p.1 (λ told.
     let next = goes_on before before mid all c.encode.result (records_text zs ++ blocks) begun (c.in_ok-write_all.ensures.text told) in
@@ -46,7 +46,7 @@ returns-clause-text g c =
     let later = g.W.Sink.taken c.write_records.new.sink in
     let all = text (namespace_of s zs xs) in
     let blocks = blocks_text (zones_of s.block s.capacity zs xs) in
-    let parts = sym (text_seen s zs xs c.requires.flat) ∙ ap (λ first. first ++ (records_text zs ++ blocks)) (sym c.encode.ensures) in
+    let parts = sym (text_seen s zs xs c.requires.flat) ∙ ap (λ first. first ++ (records_text zs ++ blocks)) (sym (rw c.written_blocks-total.ensures at c.encode.ensures)) in
     let begun = subst (IsBegun before before all) parts (begins before all) in
     λ told.
     let next = goes_on before before mid all c.encode.result (records_text zs ++ blocks) begun (c.in_ok-write_all.ensures.text told) in

@@ -1,8 +1,8 @@
-use Rattle.std.proofs.Common.{◌≡◌, ℕ, ◌<◌, ◌≤◌, Bool, true, false, List, length, get_or, set, arith, ap}
+use Rattle.std.proofs.Common.{◌≡◌, ℕ, ◌/◌, ◌<◌, ◌≤◌, Bool, true, false, List, length, get_or, set, Ok, arith, ap, sym, subst}
 use Rattle.std.proofs.lemmas.List.{map-set}
 use Rattle.std.proofs.lemmas.Option.{slice_get-get_or}
 use Rattle.zone_state.specs.State.{is_open, is_active}
-use Rattle.zone_state.specs.Zone.{ZoneRecord}
+use Rattle.zone_state.specs.Zone.{ZoneRecord, refusal}
 use Rattle.zone_resources.specs.Admission.{IsWithin}
 use Rattle.zone_resources.specs.Counts.{open_count, active_count, one_if}
 use Rattle.zone_resources.specs.declared.admission.Limits.{Limits}
@@ -10,7 +10,7 @@ use Rattle.zone_resources.specs.declared.counts.Counts.{Counts}
 use Rattle.zone_resources.proofs.CountLemmas.{counts_follow_one}
 use Rattle.image_store.specs.Flat.{no_record}
 use Rattle.image_store.specs.Geometry.{Shape}
-use Rattle.image_store.specs.Namespace.{records}
+use Rattle.image_store.specs.Namespace.{counted, records, zone_at}
 use Rattle.image_store.proofs.tests.an_appended_block_is_saved.Goals as goal
 
 most_one : (counted : Bool) → one_if counted ≤ 1
@@ -38,3 +38,12 @@ append-requires-clause-limits g c =
     let active : active_count (records image) < image.limits.active_limit =
     omega (arith, ap (λ (x : Counts). x.active) c.counts-counts.ensures, ap (λ (x : Limits). x.active_limit) c.limits-limits.ensures, ap (λ (x : Shape). x.limits.active_limit) c.geometry-3.ensures.value) in
     rw map-set (one_more (records image) image.limits 1 _ inside opened active)
+
+pub append-requires-clause-allowed : goal.append-requires-clause-allowed
+append-requires-clause-allowed g c =
+    let image = c.in_ok-image.image in
+    let z = counted image.capacity (zone_at image 1) in
+    let block : image.block ≡ 512 = omega (arith, ap (λ (s : Shape). s.block) c.geometry-2.ensures.value, c.block.ensures.value, c.bytes.ensures.value) in
+    let none : length (zone_at image 1).blocks ≡ 0 = omega (arith, ap (λ (x : ZoneRecord). x.written) c.zone.ensures, c.written.ensures) in
+    let told : refusal z 0 1 ≡ Ok tt = rw c.zone-2.ensures at (sym c.in-Ok.ensures) in
+    subst (λ (n : ℕ). refusal z n (512 / image.block) ≡ Ok tt) (sym none) (subst (λ (b : ℕ). refusal z 0 (512 / b) ≡ Ok tt) (sym block) told)

@@ -1,17 +1,17 @@
 //! Refused geometries and images.
 
-use super::super::scenes::{Act, EMPTY_ZONE, MAGIC, NUMBERS, Scene, play};
+use super::super::scenes::{Act, EMPTY_ZONE, MAGIC, NUMBERS, SHAPE, Scene, play};
 use std::test::Fail;
 
 const GEOMETRIES: &[Act] = &[
     Act::Refuses(
         "zscli format new --block 513 --zones 4 --size 8 --capacity 6 --open 2 --active 3",
-        "a block of 513 bytes: the block size is none of 512, 1024, 2048 and 4096\n\
+        "a block of 513 bytes: the block size is no power of 2 from 512 to 16384\n\
          geometry refused 1\n",
     ),
     Act::Refuses(
-        "zscli format new --block 512 --zones 1025 --size 8 --capacity 6 --open 2 --active 3",
-        "1025 zones: the number of zones is not from 1 to 1024\ngeometry refused 2\n",
+        "zscli format new --block 512 --zones 4097 --size 8 --capacity 6 --open 2 --active 3",
+        "4097 zones: the number of zones is not from 1 to 4096\ngeometry refused 2\n",
     ),
     Act::Refuses(
         "zscli format new --block 512 --zones 4 --size 0 --capacity 6 --open 2 --active 3",
@@ -37,21 +37,27 @@ const GEOMETRIES: &[Act] = &[
 /// What a header says of zones: 4 of 8 blocks, of which 6 can be written, of 512 bytes.
 const ZONE_NUMBERS: &[u8] = b"\0\x02\0\0\x04\0\0\0\x08\0\0\0\x06\0\0\0";
 
+/// Blocks of 8192 bytes.
+const LARGE_BLOCKS: &[u8] = b"\0\x20\0\0\x04\0\0\0\x08\0\0\0\x06\0\0\0\x02\0\0\0\x03\0\0\0";
+
+/// 1025 zones.
+const MANY_ZONES: &[u8] = b"\0\x02\0\0\x01\x04\0\0\x08\0\0\0\x06\0\0\0\x02\0\0\0\x03\0\0\0";
+
 const IMAGES: &[Act] = &[
     Act::Put("g1", &[(MAGIC, 1), (NUMBERS, 1), (EMPTY_ZONE, 3)]),
     Act::Refuses(
         "zscli zones g1",
         "g1: the image ends before its last block\nimage refused 10\n",
     ),
-    Act::Put("g1", &[(b"ZNSIMG02", 1), (NUMBERS, 1), (EMPTY_ZONE, 4)]),
+    Act::Put("g1", &[(b"ZNSIMG03", 1), (NUMBERS, 1), (EMPTY_ZONE, 4)]),
     Act::Refuses(
         "zscli zones g1",
-        "g1: the first 8 bytes are not ZNSIMG01\nimage refused 11\n",
+        "g1: the first 8 bytes are neither ZNSIMG01 nor ZNSIMG02\nimage refused 11\n",
     ),
     Act::Put("g1", &[(MAGIC, 1), (b"\0", 56)]),
     Act::Refuses(
         "zscli zones g1",
-        "g1: header: a block of 0 bytes: the block size is none of 512, 1024, 2048 and 4096\n\
+        "g1: header: a block of 0 bytes: the block size is no power of 2 from 512 to 16384\n\
          image refused 12\n",
     ),
     Act::Put(
@@ -80,7 +86,25 @@ const IMAGES: &[Act] = &[
     ),
     Act::Refuses(
         "zscli zones g1",
+        "g1: header: bytes 40 to 63 are not zero\nimage refused 12\n",
+    ),
+    Act::Put(
+        "g1",
+        &[(b"ZNSIMG01", 1), (SHAPE, 1), (b"\0", 31), (b"\x01", 1)],
+    ),
+    Act::Refuses(
+        "zscli zones g1",
         "g1: header: bytes 32 to 63 are not zero\nimage refused 12\n",
+    ),
+    Act::Put("g1", &[(b"ZNSIMG01", 1), (LARGE_BLOCKS, 1), (b"\0", 32)]),
+    Act::Refuses(
+        "zscli zones g1",
+        "g1: header: a block of 8192 bytes: version 1 has no such size\nimage refused 12\n",
+    ),
+    Act::Put("g1", &[(b"ZNSIMG01", 1), (MANY_ZONES, 1), (b"\0", 32)]),
+    Act::Refuses(
+        "zscli zones g1",
+        "g1: header: 1025 zones: version 1 has at most 1024\nimage refused 12\n",
     ),
     Act::Put(
         "g1",
@@ -121,6 +145,21 @@ const IMAGES: &[Act] = &[
         &[
             (MAGIC, 1),
             (NUMBERS, 1),
+            (b"\x02\0\0\0\x01\0\0\0", 3),
+            (EMPTY_ZONE, 1),
+        ],
+    ),
+    Act::Refuses(
+        "zscli zones g1",
+        "g1: the header tells of 0 written blocks, the records of 3\nimage refused 18\n",
+    ),
+    Act::Put(
+        "g1",
+        &[
+            (MAGIC, 1),
+            (SHAPE, 1),
+            (b"\x03", 1),
+            (b"\0", 31),
             (b"\x02\0\0\0\x01\0\0\0", 3),
             (EMPTY_ZONE, 1),
         ],

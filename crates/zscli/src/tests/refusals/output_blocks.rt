@@ -32,7 +32,7 @@ const BLOCKS: &[Act] = &[
     ),
     Act::Refuses(
         "zscli unpack b --block 513",
-        "a block of 513 bytes: the block size is none of 512, 1024, 2048 and 4096\n\
+        "a block of 513 bytes: the block size is no power of 2 from 512 to 16384\n\
          geometry refused 1\n",
     ),
 ];

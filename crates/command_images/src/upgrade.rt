@@ -1,0 +1,55 @@
+//! The command `upgrade`: an image in the last version.
+
+ghost use Rattle.std.specs.Prelude.{◌≡◌, OnOk, OnErr};
+ghost use Rattle.command_files.specs.Made.{MakesOne};
+
+use crate::image_file;
+use clap::{Arg, ArgMatches, Command};
+use command_failure::Failure;
+use command_files::Files;
+use command_files::arguments::required;
+use std::alloc::{AllocError, Global};
+
+/// The command's name.
+pub const NAME: &str = "upgrade";
+
+const IMAGE: &str = "IMAGE";
+
+const LONG_ABOUT: &str = "\
+Loads an image, of version 1 or 2, and saves it as version 2 in its place. The namespace is the same: its \
+zones, their states and their blocks. An image of version 2 stays as it is, byte for byte.
+
+`exec` saves version 2 too, so that an image needs no upgrade to be worked on.
+
+Of a file that is no image, `image refused REASON` tells the first fault, and the file stays as it is.";
+
+const EXAMPLE: &str = "\
+Example:
+
+  zscli upgrade zoned.img";
+
+/// How the command stands on the command line.
+pub fn subcommand<'a>(alloc: Global) -> Result<Command<'a>, AllocError> {
+    let image = Arg::new(alloc, IMAGE)
+        .required(true)
+        .help("The image, which is replaced");
+    Command::new(alloc, NAME)
+        .about("Saves an image in the last version")
+        .long_about(LONG_ABOUT)
+        .after_help(EXAMPLE)
+        .arg(image)
+}
+
+/// Runs the command.
+pub fn upgrade<'a, F: Files>(
+    alloc: Global,
+    matches: &ArgMatches<'a>,
+    files: &mut F,
+) -> Result<(), Failure<'a>>
+    ensures made { OnOk result (MakesOne (F.made files.old) (F.made files.new)) }
+    ensures kept { OnErr result (F.made files.new ≡ F.made files.old) }
+{
+    let path = required(matches, IMAGE);
+    let image = image_file::load(alloc, path, files)?;
+    image_file::save(&image, path, files)
+}

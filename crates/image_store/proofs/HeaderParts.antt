@@ -1,0 +1,88 @@
+-- What each header that is read has passed.
+use Rattle.std.proofs.Common.{◌≡◌, ℕ, Bool, true, false, cond, List, [], ◌∷◌, drop, Option, Some, None, Result, Ok, refl, ap, subst}
+use Rattle.std.proofs.lemmas.Bool.{leb-true}
+use Rattle.std.specs.List.{starts_with}
+use Rattle.std.specs.Option.{ok_or, option_map}
+use Rattle.std.specs.Prelude.{◌==◌, nat_le}
+use Rattle.image_store.specs.declared.fault.LoadFault.{LoadFault}
+use Rattle.image_store.specs.declared.fault.LoadFault.TheVariants as fault
+use Rattle.image_store.specs.declared.fault.HeaderFault.TheVariants as header_fault
+use Rattle.image_store.specs.declared.geometry.GeometryFault.{GeometryFault}
+use Rattle.image_store.specs.declared.header.Header.{Header}
+use Rattle.image_store.specs.declared.version.Version.{Version}
+use Rattle.image_store.specs.declared.version.Version.TheVariants.{One, Two}
+use Rattle.image_store.specs.Checks.{demand, first_fault, unless_fault}
+use Rattle.image_store.specs.Geometry.{Shape, IsShape, shape_checks}
+use Rattle.image_store.specs.Reading.{◌>>=◌, are_zeros, numbers_fault, numbers_in, shape_told, version_in, version_checks, version_kept, zeros_kept, total_told, header_of, header_told}
+use Rattle.image_store.specs.Version.{Has, has_block, numbers}
+use Rattle.image_store.proofs.Answered.{bind_ok, ok_is, chosen}
+use Rattle.image_store.proofs.Shapes.{both, none_fails, shape_is}
+
+-- do bytes begin with a version's magic?
+abbrev pub begins : List ℕ → Version → Bool
+begins bytes version = starts_with (λ a b. a == b) bytes (numbers version).magic
+
+either : (test : Version → Bool) (version : Version) (a b : Bool) → test One ≡ a → test Two ≡ b → cond a (Some One) (cond b (Some Two) None) ≡ Some version → test version ≡ true
+either test One true b first second e = first
+either test Two true b first second e = absurd cc
+either test One false true first second e = absurd cc
+either test Two false true first second e = second
+either test version false false first second e = absurd cc
+
+pub version_begins : (bytes : List ℕ) (version : Version) → version_in bytes ≡ Some version → begins bytes version ≡ true
+version_begins bytes version e = either (begins bytes) version (begins bytes One) (begins bytes Two) refl refl e
+
+some_version : (told : Option Version) (version : Version) → ok_or told fault.Magic ≡ Ok version → told ≡ Some version
+some_version None version e = absurd cc
+some_version (Some found) version e = ap (λ (v : Version). Some v) (ok_is found version e)
+
+-- numbers that pass the tests of a geometry are those of its shape
+record ArePassed (told s : Shape) : Type 0 where
+  pub same : told ≡ s
+  pub known : IsShape told
+
+passed_by : (told s : Shape) (check : Option GeometryFault) → unless_fault (option_map (numbers_fault told) check) told ≡ Ok s → (check ≡ None) × (told ≡ s)
+passed_by told s None e = (refl, ok_is told s e)
+passed_by told s (Some first) e = absurd cc
+
+passed : (told s : Shape) → numbers_in told ≡ Ok s → ArePassed told s
+passed told s e =
+    let p = passed_by told s (first_fault (shape_checks told)) e in
+    record { same = p.1; known = shape_is told told (ap (λ (check : Option GeometryFault). unless_fault check told) p.0) }
+
+version_has : (version : Version) (s : Shape) (done : Unit {0}) → version_kept version s ≡ Ok done → Has version s
+version_has version s done e =
+    let zones : Option LoadFault = first_fault (demand (nat_le s.zones (numbers version).most_zones) (fault.Geometry (header_fault.VersionZones version s.zones)) ∷ []) in
+    let a = both (has_block version s.block) (fault.Geometry (header_fault.VersionBlock version s.block)) zones (none_fails (first_fault (version_checks version s)) tt done e) in
+    let b = both (nat_le s.zones (numbers version).most_zones) (fault.Geometry (header_fault.VersionZones version s.zones)) None a.1 in
+    record { block = a.0; zones = leb-true s.zones (numbers version).most_zones b.0 }
+
+-- the version, and what holds of the shape
+pub record IsHeader (bytes : List ℕ) (header : Header) : Type 0 where
+  pub version : Version
+  pub begins : begins bytes version ≡ true
+  pub same : shape_told bytes ≡ header.geometry
+  pub known : IsShape header.geometry
+  pub has : Has version header.geometry
+  pub zeros : are_zeros (drop (numbers version).zeros_from bytes) ≡ true
+  pub total : header.total ≡ total_told version bytes
+
+pub header_parts : (bytes : List ℕ) (header : Header) → header_told bytes ≡ Ok header → IsHeader bytes header
+header_parts bytes header e =
+    let v = bind_ok (ok_or (version_in bytes) fault.Magic) (header_of bytes) header e in
+    let version = v.0 in
+    let made : Shape → Header = λ s. record { geometry = s; total = total_told version bytes } in
+    let zeros : Shape → Result Header LoadFault = λ s. zeros_kept version bytes >>= λ z. Ok (made s) in
+    let s = bind_ok (numbers_in (shape_told bytes)) (λ s. version_kept version s >>= λ k. zeros s) header v.2 in
+    let k = bind_ok (version_kept version s.0) (λ k. zeros s.0) header s.2 in
+    let z = bind_ok (zeros_kept version bytes) (λ z. Ok (made s.0)) header k.2 in
+    let pass = passed (shape_told bytes) s.0 s.1 in
+    subst (IsHeader bytes) (ok_is (made s.0) header z.2) (record {
+      version = version;
+      begins = version_begins bytes version (some_version (version_in bytes) version v.1);
+      same = pass.same;
+      known = subst IsShape pass.same pass.known;
+      has = version_has version s.0 k.0 k.1;
+      zeros = (chosen (are_zeros (drop (numbers version).zeros_from bytes)) tt z.0 (fault.Geometry (header_fault.Reserved version)) z.1).0;
+      total = refl;
+    })

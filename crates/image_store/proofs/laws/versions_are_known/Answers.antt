@@ -1,0 +1,9 @@
+use Rattle.image_store.proofs.Again.{last_has}
+use Rattle.image_store.proofs.Shapes.{version_known}
+use Rattle.image_store.proofs.laws.versions_are_known.Goals as goal
+
+pub returns-clause-known : goal.returns-clause-known
+returns-clause-known c = version_known
+
+pub returns-clause-all : goal.returns-clause-all
+returns-clause-all c = last_has
