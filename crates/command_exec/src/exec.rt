@@ -99,6 +99,8 @@ pub fn exec<'a, F: Files, O: Write>(
 /// Runs the events on an image and then the turns that are left, prints a line for each, and makes the
 /// image's file anew, as they left it: all of them, or where standard output fails, those that were done
 /// by then.
+// The device stands in this frame, which is to be gone from the stack while the command line is read.
+#[inline(never)]
 fn run<'a, F: Files, O: Write>(
     alloc: Global,
     image: Image,
