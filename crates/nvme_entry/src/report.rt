@@ -77,8 +77,8 @@ fn number_told(partial: bool, room: usize, found: usize) -> u64
     }
 }
 
-/// Puts bytes at the front.
-fn put_front(output: &mut [u8], bytes: &[u8])
+/// Puts bytes at the front, and leaves those behind them.
+pub fn put_front(output: &mut [u8], bytes: &[u8])
     requires { length bytes.now ≤ length output.old }
     ensures { output.new ≡ bytes.now ++ drop (length bytes.now) output.old }
 {

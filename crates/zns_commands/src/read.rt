@@ -12,7 +12,7 @@ use crate::address::range;
 use crate::answer::Answer;
 use crate::transfer;
 use image_store::{Image, Place};
-use nvme_entry::{BlockCount, MOST_TRANSFER, Status};
+use nvme_entry::{BlockCount, MOST_TRANSFER, Status, put_front};
 use zone_state::ZoneState;
 
 /// The checks of a read: where it begins.
@@ -30,14 +30,6 @@ fn check(image: &Image, lba: u64, blocks: BlockCount, input: &[u8]) -> Result<Pl
     Ok(place)
 }
 
-/// Puts bytes at the front.
-fn copy_front(output: &mut [u8], bytes: &[u8])
-    requires { length bytes.now ≤ length output.old }
-    ensures { output.new ≡ bytes.now ++ drop (length bytes.now) output.old }
-{
-    output[..bytes.len()].copy_from_slice(bytes);
-}
-
 /// Puts zeros at the front.
 fn clear_front(output: &mut [u8], count: usize)
     requires { count ≤ length output.old }
@@ -51,7 +43,7 @@ fn give(output: &mut [u8], bytes: &[u8], zeros: usize)
     requires { length bytes.now + zeros ≤ length output.old }
     ensures { output.new ≡ bytes.now ++ (replicate zeros 0 ++ drop (length bytes.now + zeros) output.old) }
 {
-    copy_front(output, bytes);
+    put_front(output, bytes);
     clear_front(&mut output[bytes.len()..], zeros);
 }
 
