@@ -8,12 +8,16 @@ ghost use Rattle.device_events.specs.Replies.{data_length};
 pub enum Reply {
     /// The completion of a submitted entry, with `length` bytes of data.
     Complete {
+        /// The queue that the command came from.
         queue: u16,
+        /// The completion's bytes (NVMe Base 2.0, 3.3.3.2).
         entry: [u8; 16],
+        /// How many bytes of data go with it.
         length: usize,
     },
     /// A run was admitted, or has turns left.
     Pending {
+        /// The run's number.
         run: u8,
     },
     /// No run has this number.

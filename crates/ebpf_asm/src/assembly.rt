@@ -18,9 +18,10 @@ use std::collections::BTreeMap;
 
 /// The bytes of the instructions that a text spells, in order; none for a text without instructions.
 ///
-/// An error is the lowest line's that can't be read, has the label of an earlier line, or ends
-/// behind slot 4095; else the lowest line's that jumps to an unknown label or too far. It may also
-/// be want of memory.
+/// # Errors
+///
+/// That of the lowest line that can't be read, has the label of an earlier line, or ends behind slot 4095; else that of the
+/// lowest line that jumps to an unknown label or too far. Or want of memory.
 pub fn assemble(alloc: Global, text: &[u8]) -> Result<Vec<u8>, AssembleError>
     ensures { Gives (λ bytes. bytes.items) result (assembled text.now) }
 {

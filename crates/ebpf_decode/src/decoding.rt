@@ -280,7 +280,11 @@ fn length_fault(len: usize) -> Option<FaultKind>
     }
 }
 
-/// The program that the bytes spell, or their first fault (RFC 9669, 3).
+/// The program that the bytes spell (RFC 9669, 3).
+///
+/// # Errors
+///
+/// The fault of the lowest slot that has one, or of the length, at slot 0. Or want of memory.
 pub fn decode(alloc: Global, bytes: &[u8]) -> Result<Program, DecodeFault>
     // What is decoded is spelled by the bytes.
     ensures found { IfOk result (λ program. bytes.now ≡ program_bytes program) }

@@ -16,13 +16,14 @@ static ZEROS: [u8; LARGEST_BLOCK] = [0; LARGEST_BLOCK];
 
 /// Packs groups into output blocks. It keeps the block that was begun last, since the next group
 /// may still go into it. A clause sees the size of its blocks and the bytes that are pending.
-// The block is an array, and what is released a copy of it: an `ArrayVec` that is taken out of its
-// place leaves zeros there, which would be one more block to write.
 #[derive(Drop)]
 pub struct Packer {
+    // bytes of an output block
     block: usize,
     // how many bytes at the front of the array are pending
     pending: usize,
+    // an array, and what is released a copy of it: an `ArrayVec` that is taken out of its place leaves
+    // zeros there, which would be one more block to write
     bytes: [u8; LARGEST_BLOCK],
 }
 

@@ -12,7 +12,9 @@ use program_interface::MOST_SLOTS;
 /// The second operand of an arithmetic or a compare (RFC 9669, 4.1).
 #[derive(Clone, Copy, Debug, PartialEq, Eq)]
 pub enum Source {
+    /// A number in the instruction, sign-extended where 64 bits are wanted.
     Immediate(i32),
+    /// A register's word, or its low half.
     Register(Register),
 }
 

@@ -18,13 +18,21 @@ const DWORD: usize = 4;
 /// The opcode of a command (NVM Command Set 1.0, 3.2; ZNS 1.1, 3.4; Run, Load and Result are profile).
 #[derive(Clone, Copy, Debug, PartialEq, Eq)]
 pub enum Opcode {
+    /// 01h: writes blocks at a zone's write pointer.
     Write,
+    /// 02h: reads blocks.
     Read,
+    /// 79h: an action on a zone, or on all.
     ZoneManagementSend,
+    /// 7Ah: a report of zones.
     ZoneManagementReceive,
+    /// 7Dh: writes blocks to a zone, and answers where they went.
     ZoneAppend,
+    /// C0h: starts a run of a slot's program.
     Run,
+    /// C1h: loads a program into a slot.
     Load,
+    /// C2h: reads the scratch bytes that the last run of a slot's program left.
     Result,
 }
 

@@ -9,13 +9,16 @@ use zone_state::ZoneState;
 /// Specific of a Report Zones; ZNS 1.1, 3.4.2).
 #[derive(Clone, Copy, Debug, PartialEq, Eq)]
 pub enum ZoneFilter {
+    /// 00h: every zone.
     All,
+    /// 01h: zones in the state Empty; the codes go on in the order of these states.
     Empty,
     ImplicitlyOpened,
     ExplicitlyOpened,
     Closed,
     Full,
     ReadOnly,
+    /// 07h.
     Offline,
 }
 

@@ -11,19 +11,25 @@ use program_interface::{BlockSize, SCRATCH_BYTES};
 /// A run between two of its turns.
 #[derive(Drop)]
 pub struct Active {
-    /// Where its completion goes, and the command identifier that it has.
+    /// The queue that its completion goes to.
     pub queue: u16,
+    /// The command identifier that its completion repeats.
     pub cid: u16,
+    /// The command that started it.
     pub order: RunCommand,
-    /// Where its first source block is, and the number of the zone that it appends to.
+    /// Where its first source block is.
     pub source: Place,
+    /// The number of the zone that it appends to.
     pub destination: u32,
     /// How many source blocks are done.
     pub index: u32,
+    /// What the program keeps from block to block.
     pub scratch: [u8; SCRATCH_BYTES],
+    /// The block of frames that is begun, and not yet appended.
     pub packer: Packer,
-    /// How many frames were emitted, and how many blocks appended.
+    /// How many frames were emitted.
     pub frames: u32,
+    /// How many blocks were appended.
     pub appended: u32,
 }
 

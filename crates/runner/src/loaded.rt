@@ -12,7 +12,9 @@ use verifier::Verified;
 /// zeros before there was one.
 #[derive(Drop)]
 pub struct LoadedProgram {
+    /// The accepted program, ready to run.
     pub prepared: Prepared<Verified<Intervals>>,
+    /// The scratch bytes that its last run left.
     pub result: [u8; SCRATCH_BYTES],
 }
 

@@ -8,12 +8,13 @@ use nvme_entry::Status;
 /// The answer to a command: what its completion says, and how many bytes of data it gives.
 #[derive(Clone, Copy, Debug, PartialEq, Eq)]
 pub struct Answer {
+    /// The completion's status (NVMe Base 2.0, 3.3.3.2).
     pub status: Status,
     /// Dword 0 of the completion.
     pub dw0: u32,
     /// Dword 1 of the completion.
     pub dw1: u32,
-    /// Bytes of data that the command gives.
+    /// How many bytes of data the command gives.
     pub length: usize,
 }
 

@@ -14,8 +14,8 @@ use image_store::Image;
 use nvme_entry::{BlockCount, Status};
 use zone_resources::Holds;
 
-/// Writes the data at the write pointer of the zone whose lowest block is `lba`, and answers the
-/// block that the first of them went to. A refused append changes nothing.
+/// Writes the data, so many blocks, at the write pointer of the zone whose lowest block is `lba`, and answers the LBA
+/// that the first of them went to (ZNS 1.1, 3.4.1). An append whose status isn't success changes nothing.
 pub fn append(
     image: &mut Image,
     holds: &Holds,

@@ -8,7 +8,11 @@ use image_store::Image;
 use zone_resources::Holds;
 use zone_state::{FaultRefused, FaultState};
 
-/// Brings a zone into the state of a fault. A refused fault changes nothing.
+/// Brings a zone into the state of a fault.
+///
+/// # Errors
+///
+/// A zone that isn't there, that a run reads or appends to, or whose state can't become the fault's; nothing is changed then.
 pub fn fault(
     image: &mut Image,
     zone: u32,

@@ -21,8 +21,10 @@ use zone_state::{Action, ZoneState};
 /// that gives way to it.
 #[derive(Clone, Copy, Debug)]
 pub struct ZonePlan {
+    /// The zone's number.
     pub zone: u32,
     pub to: ZoneState,
+    /// The number of the zone that is closed before, for the open resource that it has.
     pub closing: Option<u32>,
 }
 

@@ -19,7 +19,9 @@ use zone_resources::Holds;
 /// A write that isn't refused: the zone that is written, and the one that gives way to it.
 #[derive(Clone, Copy, Debug)]
 pub struct WritePlan {
+    /// The zone's number.
     pub zone: u32,
+    /// The number of the zone that is closed before, for the open resource that it has.
     pub closing: Option<u32>,
 }
 
