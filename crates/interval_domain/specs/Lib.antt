@@ -1,12 +1,3 @@
-pub mod Fact
-pub mod Range
-pub mod Arithmetic
-pub mod Edge
-pub mod NumberLaws
-pub mod RangeLaws
-pub mod FactLaws
-pub mod PointerLaws
-pub mod ArithmeticLaws
-pub mod EdgeLaws
-pub mod Intervals
-pub mod Constants
+pub use Rattle.interval_facts.specs.Fact
+pub use Rattle.interval_facts.specs.Intervals
+pub use Rattle.interval_facts.specs.Constants

@@ -2,10 +2,10 @@
 
 ghost use Rattle.std.specs.Prelude.{◌≡◌};
 
-use crate::arithmetic::arithmetic_on;
-use crate::edge::refine;
-use crate::fact::{Fact, access, join, load, offsets, one, pointer_between, words_of};
 use instruction_set::{Relation, SignedSize, Size, Width};
+use interval_facts::{
+    Fact, access, arithmetic_on, join, load, offsets, one, pointer_between, refine, words_of,
+};
 use program_interface::{Area, BlockSize};
 use program_meaning::Arithmetic;
 use reg_domain::{Bounds, Domain, Offsets};
@@ -18,8 +18,8 @@ pub struct Intervals {
 }
 
 impl Model for Intervals {
-    ghost use Rattle.interval_domain.specs.Fact.{IsFact};
-    ghost use Rattle.interval_domain.specs.declared.fact.Fact.{Fact};
+    ghost use Rattle.interval_facts.specs.Fact.{IsFact};
+    ghost use Rattle.interval_facts.specs.declared.fact.Fact.{Fact};
 
     ghost Value = { Fact };
 
@@ -41,8 +41,9 @@ impl Intervals {
 }
 
 impl Domain for Intervals {
-    ghost use Rattle.interval_domain.specs.Fact.{ContainsWord};
-    ghost use Rattle.interval_domain.specs.Intervals.{EachIsFact, intervals, intervals_sound};
+    ghost use Rattle.interval_facts.proofs.Proved.{intervals_sound};
+    ghost use Rattle.interval_facts.specs.Fact.{ContainsWord};
+    ghost use Rattle.interval_facts.specs.Intervals.{EachIsFact, intervals};
 
     ghost is_fact = { EachIsFact };
 

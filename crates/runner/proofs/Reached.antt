@@ -1,6 +1,7 @@
 -- The states that events leave from an image on.
 use Rattle.std.proofs.Common.{ℕ, List, [], ◌∷◌, ◌++◌, refl, ap, sym, subst, ◌∙◌}
-use Rattle.interval_domain.specs.Intervals.{intervals, intervals_sound}
+use Rattle.interval_domain.proofs.Proved.{intervals_sound}
+use Rattle.interval_domain.specs.Intervals.{intervals}
 use Rattle.verifier.specs.Laws.{AcceptedNeverTraps}
 use Rattle.verifier.specs.Soundness.{accepted_never_traps}
 use Rattle.image_store.specs.Namespace.{ZonedNamespace, IsNamespace}

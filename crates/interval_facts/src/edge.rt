@@ -1,8 +1,8 @@
 //! What an edge of a compare tells of its operands.
 
 ghost use Rattle.std.specs.Prelude.{◌≡◌, ◌≤◌, ◌==◌, ◌&&◌, IfSome, false};
-ghost use Rattle.interval_domain.specs.Fact.{IsFact, is_single};
-ghost use Rattle.interval_domain.specs.Edge.{OrderedPair, FactPair, edge_of, equal, without, different, less, at_most, exchanged, narrowed, as_facts, fits, agrees, refine_words, refine_of};
+ghost use Rattle.interval_facts.specs.Fact.{IsFact, is_single};
+ghost use Rattle.interval_facts.specs.Edge.{OrderedPair, FactPair, edge_of, equal, without, different, less, at_most, exchanged, narrowed, as_facts, fits, agrees, refine_words, refine_of};
 
 use crate::fact::{Fact, is_one};
 use instruction_set::{Relation, Width};

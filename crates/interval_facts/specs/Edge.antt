@@ -5,10 +5,10 @@ use Rattle.instruction_set.specs.declared.operation.Relation.TheVariants.{Equal,
 use Rattle.instruction_set.specs.declared.operation.Width.{Width}
 use Rattle.instruction_set.specs.declared.operation.Width.TheVariants.{Bits32, Bits64}
 use Rattle.program_meaning.specs.Word.{is_taken}
-use Rattle.interval_domain.specs.Fact.{IsFact, is_single, range}
+use Rattle.interval_facts.specs.Fact.{IsFact, is_single, range}
 use Rattle.reg_domain.specs.declared.bounds.Bounds.{Bounds}
-use Rattle.interval_domain.specs.declared.fact.Fact.{Fact}
-use Rattle.interval_domain.specs.declared.fact.Fact.TheVariants.{Words}
+use Rattle.interval_facts.specs.declared.fact.Fact.{Fact}
+use Rattle.interval_facts.specs.declared.fact.Fact.TheVariants.{Words}
 
 abbrev pub OrderedPair : Bounds × Bounds → Type 0
 OrderedPair both = (both.0.low ≤ both.0.high) × (both.1.low ≤ both.1.high)

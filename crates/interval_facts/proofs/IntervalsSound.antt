@@ -1,35 +1,14 @@
--- The domain of intervals (profile).
-use Rattle.std.specs.Prelude.{pos, Option, Some, None, IfSome}
-use Rattle.interval_domain.specs.ArithmeticLaws.{alu_law}
-use Rattle.interval_domain.specs.EdgeLaws.{refine_law}
-use Rattle.interval_domain.specs.FactLaws.{any_law, bounds_law, constant_law, join_first, join_second, loaded_law, loaded_signed_law}
-use Rattle.interval_domain.specs.PointerLaws.{access_law, offsets_law, pointer_law}
+-- The domain of intervals is sound.
+use Rattle.std.specs.Prelude.{Option, Some, None, IfSome}
 use Rattle.program_meaning.specs.PlaceLaws.{block_small}
-use Rattle.interval_domain.specs.Arithmetic.{alu_of}
 use Rattle.reg_domain.specs.Domain.{GiveFacts, IsSound, Operations}
-use Rattle.interval_domain.specs.Edge.{refine_of}
-use Rattle.interval_domain.specs.Fact.{ContainsWord, access_of, bounds_of, full, join_of, loaded_of, loaded_signed_of, offsets_of, pointer_to, single}
-use Rattle.interval_domain.specs.declared.fact.Fact.{Fact}
-use Rattle.interval_domain.specs.declared.fact.Fact.TheVariants.{Words}
-
-abbrev pub intervals : Operations Fact
-intervals = record {
-  constant = λ w. Words (single w);
-  any = Words full;
-  pointer = λ area k. pointer_to area (pos k) (pos k);
-  loaded = loaded_of;
-  loaded_signed = loaded_signed_of;
-  join = join_of;
-  alu = alu_of;
-  refine = refine_of;
-  access = access_of;
-  bounds = bounds_of;
-  offsets = offsets_of;
-}
-
--- each value is a fact: the laws hold also of bounds out of order, to which no word belongs
-abbrev pub EachIsFact : Fact → Type 0
-EachIsFact f = Unit {0}
+use Rattle.interval_facts.proofs.ArithmeticSound.{alu_law}
+use Rattle.interval_facts.proofs.EdgeSound.{refine_law}
+use Rattle.interval_facts.proofs.FactSound.{any_law, bounds_law, constant_law, join_first, join_second, loaded_law, loaded_signed_law}
+use Rattle.interval_facts.proofs.PointerSound.{access_law, offsets_law, pointer_law}
+use Rattle.interval_facts.specs.Fact.{ContainsWord}
+use Rattle.interval_facts.specs.Intervals.{EachIsFact, intervals}
+use Rattle.interval_facts.specs.declared.fact.Fact.{Fact}
 
 refined_are_facts : (o : Option (Fact × Fact)) → IfSome o (λ facts. EachIsFact facts.0 × EachIsFact facts.1)
 refined_are_facts None = tt

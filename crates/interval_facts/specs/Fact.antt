@@ -9,8 +9,8 @@ use Rattle.program_interface.specs.Area.{address_of, length_of}
 use Rattle.program_interface.specs.declared.area.Area.{Area}
 use Rattle.reg_domain.specs.declared.bounds.Bounds.{Bounds}
 use Rattle.reg_domain.specs.declared.offsets.Offsets.{Offsets}
-use Rattle.interval_domain.specs.declared.fact.Fact.{Fact}
-use Rattle.interval_domain.specs.declared.fact.Fact.TheVariants.{Words, Pointer}
+use Rattle.interval_facts.specs.declared.fact.Fact.{Fact}
+use Rattle.interval_facts.specs.declared.fact.Fact.TheVariants.{Words, Pointer}
 
 -- the numbers from the lowest to the greatest
 abbrev pub IsWithin : Bounds → ℕ → Type 0

@@ -20,15 +20,15 @@ use Rattle.program_meaning.proofs.WordLemmas.{computed_fits}
 use Rattle.program_meaning.specs.Word.{bits, computed, extended, low_bits, reordered, reversed}
 use Rattle.program_meaning.specs.declared.word.Arithmetic.{Arithmetic}
 use Rattle.program_meaning.specs.declared.word.Arithmetic.TheVariants.{Binary, Negate, MoveSigned, SwapBytes}
-use Rattle.interval_domain.specs.FactLaws.{any_law, bounds_law, constant_law, either_fact, is_word}
-use Rattle.interval_domain.specs.PointerLaws.{moved_back_law, moved_on_law}
-use Rattle.interval_domain.specs.RangeLaws.{combined_law, either, top_law}
-use Rattle.interval_domain.specs.Arithmetic.{added, alu_of, are_known, combined_64, combined_of, cut, estimated, extended_of, is_known, operand_of, subtracted, swapped_of, unsigned_below, width_of}
-use Rattle.interval_domain.specs.Fact.{ContainsWord, IsWithin, bounds_of, is_single, single}
-use Rattle.interval_domain.specs.Range.{combined, limit, top}
+use Rattle.interval_facts.proofs.FactSound.{any_law, bounds_law, constant_law, either_fact, is_word}
+use Rattle.interval_facts.proofs.PointerSound.{moved_back_law, moved_on_law}
+use Rattle.interval_facts.proofs.RangeSound.{combined_law, either, top_law}
+use Rattle.interval_facts.specs.Arithmetic.{added, alu_of, are_known, combined_64, combined_of, cut, estimated, extended_of, is_known, operand_of, subtracted, swapped_of, unsigned_below, width_of}
+use Rattle.interval_facts.specs.Fact.{ContainsWord, IsWithin, bounds_of, is_single, single}
+use Rattle.interval_facts.specs.Range.{combined, limit, top}
 use Rattle.reg_domain.specs.declared.bounds.Bounds.{Bounds}
-use Rattle.interval_domain.specs.declared.fact.Fact.{Fact}
-use Rattle.interval_domain.specs.declared.fact.Fact.TheVariants.{Words, Pointer}
+use Rattle.interval_facts.specs.declared.fact.Fact.{Fact}
+use Rattle.interval_facts.specs.declared.fact.Fact.TheVariants.{Words, Pointer}
 
 -- ---- operands
 

@@ -1,26 +1,14 @@
--- The domain of constants: that of intervals, but what comes out of a rule with two different bounds is
--- widened to every word (profile).
+-- The domain of constants is sound, since widening keeps what belongs to a fact.
 use Rattle.std.specs.Prelude.{ℕ, Option, Some, None}
 use Rattle.program_meaning.specs.Effect.{sign_extended}
 use Rattle.program_meaning.specs.Word.{computed}
-use Rattle.reg_domain.specs.Domain.{BelongAfter, IsSound, Operations}
-use Rattle.interval_domain.specs.Fact.{ContainsWord, widened}
-use Rattle.interval_domain.specs.FactLaws.{widened_law}
-use Rattle.interval_domain.specs.Intervals.{EachIsFact, each_is_fact, intervals, intervals_sound}
-use Rattle.interval_domain.specs.declared.fact.Fact.{Fact}
-
-abbrev pub both_widened : Option (Fact × Fact) → Option (Fact × Fact)
-both_widened None = None
-both_widened (Some facts) = Some (widened facts.0, widened facts.1)
-
-abbrev pub constants : Operations Fact
-constants = record intervals {
-  loaded = λ size. widened (intervals.loaded size);
-  loaded_signed = λ size. widened (intervals.loaded_signed size);
-  join = λ d e. widened (intervals.join d e);
-  alu = λ arithmetic d e. widened (intervals.alu arithmetic d e);
-  refine = λ width relation taken d e same. both_widened (intervals.refine width relation taken d e same);
-}
+use Rattle.reg_domain.specs.Domain.{BelongAfter, IsSound}
+use Rattle.interval_facts.proofs.FactSound.{widened_law}
+use Rattle.interval_facts.proofs.IntervalsSound.{each_is_fact, intervals_sound}
+use Rattle.interval_facts.specs.Constants.{both_widened, constants}
+use Rattle.interval_facts.specs.Fact.{ContainsWord}
+use Rattle.interval_facts.specs.Intervals.{EachIsFact, intervals}
+use Rattle.interval_facts.specs.declared.fact.Fact.{Fact}
 
 both_widened_law : (o : Option (Fact × Fact)) (x y : ℕ) → BelongAfter ContainsWord x y o
     → BelongAfter ContainsWord x y (both_widened o)

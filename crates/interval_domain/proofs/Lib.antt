@@ -1,0 +1,1 @@
+pub use Rattle.interval_facts.proofs.Proved

@@ -1,0 +1,9 @@
+mod Numbers
+mod FactSound
+mod RangeSound
+mod PointerSound
+mod ArithmeticSound
+mod EdgeSound
+mod IntervalsSound
+mod ConstantsSound
+pub mod Proved

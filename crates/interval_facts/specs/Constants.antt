@@ -1,0 +1,20 @@
+-- The domain of constants: that of intervals, but what comes out of a rule with two different bounds is
+-- widened to every word (profile).
+use Rattle.std.specs.Prelude.{Option, Some, None}
+use Rattle.reg_domain.specs.Domain.{Operations}
+use Rattle.interval_facts.specs.Fact.{widened}
+use Rattle.interval_facts.specs.Intervals.{intervals}
+use Rattle.interval_facts.specs.declared.fact.Fact.{Fact}
+
+abbrev pub both_widened : Option (Fact × Fact) → Option (Fact × Fact)
+both_widened None = None
+both_widened (Some facts) = Some (widened facts.0, widened facts.1)
+
+abbrev pub constants : Operations Fact
+constants = record intervals {
+  loaded = λ size. widened (intervals.loaded size);
+  loaded_signed = λ size. widened (intervals.loaded_signed size);
+  join = λ d e. widened (intervals.join d e);
+  alu = λ arithmetic d e. widened (intervals.alu arithmetic d e);
+  refine = λ width relation taken d e same. both_widened (intervals.refine width relation taken d e same);
+}

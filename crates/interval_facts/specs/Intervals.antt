@@ -1,0 +1,27 @@
+-- What the rules for facts come to: the operations of the domain of intervals (profile).
+use Rattle.std.specs.Prelude.{pos}
+use Rattle.reg_domain.specs.Domain.{Operations}
+use Rattle.interval_facts.specs.Arithmetic.{alu_of}
+use Rattle.interval_facts.specs.Edge.{refine_of}
+use Rattle.interval_facts.specs.Fact.{access_of, bounds_of, full, join_of, loaded_of, loaded_signed_of, offsets_of, pointer_to, single}
+use Rattle.interval_facts.specs.declared.fact.Fact.{Fact}
+use Rattle.interval_facts.specs.declared.fact.Fact.TheVariants.{Words}
+
+abbrev pub intervals : Operations Fact
+intervals = record {
+  constant = λ w. Words (single w);
+  any = Words full;
+  pointer = λ area k. pointer_to area (pos k) (pos k);
+  loaded = loaded_of;
+  loaded_signed = loaded_signed_of;
+  join = join_of;
+  alu = alu_of;
+  refine = refine_of;
+  access = access_of;
+  bounds = bounds_of;
+  offsets = offsets_of;
+}
+
+-- each value is a fact: the laws hold also of bounds out of order, to which no word belongs
+abbrev pub EachIsFact : Fact → Type 0
+EachIsFact f = Unit {0}

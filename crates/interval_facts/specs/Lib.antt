@@ -1,0 +1,6 @@
+pub mod Fact
+pub mod Range
+pub mod Arithmetic
+pub mod Edge
+pub mod Intervals
+pub mod Constants
