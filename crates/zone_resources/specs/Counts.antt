@@ -5,7 +5,7 @@ use Rattle.zone_state.specs.State.{is_open, is_active}
 use Rattle.zone_state.specs.Zone.{ZoneRecord}
 use Rattle.zone_state.specs.declared.state.ZoneState.{ZoneState}
 
--- how many zones hold an open resource (ZNS Command Set 1.1, Zone Resources)
+-- how many zones hold an open resource (ZNS 1.1, Zone Resources)
 abbrev pub open_count : List ZoneRecord → ℕ
 open_count zones = count_by (λ z. is_open z.state) zones
 

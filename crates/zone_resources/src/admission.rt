@@ -9,7 +9,7 @@ use crate::counts::Counts;
 use crate::holds::Holds;
 use zone_state::{Status, Zone, ZoneState};
 
-/// How many zones may hold resources at one time (ZNS Command Set 1.1, Zone Resources).
+/// How many zones may hold resources at one time (ZNS 1.1, Zone Resources).
 #[derive(Clone, Copy, Debug, PartialEq, Eq)]
 pub struct Limits {
     /// The most zones that may be open: Maximum Open Resources.
@@ -41,7 +41,7 @@ impl Wanted {
     }
 }
 
-/// Whether one more of the zones may take the resources that it wants (ZNS Command Set 1.1, Zone
+/// Whether one more of the zones may take the resources that it wants (ZNS 1.1, Zone
 /// Resources). Answers the number of a zone that has to be closed first, where no open resource is
 /// free: the lowest-numbered one that is implicitly opened and no run's destination (profile).
 ///

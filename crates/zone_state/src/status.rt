@@ -83,7 +83,7 @@ impl Status {
     };
 }
 
-/// Command specific status (ZNS Command Set 1.1, Command Specific Status Values).
+/// Command specific status (ZNS 1.1, Command Specific Status Values).
 impl Status {
     /// The blocks are not all in one zone, or a write passes the zone's capacity.
     pub const ZONE_BOUNDARY_ERROR: Status = Status {
