@@ -4,7 +4,8 @@ ghost use Rattle.std.specs.Prelude.{◌≡◌, ◌<◌, ◌↔◌, IsSome, IfSom
 
 use std::marker::Model;
 
-/// One of the eleven registers R0 to R10 (RFC 9669, 3). A clause sees its number.
+/// One of the eleven registers R0 to R10 (BPF ABI 1.0, Registers and calling convention). A clause sees its
+/// number.
 #[derive(Clone, Copy, Debug, PartialEq, Eq)]
 pub struct Register {
     number: u8,
@@ -23,7 +24,7 @@ impl Model for Register {
 }
 
 impl Register {
-    /// R10, the frame pointer, which programs only read (RFC 9669, 3).
+    /// R10, the frame pointer, which programs only read (BPF ABI 1.0, Registers and calling convention).
     pub const FRAME_POINTER: Register = Register { number: 10 };
 
     /// The register with this number, or `None` for a number over 10.

@@ -5,7 +5,7 @@ ghost use Rattle.program_interface.specs.Entry.{registers_at_entry};
 
 use crate::area::{Area, STACK_BYTES};
 
-/// The number of registers, R0 to R10 (RFC 9669, 3).
+/// The number of registers, R0 to R10 (BPF ABI 1.0, Registers and calling convention).
 pub const REGISTERS: usize = 11;
 
 /// The registers at the start of a block's run: R1, R2 and R3 are the addresses of context, block and

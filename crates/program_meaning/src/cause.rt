@@ -11,7 +11,7 @@ pub enum Cause {
     NextOutside,
     /// 2: the next slot is a wide instruction's second.
     NextInsideWide,
-    /// 3: a write to R10, the read-only frame pointer (RFC 9669, 3).
+    /// 3: a write to R10, the read-only frame pointer (BPF ABI 1.0, Registers and calling convention).
     WriteToFramePointer,
     /// 4: a load whose bytes aren't all in one area.
     LoadOutside,
