@@ -5,7 +5,7 @@ use Rattle.zone_state.specs.State.{is_active}
 use Rattle.zone_state.specs.Zone.{ZoneRecord}
 use Rattle.zone_resources.specs.Admission.{IsWithin}
 use Rattle.zone_resources.specs.declared.admission.Limits.{Limits}
-use Rattle.zone_resources.proofs.LimitLemmas.{release_keeps_limits, idle_holds_no_more}
+use Rattle.zone_resources.proofs.Proved.{release_keeps_limits, idle_holds_no_more}
 use Rattle.image_store.specs.Flat.{no_record, namespace_of, IsFlat}
 use Rattle.image_store.specs.Geometry.{Shape}
 use Rattle.image_store.specs.Namespace.{ZonedNamespace, IsWithinLimits}

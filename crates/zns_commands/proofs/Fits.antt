@@ -5,7 +5,7 @@ use Rattle.std.proofs.lemmas.List.{length-map, length-set, get_or-map, map-set}
 use Rattle.std.proofs.lemmas.Option.{slice_get-get_or}
 use Rattle.zone_state.specs.Zone.{ZoneRecord, IsZone}
 use Rattle.zone_resources.specs.Admission.{HoldsNoMore, IsWithin}
-use Rattle.zone_resources.proofs.LimitLemmas.{release_keeps_limits}
+use Rattle.zone_resources.proofs.Proved.{release_keeps_limits}
 use Rattle.image_store.specs.Blocks.{AreBytes}
 use Rattle.image_store.specs.Geometry.{IsShape}
 use Rattle.image_store.specs.Namespace.{ZoneBlocks, ZonedNamespace, no_zone, zone_at, with_zone, counted, shape, records, IsNamespace, IsWithinLimits}

@@ -1,6 +1,6 @@
 -- Namespaces in which a zone gave way to another.
 use Rattle.std.proofs.Common.{arith, ◌≡◌, ◌≢◌, ℕ, ◌<◌, Bool, true, false, cond, List, length, Option, Some, None, Result, Ok, Err, refl, ap, sym, subst, ◌∙◌, get_or-set_other}
-use Rattle.std.specs.Prelude.{slice_set, nat_lt}
+use Rattle.std.specs.Prelude.{slice_set, nat_lt, MatchOption}
 use Rattle.std.specs.Option.{ForSome}
 use Rattle.zone_state.specs.Zone.{ZoneRecord}
 use Rattle.zone_state.specs.declared.state.ZoneState.{ZoneState}
@@ -13,8 +13,7 @@ use Rattle.zone_resources.specs.declared.admission.Limits.{Limits}
 use Rattle.zone_resources.specs.declared.admission.Wanted.{Wanted}
 use Rattle.zone_resources.specs.declared.admission.Wanted.TheVariants.{OpenOnly, OpenAndActive}
 use Rattle.zone_resources.specs.declared.holds.Holds.{Holds}
-use Rattle.zone_resources.proofs.AdmissionLemmas.{closes_at}
-use Rattle.zone_resources.proofs.LimitLemmas.{admission_keeps_limits}
+use Rattle.zone_resources.proofs.Proved.{closes_the_lowest, admission_keeps_limits}
 use Rattle.image_store.specs.Blocks.{as_blocks}
 use Rattle.image_store.specs.Namespace.{ZoneBlocks, ZonedNamespace, no_zone, zone_at, with_zone, counted, grown, records, IsNamespace, IsWithinLimits}
 use Rattle.zns_commands.specs.Address.{record_at}
@@ -23,6 +22,13 @@ use Rattle.zns_commands.specs.Write.{written}
 use Rattle.zns_commands.proofs.Rooms.{closable_zone, closable_state, other_zone, closed_fits}
 use Rattle.zns_commands.proofs.Fits.{FitsIn, set_namespace, record_there, records_with, one_within}
 
+-- what is to be closed may be
+lowest_closable : (zones : List ZoneRecord) (holds : Holds) (lowest : ℕ) → zone_to_close holds zones ≡ Some lowest → IsClosable holds zones lowest
+lowest_closable zones holds lowest e =
+    let Is : Option ℕ → Type 0 = λ found. MatchOption found ((k : ℕ) → ¬ IsClosable holds zones k) (λ k. IsClosable holds zones k × ((j : ℕ) → j < k → ¬ IsClosable holds zones j)) in
+    let is : Is (Some lowest) = subst Is e (closes_the_lowest zones holds) in
+    is.0
+
 -- the zone that gives way may be closed
 closing_closable : (zones : List ZoneRecord) (holds : Holds) (free : Bool) (found closed : Option ℕ)
     → zone_to_close holds zones ≡ found → cond free (Ok None) (closing found) ≡ Ok closed → ForSome closed (IsClosable holds zones)
@@ -30,7 +36,7 @@ closing_closable zones holds true found closed is_found admitted = λ k is. cc
 closing_closable zones holds false None closed is_found admitted = cc
 closing_closable zones holds false (Some lowest) closed is_found admitted = λ k is.
     let same : lowest ≡ k = cc in
-    subst (λ (n : ℕ). IsClosable holds zones n) same ((closes_at zones holds (Some lowest) is_found).0)
+    subst (λ (n : ℕ). IsClosable holds zones n) same (lowest_closable zones holds lowest is_found)
 
 guarded : (b : Bool) (r : Result (Option ℕ) Status) (s : Status) (closed : Option ℕ) → cond b r (Err s) ≡ Ok closed → r ≡ Ok closed
 guarded true r s closed e = e

@@ -1,3 +1,4 @@
-pub mod AdmissionLemmas
-pub mod CountLemmas
-pub mod LimitLemmas
+mod AdmissionLemmas
+mod CountLemmas
+mod LimitLemmas
+pub mod Proved

@@ -12,7 +12,7 @@ use Rattle.zone_state.specs.declared.status.Status.{Status}
 use Rattle.zone_state.specs.declared.status.TheConstants.Status.{TOO_MANY_ACTIVE_ZONES}
 use Rattle.zone_resources.proofs.AdmissionLemmas.{closes_at}
 use Rattle.zone_resources.proofs.CountLemmas.{counts_follow_one}
-use Rattle.zone_resources.specs.Admission.{admission, open_admission, closing, zone_to_close, wanted_of, IsClosable, IsWithin, after_closing, AdmissionKeepsLimits, HoldsNoMore, ReleaseKeepsLimits, IdleHoldsNoMore}
+use Rattle.zone_resources.specs.Admission.{admission, open_admission, closing, zone_to_close, wanted_of, IsClosable, IsWithin, after_closing, AdmissionKeepsLimits, ReleaseKeepsLimits, IdleHoldsNoMore}
 use Rattle.zone_resources.specs.Counts.{open_count, active_count, one_if}
 use Rattle.zone_resources.specs.declared.admission.Limits.{Limits}
 use Rattle.zone_resources.specs.declared.admission.Wanted.{Wanted}

@@ -7,7 +7,7 @@ use Rattle.zone_resources.specs.Admission.{IsWithin}
 use Rattle.zone_resources.specs.Counts.{open_count, active_count, one_if}
 use Rattle.zone_resources.specs.declared.admission.Limits.{Limits}
 use Rattle.zone_resources.specs.declared.counts.Counts.{Counts}
-use Rattle.zone_resources.proofs.CountLemmas.{counts_follow_one}
+use Rattle.zone_resources.proofs.Proved.{counts_follow_one}
 use Rattle.image_store.specs.Flat.{no_record}
 use Rattle.image_store.specs.Geometry.{Shape}
 use Rattle.image_store.specs.Namespace.{counted, records, zone_at}
