@@ -5,21 +5,22 @@ use Rattle.ebpf_asm.specs.declared.fault.FaultKind.{FaultKind}
 use Rattle.ebpf_asm.specs.declared.fault.FaultKind.TheVariants.{Operand}
 use Rattle.ebpf_asm.specs.Fault.{◌>>=◌}
 use Rattle.text_lines.specs.Cut.{cut_at, trimmed}
-use Rattle.text_lines.proofs.PartLemmas.{HasFirst, split_whole, split_more, split_some}
+use Rattle.text_lines.specs.Laws.{HasFirst}
+use Rattle.text_lines.proofs.Proved.{uncut_is_one_part, cut_is_after_first_part, some_part_is_there}
 use Rattle.ebpf_asm.specs.Statement.{operands_of, none_of, one_of, two_of, three_of}
 
 operands_of-one : (text : List ℕ) → cut_at 44 text ≡ None → operands_of text ≡ trimmed text ∷ []
 unfolding operands_of
-operands_of-one text e = ap (map trimmed) (split_whole 44 text e)
+operands_of-one text e = ap (map trimmed) (uncut_is_one_part 44 text e)
 
 operands_of-more : (text front rest : List ℕ) → cut_at 44 text ≡ Some (front, rest) → operands_of text ≡ trimmed front ∷ operands_of rest
 unfolding operands_of
-operands_of-more text front rest e = ap (map trimmed) (split_more 44 text front rest e)
+operands_of-more text front rest e = ap (map trimmed) (cut_is_after_first_part 44 text front rest e)
 
 -- there is an operand always
 operands_of-some : (text : List ℕ) → HasFirst (operands_of text)
 unfolding operands_of
-operands_of-some text = let parts = split_some 44 text in (trimmed parts.0, map trimmed parts.1, ap (map trimmed) parts.2)
+operands_of-some text = let parts = some_part_is_there 44 text in (trimmed parts.0, map trimmed parts.1, ap (map trimmed) parts.2)
 
 -- the readings of so many operands, one comma at a time
 pub one_at_end : (text first : List ℕ) → None ≡ cut_at 44 text → first ≡ trimmed text → Ok first ≡ one_of (operands_of text)

@@ -15,7 +15,7 @@ use Rattle.std.proofs.lemmas.Str.Parse.{digit_from_value}
 use Rattle.text_lines.specs.Cut.{cut_at, is_blank_byte, without_first_blanks, without_end_blanks, trimmed}
 use Rattle.ebpf_asm.specs.Statement.{operands_of}
 use Rattle.ebpf_asm.specs.Listing.{further_texts, operands_text, register_text, signed_text, memory_text, wide_text}
-use Rattle.text_lines.proofs.PartLemmas.{split_whole, split_more}
+use Rattle.text_lines.proofs.Proved.{uncut_is_one_part, cut_is_after_first_part}
 use Rattle.ebpf_asm.proofs.RoundOperands.{place_behind, signed_text-parts}
 
 -- bytes of mnemonics and operands
@@ -186,9 +186,9 @@ no_comma_text text h = weaker plain (λ b. not (eqb b 44)) plain_no_comma text h
 
 split_texts : (first : List ℕ) (others : List (List ℕ)) → IsText first → AreTexts others → map trimmed (slice_split (λ b. eqb b 44) (32 ∷ (first ++ further_texts others))) ≡ first ∷ others
 split_texts first [] h hs =
-    ap (λ t. map trimmed (slice_split (λ b. eqb b 44) (32 ∷ t))) (append-nil first) ∙ ap (map trimmed) (split_whole 44 (32 ∷ first) (cut_none 44 (32 ∷ first) (no_comma_text first h))) ∙ ap (λ t. t ∷ []) (trimmed_behind_blank first h)
+    ap (λ t. map trimmed (slice_split (λ b. eqb b 44) (32 ∷ t))) (append-nil first) ∙ ap (map trimmed) (uncut_is_one_part 44 (32 ∷ first) (cut_none 44 (32 ∷ first) (no_comma_text first h))) ∙ ap (λ t. t ∷ []) (trimmed_behind_blank first h)
 split_texts first (o ∷ os) h hs =
-    ap (map trimmed) (split_more 44 (32 ∷ (first ++ further_texts (o ∷ os))) (32 ∷ first) (32 ∷ (o ++ further_texts os)) (cut_some 44 (32 ∷ first) (32 ∷ (o ++ further_texts os)) refl (no_comma_text first h)))
+    ap (map trimmed) (cut_is_after_first_part 44 (32 ∷ (first ++ further_texts (o ∷ os))) (32 ∷ first) (32 ∷ (o ++ further_texts os)) (cut_some 44 (32 ∷ first) (32 ∷ (o ++ further_texts os)) refl (no_comma_text first h)))
     ∙ ap (λ t. t ∷ map trimmed (slice_split (λ b. eqb b 44) (32 ∷ (o ++ further_texts os)))) (trimmed_behind_blank first h)
     ∙ ap (λ ts. first ∷ ts) (split_texts o os hs.0 hs.1)
 

@@ -26,7 +26,7 @@ use Rattle.ebpf_asm.specs.Statement.{Statement, statement_of, statement_with, op
 use Rattle.ebpf_asm.specs.Line.{Line, line_of, line_in, labelled, behind_label, split_label, with_statement, slots_in}
 use Rattle.ebpf_asm.specs.Assembly.{LabelMap, lines_of, slot_count, first_fault, bytes_from, label_map, before_later, told_first, assembled, assembled_lines, unless_faulty}
 use Rattle.ebpf_asm.specs.Listing.{mnemonic_of, operand_texts, operands_text, further_texts, insn_text, line_text, listing, source_text}
-use Rattle.text_lines.proofs.LineLemmas.{lines-cut}
+use Rattle.text_lines.proofs.Proved.{cut_is_after_first_line}
 use Rattle.ebpf_asm.proofs.Passes.{slot_count-push}
 use Rattle.ebpf_asm.proofs.Names.{mnemonic_again, mnemonic_plain}
 use Rattle.ebpf_asm.proofs.Round.{register_again, immediate_again, wide_again}
@@ -226,9 +226,10 @@ lines_again (insn ∷ insns) h =
     let text = insn_text insn in
     let rest = flat_map line_text insns in
     let bytes = inline_insn insn h.0 in
-    let stripped : text ≡ strip_carriage_return text = sym (ap (λ c. cond c (take (length text - 1) text) text) (no_return_at text (length text - 1) (weaker inline (λ b. not (eqb b 13)) inline_no_return text bytes))) in
+    let stripped : strip_carriage_return text ≡ text = ap (λ c. cond c (take (length text - 1) text) text) (no_return_at text (length text - 1) (weaker inline (λ b. not (eqb b 13)) inline_no_return text bytes)) in
     ap lines (append_assoc text (10 ∷ []) rest)
-    ∙ lines-cut (text ++ 10 ∷ rest) text rest text (sym (cut_some 10 text rest refl (weaker inline (λ b. not (eqb b 10)) inline_no_newline text bytes))) stripped
+    ∙ cut_is_after_first_line (text ++ 10 ∷ rest) text rest (cut_some 10 text rest refl (weaker inline (λ b. not (eqb b 10)) inline_no_newline text bytes))
+    ∙ ap (λ l. l ∷ lines rest) stripped
     ∙ ap (λ ls. text ∷ ls) (lines_again insns h.1)
 
 read_again : (insns : List Insn) → AllByRecursion IsListed insns → map line_of (map insn_text insns) ≡ map line_with insns

@@ -4,9 +4,8 @@ use Rattle.std.specs.List.{All, slice_split, position_or_len, before_first}
 use Rattle.std.proofs.lemmas.Bool.{lt-ltb, cases_lt}
 use Rattle.std.proofs.lemmas.List.{drop_more, length-take-le, take_all, drop_all}
 use Rattle.std.proofs.lemmas.List.Splits.{slice_split_at, slice_split_first, slice_split_none, slice_split-cons_yes}
-use Rattle.std.proofs.lemmas.List.Sums.{passes_at_first, prefix_len-le-length}
+use Rattle.std.proofs.lemmas.List.Sums.{fails_before_first, passes_at_first, prefix_len-le-length}
 use Rattle.text_lines.specs.Cut.{is_blank_byte, without_first_blanks}
-use Rattle.text_lines.proofs.PartLemmas.{whole}
 use Rattle.event_text.specs.Words.{words_of}
 
 abbrev is_word : List ℕ → Bool
@@ -21,7 +20,7 @@ kept word parts h = ap (λ c. cond c (word ∷ filter is_word parts) (filter is_
 
 -- a text of one word
 only_word : (text : List ℕ) → 0 < length text → position_or_len is_blank_byte text ≡ length text → words_of text ≡ text ∷ []
-only_word text some e = ap (filter is_word) (whole is_blank_byte text (omega (arith, e))) ∙ kept text [] some
+only_word text some e = ap (filter is_word) (slice_split_none is_blank_byte text (λ k d inside. fails_before_first is_blank_byte text k d (omega (arith, e, inside)))) ∙ kept text [] some
 
 -- a word ends at the first blank behind it
 word_before : (text : List ℕ) (k : ℕ) → 0 < k → k < length text → position_or_len is_blank_byte text ≡ k → is_blank_byte (get_or text k 0) ≡ true → words_of text ≡ take k text ∷ words_of (drop k text)

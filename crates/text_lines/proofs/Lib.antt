@@ -1,6 +1,7 @@
-pub mod Blanks
-pub mod Excerpts
-pub mod LineLemmas
-pub mod NumberLemmas
-pub mod PartLemmas
-pub mod Positions
+mod Blanks
+mod Excerpts
+mod LineLemmas
+mod NumberLemmas
+mod PartLemmas
+mod Positions
+pub mod Proved

@@ -3,7 +3,7 @@ use Rattle.std.proofs.Common.{◌≡◌, ℕ, ◌+◌, ◌≤◌, suc, not, Bool
 use Rattle.std.specs.List.{slice_split, onto_first, before_first, after_first, position_or_len}
 use Rattle.std.proofs.lemmas.Bool.{ltb-true, ltb-false}
 use Rattle.std.proofs.lemmas.List.Splits.{slice_split_first, slice_split-cons_yes, slice_split-cons_no}
-use Rattle.text_lines.specs.Cut.{cut_at}
+use Rattle.text_lines.specs.Laws.{HasFirst, SomePartIsThere, UncutIsOnePart, CutIsAfterFirstPart}
 
 abbrev is_at : ℕ → ℕ → Bool
 is_at byte b = eqb b byte
@@ -15,7 +15,7 @@ module _ (test : ℕ → Bool) where
   whole_if x xs true more e h = absurd (omega arith)
   whole_if x xs false more e h = slice_split-cons_no test x xs e ∙ ap (onto_first x) (more (omega arith))
 
-  pub whole : (xs : List ℕ) → length xs ≤ position_or_len test xs → slice_split test xs ≡ xs ∷ []
+  whole : (xs : List ℕ) → length xs ≤ position_or_len test xs → slice_split test xs ≡ xs ∷ []
   whole [] h = refl
   whole (x ∷ xs) h = whole_if x xs (test x) (whole xs) refl h
 
@@ -28,24 +28,21 @@ none_if true x e = absurd cc
 none_if false x e = refl
 
 -- a text without such a byte is one part
-pub split_whole : (byte : ℕ) (text : List ℕ) → cut_at byte text ≡ None → slice_split (λ b. eqb b byte) text ≡ text ∷ []
+pub split_whole : UncutIsOnePart
 split_whole byte text e =
     whole (is_at byte) text (ltb-false _ _ (none_if (ltb (position_or_len (is_at byte) text) (length text)) (before_first (is_at byte) text, after_first (is_at byte) text) e))
 
 -- else its first part stands before the first such byte
-pub split_more : (byte : ℕ) (text front rest : List ℕ) → cut_at byte text ≡ Some (front, rest) → slice_split (λ b. eqb b byte) text ≡ front ∷ slice_split (λ b. eqb b byte) rest
+pub split_more : CutIsAfterFirstPart
 split_more byte text front rest e =
     let found = some_if (ltb (position_or_len (is_at byte) text) (length text)) (before_first (is_at byte) text, after_first (is_at byte) text) (front, rest) e in
     slice_split_first (is_at byte) text 0 (ltb-true _ _ found.0) ∙ ap (λ (p : List ℕ × List ℕ). p.0 ∷ slice_split (is_at byte) p.1) found.1
-
-abbrev pub HasFirst : List (List ℕ) → Type 0
-HasFirst parts = (first : List ℕ) × (rest : List (List ℕ)) × (parts ≡ first ∷ rest)
 
 split_some_if : (byte x : ℕ) (xs : List ℕ) (b : Bool) → HasFirst (slice_split (is_at byte) xs) → is_at byte x ≡ b → HasFirst (slice_split (is_at byte) (x ∷ xs))
 split_some_if byte x xs true more e = ([], slice_split (is_at byte) xs, slice_split-cons_yes (is_at byte) x xs e)
 split_some_if byte x xs false more e = (x ∷ more.0, more.1, slice_split-cons_no (is_at byte) x xs e ∙ ap (onto_first x) more.2)
 
 -- there is a part always
-pub split_some : (byte : ℕ) (xs : List ℕ) → HasFirst (slice_split (λ b. eqb b byte) xs)
+pub split_some : SomePartIsThere
 split_some byte [] = ([], [], refl)
 split_some byte (x ∷ xs) = split_some_if byte x xs (is_at byte x) (split_some byte xs) refl

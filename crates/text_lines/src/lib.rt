@@ -3,6 +3,7 @@
 #![tactic(auto)]
 
 mod excerpt;
+pub mod laws;
 mod lines;
 mod number;
 mod parts;

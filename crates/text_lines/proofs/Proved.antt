@@ -1,0 +1,16 @@
+-- The laws of this crate, proved: all that the proofs of other crates cite of it.
+use Rattle.text_lines.specs.Laws.{CutIsAfterFirstLine, CutIsAfterFirstPart, SomePartIsThere, UncutIsOnePart}
+use Rattle.text_lines.proofs.LineLemmas.{cut_line}
+use Rattle.text_lines.proofs.PartLemmas.{split_more, split_some, split_whole}
+
+pub uncut_is_one_part : UncutIsOnePart
+uncut_is_one_part = split_whole
+
+pub cut_is_after_first_part : CutIsAfterFirstPart
+cut_is_after_first_part = split_more
+
+pub some_part_is_there : SomePartIsThere
+some_part_is_there = split_some
+
+pub cut_is_after_first_line : CutIsAfterFirstLine
+cut_is_after_first_line = cut_line

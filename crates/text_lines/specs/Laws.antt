@@ -1,0 +1,30 @@
+-- How a text is cut into parts, and into lines.
+use Rattle.std.specs.Prelude.{ℕ, ◌==◌, ◌≡◌, List, [], ◌∷◌, Some, None}
+use Rattle.std.specs.List.{slice_split}
+use Rattle.std.specs.Str.Lines.{lines, strip_carriage_return}
+use Rattle.text_lines.specs.Cut.{cut_at}
+
+-- the parts of a text, cut at each such byte
+abbrev pub parts_at : ℕ → List ℕ → List (List ℕ)
+parts_at byte text = slice_split (λ b. b == byte) text
+
+-- a text without such a byte is one part
+abbrev pub UncutIsOnePart : Type 0
+UncutIsOnePart = (byte : ℕ) (text : List ℕ) → cut_at byte text ≡ None → parts_at byte text ≡ text ∷ []
+
+-- else its first part stands before the first such byte
+abbrev pub CutIsAfterFirstPart : Type 0
+CutIsAfterFirstPart =
+    (byte : ℕ) (text front rest : List ℕ) → cut_at byte text ≡ Some (front, rest) → parts_at byte text ≡ front ∷ parts_at byte rest
+
+abbrev pub HasFirst : List (List ℕ) → Type 0
+HasFirst parts = (first : List ℕ) × (rest : List (List ℕ)) × (parts ≡ first ∷ rest)
+
+-- there is a part always
+abbrev pub SomePartIsThere : Type 0
+SomePartIsThere = (byte : ℕ) (text : List ℕ) → HasFirst (parts_at byte text)
+
+-- the first line of a text stands before its first newline
+abbrev pub CutIsAfterFirstLine : Type 0
+CutIsAfterFirstLine =
+    (text line behind : List ℕ) → cut_at 10 text ≡ Some (line, behind) → lines text ≡ strip_carriage_return line ∷ lines behind

@@ -1,0 +1,16 @@
+//! Laws of the definitions that the contracts of this crate cite. Each function does nothing: what
+//! it ensures is the law.
+
+ghost use Rattle.text_lines.specs.Laws.{CutIsAfterFirstLine, CutIsAfterFirstPart, SomePartIsThere, UncutIsOnePart};
+
+/// A text is cut into parts one cut at a time, and there is a part always.
+pub fn parts_are_cut()
+    ensures uncut { UncutIsOnePart }
+    ensures cut { CutIsAfterFirstPart }
+    ensures some { SomePartIsThere }
+{}
+
+/// A text is cut into lines one newline at a time.
+pub fn lines_are_cut()
+    ensures { CutIsAfterFirstLine }
+{}
