@@ -1,6 +1,7 @@
-pub mod Slots
-pub mod Takes
-pub mod Programs
-pub mod Bytes
-pub mod Again
-pub mod FaultSlots
+mod Slots
+mod Takes
+mod Programs
+mod Bytes
+mod Again
+mod FaultSlots
+pub mod Proved

@@ -1,10 +1,11 @@
-pub mod Answered
-pub mod Continuing
-pub mod FramesRead
-pub mod Layouts
-pub mod Needs
-pub mod Padding
-pub mod Parts
-pub mod Puts
-pub mod ReadBack
-pub mod Wholes
+mod Answered
+mod Continuing
+mod FramesRead
+mod Layouts
+mod Needs
+mod Padding
+mod Parts
+mod Puts
+mod ReadBack
+mod Wholes
+pub mod Proved

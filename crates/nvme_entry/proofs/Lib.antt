@@ -1,7 +1,9 @@
-pub mod Commands
-pub mod Encodings
-pub mod Descriptors
-pub mod Listings
-pub mod Reports
-pub mod Told
-pub mod Writes
+mod Checked
+mod Commands
+mod Encodings
+mod Descriptors
+mod Listings
+mod Reports
+mod Told
+mod Writes
+pub mod Proved

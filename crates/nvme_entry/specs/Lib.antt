@@ -1,3 +1,4 @@
+pub mod CheckLaws
 pub mod Checks
 pub mod Completion
 pub mod Descriptor

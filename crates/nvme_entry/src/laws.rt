@@ -1,6 +1,7 @@
 //! Laws of the definitions that the contracts of this crate cite. Each function does nothing: what
 //! it ensures is the law.
 
+ghost use Rattle.nvme_entry.specs.CheckLaws.{DemandedHolds, EachCheckPasses};
 ghost use Rattle.nvme_entry.specs.Laws.{GivesWhatMatches, ListsEveryZone};
 ghost use Rattle.nvme_entry.specs.Told.{CompletionsTell};
 
@@ -18,4 +19,10 @@ pub fn reports_give_what_matches()
 /// A report of all zones with room for all lists every zone once, in order, and tells their number.
 pub fn full_reports_list_every_zone()
     ensures { ListsEveryZone }
+{}
+
+/// Where no check of a list fails, each passes, and what it demands holds.
+pub fn checks_pass()
+    ensures each { EachCheckPasses }
+    ensures demanded { DemandedHolds }
 {}

@@ -8,7 +8,7 @@ use Rattle.verifier.specs.Laws.{AcceptedNeverTraps}
 use Rattle.emit_append.specs.Frames.{unpacked}
 use Rattle.emit_append.specs.Packed.{FitBlock}
 use Rattle.emit_append.specs.Packing.{packed}
-use Rattle.emit_append.proofs.ReadBack.{packed_frames_read_back}
+use Rattle.emit_append.proofs.Proved.{packed_frames_read_back}
 use Rattle.pushdown.specs.Admission.{source_blocks, task_of}
 use Rattle.pushdown.specs.BlockRuns.{Task, groups_of, runs_of}
 use Rattle.pushdown.specs.Events.{state_after}

@@ -10,8 +10,7 @@ use Rattle.program_meaning.specs.declared.end.End.TheVariants as end
 use Rattle.emit_append.specs.OutputBlocks.{AreAllBytes}
 use Rattle.emit_append.specs.Packed.{FitBlock}
 use Rattle.emit_append.specs.Packing.{packed, pending_of, released}
-use Rattle.emit_append.proofs.Continuing.{packing_goes_on}
-use Rattle.emit_append.proofs.Wholes.{output_blocks_are_bytes, output_blocks_are_whole}
+use Rattle.emit_append.proofs.Proved.{output_blocks_are_bytes, output_blocks_are_whole, packing_goes_on}
 use Rattle.pushdown.specs.BlockRuns.{Task, frames_of, groups_of, last_scratch, runs_of, scratch_after}
 use Rattle.pushdown.specs.Laws.{OutcomeIsPacked}
 use Rattle.pushdown.specs.Outcome.{Ending, Output, Turn, appended_by, behind, ending_of, last_turn_by, middle_turn, no_output, turns_after, with_group}

@@ -5,8 +5,7 @@ use Rattle.program_meaning.specs.Run.{Run}
 use Rattle.program_meaning.specs.declared.end.End.{End}
 use Rattle.program_meaning.specs.declared.end.End.TheVariants as end
 use Rattle.emit_append.specs.Packing.{packed, released, pending_of}
-use Rattle.emit_append.proofs.Continuing.{packing_goes_on}
-use Rattle.emit_append.proofs.Puts.{one_group_is_pending}
+use Rattle.emit_append.proofs.Proved.{one_group_is_pending, packing_goes_on}
 use Rattle.pushdown.proofs.BlockRuns.{few_runs}
 use Rattle.pushdown.specs.Laws.{RestAtAdmission, RestEnds, RestGoesOn, RestIsFew, further, next_turn}
 use Rattle.pushdown.specs.BlockRuns.{Task, block_run, block_runs, goes_on, runs_of, scratch_after, until_ended}

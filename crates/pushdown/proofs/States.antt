@@ -16,7 +16,7 @@ use Rattle.nvme_entry.specs.declared.command.LoadCommand.{LoadCommand}
 use Rattle.nvme_entry.specs.declared.command.RunCommand.{RunCommand}
 use Rattle.nvme_entry.specs.declared.program_slot.TheConstants.{PROGRAM_SLOTS}
 use Rattle.instruction_set.specs.Program.{IsProgram}
-use Rattle.ebpf_decode.proofs.Programs.{decoded-program}
+use Rattle.ebpf_decode.proofs.Proved.{decoded_is_spelled}
 use Rattle.program_interface.specs.BlockSize.{IsBlockSize}
 use Rattle.program_interface.specs.RunSizes.{AreSizes, Sizes}
 use Rattle.program_meaning.specs.Run.{Run}
@@ -27,7 +27,7 @@ use Rattle.verifier.specs.Laws.{AcceptedNeverTraps}
 use Rattle.verifier.specs.declared.reason.Refusal.{Refusal}
 use Rattle.emit_append.specs.Need.{need}
 use Rattle.emit_append.specs.Packed.{FitBlock}
-use Rattle.emit_append.proofs.Needs.{need_grows, need_is_enough}
+use Rattle.emit_append.proofs.Proved.{need_grows, need_is_enough}
 use Rattle.image_store.specs.Blocks.{AreBytes}
 use Rattle.image_store.specs.Geometry.{Shape}
 use Rattle.image_store.specs.Namespace.{ZonedNamespace, IsNamespace, zone_at}
@@ -159,7 +159,7 @@ module _ {D : Type 0} (operations : Operations D) (never : AcceptedNeverTraps op
   taken_accepted sub s t load h are takes =
       let judge : ℕ → Option Refusal = λ n. refusal operations takes.program (record { block = n; limit = load.limit }) in
       record {
-        program = (decoded-program sub.payload takes.program are takes.read).0;
+        program = (decoded_is_spelled sub.payload takes.program are takes.read).0;
         sizes = record { block_size = subst IsBlockSize h.size h.is.shape.block_size; fits = within s load sub.payload h takes.passed };
         accepted = ap judge (sym h.size) ∙ takes.accepted;
       }

@@ -10,8 +10,7 @@ use Rattle.program_meaning.specs.declared.end.End.{End}
 use Rattle.program_meaning.specs.declared.end.End.TheVariants as end
 use Rattle.emit_append.specs.Packer.{after_put, given_by_finish, given_by_put, new_packer}
 use Rattle.emit_append.specs.Packing.{packed, pending_of, released}
-use Rattle.emit_append.proofs.Continuing.{packing_goes_on}
-use Rattle.emit_append.proofs.Puts.{one_group_is_pending}
+use Rattle.emit_append.proofs.Proved.{one_group_is_pending, packing_goes_on}
 use Rattle.image_store.specs.Namespace.{ZoneBlocks, ZonedNamespace, zone_at}
 use Rattle.image_store.specs.declared.geometry.Place.{Place}
 use Rattle.zns_commands.specs.Address.{zone_number}

@@ -16,7 +16,7 @@ use Rattle.zns_commands.specs.Address.{block_total}
 use Rattle.zns_commands.specs.Answer.{Outcome, success, concluded}
 use Rattle.zns_commands.specs.Receive.{receive_checks, receive_effect}
 use Rattle.zns_commands.specs.Laws.{ReportsEveryZone}
-use Rattle.nvme_entry.proofs.Reports.{lists_every_zone}
+use Rattle.nvme_entry.proofs.Proved.{lists_every_zone}
 use Rattle.std.proofs.Math.Nat.{mul-le-mul_right, zero-div}
 
 both_pass : (a b : Bool) (s t : Status) → a ≡ true → b ≡ true → first_refused (demand a s ∷ None ∷ demand b t ∷ []) ≡ None

@@ -1,7 +1,6 @@
 use Rattle.std.proofs.Common.{◌<◌, subst, sym}
 use Rattle.ebpf_decode.specs.declared.fault.Fault.{Fault}
-use Rattle.ebpf_decode.proofs.FaultSlots.{fault_is_inside}
-use Rattle.ebpf_decode.proofs.Programs.{decoded-program}
+use Rattle.ebpf_decode.proofs.Proved.{decoded_is_spelled, fault_is_inside}
 use Rattle.program_interface.specs.declared.TheConstants.{MOST_SLOTS}
 use Rattle.interval_domain.specs.Intervals.{intervals}
 use Rattle.verifier.specs.Accepted.{refusal}
@@ -17,7 +16,7 @@ refuse-requires c =
 
 pub refuse-requires-in-Err-Refused : goal.refuse-requires-in-Err-Refused
 refuse-requires-in-Err-Refused c =
-    let is = decoded-program c.args.bytes.now c.in-Ok.program (λ k. (c.type_inv.bytes k).fits) c.in-Ok.ensures.exact in
+    let is = decoded_is_spelled c.args.bytes.now c.in-Ok.program (λ k. (c.type_inv.bytes k).fits) c.in-Ok.ensures.exact in
     let told : IsFaultOf (refusal intervals c.in-Ok.program c.args.sizes) c.in-Err-Refused.field-0 = c.in-Err-Refused.ensures.refused in
     subst (λ (r : Refusal). r.slot < MOST_SLOTS) (sym c.in-Err-Refused.refusal-is)
     (refusal_inside intervals c.in-Ok.program is.0 c.args.sizes c.in-Err-Refused.refusal (rw c.in-Err-Refused.field-0-is at told)).1

@@ -1,0 +1,16 @@
+-- The laws of this crate, proved: all that the proofs of other crates cite of it.
+use Rattle.ebpf_decode.specs.Laws.{DecodedIsSpelled, FaultIsInside, HasOneProgram, SpelledIsDecoded}
+use Rattle.ebpf_decode.proofs.FaultSlots as fault_slots
+use Rattle.ebpf_decode.proofs.Programs.{decoded-program, one-program, program-again}
+
+pub spelled_is_decoded : SpelledIsDecoded
+spelled_is_decoded = program-again
+
+pub decoded_is_spelled : DecodedIsSpelled
+decoded_is_spelled = decoded-program
+
+pub bytes_have_one_program : HasOneProgram
+bytes_have_one_program = one-program
+
+pub fault_is_inside : FaultIsInside
+fault_is_inside = fault_slots.fault_is_inside

@@ -1,0 +1,46 @@
+-- The laws of this crate, proved: all that the proofs of other crates cite of it.
+use Rattle.emit_append.specs.Frames.{PackedFramesReadBack}
+use Rattle.emit_append.specs.GoingOn.{OneGroupIsPending, PackingGoesOn}
+use Rattle.emit_append.specs.Need.{NeedGrows, NeedIsEnough}
+use Rattle.emit_append.specs.OutputBlocks.{OutputBlocksAreBytes, OutputBlocksAreWhole}
+use Rattle.emit_append.specs.Packed.{PackedAsDescribed}
+use Rattle.emit_append.specs.Packer.{LendingIsFinishing, LendingIsPutting, PuttingIsPacking}
+use Rattle.emit_append.proofs.Continuing as continuing
+use Rattle.emit_append.proofs.Needs as needs
+use Rattle.emit_append.proofs.Parts as parts
+use Rattle.emit_append.proofs.Puts as puts
+use Rattle.emit_append.proofs.ReadBack as read_back
+use Rattle.emit_append.proofs.Wholes as wholes
+
+pub packed_as_described : PackedAsDescribed
+packed_as_described = parts.packed_as_described
+
+pub output_blocks_are_whole : OutputBlocksAreWhole
+output_blocks_are_whole = wholes.output_blocks_are_whole
+
+pub output_blocks_are_bytes : OutputBlocksAreBytes
+output_blocks_are_bytes = wholes.output_blocks_are_bytes
+
+pub one_group_is_pending : OneGroupIsPending
+one_group_is_pending = puts.one_group_is_pending
+
+pub packing_goes_on : PackingGoesOn
+packing_goes_on = continuing.packing_goes_on
+
+pub putting_is_packing : PuttingIsPacking
+putting_is_packing = puts.putting_is_packing
+
+pub lending_is_putting : LendingIsPutting
+lending_is_putting = puts.lending_is_putting
+
+pub lending_is_finishing : LendingIsFinishing
+lending_is_finishing = puts.lending_is_finishing
+
+pub need_is_enough : NeedIsEnough
+need_is_enough = needs.need_is_enough
+
+pub need_grows : NeedGrows
+need_grows = needs.need_grows
+
+pub packed_frames_read_back : PackedFramesReadBack
+packed_frames_read_back = read_back.packed_frames_read_back

@@ -1,0 +1,22 @@
+-- The laws of this crate, proved: all that the proofs of other crates cite of it.
+use Rattle.nvme_entry.specs.CheckLaws.{DemandedHolds, EachCheckPasses}
+use Rattle.nvme_entry.specs.Laws.{GivesWhatMatches, ListsEveryZone}
+use Rattle.nvme_entry.specs.Told.{CompletionsTell}
+use Rattle.nvme_entry.proofs.Checked as checked
+use Rattle.nvme_entry.proofs.Reports as reports
+use Rattle.nvme_entry.proofs.Told as told
+
+pub passed : EachCheckPasses
+passed = checked.passed
+
+pub demanded : DemandedHolds
+demanded = checked.demanded
+
+pub completions_tell : CompletionsTell
+completions_tell = told.completions_tell
+
+pub gives_what_matches : GivesWhatMatches
+gives_what_matches = reports.gives_what_matches
+
+pub lists_every_zone : ListsEveryZone
+lists_every_zone = reports.lists_every_zone
