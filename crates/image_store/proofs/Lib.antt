@@ -1,24 +1,25 @@
-pub mod ByteParts
-pub mod Pieces
-pub mod Zones
-pub mod Images
-pub mod Limited
-pub mod States
-pub mod Sound
-pub mod Sinks
-pub mod Texts
-pub mod Answered
-pub mod Fills
-pub mod Records
-pub mod SlotsRead
-pub mod Headers
-pub mod Shapes
-pub mod HeaderParts
-pub mod Upgrades
-pub mod Faults
-pub mod Loads
-pub mod Again
-pub mod Spelled
-pub mod Only
-pub mod Loaded
-pub mod Cut
+mod ByteParts
+mod Pieces
+mod Zones
+mod Images
+mod Limited
+mod States
+mod Sound
+mod Sinks
+mod Texts
+mod Answered
+mod Fills
+mod Records
+mod SlotsRead
+mod Headers
+mod Shapes
+mod HeaderParts
+mod Upgrades
+mod Faults
+mod Loads
+mod Again
+mod Spelled
+mod Only
+mod Loaded
+mod Cut
+pub mod Proved

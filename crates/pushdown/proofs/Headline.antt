@@ -14,8 +14,8 @@ use Rattle.program_meaning.specs.Run.{Run}
 use Rattle.reg_domain.specs.Domain.{Operations}
 use Rattle.verifier.specs.Laws.{AcceptedNeverTraps}
 use Rattle.image_store.specs.Namespace.{ZoneBlocks, ZonedNamespace, IsNamespace, no_zone, shape, zone_at}
-use Rattle.image_store.proofs.Images.{within_capacity}
-use Rattle.zns_commands.proofs.PassedChecks.{demanded, passed}
+use Rattle.image_store.proofs.Proved.{written_is_within}
+use Rattle.nvme_entry.proofs.Proved.{demanded, passed}
 use Rattle.pushdown.specs.Admission.{admission_checks, source_blocks, task_of}
 use Rattle.pushdown.specs.Answers.{Happening, Submission, plain}
 use Rattle.pushdown.specs.BlockRuns.{no_scratch, runs_of}
@@ -149,7 +149,7 @@ blocks_most capacity (x ∷ xs) each (suc z) = blocks_most capacity xs (λ k les
 written_most : (ns : ZonedNamespace) (z : ℕ) → IsNamespace ns → length (zone_at ns z).blocks ≤ ns.capacity
 written_most ns z is =
     blocks_most ns.capacity ns.zones
-    (λ k less. within_capacity (zone_at ns k).state (length (zone_at ns k).blocks) ns.capacity (is.fits k less)) z
+    (λ k less. written_is_within (zone_at ns k).state (length (zone_at ns k).blocks) ns.capacity (is.fits k less)) z
 
 -- ---- the theorem
 

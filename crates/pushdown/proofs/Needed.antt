@@ -13,7 +13,7 @@ use Rattle.reg_domain.specs.Domain.{Operations}
 use Rattle.image_store.specs.Namespace.{zone_at}
 use Rattle.zns_commands.proofs.HeldSources.{sources_keep_blocks}
 use Rattle.zns_commands.proofs.KeptBlocks.{grows_not, step_shape}
-use Rattle.zns_commands.proofs.PassedChecks.{demanded, passed}
+use Rattle.nvme_entry.proofs.Proved.{demanded, passed}
 use Rattle.pushdown.specs.Admission.{Loaded, SameProgram}
 use Rattle.pushdown.specs.Laws.{EventsKeepForRuns, KeepsFor}
 use Rattle.pushdown.specs.Machine.{happens, just_loaded, keeping, load_checks, slots_left}

@@ -13,7 +13,7 @@ use Rattle.image_store.specs.Blocks.{AreBytes, bytes_of}
 use Rattle.image_store.specs.Geometry.{Shape}
 use Rattle.image_store.specs.Namespace.{ZonedNamespace, shape, IsNamespace}
 use Rattle.zns_commands.proofs.Fits.{no_bytes}
-use Rattle.zns_commands.proofs.PassedChecks.{demanded, passed}
+use Rattle.nvme_entry.proofs.Proved.{demanded, passed}
 use Rattle.pushdown.specs.Admission.{admission_checks}
 use Rattle.pushdown.specs.Answers.{Submission}
 use Rattle.pushdown.specs.Events.{Occurrence, state_after}

@@ -35,7 +35,7 @@ use Rattle.zns_commands.specs.Kept as kept
 use Rattle.zns_commands.specs.Laws.{IsSpelled, Step, after}
 use Rattle.zns_commands.proofs.HeldZones.{destinations_are_left}
 use Rattle.zns_commands.proofs.KeptBlocks.{step_shape}
-use Rattle.zns_commands.proofs.PassedChecks.{demanded, passed}
+use Rattle.nvme_entry.proofs.Proved.{demanded, passed}
 use Rattle.zns_commands.proofs.SoundSteps.{steps_keep_namespaces}
 use Rattle.pushdown.specs.Admission.{Loaded, admission_checks, source_blocks, task_of}
 use Rattle.pushdown.specs.Answers.{Submission}

@@ -14,7 +14,7 @@ use Rattle.verifier.specs.Verified.{program_of, sizes_of}
 use Rattle.image_store.specs.Namespace.{ZonedNamespace}
 use Rattle.zns_commands.specs.Answer.{refused_answer, success_answer}
 use Rattle.zns_commands.specs.declared.answer.Answer.{Answer}
-use Rattle.zns_commands.proofs.PassedChecks.{demanded, passed}
+use Rattle.nvme_entry.proofs.Proved.{demanded, passed}
 use Rattle.pushdown.specs.Admission.{Loaded, task_of}
 use Rattle.pushdown.specs.Answers.{Submission, completed}
 use Rattle.pushdown.specs.BlockRuns.{no_scratch}

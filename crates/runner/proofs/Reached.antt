@@ -5,8 +5,7 @@ use Rattle.interval_domain.specs.Intervals.{intervals}
 use Rattle.verifier.specs.Laws.{AcceptedNeverTraps}
 use Rattle.verifier.specs.Soundness.{accepted_never_traps}
 use Rattle.image_store.specs.Namespace.{ZonedNamespace, IsNamespace}
-use Rattle.image_store.proofs.Again.{saved_again}
-use Rattle.image_store.proofs.Loaded.{loaded_is_namespace}
+use Rattle.image_store.proofs.Proved.{loaded_is_namespace, saved_texts_load}
 use Rattle.zns_commands.proofs.SoundSteps.{empty_is_namespace}
 use Rattle.pushdown.specs.AnyOrder.{ComeToTheSame}
 use Rattle.pushdown.specs.Draining.{Drains}
@@ -96,4 +95,4 @@ emitted_records_read_back s reached =
     (runs_read_back intervals never reached.first reached.events reached.namespace reached.bytes)
 
 pub saved_states_load : SavedStatesLoad
-saved_states_load s reached = saved_again s.namespace (reached_is_sound s reached).namespace
+saved_states_load s reached = saved_texts_load s.namespace (reached_is_sound s reached).namespace

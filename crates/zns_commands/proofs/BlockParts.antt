@@ -3,8 +3,7 @@ use Rattle.std.proofs.Common.{◌≡◌, ℕ, zero, suc, ◌+◌, ◌*◌, ◌/�
 use Rattle.std.proofs.lemmas.Nat.{div-mul-add, mod-mul-add}
 use Rattle.std.proofs.Math.Nat.{mod-add-div'}
 use Rattle.image_store.specs.Namespace.{ZonedNamespace, zone_at, block_at, IsNamespace}
-use Rattle.image_store.proofs.Images.{within_capacity}
-use Rattle.image_store.proofs.Sound.{zone_with_blocks}
+use Rattle.image_store.proofs.Proved.{blocks_lie_in_zones, written_is_within}
 use Rattle.zns_commands.specs.Address.{blocks_from}
 use Rattle.zns_commands.specs.Kept.{BlocksAreAPart}
 
@@ -31,8 +30,8 @@ some_parts : (ns : ZonedNamespace) (z o count : ℕ) → IsNamespace ns → o + 
     → blocks_from ns (z * ns.size + o) count ≡ take count (drop o (zone_at ns z).blocks)
 some_parts ns z o zero sound written = refl
 some_parts ns z o (suc count) sound written =
-    let inside = zone_with_blocks ns.zones z o (omega arith) in
-    let most = within_capacity (zone_at ns z).state (length (zone_at ns z).blocks) ns.capacity (sound.fits z inside) in
+    let inside = blocks_lie_in_zones ns.zones z o (omega arith) in
+    let most = written_is_within (zone_at ns z).state (length (zone_at ns z).blocks) ns.capacity (sound.fits z inside) in
     parts_from ns z o (suc count) (omega (arith, most, sound.shape.capacity_most)) written
 
 pub blocks_are_a_part : BlocksAreAPart

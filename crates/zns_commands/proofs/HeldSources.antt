@@ -26,7 +26,7 @@ use Rattle.zns_commands.proofs.HeldZones.{not_taken, not_refused, not_held}
 use Rattle.zns_commands.proofs.KeptBlocks.{grows_not, grows_on, set_grows_at, closed_grows, written_grows}
 use Rattle.zns_commands.proofs.Meanings.{after_command}
 use Rattle.zns_commands.proofs.MovedZones.{after_action}
-use Rattle.zns_commands.proofs.PassedChecks.{passed}
+use Rattle.nvme_entry.proofs.Proved.{passed}
 use Rattle.zns_commands.proofs.Untouched.{neither, effect_left}
 
 -- a zone that comes into a state that isn't cleared keeps its blocks

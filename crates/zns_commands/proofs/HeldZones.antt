@@ -30,7 +30,8 @@ use Rattle.zns_commands.specs.Send.{send_checks, zone_plan, room_of, takes, held
 use Rattle.zns_commands.specs.Write.{write_checks}
 use Rattle.zns_commands.proofs.GivenWay.{admitted_closable}
 use Rattle.zns_commands.proofs.Meanings.{after_command}
-use Rattle.zns_commands.proofs.PassedChecks.{passed, demanded, roomed}
+use Rattle.nvme_entry.proofs.Proved.{passed, demanded}
+use Rattle.zns_commands.proofs.PassedChecks.{roomed}
 use Rattle.zns_commands.proofs.Untouched.{neither, effect_left, faulted_left}
 
 pub not_true : (b : Bool) → not b ≡ true → b ≡ false

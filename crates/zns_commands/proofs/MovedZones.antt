@@ -15,7 +15,7 @@ use Rattle.zone_resources.specs.Admission.{wanted_of, HoldsNoMore}
 use Rattle.zone_resources.specs.Holds.{is_held}
 use Rattle.zone_resources.specs.declared.holds.Holds.{Holds}
 use Rattle.image_store.specs.Namespace.{ZoneBlocks, ZonedNamespace, zone_at, IsNamespace}
-use Rattle.image_store.proofs.Images.{within_capacity}
+use Rattle.image_store.proofs.Proved.{written_is_within}
 use Rattle.zns_commands.specs.Fault.{fault_answer, faulted_by, faulted}
 use Rattle.zns_commands.specs.Resources.{room_by, closed, arrived, moved_to}
 use Rattle.zns_commands.specs.Send.{room_of, led_to}
@@ -117,7 +117,7 @@ answer_passed true held answer done e = refl
 answer_passed false held answer done e = cc
 
 fault_fits : (fault : FaultState) (s : ZoneState) (w c : ℕ) → IsZone s w c → IsZone (state_of_fault fault) (kept (state_of_fault fault) w) c
-fault_fits fault.ReadOnly s w c h = (h.0, within_capacity s w c h)
+fault_fits fault.ReadOnly s w c h = (h.0, written_is_within s w c h)
 fault_fits fault.Offline s w c h = (h.0, refl)
 
 fault_holds : (fault : FaultState) (s : ZoneState) → HoldsNoMore (state_of_fault fault) s

@@ -25,18 +25,6 @@ use Rattle.zns_commands.specs.Resources.{room_by, room_for, why_not, closing_of}
 use Rattle.zns_commands.specs.Write.{write_checks, write_effect}
 use Rattle.zns_commands.specs.Meaning.{meaning}
 
--- checks of which none fails
-pub passed : (checks : List (Option Status)) (i : ℕ) → first_refused checks ≡ None → get_or checks i None ≡ None
-passed [] zero none = refl
-passed [] (suc i) none = refl
-passed (None ∷ checks) zero none = refl
-passed (None ∷ checks) (suc i) none = passed checks i none
-passed (Some status ∷ checks) i none = cc
-
-pub demanded : (test : Bool) (status : Status) → demand test status ≡ None → test ≡ true
-demanded true status none = refl
-demanded false status none = cc
-
 pub roomed : (room : Result (Option ℕ) Status) → why_not room ≡ None → room ≡ Ok (closing_of room)
 roomed (Ok gives) none = refl
 roomed (Err status) none = cc

@@ -16,7 +16,8 @@ use Rattle.zns_commands.specs.Send.{room_of, led_to, zone_checks, zone_plan, Can
 use Rattle.zns_commands.specs.declared.send.ZonePlan.{ZonePlan}
 use Rattle.zns_commands.proofs.GivenWay.{has_room, no_one_gives_way}
 use Rattle.zns_commands.proofs.MovedZones.{action_fits, moved_sound}
-use Rattle.zns_commands.proofs.PassedChecks.{passed, demanded, roomed, zone_inside}
+use Rattle.nvme_entry.proofs.Proved.{passed, demanded}
+use Rattle.zns_commands.proofs.PassedChecks.{roomed, zone_inside}
 
 -- the checks of an action on one zone, all passed, and what they give
 pub zone_checked : (address lowest : Option Status) (refused : Bool) (moves : Result ZoneState Status) (room : Result (Option ℕ) Status)

@@ -17,8 +17,7 @@ use Rattle.nvme_entry.specs.Checks.{demand, first_refused}
 use Rattle.image_store.specs.Blocks.{as_blocks, block_count, bytes_of}
 use Rattle.image_store.specs.Geometry.{Shape}
 use Rattle.image_store.specs.Namespace.{ZoneBlocks, ZonedNamespace, no_zone, zone_at, grown, IsNamespace}
-use Rattle.image_store.proofs.Images.{allowed_fits}
-use Rattle.image_store.proofs.Pieces.{bytes-blocks}
+use Rattle.image_store.proofs.Proved.{allowed_is_within, blocks_keep_bytes}
 use Rattle.zns_commands.specs.Address.{record_at, zone_number, block_total, write_pointer}
 use Rattle.zns_commands.specs.Answer.{Outcome, success, concluded}
 use Rattle.zns_commands.specs.Append.{append_checks, append_effect}
@@ -30,7 +29,8 @@ use Rattle.zns_commands.specs.Meaning.{meaning}
 use Rattle.zns_commands.proofs.GivenWay.{has_room, written_is}
 use Rattle.zns_commands.proofs.WrittenZones.{brings, pointer_in}
 use Rattle.zns_commands.proofs.KeptBlocks.{Keeps, steps_keep, written_shape}
-use Rattle.zns_commands.proofs.PassedChecks.{passed, demanded, roomed, allowed, zone_inside, append_passed, write_passed}
+use Rattle.nvme_entry.proofs.Proved.{passed, demanded}
+use Rattle.zns_commands.proofs.PassedChecks.{roomed, allowed, zone_inside, append_passed, write_passed}
 
 -- a namespace, once a zone is written
 written_zone : (ns : ZonedNamespace) (z : ℕ) (gives : Option ℕ) (input : List ℕ) → gives ≢ Some z → z < length ns.zones
@@ -122,7 +122,7 @@ whole_bytes block blocks input some size =
     let n = block_count block input in
     let is : n ≡ blocks = ap (λ (m : ℕ). m / block) size ∙ mul-div_cancel blocks (omega arith) in
     let long : length input ≤ n * block = subst (λ (m : ℕ). length input ≤ m * block) (sym is) (omega arith) in
-    bytes-blocks block n input ∙ take_all (n * block) input long
+    blocks_keep_bytes block n input ∙ take_all (n * block) input long
 
 -- what holds of a write that isn't refused
 record Writes (ns : ZonedNamespace) (holds : Holds) (z blocks : ℕ) (input : List ℕ) : Type 0 where
@@ -145,7 +145,7 @@ written_lie ns holds z blocks input sound writes =
     let bring = brings ns.block blocks input block_some writes.size in
     let seen = written_zone ns z plan.closing input has.give.other writes.inside in
     let form = written_shape ns plan input in
-    let end : length zone.blocks + blocks ≤ ns.capacity = allowed_fits (record_at ns z) (length zone.blocks) blocks writes.fits in
+    let end : length zone.blocks + blocks ≤ ns.capacity = allowed_is_within (record_at ns z) (length zone.blocks) blocks writes.fits in
     let reach : length zone.blocks + blocks ≤ ns.size = omega (arith, sound.shape.capacity_most) in
     record {
       front = zone.blocks;

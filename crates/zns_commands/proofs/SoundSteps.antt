@@ -30,7 +30,8 @@ use Rattle.zns_commands.proofs.Fits.{FitsIn, namespace_of_zones, no_bytes}
 use Rattle.zns_commands.proofs.WrittenZones.{written_sound}
 use Rattle.zns_commands.proofs.MovedZones.{moved_sound, fault_sound}
 use Rattle.zns_commands.proofs.SweptZones.{count_in, all_sound}
-use Rattle.zns_commands.proofs.PassedChecks.{passed, demanded, roomed, allowed, zone_inside}
+use Rattle.nvme_entry.proofs.Proved.{passed, demanded}
+use Rattle.zns_commands.proofs.PassedChecks.{roomed, allowed, zone_inside}
 
 concluded_sound : (refusal : Option Status) (ns : ZonedNamespace) (effect : Outcome)
     → IsNamespace ns → (refusal ≡ None → IsNamespace effect.namespace) → IsNamespace (concluded refusal ns effect).namespace

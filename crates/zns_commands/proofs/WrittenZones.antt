@@ -12,10 +12,7 @@ use Rattle.zone_resources.specs.Admission.{wanted_of, HoldsNoMore}
 use Rattle.zone_resources.specs.declared.holds.Holds.{Holds}
 use Rattle.image_store.specs.Blocks.{AreBytes, as_blocks, block_count, blocks_of}
 use Rattle.image_store.specs.Namespace.{ZoneBlocks, ZonedNamespace, zone_at, counted, grown, IsNamespace, IsWithinLimits}
-use Rattle.image_store.proofs.ByteParts.{blocks_fit}
-use Rattle.image_store.proofs.Pieces.{length-blocks}
-use Rattle.image_store.proofs.Sound.{block-at}
-use Rattle.image_store.proofs.States.{after_write_zone}
+use Rattle.image_store.proofs.Proved.{block_is_a_part, blocks_are_bytes, blocks_are_counted, writes_keep_zones}
 use Rattle.zns_commands.specs.Address.{record_at}
 use Rattle.zns_commands.specs.Resources.{room_for}
 use Rattle.zns_commands.specs.Write.{written}
@@ -40,7 +37,7 @@ block_whole : (b n : ℕ) (bytes : List ℕ) → n * b ≤ length bytes → (i :
 block_whole b n bytes long i h =
     let below : suc i ≤ n = omega arith in
     let product : suc i * b ≤ n * b = mul-le-mul_right b below in
-    ap length (block-at b n i bytes h) ∙ omega (arith, suc-mul i b, length-take b (drop (i * b) bytes), length-drop (i * b) bytes)
+    ap length (block_is_a_part b n i bytes h) ∙ omega (arith, suc-mul i b, length-take b (drop (i * b) bytes), length-drop (i * b) bytes)
 
 -- the blocks that a write brings
 pub record Brings (block blocks : ℕ) (more : List (List ℕ)) : Type 0 where
@@ -52,7 +49,7 @@ brings block blocks input some size =
     let n = block_count block input in
     let is : n ≡ blocks = ap (λ (m : ℕ). m / block) size ∙ mul-div_cancel blocks (omega arith) in
     let long : n * block ≤ length input = subst (λ (m : ℕ). m * block ≤ length input) (sym is) (omega arith) in
-    let count = length-blocks block n input in
+    let count = blocks_are_counted block n input in
     record { count = count ∙ is; whole = λ i h. block_whole block n input long i (omega arith) }
 
 -- a write that isn't refused is at the write pointer
@@ -85,7 +82,7 @@ grown_fits b c zone more at n fits some bring are allowed =
       state =
           subst (λ (k : ℕ). IsZone (after_write (counted c zone) (length more)).state k c) long
           (subst (λ (k : ℕ). IsZone (after_write (counted c zone) k).state (length zone.blocks + n) c) (sym bring.count)
-          (after_write_zone (counted c zone) n some here));
+          (writes_keep_zones (counted c zone) n some here));
       whole = each_append (λ block. length block ≡ b) zone.blocks more fits.whole bring.whole;
       bytes = bytes_append zone.blocks more fits.bytes are;
     }
@@ -126,5 +123,5 @@ written_sound ns holds z at blocks gives input sound inside some size are allowe
     subst IsNamespace (sym (written_is ns z gives input has.give.other))
     (room_sound ns z gives (grown ns.capacity zone more) sound has
     (grown_fits ns.block ns.capacity zone more at blocks (zone_fits ns z sound inside) some bring
-    (blocks_fit ns.block (block_count ns.block input) input are) allowed)
+    (blocks_are_bytes ns.block (block_count ns.block input) input are) allowed)
     (write_takes_none zone.state (record_at ns z) at blocks (nat_eq (length zone.blocks + length more) ns.capacity) allowed))
