@@ -12,7 +12,7 @@ use Rattle.image_store.specs.Blocks.{AreBytes, as_blocks, block_count, blocks_of
 use Rattle.image_store.specs.Geometry.{Shape}
 use Rattle.image_store.specs.Namespace.{ZoneBlocks, ZonedNamespace, appended, grown, no_zone, shape, with_zone, zone_at}
 use Rattle.zns_commands.specs.Kept.{Grows}
-use Rattle.zns_commands.proofs.KeptBlocks.{grows_not, set_grows_at}
+use Rattle.zns_commands.proofs.Proved.{grows_by_none, replaced_grows}
 use Rattle.pushdown.specs.Machine.{added}
 use Rattle.pushdown.proofs.Bytes.{AreBlocks, all_append, by_index, from_index}
 
@@ -65,9 +65,9 @@ pub added_capacity : (ns : ZonedNamespace) (z : ℕ) (blocks : List (List ℕ)) 
 added_capacity ns z blocks = ap (λ (x : Shape). x.capacity) (added_shape ns z blocks)
 
 pub added_grows : (ns : ZonedNamespace) (z other : ℕ) (blocks : List (List ℕ)) → Grows (zone_at ns other).blocks (zone_at (added ns z blocks) other).blocks
-added_grows ns z other [] = grows_not (zone_at ns other).blocks
+added_grows ns z other [] = grows_by_none (zone_at ns other).blocks
 added_grows ns z other (b ∷ bs) =
-    set_grows_at ns.zones z other (grown ns.capacity (zone_at ns z) (b ∷ bs))
+    replaced_grows ns.zones z other (grown ns.capacity (zone_at ns z) (b ∷ bs))
     (λ same is. record { more = b ∷ bs; is = ap (λ (n : ℕ). (get_or ns.zones n no_zone).blocks ++ b ∷ bs) same })
 
 -- ---- whole blocks, and their bytes

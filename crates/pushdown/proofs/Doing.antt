@@ -7,7 +7,7 @@ use Rattle.zone_resources.specs.Holds.{is_destination}
 use Rattle.zone_resources.specs.declared.holds.Holds.{Holds}
 use Rattle.reg_domain.specs.Domain.{Operations}
 use Rattle.image_store.specs.Namespace.{ZoneBlocks, ZonedNamespace, zone_at}
-use Rattle.zns_commands.proofs.HeldZones.{destinations_are_left}
+use Rattle.zns_commands.proofs.Proved.{destinations_are_left}
 use Rattle.pushdown.specs.Admission.{SameProgram}
 use Rattle.pushdown.specs.Answers.{Happening}
 use Rattle.pushdown.specs.Events.{Occurrence, state_after}

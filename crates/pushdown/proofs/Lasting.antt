@@ -3,7 +3,8 @@ use Rattle.std.proofs.Common.{◌≡◌, ℕ, Bool, false, List, [], ◌∷◌, 
 use Rattle.reg_domain.specs.Domain.{Operations}
 use Rattle.image_store.specs.Namespace.{ZonedNamespace, shape, zone_at}
 use Rattle.zns_commands.specs.Laws.{Step, after, is_cleared}
-use Rattle.zns_commands.proofs.KeptBlocks.{Keeps, grows_on, step_shape, steps_keep, uncleared_readable}
+use Rattle.zns_commands.proofs.Proved.{grows_on, steps_keep_shapes, steps_keep_zones, uncleared_is_readable}
+use Rattle.zns_commands.specs.Lasting.{Keeps}
 use Rattle.pushdown.specs.Events.{Occurrence, state_after}
 use Rattle.pushdown.specs.Machine.{added, happens}
 use Rattle.pushdown.specs.ReadBack.{NoneClears, ShapesAreKept, UnclearedKeepBlocks}
@@ -17,7 +18,7 @@ abbrev Uncleared : ZonedNamespace → ℕ → Type 0
 Uncleared ns z = is_cleared (zone_at ns z).state ≡ false
 
 keeps_itself : (ns : ZonedNamespace) (z : ℕ) → Keeps ns ns z
-keeps_itself ns z = steps_keep [] ns z tt
+keeps_itself ns z = steps_keep_zones [] ns z tt
 
 keeps_on : (a b c : ZonedNamespace) (z : ℕ) → Keeps a b z → Keeps b c z → Keeps a c z
 keeps_on a b c z first second = record {
@@ -27,14 +28,14 @@ keeps_on a b c z first second = record {
 }
 
 step_keeps : (step : Step) (ns : ZonedNamespace) (z : ℕ) → Uncleared (after step ns) z → Keeps ns (after step ns) z
-step_keeps step ns z stays = steps_keep (step ∷ []) ns z (stays, tt)
+step_keeps step ns z stays = steps_keep_zones (step ∷ []) ns z (stays, tt)
 
 added_keeps : (ns : ZonedNamespace) (d z : ℕ) (blocks : List (List ℕ)) → Uncleared (added ns d blocks) z → Keeps ns (added ns d blocks) z
 added_keeps ns d z [] stays = keeps_itself ns z
 added_keeps ns d z (b ∷ bs) stays = record {
   same_shape = added_shape ns d (b ∷ bs);
   blocks = added_grows ns d z (b ∷ bs);
-  readable = λ known. uncleared_readable (zone_at (added ns d (b ∷ bs)) z).state stays;
+  readable = λ known. uncleared_is_readable (zone_at (added ns d (b ∷ bs)) z).state stays;
 }
 
 module _ {D : Type 0} (operations : Operations D) where
@@ -63,7 +64,7 @@ module _ {D : Type 0} (operations : Operations D) where
   event_shape : (s : State) (starved : Bool) (e : Event) → shape (happens operations s starved e).state.namespace ≡ shape s.namespace
   event_shape s starved e = after_event operations (λ (t : State). shape t.namespace ≡ shape s.namespace) s starved e (record {
     same = refl;
-    step = λ step same is. step_shape step s.namespace;
+    step = λ step same is. steps_keep_shapes step s.namespace;
     load = λ sub load t are takes. refl;
     start = λ sub order run passed free some. refl;
     turn = λ run place turn later is at first. added_shape s.namespace place.destination turn.blocks;

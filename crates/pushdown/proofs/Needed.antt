@@ -11,8 +11,7 @@ use Rattle.nvme_entry.specs.Checks.{first_refused}
 use Rattle.nvme_entry.specs.declared.command.LoadCommand.{LoadCommand}
 use Rattle.reg_domain.specs.Domain.{Operations}
 use Rattle.image_store.specs.Namespace.{zone_at}
-use Rattle.zns_commands.proofs.HeldSources.{sources_keep_blocks}
-use Rattle.zns_commands.proofs.KeptBlocks.{grows_not, step_shape}
+use Rattle.zns_commands.proofs.Proved.{grows_by_none, sources_keep_blocks, steps_keep_shapes}
 use Rattle.nvme_entry.proofs.Proved.{demanded, passed}
 use Rattle.pushdown.specs.Admission.{Loaded, SameProgram}
 use Rattle.pushdown.specs.Laws.{EventsKeepForRuns, KeepsFor}
@@ -65,7 +64,7 @@ used_at places run place at =
 -- ---- events
 
 unchanged : (place : Place) (s : State) → KeepsFor place s s
-unchanged place s = record { source = grows_not (zone_at s.namespace place.source).blocks; program = same_program (program_at s place.slot); sizes = refl }
+unchanged place s = record { source = grows_by_none (zone_at s.namespace place.source).blocks; program = same_program (program_at s place.slot); sizes = refl }
 
 -- a Load doesn't take the slot of an active run
 not_loaded : (s : State) (run : ℕ) (place : Place) (load : LoadCommand) (input : List ℕ) → place_at s run ≡ Some place
@@ -84,18 +83,18 @@ module _ {D : Type 0} (operations : Operations D) where
       source = sources_keep_blocks step s.namespace place.source
           (subst (λ (holds : Holds). is_source holds place.source ≡ true) (sym same) (source_at s.places run place at));
       program = same_program (program_at s place.slot);
-      sizes = step_shape step s.namespace;
+      sizes = steps_keep_shapes step s.namespace;
     };
     load = λ sub load t are takes.
         let new = Some (just_loaded takes.program load.limit) in
         let other = get_or-set_other s.slots load.slot place.slot new None (not_loaded s run place load sub.payload at takes.passed) in
         record {
-          source = grows_not (zone_at s.namespace place.source).blocks;
+          source = grows_by_none (zone_at s.namespace place.source).blocks;
           program = subst (SameProgram (program_at s place.slot)) (sym other) (same_program (program_at s place.slot));
           sizes = refl;
         };
     start = λ sub order first passed free some. record {
-      source = grows_not (zone_at s.namespace place.source).blocks;
+      source = grows_by_none (zone_at s.namespace place.source).blocks;
       program = same_program (program_at s place.slot);
       sizes = refl;
     };

@@ -18,8 +18,8 @@ use Rattle.zns_commands.specs.Address.{zone_number}
 use Rattle.zns_commands.specs.Answer.{Outcome, success}
 use Rattle.zns_commands.specs.Meaning.{meaning}
 use Rattle.zns_commands.specs.Read.{read_meaning, read_refusal}
-use Rattle.zns_commands.proofs.KeptBlocks.{Keeps}
-use Rattle.zns_commands.proofs.ReadBack.{Lie, appended_stays, read_back, written_stays}
+use Rattle.zns_commands.proofs.Proved.{appended_stays, lying_is_read, written_stays}
+use Rattle.zns_commands.specs.Lasting.{Keeps, Lie}
 use Rattle.pushdown.specs.Answers.{Happening, Submission}
 use Rattle.pushdown.specs.Events.{Occurrence, state_after}
 use Rattle.pushdown.specs.Machine.{commanded, happens, submitted}
@@ -77,7 +77,7 @@ blocks_read ns z front more behind is there some transfer =
       some = some;
       transfer = le-leb _ _ transfer;
     } in
-    read_back ns z (length front) (length more) (bytes_of more) lie
+    lying_is_read ns z (length front) (length more) (bytes_of more) lie
 
 -- ---- events
 

@@ -9,7 +9,7 @@ use Rattle.zone_state.specs.declared.state.ZoneState.TheVariants.{ImplicitlyOpen
 use Rattle.image_store.specs.Blocks.{bytes_of}
 use Rattle.image_store.specs.Namespace.{ZoneBlocks, ZonedNamespace, IsNamespace, appended, grown, no_zone, zone_at}
 use Rattle.zns_commands.specs.Append.{TakesBlocks}
-use Rattle.zns_commands.proofs.OpenZones.{blocks_are_appended, blocks_keep_namespaces}
+use Rattle.zns_commands.proofs.Proved.{blocks_are_appended, blocks_keep_namespaces}
 use Rattle.pushdown.specs.Laws.{IsAppended, RoomIn}
 use Rattle.pushdown.specs.Machine.{added}
 use Rattle.pushdown.specs.Outcome.{Ending, Turn, appended_by}

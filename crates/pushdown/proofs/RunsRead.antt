@@ -12,7 +12,6 @@ use Rattle.verifier.specs.Laws.{AcceptedNeverTraps}
 use Rattle.image_store.specs.Blocks.{AreBytes, bytes_of}
 use Rattle.image_store.specs.Geometry.{Shape}
 use Rattle.image_store.specs.Namespace.{ZonedNamespace, shape, IsNamespace}
-use Rattle.zns_commands.proofs.Fits.{no_bytes}
 use Rattle.nvme_entry.proofs.Proved.{demanded, passed}
 use Rattle.pushdown.specs.Admission.{admission_checks}
 use Rattle.pushdown.specs.Answers.{Submission}
@@ -29,7 +28,7 @@ use Rattle.pushdown.proofs.ReadBack.{each_is_read, part_is_read}
 use Rattle.pushdown.proofs.States.{IsFine, events_fine, reached, turn_fine}
 
 none_beside : (xs : List ℕ) → length xs ≡ 0 → AreBytes xs
-none_beside [] none = no_bytes
+none_beside [] none = λ i. omega arith
 none_beside (x ∷ xs) none = absurd (omega (arith, none))
 
 -- no data stands beside a Run

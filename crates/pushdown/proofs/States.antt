@@ -33,10 +33,8 @@ use Rattle.image_store.specs.Geometry.{Shape}
 use Rattle.image_store.specs.Namespace.{ZonedNamespace, IsNamespace, zone_at}
 use Rattle.zns_commands.specs.Kept as kept
 use Rattle.zns_commands.specs.Laws.{IsSpelled, Step, after}
-use Rattle.zns_commands.proofs.HeldZones.{destinations_are_left}
-use Rattle.zns_commands.proofs.KeptBlocks.{step_shape}
+use Rattle.zns_commands.proofs.Proved.{destinations_are_left, steps_keep_namespaces, steps_keep_shapes}
 use Rattle.nvme_entry.proofs.Proved.{demanded, passed}
-use Rattle.zns_commands.proofs.SoundSteps.{steps_keep_namespaces}
 use Rattle.pushdown.specs.Admission.{Loaded, admission_checks, source_blocks, task_of}
 use Rattle.pushdown.specs.Answers.{Submission}
 use Rattle.pushdown.specs.BlockRuns.{Task, groups_of, no_scratch, runs_of}
@@ -135,7 +133,7 @@ module _ {D : Type 0} (operations : Operations D) (never : AcceptedNeverTraps op
   step_fine : (s : State) (step : Step) → IsFine s → kept.holds_of step ≡ holds_of s → IsSpelled step
       → IsFine (with_namespace s (after step s.namespace))
   step_fine s step h same is_spelled =
-      let kept_shape = step_shape step s.namespace in
+      let kept_shape = steps_keep_shapes step s.namespace in
       record {
         is = steps_keep_namespaces (step ∷ []) s.namespace h.is (just_one step is_spelled);
         size = ap (λ (x : Shape). x.block) kept_shape ∙ h.size;

@@ -6,7 +6,7 @@ use Rattle.verifier.specs.Laws.{AcceptedNeverTraps}
 use Rattle.verifier.specs.Soundness.{accepted_never_traps}
 use Rattle.image_store.specs.Namespace.{ZonedNamespace, IsNamespace}
 use Rattle.image_store.proofs.Proved.{loaded_is_namespace, saved_texts_load}
-use Rattle.zns_commands.proofs.SoundSteps.{empty_is_namespace}
+use Rattle.zns_commands.proofs.Proved.{empty_is_namespace}
 use Rattle.pushdown.specs.AnyOrder.{ComeToTheSame}
 use Rattle.pushdown.specs.Draining.{Drains}
 use Rattle.pushdown.specs.Events.{Occurrence, state_after}

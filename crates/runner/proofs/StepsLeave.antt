@@ -13,8 +13,7 @@ use Rattle.zns_commands.specs.Fault.{faulted}
 use Rattle.zns_commands.specs.Laws.{Commanded, Failed, Step, after}
 use Rattle.zns_commands.specs.Meaning.{meaning}
 use Rattle.zns_commands.specs.declared.answer.Answer.{Answer}
-use Rattle.zns_commands.proofs.HeldSources.{sources_keep_blocks}
-use Rattle.zns_commands.proofs.KeptBlocks.{step_shape}
+use Rattle.zns_commands.proofs.Proved.{sources_keep_blocks, steps_keep_shapes}
 use Rattle.pushdown.specs.Answers.{Submission}
 use Rattle.pushdown.specs.Machine.{commanded, failed}
 use Rattle.pushdown.specs.State.{Place, with_namespace}
@@ -71,7 +70,7 @@ source_there runs k a at = named_at source_held a.source.zone runs k a at refl
 step_leaves : (ns : ZonedNamespace) (slots : List (Option LoadedProgram)) (runs : List (Option Held)) (step : Step) → IsReady ns slots runs
     → holds_of step ≡ held_by runs → IsLeft ns (after step ns) slots runs
 step_leaves ns slots runs step ready heeds =
-    is_left ns (after step ns) slots runs ready (step_shape step ns)
+    is_left ns (after step ns) slots runs ready (steps_keep_shapes step ns)
     (λ k a at.
     sources_keep_blocks step ns a.source.zone
     (ap (λ (holds : Holds). is_source holds a.source.zone) heeds ∙ source_there runs k a at))

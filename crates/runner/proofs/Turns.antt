@@ -14,7 +14,7 @@ use Rattle.emit_append.proofs.Proved.{one_group_is_pending, packing_goes_on}
 use Rattle.image_store.specs.Namespace.{ZoneBlocks, ZonedNamespace, zone_at}
 use Rattle.image_store.specs.declared.geometry.Place.{Place}
 use Rattle.zns_commands.specs.Address.{zone_number}
-use Rattle.zns_commands.proofs.OpenZones.{open_inside}
+use Rattle.zns_commands.proofs.Proved.{open_is_there}
 use Rattle.pushdown.specs.Admission.{task_by}
 use Rattle.pushdown.specs.BlockRuns.{Task, goes_on, scratch_after}
 use Rattle.pushdown.specs.Laws.{Ends, RoomIn, further, next_turn}
@@ -148,7 +148,7 @@ module _ (ns : ZonedNamespace) (z : ℕ) (ending : Option Ending) (turns : List 
   added_twice (b ∷ bs) [] h = ap (added ns z) (sym (append-nil (b ∷ bs)))
   added_twice (b ∷ bs) (c ∷ cs) h =
       let opened = still_open ns.capacity (zone_at ns z) b (bs ++ (c ∷ cs)) ending turns h in
-      added_both ns z b c bs cs opened (open_inside ns.zones z opened) (omega (arith, h.room, length-append ((b ∷ bs) ++ (c ∷ cs)) (appended_by turns)))
+      added_both ns z b c bs cs opened (open_is_there ns.zones z opened) (omega (arith, h.room, length-append ((b ∷ bs) ++ (c ∷ cs)) (appended_by turns)))
 
 module _ (ns : ZonedNamespace) (z : ℕ) (ending : Option Ending) (turns : List Turn) (some : 1 ≤ ns.block) where
   room_second : (bs more : List (List ℕ)) → Room ns z ending turns some (bs ++ more) → HasRoom (added ns z bs) z more

@@ -25,22 +25,21 @@ use Rattle.zns_commands.specs.Receive.{receive_checks, receive_effect}
 use Rattle.zns_commands.specs.Send.{send_checks, send_effect, zone_plan, takes, swept}
 use Rattle.zns_commands.specs.Write.{write_checks, write_effect, write_plan, written}
 use Rattle.zns_commands.specs.Kept.{Grows}
+use Rattle.zns_commands.specs.Lasting.{Keeps, GrowsByNone, GrowsOn, ReplacedGrows, UnclearedIsReadable, StepsKeepZones}
 use Rattle.zns_commands.specs.Laws.{Step, Commanded, Failed, after, after_all, is_cleared, NoneClears}
 use Rattle.zns_commands.proofs.MovedZones.{after_action}
 
-pub grows_not : (blocks : List (List ℕ)) → Grows blocks blocks
+pub grows_not : GrowsByNone
 grows_not blocks = record { more = []; is = sym (append-nil blocks) }
 
-pub grows_on : (a b c : List (List ℕ)) → Grows a b → Grows b c → Grows a c
+pub grows_on : GrowsOn
 grows_on a b c first second = record {
   more = first.more ++ second.more;
   is = second.is ∙ (ap (λ (blocks : List (List ℕ)). blocks ++ second.more) first.is ∙ append_assoc a first.more second.more);
 }
 
 -- a zone in the place of one that it keeps the blocks of
-pub set_grows_at : (zones : List ZoneBlocks) (y z : ℕ) (zone : ZoneBlocks)
-    → (y ≡ z → get_or (set zones y zone) z no_zone ≡ zone → Grows (get_or zones z no_zone).blocks zone.blocks)
-    → Grows (get_or zones z no_zone).blocks (get_or (set zones y zone) z no_zone).blocks
+pub set_grows_at : ReplacedGrows
 set_grows_at [] y z zone grows = grows_not (get_or [] z no_zone).blocks
 set_grows_at (x ∷ xs) zero zero zone grows = grows refl refl
 set_grows_at (x ∷ xs) zero (suc z) zone grows = grows_not (get_or xs z no_zone).blocks
@@ -193,17 +192,11 @@ step_shape (Commanded holds (Send lba a select_all) input) ns =
 step_shape (Failed holds z fault) ns = faulted_shape (fault_answer ns holds z fault) ns z fault
 
 -- a zone that isn't cleared can be read
-pub uncleared_readable : (s : ZoneState) → is_cleared s ≡ false → read_refusal s ≡ None
+pub uncleared_readable : UnclearedIsReadable
 uncleared_readable Offline stays = cc
 uncleared_readable s stays = refl
 
--- what a later namespace has of a zone
-pub record Keeps (ns m : ZonedNamespace) (z : ℕ) : Type 0 where
-  pub same_shape : shape m ≡ shape ns
-  pub blocks : Grows (zone_at ns z).blocks (zone_at m z).blocks
-  pub readable : read_refusal (zone_at ns z).state ≡ None → read_refusal (zone_at m z).state ≡ None
-
-pub steps_keep : (steps : List Step) (ns : ZonedNamespace) (z : ℕ) → NoneClears z steps ns → Keeps ns (after_all steps ns) z
+pub steps_keep : StepsKeepZones
 steps_keep [] ns z none = record { same_shape = refl; blocks = grows_not (zone_at ns z).blocks; readable = λ known. known }
 steps_keep (step ∷ steps) ns z none =
     let m = after step ns in

@@ -1,22 +1,23 @@
-pub mod BlockParts
-pub mod Fits
-pub mod GivenWay
-pub mod HeldSources
-pub mod HeldZones
-pub mod KeptBlocks
-pub mod Meanings
-pub mod MovedZones
-pub mod OpenZones
-pub mod PassedChecks
-pub mod Planned
-pub mod ReadBack
-pub mod ReadBytes
-pub mod Refusals
-pub mod ReportedZones
-pub mod Rooms
-pub mod SoundSteps
-pub mod Sweeps
-pub mod SweptZones
-pub mod Transfers
-pub mod Untouched
-pub mod WrittenZones
+mod BlockParts
+mod Fits
+mod GivenWay
+mod HeldSources
+mod HeldZones
+mod KeptBlocks
+mod Meanings
+mod MovedZones
+mod OpenZones
+mod PassedChecks
+mod Planned
+mod ReadBack
+mod ReadBytes
+mod Refusals
+mod ReportedZones
+mod Rooms
+mod SoundSteps
+mod Sweeps
+mod SweptZones
+mod Transfers
+mod Untouched
+mod WrittenZones
+pub mod Proved

@@ -13,6 +13,7 @@ use Rattle.zone_resources.specs.declared.admission.Wanted.{Wanted}
 use Rattle.zone_resources.specs.declared.holds.Holds.{Holds}
 use Rattle.image_store.specs.Blocks.{as_blocks, block_count}
 use Rattle.image_store.specs.Namespace.{ZoneBlocks, ZonedNamespace, no_zone, zone_at, grown, appended, IsNamespace, IsWithinLimits}
+use Rattle.zns_commands.specs.Lasting.{OpenIsThere}
 use Rattle.zns_commands.specs.Address.{record_at, zone_number}
 use Rattle.zns_commands.specs.Laws.{BlocksAreAppended, BlocksKeepNamespaces}
 use Rattle.zns_commands.specs.Resources.{room_by, closing_of}
@@ -35,7 +36,7 @@ open_plan ns holds z some is =
     ∙ ap (λ (wanted : Option Wanted). let plan : WritePlan = record { zone = z; closing = closing_of (room_by ns holds wanted) } in plan)
     (open_wants_none (zone_at ns z).state is)
 
-pub open_inside : (zones : List ZoneBlocks) (z : ℕ) → is_open (get_or zones z no_zone).state ≡ true → z < length zones
+pub open_inside : OpenIsThere
 open_inside [] z is = cc
 open_inside (x ∷ xs) zero is = omega arith
 open_inside (x ∷ xs) (suc z) is =

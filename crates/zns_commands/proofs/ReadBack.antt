@@ -18,6 +18,7 @@ use Rattle.image_store.specs.Blocks.{as_blocks, block_count, bytes_of}
 use Rattle.image_store.specs.Geometry.{Shape}
 use Rattle.image_store.specs.Namespace.{ZoneBlocks, ZonedNamespace, no_zone, zone_at, grown, IsNamespace}
 use Rattle.image_store.proofs.Proved.{allowed_is_within, blocks_keep_bytes}
+use Rattle.zns_commands.specs.Lasting.{Keeps, Lie, LyingIsRead, ReadsBack, ReadsAt, AppendedStays, WrittenStays}
 use Rattle.zns_commands.specs.Address.{record_at, zone_number, block_total, write_pointer}
 use Rattle.zns_commands.specs.Answer.{Outcome, success, concluded}
 use Rattle.zns_commands.specs.Append.{append_checks, append_effect}
@@ -28,7 +29,7 @@ use Rattle.zns_commands.specs.Laws.{after_all, AreRead, AppendedReadsBack, Writt
 use Rattle.zns_commands.specs.Meaning.{meaning}
 use Rattle.zns_commands.proofs.GivenWay.{has_room, written_is}
 use Rattle.zns_commands.proofs.WrittenZones.{brings, pointer_in}
-use Rattle.zns_commands.proofs.KeptBlocks.{Keeps, steps_keep, written_shape}
+use Rattle.zns_commands.proofs.KeptBlocks.{steps_keep, written_shape}
 use Rattle.nvme_entry.proofs.Proved.{passed, demanded}
 use Rattle.zns_commands.proofs.PassedChecks.{roomed, allowed, zone_inside, append_passed, write_passed}
 
@@ -50,27 +51,11 @@ readable true s = refl
 readable false ExplicitlyOpened = refl
 readable false s = refl
 
--- blocks in a zone, from one of its blocks on
-pub record Lie (m : ZonedNamespace) (z w blocks : ℕ) (input : List ℕ) : Type 0 where
-  pub front : List (List ℕ)
-  pub more : List (List ℕ)
-  pub behind : List (List ℕ)
-  pub there : (zone_at m z).blocks ≡ front ++ (more ++ behind)
-  pub start : length front ≡ w
-  pub count : length more ≡ blocks
-  pub bytes : bytes_of more ≡ input
-  pub readable : read_refusal (zone_at m z).state ≡ None
-  pub inside : z < length m.zones
-  pub room : w + blocks ≤ m.size
-  pub some : 1 ≤ blocks
-  pub transfer : nat_le (blocks * m.block) MOST_TRANSFER ≡ true
-
 all_pass : (a b c : Bool) (r : Option Status) (s t u : Status) → a ≡ true → b ≡ true → c ≡ true → r ≡ None
     → first_refused (demand a s ∷ None ∷ demand b t ∷ demand c u ∷ r ∷ []) ≡ None
 all_pass a b c r s t u ea eb ec er = rw (ea, eb, ec, er) refl
 
-pub read_back : (m : ZonedNamespace) (z w blocks : ℕ) (input : List ℕ) → Lie m z w blocks input
-    → read_meaning m (z * m.size + w) blocks [] ≡ success m 0 input
+pub read_back : LyingIsRead
 read_back m z w blocks input h =
     let lba = z * m.size + w in
     let size = m.size in
@@ -178,13 +163,7 @@ reads_later ns holds z blocks input later sound writes keeps any =
     let address : z * ns.size + w ≡ z * later.size + w = ap (λ (k : ℕ). z * k + w) (sym same_size) in
     ap (λ (k : ℕ). read_meaning later k blocks []) address ∙ read_back later z w blocks input lie
 
--- what a Read gives later of the blocks that an outcome tells
-abbrev ReadsBack : ℕ → ZonedNamespace → ℕ → List ℕ → Outcome → Type 0
-ReadsBack z later blocks input done = Keeps done.namespace later z → AreRead later (done.dw0 + done.dw1 * 2 ^ 32) blocks input
-
-pub appended_stays : (ns : ZonedNamespace) (holds : Holds) (lba blocks : ℕ) (input : List ℕ) (later : ZonedNamespace) → IsNamespace ns → 1 ≤ blocks
-    → (meaning ns holds (Append lba blocks) input).status ≡ SUCCESS
-    → ReadsBack (zone_number ns lba) later blocks input (meaning ns holds (Append lba blocks) input)
+pub appended_stays : AppendedStays
 appended_stays ns holds lba blocks input later sound some done =
     let none = append_passed ns holds lba blocks input done in
     let checks = append_checks ns holds lba blocks input in
@@ -209,13 +188,7 @@ appended_reads_back ns holds lba blocks input steps sound some done stays =
     let m = (meaning ns holds (Append lba blocks) input).namespace in
     appended_stays ns holds lba blocks input (after_all steps m) sound some done (steps_keep steps m (zone_number ns lba) stays)
 
--- what a Read gives later of the blocks from an address on
-abbrev ReadsAt : ℕ → ℕ → ZonedNamespace → ℕ → List ℕ → Outcome → Type 0
-ReadsAt z lba later blocks input done = Keeps done.namespace later z → AreRead later lba blocks input
-
-pub written_stays : (ns : ZonedNamespace) (holds : Holds) (lba blocks : ℕ) (input : List ℕ) (later : ZonedNamespace) → IsNamespace ns → 1 ≤ blocks
-    → (meaning ns holds (Write lba blocks) input).status ≡ SUCCESS
-    → ReadsAt (zone_number ns lba) lba later blocks input (meaning ns holds (Write lba blocks) input)
+pub written_stays : WrittenStays
 written_stays ns holds lba blocks input later sound some done =
     let none = write_passed ns holds lba blocks input done in
     let checks = write_checks ns holds lba blocks input in

@@ -3,6 +3,7 @@ pub mod Answer
 pub mod Append
 pub mod Fault
 pub mod Kept
+pub mod Lasting
 pub mod Laws
 pub mod Meaning
 pub mod Read
