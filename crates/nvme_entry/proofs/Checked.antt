@@ -1,5 +1,5 @@
 -- Checks of which none fails.
-use Rattle.std.proofs.Common.{zero, suc, Bool, true, false, [], ◌∷◌, Some, None, refl}
+use Rattle.std.proofs.Common.{zero, suc, true, false, [], ◌∷◌, Some, None, refl}
 use Rattle.nvme_entry.specs.CheckLaws.{EachCheckPasses, DemandedHolds}
 
 pub passed : EachCheckPasses

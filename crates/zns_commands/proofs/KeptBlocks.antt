@@ -19,14 +19,14 @@ use Rattle.zns_commands.specs.Address.{zone_number}
 use Rattle.zns_commands.specs.Answer.{Outcome, success, concluded}
 use Rattle.zns_commands.specs.Append.{append_checks, append_effect}
 use Rattle.zns_commands.specs.Fault.{fault_answer, faulted_by}
-use Rattle.zns_commands.specs.Read.{read_refusal, read_checks, read_effect}
+use Rattle.zns_commands.specs.Read.{read_checks, read_effect}
 use Rattle.zns_commands.specs.Resources.{closed, arrived, moved_to}
 use Rattle.zns_commands.specs.Receive.{receive_checks, receive_effect}
 use Rattle.zns_commands.specs.Send.{send_checks, send_effect, zone_plan, takes, swept}
 use Rattle.zns_commands.specs.Write.{write_checks, write_effect, write_plan, written}
 use Rattle.zns_commands.specs.Kept.{Grows}
-use Rattle.zns_commands.specs.Lasting.{Keeps, GrowsByNone, GrowsOn, ReplacedGrows, UnclearedIsReadable, StepsKeepZones}
-use Rattle.zns_commands.specs.Laws.{Step, Commanded, Failed, after, after_all, is_cleared, NoneClears}
+use Rattle.zns_commands.specs.Lasting.{GrowsByNone, GrowsOn, ReplacedGrows, UnclearedIsReadable, StepsKeepZones}
+use Rattle.zns_commands.specs.Laws.{Step, Commanded, Failed, after, after_all, is_cleared}
 use Rattle.zns_commands.proofs.MovedZones.{after_action}
 
 pub grows_not : GrowsByNone

@@ -1,5 +1,5 @@
 -- That an open zone wants nothing, and takes blocks as by an Append.
-use Rattle.std.proofs.Common.{◌≡◌, ℕ, zero, suc, ◌+◌, ◌*◌, ◌/◌, ◌<◌, ◌≤◌, Bool, true, List, [], ◌∷◌, length, get_or, Option, None, Ok, refl, ap, sym, ◌∙◌, arith}
+use Rattle.std.proofs.Common.{◌≡◌, ℕ, zero, suc, ◌+◌, ◌*◌, ◌/◌, ◌≤◌, Bool, true, List, [], ◌∷◌, length, Option, None, Ok, refl, ap, sym, ◌∙◌, arith}
 use Rattle.std.specs.Prelude.{nat_eq, nat_le}
 use Rattle.std.proofs.Math.Nat.{mul-div_cancel}
 use Rattle.std.proofs.lemmas.Bool.{eq-eqb, le-leb}
@@ -12,7 +12,7 @@ use Rattle.zone_resources.specs.Holds.{no_holds}
 use Rattle.zone_resources.specs.declared.admission.Wanted.{Wanted}
 use Rattle.zone_resources.specs.declared.holds.Holds.{Holds}
 use Rattle.image_store.specs.Blocks.{as_blocks, block_count}
-use Rattle.image_store.specs.Namespace.{ZoneBlocks, ZonedNamespace, no_zone, zone_at, grown, appended, IsNamespace, IsWithinLimits}
+use Rattle.image_store.specs.Namespace.{ZonedNamespace, zone_at, grown, appended, IsNamespace, IsWithinLimits}
 use Rattle.zns_commands.specs.Lasting.{OpenIsThere}
 use Rattle.zns_commands.specs.Address.{record_at, zone_number}
 use Rattle.zns_commands.specs.Laws.{BlocksAreAppended, BlocksKeepNamespaces}

@@ -9,7 +9,6 @@ use Rattle.zone_state.specs.Zone.{refusal, written_state}
 use Rattle.zone_state.specs.declared.state.ZoneState.{ZoneState}
 use Rattle.zone_state.specs.declared.state.ZoneState.TheVariants.{ExplicitlyOpened, Closed, Full}
 use Rattle.zone_state.specs.declared.status.Status.{Status}
-use Rattle.zone_state.specs.declared.status.TheConstants.Status.{SUCCESS}
 use Rattle.zone_resources.specs.declared.holds.Holds.{Holds}
 use Rattle.nvme_entry.specs.declared.command.StandardCommand.TheVariants.{Write, Append}
 use Rattle.nvme_entry.specs.declared.command.TheConstants.{MOST_TRANSFER}
@@ -20,7 +19,7 @@ use Rattle.image_store.specs.Namespace.{ZoneBlocks, ZonedNamespace, no_zone, zon
 use Rattle.image_store.proofs.Proved.{allowed_is_within, blocks_keep_bytes}
 use Rattle.zns_commands.specs.Lasting.{Keeps, Lie, LyingIsRead, ReadsBack, ReadsAt, AppendedStays, WrittenStays}
 use Rattle.zns_commands.specs.Address.{record_at, zone_number, block_total, write_pointer}
-use Rattle.zns_commands.specs.Answer.{Outcome, success, concluded}
+use Rattle.zns_commands.specs.Answer.{success, concluded}
 use Rattle.zns_commands.specs.Append.{append_checks, append_effect}
 use Rattle.zns_commands.specs.Read.{read_refusal, blocks_read, read_checks, read_effect, read_meaning}
 use Rattle.zns_commands.specs.Resources.{room_for, closing_of}
