@@ -1,1 +1,2 @@
-pub mod Beginnings
+mod Beginnings
+pub mod Proved

@@ -1,4 +1,5 @@
 pub mod Codes
 pub mod Instruction
+pub mod Laws
 pub mod Program
 pub mod Spelling

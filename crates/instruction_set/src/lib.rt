@@ -5,6 +5,7 @@
 mod codes;
 mod fields;
 mod insn;
+pub mod laws;
 mod operation;
 mod program;
 mod register;
