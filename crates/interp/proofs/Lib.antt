@@ -1,5 +1,6 @@
-pub mod Places
-pub mod Running
-pub mod Stepping
-pub mod Verified
-pub mod Words
+mod Places
+mod Running
+mod Stepping
+mod Verified
+mod Words
+pub mod Proved

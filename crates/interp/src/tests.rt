@@ -140,7 +140,12 @@ fn a_frame_that_fills_the_largest_block(rt: HostRuntime) -> Result<(), Fail> {
     let mut machine = Machine::new(&block, &context, &mut scratch);
     assert!(rt; program.at(machine.slot()).is_some());
     let end = machine.run_checked(&program, LARGEST_BLOCK, 100, &mut group);
-    assert_eq!(rt; end, End::Exit { r0: 0x03_0303_0303_0303 });
+    assert_eq!(rt;
+        end,
+        End::Exit {
+            r0: 0x03_0303_0303_0303
+        }
+    );
     assert_eq!(rt; machine.group_len(), LARGEST_BLOCK);
     assert_eq!(rt; machine.frames(), 1);
     assert_eq!(rt; group[0], 0xfe);
