@@ -1,12 +1,12 @@
 //! Why an instruction is refused, in words: the reason with its numbers, and what is known of the registers.
 
 use crate::quantity::bytes;
+use accepted_programs::{Facts, Reason};
 use instruction_set::{Insn, Operation, Register, Source};
 use interval_domain::{Fact, Intervals};
 use program_interface::{Area, RunSizes};
 use reg_domain::{Domain, Offsets};
 use std::io::{self, Write};
-use verifier::{Facts, Reason};
 
 /// An instruction that is refused, of a program of so many slots, and what is known at its slot.
 #[derive(Clone, Copy)]

@@ -6,6 +6,7 @@ use crate::program::read_program;
 use crate::quantity::{bytes, steps};
 use crate::refusal_lines::Refused;
 use crate::sizes::{block_size, run_sizes};
+use accepted_programs::{Facts, Refusal};
 use clap::{Arg, ArgAction, ArgMatches, Command};
 use command_failure::{Failure, printed};
 use command_files::Files;
@@ -16,9 +17,7 @@ use interval_domain::Intervals;
 use program_interface::RunSizes;
 use std::alloc::{AllocError, Global};
 use std::io::{self, Write};
-use verifier::{
-    Facts, Judgement, Refusal, VerifyFault, judge as judge_over, verify as verify_over,
-};
+use verifier::{Judgement, VerifyFault, judge as judge_over, verify as verify_over};
 
 /// The command's name.
 pub const NAME: &str = "verify";
@@ -187,8 +186,8 @@ fn tell_refused<O: Write>(refusal: Refusal, out: &mut O) -> io::Result<()> {
 #[cfg(test)]
 mod tests {
     use super::LONG_ABOUT;
+    use accepted_programs::Reason;
     use std::test::Fail;
-    use verifier::Reason;
 
     const REASONS: [Reason; 10] = [
         Reason::JumpBack,

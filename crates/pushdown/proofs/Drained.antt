@@ -3,7 +3,7 @@ use Rattle.std.proofs.Common.{◌≡◌, ℕ, zero, suc, ◌+◌, ◌≤◌, tru
 use Rattle.std.specs.Prelude.{is_some}
 use Rattle.std.proofs.lemmas.List.Quantifiers.{position-Some}
 use Rattle.reg_domain.specs.Domain.{Operations}
-use Rattle.verifier.specs.Laws.{AcceptedNeverTraps}
+use Rattle.accepted_programs.specs.Laws.{AcceptedNeverTraps}
 use Rattle.pushdown.specs.Answers.{Happening}
 use Rattle.pushdown.specs.Draining.{Drains, lowest_run, turns_left, turns_left_at}
 use Rattle.pushdown.specs.Events.{state_after}

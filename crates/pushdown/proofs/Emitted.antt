@@ -4,7 +4,7 @@ use Rattle.std.specs.List.{AllByRecursion, concat, flat_map}
 use Rattle.program_interface.specs.Frame.{frames}
 use Rattle.program_meaning.specs.Run.{Run}
 use Rattle.reg_domain.specs.Domain.{Operations}
-use Rattle.verifier.specs.Laws.{AcceptedNeverTraps}
+use Rattle.accepted_programs.specs.Laws.{AcceptedNeverTraps}
 use Rattle.emit_append.specs.Frames.{unpacked}
 use Rattle.emit_append.specs.Packed.{FitBlock}
 use Rattle.emit_append.specs.Packing.{packed}

@@ -8,8 +8,8 @@ use Rattle.ebpf_decode.specs.Reading.{decoded as program_in_bytes}
 use Rattle.ebpf_decode.specs.declared.fault.Fault.{Fault}
 use Rattle.instruction_set.specs.declared.insn.Insn.{Insn}
 use Rattle.reg_domain.specs.Domain.{Operations}
-use Rattle.verifier.specs.Accepted.{refusal}
-use Rattle.verifier.specs.declared.reason.Refusal.{Refusal}
+use Rattle.accepted_programs.specs.Accepted.{refusal}
+use Rattle.accepted_programs.specs.declared.reason.Refusal.{Refusal}
 use Rattle.pushdown.specs.Answers.{Happening, Submission}
 use Rattle.pushdown.specs.Machine.{judged, just_loaded, load_checks, load_unless, loading, read_program, sizes_for}
 use Rattle.pushdown.specs.State.{State, with_slot}

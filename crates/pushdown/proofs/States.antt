@@ -22,9 +22,9 @@ use Rattle.program_interface.specs.RunSizes.{AreSizes, Sizes}
 use Rattle.program_meaning.specs.Run.{Run}
 use Rattle.program_meaning.specs.TrapFree.{IsExit, NeverTraps}
 use Rattle.reg_domain.specs.Domain.{Operations}
-use Rattle.verifier.specs.Accepted.{refusal}
-use Rattle.verifier.specs.Laws.{AcceptedNeverTraps}
-use Rattle.verifier.specs.declared.reason.Refusal.{Refusal}
+use Rattle.accepted_programs.specs.Accepted.{refusal}
+use Rattle.accepted_programs.specs.Laws.{AcceptedNeverTraps}
+use Rattle.accepted_programs.specs.declared.reason.Refusal.{Refusal}
 use Rattle.emit_append.specs.Need.{need}
 use Rattle.emit_append.specs.Packed.{FitBlock}
 use Rattle.emit_append.proofs.Proved.{need_grows, need_is_enough}

@@ -16,8 +16,8 @@ use Rattle.ebpf_decode.specs.declared.fault.Fault.{Fault}
 use Rattle.instruction_set.specs.declared.insn.Insn.{Insn}
 use Rattle.program_interface.specs.RunSizes.{Sizes}
 use Rattle.reg_domain.specs.Domain.{Operations}
-use Rattle.verifier.specs.Accepted.{refusal, number_of}
-use Rattle.verifier.specs.declared.reason.Refusal.{Refusal}
+use Rattle.accepted_programs.specs.Accepted.{refusal, number_of}
+use Rattle.accepted_programs.specs.declared.reason.Refusal.{Refusal}
 use Rattle.image_store.specs.Namespace.{ZonedNamespace, zone_at, with_zone, grown}
 use Rattle.zns_commands.specs.Answer.{Outcome}
 use Rattle.zns_commands.specs.Fault.{fault_answer, faulted}

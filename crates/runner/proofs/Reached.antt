@@ -2,8 +2,8 @@
 use Rattle.std.proofs.Common.{ℕ, List, [], ◌∷◌, ◌++◌, refl, ap, sym, subst, ◌∙◌}
 use Rattle.interval_domain.proofs.Proved.{intervals_sound}
 use Rattle.interval_domain.specs.Intervals.{intervals}
-use Rattle.verifier.specs.Laws.{AcceptedNeverTraps}
-use Rattle.verifier.specs.Soundness.{accepted_never_traps}
+use Rattle.accepted_programs.specs.Laws.{AcceptedNeverTraps}
+use Rattle.accepted_programs.proofs.Proved.{accepted_never_traps}
 use Rattle.image_store.specs.Namespace.{ZonedNamespace, IsNamespace}
 use Rattle.image_store.proofs.Proved.{loaded_is_namespace, saved_texts_load}
 use Rattle.zns_commands.proofs.Proved.{empty_is_namespace}

@@ -7,7 +7,7 @@ use Rattle.ebpf_decode.specs.Reading.{decoded}
 use Rattle.instruction_set.specs.declared.insn.Insn.{Insn}
 use Rattle.program_interface.specs.RunSizes.{Sizes}
 use Rattle.interval_domain.specs.Intervals.{intervals}
-use Rattle.verifier.specs.Accepted.{refusal}
+use Rattle.accepted_programs.specs.Accepted.{refusal}
 use Rattle.zns_commands.specs.declared.answer.Answer.{Answer}
 use Rattle.pushdown.specs.Answers.{Submission}
 use Rattle.pushdown.specs.Machine.{load_checks, load_unless, sizes_for}

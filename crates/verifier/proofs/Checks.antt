@@ -11,13 +11,13 @@ use Rattle.program_meaning.specs.Cause.{is_emit}
 use Rattle.program_interface.specs.declared.block_size.TheConstants.{LARGEST_BLOCK}
 use Rattle.program_interface.specs.RunSizes.{Sizes}
 use Rattle.reg_domain.specs.Domain.{Operations}
-use Rattle.verifier.specs.Accepted.{all_reasons, begins_at, fails, leads_nowhere, most_emitted, reason_of, turns_away}
+use Rattle.accepted_programs.specs.Accepted.{begins_at, fails, leads_nowhere, most_emitted, reason_of, turns_away}
 use Rattle.verifier.specs.Answer.{HasRoom, StaysInside}
-use Rattle.verifier.specs.Facts.{facts_behind, slot_behind}
-use Rattle.verifier.specs.Unhindered.{all_fail, of_all}
-use Rattle.verifier.specs.declared.facts.Facts.{Facts}
-use Rattle.verifier.specs.declared.reason.Reason.{Reason}
-use Rattle.verifier.specs.declared.reason.Reason.TheVariants.{JumpOutside, FallsOff, UnknownHelper, EmitBudget}
+use Rattle.accepted_programs.specs.Facts.{facts_behind, slot_behind}
+use Rattle.accepted_programs.proofs.Proved.{no_reason_holds}
+use Rattle.accepted_programs.specs.declared.facts.Facts.{Facts}
+use Rattle.accepted_programs.specs.declared.reason.Reason.{Reason}
+use Rattle.accepted_programs.specs.declared.reason.Reason.TheVariants.{JumpOutside, FallsOff, UnknownHelper, EmitBudget}
 
 -- an instruction begins only inside a program
 inside_by : (program : List (Option Insn)) (n : ℕ) (entry : Option (Option Insn)) → slice_get program n ≡ entry
@@ -80,9 +80,7 @@ module _ {D : Type 0} (operations : Operations D) where
   module _ (program : List (Option Insn)) (sizes : Sizes) (slot : ℕ) (facts : Facts D) (i : Insn)
       (none : reason_of operations program sizes slot facts i ≡ None) where
     free : (reason : Reason) → fails operations program sizes slot facts i reason ≡ false
-    free reason =
-        let test = fails operations program sizes slot facts i in
-        of_all test (all_fail test all_reasons none) reason
+    free = no_reason_holds operations program sizes slot facts i none
 
     pub stays_inside : StaysInside (length program) slot i
     stays_inside = record {

@@ -10,9 +10,9 @@ use Rattle.instruction_set.specs.declared.insn.Insn.{Insn}
 use Rattle.instruction_set.specs.declared.insn.Source.{Source}
 use Rattle.instruction_set.specs.declared.insn.Source.TheVariants.{Immediate, Register}
 use Rattle.reg_domain.specs.Domain.{Operations}
-use Rattle.verifier.specs.Facts.{facts_at_target, facts_behind, gives, leads, merge, slot_behind, with_fact, with_source}
+use Rattle.accepted_programs.specs.Facts.{facts_at_target, facts_behind, gives, leads, merge, slot_behind, with_fact, with_source}
 use Rattle.verifier.specs.Rows.{held, held_at}
-use Rattle.verifier.specs.declared.facts.Facts.{Facts}
+use Rattle.accepted_programs.specs.declared.facts.Facts.{Facts}
 
 -- one row more, of which nothing is known
 pub empty_more : {A : Type 0} (rows : List (Option A)) → ((s : ℕ) → get_or rows s None ≡ None)

@@ -2,9 +2,9 @@
 use Rattle.std.proofs.Common.{◌≡◌, ℕ, zero, suc, ◌+◌, ◌<◌, ◌++◌, List, [], ◌∷◌, length, get_or, set, drop, replicate, Option, refl, ap, arith, add-one, subst}
 use Rattle.program_interface.specs.declared.entry.TheConstants.{REGISTERS}
 use Rattle.reg_domain.specs.Domain.{Operations}
-use Rattle.verifier.specs.Cells.{join_cell, join_cells}
-use Rattle.verifier.specs.Facts.{join_registers}
-use Rattle.verifier.specs.declared.facts.TheConstants.{CELLS}
+use Rattle.accepted_programs.specs.Cells.{join_cell, join_cells}
+use Rattle.accepted_programs.specs.Facts.{join_registers}
+use Rattle.accepted_programs.specs.declared.facts.TheConstants.{CELLS}
 
 module _ {A : Type 0} (join : A → A → A) where
   -- ds, its first i joined with those of es

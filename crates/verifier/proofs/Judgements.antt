@@ -2,8 +2,8 @@
 use Rattle.std.proofs.Common.{◌≡◌, ℕ, ◌+◌, List, Option, max, refl, add-one}
 use Rattle.instruction_set.specs.declared.insn.Insn.{Insn}
 use Rattle.reg_domain.specs.Domain.{Operations}
-use Rattle.verifier.specs.Facts.{facts_at}
-use Rattle.verifier.specs.Judged.{group_in, most_below}
+use Rattle.accepted_programs.specs.Facts.{facts_at}
+use Rattle.accepted_programs.specs.Emitted.{group_in, most_below}
 
 pub most_more : {D : Type 0} (operations : Operations D) (program : List (Option Insn)) (block slot here sofar : ℕ)
     → here ≡ group_in (facts_at operations block program slot) → sofar ≡ most_below operations program block slot

@@ -5,13 +5,11 @@ use Rattle.instruction_set.specs.Program.{instruction_at}
 use Rattle.instruction_set.specs.declared.insn.Insn.{Insn}
 use Rattle.program_interface.specs.RunSizes.{Sizes}
 use Rattle.reg_domain.specs.Domain.{Operations}
-use Rattle.verifier.specs.Accepted.{or_else, reason_of, refusal_at, refusal_below, refused}
-use Rattle.verifier.specs.Laws.{RefusalIsInside}
-use Rattle.verifier.specs.Facts.{facts_at, given_below, gives}
+use Rattle.accepted_programs.specs.Accepted.{or_else, refusal_at, refusal_below}
+use Rattle.accepted_programs.specs.Facts.{facts_at, given_below, gives}
 use Rattle.verifier.specs.Rows.{held_at}
-use Rattle.verifier.specs.declared.facts.Facts.{Facts}
-use Rattle.verifier.specs.declared.reason.Reason.{Reason}
-use Rattle.verifier.specs.declared.reason.Refusal.{Refusal}
+use Rattle.accepted_programs.specs.declared.facts.Facts.{Facts}
+use Rattle.accepted_programs.specs.declared.reason.Refusal.{Refusal}
 
 module _ {D : Type 0} (operations : Operations D) (program : List (Option Insn)) (sizes : Sizes) where
   abbrev below : ℕ → Option Refusal
@@ -44,32 +42,3 @@ module _ {D : Type 0} (operations : Operations D) (program : List (Option Insn))
       (new s (omega arith) within
       ∙ ap (λ r. gives operations sizes.block (instruction_at program slot) slot r s (held_at rows s)) (old slot (omega arith) inside)
       ∙ ap (λ r. gives operations sizes.block (instruction_at program slot) slot (facts_at operations sizes.block program slot) s r) (old s (omega arith) within))
-
-  -- ---- where a refusal is
-  told_here : (slot : ℕ) (reason : Option Reason) (r : Refusal) → refused slot reason ≡ Some r → r.slot ≡ slot
-  told_here slot None r e = cc
-  told_here slot (Some reason) r e = cc
-
-  pub at_its_slot : (slot : ℕ) (i : Option Insn) (facts : Option (Facts D)) (r : Refusal)
-      → refusal_at operations program sizes slot i facts ≡ Some r → r.slot ≡ slot
-  at_its_slot slot (Some i) (Some facts) r e = told_here slot (reason_of operations program sizes slot facts i) r e
-  at_its_slot slot (Some i) None r e = cc
-  at_its_slot slot None facts r e = cc
-
-  either_below : (n : ℕ) (before last : Option Refusal) (r : Refusal) → (before ≡ Some r → r.slot < n)
-      → (last ≡ Some r → r.slot ≡ n) → or_else before last ≡ Some r → r.slot < suc n
-  either_below n (Some first) last r earlier here e = let less = earlier e in omega (arith, less)
-  either_below n None last r earlier here e = let same = here e in omega (arith, same)
-
-  pub refused_below : (n : ℕ) (r : Refusal) → below n ≡ Some r → r.slot < n
-  refused_below zero r e = cc
-  refused_below (suc n) r e =
-      either_below n (below n) (here n) r (refused_below n r)
-      (at_its_slot n (instruction_at program n) (facts_at operations sizes.block program n) r) e
-
-module _ {D : Type 0} (operations : Operations D) where
-  pub refusal_inside : RefusalIsInside operations
-  refusal_inside program is sizes r e =
-      let inside = refused_below operations program sizes (length program) r e in
-      let most = is.most in
-      (inside, omega (arith, inside, most))

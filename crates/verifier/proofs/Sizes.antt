@@ -2,7 +2,7 @@
 use Rattle.std.proofs.Common.{ℕ, ◌+◌, ◌*◌, ◌-◌, ◌%◌, ◌^◌, ◌<◌, ◌≤◌, max, arith}
 use Rattle.std.proofs.Math.Nat.{mod-le}
 use Rattle.program_interface.specs.declared.entry.TheConstants.{REGISTERS}
-use Rattle.verifier.specs.declared.facts.TheConstants.{CELLS}
+use Rattle.accepted_programs.specs.declared.facts.TheConstants.{CELLS}
 use prog.Memory.{pad, up}
 
 pad_most : (k e : ℕ) → pad k e ≤ k

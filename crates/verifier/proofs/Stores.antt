@@ -1,7 +1,7 @@
 -- Cells that are forgotten from the front.
 use Rattle.std.proofs.Common.{◌≡◌, ℕ, ℤ, zero, suc, ◌+◌, ◌<◌, true, false, List, [], ◌∷◌, length, set, Option, None, refl, ap, arith, add-zero, add-one, zero-add, suc-add, add-suc, sym, ◌∙◌, subst, if◌then◌else◌}
-use Rattle.verifier.specs.Cells.{forgotten, has_byte}
-use Rattle.verifier.specs.declared.facts.TheConstants.{CELLS}
+use Rattle.accepted_programs.specs.Cells.{forgotten, has_byte}
+use Rattle.accepted_programs.specs.declared.facts.TheConstants.{CELLS}
 
 module _ {D : Type 0} (first last : ℤ) where
   -- the first i forgotten where they have a byte from one distance to another; they are the cells from the j-th on

@@ -1,18 +1,15 @@
 -- What `verify` answers with.
-use Rattle.std.specs.Prelude.{ℕ, ◌≡◌, ◌<◌, ◌+◌, ◌^◌, ◌≤ℤ◌, ◌<ℤ◌, pos, false, FitsSigned, List, Option, Some, IfSome}
-use Rattle.std.specs.Int.{w16}
+use Rattle.std.specs.Prelude.{ℕ, ◌≡◌, ◌<◌, ◌+◌, ◌^◌, ◌≤ℤ◌, ◌<ℤ◌, pos, false, Option, Some, IfSome}
 use Rattle.instruction_set.specs.Instruction.{distance_of, target}
-use Rattle.instruction_set.specs.Program.{instruction_at}
-use Rattle.instruction_set.specs.Spelling.{first_slot}
 use Rattle.instruction_set.specs.declared.insn.Insn.{Insn}
 use Rattle.instruction_set.specs.declared.insn.Insn.TheVariants.{Call}
 use Rattle.reg_domain.specs.Domain.{Operations}
-use Rattle.verifier.specs.Accepted.{most_emitted, turns_away}
-use Rattle.verifier.specs.Facts.{slot_behind}
-use Rattle.verifier.specs.declared.facts.Facts.{Facts}
-use Rattle.verifier.specs.declared.reason.Refusal.{Refusal}
-use Rattle.verifier.specs.declared.reason.VerifyFault.{VerifyFault}
-use Rattle.verifier.specs.declared.reason.VerifyFault.TheVariants.{Memory, Refused}
+use Rattle.accepted_programs.specs.Accepted.{most_emitted, turns_away}
+use Rattle.accepted_programs.specs.Facts.{slot_behind}
+use Rattle.accepted_programs.specs.declared.facts.Facts.{Facts}
+use Rattle.accepted_programs.specs.declared.reason.Refusal.{Refusal}
+use Rattle.verifier.specs.declared.fault.VerifyFault.{VerifyFault}
+use Rattle.verifier.specs.declared.fault.VerifyFault.TheVariants.{Memory, Refused}
 
 -- the fault tells of this refusal, or that there was no memory, which tells nothing of the program
 abbrev pub IsFaultOf : Option Refusal → VerifyFault → Type 0
@@ -29,7 +26,3 @@ pub record StaysInside (slots slot : ℕ) (i : Insn) : Type 0 where
   pub behind : turns_away i ≡ false → slot_behind slot i < slots
   pub first : IfSome (distance_of i) (λ distance. pos 0 ≤ℤ target slot distance)
   pub last : IfSome (distance_of i) (λ distance. target slot distance <ℤ pos slots)
-
--- the offset of each instruction is a number of 16 bits (RFC 9669, 3.1)
-pub record HasShortOffsets (program : List (Option Insn)) : Type 0 where
-  pub offsets : (slot : ℕ) (i : Insn) → instruction_at program slot ≡ Some i → FitsSigned w16 (first_slot i).offset

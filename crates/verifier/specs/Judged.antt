@@ -1,31 +1,17 @@
 -- What a verifier tells of a program beside its answer.
-use Rattle.std.specs.Prelude.{ℕ, zero, suc, ◌≡◌, List, length, max, Option, Some, None}
+use Rattle.std.specs.Prelude.{◌≡◌, List, Option, Some, None}
 use Rattle.instruction_set.specs.declared.insn.Insn.{Insn}
 use Rattle.program_interface.specs.RunSizes.{Sizes}
 use Rattle.reg_domain.specs.Domain.{Operations}
-use Rattle.verifier.specs.Accepted.{refusal}
-use Rattle.verifier.specs.Facts.{facts_at}
-use Rattle.verifier.specs.declared.facts.Facts.{Facts}
+use Rattle.accepted_programs.specs.Accepted.{refusal}
+use Rattle.accepted_programs.specs.Emitted.{most_emitted}
+use Rattle.accepted_programs.specs.Facts.{facts_at}
 use Rattle.verifier.specs.declared.judging.Judgement.{Judgement}
 use Rattle.verifier.specs.declared.judging.Judgement.TheVariants.{Accepted, Refused}
 
--- the bound on the group, where there are facts
-abbrev pub group_in : {D : Type 0} → Option (Facts D) → ℕ
-group_in (Some facts) = facts.emitted
-group_in None = 0
-
 module _ {D : Type 0} (operations : Operations D) (program : List (Option Insn)) where
-  -- the greatest bound on the group at the slots below this one, beside a block of this length
-  abbrev pub most_below : ℕ → ℕ → ℕ
-  most_below block zero = 0
-  most_below block (suc slot) = max (group_in (facts_at operations block program slot)) (most_below block slot)
-
-  -- the most bytes that a group is known to have, at any slot of a program
-  abbrev pub most_emitted : ℕ → ℕ
-  most_emitted block = most_below block (length program)
-
   -- accepted, with the most that is emitted; or refused, with the facts that are known at that slot
   abbrev pub IsJudged : Sizes → Judgement D → Type 0
-  IsJudged sizes (Accepted most) = (refusal operations program sizes ≡ None) × (most ≡ most_emitted sizes.block)
+  IsJudged sizes (Accepted most) = (refusal operations program sizes ≡ None) × (most ≡ most_emitted operations program sizes.block)
   IsJudged sizes (Refused r facts) =
       (refusal operations program sizes ≡ Some r) × (facts_at operations sizes.block program r.slot ≡ Some facts.value)

@@ -1,7 +1,7 @@
 -- The facts of the slots, each in a box of its own.
 use Rattle.std.specs.Prelude.{ℕ, Bool, true, false, Box, List, get_or, Option, Some, None}
-use Rattle.verifier.specs.declared.facts.Facts.{Facts}
-use Rattle.verifier.specs.declared.reason.Refusal.{Refusal}
+use Rattle.accepted_programs.specs.declared.facts.Facts.{Facts}
+use Rattle.accepted_programs.specs.declared.reason.Refusal.{Refusal}
 use Rattle.verifier.specs.declared.rows.Refused.{Refused}
 
 -- the facts, where the program goes on with them

@@ -1,16 +1,17 @@
 //! The verifier.
 
 ghost use Rattle.std.specs.Prelude.{◌≡◌, ◌<◌, ◌≤◌, ◌==◌, if◌then◌else◌, ℕ, length, get_or, None, Some, Option, IfOk, IfErr};
-ghost use Rattle.verifier.specs.Accepted.{refusal};
+ghost use Rattle.accepted_programs.specs.Accepted.{refusal};
 ghost use Rattle.verifier.specs.Answer.{IsFaultOf};
-ghost use Rattle.verifier.specs.Facts.{entry_facts, given_below};
+ghost use Rattle.accepted_programs.specs.Facts.{entry_facts, given_below};
 ghost use Rattle.verifier.specs.Rows.{held_at};
 ghost use Rattle.verifier.specs.Verified.{program_of, sizes_of};
 
-use crate::facts::Facts;
-use crate::reason::{Refusal, VerifyFault};
+use crate::facts::entry;
+use crate::fault::VerifyFault;
 use crate::rows::{Row, visit};
 use crate::verified::Verified;
+use accepted_programs::{Facts, Refusal};
 use instruction_set::Program;
 use program_interface::RunSizes;
 use reg_domain::Domain;
@@ -33,7 +34,7 @@ fn empty_rows<D: Domain>(alloc: Global, slots: usize) -> Result<Vec<Row<D>>, All
 fn boxed_entry<D: Domain>(alloc: Global) -> Result<Box<Facts<D>>, AllocError>
     ensures { IfOk result (λ entry. entry.value ≡ entry_facts D.operations) }
 {
-    Ok(Box::new(alloc, Facts::entry())?)
+    Ok(Box::new(alloc, entry())?)
 }
 
 /// The facts for so many slots, before any is visited: those of the start at the first.
@@ -82,7 +83,7 @@ fn find_refusal<D: Domain>(
 }
 
 /// Accepts a program, for runs of these sizes, or says where and why not.
-#[tactic(auto, using(crate::specs::Fitting::short_offsets))]
+#[tactic(auto, using(accepted_programs::proofs::Proved::offsets_are_short))]
 pub fn verify<D: Domain>(
     alloc: Global,
     program: Program,

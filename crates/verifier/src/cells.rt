@@ -1,9 +1,9 @@
 //! What is known of the words of the stack.
 
 ghost use Rattle.std.specs.Prelude.{◌≡◌, ◌<◌, ◌^◌, ◌+ℤ◌, ◌-ℤ◌, ◌≤ℤ◌, ℤ, pos, negsuc};
-ghost use Rattle.verifier.specs.Cells.{cell_from as cell_at_distance, cell_of as cell_of_address, filled, forgotten, has_byte as cell_has_byte, is_stack as is_the_stack, join_cell as cell_join, join_cells, known_in, no_cells, overwritten};
+ghost use Rattle.accepted_programs.specs.Cells.{cell_from as cell_at_distance, cell_of as cell_of_address, filled, forgotten, has_byte as cell_has_byte, is_stack as is_the_stack, join_cell as cell_join, join_cells, known_in, no_cells, overwritten};
 
-use crate::facts::CELLS;
+use accepted_programs::CELLS;
 use program_interface::{Area, STACK_BYTES};
 use reg_domain::{Domain, Offsets};
 

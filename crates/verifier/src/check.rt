@@ -2,12 +2,11 @@
 
 ghost use Rattle.std.specs.Prelude.{◌≡◌, ◌<◌, ◌≤◌, ◌^◌, ◌+◌, nat_lt, ◌&&◌, ◌||◌, ◌==◌, is_none, pos, not, false, if◌then◌else◌, Option, Some, None};
 ghost use Rattle.program_meaning.specs.Cause.{calls_unknown as insn_calls_unknown, is_emit as insn_is_emit};
-ghost use Rattle.verifier.specs.Accepted.{begins_at, fails, goes_back as distance_goes_back, leads_nowhere as distance_leads_nowhere, least_emitted, most_emitted, loads_outside as insn_loads_outside, reason_of, stores_outside as insn_stores_outside, is_unwritable, turns_away as insn_turns_away};
-ghost use Rattle.verifier.specs.Facts.{area_of, slot_behind as insn_slot_behind};
-ghost use Rattle.verifier.specs.declared.reason.Reason.TheVariants.{EmitAddress, EmitBudget, EmitLength, FallsOff};
+ghost use Rattle.accepted_programs.specs.Accepted.{begins_at, fails, goes_back as distance_goes_back, leads_nowhere as distance_leads_nowhere, least_emitted, most_emitted, loads_outside as insn_loads_outside, reason_of, stores_outside as insn_stores_outside, is_unwritable, turns_away as insn_turns_away};
+ghost use Rattle.accepted_programs.specs.Facts.{area_of, slot_behind as insn_slot_behind};
+ghost use Rattle.accepted_programs.specs.declared.reason.Reason.TheVariants.{EmitAddress, EmitBudget, EmitLength, FallsOff};
 
-use crate::facts::Facts;
-use crate::reason::Reason;
+use accepted_programs::{Facts, Reason};
 use instruction_set::{Insn, Program, Register};
 use program_interface::{Area, BlockSize, MOST_SLOTS, RunSizes};
 use reg_domain::Domain;

@@ -2,13 +2,13 @@
 
 ghost use Rattle.std.specs.Prelude.{◌≡◌, ◌+◌, ◌<◌, ◌^◌, None};
 ghost use Rattle.instruction_set.specs.Instruction.{distance_of};
-ghost use Rattle.verifier.specs.Facts.{source_fact, compared_fact, after_emit, after_store, enters_stack as area_is_stack, fact, facts_behind, is_register as source_is, kept as kept_fact, loaded_fact, with_fact, with_source};
-ghost use Rattle.verifier.specs.Accepted.{most_emitted};
+ghost use Rattle.accepted_programs.specs.Facts.{source_fact, compared_fact, after_emit, after_store, enters_stack as area_is_stack, fact, facts_behind, is_register as source_is, kept as kept_fact, loaded_fact, with_fact, with_source};
+ghost use Rattle.accepted_programs.specs.Accepted.{most_emitted};
 ghost use Rattle.verifier.specs.Answer.{HasRoom};
 ghost use Rattle.verifier.specs.Rows.{where_it_goes_on};
 
 use crate::cells::{cell_of, is_stack, known, store_into};
-use crate::facts::Facts;
+use accepted_programs::Facts;
 use instruction_set::{Insn, Register, Relation, Size, Source, Width};
 use program_interface::{Area, BlockSize};
 use program_meaning::Arithmetic;

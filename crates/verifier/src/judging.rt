@@ -1,14 +1,14 @@
 //! What a verifier knows of a program, for those who want to be told more than whether it is accepted.
 
 ghost use Rattle.std.specs.Prelude.{◌≡◌, ◌<◌, ℕ, length, IfOk};
-ghost use Rattle.verifier.specs.Facts.{given_below};
+ghost use Rattle.accepted_programs.specs.Facts.{given_below};
 ghost use Rattle.verifier.specs.Rows.{held, held_at};
-ghost use Rattle.verifier.specs.Judged.{IsJudged, group_in};
+ghost use Rattle.accepted_programs.specs.Emitted.{group_in};
+ghost use Rattle.verifier.specs.Judged.{IsJudged};
 
 use crate::accept::first_rows;
-use crate::facts::Facts;
-use crate::reason::Refusal;
 use crate::rows::{Refused, Row, visit};
+use accepted_programs::{Facts, Refusal};
 use instruction_set::Program;
 use program_interface::RunSizes;
 use reg_domain::Domain;

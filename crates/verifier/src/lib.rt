@@ -7,14 +7,12 @@ mod cells;
 mod check;
 mod edges;
 mod facts;
+mod fault;
 mod judging;
-pub mod laws;
-mod reason;
 mod rows;
 mod verified;
 
 pub use accept::verify;
-pub use facts::Facts;
+pub use fault::VerifyFault;
 pub use judging::{Judgement, judge};
-pub use reason::{Reason, Refusal, VerifyFault};
 pub use verified::Verified;

@@ -3,15 +3,15 @@
 ghost use Rattle.std.specs.Prelude.{◌≡◌, ◌<◌, ◌==◌, if◌then◌else◌, ℕ, length, Option, Some, None, IsSome, IfSome, IfNone, IfOk, OnOk, false};
 ghost use Rattle.instruction_set.specs.Instruction.{distance_of};
 ghost use Rattle.instruction_set.specs.Program.{instruction_at};
-ghost use Rattle.verifier.specs.Accepted.{refusal_at, turns_away};
-ghost use Rattle.verifier.specs.Facts.{facts_at_target, facts_behind, gives, merge, with_both};
+ghost use Rattle.accepted_programs.specs.Accepted.{refusal_at, turns_away};
+ghost use Rattle.accepted_programs.specs.Facts.{facts_at_target, facts_behind, gives, merge, with_both};
 ghost use Rattle.verifier.specs.Answer.{HasRoom, StaysInside};
 ghost use Rattle.verifier.specs.Rows.{held, held_at, refusal_in};
 
 use crate::check::{find_reason, slot_behind};
 use crate::edges::{refined, set_both, step};
-use crate::facts::Facts;
-use crate::reason::Refusal;
+use crate::facts::join;
+use accepted_programs::{Facts, Refusal};
 use instruction_set::{Insn, Program, Register, Source};
 use program_interface::{BlockSize, MOST_SLOTS, RunSizes};
 use reg_domain::Domain;
@@ -50,7 +50,7 @@ fn add<D: Domain>(row: &mut Row<D>, spare: &mut Row<D>, facts: Box<Facts<D>>)
 {
     match row {
         Some(earlier) => {
-            earlier.join(&facts);
+            join(earlier, &facts);
             *spare = Some(facts);
         }
         empty => *empty = Some(facts),
@@ -71,7 +71,7 @@ fn join_into<D: Domain>(row: &mut Row<D>, facts: &Facts<D>)
     ensures { IsSome row.old → held row.new ≡ merge D.operations (held row.old) (Some facts.now) }
 {
     if let Some(earlier) = row {
-        earlier.join(facts);
+        join(earlier, facts);
     }
 }
 

@@ -3,8 +3,8 @@
 ghost use Rattle.std.specs.Prelude.{◌≡◌, is_some, true, None, Option};
 ghost use Rattle.instruction_set.specs.Program.{instruction_at};
 ghost use Rattle.program_interface.specs.RunSizes.{AreSizes};
-ghost use Rattle.verifier.specs.Accepted.{refusal};
-ghost use Rattle.verifier.specs.Answer.{HasShortOffsets};
+ghost use Rattle.accepted_programs.specs.Accepted.{refusal};
+ghost use Rattle.accepted_programs.specs.ShortOffsets.{HasShortOffsets};
 
 use instruction_set::Program;
 use program_interface::RunSizes;
@@ -59,7 +59,7 @@ impl<D: Domain> Verified<D> {
 }
 
 impl<D: Domain> TrapFree for Verified<D> {
-    ghost use Rattle.verifier.specs.Soundness.{never_traps};
+    ghost use Rattle.accepted_programs.proofs.Proved.{accepted_slots_never_trap};
 
     ghost code = { λ v. v.program };
 
@@ -75,5 +75,5 @@ impl<D: Domain> TrapFree for Verified<D> {
         Verified::sizes(self).limit() as usize
     }
 
-    ghost never_traps = { λ v. never_traps D.sound v.program v.sizes v.begins v.short_offsets v.are_sizes v.accepted };
+    ghost never_traps = { λ v. accepted_slots_never_trap D.sound v.program v.sizes v.begins v.short_offsets v.are_sizes v.accepted };
 }

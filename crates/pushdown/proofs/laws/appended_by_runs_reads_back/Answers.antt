@@ -1,4 +1,4 @@
-use Rattle.verifier.specs.Soundness.{accepted_never_traps}
+use Rattle.accepted_programs.proofs.Proved.{accepted_never_traps}
 use Rattle.pushdown.proofs.RunsRead.{runs_read_back}
 use Rattle.pushdown.proofs.laws.appended_by_runs_reads_back.Goals as goal
 

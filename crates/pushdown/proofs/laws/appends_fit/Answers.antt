@@ -1,4 +1,4 @@
-use Rattle.verifier.specs.Soundness.{accepted_never_traps}
+use Rattle.accepted_programs.proofs.Proved.{accepted_never_traps}
 use Rattle.pushdown.proofs.States.{states_are_sound}
 use Rattle.pushdown.proofs.laws.appends_fit.Goals as goal
 

@@ -1,4 +1,4 @@
-use Rattle.verifier.specs.Soundness.{accepted_never_traps}
+use Rattle.accepted_programs.proofs.Proved.{accepted_never_traps}
 use Rattle.pushdown.proofs.Drained.{draining_ends}
 use Rattle.pushdown.proofs.laws.draining_ends.Goals as goal
 

@@ -1,4 +1,4 @@
-use Rattle.verifier.specs.Soundness.{accepted_never_traps}
+use Rattle.accepted_programs.proofs.Proved.{accepted_never_traps}
 use Rattle.pushdown.proofs.Emitted.{emitted_reads_back}
 use Rattle.pushdown.proofs.laws.emitted_records_read_back.Goals as goal
 

@@ -1,4 +1,4 @@
-use Rattle.verifier.specs.Soundness.{accepted_never_traps}
+use Rattle.accepted_programs.proofs.Proved.{accepted_never_traps}
 use Rattle.pushdown.proofs.Headline.{pushdown}
 use Rattle.pushdown.proofs.laws.pushdown.Goals as goal
 

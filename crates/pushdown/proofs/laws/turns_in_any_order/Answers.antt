@@ -1,4 +1,4 @@
-use Rattle.verifier.specs.Soundness.{accepted_never_traps}
+use Rattle.accepted_programs.proofs.Proved.{accepted_never_traps}
 use Rattle.pushdown.proofs.AnyOrder.{turns_in_any_order}
 use Rattle.pushdown.proofs.laws.turns_in_any_order.Goals as goal
 

@@ -3,10 +3,10 @@ use Rattle.ebpf_decode.specs.declared.fault.Fault.{Fault}
 use Rattle.ebpf_decode.proofs.Proved.{decoded_is_spelled, fault_is_inside}
 use Rattle.program_interface.specs.declared.TheConstants.{MOST_SLOTS}
 use Rattle.interval_domain.specs.Intervals.{intervals}
-use Rattle.verifier.specs.Accepted.{refusal}
+use Rattle.accepted_programs.specs.Accepted.{refusal}
 use Rattle.verifier.specs.Answer.{IsFaultOf}
-use Rattle.verifier.specs.declared.reason.Refusal.{Refusal}
-use Rattle.verifier.proofs.Refusals.{refusal_inside}
+use Rattle.accepted_programs.specs.declared.reason.Refusal.{Refusal}
+use Rattle.accepted_programs.proofs.Proved.{refusal_is_inside}
 use Rattle.runner.proofs.load.read_program.Goals as goal
 
 pub refuse-requires : goal.refuse-requires
@@ -19,4 +19,4 @@ refuse-requires-in-Err-Refused c =
     let is = decoded_is_spelled c.args.bytes.now c.in-Ok.program (λ k. (c.type_inv.bytes k).fits) c.in-Ok.ensures.exact in
     let told : IsFaultOf (refusal intervals c.in-Ok.program c.args.sizes) c.in-Err-Refused.field-0 = c.in-Err-Refused.ensures.refused in
     subst (λ (r : Refusal). r.slot < MOST_SLOTS) (sym c.in-Err-Refused.refusal-is)
-    (refusal_inside intervals c.in-Ok.program is.0 c.args.sizes c.in-Err-Refused.refusal (rw c.in-Err-Refused.field-0-is at told)).1
+    (refusal_is_inside intervals c.in-Ok.program is.0 c.args.sizes c.in-Err-Refused.refusal (rw c.in-Err-Refused.field-0-is at told)).1

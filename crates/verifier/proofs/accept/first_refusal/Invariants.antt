@@ -1,6 +1,6 @@
 use Rattle.std.proofs.Common.{◌≡◌, ◌<◌, ◌≤◌, ℕ, length, None}
-use Rattle.verifier.specs.Accepted.{refusal_below}
-use Rattle.verifier.specs.Facts.{given_below}
+use Rattle.accepted_programs.specs.Accepted.{refusal_below}
+use Rattle.accepted_programs.specs.Facts.{given_below}
 use Rattle.verifier.specs.Rows.{held_at}
 use Rattle.verifier.proofs.accept.first_refusal.Given as goal
 

@@ -1,5 +1,5 @@
 use Rattle.std.proofs.Common.{◌≡◌}
-use Rattle.verifier.specs.Cells.{join_cell}
+use Rattle.accepted_programs.specs.Cells.{join_cell}
 use Rattle.verifier.proofs.Joins.{joined_upto}
 use Rattle.verifier.proofs.cells.join.Given as goal
 

@@ -1,12 +1,13 @@
 use Rattle.std.proofs.Common.{arith, sym, ap, subst, ◌∙◌, ◌≡◌, ◌<◌, ℕ, length, None, Some}
 use Rattle.std.proofs.lemmas.List.{get_or_default}
 use Rattle.instruction_set.specs.Program.{instruction_at}
-use Rattle.verifier.specs.Accepted.{refusal_at}
-use Rattle.verifier.specs.Facts.{facts_at}
-use Rattle.verifier.specs.Judged.{group_in}
+use Rattle.accepted_programs.specs.Accepted.{refusal_at}
+use Rattle.accepted_programs.specs.Facts.{facts_at}
+use Rattle.accepted_programs.specs.Emitted.{group_in}
 use Rattle.verifier.specs.Rows.{held, held_at, refusal_in}
 use Rattle.verifier.proofs.Judgements.{most_more}
-use Rattle.verifier.proofs.Refusals.{at_its_slot, first_found, none_more, rows_more}
+use Rattle.accepted_programs.proofs.Proved.{refusal_is_at_its_slot}
+use Rattle.verifier.proofs.Refusals.{first_found, none_more, rows_more}
 use Rattle.verifier.proofs.judging.judge_over.Goals as goal
 
 pub returns-in-Some : goal.returns-in-Some
@@ -22,7 +23,7 @@ returns-in-Some g c =
     let known : facts_at ops sizes.block program slot ≡ Some c.in-Some.refused.facts.value = sym facts ∙ sym here in
     let found = sym (ap (refusal_at ops program sizes slot (instruction_at program slot)) facts) ∙ sym c.in_ok-refused.ensures.found
     ∙ ap refusal_in c.in-Some.is in
-    let at = at_its_slot ops program sizes slot (instruction_at program slot) (facts_at ops sizes.block program slot) refusal found in
+    let at = refusal_is_at_its_slot ops program sizes slot (instruction_at program slot) (facts_at ops sizes.block program slot) refusal found in
     let P : ℕ → Type 0 = λ k. facts_at ops sizes.block program k ≡ Some c.in-Some.refused.facts.value in (
       first_found ops program sizes (length program) slot refusal
           (omega (arith, c.slots-slot-end.ensures.value, c.loop-slot-test.true)) c.loop-slot.invariant.none found,

@@ -1,7 +1,7 @@
 use Rattle.std.proofs.Common.{◌≡◌, ◌<◌, ◌≤◌, ℕ, length, None}
-use Rattle.verifier.specs.Accepted.{refusal_below}
-use Rattle.verifier.specs.Facts.{given_below}
-use Rattle.verifier.specs.Judged.{most_below}
+use Rattle.accepted_programs.specs.Accepted.{refusal_below}
+use Rattle.accepted_programs.specs.Facts.{given_below}
+use Rattle.accepted_programs.specs.Emitted.{most_below}
 use Rattle.verifier.specs.Rows.{held_at}
 use Rattle.verifier.proofs.judging.judge_over.Given as goal
 

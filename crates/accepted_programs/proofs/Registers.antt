@@ -11,10 +11,10 @@ use Rattle.instruction_set.specs.declared.operation.Width.TheVariants.{Bits32, B
 use Rattle.program_meaning.specs.Effect.{operand}
 use Rattle.program_meaning.specs.Word.{is_taken, low_bits}
 use Rattle.reg_domain.specs.Domain.{Belongs, IsSound, Operations}
-use Rattle.verifier.specs.Facts.{compared_fact, fact, is_register, source_fact}
-use Rattle.verifier.specs.KnownFacts.{AreFacts, fact_is, immediate_fits, low_fits}
-use Rattle.verifier.specs.Meets.{Belong}
-use Rattle.verifier.specs.declared.facts.Facts.{Facts}
+use Rattle.accepted_programs.specs.Facts.{compared_fact, fact, is_register, source_fact}
+use Rattle.accepted_programs.proofs.KnownFacts.{AreFacts, fact_is, immediate_fits, low_fits}
+use Rattle.accepted_programs.specs.Meets.{Belong}
+use Rattle.accepted_programs.specs.declared.facts.Facts.{Facts}
 
 -- ---- rows of facts
 module _ {D : Type 0} (contains : D → ℕ → Type 0) where

@@ -17,8 +17,8 @@ use Rattle.program_meaning.specs.declared.word.Arithmetic.TheVariants as word
 use Rattle.program_interface.specs.declared.area.TheConstants.{STACK_BYTES}
 use Rattle.program_interface.specs.declared.area.Area.{Area}
 use Rattle.reg_domain.specs.Domain.{Operations}
-use Rattle.verifier.specs.Cells.{cell_of, filled, is_stack, join_cells, known_in, no_cells, overwritten}
-use Rattle.verifier.specs.declared.facts.Facts.{Facts}
+use Rattle.accepted_programs.specs.Cells.{cell_of, filled, is_stack, join_cells, known_in, no_cells, overwritten}
+use Rattle.accepted_programs.specs.declared.facts.Facts.{Facts}
 
 -- the slot behind an instruction, which takes two slots if it is wide (RFC 9669, 5.4)
 abbrev pub slot_behind : ℕ → Insn → ℕ

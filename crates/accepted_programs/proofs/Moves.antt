@@ -30,17 +30,17 @@ use Rattle.program_interface.specs.declared.area.Area.{Area}
 use Rattle.program_interface.specs.declared.area.Area.TheVariants.{Context, Block, Stack, Scratch}
 use Rattle.reg_domain.specs.Domain.{BelongAfter, Belongs, IsAtOffset, IsSound, Operations}
 use Rattle.reg_domain.specs.declared.offsets.Offsets.{Offsets}
-use Rattle.verifier.specs.Accepted.{all_reasons, fails, goes_back, is_unwritable, reason_of, stores_outside}
-use Rattle.verifier.specs.CellLaws.{if_some}
-use Rattle.verifier.specs.Cells.{cell_of, filled, is_stack, known_in, overwritten}
-use Rattle.verifier.specs.Facts.{after_emit, after_store, along, area_of, cell_at, compared_fact, enters_stack, fact, facts_at_target, facts_behind, is_register, kept, loaded_fact, slot_behind, with_both, with_fact}
-use Rattle.verifier.specs.KnownFacts.{AreFacts, immediate_fits}
-use Rattle.verifier.specs.StoreLaws.{cell_loaded, in_stack, stack_stays, stack_written, stored_belong}
-use Rattle.verifier.specs.Unhindered.{all_fail, of_all, size_fits}
-use Rattle.verifier.specs.declared.reason.Reason.TheVariants as reason
-use Rattle.verifier.specs.Meets.{Meets, MeetsSome, Moved}
-use Rattle.verifier.specs.Registers.{belong_drop, belong_refined, belong_replicate, belong_set, belongs, compared, compared_belongs, compares_low, constant_belongs, one_register, source_belongs}
-use Rattle.verifier.specs.declared.facts.Facts.{Facts}
+use Rattle.accepted_programs.specs.Accepted.{all_reasons, fails, goes_back, is_unwritable, reason_of, stores_outside}
+use Rattle.accepted_programs.proofs.CellLaws.{if_some}
+use Rattle.accepted_programs.specs.Cells.{cell_of, filled, is_stack, known_in, overwritten}
+use Rattle.accepted_programs.specs.Facts.{after_emit, after_store, along, area_of, cell_at, compared_fact, enters_stack, fact, facts_at_target, facts_behind, is_register, kept, loaded_fact, slot_behind, with_both, with_fact}
+use Rattle.accepted_programs.proofs.KnownFacts.{AreFacts, immediate_fits}
+use Rattle.accepted_programs.proofs.StoreLaws.{cell_loaded, in_stack, stack_stays, stack_written, stored_belong}
+use Rattle.accepted_programs.proofs.Unhindered.{all_fail, of_all, size_fits}
+use Rattle.accepted_programs.specs.declared.reason.Reason.TheVariants as reason
+use Rattle.accepted_programs.specs.Meets.{Meets, MeetsSome, Moved}
+use Rattle.accepted_programs.proofs.Registers.{belong_drop, belong_refined, belong_replicate, belong_set, belongs, compared, compared_belongs, compares_low, constant_belongs, one_register, source_belongs}
+use Rattle.accepted_programs.specs.declared.facts.Facts.{Facts}
 
 behind_is_later : (slot : ℕ) (i : Insn) → slot < slot_behind slot i
 behind_is_later slot (LoadImmediate dst value) = omega arith

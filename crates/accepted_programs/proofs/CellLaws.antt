@@ -6,8 +6,8 @@ use Rattle.byteorder.specs.Endian.{little_bytes, little_from, little_number}
 use Rattle.byteorder.specs.Numbers.{length-bytes_low_first, little_from-lt, little_number-reads_back}
 use Rattle.program_meaning.proofs.MemoryLemmas.{get_or-written, get_or-written_below, get_or-written_past}
 use Rattle.program_meaning.specs.Memory.{written}
-use Rattle.verifier.specs.Cells.{forgotten, has_byte, join_cell, join_cells}
-use Rattle.verifier.specs.Meets.{word_in}
+use Rattle.accepted_programs.specs.Cells.{forgotten, has_byte, join_cell, join_cells}
+use Rattle.accepted_programs.specs.Meets.{word_in}
 
 pub if_some : {X : Type 0} (test : Bool) (o : Option X) (x : X) → (if test then o else None) ≡ Some x
     → (test ≡ true) × (o ≡ Some x)

@@ -28,14 +28,14 @@ use Rattle.program_interface.specs.RunSizes.{AreSizes, Sizes}
 use Rattle.reg_domain.specs.Domain.{Belongs, IsSound, Operations}
 use Rattle.program_meaning.specs.PlaceLaws.{placed}
 use Rattle.program_meaning.specs.PlaceLaws.{block_small}
-use Rattle.verifier.specs.Accepted.{all_reasons, begins_at, fails, is_unwritable, leads_nowhere, least_emitted, loads_outside, most_emitted, reason_of, stores_outside, turns_away}
-use Rattle.verifier.specs.Facts.{area_of, fact, slot_behind}
-use Rattle.verifier.specs.KnownFacts.{AreFacts}
-use Rattle.verifier.specs.Meets.{Meets}
-use Rattle.verifier.specs.Registers.{belongs}
-use Rattle.verifier.specs.declared.facts.Facts.{Facts}
-use Rattle.verifier.specs.declared.reason.Reason.{Reason}
-use Rattle.verifier.specs.declared.reason.Reason.TheVariants as reason
+use Rattle.accepted_programs.specs.Accepted.{all_reasons, begins_at, fails, is_unwritable, leads_nowhere, least_emitted, loads_outside, most_emitted, reason_of, stores_outside, turns_away}
+use Rattle.accepted_programs.specs.Facts.{area_of, fact, slot_behind}
+use Rattle.accepted_programs.proofs.KnownFacts.{AreFacts}
+use Rattle.accepted_programs.specs.Meets.{Meets}
+use Rattle.accepted_programs.proofs.Registers.{belongs}
+use Rattle.accepted_programs.specs.declared.facts.Facts.{Facts}
+use Rattle.accepted_programs.specs.declared.reason.Reason.{Reason}
+use Rattle.accepted_programs.specs.declared.reason.Reason.TheVariants as reason
 
 -- ---- tests
 

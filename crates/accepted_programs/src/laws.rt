@@ -1,6 +1,6 @@
 //! Laws of the definitions: each function's contract is one, and its body is empty.
 
-ghost use Rattle.verifier.specs.Laws.{AcceptedEmitsNoMore, AcceptedNeverTraps, RefusalIsInside};
+ghost use Rattle.accepted_programs.specs.Laws.{AcceptedEmitsNoMore, AcceptedNeverTraps, RefusalIsInside};
 
 use reg_domain::Domain;
 
@@ -11,7 +11,7 @@ pub fn accepted_never_traps<D: Domain>()
     ensures { AcceptedNeverTraps D.operations }
 {}
 
-/// A run of a program that is accepted emits no more for a block than [`judge`](crate::judge) says.
+/// A run of a program that is accepted emits no more for a block than its group is known to have at some slot.
 pub fn accepted_emits_no_more<D: Domain>()
     ensures { AcceptedEmitsNoMore D.operations }
 {}

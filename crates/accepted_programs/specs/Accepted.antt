@@ -9,11 +9,11 @@ use Rattle.program_interface.specs.Area.{is_writable}
 use Rattle.program_interface.specs.declared.area.Area.{Area}
 use Rattle.program_interface.specs.RunSizes.{Sizes}
 use Rattle.reg_domain.specs.Domain.{Operations}
-use Rattle.verifier.specs.Facts.{area_of, fact, facts_at, slot_behind}
-use Rattle.verifier.specs.declared.facts.Facts.{Facts}
-use Rattle.verifier.specs.declared.reason.Reason.{Reason}
-use Rattle.verifier.specs.declared.reason.Reason.TheVariants.{JumpBack, JumpOutside, FallsOff, WriteToFramePointer, LoadOutside, StoreOutside, UnknownHelper, EmitAddress, EmitLength, EmitBudget}
-use Rattle.verifier.specs.declared.reason.Refusal.{Refusal}
+use Rattle.accepted_programs.specs.Facts.{area_of, fact, facts_at, slot_behind}
+use Rattle.accepted_programs.specs.declared.facts.Facts.{Facts}
+use Rattle.accepted_programs.specs.declared.reason.Reason.{Reason}
+use Rattle.accepted_programs.specs.declared.reason.Reason.TheVariants.{JumpBack, JumpOutside, FallsOff, WriteToFramePointer, LoadOutside, StoreOutside, UnknownHelper, EmitAddress, EmitLength, EmitBudget}
+use Rattle.accepted_programs.specs.declared.reason.Refusal.{Refusal}
 
 abbrev pub number_of : Reason → ℕ
 number_of JumpBack = 1

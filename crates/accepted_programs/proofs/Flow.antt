@@ -9,11 +9,11 @@ use Rattle.instruction_set.specs.declared.insn.Insn.{Insn}
 use Rattle.program_meaning.specs.State.{IsState, State}
 use Rattle.program_interface.specs.declared.area.Area.TheVariants.{Stack}
 use Rattle.reg_domain.specs.Domain.{IsSound, Operations}
-use Rattle.verifier.specs.CellLaws.{joined_known, word_fits}
-use Rattle.verifier.specs.Facts.{facts_at, facts_at_target, facts_behind, given_below, gives, join_registers, leads, merge, slot_behind}
-use Rattle.verifier.specs.KnownFacts.{AreFacts, SomeAreFacts, ahead_given, behind_given, given_facts, known_facts, merge_facts}
-use Rattle.verifier.specs.Meets.{Belong, IsAlong, MeetsSome, Moved, word_in}
-use Rattle.verifier.specs.declared.facts.Facts.{Facts}
+use Rattle.accepted_programs.proofs.CellLaws.{joined_known, word_fits}
+use Rattle.accepted_programs.specs.Facts.{facts_at, facts_at_target, facts_behind, given_below, gives, join_registers, leads, merge, slot_behind}
+use Rattle.accepted_programs.proofs.KnownFacts.{AreFacts, SomeAreFacts, ahead_given, behind_given, given_facts, known_facts, merge_facts}
+use Rattle.accepted_programs.specs.Meets.{Belong, IsAlong, MeetsSome, Moved, word_in}
+use Rattle.accepted_programs.specs.declared.facts.Facts.{Facts}
 
 module _ {D : Type 0} {IsFact : D → Type 0} {contains : D → ℕ → Type 0} {operations : Operations D}
     (sound : IsSound IsFact contains operations) where

@@ -5,8 +5,8 @@ use Rattle.instruction_set.specs.Instruction.{distance_of}
 use Rattle.instruction_set.specs.declared.insn.Insn.{Insn}
 use Rattle.program_meaning.specs.State.{State}
 use Rattle.reg_domain.specs.Domain.{Operations}
-use Rattle.verifier.specs.Facts.{facts_at_target, facts_behind, leads, slot_behind}
-use Rattle.verifier.specs.declared.facts.Facts.{Facts}
+use Rattle.accepted_programs.specs.Facts.{facts_at_target, facts_behind, leads, slot_behind}
+use Rattle.accepted_programs.specs.declared.facts.Facts.{Facts}
 
 -- the little-endian word that a cell's eight bytes are
 abbrev pub word_in : List ℕ → ℕ → ℕ

@@ -1,7 +1,7 @@
 //! What a verifier refuses.
 
 ghost use Rattle.std.specs.Prelude.{◌≡◌};
-ghost use Rattle.verifier.specs.Accepted.{number_of};
+ghost use Rattle.accepted_programs.specs.Accepted.{number_of};
 
 use thiserror::Error;
 
@@ -67,15 +67,4 @@ impl Reason {
 pub struct Refusal {
     pub slot: usize,
     pub reason: Reason,
-}
-
-/// Why a program isn't accepted.
-#[derive(Clone, Copy, Debug, PartialEq, Eq, Error)]
-pub enum VerifyFault {
-    /// There was no memory for the facts; it says nothing of the program.
-    #[error("no memory")]
-    Memory,
-    /// The lowest slot that fails, and its least reason.
-    #[error("refused")]
-    Refused(Refusal),
 }

@@ -19,11 +19,11 @@ use Rattle.program_interface.specs.declared.area.Area.TheVariants.{Context, Bloc
 use Rattle.program_meaning.specs.declared.word.Arithmetic.TheVariants as word
 use Rattle.reg_domain.specs.Domain.{GiveFacts, Operations}
 use Rattle.reg_domain.specs.declared.offsets.Offsets.{Offsets}
-use Rattle.verifier.specs.Cells.{cell_of, filled, is_stack, known_in, no_cells, overwritten}
-use Rattle.verifier.specs.CellLaws.{if_some, joined_known, left_known, none_known, set_known}
-use Rattle.verifier.specs.declared.facts.TheConstants.{CELLS}
-use Rattle.verifier.specs.Facts.{after_store, along, area_of, cell_at, compared_fact, enters_stack, entry_facts, fact, facts_at, facts_at_target, facts_behind, given_below, gives, is_register, join_registers, kept, leads, loaded_fact, merge, slot_behind, source_fact, with_both, with_fact}
-use Rattle.verifier.specs.declared.facts.Facts.{Facts}
+use Rattle.accepted_programs.specs.Cells.{cell_of, filled, is_stack, known_in, no_cells, overwritten}
+use Rattle.accepted_programs.proofs.CellLaws.{if_some, joined_known, left_known, none_known, set_known}
+use Rattle.accepted_programs.specs.declared.facts.TheConstants.{CELLS}
+use Rattle.accepted_programs.specs.Facts.{after_store, along, area_of, cell_at, compared_fact, enters_stack, entry_facts, fact, facts_at, facts_at_target, facts_behind, given_below, gives, is_register, join_registers, kept, leads, loaded_fact, merge, slot_behind, source_fact, with_both, with_fact}
+use Rattle.accepted_programs.specs.declared.facts.Facts.{Facts}
 
 -- ---- the words of an instruction
 pub low_fits : (width : Width) (w : ℕ) → w < 2 ^ 64 → low_bits width w < 2 ^ 64

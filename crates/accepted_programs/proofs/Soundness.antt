@@ -15,24 +15,24 @@ use Rattle.program_meaning.specs.declared.cause.Cause.{Cause}
 use Rattle.program_interface.specs.declared.area.Area.TheVariants.{Context, Block, Stack, Scratch}
 use Rattle.program_interface.specs.RunSizes.{AreSizes, Sizes}
 use Rattle.reg_domain.specs.Domain.{IsSound, Operations}
-use Rattle.verifier.specs.Accepted.{or_else, reason_of, refusal, refusal_at, refusal_below, refused}
-use Rattle.verifier.specs.Answer.{HasShortOffsets}
-use Rattle.verifier.specs.CellLaws.{none_known}
-use Rattle.verifier.specs.Facts.{entry_facts, facts_at}
-use Rattle.verifier.specs.Flow.{arrives}
-use Rattle.verifier.specs.Fitting.{short_offsets}
-use Rattle.verifier.specs.Judged.{group_in, most_below, most_emitted}
-use Rattle.verifier.specs.KnownFacts.{known_facts}
-use Rattle.verifier.specs.Laws.{AcceptedEmitsNoMore, AcceptedNeverTraps}
-use Rattle.verifier.specs.Meets.{Meets, MeetsSome, Moved}
-use Rattle.verifier.specs.Moves.{moved}
-use Rattle.verifier.specs.Progress.{begins_within, block_kept, fewer, some_left}
-use Rattle.program_meaning.specs.TrapFree.{Exits, NeverTraps}
-use Rattle.verifier.specs.Unhindered.{unhindered}
-use Rattle.verifier.specs.declared.facts.Facts.{Facts}
-use Rattle.verifier.specs.declared.facts.TheConstants.{CELLS}
-use Rattle.verifier.specs.declared.reason.Reason.{Reason}
-use Rattle.verifier.specs.declared.reason.Refusal.{Refusal}
+use Rattle.accepted_programs.specs.Accepted.{or_else, reason_of, refusal, refusal_at, refusal_below, refused}
+use Rattle.accepted_programs.specs.ShortOffsets.{HasShortOffsets}
+use Rattle.accepted_programs.proofs.CellLaws.{none_known}
+use Rattle.accepted_programs.specs.Facts.{entry_facts, facts_at}
+use Rattle.accepted_programs.proofs.Flow.{arrives}
+use Rattle.accepted_programs.proofs.Fitting.{short_offsets}
+use Rattle.accepted_programs.specs.Emitted.{group_in, most_below, most_emitted}
+use Rattle.accepted_programs.proofs.KnownFacts.{known_facts}
+use Rattle.accepted_programs.specs.Laws.{AcceptedEmitsNoMore, AcceptedNeverTraps, AcceptedSlotsNeverTrap}
+use Rattle.accepted_programs.specs.Meets.{Meets, MeetsSome, Moved}
+use Rattle.accepted_programs.proofs.Moves.{moved}
+use Rattle.accepted_programs.proofs.Progress.{begins_within, block_kept, fewer, some_left}
+use Rattle.program_meaning.specs.TrapFree.{Exits}
+use Rattle.accepted_programs.proofs.Unhindered.{unhindered}
+use Rattle.accepted_programs.specs.declared.facts.Facts.{Facts}
+use Rattle.accepted_programs.specs.declared.facts.TheConstants.{CELLS}
+use Rattle.accepted_programs.specs.declared.reason.Reason.{Reason}
+use Rattle.accepted_programs.specs.declared.reason.Refusal.{Refusal}
 
 -- ---- a step that nothing hinders
 decided_goes : (s : State) (i : Insn) (least : Option Cause) → least ≡ None → is_exit i ≡ false
@@ -205,9 +205,7 @@ module _ {D : Type 0} {IsFact : D → Type 0} {contains : D → ℕ → Type 0} 
     ]
 
   -- ---- the theorem
-  pub never_traps : (program : List (Option Insn)) (sizes : Sizes) → is_some (instruction_at program 0) ≡ true
-      → HasShortOffsets program → AreSizes sizes → refusal operations program sizes ≡ None
-      → NeverTraps program sizes.limit sizes.block
+  pub never_traps : AcceptedSlotsNeverTrap operations
   never_traps program sizes here short are_sizes accepted =
       starts program short sizes are_sizes accepted sizes.limit (λ s facts holds known meets. holds.group) here
 

@@ -19,10 +19,10 @@ use Rattle.program_meaning.specs.Memory.{IsMemory, Memory, lies_in, loaded, stor
 use Rattle.program_meaning.specs.PlaceLaws.{placed}
 use Rattle.reg_domain.specs.Domain.{IsAtOffset}
 use Rattle.reg_domain.specs.declared.offsets.Offsets.{Offsets}
-use Rattle.verifier.specs.Cells.{cell_from, cell_of, filled, has_byte, is_stack, no_cells, overwritten}
-use Rattle.verifier.specs.CellLaws.{if_some, left_known, none_known, set_known, word_kept, word_written}
-use Rattle.verifier.specs.Meets.{BelongInCells, word_in}
-use Rattle.verifier.specs.declared.facts.TheConstants.{CELLS}
+use Rattle.accepted_programs.specs.Cells.{cell_from, cell_of, filled, has_byte, is_stack, no_cells, overwritten}
+use Rattle.accepted_programs.proofs.CellLaws.{if_some, left_known, none_known, set_known, word_kept, word_written}
+use Rattle.accepted_programs.specs.Meets.{BelongInCells, word_in}
+use Rattle.accepted_programs.specs.declared.facts.TheConstants.{CELLS}
 
 -- ---- which bytes an access meets
 

@@ -1,0 +1,31 @@
+-- The laws of accepted programs that other crates cite.
+use Rattle.std.specs.Prelude.{ℕ}
+use Rattle.reg_domain.specs.Domain.{IsSound, Operations}
+use Rattle.accepted_programs.specs.Laws.{AcceptedEmitsNoMore, AcceptedNeverTraps, AcceptedSlotsNeverTrap, NoReasonHolds, OffsetsAreShort, RefusalIsAtItsSlot, RefusalIsInside}
+use Rattle.accepted_programs.proofs.Fitting as fitting
+use Rattle.accepted_programs.proofs.Refusals as refusals
+use Rattle.accepted_programs.proofs.Soundness as soundness
+
+pub offsets_are_short : OffsetsAreShort
+offsets_are_short = fitting.short_offsets
+
+module _ {D : Type 0} (operations : Operations D) where
+  pub refusal_is_inside : RefusalIsInside operations
+  refusal_is_inside = refusals.refusal_inside operations
+
+  pub refusal_is_at_its_slot : RefusalIsAtItsSlot operations
+  refusal_is_at_its_slot = refusals.at_its_slot operations
+
+  pub no_reason_holds : NoReasonHolds operations
+  no_reason_holds = refusals.none_holds operations
+
+module _ {D : Type 0} {IsFact : D → Type 0} {contains : D → ℕ → Type 0} {operations : Operations D}
+    (sound : IsSound IsFact contains operations) where
+  pub accepted_never_traps : AcceptedNeverTraps operations
+  accepted_never_traps = soundness.accepted_never_traps sound
+
+  pub accepted_slots_never_trap : AcceptedSlotsNeverTrap operations
+  accepted_slots_never_trap = soundness.never_traps sound
+
+  pub accepted_emits_no_more : AcceptedEmitsNoMore operations
+  accepted_emits_no_more = soundness.accepted_emits_no_more sound

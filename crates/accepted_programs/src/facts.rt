@@ -1,0 +1,49 @@
+//! What is known where a slot is reached.
+
+ghost use Rattle.std.specs.Prelude.{◌≡◌};
+ghost use Rattle.accepted_programs.specs.Facts.{fact, with_fact};
+
+use instruction_set::Register;
+use program_interface::REGISTERS;
+use reg_domain::Domain;
+use std::alloc::AllocError;
+
+/// The cells of the stack: words of eight bytes, each of which can be known.
+pub const CELLS: usize = 64;
+
+/// A fact about each register, R0 to R10, and about words of the stack, and a bound on the bytes that were emitted.
+pub struct Facts<D> {
+    pub registers: [D; REGISTERS],
+    /// What is known of the words of the stack, from its first byte on.
+    pub cells: [Option<D>; CELLS],
+    /// The group has at most so many bytes, frame lengths counted.
+    pub emitted: usize,
+}
+
+impl<D: Copy> Clone for Facts<D> {
+    ghost is_clone = { λ facts copy. facts ≡ copy };
+
+    fn clone(&self) -> Result<Facts<D>, AllocError> {
+        Ok(*self)
+    }
+}
+
+impl<D: Copy> Copy for Facts<D> {}
+
+impl<D: Domain> Facts<D> {
+    /// The fact about a register.
+    #[inline]
+    pub fn get(&self, register: Register) -> D
+        ensures { result ≡ fact D.operations self.now register }
+    {
+        self.registers[register.index()]
+    }
+
+    /// Replaces the fact about a register.
+    #[inline]
+    pub fn set(&mut self, register: Register, fact: D)
+        ensures { self.new ≡ with_fact D.operations self.old register fact }
+    {
+        self.registers[register.index()] = fact;
+    }
+}

@@ -1,0 +1,10 @@
+//! Which programs are accepted, over any domain of facts about registers and the stack, and what acceptance is worth: that a
+//! program never traps.
+#![tactic(auto)]
+
+mod facts;
+pub mod laws;
+mod reason;
+
+pub use facts::{CELLS, Facts};
+pub use reason::{Reason, Refusal};

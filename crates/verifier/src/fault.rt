@@ -1,0 +1,15 @@
+//! Why a program isn't accepted.
+
+use accepted_programs::Refusal;
+use thiserror::Error;
+
+/// Why a program isn't accepted.
+#[derive(Clone, Copy, Debug, PartialEq, Eq, Error)]
+pub enum VerifyFault {
+    /// There was no memory for the facts; it says nothing of the program.
+    #[error("no memory")]
+    Memory,
+    /// The lowest slot that fails, and its least reason.
+    #[error("refused")]
+    Refused(Refusal),
+}
