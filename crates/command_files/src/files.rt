@@ -1,6 +1,6 @@
 //! Where names lead to bytes.
 
-ghost use Rattle.std.specs.Prelude.{◌≡◌, ℕ, List, [], ◌∷◌, IfOk, OnOk, OnErr, Option};
+ghost use Rattle.std.specs.Prelude.{◌≡◌, ℕ, List, [], ◌∷◌, IfOk, IfSome, OnOk, OnErr, Option, None};
 ghost use Rattle.std.specs.IoError.{error_kind};
 ghost use Rattle.command_files.specs.Made.{Made, then_made};
 ghost use Rattle.command_files.specs.Told.{told_of_file};
@@ -30,9 +30,14 @@ pub trait Files {
     /// The files that were made, in order, or `None` where it doesn't tell.
     ghost made: { Self → Option (List Made) };
 
+    /// The bytes of the file of each name, or `None` where it doesn't tell them.
+    ghost contents: { Self → List ℕ → Option (List ℕ) } = { λ _ _. None };
+
     /// All bytes of a file.
     fn read(&mut self, path: &str) -> Result<Vec<u8>, FileError>
-        ensures { made self.new ≡ made self.old };
+        ensures made { made self.new ≡ made self.old }
+        ensures contents { contents self.new ≡ contents self.old }
+        ensures bytes { IfOk result (λ file. IfSome (contents self.old path.now) (λ bytes. file.items ≡ bytes)) };
 
     /// Makes a file of these bytes, in place of the one with this name.
     fn write(&mut self, path: &str, bytes: &[u8]) -> Result<(), FileError>
@@ -42,7 +47,9 @@ pub trait Files {
     /// A file, from its first byte on.
     fn open(&mut self, path: &str) -> Result<Self::Reader, FileError>
         ensures made { made self.new ≡ made self.old }
-        ensures healthy { IfOk result (λ file. Self.Reader.failures file ≡ 0) };
+        ensures contents { contents self.new ≡ contents self.old }
+        ensures healthy { IfOk result (λ file. Self.Reader.failures file ≡ 0) }
+        ensures bytes { Self.Reader.tells → IfOk result (λ file. IfSome (contents self.old path.now) (λ bytes. Self.Reader.rest file ≡ bytes)) };
 
     /// A file of no bytes yet. It has its name once it is finished: the file with this name is as
     /// it was until then.

@@ -1,6 +1,6 @@
 //! Whole files, and what the user is told of one that fails.
 
-ghost use Rattle.std.specs.Prelude.{◌≡◌, ◌≢◌, OnOk, OnErr};
+ghost use Rattle.std.specs.Prelude.{◌≡◌, ◌≢◌, IfOk, IfSome, OnOk, OnErr};
 ghost use Rattle.command_files.specs.Made.{then_made};
 
 use crate::files::{FileError, Files};
@@ -9,6 +9,8 @@ use command_failure::Failure;
 /// All bytes of a file.
 pub fn read<'a, F: Files>(path: &'a str, files: &mut F) -> Result<Vec<u8>, Failure<'a>>
     ensures made { F.made files.new ≡ F.made files.old }
+    ensures contents { F.contents files.new ≡ F.contents files.old }
+    ensures bytes { IfOk result (λ file. IfSome (F.contents files.old path.now) (λ bytes. file.items ≡ bytes)) }
     ensures elsewhere { result ≢ Err Failure.CannotPrint }
 {
     match files.read(path) {

@@ -1,8 +1,10 @@
 //! Images in files.
 
-ghost use Rattle.std.specs.Prelude.{◌≡◌, ◌≢◌, OnOk, OnErr};
+ghost use Rattle.std.specs.Prelude.{◌≡◌, ◌≢◌, IfOk, IfErr, IfSome, OnOk, OnErr};
+ghost use Rattle.image_store.specs.Reading.{namespace_in};
 ghost use Rattle.image_store.specs.Text.{text};
 ghost use Rattle.command_files.specs.Made.{MakesOne, then_made};
+ghost use Rattle.command_images.specs.Told.{RefusesImage, told_of_image};
 
 use command_failure::Failure;
 use command_files::{Files, cannot_read, cannot_write};
@@ -12,6 +14,9 @@ use std::alloc::Global;
 /// The image that a file holds.
 pub fn load<'a, F: Files>(alloc: Global, path: &'a str, files: &mut F) -> Result<Image, Failure<'a>>
     ensures made { F.made files.new ≡ F.made files.old }
+    ensures contents { F.contents files.new ≡ F.contents files.old }
+    ensures image { F.Reader.tells → IfOk result (λ image. IfSome (F.contents files.old path.now) (λ bytes. namespace_in bytes ≡ Ok image)) }
+    ensures refused { F.Reader.tells → IfErr result (λ failure. IfSome (F.contents files.old path.now) (RefusesImage failure)) }
     ensures elsewhere { result ≢ Err Failure.CannotPrint }
 {
     let mut file = match files.open(path) {
@@ -26,6 +31,7 @@ pub fn load<'a, F: Files>(alloc: Global, path: &'a str, files: &mut F) -> Result
 
 /// What the user is told of an image that was not loaded.
 fn refused<'a>(path: &'a str, fault: LoadFault) -> Failure<'a>
+    ensures told { result ≡ told_of_image path.entry fault }
     ensures device { fault ≡ LoadFault.Device → result ≡ Failure.CannotRead path.entry }
     ensures memory { fault ≡ LoadFault.Memory → result ≡ Failure.NoMemory }
     ensures others { fault ≢ LoadFault.Device → fault ≢ LoadFault.Memory → result ≡ Failure.ImageRefused path.entry fault }
