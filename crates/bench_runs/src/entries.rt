@@ -5,7 +5,7 @@ use runner::Event;
 
 /// An event that submits an entry of this opcode to queue 1: its logical block address, Command Dwords 12 and
 /// 13, the address in Command Dwords 14 and 15, and the data beside it.
-fn submit(opcode: u8, lba: u64, dwords: [u32; 2], to: u64, payload: Vec<u8>) -> Event {
+fn submit(opcode: u8, lba: u64, dwords: [u32; 2], to: u64, input: Vec<u8>) -> Event {
     let mut entry = [0; 64];
     entry[0] = opcode;
     entry[4] = 1;
@@ -16,18 +16,18 @@ fn submit(opcode: u8, lba: u64, dwords: [u32; 2], to: u64, payload: Vec<u8>) -> 
     Event::Submit {
         queue: 1,
         entry,
-        payload,
+        input,
     }
 }
 
 /// Writes so many blocks at the write pointer of the zone whose lowest block this is.
-pub fn append(lowest: u64, blocks: u16, payload: Vec<u8>) -> Event {
+pub fn append(lowest: u64, blocks: u16, input: Vec<u8>) -> Event {
     submit(
         0x7D,
         lowest,
         [u32::from(blocks.saturating_sub(1)), 0],
         0,
-        payload,
+        input,
     )
 }
 

@@ -9,9 +9,9 @@ use Rattle.event_text.specs.Submission.{Tells}
 use Rattle.command_entry.specs.Printed.{PrintsEntry}
 use Rattle.command_entry.specs.declared.printing.Target.{Target}
 
-pub entry_printed : {E : Type 0} (r : Result (Unit {0}) E) (before after : Option (List ℕ)) (target : Target) (command : Command) (payload line entry text : List ℕ)
-    → OnOk r (Appends before after text) → text ≡ line ++ 10 ∷ [] → Tells line (Submitted target.queue entry payload) → decoded entry ≡ Ok command → identifier_of entry ≡ target.cid
-    → OnOk r (PrintsEntry before after target command payload)
-entry_printed (Ok done) before after target command payload line entry text appended is told asked identifier =
+pub entry_printed : {E : Type 0} (r : Result (Unit {0}) E) (before after : Option (List ℕ)) (target : Target) (command : Command) (input line entry text : List ℕ)
+    → OnOk r (Appends before after text) → text ≡ line ++ 10 ∷ [] → Tells line (Submitted target.queue entry input) → decoded entry ≡ Ok command → identifier_of entry ≡ target.cid
+    → OnOk r (PrintsEntry before after target command input)
+entry_printed (Ok done) before after target command input line entry text appended is told asked identifier =
     record { line = line; entry = entry; printed = subst (λ (bytes : List ℕ). Appends before after bytes) is appended; told = told; asked = asked; identifier = identifier }
-entry_printed (Err failure) before after target command payload line entry text appended is told asked identifier = tt
+entry_printed (Err failure) before after target command input line entry text appended is told asked identifier = tt

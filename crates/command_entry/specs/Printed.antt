@@ -9,10 +9,10 @@ use Rattle.command_entry.specs.declared.printing.Target.{Target}
 
 -- a line is printed that a command file's reader takes for a submission, to this queue and with this data beside it,
 -- of an entry that is decoded to this command and has this identifier
-pub record PrintsEntry (before after : Option (List ℕ)) (target : Target) (command : Command) (payload : List ℕ) : Type 0 where
+pub record PrintsEntry (before after : Option (List ℕ)) (target : Target) (command : Command) (input : List ℕ) : Type 0 where
   pub line : List ℕ
   pub entry : List ℕ
   pub printed : Appends before after (line ++ 10 ∷ [])
-  pub told : Tells line (Submitted target.queue entry payload)
+  pub told : Tells line (Submitted target.queue entry input)
   pub asked : decoded entry ≡ Ok command
   pub identifier : identifier_of entry ≡ target.cid

@@ -57,14 +57,14 @@ pub(crate) fn print<'a, O: Write>(
     alloc: Global,
     target: Target,
     command: nvme_entry::Command,
-    payload: &[u8],
+    input: &[u8],
     out: &mut O,
 ) -> Result<(), Failure<'a>>
     requires { program_length command ≤ MOST_TRANSFER }
-    ensures { OnOk result (PrintsEntry (O.contents out.old) (O.contents out.new) target command payload.now) }
+    ensures { OnOk result (PrintsEntry (O.contents out.old) (O.contents out.new) target command input.now) }
 {
     let entry = Entry::encode(command, target.cid);
-    let line = submission_line(alloc, target.queue, &entry, payload)?;
+    let line = submission_line(alloc, target.queue, &entry, input)?;
     print_line(line.as_slice(), out)
 }
 

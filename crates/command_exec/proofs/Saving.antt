@@ -3,7 +3,7 @@ use Rattle.std.proofs.Common.{◌≡◌, ℕ, List, Option, None, Result, Ok, Er
 use Rattle.image_store.specs.Namespace.{ZonedNamespace}
 use Rattle.image_store.specs.Text.{text}
 use Rattle.interval_domain.specs.Intervals.{intervals}
-use Rattle.device_events.specs.Replies.{Taken}
+use Rattle.device_events.specs.Replies.{ReplyWithData}
 use Rattle.pushdown.specs.Draining.{HasDrained, StopsDraining}
 use Rattle.pushdown.specs.Events.{HasServed}
 use Rattle.pushdown.specs.Parts.{HasFinished}
@@ -18,7 +18,7 @@ pub on_err : {T E fact : Type 0} (result : Result T E) → fact → OnErr result
 on_err (Ok value) holds = tt
 on_err (Err error) holds = holds
 
-module _ (events : List Event) (old between new : State) (before some taken : Option (List Taken)) (served : HasServed intervals events old between before some) where
+module _ (events : List Event) (old between new : State) (before some taken : Option (List ReplyWithData)) (served : HasServed intervals events old between before some) where
   -- a drain, behind events that were all done
   pub finishes : (result : Result (Unit {0}) Stopped) → OnOk result (HasDrained between new some taken) → OnOk result (HasFinished intervals events old new before taken)
   finishes (Ok done) drained = served_and_drained intervals events old between new before some taken served drained

@@ -3,7 +3,7 @@ use Rattle.std.specs.Prelude.{◌≡◌, ℕ, List, Option, None}
 use Rattle.image_store.specs.Namespace.{ZonedNamespace}
 use Rattle.image_store.specs.Text.{text}
 use Rattle.interval_domain.specs.Intervals.{intervals}
-use Rattle.device_events.specs.Replies.{Taken}
+use Rattle.device_events.specs.Replies.{ReplyWithData}
 use Rattle.pushdown.specs.Draining.{StopsDraining}
 use Rattle.pushdown.specs.Events.{HasServed, HasStopped}
 use Rattle.pushdown.specs.Parts.{HasFinished}
@@ -13,9 +13,9 @@ use Rattle.command_files.specs.Made.{Made, then_made}
 
 -- the first of some events and of the turns behind them were done, one or more, and the answer to the last of these
 -- was refused
-pub data HasBegun (events : List Event) (old new : State) (before taken : Option (List Taken)) : Type 0 where
+pub data HasBegun (events : List Event) (old new : State) (before taken : Option (List ReplyWithData)) : Type 0 where
   InEvents : (done : ℕ) (stopped : HasStopped intervals events old new before taken done) → HasBegun events old new before taken
-  InTurns : (between : State) (some : Option (List Taken)) (done : ℕ) (served : HasServed intervals events old between before some)
+  InTurns : (between : State) (some : Option (List ReplyWithData)) (done : ℕ) (served : HasServed intervals events old between before some)
       (stopped : StopsDraining between new some taken done) → HasBegun events old new before taken
 
 -- the file is made anew of the image that the events and the turns behind them leave

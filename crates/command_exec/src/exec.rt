@@ -130,14 +130,14 @@ fn run<'a, F: Files, O: Write>(
 fn serve_and_drain<O: Out>(
     device: &mut Device,
     events: &[Event],
-    data_out: &mut [u8],
+    output: &mut [u8],
     out: &mut O,
 ) -> Result<(), Stopped>
-    requires room { MOST_TRANSFER ≤ length data_out.old }
+    requires room { MOST_TRANSFER ≤ length output.old }
     requires counts { O.refused out.old + 1 < 2 ^ 64 }
     ensures finished { OnOk result (HasFinished intervals events.now device.old device.new (O.taken out.old) (O.taken out.new)) }
     ensures stopped { OnErr result (HasBegun events.now device.old device.new (O.taken out.old) (O.taken out.new)) }
 {
-    device.serve(events, data_out, out)?;
-    device.drain(data_out, out)
+    device.serve(events, output, out)?;
+    device.drain(output, out)
 }

@@ -5,7 +5,7 @@ use Rattle.device_events.specs.declared.reply.Reply.{Reply}
 use Rattle.device_events.specs.declared.reply.Reply.TheVariants as reply
 
 -- a reply with the bytes of its data
-pub record Taken : Type 0 where
+pub record ReplyWithData : Type 0 where
   pub reply : Reply
   pub bytes : List ℕ
 
@@ -18,5 +18,5 @@ data_length reply.Done = 0
 data_length reply.FaultRefused = 0
 
 -- what was taken before, where that is told, and then this
-abbrev pub and_then : Option (List Taken) → List Taken → Option (List Taken)
+abbrev pub and_then : Option (List ReplyWithData) → List ReplyWithData → Option (List ReplyWithData)
 and_then before later = option_map (λ first. first ++ later) before

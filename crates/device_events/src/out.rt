@@ -1,7 +1,7 @@
 //! What takes the replies of a device.
 
 ghost use Rattle.std.specs.Prelude.{◌≡◌, ◌+◌, ◌<◌, ◌^◌, ℕ, List, [], ◌∷◌, Option, OnOk, OnErr};
-ghost use Rattle.device_events.specs.Replies.{Taken, and_then};
+ghost use Rattle.device_events.specs.Replies.{ReplyWithData, and_then};
 ghost use Rattle.device_events.specs.Refusals.{CountsRefusals};
 
 use crate::reply::Reply;
@@ -13,7 +13,7 @@ pub struct Refusal;
 /// Takes replies with their data, in order, and counts those that it refuses.
 pub trait Out {
     /// The replies that it took, or `None` where it doesn't tell.
-    ghost taken: { Self → Option (List Taken) };
+    ghost taken: { Self → Option (List ReplyWithData) };
 
     /// How many replies it refused.
     ghost refused: { Self → ℕ };

@@ -99,30 +99,30 @@ unblank word h = All-weaker InWord (λ b. is_blank_byte b ≡ false) no_blank wo
 data_text-cons : (b : ℕ) (rest : List ℕ) → data_text (b ∷ rest) ≡ 32 ∷ encode_lower (b ∷ rest)
 data_text-cons b rest = ap (λ (empty : Bool). cond empty [] (32 ∷ encode_lower (b ∷ rest))) (eqb-suc-zero (length rest))
 
-words_of-data : (word payload : List ℕ) → 0 < length word → All InWord word → IsBytes payload → words_of (word ++ data_text payload) ≡ word ∷ data_words payload
+words_of-data : (word input : List ℕ) → 0 < length word → All InWord word → IsBytes input → words_of (word ++ data_text input) ≡ word ∷ data_words input
 words_of-data word [] some h small = ap words_of (append-nil word) ∙ word_last word some (unblank word h)
 words_of-data word (b ∷ rest) some h small =
-    let payload = b ∷ rest in
+    let input = b ∷ rest in
     ap (λ (text : List ℕ). words_of (word ++ text)) (data_text-cons b rest)
-    ∙ word_first word (encode_lower payload) some (unblank word h)
-    ∙ ap (λ (ws : List (List ℕ)). word ∷ ws) (word_last (encode_lower payload) (not_empty payload (omega arith)) (unblank (encode_lower payload) (hex_in_word payload small)))
+    ∙ word_first word (encode_lower input) some (unblank word h)
+    ∙ ap (λ (ws : List (List ℕ)). word ∷ ws) (word_last (encode_lower input) (not_empty input (omega arith)) (unblank (encode_lower input) (hex_in_word input small)))
 
 -- the words of a line, one behind the other
 abbrev spaced : List ℕ → List ℕ → List ℕ → List ℕ
 spaced number digits behind = codes "submit" ++ 32 ∷ (number ++ 32 ∷ (digits ++ behind))
 
-submission_text-spaced : (queue : ℕ) (entry payload : List ℕ) → submission_text queue entry payload ≡ spaced (decimal queue) (encode_lower entry) (data_text payload)
-submission_text-spaced queue entry payload =
+submission_text-spaced : (queue : ℕ) (entry input : List ℕ) → submission_text queue entry input ≡ spaced (decimal queue) (encode_lower entry) (data_text input)
+submission_text-spaced queue entry input =
     let number = decimal queue in
     let digits = encode_lower entry in
-    ap (λ (ys : List ℕ). codes "submit " ++ ys) (append_assoc (number ++ codes " ") digits (data_text payload) ∙ append_assoc number (codes " ") (digits ++ data_text payload))
+    ap (λ (ys : List ℕ). codes "submit " ++ ys) (append_assoc (number ++ codes " ") digits (data_text input) ∙ append_assoc number (codes " ") (digits ++ data_text input))
 
-words_of-spaced : (number digits payload : List ℕ) → 0 < length number → All InWord number → 0 < length digits → All InWord digits → IsBytes payload
-    → words_of (spaced number digits (data_text payload)) ≡ codes "submit" ∷ number ∷ digits ∷ data_words payload
-words_of-spaced number digits payload some is_number any is_digits small =
-    word_first (codes "submit") (number ++ 32 ∷ (digits ++ data_text payload)) (omega arith) (unblank (codes "submit") command_in_word)
+words_of-spaced : (number digits input : List ℕ) → 0 < length number → All InWord number → 0 < length digits → All InWord digits → IsBytes input
+    → words_of (spaced number digits (data_text input)) ≡ codes "submit" ∷ number ∷ digits ∷ data_words input
+words_of-spaced number digits input some is_number any is_digits small =
+    word_first (codes "submit") (number ++ 32 ∷ (digits ++ data_text input)) (omega arith) (unblank (codes "submit") command_in_word)
     ∙ ap (λ (ws : List (List ℕ)). codes "submit" ∷ ws)
-    (word_first number (digits ++ data_text payload) some (unblank number is_number) ∙ ap (λ (ws : List (List ℕ)). number ∷ ws) (words_of-data digits payload any is_digits small))
+    (word_first number (digits ++ data_text input) some (unblank number is_number) ∙ ap (λ (ws : List (List ℕ)). number ∷ ws) (words_of-data digits input any is_digits small))
 
 -- ---- the bytes of the line
 
@@ -132,7 +132,7 @@ as_line word h = All-weaker InWord InLine in_line word h
 space_before : (text : List ℕ) → All InLine text → All InLine (32 ∷ text)
 space_before text h = All-cons InLine 32 text (omega arith, omega arith, λ e. omega arith) h
 
-data_in_line : (payload : List ℕ) → IsBytes payload → All InLine (data_text payload)
+data_in_line : (input : List ℕ) → IsBytes input → All InLine (data_text input)
 data_in_line [] small = All-nil InLine
 data_in_line (b ∷ rest) small =
     subst (λ (text : List ℕ). All InLine text) (sym (data_text-cons b rest)) (space_before (encode_lower (b ∷ rest)) (as_line (encode_lower (b ∷ rest)) (hex_in_word (b ∷ rest) small)))
@@ -172,28 +172,28 @@ number_again ds queue digits some value small =
     ∙ (ap (λ (b : Bool). option_and_then (below (2 ^ 16)) (cond b (Some queue) None)) (lt-ltb queue (2 ^ 32) (omega arith))
     ∙ ap (λ (b : Bool). cond b (Some queue) None) (lt-ltb queue (2 ^ 16) small))))
 
-event_again : (number digits behind entry payload : List ℕ) (queue : ℕ) → option_and_then (below (2 ^ 16)) (number_of number) ≡ Some queue → decode_sized digits 64 ≡ Ok entry → decode_of behind ≡ Ok payload
-    → option_map Some (submission (option_and_then (below (2 ^ 16)) (number_of number)) (result_ok (decode_sized digits 64)) (result_ok (decode_of behind))) ≡ Some (Some (Submitted queue entry payload))
-event_again number digits behind entry payload queue is_queue is_entry is_payload = rw (is_queue, is_entry, is_payload) refl
+event_again : (number digits behind entry input : List ℕ) (queue : ℕ) → option_and_then (below (2 ^ 16)) (number_of number) ≡ Some queue → decode_sized digits 64 ≡ Ok entry → decode_of behind ≡ Ok input
+    → option_map Some (submission (option_and_then (below (2 ^ 16)) (number_of number)) (result_ok (decode_sized digits 64)) (result_ok (decode_of behind))) ≡ Some (Some (Submitted queue entry input))
+event_again number digits behind entry input queue is_queue is_entry is_input = rw (is_queue, is_entry, is_input) refl
 
-words_again : (number digits entry payload : List ℕ) (queue : ℕ) → option_and_then (below (2 ^ 16)) (number_of number) ≡ Some queue → decode_sized digits 64 ≡ Ok entry → IsBytes payload
-    → words_told (codes "submit" ∷ number ∷ digits ∷ data_words payload) ≡ Some (Some (Submitted queue entry payload))
+words_again : (number digits entry input : List ℕ) (queue : ℕ) → option_and_then (below (2 ^ 16)) (number_of number) ≡ Some queue → decode_sized digits 64 ≡ Ok entry → IsBytes input
+    → words_told (codes "submit" ∷ number ∷ digits ∷ data_words input) ≡ Some (Some (Submitted queue entry input))
 unfolding decode_pairs
 words_again number digits entry [] queue is_queue is_entry small = event_again number digits [] entry [] queue is_queue is_entry refl
 words_again number digits entry (b ∷ rest) queue is_queue is_entry small =
     event_again number digits (encode_lower (b ∷ rest)) entry (b ∷ rest) queue is_queue is_entry (decode_of-encode_lower (b ∷ rest) small)
 
-pub submission_tells : (queue : ℕ) (entry payload : List ℕ) → queue < 2 ^ 16 → length entry ≡ 64 → IsBytes entry → IsBytes payload → Tells (submission_text queue entry payload) (Submitted queue entry payload)
-submission_tells queue entry payload small size entry_bytes payload_bytes =
+pub submission_tells : (queue : ℕ) (entry input : List ℕ) → queue < 2 ^ 16 → length entry ≡ 64 → IsBytes entry → IsBytes input → Tells (submission_text queue entry input) (Submitted queue entry input)
+submission_tells queue entry input small size entry_bytes input_bytes =
     let numeral = decimal_is_IsNumeral queue (omega arith) in
     let is_number = decimal_in_word queue (omega arith) in
     let is_digits = hex_in_word entry entry_bytes in
-    let line = spaced (decimal queue) (encode_lower entry) (data_text payload) in
-    let in_a_line = spaced_in_line (decimal queue) (encode_lower entry) (data_text payload) is_number is_digits (data_in_line payload payload_bytes) in
+    let line = spaced (decimal queue) (encode_lower entry) (data_text input) in
+    let in_a_line = spaced_in_line (decimal queue) (encode_lower entry) (data_text input) is_number is_digits (data_in_line input input_bytes) in
     let found = number_again (decimal queue) queue (list_all-from_AllPass is_ascii_digit (decimal queue) (ascii_digits (decimal queue) numeral.0.1)) numeral.0.0 numeral.1 small in
-    let told : line_told line ≡ Some (Some (Submitted queue entry payload)) =
+    let told : line_told line ≡ Some (Some (Submitted queue entry input)) =
     line_told-words line in_a_line
-    ∙ (ap words_told (words_of-spaced (decimal queue) (encode_lower entry) payload numeral.0.0 is_number (not_empty entry (omega arith)) is_digits payload_bytes)
-    ∙ words_again (decimal queue) (encode_lower entry) entry payload queue found (decode_sized-encode_lower entry 64 size entry_bytes) payload_bytes) in
-    let whole : Tells line (Submitted queue entry payload) = record { single = All-weaker InLine (λ b. not (b == 10) ≡ true) no_end line in_a_line; told = told } in
-    subst (λ (text : List ℕ). Tells text (Submitted queue entry payload)) (sym (submission_text-spaced queue entry payload)) whole
+    ∙ (ap words_told (words_of-spaced (decimal queue) (encode_lower entry) input numeral.0.0 is_number (not_empty entry (omega arith)) is_digits input_bytes)
+    ∙ words_again (decimal queue) (encode_lower entry) entry input queue found (decode_sized-encode_lower entry 64 size entry_bytes) input_bytes) in
+    let whole : Tells line (Submitted queue entry input) = record { single = All-weaker InLine (λ b. not (b == 10) ≡ true) no_end line in_a_line; told = told } in
+    subst (λ (text : List ℕ). Tells text (Submitted queue entry input)) (sym (submission_text-spaced queue entry input)) whole

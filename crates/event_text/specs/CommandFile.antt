@@ -23,13 +23,13 @@ use Rattle.event_text.specs.Words.{words_of, one_of, two_of, three_of}
 
 -- an event as a line tells it
 pub data Told : Type 0 where
-  Submitted : (queue : ℕ) (entry payload : List ℕ) → Told
+  Submitted : (queue : ℕ) (entry input : List ℕ) → Told
   Turned : (run : ℕ) → Told
   Failed : (zone : ℕ) (state : FaultState) → Told
 
 -- an event without where its data lies in memory
 abbrev pub told_of : Event → Told
-told_of (event.Submit queue entry payload) = Submitted queue entry payload.items
+told_of (event.Submit queue entry input) = Submitted queue entry input.items
 told_of (event.Turn run) = Turned run
 told_of (event.Fault zone state) = Failed zone state
 
@@ -39,7 +39,7 @@ below bound number = if nat_lt number bound then Some number else None
 
 -- a queue, an entry of 64 bytes and the data beside it, which may be left out
 abbrev pub submission : Option ℕ → Option (List ℕ) → Option (List ℕ) → Option Told
-submission (Some queue) (Some entry) (Some payload) = Some (Submitted queue entry payload)
+submission (Some queue) (Some entry) (Some input) = Some (Submitted queue entry input)
 submission _ _ _ = None
 
 abbrev pub submission_of : List (List ℕ) → Option Told

@@ -8,7 +8,7 @@ use Rattle.event_text.specs.Lines.{data_text}
 
 -- a queue, an entry and the data beside it, without the end of the line
 abbrev pub submission_text : ℕ → List ℕ → List ℕ → List ℕ
-submission_text queue entry payload = codes "submit " ++ decimal queue ++ codes " " ++ encode_lower entry ++ data_text payload
+submission_text queue entry input = codes "submit " ++ decimal queue ++ codes " " ++ encode_lower entry ++ data_text input
 
 -- a text has no end of a line in it, and a command file that has it as a line tells this event there
 pub record Tells (line : List ℕ) (meant : Told) : Type 0 where

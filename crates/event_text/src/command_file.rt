@@ -101,18 +101,18 @@ fn submit(alloc: Global, words: Words<'_>) -> Result<Event, LineError>
     ensures { GivesEvent result (submission_of (words_of words.entry.rest.now)) }
 {
     let line = words.shown();
-    let Some((queue, entry, payload)) = words.three() else {
+    let Some((queue, entry, input)) = words.three() else {
         return Err(LineError::Refused(LineFault::SubmitWords(line)));
     };
     let Some(number) = queue_number(queue) else {
         return Err(LineError::Refused(LineFault::Queue(Excerpt::of(queue))));
     };
     let entry = <[u8; 64]>::from_hex(entry).map_err(|error| entry_error(error, entry.len()))?;
-    let payload = hex::decode(alloc, payload).map_err(|error| data_error(error, payload.len()))?;
+    let input = hex::decode(alloc, input).map_err(|error| data_error(error, input.len()))?;
     Ok(Event::Submit {
         queue: number,
         entry,
-        payload,
+        input,
     })
 }
 

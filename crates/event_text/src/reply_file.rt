@@ -32,7 +32,7 @@ enum LineError {
 
 /// A reply with the bytes of its data.
 #[derive(Debug, PartialEq, Eq, Drop)]
-pub struct Answer {
+pub struct ReplyWithData {
     pub reply: Reply,
     pub bytes: Vec<u8>,
 }
@@ -43,7 +43,7 @@ pub struct Answer {
 ///
 /// The lowest line that isn't the line of a reply, or want of memory for a line before it.
 #[tactic(auto, using(crate::proofs::ReplyLemmas::reply_read, crate::proofs::ReplyLemmas::replies_read))]
-pub fn replies(alloc: Global, file: &[u8]) -> Result<Vec<Answer>, ReplyFileError>
+pub fn replies(alloc: Global, file: &[u8]) -> Result<Vec<ReplyWithData>, ReplyFileError>
     ensures spelled { IfOk result (λ answers. lines file.now ≡ map answer_text answers.items) }
 {
     let mut answers = Vec::new(alloc);
@@ -63,7 +63,7 @@ pub fn replies(alloc: Global, file: &[u8]) -> Result<Vec<Answer>, ReplyFileError
 }
 
 /// The reply whose line this is.
-fn answer_of(alloc: Global, line: &[u8]) -> Result<Answer, LineError>
+fn answer_of(alloc: Global, line: &[u8]) -> Result<ReplyWithData, LineError>
     ensures { IfOk result (λ answer. line.now ≡ answer_text answer) }
 {
     let answer = candidate(alloc, line)?;
@@ -76,7 +76,7 @@ fn answer_of(alloc: Global, line: &[u8]) -> Result<Answer, LineError>
 }
 
 /// The one reply whose line this can be.
-fn candidate(alloc: Global, line: &[u8]) -> Result<Answer, LineError> {
+fn candidate(alloc: Global, line: &[u8]) -> Result<ReplyWithData, LineError> {
     match line {
         b"idle" => Ok(without_data(alloc, Reply::Idle)),
         b"done" => Ok(without_data(alloc, Reply::Done)),
@@ -91,20 +91,20 @@ fn candidate(alloc: Global, line: &[u8]) -> Result<Answer, LineError> {
     }
 }
 
-fn without_data(alloc: Global, reply: Reply) -> Answer {
-    Answer {
+fn without_data(alloc: Global, reply: Reply) -> ReplyWithData {
+    ReplyWithData {
         reply,
         bytes: Vec::new(alloc),
     }
 }
 
-fn pending(alloc: Global, run: &[u8]) -> Result<Answer, LineError> {
+fn pending(alloc: Global, run: &[u8]) -> Result<ReplyWithData, LineError> {
     let run = run_number(run).ok_or(LineError::Malformed)?;
     Ok(without_data(alloc, Reply::Pending { run }))
 }
 
 /// A completion: the queue, the entry, and the data where there is any.
-fn complete(alloc: Global, words: &[u8]) -> Result<Answer, LineError> {
+fn complete(alloc: Global, words: &[u8]) -> Result<ReplyWithData, LineError> {
     let (queue, behind) = cut(words, b' ').ok_or(LineError::Malformed)?;
     let (entry, behind) = behind
         .split_at_checked(ENTRY_DIGITS)
@@ -113,7 +113,7 @@ fn complete(alloc: Global, words: &[u8]) -> Result<Answer, LineError> {
     let entry = <[u8; 16]>::from_hex(entry)?;
     let bytes = hex::decode(alloc, behind.strip_prefix(b" ").unwrap_or(&[]))?;
     let length = bytes.len();
-    Ok(Answer {
+    Ok(ReplyWithData {
         reply: Reply::Complete {
             queue,
             entry,

@@ -17,14 +17,14 @@ pub fn submission_line(
     alloc: Global,
     queue: u16,
     entry: &[u8; 64],
-    payload: &[u8],
+    input: &[u8],
 ) -> Result<Vec<u8>, AllocError>
-    ensures text { IfOk result (λ line. line.items ≡ submission_text queue entry.now payload.now ++ 10 ∷ []) }
-    ensures told { OnOk result (Tells (submission_text queue entry.now payload.now) (Submitted queue entry.now payload.now)) }
+    ensures text { IfOk result (λ line. line.items ≡ submission_text queue entry.now input.now ++ 10 ∷ []) }
+    ensures told { OnOk result (Tells (submission_text queue entry.now input.now) (Submitted queue entry.now input.now)) }
 {
     let mut line = format!(in alloc; "submit {queue} ")?.into_bytes();
     push_hex(&mut line, entry)?;
-    push_data(&mut line, payload)?;
+    push_data(&mut line, input)?;
     line.push(b'\n')?;
     Ok(line)
 }

@@ -9,7 +9,7 @@ use Rattle.reg_domain.specs.Domain.{Operations}
 use Rattle.accepted_programs.specs.Laws.{AcceptedNeverTraps}
 use Rattle.pushdown.specs.Admission.{Loaded}
 use Rattle.pushdown.specs.Answers.{Happening}
-use Rattle.device_events.specs.Replies.{Taken}
+use Rattle.device_events.specs.Replies.{ReplyWithData}
 use Rattle.pushdown.specs.AnyOrder.{AreSameTurns, ComeToTheSame, IsUnshared, TurnsInAnyOrder, own_answers}
 use Rattle.pushdown.specs.Draining.{answers_to_turns, state_after_turns}
 use Rattle.pushdown.specs.Events.{state_after}
@@ -79,28 +79,28 @@ module _ (view : List (Option Loaded) → List (Option Loaded)) where
 
 record Seen : Type 0 where
   state : State
-  answers : List Taken
+  answers : List ReplyWithData
 
-abbrev seen : State → List Taken → Seen
+abbrev seen : State → List ReplyWithData → Seen
 seen s answers = record { state = s; answers = answers }
 
-same_seen : (s t : State) (xs ys : List Taken) → s ≡ t → xs ≡ ys → seen s xs ≡ seen t ys
+same_seen : (s t : State) (xs ys : List ReplyWithData) → s ≡ t → xs ≡ ys → seen s xs ≡ seen t ys
 same_seen s t xs ys same_state same_answers = ap (λ (s : State). seen s xs) same_state ∙ ap (seen t) same_answers
 
-abbrev told_if : Bool → Taken → List Taken
+abbrev told_if : Bool → ReplyWithData → List ReplyWithData
 told_if true answer = answer ∷ []
 told_if false answer = []
 
-one_more : (mine : Bool) (x : ℕ × Taken) (xs : List (ℕ × Taken))
+one_more : (mine : Bool) (x : ℕ × ReplyWithData) (xs : List (ℕ × ReplyWithData))
     → told_if mine x.1 ++ map (λ y. y.1) xs ≡ map (λ y. y.1) (cond mine (x ∷ xs) xs)
 one_more true x xs = refl
 one_more false x xs = refl
 
-answers_both : (a b : Bool) (before : List Taken) (x y : Taken) → (a ≡ true → b ≡ true → ⊥)
+answers_both : (a b : Bool) (before : List ReplyWithData) (x y : ReplyWithData) → (a ≡ true → b ≡ true → ⊥)
     → (before ++ told_if a x) ++ told_if b y ≡ (before ++ told_if b y) ++ told_if a x
 answers_both true true before x y differs = absurd (differs refl refl)
-answers_both true false before x y differs = append-nil (before ++ x ∷ []) ∙ ap (λ (xs : List Taken). xs ++ x ∷ []) (sym (append-nil before))
-answers_both false true before x y differs = ap (λ (xs : List Taken). xs ++ y ∷ []) (append-nil before) ∙ sym (append-nil (before ++ y ∷ []))
+answers_both true false before x y differs = append-nil (before ++ x ∷ []) ∙ ap (λ (xs : List ReplyWithData). xs ++ x ∷ []) (sym (append-nil before))
+answers_both false true before x y differs = ap (λ (xs : List ReplyWithData). xs ++ y ∷ []) (append-nil before) ∙ sym (append-nil (before ++ y ∷ []))
 answers_both false false before x y differs = refl
 
 module _ (watched : ℕ) where
@@ -117,13 +117,13 @@ module _ (watched : ℕ) where
       let second = told_if (b == watched) (turned s b).answer in
       same_seen (step b (step a x)).state (step a (step b x)).state (step b (step a x)).answers (step a (step b x)).answers
       (state_of_both s a b own differs)
-      (ap (λ (y : Taken). (x.answers ++ first) ++ told_if (b == watched) y) (answer_after s a b (λ same. differs (sym same)))
+      (ap (λ (y : ReplyWithData). (x.answers ++ first) ++ told_if (b == watched) y) (answer_after s a b (λ same. differs (sym same)))
       ∙ answers_both (a == watched) (b == watched) x.answers (turned s a).answer (turned s b).answer
       (λ at_a at_b. differs (eqb-true a watched at_a ∙ sym (eqb-true b watched at_b)))
-      ∙ ap (λ (y : Taken). (x.answers ++ second) ++ told_if (a == watched) y) (sym (answer_after s b a differs)))
+      ∙ ap (λ (y : ReplyWithData). (x.answers ++ second) ++ told_if (a == watched) y) (sym (answer_after s b a differs)))
 
   module _ (view : List (Option Loaded) → List (Option Loaded)) (is : IsView view) where
-    turns_seen : (runs : List ℕ) (s : State) (answers : List Taken)
+    turns_seen : (runs : List ℕ) (s : State) (answers : List ReplyWithData)
         → after step runs (seen (with_view view s) answers)
         ≡ seen (with_view view (state_after_turns runs s)) (answers ++ own_answers watched runs (answers_to_turns runs s))
     turns_seen [] s answers = ap (seen (with_view view s)) (sym (append-nil answers))
@@ -134,7 +134,7 @@ module _ (watched : ℕ) where
         ap (λ (h : Happening). after step runs (seen h.state (answers ++ told_if (run == watched) h.answer)))
         (sym (turned_seen view is s run (place_at s run)))
         ∙ turns_seen runs t (answers ++ mine)
-        ∙ ap (seen (with_view view (state_after_turns runs t))) (append_assoc answers mine rest ∙ ap (λ (xs : List Taken). answers ++ xs)
+        ∙ ap (seen (with_view view (state_after_turns runs t))) (append_assoc answers mine rest ∙ ap (λ (xs : List ReplyWithData). answers ++ xs)
         (one_more (run == watched) (run, (turned s run).answer) (filter (λ x. x.0 == watched) (zip runs (answers_to_turns runs t)))))
 
     same_after : (first second : List ℕ) (s : State) → OwnAll (with_view view s) → AreSameTurns first second

@@ -47,7 +47,7 @@ module _ {D : Type 0} (operations : Operations D) (P : State → Type 0) (s : St
   pub record HoldsAfter (e : Event) : Type 0 where
     pub same : P s
     pub step : (step : Step) → kept.holds_of step ≡ holds_of s → (HasBytes e → IsSpelled step) → P (with_namespace s (after step s.namespace))
-    pub load : (sub : Submission) (load : LoadCommand) (t : State) → (HasBytes e → AreBytes sub.payload)
+    pub load : (sub : Submission) (load : LoadCommand) (t : State) → (HasBytes e → AreBytes sub.input)
         → (takes : TakesSlot operations sub s load t) → P (with_slot s load.slot (Some (just_loaded takes.program load.limit)))
     pub start : (sub : Submission) (order : RunCommand) (run : ℕ) → why_not_run sub s order ≡ None → free_run s ≡ Some run → 1 ≤ order.blocks
         → P (with_place s run (Some (admitted_place sub s order)))
@@ -55,7 +55,7 @@ module _ {D : Type 0} (operations : Operations D) (P : State → Type 0) (s : St
         → place.turns ≡ turn ∷ later → P (turn_state s run place turn later)
 
   module _ (e : Event) (holds : HoldsAfter e) where
-    after_load : (starved : Bool) (sub : Submission) (load : LoadCommand) → (HasBytes e → AreBytes sub.payload)
+    after_load : (starved : Bool) (sub : Submission) (load : LoadCommand) → (HasBytes e → AreBytes sub.input)
         → P (loading operations starved sub s load).state
     after_load starved sub load are = elim (loading_is operations sub s load starved).state [
       | inl same ↦ subst P (sym same) holds.same
@@ -74,20 +74,20 @@ module _ {D : Type 0} (operations : Operations D) (P : State → Type 0) (s : St
     after_result (Some loaded) None sub = holds.same
 
     after_entry : (starved : Bool) (sub : Submission) (asked : Result Command Status) → decoded sub.entry ≡ asked
-        → (HasBytes e → AreBytes sub.payload) → P (submitted operations starved sub s asked).state
+        → (HasBytes e → AreBytes sub.input) → P (submitted operations starved sub s asked).state
     after_entry starved sub (Err status) is are = holds.same
     after_entry starved sub (Ok (command.Standard c)) is are =
-        holds.step (Commanded (holds_of s) c sub.payload) refl
-        (λ has. spelled (holds_of s) c sub.payload (decoded_has sub.entry (command.Standard c) is) (are has))
+        holds.step (Commanded (holds_of s) c sub.input) refl
+        (λ has. spelled (holds_of s) c sub.input (decoded_has sub.entry (command.Standard c) is) (are has))
     after_entry starved sub (Ok (command.Load load)) is are = after_load starved sub load are
     after_entry starved sub (Ok (command.Run order)) is are =
         after_start (why_not_run sub s order) (free_run s) sub order refl refl (decoded_has sub.entry (command.Run order) is)
     after_entry starved sub (Ok (command.Result slot)) is are =
-        after_result (program_at s slot) (first_refused (transfer_checks 0 0 sub.payload)) sub
+        after_result (program_at s slot) (first_refused (transfer_checks 0 0 sub.input)) sub
 
   pub after_event : (starved : Bool) (e : Event) → HoldsAfter e → P (happens operations s starved e).state
-  after_event starved (event.Submit queue entry payload) holds =
-      after_entry (event.Submit queue entry payload) holds starved (record { queue = queue; entry = entry; payload = payload.items }) (decoded entry) refl
+  after_event starved (event.Submit queue entry input) holds =
+      after_entry (event.Submit queue entry input) holds starved (record { queue = queue; entry = entry; input = input.items }) (decoded entry) refl
       (λ has. has)
   after_event starved (event.Turn run) holds = after_turn P s run holds.same (λ place turn later. holds.turn run place turn later refl)
   after_event starved (event.Fault zone state) holds = holds.step (Failed (holds_of s) zone state) refl (λ has. tt)

@@ -55,7 +55,7 @@ pub record Stands (s now : State) (run : ℕ) (place : Place) (turns : List Turn
 
 module _ {D : Type 0} (operations : Operations D) where
   own_event : (s : State) (starved : Bool) (e : Event) (run : ℕ) → is_turn_of run e ≡ true → happens operations s starved e ≡ turned s run
-  own_event s starved (event.Submit queue entry payload) run mine = cc
+  own_event s starved (event.Submit queue entry input) run mine = cc
   own_event s starved (event.Turn other) run mine = ap (turned s) (eqb-true other run mine)
   own_event s starved (event.Fault zone state) run mine = cc
 

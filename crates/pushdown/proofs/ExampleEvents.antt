@@ -9,7 +9,7 @@ use Rattle.program_meaning.specs.Run.{run_of}
 use Rattle.reg_domain.specs.Domain.{Operations}
 use Rattle.image_store.specs.Namespace.{ZoneBlocks, ZonedNamespace, zone_at}
 use Rattle.pushdown.specs.Answers.{Happening, plain}
-use Rattle.device_events.specs.Replies.{Taken}
+use Rattle.device_events.specs.Replies.{ReplyWithData}
 use Rattle.pushdown.specs.Draining.{answers_to_turns, state_after_turns}
 use Rattle.pushdown.specs.Machine.{failed, submitted}
 use Rattle.pushdown.specs.State.{State, new_state}
@@ -17,14 +17,14 @@ use Rattle.device_events.specs.declared.reply.Reply.TheVariants.{Complete, Fault
 use Rattle.pushdown.proofs.Examples.{block_of, entry_of, four_zones, frame, passes, run_entry, sevens, slots_with, twelve_zones, two_zones}
 
 -- a completion to queue 1 with these first dwords, this identifier, and these last two bytes
-abbrev pub completes_with : ℕ → ℕ → ℕ → ℕ → ℕ → Taken
+abbrev pub completes_with : ℕ → ℕ → ℕ → ℕ → ℕ → ReplyWithData
 completes_with dw0 dw1 cid low high =
     plain (Complete 1 (dw0 ∷ 0 ∷ 0 ∷ 0 ∷ dw1 ∷ 0 ∷ 0 ∷ 0 ∷ 0 ∷ 0 ∷ 1 ∷ 0 ∷ cid ∷ 0 ∷ low ∷ high ∷ []) 0)
 
-abbrev pub completes : ℕ → ℕ → ℕ → Taken
+abbrev pub completes : ℕ → ℕ → ℕ → ReplyWithData
 completes cid low high = completes_with 0 0 cid low high
 
-abbrev pub pending : ℕ → Taken
+abbrev pub pending : ℕ → ReplyWithData
 pending run = plain (Pending run)
 
 -- a zone in a state, with these blocks
@@ -44,10 +44,10 @@ blocks_in s z = (zone_at s.namespace z).blocks
 module _ {D : Type 0} (operations : Operations D) where
   -- an entry in queue 1, with the data beside it
   abbrev pub asks : List ℕ → List ℕ → State → Happening
-  asks entry payload s = submitted operations false (record { queue = 1; entry = entry; payload = payload }) s (decoded entry)
+  asks entry input s = submitted operations false (record { queue = 1; entry = entry; input = input }) s (decoded entry)
 
   -- entries without data, one after another
-  abbrev answers_asked : List (List ℕ) → State → List Taken
+  abbrev answers_asked : List (List ℕ) → State → List ReplyWithData
   answers_asked [] s = []
   answers_asked (entry ∷ entries) s = (asks entry [] s).answer ∷ answers_asked entries (asks entry [] s).state
 

@@ -5,7 +5,7 @@ use Rattle.nvme_entry.specs.Entry.{decoded}
 use Rattle.program_meaning.specs.Run.{run_of}
 use Rattle.reg_domain.specs.Domain.{Operations}
 use Rattle.pushdown.specs.Answers.{Happening, plain}
-use Rattle.device_events.specs.Replies.{Taken}
+use Rattle.device_events.specs.Replies.{ReplyWithData}
 use Rattle.pushdown.specs.Draining.{state_after_turns}
 use Rattle.pushdown.specs.Machine.{submitted, turned}
 use Rattle.pushdown.specs.State.{State, new_state}
@@ -43,7 +43,7 @@ abbrev skip : List ℕ
 skip = 0x05 ∷ 0 ∷ 1 ∷ replicate 5 0
 
 module _ {D : Type 0} (operations : Operations D) where
-  abbrev loads : ℕ → List ℕ → Taken
+  abbrev loads : ℕ → List ℕ → ReplyWithData
   loads bytes program = (asks operations (load_entry 8 0 0 bytes) program no_runs).answer
 
   pub half_is_refused : loads 8 wide ≡ completes_with 0 26 8 0x84 0x0f
@@ -69,7 +69,7 @@ module _ {D : Type 0} (operations : Operations D) where
 
   -- where memory is refused, nothing changes
   abbrev starving : Happening
-  starving = submitted operations true (record { queue = 1; entry = load_entry 7 0 0 16; payload = move ++ leave }) no_runs (decoded (load_entry 7 0 0 16))
+  starving = submitted operations true (record { queue = 1; entry = load_entry 7 0 0 16; input = move ++ leave }) no_runs (decoded (load_entry 7 0 0 16))
 
   pub memory_is_wanted : starving ≡ record { answer = completes 7 0x8e 0x0f; state = no_runs }
   memory_is_wanted = refl

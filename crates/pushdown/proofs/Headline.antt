@@ -39,15 +39,15 @@ use Rattle.pushdown.proofs.States.{IsFine, admitted_room, all_exit, few_source, 
 
 -- ---- a run that is admitted, and the events after it
 
-module _ {D : Type 0} (operations : Operations D) (s : State) (queue : ℕ) (entry : List ℕ) (payload : Vec ℕ Global) (order : RunCommand) (run : ℕ) where
+module _ {D : Type 0} (operations : Operations D) (s : State) (queue : ℕ) (entry : List ℕ) (input : Vec ℕ Global) (order : RunCommand) (run : ℕ) where
   abbrev sub : Submission
-  sub = record { queue = queue; entry = entry; payload = payload.items }
+  sub = record { queue = queue; entry = entry; input = input.items }
 
   abbrev place : Place
   place = admitted_place sub s order
 
   abbrev begun : Bool → Happening
-  begun starved = happens operations s starved (event.Submit queue entry payload)
+  begun starved = happens operations s starved (event.Submit queue entry input)
 
   started : (starved : Bool) → IsAdmitted s sub order run
       → begun starved ≡ record { answer = plain (reply.Pending run); state = with_place s run (Some place) }
@@ -70,7 +70,7 @@ module _ {D : Type 0} (operations : Operations D) (s : State) (queue : ℕ) (ent
 
   destination_on : IsAdmitted s sub order run → (zone_at s.namespace place.destination).state ≢ Offline
   destination_on admitted =
-      let checks = admission_checks s.namespace (holds_of s) (is_some (free_run s)) (program_at s order.slot) order sub.payload in
+      let checks = admission_checks s.namespace (holds_of s) (is_some (free_run s)) (program_at s order.slot) order sub.input in
       let state = (zone_at s.namespace place.destination).state in
       open_on state (demanded (is_open state) DESTINATION_NOT_OPEN (passed checks 12 admitted.passed))
 
@@ -90,7 +90,7 @@ module _ {D : Type 0} (operations : Operations D) (s : State) (queue : ℕ) (ent
 
     ready : Ready operations run place first place.turns
     ready = record {
-      apart = event_apart operations s starved (event.Submit queue entry payload) apart;
+      apart = event_apart operations s starved (event.Submit queue entry input) apart;
       at = (starts starved admitted).place;
       on = subst (λ (ns : ZonedNamespace). (zone_at ns place.destination).state ≢ Offline) (sym same_namespace) (destination_on admitted);
       goes = ends;
@@ -105,7 +105,7 @@ module _ {D : Type 0} (operations : Operations D) (s : State) (queue : ℕ) (ent
     same_blocks : blocks_at first place.destination ≡ blocks_at s place.destination
     same_blocks = ap (λ (ns : ZonedNamespace). (zone_at ns place.destination).blocks) same_namespace
 
-    pub does_its_turns : DoesItsTurns operations s queue entry payload starved order run events
+    pub does_its_turns : DoesItsTurns operations s queue entry input starved order run events
     does_its_turns = record {
       left = stands.left;
       appended = rw same_blocks at stands.appended;
@@ -116,7 +116,7 @@ module _ {D : Type 0} (operations : Operations D) (s : State) (queue : ℕ) (ent
       then_slots = next.then_slots;
     }
 
-    pub changes_destination_alone : ChangesDestinationAlone operations s queue entry payload starved order run events
+    pub changes_destination_alone : ChangesDestinationAlone operations s queue entry input starved order run events
     changes_destination_alone =
         let blocks = (get_or place.turns done no_turn).blocks in
         record {
@@ -136,7 +136,7 @@ module _ {D : Type 0} (operations : Operations D) (s : State) (queue : ℕ) (ent
 
 module _ {D : Type 0} (operations : Operations D) where
   pub admitted_starts : AdmittedStarts operations
-  admitted_starts s starved queue entry payload order run admitted = starts operations s queue entry payload order run starved admitted
+  admitted_starts s starved queue entry input order run admitted = starts operations s queue entry input order run starved admitted
 
 -- ---- the completion's dwords
 
@@ -154,11 +154,11 @@ written_most ns z is =
 -- ---- the theorem
 
 module _ {D : Type 0} (operations : Operations D) (never : AcceptedNeverTraps operations) (block : ℕ) (s : State) (fine : IsFine operations never block s)
-    (queue : ℕ) (entry : List ℕ) (payload : Vec ℕ Global) (starved : Bool) (order : RunCommand) (run : ℕ) (events : List Occurrence) where
+    (queue : ℕ) (entry : List ℕ) (input : Vec ℕ Global) (starved : Bool) (order : RunCommand) (run : ℕ) (events : List Occurrence) where
   abbrev given : Submission
-  given = record { queue = queue; entry = entry; payload = payload.items }
+  given = record { queue = queue; entry = entry; input = input.items }
 
-  tells_whole : IsAdmitted s given order run → TellsWhole operations s queue entry payload starved order run events
+  tells_whole : IsAdmitted s given order run → TellsWhole operations s queue entry input starved order run events
   tells_whole admitted =
       let none = admitted.passed in
       let ns = s.namespace in
@@ -183,8 +183,8 @@ module _ {D : Type 0} (operations : Operations D) (never : AcceptedNeverTraps op
       }
 
 pub pushdown : {D : Type 0} (operations : Operations D) → AcceptedNeverTraps operations → Pushdown operations
-pushdown operations never ns before is are queue entry payload starved order run after admitted =
-    let sub : Submission = record { queue = queue; entry = entry; payload = payload.items } in
+pushdown operations never ns before is are queue entry input starved order run after admitted =
+    let sub : Submission = record { queue = queue; entry = entry; input = input.items } in
     let s = state_after operations before (new_state ns) in
     let fine = reached operations never ns before is are in
     let task = task_of s.namespace (program_at s order.slot) order in
@@ -195,7 +195,7 @@ pushdown operations never ns before is are queue entry payload starved order run
     record {
       no_turn_traps = record { exits = all_exit operations never ns.block sub s order fine none; ends = ends };
       few_steps = all_from (IsDone task) (λ (r : Run). r.steps ≤ instruction_count task.program) (λ r h. h.exits.steps) runs done;
-      changes_destination_alone = changes_destination_alone operations s queue entry payload order run fine.apart starved admitted ends after;
-      does_its_turns = does_its_turns operations s queue entry payload order run fine.apart starved admitted ends after;
-      tells_whole = tells_whole operations never ns.block s fine queue entry payload starved order run after admitted;
+      changes_destination_alone = changes_destination_alone operations s queue entry input order run fine.apart starved admitted ends after;
+      does_its_turns = does_its_turns operations s queue entry input order run fine.apart starved admitted ends after;
+      tells_whole = tells_whole operations never ns.block s fine queue entry input starved order run after admitted;
     }

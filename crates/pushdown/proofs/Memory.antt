@@ -21,7 +21,7 @@ module _ {D : Type 0} (operations : Operations D) where
   submitted_same sub s (Ok (command.Result slot)) no_load = refl
 
   pub only_loads_want_memory : OnlyLoadsWantMemory operations
-  only_loads_want_memory s (event.Submit queue entry payload) no_load =
-      submitted_same (record { queue = queue; entry = entry; payload = payload.items }) s (decoded entry) no_load
+  only_loads_want_memory s (event.Submit queue entry input) no_load =
+      submitted_same (record { queue = queue; entry = entry; input = input.items }) s (decoded entry) no_load
   only_loads_want_memory s (event.Turn run) no_load = refl
   only_loads_want_memory s (event.Fault zone state) no_load = refl

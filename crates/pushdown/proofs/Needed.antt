@@ -87,7 +87,7 @@ module _ {D : Type 0} (operations : Operations D) where
     };
     load = λ sub load t are takes.
         let new = Some (just_loaded takes.program load.limit) in
-        let other = get_or-set_other s.slots load.slot place.slot new None (not_loaded s run place load sub.payload at takes.passed) in
+        let other = get_or-set_other s.slots load.slot place.slot new None (not_loaded s run place load sub.input at takes.passed) in
         record {
           source = grows_by_none (zone_at s.namespace place.source).blocks;
           program = subst (SameProgram (program_at s place.slot)) (sym other) (same_program (program_at s place.slot));

@@ -2,7 +2,7 @@
 use Rattle.std.proofs.Common.{suc, ◌≡◌, ℕ, List, [], ◌∷◌, ◌++◌, map, Option, Some, None, refl, ap, sym, subst, ◌∙◌, append_assoc}
 use Rattle.std.proofs.lemmas.List.{map-append}
 use Rattle.reg_domain.specs.Domain.{Operations}
-use Rattle.device_events.specs.Replies.{Taken, and_then}
+use Rattle.device_events.specs.Replies.{ReplyWithData, and_then}
 use Rattle.pushdown.specs.Draining.{AreLowest, Drains, answers_to_turns, lowest_run, state_after_turns}
 use Rattle.pushdown.specs.Events.{Occurrence, answers_to, state_after}
 use Rattle.pushdown.specs.Machine.{happens, turned}
@@ -10,7 +10,7 @@ use Rattle.pushdown.specs.Parts.{DrainedByTurns, DrainedInOneWay, InParts, OneAn
 use Rattle.pushdown.specs.State.{State}
 use Rattle.device_events.specs.declared.event.Event.{Event}
 
-pub and_then-and_then : (before : Option (List Taken)) (first later : List Taken) → and_then (and_then before first) later ≡ and_then before (first ++ later)
+pub and_then-and_then : (before : Option (List ReplyWithData)) (first later : List ReplyWithData) → and_then (and_then before first) later ≡ and_then before (first ++ later)
 and_then-and_then None first later = refl
 and_then-and_then (Some xs) first later = ap Some (append_assoc xs first later)
 
@@ -32,20 +32,20 @@ module _ {D : Type 0} (operations : Operations D) where
       ≡ answers_to operations first s ++ answers_to operations later (state_after operations first s)
   answers_to-append [] later s = refl
   answers_to-append (o ∷ os) later s =
-      ap (λ (answers : List Taken). (happens operations s o.starved o.event).answer ∷ answers) (answers_to-append os later (next o s))
+      ap (λ (answers : List ReplyWithData). (happens operations s o.starved o.event).answer ∷ answers) (answers_to-append os later (next o s))
 
   pub in_parts : InParts operations
   in_parts first later s = record { answers = answers_to-append first later s; state = state_after-append first later s }
 
   -- the answers that were taken, with those of later events behind them
-  taken_in_parts : (first later : List Occurrence) (old between : State) (before then taken : Option (List Taken))
+  taken_in_parts : (first later : List Occurrence) (old between : State) (before then taken : Option (List ReplyWithData))
       → between ≡ state_after operations first old → then ≡ and_then before (answers_to operations first old)
       → taken ≡ and_then then (answers_to operations later between)
       → taken ≡ and_then before (answers_to operations (first ++ later) old)
   taken_in_parts first later old between before then taken state early late =
       let done = answers_to operations first old in
       late
-      ∙ ap (λ (b : Option (List Taken)). and_then b (answers_to operations later between)) early
+      ∙ ap (λ (b : Option (List ReplyWithData)). and_then b (answers_to operations later between)) early
       ∙ and_then-and_then before done (answers_to operations later between)
       ∙ ap (λ (s : State). and_then before (done ++ answers_to operations later s)) state
       ∙ ap (and_then before) (sym (answers_to-append first later old))
@@ -76,7 +76,7 @@ module _ {D : Type 0} (operations : Operations D) where
   pub turns_answers : (runs : List ℕ) (s : State) → answers_to_turns runs s ≡ answers_to operations (turn_events runs) s
   turns_answers [] s = refl
   turns_answers (run ∷ runs) s =
-      ap (λ (answers : List Taken). (turned s run).answer ∷ answers) (turns_answers runs (turned s run).state)
+      ap (λ (answers : List ReplyWithData). (turned s run).answer ∷ answers) (turns_answers runs (turned s run).state)
 
   pub drained_by_turns : DrainedByTurns operations
   drained_by_turns runs s = record { answers = turns_answers runs s; state = turns_state runs s }

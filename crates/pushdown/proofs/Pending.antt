@@ -10,7 +10,7 @@ use Rattle.reg_domain.specs.Domain.{Operations}
 use Rattle.zns_commands.specs.Transfer.{transfer_checks}
 use Rattle.pushdown.specs.Admission.{Loaded}
 use Rattle.pushdown.specs.Answers.{Happening, Submission, plain}
-use Rattle.device_events.specs.Replies.{Taken}
+use Rattle.device_events.specs.Replies.{ReplyWithData}
 use Rattle.pushdown.specs.Laws.{PendingIsAdmitted}
 use Rattle.pushdown.specs.Machine.{result_by, start_by, submitted, why_not_run}
 use Rattle.pushdown.specs.Pushdown.{IsAdmitted}
@@ -26,9 +26,9 @@ number_in reply.Idle = 0
 number_in reply.Done = 0
 number_in reply.FaultRefused = 0
 
-other_reply : (t : Taken) (run : ℕ) → is_pending t.reply ≡ false → t ≡ plain (reply.Pending run) → ⊥
+other_reply : (t : ReplyWithData) (run : ℕ) → is_pending t.reply ≡ false → t ≡ plain (reply.Pending run) → ⊥
 other_reply t run other is =
-    let pends_so : is_pending t.reply ≡ true = ap (λ (x : Taken). is_pending x.reply) is in cc
+    let pends_so : is_pending t.reply ≡ true = ap (λ (x : ReplyWithData). is_pending x.reply) is in cc
 
 abbrev IsPending : ℕ → Happening → Type 0
 IsPending run h = h.answer ≡ plain (reply.Pending run)
@@ -42,7 +42,7 @@ start_pends : (why : Option Status) (free : Option ℕ) (sub : Submission) (s : 
     → IsPending run (start_by why free sub s order) → (why ≡ None) × (free ≡ Some run)
 start_pends (Some status) free sub s order run is = absurd (other_reply _ run refl is)
 start_pends None None sub s order run is = absurd (other_reply _ run refl is)
-start_pends None (Some first) sub s order run is = let same : first ≡ run = ap (λ (x : Taken). number_in x.reply) is in (refl, ap Some same)
+start_pends None (Some first) sub s order run is = let same : first ≡ run = ap (λ (x : ReplyWithData). number_in x.reply) is in (refl, ap Some same)
 
 module _ {D : Type 0} (operations : Operations D) where
   pends : (starved : Bool) (sub : Submission) (s : State) (asked : Result Command Status) (run : ℕ) → decoded sub.entry ≡ asked
@@ -55,8 +55,8 @@ module _ {D : Type 0} (operations : Operations D) where
       let both = start_pends (why_not_run sub s order) (free_run s) sub s order run is in
       (order, record { asked = e; passed = both.0; free = both.1 })
   pends starved sub s (Ok (command.Result slot)) run e is =
-      absurd (given_pends (program_at s slot) (first_refused (transfer_checks 0 0 sub.payload)) sub s run is)
+      absurd (given_pends (program_at s slot) (first_refused (transfer_checks 0 0 sub.input)) sub s run is)
 
   pub pending_is_admitted : PendingIsAdmitted operations
-  pending_is_admitted s starved queue entry payload run is =
-      pends starved (record { queue = queue; entry = entry; payload = payload.items }) s (decoded entry) run refl is
+  pending_is_admitted s starved queue entry input run is =
+      pends starved (record { queue = queue; entry = entry; input = input.items }) s (decoded entry) run refl is

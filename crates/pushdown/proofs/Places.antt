@@ -102,7 +102,7 @@ pub admitted_free : (sub : Submission) (s : State) (order : RunCommand) → why_
 admitted_free sub s order none =
     let holds = holds_of s in
     let z = destination_zone s.namespace order in
-    let checks = admission_checks s.namespace holds (is_some (free_run s)) (program_at s order.slot) order sub.payload in
+    let checks = admission_checks s.namespace holds (is_some (free_run s)) (program_at s order.slot) order sub.input in
     not_true (is_destination holds z) (demanded (not (is_destination holds z)) ZONE_HELD (passed checks 11 none))
 
 -- a run to a zone that no other has

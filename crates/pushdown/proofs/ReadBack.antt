@@ -85,8 +85,8 @@ module _ {D : Type 0} (operations : Operations D) where
   -- an event that submits a command is completed with the command's meaning
   completed : (e : Event) (c : StandardCommand) (input : List ℕ) (s : State) (starved : Bool)
       → Submits e c input → IsCompleted e s (meaning s.namespace (holds_of s) c input) (happens operations s starved e)
-  completed (event.Submit queue entry payload) c input s starved is =
-      let sub : Submission = record { queue = queue; entry = entry; payload = payload.items } in
+  completed (event.Submit queue entry bytes) c input s starved is =
+      let sub : Submission = record { queue = queue; entry = entry; input = bytes.items } in
       ap (λ (r : Result Command Status). submitted operations starved sub s r) is.0
       ∙ ap (λ (bytes : List ℕ). commanded sub s (meaning s.namespace (holds_of s) c bytes)) is.1
   completed (event.Turn run) c input s starved is = absurd is
@@ -94,13 +94,13 @@ module _ {D : Type 0} (operations : Operations D) where
 
   leaves : (e : Event) (c : StandardCommand) (input : List ℕ) (s : State) (starved : Bool) → Submits e c input
       → (happens operations s starved e).state.namespace ≡ (meaning s.namespace (holds_of s) c input).namespace
-  leaves (event.Submit queue entry payload) c input s starved is =
-      ap (λ (h : Happening). h.state.namespace) (completed (event.Submit queue entry payload) c input s starved is)
+  leaves (event.Submit queue entry bytes) c input s starved is =
+      ap (λ (h : Happening). h.state.namespace) (completed (event.Submit queue entry bytes) c input s starved is)
   leaves (event.Turn run) c input s starved is = absurd is
   leaves (event.Fault zone state) c input s starved is = absurd is
 
   has_blocks : (e : Event) (c : StandardCommand) (input : List ℕ) → Submits e c input → HasBlocks (command.Standard c)
-  has_blocks (event.Submit queue entry payload) c input is = decoded_has entry (command.Standard c) is.0
+  has_blocks (event.Submit queue entry bytes) c input is = decoded_has entry (command.Standard c) is.0
   has_blocks (event.Turn run) c input is = absurd is
   has_blocks (event.Fault zone state) c input is = absurd is
 

@@ -32,41 +32,41 @@ none_beside [] none = λ i. omega arith
 none_beside (x ∷ xs) none = absurd (omega (arith, none))
 
 -- no data stands beside a Run
-admitted_bytes : (s : State) (sub : Submission) (order : RunCommand) (run : ℕ) → IsAdmitted s sub order run → AreBytes sub.payload
+admitted_bytes : (s : State) (sub : Submission) (order : RunCommand) (run : ℕ) → IsAdmitted s sub order run → AreBytes sub.input
 admitted_bytes s sub order run admitted =
-    let checks = admission_checks s.namespace (holds_of s) (is_some (free_run s)) (program_at s order.slot) order sub.payload in
-    let test = nat_eq (length sub.payload) 0 in
-    none_beside sub.payload (eqb-true (length sub.payload) 0 (demanded test INVALID_FIELD_IN_COMMAND (passed checks 1 admitted.passed)))
+    let checks = admission_checks s.namespace (holds_of s) (is_some (free_run s)) (program_at s order.slot) order sub.input in
+    let test = nat_eq (length sub.input) 0 in
+    none_beside sub.input (eqb-true (length sub.input) 0 (demanded test INVALID_FIELD_IN_COMMAND (passed checks 1 admitted.passed)))
 
 module _ {D : Type 0} (operations : Operations D) (never : AcceptedNeverTraps operations) (ns : ZonedNamespace) (before : List Occurrence)
-    (is : IsNamespace ns) (are : AreEvents before) (queue : ℕ) (entry : List ℕ) (payload : Vec ℕ Global) (starved : Bool) (order : RunCommand) (run : ℕ)
+    (is : IsNamespace ns) (are : AreEvents before) (queue : ℕ) (entry : List ℕ) (input : Vec ℕ Global) (starved : Bool) (order : RunCommand) (run : ℕ)
     (events later : List Occurrence) where
   abbrev s : State
   s = state_after operations before (new_state ns)
 
   abbrev sub : Submission
-  sub = record { queue = queue; entry = entry; payload = payload.items }
+  sub = record { queue = queue; entry = entry; input = input.items }
 
   abbrev turns : List Turn
-  turns = (place operations s queue entry payload starved order run events later).turns
+  turns = (place operations s queue entry input starved order run events later).turns
 
   abbrev destination : ℕ
-  destination = (place operations s queue entry payload starved order run events later).destination
+  destination = (place operations s queue entry input starved order run events later).destination
 
   abbrev start : ℕ
-  start = pointer operations s queue entry payload starved order run events later
+  start = pointer operations s queue entry input starved order run events later
 
   abbrev so_far : ℕ
-  so_far = done operations s queue entry payload starved order run events later
+  so_far = done operations s queue entry input starved order run events later
 
   abbrev asked : Occurrence
-  asked = submitted operations s queue entry payload starved order run events later
+  asked = submitted operations s queue entry input starved order run events later
 
   abbrev now : State
   now = state_after operations (asked ∷ events) s
 
   abbrev next : State
-  next = after_turn operations s queue entry payload starved order run events later
+  next = after_turn operations s queue entry input starved order run events later
 
   abbrev last : State
   last = state_after operations later next
@@ -92,11 +92,11 @@ module _ {D : Type 0} (operations : Operations D) (never : AcceptedNeverTraps op
         let next_fine = turn_fine operations never ns.block now run now_fine in
         (events_fine operations never ns.block later next next_fine fit_later).is
 
-    appended_are_read : AppendedAreRead operations s queue entry payload starved order run events later
+    appended_are_read : AppendedAreRead operations s queue entry input starved order run events later
     appended_are_read at blocks within some transfer =
         let held = blocks_at s destination in
         let all = appended_by (take (so_far + 1) turns) in
-        let theorem = pushdown operations never ns before is are queue entry payload starved order run events admitted in
+        let theorem = pushdown operations never ns before is are queue entry input starved order run events admitted in
         let grows = (events_keep operations later next destination none).blocks in
         let lie : blocks_at last destination ≡ held ++ (all ++ grows.more) =
         grows.is ∙ (ap (λ (xs : List (List ℕ)). xs ++ grows.more) (theorem.does_its_turns less).then_appended ∙ append_assoc held all grows.more) in
@@ -104,7 +104,7 @@ module _ {D : Type 0} (operations : Operations D) (never : AcceptedNeverTraps op
         subst (λ (x : Shape). AreRead operations last (destination * x.size + length held + at) blocks (bytes_of (take blocks (drop at all)))) last_shape
         (part_is_read operations last destination held all grows.more at blocks last_sound lie within some few)
 
-    emitted_are_read : so_far + 1 ≡ length turns → EmittedAreRead operations s queue entry payload starved order run events later
+    emitted_are_read : so_far + 1 ≡ length turns → EmittedAreRead operations s queue entry input starved order run events later
     emitted_are_read ended =
         let whole : appended_by (take (so_far + 1) turns) ≡ appended_by turns = ap appended_by (take_all (so_far + 1) turns (omega (arith, ended))) in
         let parts = subst PartsAreRead whole appended_are_read in
@@ -121,7 +121,7 @@ module _ {D : Type 0} (operations : Operations D) (never : AcceptedNeverTraps op
         )
 
 pub runs_read_back : {D : Type 0} (operations : Operations D) → AcceptedNeverTraps operations → RunsReadBack operations
-runs_read_back operations never ns before is are queue entry payload starved order run events later admitted fit fit_later less none = (
-  appended_are_read operations never ns before is are queue entry payload starved order run events later admitted fit fit_later less none,
-  emitted_are_read operations never ns before is are queue entry payload starved order run events later admitted fit fit_later less none,
+runs_read_back operations never ns before is are queue entry input starved order run events later admitted fit fit_later less none = (
+  appended_are_read operations never ns before is are queue entry input starved order run events later admitted fit fit_later less none,
+  emitted_are_read operations never ns before is are queue entry input starved order run events later admitted fit fit_later less none,
 )

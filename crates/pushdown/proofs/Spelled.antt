@@ -44,13 +44,13 @@ decoded_has entry c e =
     let o = unwrap_or found opcode.Read in
     subst HasBlocks (allowed_is (first_refused (entry_checks found entry)) (command_of o entry) c e) (named o entry)
 
-pub spelled : (holds : Holds) (c : StandardCommand) (payload : List ℕ) → HasBlocks (command.Standard c) → AreBytes payload
-    → IsSpelled (Commanded holds c payload)
-spelled holds (Write lba blocks) payload some fit = (some, fit)
-spelled holds (Append lba blocks) payload some fit = (some, fit)
-spelled holds (Read lba blocks) payload some fit = tt
-spelled holds (Send lba action select_all) payload some fit = tt
-spelled holds (Receive lba dwords filter partial) payload some fit = tt
+pub spelled : (holds : Holds) (c : StandardCommand) (input : List ℕ) → HasBlocks (command.Standard c) → AreBytes input
+    → IsSpelled (Commanded holds c input)
+spelled holds (Write lba blocks) input some fit = (some, fit)
+spelled holds (Append lba blocks) input some fit = (some, fit)
+spelled holds (Read lba blocks) input some fit = tt
+spelled holds (Send lba action select_all) input some fit = tt
+spelled holds (Receive lba dwords filter partial) input some fit = tt
 
 pub just_one : (step : Step) → IsSpelled step → All IsSpelled (step ∷ [])
 just_one step is zero other h = is

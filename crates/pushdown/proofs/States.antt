@@ -152,17 +152,17 @@ module _ {D : Type 0} (operations : Operations D) (never : AcceptedNeverTraps op
       let test = demanded (nat_le load.limit s.namespace.block) INVALID_FIELD_IN_COMMAND (passed (load_checks s load input) 2 none) in
       subst (λ (n : ℕ). load.limit ≤ n) h.size (leb-true load.limit s.namespace.block test)
 
-  taken_accepted : (sub : Submission) (s t : State) (load : LoadCommand) (h : IsFine s) → AreBytes sub.payload
+  taken_accepted : (sub : Submission) (s t : State) (load : LoadCommand) (h : IsFine s) → AreBytes sub.input
       → (takes : TakesSlot operations sub s load t) → IsAccepted (just_loaded takes.program load.limit)
   taken_accepted sub s t load h are takes =
       let judge : ℕ → Option Refusal = λ n. refusal operations takes.program (record { block = n; limit = load.limit }) in
       record {
-        program = (decoded_is_spelled sub.payload takes.program are takes.read).0;
-        sizes = record { block_size = subst IsBlockSize h.size h.is.shape.block_size; fits = within s load sub.payload h takes.passed };
+        program = (decoded_is_spelled sub.input takes.program are takes.read).0;
+        sizes = record { block_size = subst IsBlockSize h.size h.is.shape.block_size; fits = within s load sub.input h takes.passed };
         accepted = ap judge (sym h.size) ∙ takes.accepted;
       }
 
-  load_fine : (sub : Submission) (s t : State) (load : LoadCommand) → IsFine s → AreBytes sub.payload → (takes : TakesSlot operations sub s load t)
+  load_fine : (sub : Submission) (s t : State) (load : LoadCommand) → IsFine s → AreBytes sub.input → (takes : TakesSlot operations sub s load t)
       → IsFine (with_slot s load.slot (Some (just_loaded takes.program load.limit)))
   load_fine sub s t load h are takes = record {
     is = h.is;
@@ -197,7 +197,7 @@ module _ {D : Type 0} (operations : Operations D) (never : AcceptedNeverTraps op
     runs = runs_of task source
 
     abbrev checks : List (Option Status)
-    checks = admission_checks s.namespace (holds_of s) (is_some (free_run s)) (program_at s order.slot) order sub.payload
+    checks = admission_checks s.namespace (holds_of s) (is_some (free_run s)) (program_at s order.slot) order sub.input
 
     pub ready : IsReady task
     ready =

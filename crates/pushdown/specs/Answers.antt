@@ -4,17 +4,17 @@ use Rattle.zone_state.specs.declared.status.Status.{Status}
 use Rattle.nvme_entry.specs.Completion.{completion_bytes}
 use Rattle.nvme_entry.specs.Entry.{identifier_of}
 use Rattle.pushdown.specs.State.{State}
-use Rattle.device_events.specs.Replies.{Taken}
+use Rattle.device_events.specs.Replies.{ReplyWithData}
 use Rattle.device_events.specs.declared.reply.Reply.{Reply}
 use Rattle.device_events.specs.declared.reply.Reply.TheVariants as reply
 
 -- the answer to an event, and the state after it
 pub record Happening : Type 0 where
-  pub answer : Taken
+  pub answer : ReplyWithData
   pub state : State
 
 -- an answer without data
-abbrev pub plain : Reply → Taken
+abbrev pub plain : Reply → ReplyWithData
 plain r = record { reply = r; bytes = [] }
 
 -- the reply that is a completion, with so many bytes of data
@@ -23,7 +23,7 @@ completion_reply queue cid status dw0 dw1 bytes =
     reply.Complete queue (completion_bytes (record { dw0 = dw0; dw1 = dw1; queue = queue; cid = cid; status = status })) bytes
 
 -- a completion, with the data that goes with it
-abbrev pub completion : ℕ → ℕ → Status → ℕ → ℕ → List ℕ → Taken
+abbrev pub completion : ℕ → ℕ → Status → ℕ → ℕ → List ℕ → ReplyWithData
 completion queue cid status dw0 dw1 output =
     record { reply = completion_reply queue cid status dw0 dw1 (length output); bytes = output }
 
@@ -31,7 +31,7 @@ completion queue cid status dw0 dw1 output =
 pub record Submission : Type 0 where
   pub queue : ℕ
   pub entry : List ℕ
-  pub payload : List ℕ
+  pub input : List ℕ
 
 -- an entry that is answered at once goes back to its queue with its identifier (NVMe Base 2.0, 3.3.3.2)
 abbrev pub completed : Submission → Status → ℕ → ℕ → List ℕ → State → Happening

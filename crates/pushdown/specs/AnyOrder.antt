@@ -4,7 +4,7 @@ use Rattle.std.specs.List.{filter, zip}
 use Rattle.reg_domain.specs.Domain.{Operations}
 use Rattle.image_store.specs.Namespace.{ZonedNamespace, IsNamespace}
 use Rattle.pushdown.specs.Admission.{SameProgram}
-use Rattle.device_events.specs.Replies.{Taken}
+use Rattle.device_events.specs.Replies.{ReplyWithData}
 use Rattle.pushdown.specs.Draining.{answers_to_turns, state_after_turns}
 use Rattle.pushdown.specs.Events.{Occurrence, state_after}
 use Rattle.pushdown.specs.Pushdown.{AreEvents}
@@ -15,7 +15,7 @@ abbrev pub AreSameTurns : List ℕ → List ℕ → Type 0
 AreSameTurns first second = (run : ℕ) → count_by (λ r. r == run) first ≡ count_by (λ r. r == run) second
 
 -- of the answers to turns of these runs, those to the turns of one run, in order
-abbrev pub own_answers : ℕ → List ℕ → List Taken → List Taken
+abbrev pub own_answers : ℕ → List ℕ → List ReplyWithData → List ReplyWithData
 own_answers run runs answers = map (λ x. x.1) (filter (λ x. x.0 == run) (zip runs answers))
 
 -- no two active runs have their program in this slot

@@ -1,6 +1,6 @@
 -- Turns of the lowest active run, until no run is left.
 use Rattle.std.specs.Prelude.{ℕ, ◌≡◌, ◌≤◌, ◌+◌, ◌-◌, List, [], ◌∷◌, length, position, take, is_some, Option, Some, None}
-use Rattle.device_events.specs.Replies.{Taken, and_then}
+use Rattle.device_events.specs.Replies.{ReplyWithData, and_then}
 use Rattle.pushdown.specs.Machine.{turned}
 use Rattle.pushdown.specs.State.{Place, State}
 
@@ -9,7 +9,7 @@ abbrev pub lowest_run : State → Option ℕ
 lowest_run s = position is_some s.places
 
 -- the turns of these runs, one after another: their answers, and the state after them
-abbrev pub answers_to_turns : List ℕ → State → List Taken
+abbrev pub answers_to_turns : List ℕ → State → List ReplyWithData
 answers_to_turns [] s = []
 answers_to_turns (run ∷ runs) s = (turned s run).answer ∷ answers_to_turns runs (turned s run).state
 
@@ -38,7 +38,7 @@ pub record Drains (s : State) (runs : List ℕ) : Type 0 where
   pub few : length runs ≤ turns_left s.places
 
 -- what a device does that is drained, whose answers are taken, where that is told
-pub record HasDrained (old new : State) (before taken : Option (List Taken)) : Type 0 where
+pub record HasDrained (old new : State) (before taken : Option (List ReplyWithData)) : Type 0 where
   pub runs : List ℕ
   pub drains : Drains old runs
   pub state : new ≡ state_after_turns runs old
@@ -46,7 +46,7 @@ pub record HasDrained (old new : State) (before taken : Option (List Taken)) : T
 
 -- so many turns are done, each of the lowest active run of then, and the answer to the last of them was
 -- refused; those before it were taken
-pub record StopsDraining (old new : State) (before taken : Option (List Taken)) (done : ℕ) : Type 0 where
+pub record StopsDraining (old new : State) (before taken : Option (List ReplyWithData)) (done : ℕ) : Type 0 where
   pub runs : List ℕ
   pub lowest : AreLowest runs old
   pub some : 1 ≤ done

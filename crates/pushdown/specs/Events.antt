@@ -1,7 +1,7 @@
 -- Lists of events.
 use Rattle.std.specs.Prelude.{ℕ, Bool, ◌≡◌, ◌≤◌, ◌-◌, List, [], ◌∷◌, length, map, take, Option}
 use Rattle.reg_domain.specs.Domain.{Operations}
-use Rattle.device_events.specs.Replies.{Taken, and_then}
+use Rattle.device_events.specs.Replies.{ReplyWithData, and_then}
 use Rattle.pushdown.specs.Machine.{happens}
 use Rattle.pushdown.specs.State.{State}
 use Rattle.device_events.specs.declared.event.Event.{Event}
@@ -13,7 +13,7 @@ pub record Occurrence : Type 0 where
 
 module _ {D : Type 0} (operations : Operations D) where
   -- the answers to events, in order
-  abbrev pub answers_to : List Occurrence → State → List Taken
+  abbrev pub answers_to : List Occurrence → State → List ReplyWithData
   answers_to [] s = []
   answers_to (o ∷ os) s = (happens operations s o.starved o.event).answer ∷ answers_to os (happens operations s o.starved o.event).state
 
@@ -31,20 +31,20 @@ AreOf events occurrences = map (λ o. o.event) occurrences ≡ events
 
 module _ {D : Type 0} (operations : Operations D) where
   -- one event led from one state to the other, and was answered so
-  pub record HasHappened (e : Event) (old new : State) (answer : Taken) : Type 0 where
+  pub record HasHappened (e : Event) (old new : State) (answer : ReplyWithData) : Type 0 where
     pub starved : Bool
     pub state : new ≡ (happens operations old starved e).state
     pub answered : answer ≡ (happens operations old starved e).answer
 
   -- events were done, and their answers taken, where that is told
-  pub record HasServed (events : List Event) (old new : State) (before taken : Option (List Taken)) : Type 0 where
+  pub record HasServed (events : List Event) (old new : State) (before taken : Option (List ReplyWithData)) : Type 0 where
     pub occurrences : List Occurrence
     pub are : AreOf events occurrences
     pub state : new ≡ state_after operations occurrences old
     pub answers : taken ≡ and_then before (answers_to operations occurrences old)
 
   -- so many events are done, and the answer to the last of them was refused; those before it were taken
-  pub record HasStopped (events : List Event) (old new : State) (before taken : Option (List Taken)) (done : ℕ) : Type 0 where
+  pub record HasStopped (events : List Event) (old new : State) (before taken : Option (List ReplyWithData)) (done : ℕ) : Type 0 where
     pub some : 1 ≤ done
     pub within : done ≤ length events
     pub occurrences : List Occurrence

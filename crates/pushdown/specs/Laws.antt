@@ -95,16 +95,16 @@ pub record StartsRun (s : State) (sub : Submission) (order : RunCommand) (run : 
 
 abbrev pub AdmittedStarts : {D : Type 0} → Operations D → Type 0
 AdmittedStarts operations =
-    (s : State) (starved : Bool) (queue : ℕ) (entry : List ℕ) (payload : Vec ℕ Global) (order : RunCommand) (run : ℕ)
-    → let sub : Submission = record { queue = queue; entry = entry; payload = payload.items } in
-    IsAdmitted s sub order run → StartsRun s sub order run (happens operations s starved (event.Submit queue entry payload))
+    (s : State) (starved : Bool) (queue : ℕ) (entry : List ℕ) (input : Vec ℕ Global) (order : RunCommand) (run : ℕ)
+    → let sub : Submission = record { queue = queue; entry = entry; input = input.items } in
+    IsAdmitted s sub order run → StartsRun s sub order run (happens operations s starved (event.Submit queue entry input))
 
 -- and where an entry is answered Pending, a Run was admitted
 abbrev pub PendingIsAdmitted : {D : Type 0} → Operations D → Type 0
 PendingIsAdmitted operations =
-    (s : State) (starved : Bool) (queue : ℕ) (entry : List ℕ) (payload : Vec ℕ Global) (run : ℕ)
-    → (happens operations s starved (event.Submit queue entry payload)).answer ≡ plain (reply.Pending run)
-    → (order : RunCommand) × IsAdmitted s (record { queue = queue; entry = entry; payload = payload.items }) order run
+    (s : State) (starved : Bool) (queue : ℕ) (entry : List ℕ) (input : Vec ℕ Global) (run : ℕ)
+    → (happens operations s starved (event.Submit queue entry input)).answer ≡ plain (reply.Pending run)
+    → (order : RunCommand) × IsAdmitted s (record { queue = queue; entry = entry; input = input.items }) order run
 
 -- an event that is no turn of a run leaves its turns as they were
 abbrev pub ForeignLeavesTurns : {D : Type 0} → Operations D → Type 0

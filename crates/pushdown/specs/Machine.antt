@@ -24,7 +24,7 @@ use Rattle.zns_commands.specs.Fault.{fault_answer, faulted}
 use Rattle.zns_commands.specs.Meaning.{meaning}
 use Rattle.zns_commands.specs.Transfer.{transfer_checks}
 use Rattle.pushdown.specs.Admission.{Loaded, run_refusal, source_blocks, task_of, source_zone, destination_zone}
-use Rattle.device_events.specs.Replies.{Taken}
+use Rattle.device_events.specs.Replies.{ReplyWithData}
 use Rattle.pushdown.specs.Answers.{Happening, Submission, plain, completion, completed, refused, idle}
 use Rattle.pushdown.specs.BlockRuns.{no_scratch}
 use Rattle.pushdown.specs.Outcome.{Turn, Ending, outcome}
@@ -71,10 +71,10 @@ module _ {D : Type 0} (operations : Operations D) where
   abbrev pub load_unless : Option Status → Bool → Submission → State → LoadCommand → Happening
   load_unless (Some status) starved sub s load = refused sub status s
   load_unless None true sub s load = refused sub WANT_OF_MEMORY s
-  load_unless None false sub s load = read_program sub s load (program_in_bytes sub.payload)
+  load_unless None false sub s load = read_program sub s load (program_in_bytes sub.input)
 
   abbrev pub loading : Bool → Submission → State → LoadCommand → Happening
-  loading starved sub s load = load_unless (first_refused (load_checks s load sub.payload)) starved sub s load
+  loading starved sub s load = load_unless (first_refused (load_checks s load sub.input)) starved sub s load
 
 -- ---- Result
 
@@ -84,7 +84,7 @@ result_by None None sub s = refused sub NO_SUCH_PROGRAM s
 result_by (Some loaded) None sub s = completed sub SUCCESS 0 0 loaded.result s
 
 abbrev pub giving_result : Submission → State → ℕ → Happening
-giving_result sub s slot = result_by (program_at s slot) (first_refused (transfer_checks 0 0 sub.payload)) sub s
+giving_result sub s slot = result_by (program_at s slot) (first_refused (transfer_checks 0 0 sub.input)) sub s
 
 -- ---- Run
 
@@ -102,7 +102,7 @@ admitted_place sub s order = record {
 -- the status of the first check that a run fails
 abbrev pub why_not_run : Submission → State → RunCommand → Option Status
 why_not_run sub s order =
-    run_refusal s.namespace (holds_of s) (is_some (free_run s)) (program_at s order.slot) order sub.payload
+    run_refusal s.namespace (holds_of s) (is_some (free_run s)) (program_at s order.slot) order sub.input
 
 -- an admitted run takes the lowest free run number; that there is one is among the checks
 abbrev pub start_by : Option Status → Option ℕ → Submission → State → RunCommand → Happening
@@ -136,7 +136,7 @@ slots_left s place None = s.slots
 slots_left s place (Some ending) = set s.slots place.slot (keeping (program_at s place.slot) ending.result)
 
 -- the answer to a turn: the run's completion, where it ends the run
-abbrev pub turn_answer : ℕ → Place → Option Ending → Taken
+abbrev pub turn_answer : ℕ → Place → Option Ending → ReplyWithData
 turn_answer run place None = plain (reply.Pending run)
 turn_answer run place (Some ending) = completion place.queue place.cid ending.status ending.dw0 ending.dw1 []
 
@@ -183,14 +183,14 @@ module _ {D : Type 0} (operations : Operations D) where
   -- what an entry comes to that names this command; only Load asks whether memory is refused
   abbrev pub submitted : Bool → Submission → State → Result Command Status → Happening
   submitted starved sub s (Err status) = refused sub status s
-  submitted starved sub s (Ok (command.Standard c)) = commanded sub s (meaning s.namespace (holds_of s) c sub.payload)
+  submitted starved sub s (Ok (command.Standard c)) = commanded sub s (meaning s.namespace (holds_of s) c sub.input)
   submitted starved sub s (Ok (command.Load load)) = loading operations starved sub s load
   submitted starved sub s (Ok (command.Run order)) = starting sub s order
   submitted starved sub s (Ok (command.Result slot)) = giving_result sub s slot
 
   -- what an event comes to, where memory is refused or not
   abbrev pub happens : State → Bool → Event → Happening
-  happens s starved (event.Submit queue entry payload) =
-      submitted starved (record { queue = queue; entry = entry; payload = payload.items }) s (decoded entry)
+  happens s starved (event.Submit queue entry input) =
+      submitted starved (record { queue = queue; entry = entry; input = input.items }) s (decoded entry)
   happens s starved (event.Turn run) = turned s run
   happens s starved (event.Fault zone state) = failed s zone state

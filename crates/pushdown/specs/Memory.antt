@@ -19,7 +19,7 @@ is_load (Err status) = false
 
 -- a Load does
 abbrev pub wants_memory : Event → Bool
-wants_memory (event.Submit queue entry payload) = is_load (decoded entry)
+wants_memory (event.Submit queue entry input) = is_load (decoded entry)
 wants_memory (event.Turn run) = false
 wants_memory (event.Fault zone state) = false
 

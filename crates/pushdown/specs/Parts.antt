@@ -1,7 +1,7 @@
 -- Lists of events, in parts, and turns as events.
 use Rattle.std.specs.Prelude.{ℕ, false, ◌≡◌, List, ◌++◌, length, map, Option, None}
 use Rattle.reg_domain.specs.Domain.{Operations}
-use Rattle.device_events.specs.Replies.{Taken, and_then}
+use Rattle.device_events.specs.Replies.{ReplyWithData, and_then}
 use Rattle.pushdown.specs.Draining.{Drains, HasDrained, answers_to_turns, lowest_run, state_after_turns}
 use Rattle.pushdown.specs.Events.{AreOf, HasServed, Occurrence, answers_to, state_after}
 use Rattle.pushdown.specs.State.{State}
@@ -30,7 +30,7 @@ module _ {D : Type 0} (operations : Operations D) where
 
   -- events were done, and then turns of the lowest active run of then, until no run was left; the answers of
   -- both were taken in order, where that is told
-  pub record HasFinished (events : List Event) (old new : State) (before taken : Option (List Taken)) : Type 0 where
+  pub record HasFinished (events : List Event) (old new : State) (before taken : Option (List ReplyWithData)) : Type 0 where
     pub occurrences : List Occurrence
     pub are : AreOf events occurrences
     pub runs : List ℕ
@@ -45,7 +45,7 @@ InParts operations = (first later : List Occurrence) (s : State) → AreInParts 
 
 abbrev pub ServedInParts : {D : Type 0} → Operations D → Type 0
 ServedInParts operations =
-    (first later : List Event) (old between new : State) (before then taken : Option (List Taken))
+    (first later : List Event) (old between new : State) (before then taken : Option (List ReplyWithData))
     → HasServed operations first old between before then → HasServed operations later between new then taken
     → HasServed operations (first ++ later) old new before taken
 
@@ -59,6 +59,6 @@ DrainedInOneWay = (s : State) (runs others : List ℕ) → Drains s runs → Dra
 -- a device that is served events and then drained has done them and all that they began
 abbrev pub ServedAndDrained : {D : Type 0} → Operations D → Type 0
 ServedAndDrained operations =
-    (events : List Event) (old between new : State) (before then taken : Option (List Taken))
+    (events : List Event) (old between new : State) (before then taken : Option (List ReplyWithData))
     → HasServed operations events old between before then → HasDrained between new then taken
     → HasFinished operations events old new before taken

@@ -34,7 +34,7 @@ use Rattle.device_events.specs.declared.event.Event.TheVariants as event
 
 -- the data beside an entry is bytes
 abbrev pub HasBytes : Event → Type 0
-HasBytes (event.Submit queue entry payload) = AreBytes payload.items
+HasBytes (event.Submit queue entry input) = AreBytes input.items
 HasBytes (event.Turn run) = Unit {0}
 HasBytes (event.Fault zone state) = Unit {0}
 
@@ -43,7 +43,7 @@ AreEvents events = AllByRecursion (λ o. HasBytes o.event) events
 
 abbrev pub is_turn_of : ℕ → Event → Bool
 is_turn_of run (event.Turn other) = other == run
-is_turn_of run (event.Submit queue entry payload) = false
+is_turn_of run (event.Submit queue entry input) = false
 is_turn_of run (event.Fault zone state) = false
 
 abbrev pub one_if : Bool → ℕ
@@ -93,10 +93,10 @@ success_of runs turns = record {
 
 module _ {D : Type 0} (operations : Operations D) where
   -- a Run that is submitted in a state, its number, and the events that follow
-  module _ (s : State) (queue : ℕ) (entry : List ℕ) (payload : Vec ℕ Global) (starved : Bool) (order : RunCommand) (run : ℕ)
+  module _ (s : State) (queue : ℕ) (entry : List ℕ) (input : Vec ℕ Global) (starved : Bool) (order : RunCommand) (run : ℕ)
       (events : List Occurrence) where
     abbrev pub submission : Submission
-    submission = record { queue = queue; entry = entry; payload = payload.items }
+    submission = record { queue = queue; entry = entry; input = input.items }
 
     -- what is fixed at admission: the program and the source blocks, and so the block runs and the turns
     abbrev pub task : Task
@@ -110,7 +110,7 @@ module _ {D : Type 0} (operations : Operations D) where
 
     -- the state that the Run and the events leave, and how many of these are the run's own turns
     abbrev pub now : State
-    now = state_after operations (record { event = event.Submit queue entry payload; starved = starved } ∷ events) s
+    now = state_after operations (record { event = event.Submit queue entry input; starved = starved } ∷ events) s
 
     abbrev pub done : ℕ
     done = own_turns run events
@@ -179,6 +179,6 @@ abbrev pub Pushdown : {D : Type 0} → Operations D → Type 0
 Pushdown operations =
     (ns : ZonedNamespace) (before : List Occurrence) → IsNamespace ns → AreEvents before
     → let s = state_after operations before (new_state ns) in
-    (queue : ℕ) (entry : List ℕ) (payload : Vec ℕ Global) (starved : Bool) (order : RunCommand) (run : ℕ) (after : List Occurrence)
-    → IsAdmitted s (record { queue = queue; entry = entry; payload = payload.items }) order run
-    → IsPushedDown operations s queue entry payload starved order run after
+    (queue : ℕ) (entry : List ℕ) (input : Vec ℕ Global) (starved : Bool) (order : RunCommand) (run : ℕ) (after : List Occurrence)
+    → IsAdmitted s (record { queue = queue; entry = entry; input = input.items }) order run
+    → IsPushedDown operations s queue entry input starved order run after

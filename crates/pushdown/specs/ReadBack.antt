@@ -32,14 +32,14 @@ use Rattle.device_events.specs.declared.event.Event.TheVariants as event
 
 -- the event submits an entry of this command, with these bytes beside it
 abbrev pub Submits : Event → StandardCommand → List ℕ → Type 0
-Submits (event.Submit queue entry payload) c input = (decoded entry ≡ Ok (command.Standard c)) × (payload.items ≡ input)
+Submits (event.Submit queue entry bytes) c input = (decoded entry ≡ Ok (command.Standard c)) × (bytes.items ≡ input)
 Submits (event.Turn run) c input = ⊥
 Submits (event.Fault zone state) c input = ⊥
 
 -- what happens is that the event's entry is completed with this outcome
 abbrev pub IsCompleted : Event → State → Outcome → Happening → Type 0
-IsCompleted (event.Submit queue entry payload) s outcome happening =
-    happening ≡ commanded (record { queue = queue; entry = entry; payload = payload.items }) s outcome
+IsCompleted (event.Submit queue entry input) s outcome happening =
+    happening ≡ commanded (record { queue = queue; entry = entry; input = input.items }) s outcome
 IsCompleted (event.Turn run) s outcome happening = ⊥
 IsCompleted (event.Fault zone state) s outcome happening = ⊥
 
@@ -63,17 +63,17 @@ module _ {D : Type 0} (operations : Operations D) where
       (is_cleared (zone_at next.namespace z).state ≡ false) × NoneClears z os next
 
   -- an admitted Run, the events between it and a turn of it, and events after that turn
-  module _ (s : State) (queue : ℕ) (entry : List ℕ) (payload : Vec ℕ Global) (starved : Bool) (order : RunCommand) (run : ℕ)
+  module _ (s : State) (queue : ℕ) (entry : List ℕ) (input : Vec ℕ Global) (starved : Bool) (order : RunCommand) (run : ℕ)
       (events later : List Occurrence) where
     abbrev pub place : Place
-    place = admitted_place (record { queue = queue; entry = entry; payload = payload.items }) s order
+    place = admitted_place (record { queue = queue; entry = entry; input = input.items }) s order
 
     -- how many of its turns came before that turn
     abbrev pub done : ℕ
     done = own_turns run events
 
     abbrev pub submitted : Occurrence
-    submitted = record { event = event.Submit queue entry payload; starved = starved }
+    submitted = record { event = event.Submit queue entry input; starved = starved }
 
     abbrev pub after_turn : State
     after_turn = (turned (state_after operations (submitted ∷ events) s) run).state
@@ -147,10 +147,10 @@ WriteReadsBack operations s =
 -- one all that its program emitted
 abbrev pub RunReadsBack : {D : Type 0} → Operations D → State → Type 0
 RunReadsBack operations s =
-    (queue : ℕ) (entry : List ℕ) (payload : Vec ℕ Global) (starved : Bool) (order : RunCommand) (run : ℕ) (events later : List Occurrence)
-    → IsAdmitted s (record { queue = queue; entry = entry; payload = payload.items }) order run
+    (queue : ℕ) (entry : List ℕ) (input : Vec ℕ Global) (starved : Bool) (order : RunCommand) (run : ℕ) (events later : List Occurrence)
+    → IsAdmitted s (record { queue = queue; entry = entry; input = input.items }) order run
     → AreEvents events → AreEvents later
-    → IsReadBack operations s queue entry payload starved order run events later
+    → IsReadBack operations s queue entry input starved order run events later
 
 abbrev pub AppendedReadsBack : {D : Type 0} → Operations D → Type 0
 AppendedReadsBack operations = (s : State) → IsNamespace s.namespace → AppendReadsBack operations s

@@ -89,9 +89,9 @@ module _ (ns : ZonedNamespace) (slots : List (Option LoadedProgram)) (runs : Lis
 
   pub why_is : (sub : Submission) (order : RunCommand) → IsReady ns slots runs
       → why_not_run sub (state_of ns slots runs) order
-      ≡ run_refusal ns (held_by runs) (is_some (position is_none runs)) (filled (get_or slots order.slot None)) order sub.payload
+      ≡ run_refusal ns (held_by runs) (is_some (position is_none runs)) (filled (get_or slots order.slot None)) order sub.input
   why_is sub order ready =
       let s = state_of ns slots runs in
-      ap (λ (holds : Holds). run_refusal ns holds (is_some (position is_none s.places)) (program_at s order.slot) order sub.payload) (sym (holds_are ns slots runs ready))
-      ∙ ap (λ (free : Option ℕ). run_refusal ns (held_by runs) (is_some free) (program_at s order.slot) order sub.payload) (free_is ns slots runs)
-      ∙ ap (λ (slot : Option Loaded). run_refusal ns (held_by runs) (is_some (position is_none runs)) slot order sub.payload) (program_is order.slot)
+      ap (λ (holds : Holds). run_refusal ns holds (is_some (position is_none s.places)) (program_at s order.slot) order sub.input) (sym (holds_are ns slots runs ready))
+      ∙ ap (λ (free : Option ℕ). run_refusal ns (held_by runs) (is_some free) (program_at s order.slot) order sub.input) (free_is ns slots runs)
+      ∙ ap (λ (slot : Option Loaded). run_refusal ns (held_by runs) (is_some (position is_none runs)) slot order sub.input) (program_is order.slot)

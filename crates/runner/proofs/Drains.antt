@@ -7,7 +7,7 @@ use Rattle.interval_domain.specs.Intervals.{intervals}
 use Rattle.image_store.specs.Namespace.{ZonedNamespace, zone_at}
 use Rattle.zns_commands.specs.Address.{zone_number}
 use Rattle.pushdown.specs.Admission.{task_of}
-use Rattle.device_events.specs.Replies.{Taken, and_then}
+use Rattle.device_events.specs.Replies.{ReplyWithData, and_then}
 use Rattle.pushdown.specs.Draining.{AreLowest, HasDrained, StopsDraining, answers_to_turns, lowest_run, state_after_turns, turns_left}
 use Rattle.pushdown.specs.Machine.{turned}
 use Rattle.pushdown.specs.State.{State, place_at}
@@ -60,14 +60,14 @@ turns_answers-append : (first later : List ℕ) (s : State)
     → answers_to_turns (first ++ later) s ≡ answers_to_turns first s ++ answers_to_turns later (state_after_turns first s)
 turns_answers-append [] later s = refl
 turns_answers-append (run ∷ runs) later s =
-    ap (λ (answers : List Taken). (turned s run).answer ∷ answers) (turns_answers-append runs later (turned s run).state)
+    ap (λ (answers : List ReplyWithData). (turned s run).answer ∷ answers) (turns_answers-append runs later (turned s run).state)
 
 lowest-append : (first later : List ℕ) (s : State) → AreLowest first s → AreLowest later (state_after_turns first s) → AreLowest (first ++ later) s
 lowest-append [] later s are more = more
 lowest-append (run ∷ runs) later s are more = (are.0, lowest-append runs later (turned s run).state are.1 more)
 
 -- what is done so far: so many turns, each of the lowest active run, whose answers were taken
-pub record IsDraining (old now : State) (first taken : Option (List Taken)) (done : ℕ) : Type 0 where
+pub record IsDraining (old now : State) (first taken : Option (List ReplyWithData)) (done : ℕ) : Type 0 where
   pub runs : List ℕ
   pub lowest : AreLowest runs old
   pub count : length runs ≡ done
@@ -75,7 +75,7 @@ pub record IsDraining (old now : State) (first taken : Option (List Taken)) (don
   pub answers : taken ≡ and_then first (answers_to_turns runs old)
   pub few : done + turns_left now.places ≤ turns_left old.places
 
-module _ (old now new : State) (first then after : Option (List Taken)) (done run : ℕ) (answer : Taken) where
+module _ (old now new : State) (first then after : Option (List ReplyWithData)) (done run : ℕ) (answer : ReplyWithData) where
   more_state : (d : IsDraining old now first then done) → new ≡ (turned now run).state → new ≡ state_after_turns (d.runs ++ run ∷ []) old
   more_state d step = step ∙ ap (λ (s : State). (turned s run).state) d.state ∙ sym (turns_state-append d.runs (run ∷ []) old)
 
@@ -97,9 +97,9 @@ module _ (old now new : State) (first then after : Option (List Taken)) (done ru
       lowest = more_lowest d low;
       count = more_count d;
       state = more_state d step;
-      answers = added ∙ ap (λ (x : Option (List Taken)). and_then x (answer ∷ [])) d.answers
+      answers = added ∙ ap (λ (x : Option (List ReplyWithData)). and_then x (answer ∷ [])) d.answers
           ∙ and_then-and_then first (answers_to_turns d.runs old) (answer ∷ [])
-          ∙ ap (λ (x : Taken). and_then first (answers_to_turns d.runs old ++ x ∷ [])) (answered ∙ ap (λ (s : State). (turned s run).answer) d.state)
+          ∙ ap (λ (x : ReplyWithData). and_then first (answers_to_turns d.runs old ++ x ∷ [])) (answered ∙ ap (λ (s : State). (turned s run).answer) d.state)
           ∙ ap (and_then first) (sym (turns_answers-append d.runs (run ∷ []) old));
       few = more_few;
     }
@@ -120,7 +120,7 @@ module _ (old now new : State) (first then after : Option (List Taken)) (done ru
         }
 
 -- no run is left
-pub drained : (old now : State) (first then : Option (List Taken)) (done : ℕ) → IsDraining old now first then done → lowest_run now ≡ None
+pub drained : (old now : State) (first then : Option (List ReplyWithData)) (done : ℕ) → IsDraining old now first then done → lowest_run now ≡ None
     → HasDrained old now first then
 drained old now first then done d none = record {
   runs = d.runs;
@@ -138,7 +138,7 @@ none_done [] s none = refl
 none_done (run ∷ runs) s none = absurd (omega (arith, none))
 
 -- what bounds the turns that are left before any turn bounded them at first
-pub few_at_first : (old now : State) (first taken : Option (List Taken)) (done most : ℕ) → IsDraining old now first taken done
+pub few_at_first : (old now : State) (first taken : Option (List ReplyWithData)) (done most : ℕ) → IsDraining old now first taken done
     → (done ≡ 0) ⊎ (turns_left old.places ≤ most) → turns_left now.places ≤ most → turns_left old.places ≤ most
 few_at_first old now first taken done most d (inr few) left = few
 few_at_first old now first taken done most d (inl none) left =

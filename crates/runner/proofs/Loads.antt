@@ -76,14 +76,14 @@ module _ (ns : ZonedNamespace) (slots : List (Option Loaded)) (slot : ℕ) (new 
 
 -- ---- the program is put there
 
-module _ (ns : ZonedNamespace) (slots : List (Option LoadedProgram)) (runs : List (Option Held)) (load : LoadCommand) (payload : List ℕ)
+module _ (ns : ZonedNamespace) (slots : List (Option LoadedProgram)) (runs : List (Option Held)) (load : LoadCommand) (input : List ℕ)
     (new : LoadedProgram) (ready : IsReady ns slots runs) (inside : load.slot < length slots)
-    (loadable : IsLoadable load payload (state_of ns slots runs) (program_of new.prepared) (sizes_of new.prepared)) where
+    (loadable : IsLoadable load input (state_of ns slots runs) (program_of new.prepared) (sizes_of new.prepared)) where
   abbrev s : State
   s = state_of ns slots runs
 
   unused : in_use s load.slot ≡ false
-  unused = not_true (in_use s load.slot) (demanded (not (in_use s load.slot)) PROGRAM_IN_USE (passed (load_checks s load payload) 3 loadable.checks))
+  unused = not_true (in_use s load.slot) (demanded (not (in_use s load.slot)) PROGRAM_IN_USE (passed (load_checks s load input) 3 loadable.checks))
 
   put : new.result ≡ no_scratch → state_of ns (set slots load.slot (Some new)) runs
       ≡ with_slot s load.slot (Some (just_loaded (program_of new.prepared) load.limit))
@@ -100,11 +100,11 @@ module _ (ns : ZonedNamespace) (slots : List (Option LoadedProgram)) (runs : Lis
       })
       (all_seen ns (map filled slots) load.slot (Some (just_loaded (program_of new.prepared) load.limit)) (map running runs) unused)
 
-  pub loads : new.result ≡ no_scratch → HasLoaded load payload s (state_of ns (set slots load.slot (Some new)) runs) (success_answer 0 0)
+  pub loads : new.result ≡ no_scratch → HasLoaded load input s (state_of ns (set slots load.slot (Some new)) runs) (success_answer 0 0)
   loads blank = record {
     starved = false;
     happening = λ queue entry.
-        let sub : Submission = record { queue = queue; entry = entry; payload = payload } in
+        let sub : Submission = record { queue = queue; entry = entry; input = input } in
         ap (λ (why : Option Status). load_unless intervals why false sub s load) loadable.checks
         ∙ ap (read_program intervals sub s load) loadable.accepted.spelled
         ∙ ap (judged sub s load (program_of new.prepared)) loadable.accepted.accepted
@@ -134,19 +134,19 @@ module _ (ns : ZonedNamespace) (slots : List (Option LoadedProgram)) (runs : Lis
 
 -- ---- or it is refused
 
-pub refuses_checked : (load : LoadCommand) (payload : List ℕ) (s : State) (status : Status) → Some status ≡ first_refused (load_checks s load payload)
-    → HasLoaded load payload s s (refused_answer status)
-refuses_checked load payload s status why = record {
+pub refuses_checked : (load : LoadCommand) (input : List ℕ) (s : State) (status : Status) → Some status ≡ first_refused (load_checks s load input)
+    → HasLoaded load input s s (refused_answer status)
+refuses_checked load input s status why = record {
   starved = false;
   happening = λ queue entry.
-      ap (λ (o : Option Status). load_unless intervals o false (record { queue = queue; entry = entry; payload = payload }) s load) (sym why);
+      ap (λ (o : Option Status). load_unless intervals o false (record { queue = queue; entry = entry; input = input }) s load) (sym why);
 }
 
-pub refuses_read : (load : LoadCommand) (payload : List ℕ) (s : State) (sizes : Sizes) (answer : Answer) → None ≡ first_refused (load_checks s load payload)
-    → sizes ≡ sizes_for s load → IsNotAccepted payload sizes answer → HasLoaded load payload s s answer
-refuses_read load payload s sizes answer why same refused = record {
+pub refuses_read : (load : LoadCommand) (input : List ℕ) (s : State) (sizes : Sizes) (answer : Answer) → None ≡ first_refused (load_checks s load input)
+    → sizes ≡ sizes_for s load → IsNotAccepted input sizes answer → HasLoaded load input s s answer
+refuses_read load input s sizes answer why same refused = record {
   starved = refused.starved;
   happening = λ queue entry.
-      ap (λ (o : Option Status). load_unless intervals o refused.starved (record { queue = queue; entry = entry; payload = payload }) s load) (sym why)
+      ap (λ (o : Option Status). load_unless intervals o refused.starved (record { queue = queue; entry = entry; input = input }) s load) (sym why)
       ∙ refused.happening queue entry s load (sym same);
 }

@@ -5,7 +5,7 @@ use Rattle.std.specs.declared.alloc.Global.{Global}
 use Rattle.nvme_entry.specs.Entry.{decoded}
 use Rattle.interval_domain.specs.Intervals.{intervals}
 use Rattle.pushdown.specs.Answers.{Happening, Submission}
-use Rattle.device_events.specs.Replies.{Taken}
+use Rattle.device_events.specs.Replies.{ReplyWithData}
 use Rattle.pushdown.specs.Events.{HasHappened, Occurrence}
 use Rattle.pushdown.specs.Machine.{happens, submitted}
 use Rattle.pushdown.specs.Pushdown.{HasBytes}
@@ -31,25 +31,25 @@ reached_more s t o reached has step = record {
 
 -- ---- one event
 
-pub reached_by : (e : Event) (old new : State) (answer : Taken) → IsReached old → HasBytes e → HasHappened intervals e old new answer → IsReached new
+pub reached_by : (e : Event) (old new : State) (answer : ReplyWithData) → IsReached old → HasBytes e → HasHappened intervals e old new answer → IsReached new
 reached_by e old new answer reached has happened =
     let o : Occurrence = record { event = e; starved = happened.starved } in reached_more old new o reached has happened.state
 
 -- the entry of an event, as it was submitted
-as_told : (sub : Submission) (queue : ℕ) (entry payload : List ℕ) → sub.queue ≡ queue → sub.entry ≡ entry → sub.payload ≡ payload
-    → sub ≡ record { queue = queue; entry = entry; payload = payload }
-as_told sub queue entry payload same_queue same_entry same_payload =
-    let made : ℕ → List ℕ → List ℕ → Submission = λ q e p. record { queue = q; entry = e; payload = p } in
-    ap (λ (q : ℕ). made q sub.entry sub.payload) same_queue
-    ∙ ap (λ (e : List ℕ). made queue e sub.payload) same_entry
-    ∙ ap (made queue entry) same_payload
+as_told : (sub : Submission) (queue : ℕ) (entry input : List ℕ) → sub.queue ≡ queue → sub.entry ≡ entry → sub.input ≡ input
+    → sub ≡ record { queue = queue; entry = entry; input = input }
+as_told sub queue entry input same_queue same_entry same_input =
+    let made : ℕ → List ℕ → List ℕ → Submission = λ q e p. record { queue = q; entry = e; input = p } in
+    ap (λ (q : ℕ). made q sub.entry sub.input) same_queue
+    ∙ ap (λ (e : List ℕ). made queue e sub.input) same_entry
+    ∙ ap (made queue entry) same_input
 
-pub submission_happened : (queue : ℕ) (entry : List ℕ) (payload : Vec ℕ Global) (sub : Submission) (old new : State) (answer : Taken)
-    → sub.queue ≡ queue → sub.entry ≡ entry → sub.payload ≡ payload.items
-    → HasSubmitted sub (decoded sub.entry) old new answer → HasHappened intervals (event.Submit queue entry payload) old new answer
-submission_happened queue entry payload sub old new answer same_queue same_entry same_payload h =
-    let told = as_told sub queue entry payload.items same_queue same_entry same_payload in
-    let happening : happens intervals old h.starved (event.Submit queue entry payload) ≡ record { answer = answer; state = new } =
+pub submission_happened : (queue : ℕ) (entry : List ℕ) (input : Vec ℕ Global) (sub : Submission) (old new : State) (answer : ReplyWithData)
+    → sub.queue ≡ queue → sub.entry ≡ entry → sub.input ≡ input.items
+    → HasSubmitted sub (decoded sub.entry) old new answer → HasHappened intervals (event.Submit queue entry input) old new answer
+submission_happened queue entry input sub old new answer same_queue same_entry same_input h =
+    let told = as_told sub queue entry input.items same_queue same_entry same_input in
+    let happening : happens intervals old h.starved (event.Submit queue entry input) ≡ record { answer = answer; state = new } =
     ap (λ (x : Submission). submitted intervals h.starved x old (decoded x.entry)) (sym told) ∙ h.happening in
     record {
       starved = h.starved;

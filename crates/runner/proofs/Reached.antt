@@ -70,13 +70,13 @@ reached_drains s reached =
     (draining_ends intervals never reached.first reached.events reached.namespace reached.bytes)
 
 pub runs_are_pushed_down : RunsArePushedDown
-runs_are_pushed_down s reached queue entry payload starved order run after =
+runs_are_pushed_down s reached queue entry input starved order run after =
     subst
-    (λ (t : State). IsAdmitted t (record { queue = queue; entry = entry; payload = payload.items }) order run
-    → IsPushedDown intervals t queue entry payload starved order run after)
+    (λ (t : State). IsAdmitted t (record { queue = queue; entry = entry; input = input.items }) order run
+    → IsPushedDown intervals t queue entry input starved order run after)
     (sym reached.leaves)
     (λ admitted.
-    pushdown intervals never reached.first reached.events reached.namespace reached.bytes queue entry payload starved order run after admitted)
+    pushdown intervals never reached.first reached.events reached.namespace reached.bytes queue entry input starved order run after admitted)
 
 pub reached_in_any_order : TurnsInAnyOrder
 reached_in_any_order s reached first second same =

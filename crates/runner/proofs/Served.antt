@@ -2,7 +2,7 @@
 use Rattle.std.proofs.Common.{◌≡◌, ℕ, ◌+◌, ◌-◌, ◌<◌, List, [], ◌∷◌, ◌++◌, length, take, get_or, Option, refl, ap, sym, ◌∙◌, arith}
 use Rattle.std.proofs.lemmas.List.{length-map, length-take-le, map_push, take_at, take_more}
 use Rattle.interval_domain.specs.Intervals.{intervals}
-use Rattle.device_events.specs.Replies.{Taken, and_then, data_length}
+use Rattle.device_events.specs.Replies.{ReplyWithData, and_then, data_length}
 use Rattle.pushdown.specs.Events.{AreOf, HasHappened, HasServed, HasStopped, Occurrence, answers_to, state_after}
 use Rattle.pushdown.specs.Machine.{happens}
 use Rattle.pushdown.specs.State.{State}
@@ -12,13 +12,13 @@ use Rattle.pushdown.proofs.Parts.{and_then-and_then, answers_to-append, state_af
 
 -- a reply with the bytes that go with it
 pub with_data : (r : Reply) (n : ℕ) (xs : List ℕ) → n ≡ data_length r
-    → ◌≡◌ {A = Taken} (record { reply = r; bytes = take n xs }) (record { reply = r; bytes = take (data_length r) xs })
+    → ◌≡◌ {A = ReplyWithData} (record { reply = r; bytes = take n xs }) (record { reply = r; bytes = take (data_length r) xs })
 with_data r n xs count =
-    let of : ℕ → Taken = λ m. record { reply = r; bytes = take m xs } in ap of count
+    let of : ℕ → ReplyWithData = λ m. record { reply = r; bytes = take m xs } in ap of count
 
 -- ---- the event at `i` happened, after those before it
 
-module _ (es : List Event) (i : ℕ) (e : Event) (old now new : State) (answer : Taken) where
+module _ (es : List Event) (i : ℕ) (e : Event) (old now new : State) (answer : ReplyWithData) where
   are_more : (os : List Occurrence) (o : Occurrence) → i < length es → e ≡ get_or es i e → o.event ≡ e → AreOf (take i es) os
       → AreOf (take (i + 1) es) (os ++ o ∷ [])
   are_more os o within item is are =
@@ -32,17 +32,17 @@ module _ (es : List Event) (i : ℕ) (e : Event) (old now new : State) (answer :
   state_more os o before step =
       step ∙ ap (λ (s : State). (happens intervals s o.starved o.event).state) before ∙ sym (state_after-append intervals os (o ∷ []) old)
 
-  answers_more : (first then after : Option (List Taken)) (os : List Occurrence) (o : Occurrence) → now ≡ state_after intervals os old
+  answers_more : (first then after : Option (List ReplyWithData)) (os : List Occurrence) (o : Occurrence) → now ≡ state_after intervals os old
       → answer ≡ (happens intervals now o.starved o.event).answer → then ≡ and_then first (answers_to intervals os old)
       → after ≡ and_then then (answer ∷ []) → after ≡ and_then first (answers_to intervals (os ++ o ∷ []) old)
   answers_more first then after os o before step taken added =
-      added ∙ ap (λ (x : Option (List Taken)). and_then x (answer ∷ [])) taken
+      added ∙ ap (λ (x : Option (List ReplyWithData)). and_then x (answer ∷ [])) taken
       ∙ and_then-and_then first (answers_to intervals os old) (answer ∷ [])
-      ∙ ap (λ (x : Taken). and_then first (answers_to intervals os old ++ x ∷ []))
+      ∙ ap (λ (x : ReplyWithData). and_then first (answers_to intervals os old ++ x ∷ []))
       (step ∙ ap (λ (s : State). (happens intervals s o.starved o.event).answer) before)
       ∙ ap (and_then first) (sym (answers_to-append intervals os (o ∷ []) old))
 
-  module _ (first then after : Option (List Taken)) (within : i < length es) (item : e ≡ get_or es i e)
+  module _ (first then after : Option (List ReplyWithData)) (within : i < length es) (item : e ≡ get_or es i e)
       (served : HasServed intervals (take i es) old now first then) (happened : HasHappened intervals e now new answer) where
     o : Occurrence
     o = record { event = e; starved = happened.starved }

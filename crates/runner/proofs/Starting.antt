@@ -33,14 +33,14 @@ module _ (ns : ZonedNamespace) (slots : List (Option LoadedProgram)) (runs : Lis
       (ap (map (seen ns (map filled slots))) (map-set running runs run (Some a))
       ∙ map-set (seen ns (map filled slots)) (map running runs) run (Some (active_of a)))
 
-  pub starts : (order : RunCommand) (queue cid block : ℕ) (admitted : Admitted) (payload : List ℕ) → IsReady ns slots runs
+  pub starts : (order : RunCommand) (queue cid block : ℕ) (admitted : Admitted) (input : List ℕ) → IsReady ns slots runs
       → position is_none runs ≡ Some admitted.run
-      → None ≡ run_refusal ns (held_by runs) (is_some (position is_none runs)) (filled (get_or slots order.slot None)) order payload
-      → Starts order queue cid payload (state_of ns slots runs)
+      → None ≡ run_refusal ns (held_by runs) (is_some (position is_none runs)) (filled (get_or slots order.slot None)) order input
+      → Starts order queue cid input (state_of ns slots runs)
       (state_of ns slots (set runs admitted.run (Some (new_active queue cid order admitted.source admitted.destination block)))) admitted.run
-  starts order queue cid block admitted payload ready free passes entry named =
+  starts order queue cid block admitted input ready free passes entry named =
       let s = state_of ns slots runs in
-      let sub : Submission = record { queue = queue; entry = entry; payload = payload } in
+      let sub : Submission = record { queue = queue; entry = entry; input = input } in
       let a = new_active queue cid order admitted.source admitted.destination block in
       let begins : active_of a ≡ begun sub order =
       ap (λ (n : ℕ). record { queue = queue; cid = n; order = order; so_far = at_admission }) (sym named) in
@@ -50,12 +50,12 @@ module _ (ns : ZonedNamespace) (slots : List (Option LoadedProgram)) (runs : Lis
       (sym (seen_at_admission sub s order) ∙ ap (place_of ns (map filled slots)) (sym begins))
       ∙ ap (λ (t : State). record { answer = plain (reply.Pending admitted.run); state = t }) (sym (placed admitted.run a))
 
-  pub refuses : (order : RunCommand) (payload : List ℕ) (status : Status) → IsReady ns slots runs
-      → Some status ≡ run_refusal ns (held_by runs) (is_some (position is_none runs)) (filled (get_or slots order.slot None)) order payload
-      → Refuses order payload (state_of ns slots runs) status
-  refuses order payload status ready fails queue entry =
+  pub refuses : (order : RunCommand) (input : List ℕ) (status : Status) → IsReady ns slots runs
+      → Some status ≡ run_refusal ns (held_by runs) (is_some (position is_none runs)) (filled (get_or slots order.slot None)) order input
+      → Refuses order input (state_of ns slots runs) status
+  refuses order input status ready fails queue entry =
       let s = state_of ns slots runs in
-      let sub : Submission = record { queue = queue; entry = entry; payload = payload } in
+      let sub : Submission = record { queue = queue; entry = entry; input = input } in
       ap (λ (why : Option Status). start_by why (free_run s) sub s order) (why_is ns slots runs sub order ready ∙ sym fails)
 
   loaded_there : (o : Option LoadedProgram) → is_some o ≡ true → (p : LoadedProgram) × (o ≡ Some p)

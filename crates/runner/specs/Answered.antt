@@ -11,7 +11,7 @@ use Rattle.image_store.specs.Namespace.{ZonedNamespace}
 use Rattle.zns_commands.specs.Meaning.{meaning}
 use Rattle.zns_commands.specs.declared.answer.Answer.{Answer}
 use Rattle.pushdown.specs.Answers.{Happening, Submission, completed, completion_reply, plain, refused}
-use Rattle.device_events.specs.Replies.{Taken}
+use Rattle.device_events.specs.Replies.{ReplyWithData}
 use Rattle.pushdown.specs.Machine.{commanded, giving_result, loading, starting, submitted}
 use Rattle.pushdown.specs.State.{State, holds_of}
 use Rattle.device_events.specs.declared.reply.Reply.{Reply}
@@ -24,7 +24,7 @@ use Rattle.runner.specs.declared.submission.Submission.{Submission as Told}
 
 -- an entry that the code holds, with the data beside it
 abbrev pub told_by : Told → Submission
-told_by s = record { queue = s.queue; entry = s.entry.now; payload = s.payload.now }
+told_by s = record { queue = s.queue; entry = s.entry.now; input = s.input.now }
 
 -- an answer, with the bytes whose first ones are its data, as the completion of an entry
 abbrev pub answered : Submission → Answer → List ℕ → State → Happening
@@ -36,44 +36,44 @@ complete_reply queue cid answer = completion_reply queue cid answer.status answe
 
 -- a standard command led from one namespace to the other, and was answered so; all that a device has
 -- besides is left
-pub record HasExecuted (asked : StandardCommand) (payload : List ℕ) (ns later : ZonedNamespace) (slots : List (Option LoadedProgram))
+pub record HasExecuted (asked : StandardCommand) (input : List ℕ) (ns later : ZonedNamespace) (slots : List (Option LoadedProgram))
     (runs : List (Option Held)) (answer : Answer) (bytes : List ℕ) : Type 0 where
   pub ready : IsReady later slots runs
   pub happening : (queue : ℕ) (entry : List ℕ)
-      → let sub : Submission = record { queue = queue; entry = entry; payload = payload } in
+      → let sub : Submission = record { queue = queue; entry = entry; input = input } in
       let s = state_of ns slots runs in
-      commanded sub s (meaning ns (holds_of s) asked payload) ≡ answered sub answer bytes (state_of later slots runs)
+      commanded sub s (meaning ns (holds_of s) asked input) ≡ answered sub answer bytes (state_of later slots runs)
 
 -- a Load of these bytes was answered so, whatever its queue and its entry, and led from one state to the
 -- other; memory may have been refused to it
-pub record HasLoaded (load : LoadCommand) (payload : List ℕ) (old new : State) (answer : Answer) : Type 0 where
+pub record HasLoaded (load : LoadCommand) (input : List ℕ) (old new : State) (answer : Answer) : Type 0 where
   pub starved : Bool
   pub happening : (queue : ℕ) (entry : List ℕ)
-      → let sub : Submission = record { queue = queue; entry = entry; payload = payload } in
+      → let sub : Submission = record { queue = queue; entry = entry; input = input } in
       loading intervals starved sub old load ≡ answered sub answer [] new
 
 -- a Result with this data beside it was answered so, and changes nothing
 abbrev pub GivesResult : ℕ → List ℕ → State → Answer → List ℕ → Type 0
-GivesResult slot payload s answer bytes =
+GivesResult slot input s answer bytes =
     (queue : ℕ) (entry : List ℕ)
-    → let sub : Submission = record { queue = queue; entry = entry; payload = payload } in
+    → let sub : Submission = record { queue = queue; entry = entry; input = input } in
     giving_result sub s slot ≡ answered sub answer bytes s
 
 -- a Run was admitted with a number
 abbrev pub Starts : RunCommand → ℕ → ℕ → List ℕ → State → State → ℕ → Type 0
-Starts order queue cid payload old new run =
+Starts order queue cid input old new run =
     (entry : List ℕ) → identifier_of entry ≡ cid
-    → let sub : Submission = record { queue = queue; entry = entry; payload = payload } in
+    → let sub : Submission = record { queue = queue; entry = entry; input = input } in
     starting sub old order ≡ record { answer = plain (reply.Pending run); state = new }
 
 -- no run is started, for this reason
 abbrev pub Refuses : RunCommand → List ℕ → State → Status → Type 0
-Refuses order payload s status =
+Refuses order input s status =
     (queue : ℕ) (entry : List ℕ)
-    → let sub : Submission = record { queue = queue; entry = entry; payload = payload } in
+    → let sub : Submission = record { queue = queue; entry = entry; input = input } in
     starting sub s order ≡ refused sub status s
 
 -- an entry that asks for this led from one state to the other, and was answered so
-pub record HasSubmitted (sub : Submission) (asked : Result Command Status) (old new : State) (answer : Taken) : Type 0 where
+pub record HasSubmitted (sub : Submission) (asked : Result Command Status) (old new : State) (answer : ReplyWithData) : Type 0 where
   pub starved : Bool
   pub happening : submitted intervals starved sub old asked ≡ record { answer = answer; state = new }

@@ -30,14 +30,14 @@ pub record IsAccepted (bytes : List ℕ) (sizes : Sizes) (program : List (Option
 pub record IsNotAccepted (bytes : List ℕ) (sizes : Sizes) (answer : Answer) : Type 0 where
   pub starved : Bool
   pub happening : (queue : ℕ) (entry : List ℕ) (s : State) (load : LoadCommand) → sizes_for s load ≡ sizes
-      → let sub : Submission = record { queue = queue; entry = entry; payload = bytes } in
+      → let sub : Submission = record { queue = queue; entry = entry; input = bytes } in
       load_unless intervals None starved sub s load ≡ answered sub answer [] s
   pub no_data : answer.length ≡ 0
 
 -- a Load that no check refuses, whose program is accepted for the sizes that it asks for
-pub record IsLoadable (load : LoadCommand) (payload : List ℕ) (s : State) (program : List (Option Insn)) (kept : Sizes) : Type 0 where
-  pub checks : first_refused (load_checks s load payload) ≡ None
-  pub accepted : IsAccepted payload (sizes_for s load) program kept
+pub record IsLoadable (load : LoadCommand) (input : List ℕ) (s : State) (program : List (Option Insn)) (kept : Sizes) : Type 0 where
+  pub checks : first_refused (load_checks s load input) ≡ None
+  pub accepted : IsAccepted input (sizes_for s load) program kept
 
 -- the answer to a program that is refused
 abbrev pub refused_program : ℕ → ℕ → Answer

@@ -13,9 +13,9 @@ use Rattle.runner.specs.Ready.{IsReached}
 abbrev pub RunsArePushedDown : Type 0
 RunsArePushedDown =
     (s : State) → IsReached s
-    → (queue : ℕ) (entry : List ℕ) (payload : Vec ℕ Global) (starved : Bool) (order : RunCommand) (run : ℕ) (after : List Occurrence)
-    → IsAdmitted s (record { queue = queue; entry = entry; payload = payload.items }) order run
-    → IsPushedDown intervals s queue entry payload starved order run after
+    → (queue : ℕ) (entry : List ℕ) (input : Vec ℕ Global) (starved : Bool) (order : RunCommand) (run : ℕ) (after : List Occurrence)
+    → IsAdmitted s (record { queue = queue; entry = entry; input = input.items }) order run
+    → IsPushedDown intervals s queue entry input starved order run after
 
 -- turns come to the same in any order
 abbrev pub TurnsInAnyOrder : Type 0

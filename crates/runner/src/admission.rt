@@ -37,15 +37,15 @@ pub fn start(
     queue: u16,
     cid: u16,
     order: &RunCommand,
-    payload: &[u8],
+    input: &[u8],
 ) -> Result<u8, Status>
     requires ready { IsReady namespace.now slots.now runs.old }
-    ensures ok { IfOk result (Starts order.now queue cid payload.now (state_of namespace.now slots.now runs.old) (state_of namespace.now slots.now runs.new)) }
-    ensures err { IfErr result (Refuses order.now payload.now (state_of namespace.now slots.now runs.old)) }
+    ensures ok { IfOk result (Starts order.now queue cid input.now (state_of namespace.now slots.now runs.old) (state_of namespace.now slots.now runs.new)) }
+    ensures err { IfErr result (Refuses order.now input.now (state_of namespace.now slots.now runs.old)) }
     ensures kept { OnErr result (runs.new ≡ runs.old) }
     ensures ready { IsReady namespace.now slots.now runs.new }
 {
-    let admitted = admit(namespace, slots, runs, order, payload)?;
+    let admitted = admit(namespace, slots, runs, order, input)?;
     let block = namespace.geometry().block();
     runs[usize::from(admitted.run)] = Some(Active::new(
         queue,
@@ -64,13 +64,13 @@ fn admit(
     slots: &[Option<LoadedProgram>; PROGRAM_SLOTS],
     runs: &[Option<Active>; RUNS],
     order: &RunCommand,
-    payload: &[u8],
+    input: &[u8],
 ) -> Result<Admitted, Status>
     requires { IsReady namespace.now slots.now runs.now }
-    ensures why { why_not result ≡ run_refusal namespace.now (held_by runs.now) (is_some (position is_none runs.now)) (filled (get_or slots.now order.now.slot None)) order.now payload.now }
+    ensures why { why_not result ≡ run_refusal namespace.now (held_by runs.now) (is_some (position is_none runs.now)) (filled (get_or slots.now order.now.slot None)) order.now input.now }
     ensures admission { IfOk result (IsAdmission namespace.now slots.now runs.now order.now) }
 {
-    if !payload.is_empty() {
+    if !input.is_empty() {
         return Err(Status::INVALID_FIELD_IN_COMMAND);
     }
     let Some(loaded) = &slots[order.slot.index()] else {

@@ -13,33 +13,33 @@ use program_interface::SCRATCH_BYTES;
 use zns_commands::Answer;
 
 /// Puts scratch bytes at the front.
-fn put_front(data_out: &mut [u8], scratch: &[u8; SCRATCH_BYTES])
-    requires { SCRATCH_BYTES ≤ length data_out.old }
-    ensures front { data_out.new ≡ scratch.now ++ drop SCRATCH_BYTES data_out.old }
+fn put_front(output: &mut [u8], scratch: &[u8; SCRATCH_BYTES])
+    requires { SCRATCH_BYTES ≤ length output.old }
+    ensures front { output.new ≡ scratch.now ++ drop SCRATCH_BYTES output.old }
     ensures size { length scratch.now ≡ SCRATCH_BYTES }
 {
-    data_out[..SCRATCH_BYTES].copy_from_slice(scratch);
+    output[..SCRATCH_BYTES].copy_from_slice(scratch);
 }
 
 /// Gives the result of a slot's program.
 pub fn give_result(
     slots: &[Option<LoadedProgram>; PROGRAM_SLOTS],
     slot: ProgramSlot,
-    payload: &[u8],
-    data_out: &mut [u8],
+    input: &[u8],
+    output: &mut [u8],
 ) -> Answer
-    requires { SCRATCH_BYTES ≤ length data_out.old }
-    ensures gives { (ns : ZonedNamespace) (runs : List (Option Held)) → GivesResult slot payload.now (state_of ns slots.now runs) result data_out.new }
-    ensures rest { drop result.length data_out.new ≡ drop result.length data_out.old }
-    ensures within { result.length ≤ length data_out.new }
+    requires { SCRATCH_BYTES ≤ length output.old }
+    ensures gives { (ns : ZonedNamespace) (runs : List (Option Held)) → GivesResult slot input.now (state_of ns slots.now runs) result output.new }
+    ensures rest { drop result.length output.new ≡ drop result.length output.old }
+    ensures within { result.length ≤ length output.new }
 {
-    if !payload.is_empty() {
+    if !input.is_empty() {
         return Answer::refused(Status::INVALID_FIELD_IN_COMMAND);
     }
     match &slots[slot.index()] {
         None => Answer::refused(Status::NO_SUCH_PROGRAM),
         Some(loaded) => {
-            put_front(data_out, &loaded.result);
+            put_front(output, &loaded.result);
             Answer::success(0, SCRATCH_BYTES)
         }
     }

@@ -80,28 +80,28 @@ impl Device {
         self.namespace.image()
     }
 
-    /// Does one event. The data of the reply lies at the front of `data_out`.
-    pub fn step(&mut self, event: &Event, data_out: &mut [u8]) -> Reply
-        requires { MOST_TRANSFER ≤ length data_out.old }
-        ensures happened { HasHappened intervals event.now self.old self.new (record { reply = result; bytes = take (data_length result) data_out.new }) }
-        ensures rest { drop (data_length result) data_out.new ≡ drop (data_length result) data_out.old }
-        ensures within { data_length result ≤ length data_out.new }
+    /// Does one event. The data of the reply lies at the front of `output`.
+    pub fn step(&mut self, event: &Event, output: &mut [u8]) -> Reply
+        requires { MOST_TRANSFER ≤ length output.old }
+        ensures happened { HasHappened intervals event.now self.old self.new (record { reply = result; bytes = take (data_length result) output.new }) }
+        ensures rest { drop (data_length result) output.new ≡ drop (data_length result) output.old }
+        ensures within { data_length result ≤ length output.new }
         ensures carried { HasBytes event.now }
     {
         match event {
             Event::Submit {
                 queue,
                 entry,
-                payload,
+                input,
             } => {
-                let submission = Submission::new(*queue, entry, payload.as_slice());
+                let submission = Submission::new(*queue, entry, input.as_slice());
                 submit(
                     self.alloc,
                     &mut self.namespace,
                     &mut self.slots,
                     &mut self.runs,
                     &submission,
-                    data_out,
+                    output,
                 )
             }
             Event::Turn { run } => {
@@ -137,18 +137,18 @@ impl Device {
     pub fn serve<O: Out>(
         &mut self,
         events: &[Event],
-        data_out: &mut [u8],
+        output: &mut [u8],
         out: &mut O,
     ) -> Result<(), Stopped>
-        requires room { MOST_TRANSFER ≤ length data_out.old }
+        requires room { MOST_TRANSFER ≤ length output.old }
         requires counts { O.refused out.old + 1 < 2 ^ 64 }
         ensures served { OnOk result (HasServed intervals events.now self.old self.new (O.taken out.old) (O.taken out.new)) }
         ensures stopped { IfErr result (λ stopped. HasStopped intervals events.now self.old self.new (O.taken out.old) (O.taken out.new) stopped.done) }
         ensures refused { CountsRefusals (O.refused out.old) (O.refused out.new) result }
     {
         for (index, event) in events.iter().enumerate() {
-            let reply = self.step(event, data_out);
-            let data = &data_out[..reply.data_length()];
+            let reply = self.step(event, output);
+            let data = &output[..reply.data_length()];
             match out.take(reply, data) {
                 Ok(()) => {}
                 Err(_) => return Err(Stopped { done: index + 1 }),
@@ -172,8 +172,8 @@ impl Device {
     /// # Errors
     ///
     /// Stops at the first reply that `out` refuses.
-    pub fn drain<O: Out>(&mut self, data_out: &mut [u8], out: &mut O) -> Result<(), Stopped>
-        requires room { MOST_TRANSFER ≤ length data_out.old }
+    pub fn drain<O: Out>(&mut self, output: &mut [u8], out: &mut O) -> Result<(), Stopped>
+        requires room { MOST_TRANSFER ≤ length output.old }
         requires counts { O.refused out.old + 1 < 2 ^ 64 }
         ensures drained { OnOk result (HasDrained self.old self.new (O.taken out.old) (O.taken out.new)) }
         ensures stopped { IfErr result (λ stopped. StopsDraining self.old self.new (O.taken out.old) (O.taken out.new) stopped.done) }
@@ -181,9 +181,9 @@ impl Device {
     {
         let mut done = 0;
         while let Some(run) = self.next_run() {
-            let reply = self.step(&Event::Turn { run }, data_out);
+            let reply = self.step(&Event::Turn { run }, output);
             done += 1;
-            let data = &data_out[..reply.data_length()];
+            let data = &output[..reply.data_length()];
             match out.take(reply, data) {
                 Ok(()) => {}
                 Err(_) => return Err(Stopped { done }),

@@ -30,14 +30,14 @@ pub fn load(
     slots: &mut [Option<LoadedProgram>; PROGRAM_SLOTS],
     runs: &[Option<Active>; RUNS],
     command: &LoadCommand,
-    payload: &[u8],
+    input: &[u8],
 ) -> Answer
     requires ready { IsReady namespace.now slots.old runs.now }
-    ensures loaded { HasLoaded command.now payload.now (state_of namespace.now slots.old runs.now) (state_of namespace.now slots.new runs.now) result }
+    ensures loaded { HasLoaded command.now input.now (state_of namespace.now slots.old runs.now) (state_of namespace.now slots.new runs.now) result }
     ensures ready { IsReady namespace.now slots.new runs.now }
     ensures no_data { result.length ≡ 0 }
 {
-    match try_load(alloc, namespace, runs, command, payload) {
+    match try_load(alloc, namespace, runs, command, input) {
         Ok(prepared) => {
             slots[command.slot.index()] = Some(LoadedProgram::new(prepared));
             Answer::success(0, 0)
@@ -52,14 +52,14 @@ fn try_load(
     namespace: &Namespace,
     runs: &[Option<Active>; RUNS],
     command: &LoadCommand,
-    payload: &[u8],
+    input: &[u8],
 ) -> Result<Prepared<Verified<Intervals>>, Answer>
-    ensures ok { IfOk result (λ v. (slots : List (Option LoadedProgram)) → IsLoadable command.now payload.now (state_of namespace.now slots runs.now) (program_of v) (sizes_of v)) }
-    ensures err { IfErr result (λ answer. (slots : List (Option LoadedProgram)) → let s = state_of namespace.now slots runs.now in HasLoaded command.now payload.now s s answer) }
+    ensures ok { IfOk result (λ v. (slots : List (Option LoadedProgram)) → IsLoadable command.now input.now (state_of namespace.now slots runs.now) (program_of v) (sizes_of v)) }
+    ensures err { IfErr result (λ answer. (slots : List (Option LoadedProgram)) → let s = state_of namespace.now slots runs.now in HasLoaded command.now input.now s s answer) }
     ensures no_data { IfErr result (λ answer. answer.length ≡ 0) }
 {
-    match check(namespace, runs, command, payload) {
-        Ok(sizes) => read_program(alloc, payload, sizes),
+    match check(namespace, runs, command, input) {
+        Ok(sizes) => read_program(alloc, input, sizes),
         Err(status) => Err(Answer::refused(status)),
     }
 }
@@ -69,13 +69,13 @@ fn check(
     namespace: &Namespace,
     runs: &[Option<Active>; RUNS],
     command: &LoadCommand,
-    payload: &[u8],
+    input: &[u8],
 ) -> Result<RunSizes, Status>
-    ensures why { (slots : List (Option LoadedProgram)) → why_not result ≡ first_refused (load_checks (state_of namespace.now slots runs.now) command.now payload.now) }
+    ensures why { (slots : List (Option LoadedProgram)) → why_not result ≡ first_refused (load_checks (state_of namespace.now slots runs.now) command.now input.now) }
     ensures sizes { IfOk result (λ sizes. sizes ≡ record { block = namespace.now.block; limit = command.now.limit }) }
 {
     let bytes = command.bytes as usize;
-    if bytes > MOST_TRANSFER || payload.len() != bytes {
+    if bytes > MOST_TRANSFER || input.len() != bytes {
         return Err(Status::INVALID_FIELD_IN_COMMAND);
     }
     let Some(sizes) = RunSizes::new(namespace.geometry().block(), command.limit) else {

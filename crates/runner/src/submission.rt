@@ -27,21 +27,21 @@ use zone_resources::RUNS;
 pub struct Submission<'a> {
     queue: u16,
     entry: &'a [u8; 64],
-    payload: &'a [u8],
+    input: &'a [u8],
 }
 
 impl<'a> Submission<'a> {
     /// An entry with the data beside it.
-    pub fn new(queue: u16, entry: &'a [u8; 64], payload: &'a [u8]) -> Submission<'a>
+    pub fn new(queue: u16, entry: &'a [u8; 64], input: &'a [u8]) -> Submission<'a>
         ensures queue { result.queue ≡ queue }
         ensures entry { result.entry.now ≡ entry.now }
-        ensures payload { result.payload.now ≡ payload.now }
-        ensures bytes { AreBytes payload.now }
+        ensures input { result.input.now ≡ input.now }
+        ensures bytes { AreBytes input.now }
     {
         Submission {
             queue,
             entry,
-            payload,
+            input,
         }
     }
 
@@ -53,24 +53,24 @@ impl<'a> Submission<'a> {
     }
 }
 
-/// Does the command of an entry. The data of the reply lies at the front of `data_out`.
+/// Does the command of an entry. The data of the reply lies at the front of `output`.
 pub fn submit(
     alloc: Global,
     namespace: &mut Namespace,
     slots: &mut [Option<LoadedProgram>; PROGRAM_SLOTS],
     runs: &mut [Option<Active>; RUNS],
     submission: &Submission<'_>,
-    data_out: &mut [u8],
+    output: &mut [u8],
 ) -> Reply
     requires ready { IsReady namespace.old slots.old runs.old }
-    requires room { MOST_TRANSFER ≤ length data_out.old }
-    ensures submitted { HasSubmitted (told_by submission.now) (decoded submission.now.entry.now) (state_of namespace.old slots.old runs.old) (state_of namespace.new slots.new runs.new) (record { reply = result; bytes = take (data_length result) data_out.new }) }
-    ensures rest { drop (data_length result) data_out.new ≡ drop (data_length result) data_out.old }
-    ensures within { data_length result ≤ length data_out.new }
+    requires room { MOST_TRANSFER ≤ length output.old }
+    ensures submitted { HasSubmitted (told_by submission.now) (decoded submission.now.entry.now) (state_of namespace.old slots.old runs.old) (state_of namespace.new slots.new runs.new) (record { reply = result; bytes = take (data_length result) output.new }) }
+    ensures rest { drop (data_length result) output.new ≡ drop (data_length result) output.old }
+    ensures within { data_length result ≤ length output.new }
     ensures ready { IsReady namespace.new slots.new runs.new }
 {
     match Entry::decode(submission.entry) {
-        Ok(command) => perform(alloc, namespace, slots, runs, command, submission, data_out),
+        Ok(command) => perform(alloc, namespace, slots, runs, command, submission, output),
         Err(status) => submission.answer(Answer::refused(status)),
     }
 }
@@ -83,24 +83,24 @@ fn perform(
     runs: &mut [Option<Active>; RUNS],
     command: Command,
     submission: &Submission<'_>,
-    data_out: &mut [u8],
+    output: &mut [u8],
 ) -> Reply
     requires ready { IsReady namespace.old slots.old runs.old }
-    requires room { MOST_TRANSFER ≤ length data_out.old }
-    ensures submitted { HasSubmitted (told_by submission.now) (Ok command) (state_of namespace.old slots.old runs.old) (state_of namespace.new slots.new runs.new) (record { reply = result; bytes = take (data_length result) data_out.new }) }
-    ensures rest { drop (data_length result) data_out.new ≡ drop (data_length result) data_out.old }
-    ensures within { data_length result ≤ length data_out.new }
+    requires room { MOST_TRANSFER ≤ length output.old }
+    ensures submitted { HasSubmitted (told_by submission.now) (Ok command) (state_of namespace.old slots.old runs.old) (state_of namespace.new slots.new runs.new) (record { reply = result; bytes = take (data_length result) output.new }) }
+    ensures rest { drop (data_length result) output.new ≡ drop (data_length result) output.old }
+    ensures within { data_length result ≤ length output.new }
     ensures ready { IsReady namespace.new slots.new runs.new }
 {
-    let payload = submission.payload;
+    let input = submission.input;
     match command {
         Command::Standard(command) => {
-            submission.answer(execute(namespace, runs, &command, payload, data_out))
+            submission.answer(execute(namespace, runs, &command, input, output))
         }
         Command::Load(command) => {
-            submission.answer(load(alloc, namespace, slots, runs, &command, payload))
+            submission.answer(load(alloc, namespace, slots, runs, &command, input))
         }
-        Command::Result(slot) => submission.answer(give_result(slots, slot, payload, data_out)),
+        Command::Result(slot) => submission.answer(give_result(slots, slot, input, output)),
         Command::Run(order) => run(namespace, slots, runs, &order, submission),
     }
 }
@@ -110,15 +110,15 @@ fn execute(
     namespace: &mut Namespace,
     runs: &[Option<Active>; RUNS],
     command: &StandardCommand,
-    payload: &[u8],
-    data_out: &mut [u8],
+    input: &[u8],
+    output: &mut [u8],
 ) -> Answer
-    requires room { MOST_TRANSFER ≤ length data_out.old }
-    ensures left { (slots : List (Option LoadedProgram)) → IsReady namespace.old slots runs.now → HasExecuted command.now payload.now namespace.old namespace.new slots runs.now result data_out.new }
-    ensures rest { drop result.length data_out.new ≡ drop result.length data_out.old }
-    ensures within { result.length ≤ length data_out.new }
+    requires room { MOST_TRANSFER ≤ length output.old }
+    ensures left { (slots : List (Option LoadedProgram)) → IsReady namespace.old slots runs.now → HasExecuted command.now input.now namespace.old namespace.new slots runs.now result output.new }
+    ensures rest { drop result.length output.new ≡ drop result.length output.old }
+    ensures within { result.length ≤ length output.new }
 {
-    namespace.execute(command, payload, data_out, &holds(runs))
+    namespace.execute(command, input, output, &holds(runs))
 }
 
 /// Starts a run, where it is admitted.
@@ -142,7 +142,7 @@ fn run(
         submission.queue,
         cid,
         order,
-        submission.payload,
+        submission.input,
     ) {
         Ok(run) => Reply::Pending { run },
         Err(status) => submission.answer(Answer::refused(status)),

@@ -47,7 +47,7 @@ fn room(rt: &impl Abort, alloc: Global) -> Vec<u8>
 
 /// A submission to queue 3 under the identifier 5: its opcode, Command Dwords 10 and 11, then 12 to 14,
 /// and the data beside it.
-fn submit(opcode: u8, address: u64, dwords: [u32; 3], payload: Vec<u8>) -> Event {
+fn submit(opcode: u8, address: u64, dwords: [u32; 3], input: Vec<u8>) -> Event {
     let mut entry = [0; 64];
     entry[0] = opcode;
     entry[2] = 5;
@@ -59,7 +59,7 @@ fn submit(opcode: u8, address: u64, dwords: [u32; 3], payload: Vec<u8>) -> Event
     Event::Submit {
         queue: 3,
         entry,
-        payload,
+        input,
     }
 }
 
@@ -105,11 +105,11 @@ fn read(alloc: Global, lba: u64) -> Event {
 }
 
 /// Does events, and compares the reply to each with the one beside it.
-fn compare(rt: &impl Abort, device: &mut Device, data_out: &mut [u8], steps: &[(Event, Reply)])
-    requires { MOST_TRANSFER ≤ length data_out.old }
+fn compare(rt: &impl Abort, device: &mut Device, output: &mut [u8], steps: &[(Event, Reply)])
+    requires { MOST_TRANSFER ≤ length output.old }
 {
     for (index, step) in steps.iter().enumerate() {
-        assert_eq!(rt; device.step(&step.0, data_out), step.1, "at {index}");
+        assert_eq!(rt; device.step(&step.0, output), step.1, "at {index}");
     }
 }
 

@@ -43,16 +43,16 @@ fn events(rt: &impl Abort, alloc: Global) -> [Event; 13] {
 fn serve_and_drain<O: Out>(
     device: &mut Device,
     events: &[Event],
-    data_out: &mut [u8],
+    output: &mut [u8],
     out: &mut O,
 ) -> Result<(), usize>
-    requires room { MOST_TRANSFER ≤ length data_out.old }
+    requires room { MOST_TRANSFER ≤ length output.old }
     requires counts { O.refused out.old + 1 < 2 ^ 64 }
 {
-    if let Err(stopped) = device.serve(events, data_out, out) {
+    if let Err(stopped) = device.serve(events, output, out) {
         return Err(stopped.done);
     }
-    match device.drain(data_out, out) {
+    match device.drain(output, out) {
         Ok(()) => Ok(()),
         Err(stopped) => Err(events.len().saturating_add(stopped.done)),
     }

@@ -6,6 +6,6 @@ use Rattle.runner.proofs.commands.give_result.Goals as goal
 pub returns-in-Some-clause-rest : goal.returns-in-Some-clause-rest
 returns-in-Some-clause-rest c =
     let kept = c.in-Some.loaded.result in
-    let behind = drop SCRATCH_BYTES c.args.data_out.now in
+    let behind = drop SCRATCH_BYTES c.args.output.now in
     rw (c.success.ensures, c.put_front.ensures.front)
     (ap (λ (n : ℕ). drop n (kept ++ behind)) (sym c.put_front.ensures.size) ∙ drop-append_seam kept behind)

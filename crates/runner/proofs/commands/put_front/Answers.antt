@@ -4,4 +4,4 @@ use Rattle.program_interface.specs.declared.area.TheConstants.{SCRATCH_BYTES}
 use Rattle.runner.proofs.commands.put_front.Goals as goal
 
 pub copy_from_slice-requires : goal.copy_from_slice-requires
-copy_from_slice-requires c = length-take-le SCRATCH_BYTES c.args.data_out.now c.requires ∙ sym c.told-scratch
+copy_from_slice-requires c = length-take-le SCRATCH_BYTES c.args.output.now c.requires ∙ sym c.told-scratch

@@ -12,16 +12,16 @@ returns-in-Ok-clause-ok c =
     IfOk-weaker c.read_program.result _ _
     (λ v accepted slots. record {
       checks = sym (c.in-Ok.ensures.why slots);
-      accepted = subst (λ (sizes : Sizes). IsAccepted c.args.payload.now sizes (program_of v) (sizes_of v)) c.in-Ok.ensures.sizes accepted;
+      accepted = subst (λ (sizes : Sizes). IsAccepted c.args.input.now sizes (program_of v) (sizes_of v)) c.in-Ok.ensures.sizes accepted;
     })
     c.read_program.ensures.ok
 
 pub returns-in-Ok-clause-err : goal.returns-in-Ok-clause-err
 returns-in-Ok-clause-err c =
     MatchResult-weaker c.read_program.result c.read_program.ensures.err (λ v none. none)
-    (λ answer refused slots. refuses_read c.args.command.now c.args.payload.now (state_of c.args.namespace.now slots c.args.runs.now) c.in-Ok.sizes answer
+    (λ answer refused slots. refuses_read c.args.command.now c.args.input.now (state_of c.args.namespace.now slots c.args.runs.now) c.in-Ok.sizes answer
     (c.in-Ok.ensures.why slots) c.in-Ok.ensures.sizes refused)
 
 pub returns-in-Err-clause-err : goal.returns-in-Err-clause-err
 returns-in-Err-clause-err c = λ slots.
-    rw c.refused.ensures (refuses_checked c.args.command.now c.args.payload.now (state_of c.args.namespace.now slots c.args.runs.now) c.in-Err.status (c.in-Err.ensures.why slots))
+    rw c.refused.ensures (refuses_checked c.args.command.now c.args.input.now (state_of c.args.namespace.now slots c.args.runs.now) c.in-Err.status (c.in-Err.ensures.why slots))

@@ -5,10 +5,10 @@ use Rattle.runner.proofs.submission.execute.Goals as goal
 pub returns-clause-left : goal.returns-clause-left
 returns-clause-left c slots ready =
     let a = c.args in
-    let left = command_leaves a.namespace.now c.execute.new.self slots a.runs.now c.holds.result a.command.now a.payload.now c.execute.new.output c.execute.result
+    let left = command_leaves a.namespace.now c.execute.new.self slots a.runs.now c.holds.result a.command.now a.input.now c.execute.new.output c.execute.result
     ready c.holds.ensures c.execute.ensures.meaning in
     record {
       ready = left.0;
       happening = λ queue entry.
-          let sub : Submission = record { queue = queue; entry = entry; payload = a.payload.now } in left.1 sub;
+          let sub : Submission = record { queue = queue; entry = entry; input = a.input.now } in left.1 sub;
     }

@@ -11,10 +11,10 @@ pub returns-in-Standard-clause-submitted : goal.returns-in-Standard-clause-submi
 returns-in-Standard-clause-submitted c =
     let a = c.args in
     let told = a.submission.now in
-    let sub : Submission = record { queue = told.queue; entry = told.entry.now; payload = told.payload.now } in
+    let sub : Submission = record { queue = told.queue; entry = told.entry.now; input = told.input.now } in
     let old = state_of a.namespace.now a.slots.now a.runs.now in
     let asking : Command → Happening = λ x. submitted intervals false sub old (Ok x) in
-    replied sub (Ok a.command) old (state_of c.execute.new.namespace a.slots.now a.runs.now) false c.execute.result c.answer.result c.execute.new.data_out
+    replied sub (Ok a.command) old (state_of c.execute.new.namespace a.slots.now a.runs.now) false c.execute.result c.answer.result c.execute.new.output
     (ap asking c.in-Standard.is ∙ (c.execute.ensures.left a.slots.now c.requires.ready).happening told.queue told.entry.now)
     c.answer.ensures c.execute.ensures.within
 
@@ -22,11 +22,11 @@ pub returns-in-Load-clause-submitted : goal.returns-in-Load-clause-submitted
 returns-in-Load-clause-submitted c =
     let a = c.args in
     let told = a.submission.now in
-    let sub : Submission = record { queue = told.queue; entry = told.entry.now; payload = told.payload.now } in
+    let sub : Submission = record { queue = told.queue; entry = told.entry.now; input = told.input.now } in
     let old = state_of a.namespace.now a.slots.now a.runs.now in
     let loaded = c.load.ensures.loaded in
     let asking : Command → Happening = λ x. submitted intervals loaded.starved sub old (Ok x) in
-    replied_alone sub (Ok a.command) old (state_of a.namespace.now c.load.new.slots a.runs.now) loaded.starved c.load.result c.answer-in-Load.result a.data_out.now
+    replied_alone sub (Ok a.command) old (state_of a.namespace.now c.load.new.slots a.runs.now) loaded.starved c.load.result c.answer-in-Load.result a.output.now
     (ap asking c.in-Load.is ∙ loaded.happening told.queue told.entry.now)
     c.answer-in-Load.ensures c.load.ensures.no_data
 
@@ -34,9 +34,9 @@ pub returns-in-Result-clause-submitted : goal.returns-in-Result-clause-submitted
 returns-in-Result-clause-submitted c =
     let a = c.args in
     let told = a.submission.now in
-    let sub : Submission = record { queue = told.queue; entry = told.entry.now; payload = told.payload.now } in
+    let sub : Submission = record { queue = told.queue; entry = told.entry.now; input = told.input.now } in
     let old = state_of a.namespace.now a.slots.now a.runs.now in
     let asking : Command → Happening = λ x. submitted intervals false sub old (Ok x) in
-    replied sub (Ok a.command) old old false c.give_result.result c.answer-in-Result.result c.give_result.new.data_out
+    replied sub (Ok a.command) old old false c.give_result.result c.answer-in-Result.result c.give_result.new.output
     (ap asking c.in-Result.is ∙ c.give_result.ensures.gives a.namespace.now a.runs.now told.queue told.entry.now)
     c.answer-in-Result.ensures c.give_result.ensures.within

@@ -11,7 +11,7 @@ pub returns-in-Err-clause-submitted : goal.returns-in-Err-clause-submitted
 returns-in-Err-clause-submitted c =
     let a = c.args in
     let told = a.submission.now in
-    let sub : Submission = record { queue = told.queue; entry = told.entry.now; payload = told.payload.now } in
+    let sub : Submission = record { queue = told.queue; entry = told.entry.now; input = told.input.now } in
     let seen : List (Option Held) → State = λ runs. state_of a.namespace.now a.slots.now runs in
     replied_refusal sub (Ok (command.Run a.order.now)) (seen a.runs.now) (seen c.start.new.runs) false c.refused.result c.answer.result c.in-Err.status
     (c.in-Err.ensures.err told.queue told.entry.now) c.answer.ensures c.refused.ensures (ap seen c.in-Err.ensures.kept)

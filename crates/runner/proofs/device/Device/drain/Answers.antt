@@ -1,6 +1,6 @@
 use Rattle.std.proofs.Common.{◌*◌, [], ◌∷◌, inr, take, ap, sym, ◌∙◌, arith}
 use Rattle.zone_resources.specs.declared.holds.TheConstants.{RUNS}
-use Rattle.device_events.specs.Replies.{Taken, and_then, data_length}
+use Rattle.device_events.specs.Replies.{ReplyWithData, and_then, data_length}
 use Rattle.pushdown.specs.Draining.{turns_left}
 use Rattle.pushdown.specs.State.{State}
 use Rattle.runner.proofs.Drains.{drained_more, drained_stops, few_at_first, turn_less}
@@ -22,8 +22,8 @@ loop-run-preserved g c =
     let first = g.O.Out.taken c.args.out.now in
     let then = g.O.Out.taken c.loop-run.out in
     let low = sym c.next_run.ensures.lowest ∙ c.in-Some.is in
-    let answer : Taken = record { reply = step.result; bytes = take (data_length step.result) step.new.data_out } in
-    let taken = c.in-Ok.ensures.ok ∙ ap (λ (x : Taken). and_then then (x ∷ [])) (with_data step.result c.data_length.result step.new.data_out c.data_length.ensures) in
+    let answer : ReplyWithData = record { reply = step.result; bytes = take (data_length step.result) step.new.output } in
+    let taken = c.in-Ok.ensures.ok ∙ ap (λ (x : ReplyWithData). and_then then (x ∷ [])) (with_data step.result c.data_length.result step.new.output c.data_length.ensures) in
     record {
       draining = drained_more c.args.self.now c.loop-run.self step.new.self first then (g.O.Out.taken c.take.new.self) c.loop-run.done c.in-Some.run' answer
           inv.draining c.next_run.ensures.reached low step.ensures.happened.state step.ensures.happened.answered taken;
@@ -35,6 +35,6 @@ pub returns-in-Err-clause-stopped : goal.returns-in-Err-clause-stopped
 returns-in-Err-clause-stopped g c =
     let step = c.step-reply in
     let low = sym c.next_run.ensures.lowest ∙ c.in-Some.is in
-    let answer : Taken = record { reply = step.result; bytes = take (data_length step.result) step.new.data_out } in
+    let answer : ReplyWithData = record { reply = step.result; bytes = take (data_length step.result) step.new.output } in
     drained_stops c.args.self.now c.loop-run.self step.new.self (g.O.Out.taken c.args.out.now) (g.O.Out.taken c.loop-run.out) (g.O.Out.taken c.take.new.self)
     c.loop-run.done c.in-Some.run' answer c.loop-run.invariant.draining c.next_run.ensures.reached low step.ensures.happened.state c.in-Err.ensures.err

@@ -1,5 +1,5 @@
 use Rattle.std.proofs.Common.{◌∷◌, [], take, ap, ◌∙◌}
-use Rattle.device_events.specs.Replies.{Taken, and_then, data_length}
+use Rattle.device_events.specs.Replies.{ReplyWithData, and_then, data_length}
 use Rattle.runner.proofs.Served.{served_more, served_stopped, with_data}
 use Rattle.runner.proofs.device.Device.serve.Goals as goal
 
@@ -9,8 +9,8 @@ loop-index-preserved g c =
     let event = c.index-events-index in
     let inv = c.loop-index.invariant in
     let now = g.O.Out.taken c.loop-index.out in
-    let answer : Taken = record { reply = step.result; bytes = take (data_length step.result) step.new.data_out } in
-    let taken = c.in-Ok.ensures.ok ∙ ap (λ (x : Taken). and_then now (x ∷ [])) (with_data step.result c.data_length.result step.new.data_out c.data_length.ensures) in
+    let answer : ReplyWithData = record { reply = step.result; bytes = take (data_length step.result) step.new.output } in
+    let taken = c.in-Ok.ensures.ok ∙ ap (λ (x : ReplyWithData). and_then now (x ∷ [])) (with_data step.result c.data_length.result step.new.output c.data_length.ensures) in
     record {
       served = served_more c.args.events.now c.loop-index.index event.result c.args.self.now c.loop-index.self step.new.self answer
           (g.O.Out.taken c.args.out.now) now (g.O.Out.taken c.take.new.self) c.loop-index-test.true event.is inv.served step.ensures.happened taken;
@@ -22,7 +22,7 @@ returns-in-Err-clause-stopped g c =
     let step = c.step-reply in
     let event = c.index-events-index in
     let inv = c.loop-index.invariant in
-    let answer : Taken = record { reply = step.result; bytes = take (data_length step.result) step.new.data_out } in
+    let answer : ReplyWithData = record { reply = step.result; bytes = take (data_length step.result) step.new.output } in
     served_stopped c.args.events.now c.loop-index.index event.result c.args.self.now c.loop-index.self step.new.self answer
     (g.O.Out.taken c.args.out.now) (g.O.Out.taken c.loop-index.out) (g.O.Out.taken c.take.new.self) c.loop-index-test.true event.is inv.served
     step.ensures.happened c.in-Err.ensures.err

@@ -2,7 +2,7 @@ use Rattle.std.proofs.Common.{false, take, subst, sym, ◌∙◌}
 use Rattle.image_store.specs.Blocks.{AreBytes}
 use Rattle.interval_domain.specs.Intervals.{intervals}
 use Rattle.pushdown.specs.Answers.{Submission}
-use Rattle.device_events.specs.Replies.{Taken, data_length}
+use Rattle.device_events.specs.Replies.{ReplyWithData, data_length}
 use Rattle.pushdown.specs.Events.{HasHappened}
 use Rattle.pushdown.specs.Pushdown.{HasBytes}
 use Rattle.pushdown.specs.State.{State}
@@ -19,14 +19,14 @@ invariant_of-self c =
     let made = c.new-submission in
     let old = state_of d.namespace d.slots d.runs in
     let new = state_of c.submit.new.namespace c.submit.new.slots c.submit.new.runs in
-    let sub : Submission = record { queue = made.result.queue; entry = made.result.entry.now; payload = made.result.payload.now } in
-    let answer : Taken = record { reply = c.submit.result; bytes = take (data_length c.submit.result) c.submit.new.data_out } in
-    let happened = submission_happened e.queue e.entry e.payload sub old new answer made.ensures.queue made.ensures.entry
-    (made.ensures.payload ∙ c.as_slice.ensures.value) c.submit.ensures.submitted in
-    let bytes : AreBytes e.payload.items = subst AreBytes c.as_slice.ensures.value made.ensures.bytes in
+    let sub : Submission = record { queue = made.result.queue; entry = made.result.entry.now; input = made.result.input.now } in
+    let answer : ReplyWithData = record { reply = c.submit.result; bytes = take (data_length c.submit.result) c.submit.new.output } in
+    let happened = submission_happened e.queue e.entry e.input sub old new answer made.ensures.queue made.ensures.entry
+    (made.ensures.input ∙ c.as_slice.ensures.value) c.submit.ensures.submitted in
+    let bytes : AreBytes e.input.items = subst AreBytes c.as_slice.ensures.value made.ensures.bytes in
     record {
       ready = c.submit.ensures.ready;
-      reached = reached_by (event.Submit e.queue e.entry e.payload) old new answer c.self.invariant.reached bytes happened;
+      reached = reached_by (event.Submit e.queue e.entry e.input) old new answer c.self.invariant.reached bytes happened;
     }
 
 pub invariant_of-self-in-Turn : goal.invariant_of-self-in-Turn
@@ -45,12 +45,12 @@ returns-in-Submit-clause-happened c =
     let made = c.new-submission in
     let old = state_of d.namespace d.slots d.runs in
     let new = state_of c.submit.new.namespace c.submit.new.slots c.submit.new.runs in
-    let sub : Submission = record { queue = made.result.queue; entry = made.result.entry.now; payload = made.result.payload.now } in
-    let answer : Taken = record { reply = c.submit.result; bytes = take (data_length c.submit.result) c.submit.new.data_out } in
-    let happened = submission_happened e.queue e.entry e.payload sub old new answer made.ensures.queue made.ensures.entry
-    (made.ensures.payload ∙ c.as_slice.ensures.value) c.submit.ensures.submitted in
+    let sub : Submission = record { queue = made.result.queue; entry = made.result.entry.now; input = made.result.input.now } in
+    let answer : ReplyWithData = record { reply = c.submit.result; bytes = take (data_length c.submit.result) c.submit.new.output } in
+    let happened = submission_happened e.queue e.entry e.input sub old new answer made.ensures.queue made.ensures.entry
+    (made.ensures.input ∙ c.as_slice.ensures.value) c.submit.ensures.submitted in
     subst (λ (x : Event). HasHappened intervals x c.args.self.now new answer) (sym e.is)
-    (subst (λ (s : State). HasHappened intervals (event.Submit e.queue e.entry e.payload) s new answer) c.self.view_is happened)
+    (subst (λ (s : State). HasHappened intervals (event.Submit e.queue e.entry e.input) s new answer) c.self.view_is happened)
 
 pub returns-in-Submit-clause-carried : goal.returns-in-Submit-clause-carried
 returns-in-Submit-clause-carried c = subst HasBytes (sym c.in-Submit.is) (subst AreBytes c.as_slice.ensures.value c.new-submission.ensures.bytes)
