@@ -132,7 +132,7 @@ fn tell_one<O: Write>(
             "pending {run}: run {run} was admitted, or had a turn, and has turns left"
         ),
         Reply::Idle => writeln!(out, "idle: a turn for a run that isn't active"),
-        Reply::Done => writeln!(out, "done: a zone has its fault"),
+        Reply::FaultTaken => writeln!(out, "done: a zone has its fault"),
         Reply::FaultRefused => writeln!(
             out,
             "refused: a fault of a zone that there isn't, that a run uses, or that is Offline and can't become Read Only"

@@ -14,7 +14,7 @@ abbrev pub data_length : Reply → ℕ
 data_length (reply.Complete queue entry length) = length
 data_length (reply.Pending run) = 0
 data_length reply.Idle = 0
-data_length reply.Done = 0
+data_length reply.FaultTaken = 0
 data_length reply.FaultRefused = 0
 
 -- what was taken before, where that is told, and then this

@@ -23,7 +23,7 @@ pub enum Reply {
     /// No run has this number.
     Idle,
     /// A fault was taken.
-    Done,
+    FaultTaken,
     /// A fault was refused.
     FaultRefused,
 }
@@ -35,7 +35,7 @@ impl Reply {
     {
         match self {
             Reply::Complete { length, .. } => *length,
-            Reply::Pending { .. } | Reply::Idle | Reply::Done | Reply::FaultRefused => 0,
+            Reply::Pending { .. } | Reply::Idle | Reply::FaultTaken | Reply::FaultRefused => 0,
         }
     }
 }

@@ -3,7 +3,7 @@ use Rattle.std.specs.Prelude.{ℕ, ◌==◌, if◌then◌else◌, List, [], ◌�
 use Rattle.std.specs.Fmt.{decimal}
 use Rattle.hex.specs.Hex.{encode_lower}
 use Rattle.device_events.specs.declared.reply.Reply.{Reply}
-use Rattle.device_events.specs.declared.reply.Reply.TheVariants.{Complete, Pending, Idle, Done, FaultRefused}
+use Rattle.device_events.specs.declared.reply.Reply.TheVariants.{Complete, Pending, Idle, FaultTaken, FaultRefused}
 
 -- a space and the data, where there is any
 abbrev pub data_text : List ℕ → List ℕ
@@ -14,7 +14,7 @@ abbrev pub reply_text : Reply → List ℕ → List ℕ
 reply_text (Complete queue entry length) bytes = codes "cpl " ++ decimal queue ++ codes " " ++ encode_lower entry ++ data_text bytes
 reply_text (Pending run) bytes = codes "pending " ++ decimal run
 reply_text Idle bytes = codes "idle"
-reply_text Done bytes = codes "done"
+reply_text FaultTaken bytes = codes "done"
 reply_text FaultRefused bytes = codes "refused"
 
 abbrev pub line_text : Reply → List ℕ → List ℕ

@@ -94,7 +94,7 @@ pub(crate) fn push_reply(line: &mut Vec<u8>, reply: Reply, bytes: &[u8]) -> io::
         }
         Reply::Pending { run } => write!(line, "pending {run}")?,
         Reply::Idle => write!(line, "idle")?,
-        Reply::Done => write!(line, "done")?,
+        Reply::FaultTaken => write!(line, "done")?,
         Reply::FaultRefused => write!(line, "refused")?,
     }
     Ok(())

@@ -79,7 +79,7 @@ fn answer_of(alloc: Global, line: &[u8]) -> Result<ReplyWithData, LineError>
 fn candidate(alloc: Global, line: &[u8]) -> Result<ReplyWithData, LineError> {
     match line {
         b"idle" => Ok(without_data(alloc, Reply::Idle)),
-        b"done" => Ok(without_data(alloc, Reply::Done)),
+        b"done" => Ok(without_data(alloc, Reply::FaultTaken)),
         b"refused" => Ok(without_data(alloc, Reply::FaultRefused)),
         _ => match line.strip_prefix(b"pending ") {
             Some(run) => pending(alloc, run),

@@ -20,7 +20,7 @@ abbrev pub is_pending : Reply → Bool
 is_pending (reply.Pending run) = true
 is_pending (reply.Complete queue entry length) = false
 is_pending reply.Idle = false
-is_pending reply.Done = false
+is_pending reply.FaultTaken = false
 is_pending reply.FaultRefused = false
 
 module _ {D : Type 0} (operations : Operations D) (sub : Submission) (s : State) (load : LoadCommand) where

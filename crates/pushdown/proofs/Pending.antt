@@ -23,7 +23,7 @@ abbrev number_in : Reply → ℕ
 number_in (reply.Pending run) = run
 number_in (reply.Complete queue entry length) = 0
 number_in reply.Idle = 0
-number_in reply.Done = 0
+number_in reply.FaultTaken = 0
 number_in reply.FaultRefused = 0
 
 other_reply : (t : ReplyWithData) (run : ℕ) → is_pending t.reply ≡ false → t ≡ plain (reply.Pending run) → ⊥

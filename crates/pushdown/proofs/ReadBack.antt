@@ -15,7 +15,7 @@ use Rattle.reg_domain.specs.Domain.{Operations}
 use Rattle.image_store.specs.Blocks.{bytes_of}
 use Rattle.image_store.specs.Namespace.{ZoneBlocks, ZonedNamespace, no_zone, zone_at, IsNamespace}
 use Rattle.zns_commands.specs.Address.{zone_number}
-use Rattle.zns_commands.specs.Answer.{Outcome, success}
+use Rattle.zns_commands.specs.Answer.{Effect, success_effect}
 use Rattle.zns_commands.specs.Meaning.{meaning}
 use Rattle.zns_commands.specs.Read.{read_meaning, read_refusal}
 use Rattle.zns_commands.proofs.Proved.{appended_stays, lying_is_read, written_stays}
@@ -58,7 +58,7 @@ three front more behind = simp length-append
 -- some of a zone's blocks, behind others of them
 pub blocks_read : (ns : ZonedNamespace) (z : ℕ) (front more behind : List (List ℕ)) → IsNamespace ns
     → (zone_at ns z).blocks ≡ front ++ (more ++ behind) → 1 ≤ length more → length more * ns.block ≤ MOST_TRANSFER
-    → read_meaning ns (z * ns.size + length front) (length more) [] ≡ success ns 0 (bytes_of more)
+    → read_meaning ns (z * ns.size + length front) (length more) [] ≡ success_effect ns 0 (bytes_of more)
 blocks_read ns z front more behind is there some transfer =
     let all = ap length there ∙ three front more behind in
     let within = inside ns.zones z (omega (arith, all, some)) in
@@ -105,10 +105,10 @@ module _ {D : Type 0} (operations : Operations D) where
   has_blocks (event.Fault zone state) c input is = absurd is
 
   -- what is read of a namespace is read of a device
-  pub reads : (s : State) (lba blocks : ℕ) (bytes : List ℕ) → read_meaning s.namespace lba blocks [] ≡ success s.namespace 0 bytes
+  pub reads : (s : State) (lba blocks : ℕ) (bytes : List ℕ) → read_meaning s.namespace lba blocks [] ≡ success_effect s.namespace 0 bytes
       → AreRead operations s lba blocks bytes
   reads s lba blocks bytes is read submits =
-      subst (λ (o : Outcome). IsCompleted read.event s o (happens operations s read.starved read.event)) is
+      subst (λ (o : Effect). IsCompleted read.event s o (happens operations s read.starved read.event)) is
       (completed read.event (Read lba blocks) [] s read.starved submits)
 
   -- what is left of a zone after a command and after events that don't clear it
@@ -176,8 +176,8 @@ module _ {D : Type 0} (operations : Operations D) where
       let joined = length-append front before in
       let start : z * ns.size + length (front ++ before) ≡ z * ns.size + length front + at = omega (arith, joined, part.start) in
       reads operations s (z * ns.size + length front + at) blocks (bytes_of more)
-      (subst (λ (lba : ℕ). read_meaning ns lba blocks [] ≡ success ns 0 (bytes_of more)) start
-      (subst (λ (n : ℕ). read_meaning ns (z * ns.size + length (front ++ before)) n [] ≡ success ns 0 (bytes_of more)) part.count read))
+      (subst (λ (lba : ℕ). read_meaning ns lba blocks [] ≡ success_effect ns 0 (bytes_of more)) start
+      (subst (λ (n : ℕ). read_meaning ns (z * ns.size + length (front ++ before)) n [] ≡ success_effect ns 0 (bytes_of more)) part.count read))
 
   pub written_is_read : WrittenIsRead operations
   written_is_read s z at blocks is within some transfer =

@@ -19,7 +19,7 @@ use Rattle.reg_domain.specs.Domain.{Operations}
 use Rattle.accepted_programs.specs.Accepted.{refusal, number_of}
 use Rattle.accepted_programs.specs.declared.reason.Refusal.{Refusal}
 use Rattle.image_store.specs.Namespace.{ZonedNamespace, zone_at, with_zone, grown}
-use Rattle.zns_commands.specs.Answer.{Outcome}
+use Rattle.zns_commands.specs.Answer.{Effect}
 use Rattle.zns_commands.specs.Fault.{fault_answer, faulted}
 use Rattle.zns_commands.specs.Meaning.{meaning}
 use Rattle.zns_commands.specs.Transfer.{transfer_checks}
@@ -164,7 +164,7 @@ turned s run = turned_at s run (place_at s run)
 -- ---- faults
 
 abbrev pub fault_reply : Result Unit FaultRefused → Reply
-fault_reply (Ok done) = reply.Done
+fault_reply (Ok done) = reply.FaultTaken
 fault_reply (Err refused) = reply.FaultRefused
 
 abbrev pub failed : State → ℕ → FaultState → Happening
@@ -176,7 +176,7 @@ failed s zone state = record {
 -- ---- events
 
 -- what a standard command comes to
-abbrev pub commanded : Submission → State → Outcome → Happening
+abbrev pub commanded : Submission → State → Effect → Happening
 commanded sub s o = completed sub o.status o.dw0 o.dw1 o.output (with_namespace s o.namespace)
 
 module _ {D : Type 0} (operations : Operations D) where

@@ -14,7 +14,7 @@ use Rattle.emit_append.specs.Frames.{unpacked}
 use Rattle.image_store.specs.Blocks.{bytes_of}
 use Rattle.image_store.specs.Namespace.{ZonedNamespace, zone_at, shape, IsNamespace}
 use Rattle.zns_commands.specs.Address.{write_pointer, zone_number}
-use Rattle.zns_commands.specs.Answer.{Outcome, success}
+use Rattle.zns_commands.specs.Answer.{Effect, success_effect}
 use Rattle.zns_commands.specs.Kept.{Grows}
 use Rattle.zns_commands.specs.Laws.{is_cleared}
 use Rattle.zns_commands.specs.Meaning.{meaning}
@@ -36,19 +36,19 @@ Submits (event.Submit queue entry bytes) c input = (decoded entry ≡ Ok (comman
 Submits (event.Turn run) c input = ⊥
 Submits (event.Fault zone state) c input = ⊥
 
--- what happens is that the event's entry is completed with this outcome
-abbrev pub IsCompleted : Event → State → Outcome → Happening → Type 0
-IsCompleted (event.Submit queue entry input) s outcome happening =
-    happening ≡ commanded (record { queue = queue; entry = entry; input = input.items }) s outcome
-IsCompleted (event.Turn run) s outcome happening = ⊥
-IsCompleted (event.Fault zone state) s outcome happening = ⊥
+-- what happens is that the event's entry is completed with this effect
+abbrev pub IsCompleted : Event → State → Effect → Happening → Type 0
+IsCompleted (event.Submit queue entry input) s effect happening =
+    happening ≡ commanded (record { queue = queue; entry = entry; input = input.items }) s effect
+IsCompleted (event.Turn run) s effect happening = ⊥
+IsCompleted (event.Fault zone state) s effect happening = ⊥
 
 module _ {D : Type 0} (operations : Operations D) where
   -- these bytes are read of so many blocks from an address on
   abbrev pub AreRead : State → ℕ → ℕ → List ℕ → Type 0
   AreRead s lba blocks bytes =
       (read : Occurrence) → Submits read.event (Read lba blocks) []
-      → IsCompleted read.event s (success s.namespace 0 bytes) (happens operations s read.starved read.event)
+      → IsCompleted read.event s (success_effect s.namespace 0 bytes) (happens operations s read.starved read.event)
 
   -- these blocks are read from an address on, one block after another
   abbrev pub BlocksAreRead : State → ℕ → List (List ℕ) → Type 0

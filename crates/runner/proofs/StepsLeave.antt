@@ -8,7 +8,7 @@ use Rattle.nvme_entry.specs.declared.command.StandardCommand.{StandardCommand}
 use Rattle.image_store.specs.Geometry.{Shape}
 use Rattle.image_store.specs.Namespace.{ZonedNamespace, shape, zone_at}
 use Rattle.zns_commands.specs.Kept.{Grows, holds_of}
-use Rattle.zns_commands.specs.Answer.{Outcome, outcome}
+use Rattle.zns_commands.specs.Answer.{Effect, effect_of_answer}
 use Rattle.zns_commands.specs.Fault.{faulted}
 use Rattle.zns_commands.specs.Laws.{Commanded, Failed, Step, after}
 use Rattle.zns_commands.specs.Meaning.{meaning}
@@ -92,13 +92,13 @@ fault_leaves ns new slots runs holds zone fault ready heeds is =
 
 pub command_leaves : (ns new : ZonedNamespace) (slots : List (Option LoadedProgram)) (runs : List (Option Held)) (holds : Holds) (command : StandardCommand)
     (input bytes : List ℕ) (answer : Answer) → IsReady ns slots runs → holds ≡ held_by runs
-    → outcome answer new bytes ≡ meaning ns holds command input
+    → effect_of_answer answer new bytes ≡ meaning ns holds command input
     → IsReady new slots runs
     × ((sub : Submission) → commanded sub (state_of ns slots runs) (meaning ns (places_hold (state_of ns slots runs)) command input)
     ≡ answered sub answer bytes (state_of new slots runs))
 command_leaves ns new slots runs holds command input bytes answer ready heeds is =
     let s = state_of ns slots runs in
-    let later = ap (λ (o : Outcome). o.namespace) is in
+    let later = ap (λ (o : Effect). o.namespace) is in
     let left : IsLeft ns new slots runs =
     subst (λ (m : ZonedNamespace). IsLeft ns m slots runs) (sym later) (step_leaves ns slots runs (Commanded holds command input) ready heeds) in (
       left.ready,

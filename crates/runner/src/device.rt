@@ -124,7 +124,7 @@ impl Device {
         ensures no_data { data_length result ≡ 0 }
     {
         match self.namespace.fault(zone, state, &holds(&self.runs)) {
-            Ok(()) => Reply::Done,
+            Ok(()) => Reply::FaultTaken,
             Err(FaultRefused) => Reply::FaultRefused,
         }
     }

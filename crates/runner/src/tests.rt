@@ -148,7 +148,7 @@ fn an_image_is_the_one_of_now(rt: HostRuntime) {
         zone: 0,
         state: FaultState::ReadOnly,
     };
-    compare(&rt, &mut device, &mut data, &[(fault, Reply::Done)]);
+    compare(&rt, &mut device, &mut data, &[(fault, Reply::FaultTaken)]);
     assert_eq!(rt; seen(&device, 0), Some((ZoneState::ReadOnly, 2)));
 }
 

@@ -16,7 +16,7 @@ use Rattle.image_store.specs.Geometry.{Shape}
 use Rattle.image_store.specs.Namespace.{ZoneBlocks, ZonedNamespace, no_zone, zone_at, with_zone, grown, shape}
 use Rattle.zns_commands.specs.declared.write.WritePlan.{WritePlan}
 use Rattle.zns_commands.specs.Address.{zone_number}
-use Rattle.zns_commands.specs.Answer.{Outcome, success, concluded}
+use Rattle.zns_commands.specs.Answer.{Effect, success_effect, concluded}
 use Rattle.zns_commands.specs.Append.{append_checks, append_effect}
 use Rattle.zns_commands.specs.Fault.{fault_answer, faulted_by}
 use Rattle.zns_commands.specs.Read.{read_checks, read_effect}
@@ -113,7 +113,7 @@ faulted_grows : (answer : Result Unit FaultRefused) (ns : ZonedNamespace) (y z :
 faulted_grows (Ok done) ns y z fault stays = moved_grows ns None y z (state_of_fault fault) stays
 faulted_grows (Err none) ns y z fault stays = grows_not (zone_at ns z).blocks
 
-concluded_grows : (refusal : Option Status) (ns : ZonedNamespace) (effect : Outcome) (z : ℕ)
+concluded_grows : (refusal : Option Status) (ns : ZonedNamespace) (effect : Effect) (z : ℕ)
     → (is_cleared (zone_at effect.namespace z).state ≡ false → Grows (zone_at ns z).blocks (zone_at effect.namespace z).blocks)
     → is_cleared (zone_at (concluded refusal ns effect).namespace z).state ≡ false
     → Grows (zone_at ns z).blocks (zone_at (concluded refusal ns effect).namespace z).blocks
@@ -136,7 +136,7 @@ step_grows (Commanded holds (Receive lba dwords filter partial) input) ns z =
     (λ stays. grows_not (zone_at ns z).blocks)
 step_grows (Commanded holds (Send lba a select_all) input) ns z =
     concluded_grows (first_refused (send_checks ns holds lba a select_all input)) ns
-    (success (send_effect ns holds lba a select_all) 0 []) z
+    (success_effect (send_effect ns holds lba a select_all) 0 []) z
     (send_grows ns holds lba a select_all z)
 step_grows (Failed holds y fault) ns z = faulted_grows (fault_answer ns holds y fault) ns y z fault
 
@@ -170,7 +170,7 @@ faulted_shape : (answer : Result Unit FaultRefused) (ns : ZonedNamespace) (z : �
 faulted_shape (Ok done) ns z fault = moved_shape ns None z (state_of_fault fault)
 faulted_shape (Err none) ns z fault = refl
 
-concluded_shape : (refusal : Option Status) (ns : ZonedNamespace) (effect : Outcome)
+concluded_shape : (refusal : Option Status) (ns : ZonedNamespace) (effect : Effect)
     → shape effect.namespace ≡ shape ns → shape (concluded refusal ns effect).namespace ≡ shape ns
 concluded_shape None ns effect same = same
 concluded_shape (Some status) ns effect same = refl
@@ -188,7 +188,7 @@ step_shape (Commanded holds (Receive lba dwords filter partial) input) ns =
     concluded_shape (first_refused (receive_checks ns lba dwords input)) ns (receive_effect ns lba dwords filter partial) refl
 step_shape (Commanded holds (Send lba a select_all) input) ns =
     concluded_shape (first_refused (send_checks ns holds lba a select_all input)) ns
-    (success (send_effect ns holds lba a select_all) 0 []) (send_shape ns holds lba a select_all)
+    (success_effect (send_effect ns holds lba a select_all) 0 []) (send_shape ns holds lba a select_all)
 step_shape (Failed holds z fault) ns = faulted_shape (fault_answer ns holds z fault) ns z fault
 
 -- a zone that isn't cleared can be read

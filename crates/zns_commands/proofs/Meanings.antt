@@ -6,7 +6,7 @@ use Rattle.nvme_entry.specs.declared.command.StandardCommand.{StandardCommand}
 use Rattle.nvme_entry.specs.declared.command.StandardCommand.TheVariants.{Write, Read, Send, Receive, Append}
 use Rattle.nvme_entry.specs.Checks.{first_refused}
 use Rattle.image_store.specs.Namespace.{ZonedNamespace}
-use Rattle.zns_commands.specs.Answer.{Outcome, concluded}
+use Rattle.zns_commands.specs.Answer.{Effect, concluded}
 use Rattle.zns_commands.specs.Meaning.{meaning}
 use Rattle.zns_commands.specs.Laws.{checks_of, effect_of}
 
@@ -18,7 +18,7 @@ meaning_is ns holds (Send lba action select_all) input = refl
 meaning_is ns holds (Receive lba dwords filter partial) input = refl
 meaning_is ns holds (Append lba blocks) input = refl
 
-concluded_so : (P : ZonedNamespace → Type 0) (refusal : Option Status) (ns : ZonedNamespace) (effect : Outcome)
+concluded_so : (P : ZonedNamespace → Type 0) (refusal : Option Status) (ns : ZonedNamespace) (effect : Effect)
     → P ns → (refusal ≡ None → P effect.namespace) → P (concluded refusal ns effect).namespace
 concluded_so P None ns effect before done = done refl
 concluded_so P (Some status) ns effect before done = before
@@ -28,5 +28,5 @@ pub after_command : (P : ZonedNamespace → Type 0) (ns : ZonedNamespace) (holds
     → P ns → (first_refused (checks_of ns holds command input) ≡ None → P (effect_of ns holds command input).namespace)
     → P (meaning ns holds command input).namespace
 after_command P ns holds command input before done =
-    subst (λ (outcome : Outcome). P outcome.namespace) (sym (meaning_is ns holds command input))
+    subst (λ (done : Effect). P done.namespace) (sym (meaning_is ns holds command input))
     (concluded_so P (first_refused (checks_of ns holds command input)) ns (effect_of ns holds command input) before done)

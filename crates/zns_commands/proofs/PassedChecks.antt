@@ -19,7 +19,7 @@ use Rattle.nvme_entry.specs.declared.command.TheConstants.{MOST_TRANSFER}
 use Rattle.nvme_entry.specs.Checks.{demand, or_else, first_refused}
 use Rattle.image_store.specs.Namespace.{ZonedNamespace, zone_at, records, IsNamespace}
 use Rattle.zns_commands.specs.Address.{record_at, zone_number, block_total}
-use Rattle.zns_commands.specs.Answer.{Outcome, concluded}
+use Rattle.zns_commands.specs.Answer.{Effect, concluded}
 use Rattle.zns_commands.specs.Append.{append_checks, append_effect}
 use Rattle.zns_commands.specs.Resources.{room_by, room_for, why_not, closing_of}
 use Rattle.zns_commands.specs.Write.{write_checks, write_effect}
@@ -105,7 +105,7 @@ all_fail a b c d e s f g some six seven =
     (first_fails f _ six (first_fails g None seven (λ other none. cc)))))))
 
 -- a command that succeeds is one of which no check fails
-none_failed : (refusal : Option Status) (ns : ZonedNamespace) (effect : Outcome)
+none_failed : (refusal : Option Status) (ns : ZonedNamespace) (effect : Effect)
     → Fails refusal → (concluded refusal ns effect).status ≡ SUCCESS → refusal ≡ None
 none_failed None ns effect fails done = refl
 none_failed (Some status) ns effect fails done =

@@ -19,7 +19,7 @@ use Rattle.image_store.specs.Namespace.{ZoneBlocks, ZonedNamespace, no_zone, zon
 use Rattle.image_store.proofs.Proved.{allowed_is_within, blocks_keep_bytes}
 use Rattle.zns_commands.specs.Lasting.{Keeps, Lie, LyingIsRead, ReadsBack, ReadsAt, AppendedStays, WrittenStays}
 use Rattle.zns_commands.specs.Address.{record_at, zone_number, block_total, write_pointer}
-use Rattle.zns_commands.specs.Answer.{success, concluded}
+use Rattle.zns_commands.specs.Answer.{success_effect, concluded}
 use Rattle.zns_commands.specs.Append.{append_checks, append_effect}
 use Rattle.zns_commands.specs.Read.{read_refusal, blocks_read, read_checks, read_effect, read_meaning}
 use Rattle.zns_commands.specs.Resources.{room_for, closing_of}
@@ -70,13 +70,13 @@ read_back m z w blocks input h =
     (read_refusal (zone_at m (lba / size)).state) _ _ _ h.transfer (le-leb _ _ end) (le-leb _ _ one) open_zone in
     let zeros : List (List ℕ) = replicate blocks (replicate m.block 0) in
     ap (λ (r : Option Status). concluded r m (read_effect m lba blocks)) none
-    ∙ (ap (λ (k : ℕ). success m 0 (bytes_of (blocks_read m.block (zone_at m k).blocks (lba % size) blocks))) number
-    ∙ (ap (λ (k : ℕ). success m 0 (bytes_of (blocks_read m.block (zone_at m z).blocks k blocks))) place
-    ∙ (ap (λ (all : List (List ℕ)). success m 0 (bytes_of (take blocks (drop w all ++ zeros)))) h.there
-    ∙ (ap (λ (all : List (List ℕ)). success m 0 (bytes_of (take blocks (all ++ zeros)))) (drop_at h.front (h.more ++ h.behind) w h.start)
-    ∙ (ap (λ (all : List (List ℕ)). success m 0 (bytes_of (take blocks all))) (append_assoc h.more h.behind zeros)
-    ∙ (ap (λ (all : List (List ℕ)). success m 0 (bytes_of all)) (take_at h.more (h.behind ++ zeros) blocks h.count)
-    ∙ ap (success m 0) h.bytes))))))
+    ∙ (ap (λ (k : ℕ). success_effect m 0 (bytes_of (blocks_read m.block (zone_at m k).blocks (lba % size) blocks))) number
+    ∙ (ap (λ (k : ℕ). success_effect m 0 (bytes_of (blocks_read m.block (zone_at m z).blocks k blocks))) place
+    ∙ (ap (λ (all : List (List ℕ)). success_effect m 0 (bytes_of (take blocks (drop w all ++ zeros)))) h.there
+    ∙ (ap (λ (all : List (List ℕ)). success_effect m 0 (bytes_of (take blocks (all ++ zeros)))) (drop_at h.front (h.more ++ h.behind) w h.start)
+    ∙ (ap (λ (all : List (List ℕ)). success_effect m 0 (bytes_of (take blocks all))) (append_assoc h.more h.behind zeros)
+    ∙ (ap (λ (all : List (List ℕ)). success_effect m 0 (bytes_of all)) (take_at h.more (h.behind ++ zeros) blocks h.count)
+    ∙ ap (success_effect m 0) h.bytes))))))
 
 -- they lie there as long as the zone isn't cleared
 pub lie_on : (ns m : ZonedNamespace) (z w blocks : ℕ) (input : List ℕ) → Lie ns z w blocks input → Keeps ns m z → Lie m z w blocks input

@@ -6,7 +6,7 @@ use Rattle.zone_state.specs.declared.status.TheConstants.Status.{SUCCESS}
 use Rattle.nvme_entry.specs.declared.command.StandardCommand.TheVariants.{Write, Read, Send, Receive, Append}
 use Rattle.nvme_entry.specs.Checks.{first_refused}
 use Rattle.image_store.specs.Namespace.{ZonedNamespace}
-use Rattle.zns_commands.specs.Answer.{Outcome, success, concluded}
+use Rattle.zns_commands.specs.Answer.{Effect, success_effect, concluded}
 use Rattle.zns_commands.specs.Append.{append_checks, append_effect}
 use Rattle.zns_commands.specs.Read.{read_checks, read_effect}
 use Rattle.zns_commands.specs.Receive.{receive_checks, receive_effect}
@@ -31,23 +31,23 @@ one_more : (checks : List (Option Status)) → All Passes checks → All Passes 
 one_more checks all zero other in_list = refl
 one_more checks all (suc k) other in_list = all k other (omega arith)
 
-behind_one : (ns : ZonedNamespace) (checks : List (Option Status)) (effect outcome : Outcome)
-    → IsCase ns checks effect outcome → IsCase ns (None ∷ checks) effect outcome
-behind_one ns checks effect outcome (TakesEffect all is) = TakesEffect (one_more checks all) is
-behind_one ns checks effect outcome (IsRefused passed rest status split all is) =
+behind_one : (ns : ZonedNamespace) (checks : List (Option Status)) (effect done : Effect)
+    → IsCase ns checks effect done → IsCase ns (None ∷ checks) effect done
+behind_one ns checks effect done (TakesEffect all is) = TakesEffect (one_more checks all) is
+behind_one ns checks effect done (IsRefused passed rest status split all is) =
     IsRefused (None ∷ passed) rest status (ap (λ (others : List (Option Status)). None ∷ others) split) (one_more passed all) is
 
-some_case : (ns : ZonedNamespace) (checks : List (Option Status)) (effect : Outcome) → IsCase ns checks effect (concluded (first_refused checks) ns effect)
+some_case : (ns : ZonedNamespace) (checks : List (Option Status)) (effect : Effect) → IsCase ns checks effect (concluded (first_refused checks) ns effect)
 some_case ns [] effect = TakesEffect (λ k other in_list. absurd (omega arith)) refl
 some_case ns (Some status ∷ checks) effect = IsRefused [] checks status refl (λ k other in_list. absurd (omega arith)) refl
 some_case ns (None ∷ checks) effect =
     behind_one ns checks effect (concluded (first_refused checks) ns effect) (some_case ns checks effect)
 
-one_case : (ns : ZonedNamespace) (checks : List (Option Status)) (effect outcome : Outcome)
-    → IsCase ns checks effect outcome → outcome ≡ concluded (first_refused checks) ns effect
-one_case ns checks effect outcome (TakesEffect all is) =
+one_case : (ns : ZonedNamespace) (checks : List (Option Status)) (effect done : Effect)
+    → IsCase ns checks effect done → done ≡ concluded (first_refused checks) ns effect
+one_case ns checks effect done (TakesEffect all is) =
     is ∙ ap (λ (refusal : Option Status). concluded refusal ns effect) (sym (none_refused checks all))
-one_case ns checks effect outcome (IsRefused passed rest status split all is) =
+one_case ns checks effect done (IsRefused passed rest status split all is) =
     is ∙ ap (λ (refusal : Option Status). concluded refusal ns effect) (sym (ap first_refused split ∙ first_is passed rest status all))
 
 pub just_one_case : JustOneCase
@@ -61,7 +61,7 @@ just_one_case ns holds (Read lba blocks) input =
     (some_case ns checks effect, one_case ns checks effect)
 just_one_case ns holds (Send lba action select_all) input =
     let checks = send_checks ns holds lba action select_all input in
-    let effect = success (send_effect ns holds lba action select_all) 0 [] in
+    let effect = success_effect (send_effect ns holds lba action select_all) 0 [] in
     (some_case ns checks effect, one_case ns checks effect)
 just_one_case ns holds (Receive lba dwords filter partial) input =
     let checks = receive_checks ns lba dwords input in
@@ -73,7 +73,7 @@ just_one_case ns holds (Append lba blocks) input =
     (some_case ns checks effect, one_case ns checks effect)
 
 -- where no check fails the status is that of the effect
-refused_concluded : (refusal : Option Status) (ns : ZonedNamespace) (effect : Outcome)
+refused_concluded : (refusal : Option Status) (ns : ZonedNamespace) (effect : Effect)
     → effect.status ≡ SUCCESS → (concluded refusal ns effect).status ≢ SUCCESS → ChangesNothing ns (concluded refusal ns effect)
 refused_concluded None ns effect done not_success = absurd (not_success done)
 refused_concluded (Some status) ns effect done not_success = record { namespace = refl; dw0 = refl; dw1 = refl; output = refl }
@@ -85,7 +85,7 @@ refused_changes_nothing ns holds (Read lba blocks) input =
     refused_concluded (first_refused (read_checks ns lba blocks input)) ns (read_effect ns lba blocks) refl
 refused_changes_nothing ns holds (Send lba action select_all) input =
     refused_concluded (first_refused (send_checks ns holds lba action select_all input)) ns
-    (success (send_effect ns holds lba action select_all) 0 []) refl
+    (success_effect (send_effect ns holds lba action select_all) 0 []) refl
 refused_changes_nothing ns holds (Receive lba dwords filter partial) input =
     refused_concluded (first_refused (receive_checks ns lba dwords input)) ns (receive_effect ns lba dwords filter partial) refl
 refused_changes_nothing ns holds (Append lba blocks) input =

@@ -13,7 +13,7 @@ use Rattle.nvme_entry.specs.Laws.{number_in, descriptors_in}
 use Rattle.nvme_entry.specs.Report.{report, descriptor_at}
 use Rattle.image_store.specs.Namespace.{counted, records}
 use Rattle.zns_commands.specs.Address.{block_total}
-use Rattle.zns_commands.specs.Answer.{Outcome, success, concluded}
+use Rattle.zns_commands.specs.Answer.{Effect, success_effect, concluded}
 use Rattle.zns_commands.specs.Receive.{receive_checks, receive_effect}
 use Rattle.zns_commands.specs.Laws.{ReportsEveryZone}
 use Rattle.nvme_entry.proofs.Proved.{lists_every_zone}
@@ -34,11 +34,11 @@ reports_every_zone ns holds dwords partial sound room most =
     both_pass (nat_le (4 * dwords) MOST_TRANSFER) (nat_lt 0 (block_total ns)) INVALID_FIELD_IN_COMMAND LBA_OUT_OF_RANGE
     (le-leb _ _ most) (lt-ltb _ _ inside) in
     let given = report (4 * dwords) zones 0 size filter.All partial in
-    let is : concluded (first_refused (receive_checks ns 0 dwords [])) ns (receive_effect ns 0 dwords filter.All partial) ≡ success ns 0 given =
+    let is : concluded (first_refused (receive_checks ns 0 dwords [])) ns (receive_effect ns 0 dwords filter.All partial) ≡ success_effect ns 0 given =
     ap (λ (refusal : Option Status). concluded refusal ns (receive_effect ns 0 dwords filter.All partial)) none
-    ∙ ap (λ (first : ℕ). success ns 0 (report (4 * dwords) zones first size filter.All partial)) (zero-div size) in
+    ∙ ap (λ (first : ℕ). success_effect ns 0 (report (4 * dwords) zones first size filter.All partial)) (zero-div size) in
     let lists = lists_every_zone (4 * dwords) zones size partial (omega (arith, count)) (omega (arith, count, shape.zones_most)) in
-    subst (λ (done : Outcome). (done.status ≡ SUCCESS)
+    subst (λ (done : Effect). (done.status ≡ SUCCESS)
     × (number_in done.output ≡ length ns.zones)
     × (descriptors_in (length ns.zones) done.output ≡ map (descriptor_at size) (enumerate_from 0 zones)))
     (sym is)

@@ -18,7 +18,7 @@ use Rattle.image_store.specs.Blocks.{AreBytes}
 use Rattle.image_store.specs.Geometry.{IsShape}
 use Rattle.image_store.specs.Namespace.{ZoneBlocks, ZonedNamespace, no_zone, zone_at, counted, IsNamespace, all_empty}
 use Rattle.zns_commands.specs.Address.{record_at, zone_number, block_total}
-use Rattle.zns_commands.specs.Answer.{Outcome, success, concluded}
+use Rattle.zns_commands.specs.Answer.{Effect, success_effect, concluded}
 use Rattle.zns_commands.specs.Append.{append_checks, append_effect}
 use Rattle.zns_commands.specs.Read.{read_checks, read_effect}
 use Rattle.zns_commands.specs.Resources.{room_for, closing_of}
@@ -33,7 +33,7 @@ use Rattle.zns_commands.proofs.SweptZones.{count_in, all_sound}
 use Rattle.nvme_entry.proofs.Proved.{passed, demanded}
 use Rattle.zns_commands.proofs.PassedChecks.{roomed, allowed, zone_inside}
 
-concluded_sound : (refusal : Option Status) (ns : ZonedNamespace) (effect : Outcome)
+concluded_sound : (refusal : Option Status) (ns : ZonedNamespace) (effect : Effect)
     → IsNamespace ns → (refusal ≡ None → IsNamespace effect.namespace) → IsNamespace (concluded refusal ns effect).namespace
 concluded_sound None ns effect sound done = done refl
 concluded_sound (Some status) ns effect sound done = sound
@@ -90,7 +90,7 @@ step_sound (Commanded holds (Receive lba dwords filter partial) input) ns sound 
     concluded_sound (first_refused (receive_checks ns lba dwords input)) ns (receive_effect ns lba dwords filter partial) sound (λ none. sound)
 step_sound (Commanded holds (Send lba a select_all) input) ns sound some =
     concluded_sound (first_refused (send_checks ns holds lba a select_all input)) ns
-    (success (send_effect ns holds lba a select_all) 0 []) sound
+    (success_effect (send_effect ns holds lba a select_all) 0 []) sound
     (send_sound ns holds lba a select_all input sound)
 step_sound (Failed holds z fault) ns sound some = fault_sound ns holds z fault sound
 

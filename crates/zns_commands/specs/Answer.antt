@@ -6,7 +6,7 @@ use Rattle.image_store.specs.Namespace.{ZonedNamespace}
 use Rattle.zns_commands.specs.declared.answer.Answer.{Answer}
 
 -- the namespace after a command, what its completion says, and the data that it gives
-pub record Outcome : Type 0 where
+pub record Effect : Type 0 where
   pub namespace : ZonedNamespace
   pub status : Status
   pub dw0 : ℕ
@@ -14,12 +14,12 @@ pub record Outcome : Type 0 where
   pub output : List ℕ
 
 -- a refused command changes nothing and gives nothing
-abbrev pub refused : ZonedNamespace → Status → Outcome
-refused ns status = record { namespace = ns; status = status; dw0 = 0; dw1 = 0; output = [] }
+abbrev pub refused_effect : ZonedNamespace → Status → Effect
+refused_effect ns status = record { namespace = ns; status = status; dw0 = 0; dw1 = 0; output = [] }
 
 -- a command that succeeds, with a number of 64 bits in the completion's first two dwords
-abbrev pub success : ZonedNamespace → ℕ → List ℕ → Outcome
-success ns number output = record {
+abbrev pub success_effect : ZonedNamespace → ℕ → List ℕ → Effect
+success_effect ns number output = record {
   namespace = ns;
   status = SUCCESS;
   dw0 = number % 2 ^ 32;
@@ -28,9 +28,9 @@ success ns number output = record {
 }
 
 -- the effect of a command where no check fails
-abbrev pub concluded : Option Status → ZonedNamespace → Outcome → Outcome
+abbrev pub concluded : Option Status → ZonedNamespace → Effect → Effect
 concluded None before effect = effect
-concluded (Some status) before effect = refused before status
+concluded (Some status) before effect = refused_effect before status
 
 abbrev pub refused_answer : Status → Answer
 refused_answer status = record { status = status; dw0 = 0; dw1 = 0; length = 0 }
@@ -39,8 +39,8 @@ abbrev pub success_answer : ℕ → ℕ → Answer
 success_answer number size = record { status = SUCCESS; dw0 = number % 2 ^ 32; dw1 = number / 2 ^ 32; length = size }
 
 -- what an answer says, with the namespace after it and the bytes whose first ones are its data
-abbrev pub outcome : Answer → ZonedNamespace → List ℕ → Outcome
-outcome answer ns bytes = record {
+abbrev pub effect_of_answer : Answer → ZonedNamespace → List ℕ → Effect
+effect_of_answer answer ns bytes = record {
   namespace = ns;
   status = answer.status;
   dw0 = answer.dw0;

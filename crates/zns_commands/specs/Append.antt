@@ -7,7 +7,7 @@ use Rattle.nvme_entry.specs.Checks.{first_refused}
 use Rattle.image_store.specs.Blocks.{block_count}
 use Rattle.image_store.specs.Namespace.{ZonedNamespace, zone_at}
 use Rattle.zns_commands.specs.Address.{zone_number, write_pointer, lowest_checks}
-use Rattle.zns_commands.specs.Answer.{Outcome, success, concluded}
+use Rattle.zns_commands.specs.Answer.{Effect, success_effect, concluded}
 use Rattle.zns_commands.specs.Transfer.{transfer_checks}
 use Rattle.zns_commands.specs.Write.{zone_write_checks, write_plan, written}
 
@@ -21,11 +21,11 @@ append_checks ns holds lba blocks input =
     ++ zone_write_checks ns holds z (length (zone_at ns z).blocks) blocks
 
 -- the data is written at the zone's write pointer, which the completion tells
-abbrev pub append_effect : ZonedNamespace → Holds → ℕ → List ℕ → Outcome
+abbrev pub append_effect : ZonedNamespace → Holds → ℕ → List ℕ → Effect
 append_effect ns holds lba input =
-    let z = zone_number ns lba in success (written ns (write_plan ns holds z) input) (write_pointer ns z) []
+    let z = zone_number ns lba in success_effect (written ns (write_plan ns holds z) input) (write_pointer ns z) []
 
-abbrev pub append_meaning : ZonedNamespace → Holds → ℕ → ℕ → List ℕ → Outcome
+abbrev pub append_meaning : ZonedNamespace → Holds → ℕ → ℕ → List ℕ → Effect
 append_meaning ns holds lba blocks input =
     concluded (first_refused (append_checks ns holds lba blocks input)) ns (append_effect ns holds lba input)
 

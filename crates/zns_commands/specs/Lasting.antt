@@ -9,7 +9,7 @@ use Rattle.nvme_entry.specs.declared.command.TheConstants.{MOST_TRANSFER}
 use Rattle.image_store.specs.Blocks.{bytes_of}
 use Rattle.image_store.specs.Namespace.{ZoneBlocks, ZonedNamespace, no_zone, zone_at, shape, IsNamespace}
 use Rattle.zns_commands.specs.Address.{zone_number}
-use Rattle.zns_commands.specs.Answer.{Outcome, success}
+use Rattle.zns_commands.specs.Answer.{Effect, success_effect}
 use Rattle.zns_commands.specs.Kept.{Grows}
 use Rattle.zns_commands.specs.Laws.{Step, after_all, is_cleared, NoneClears, AreRead}
 use Rattle.zns_commands.specs.Meaning.{meaning}
@@ -73,10 +73,10 @@ pub record Lie (m : ZonedNamespace) (z w blocks : ℕ) (input : List ℕ) : Type
 abbrev pub LyingIsRead : Type 0
 LyingIsRead =
     (m : ZonedNamespace) (z w blocks : ℕ) (input : List ℕ) → Lie m z w blocks input
-    → read_meaning m (z * m.size + w) blocks [] ≡ success m 0 input
+    → read_meaning m (z * m.size + w) blocks [] ≡ success_effect m 0 input
 
--- what a Read gives later of the blocks that an outcome tells
-abbrev pub ReadsBack : ℕ → ZonedNamespace → ℕ → List ℕ → Outcome → Type 0
+-- what a Read gives later of the blocks that an effect tells
+abbrev pub ReadsBack : ℕ → ZonedNamespace → ℕ → List ℕ → Effect → Type 0
 ReadsBack z later blocks input done = Keeps done.namespace later z → AreRead later (done.dw0 + done.dw1 * 2 ^ 32) blocks input
 
 -- what an Append that succeeds put in is read in each namespace that keeps the zone
@@ -87,7 +87,7 @@ AppendedStays =
     → ReadsBack (zone_number ns lba) later blocks input (meaning ns holds (Append lba blocks) input)
 
 -- what a Read gives later of the blocks from an address on
-abbrev pub ReadsAt : ℕ → ℕ → ZonedNamespace → ℕ → List ℕ → Outcome → Type 0
+abbrev pub ReadsAt : ℕ → ℕ → ZonedNamespace → ℕ → List ℕ → Effect → Type 0
 ReadsAt z lba later blocks input done = Keeps done.namespace later z → AreRead later lba blocks input
 
 -- the same of a Write, which is read from its own address

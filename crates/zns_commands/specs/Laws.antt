@@ -18,7 +18,7 @@ use Rattle.image_store.specs.Blocks.{AreBytes}
 use Rattle.image_store.specs.Geometry.{Shape, IsShape}
 use Rattle.image_store.specs.Namespace.{ZonedNamespace, zone_at, appended, IsNamespace, all_empty, records}
 use Rattle.zns_commands.specs.Address.{zone_number}
-use Rattle.zns_commands.specs.Answer.{Outcome, success, refused}
+use Rattle.zns_commands.specs.Answer.{Effect, success_effect, refused_effect}
 use Rattle.zns_commands.specs.Append.{TakesBlocks, append_checks, append_effect}
 use Rattle.zns_commands.specs.Fault.{faulted}
 use Rattle.zns_commands.specs.Meaning.{meaning}
@@ -80,10 +80,10 @@ checks_of ns holds (Receive lba dwords filter partial) input = receive_checks ns
 checks_of ns holds (Append lba blocks) input = append_checks ns holds lba blocks input
 
 -- what a command comes to that is not refused
-abbrev pub effect_of : ZonedNamespace → Holds → StandardCommand → List ℕ → Outcome
+abbrev pub effect_of : ZonedNamespace → Holds → StandardCommand → List ℕ → Effect
 effect_of ns holds (Write lba blocks) input = write_effect ns holds lba input
 effect_of ns holds (Read lba blocks) input = read_effect ns lba blocks
-effect_of ns holds (Send lba action select_all) input = success (send_effect ns holds lba action select_all) 0 []
+effect_of ns holds (Send lba action select_all) input = success_effect (send_effect ns holds lba action select_all) 0 []
 effect_of ns holds (Receive lba dwords filter partial) input = receive_effect ns lba dwords filter partial
 effect_of ns holds (Append lba blocks) input = append_effect ns holds lba input
 
@@ -92,25 +92,25 @@ Passes check = check ≡ None
 
 -- the cases of a command: each check passes and it takes effect, or one fails behind others that pass,
 -- and it is refused with that one's status
-pub data IsCase (ns : ZonedNamespace) (checks : List (Option Status)) (effect outcome : Outcome) : Type 0 where
-  TakesEffect : All Passes checks → outcome ≡ effect → IsCase ns checks effect outcome
+pub data IsCase (ns : ZonedNamespace) (checks : List (Option Status)) (effect done : Effect) : Type 0 where
+  TakesEffect : All Passes checks → done ≡ effect → IsCase ns checks effect done
   IsRefused : (passed rest : List (Option Status)) (status : Status)
-      → checks ≡ passed ++ Some status ∷ rest → All Passes passed → outcome ≡ refused ns status → IsCase ns checks effect outcome
+      → checks ≡ passed ++ Some status ∷ rest → All Passes passed → done ≡ refused_effect ns status → IsCase ns checks effect done
 
--- the meaning of a command is one of its cases, and there is no other outcome in any of them
+-- the meaning of a command is one of its cases, and there is no other effect in any of them
 abbrev pub JustOneCase : Type 0
 JustOneCase =
     (ns : ZonedNamespace) (holds : Holds) (command : StandardCommand) (input : List ℕ)
     → IsCase ns (checks_of ns holds command input) (effect_of ns holds command input) (meaning ns holds command input)
-    × ((outcome : Outcome) → IsCase ns (checks_of ns holds command input) (effect_of ns holds command input) outcome
-    → outcome ≡ meaning ns holds command input)
+    × ((done : Effect) → IsCase ns (checks_of ns holds command input) (effect_of ns holds command input) done
+    → done ≡ meaning ns holds command input)
 
--- an outcome that leaves the namespace as it was, and gives nothing
-pub record ChangesNothing (ns : ZonedNamespace) (outcome : Outcome) : Type 0 where
-  pub namespace : outcome.namespace ≡ ns
-  pub dw0 : outcome.dw0 ≡ 0
-  pub dw1 : outcome.dw1 ≡ 0
-  pub output : outcome.output ≡ []
+-- an effect that leaves the namespace as it was, and gives nothing
+pub record ChangesNothing (ns : ZonedNamespace) (done : Effect) : Type 0 where
+  pub namespace : done.namespace ≡ ns
+  pub dw0 : done.dw0 ≡ 0
+  pub dw1 : done.dw1 ≡ 0
+  pub output : done.output ≡ []
 
 -- a command is done whole or not at all
 abbrev pub RefusedChangesNothing : Type 0
@@ -132,7 +132,7 @@ NoneClears z (step ∷ steps) ns = (is_cleared (zone_at (after step ns) z).state
 
 -- these bytes are read, under any holds, of so many blocks from an address on
 abbrev pub AreRead : ZonedNamespace → ℕ → ℕ → List ℕ → Type 0
-AreRead ns lba blocks bytes = (holds : Holds) → meaning ns holds (Read lba blocks) [] ≡ success ns 0 bytes
+AreRead ns lba blocks bytes = (holds : Holds) → meaning ns holds (Read lba blocks) [] ≡ success_effect ns 0 bytes
 
 -- what an Append that succeeds put in is read from the address that its completion tells, whatever
 -- commands and faults come in between, until the zone is reset, goes offline or is lost

@@ -4,7 +4,7 @@ use Rattle.zone_resources.specs.declared.holds.Holds.{Holds}
 use Rattle.nvme_entry.specs.declared.command.StandardCommand.{StandardCommand}
 use Rattle.nvme_entry.specs.declared.command.StandardCommand.TheVariants.{Write, Read, Send, Receive, Append}
 use Rattle.image_store.specs.Namespace.{ZonedNamespace}
-use Rattle.zns_commands.specs.Answer.{Outcome}
+use Rattle.zns_commands.specs.Answer.{Effect}
 use Rattle.zns_commands.specs.Append.{append_meaning}
 use Rattle.zns_commands.specs.Read.{read_meaning}
 use Rattle.zns_commands.specs.Receive.{receive_meaning}
@@ -12,7 +12,7 @@ use Rattle.zns_commands.specs.Send.{send_meaning}
 use Rattle.zns_commands.specs.Write.{write_meaning}
 
 -- under the holds of the active runs
-abbrev pub meaning : ZonedNamespace → Holds → StandardCommand → List ℕ → Outcome
+abbrev pub meaning : ZonedNamespace → Holds → StandardCommand → List ℕ → Effect
 meaning ns holds (Write lba blocks) input = write_meaning ns holds lba blocks input
 meaning ns holds (Read lba blocks) input = read_meaning ns lba blocks input
 meaning ns holds (Send lba action select_all) input = send_meaning ns holds lba action select_all input

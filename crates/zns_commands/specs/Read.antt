@@ -8,7 +8,7 @@ use Rattle.nvme_entry.specs.Checks.{first_refused}
 use Rattle.image_store.specs.Blocks.{bytes_of}
 use Rattle.image_store.specs.Namespace.{ZonedNamespace, zone_at}
 use Rattle.zns_commands.specs.Address.{zone_number, range_checks}
-use Rattle.zns_commands.specs.Answer.{Outcome, success, concluded}
+use Rattle.zns_commands.specs.Answer.{Effect, success_effect, concluded}
 use Rattle.zns_commands.specs.Transfer.{transfer_checks}
 
 -- why a zone in this state gives no blocks
@@ -28,11 +28,11 @@ read_checks ns lba blocks input =
     ++ read_refusal (zone_at ns (zone_number ns lba)).state
     ∷ []
 
-abbrev pub read_effect : ZonedNamespace → ℕ → ℕ → Outcome
+abbrev pub read_effect : ZonedNamespace → ℕ → ℕ → Effect
 read_effect ns lba blocks =
     let zone = zone_at ns (zone_number ns lba) in
-    success ns 0 (bytes_of (blocks_read ns.block zone.blocks (lba % ns.size) blocks))
+    success_effect ns 0 (bytes_of (blocks_read ns.block zone.blocks (lba % ns.size) blocks))
 
-abbrev pub read_meaning : ZonedNamespace → ℕ → ℕ → List ℕ → Outcome
+abbrev pub read_meaning : ZonedNamespace → ℕ → ℕ → List ℕ → Effect
 read_meaning ns lba blocks input =
     concluded (first_refused (read_checks ns lba blocks input)) ns (read_effect ns lba blocks)

@@ -6,7 +6,7 @@ use Rattle.nvme_entry.specs.Checks.{first_refused}
 use Rattle.nvme_entry.specs.Report.{report}
 use Rattle.image_store.specs.Namespace.{ZonedNamespace, records}
 use Rattle.zns_commands.specs.Address.{address_check, zone_number}
-use Rattle.zns_commands.specs.Answer.{Outcome, success, concluded}
+use Rattle.zns_commands.specs.Answer.{Effect, success_effect, concluded}
 use Rattle.zns_commands.specs.Transfer.{transfer_checks}
 
 -- the checks, in order (the order is profile): the transfer, the address
@@ -17,10 +17,10 @@ receive_checks ns lba dwords input =
     ∷ []
 
 -- the report begins at the zone that contains the address
-abbrev pub receive_effect : ZonedNamespace → ℕ → ℕ → ZoneFilter → Bool → Outcome
+abbrev pub receive_effect : ZonedNamespace → ℕ → ℕ → ZoneFilter → Bool → Effect
 receive_effect ns lba dwords filter partial =
-    success ns 0 (report (4 * dwords) (records ns) (zone_number ns lba) ns.size filter partial)
+    success_effect ns 0 (report (4 * dwords) (records ns) (zone_number ns lba) ns.size filter partial)
 
-abbrev pub receive_meaning : ZonedNamespace → ℕ → ℕ → ZoneFilter → Bool → List ℕ → Outcome
+abbrev pub receive_meaning : ZonedNamespace → ℕ → ℕ → ZoneFilter → Bool → List ℕ → Effect
 receive_meaning ns lba dwords filter partial input =
     concluded (first_refused (receive_checks ns lba dwords input)) ns (receive_effect ns lba dwords filter partial)

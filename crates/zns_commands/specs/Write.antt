@@ -10,7 +10,7 @@ use Rattle.image_store.specs.Blocks.{block_count}
 use Rattle.image_store.specs.Namespace.{ZonedNamespace, zone_at, appended, IsWithinLimits}
 use Rattle.zns_commands.specs.declared.write.WritePlan.{WritePlan}
 use Rattle.zns_commands.specs.Address.{zone_number, record_at, range_checks}
-use Rattle.zns_commands.specs.Answer.{Outcome, success, concluded}
+use Rattle.zns_commands.specs.Answer.{Effect, success_effect, concluded}
 use Rattle.zns_commands.specs.Resources.{room_for, why_not, closing_of, closed, CanGiveWay}
 use Rattle.zns_commands.specs.Transfer.{transfer_checks}
 
@@ -39,10 +39,10 @@ write_checks ns holds lba blocks input =
     ++ range_checks ns lba blocks
     ++ zone_write_checks ns holds (zone_number ns lba) (lba % ns.size) blocks
 
-abbrev pub write_effect : ZonedNamespace → Holds → ℕ → List ℕ → Outcome
-write_effect ns holds lba input = success (written ns (write_plan ns holds (zone_number ns lba)) input) 0 []
+abbrev pub write_effect : ZonedNamespace → Holds → ℕ → List ℕ → Effect
+write_effect ns holds lba input = success_effect (written ns (write_plan ns holds (zone_number ns lba)) input) 0 []
 
-abbrev pub write_meaning : ZonedNamespace → Holds → ℕ → ℕ → List ℕ → Outcome
+abbrev pub write_meaning : ZonedNamespace → Holds → ℕ → ℕ → List ℕ → Effect
 write_meaning ns holds lba blocks input =
     concluded (first_refused (write_checks ns holds lba blocks input)) ns (write_effect ns holds lba input)
 

@@ -3,7 +3,7 @@
 ghost use Rattle.std.specs.Prelude.{◌≡◌, ◌≤◌, ◌<◌, ◌^◌, length, List, ℕ, OnOk, OnErr};
 ghost use Rattle.nvme_entry.specs.Checks.{first_refused, allowed};
 ghost use Rattle.zns_commands.specs.Address.{IsPlace, zone_number, write_pointer};
-ghost use Rattle.zns_commands.specs.Answer.{outcome};
+ghost use Rattle.zns_commands.specs.Answer.{effect_of_answer};
 ghost use Rattle.zns_commands.specs.Append.{append_checks, append_meaning};
 ghost use Rattle.zns_commands.specs.Write.{write_plan, written};
 
@@ -23,7 +23,7 @@ pub fn append(
     blocks: BlockCount,
     input: &[u8],
 ) -> Answer
-    ensures answer { (bytes : List ℕ) → outcome result image.new bytes ≡ append_meaning image.old holds.now lba blocks input.now }
+    ensures answer { (bytes : List ℕ) → effect_of_answer result image.new bytes ≡ append_meaning image.old holds.now lba blocks input.now }
     ensures no_data { result.length ≡ 0 }
 {
     match try_append(image, holds, lba, blocks, input) {

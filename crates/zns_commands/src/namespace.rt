@@ -5,7 +5,7 @@ ghost use Rattle.zone_resources.specs.Holds.{no_holds};
 ghost use Rattle.image_store.specs.Geometry.{IsShape};
 ghost use Rattle.image_store.specs.Namespace.{appended, block_at, shape, IsNamespace, IsWritten};
 ghost use Rattle.zns_commands.specs.Address.{record_at};
-ghost use Rattle.zns_commands.specs.Answer.{outcome};
+ghost use Rattle.zns_commands.specs.Answer.{effect_of_answer};
 ghost use Rattle.zns_commands.specs.Append.{append_effect, TakesBlocks};
 ghost use Rattle.zns_commands.specs.Fault.{fault_answer, faulted};
 ghost use Rattle.zns_commands.specs.Meaning.{meaning};
@@ -100,7 +100,7 @@ impl Namespace {
         holds: &Holds,
     ) -> Answer
         requires { MOST_TRANSFER ≤ length output.old }
-        ensures meaning { outcome result self.new output.new ≡ meaning self.old holds.now command.now input.now }
+        ensures meaning { effect_of_answer result self.new output.new ≡ meaning self.old holds.now command.now input.now }
         ensures most { result.length ≤ MOST_TRANSFER }
         ensures rest { drop result.length output.new ≡ drop result.length output.old }
     {

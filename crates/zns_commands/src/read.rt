@@ -5,7 +5,7 @@ ghost use Rattle.image_store.specs.Blocks.{bytes_of};
 ghost use Rattle.image_store.specs.Namespace.{ZonedNamespace, zone_at};
 ghost use Rattle.nvme_entry.specs.Checks.{first_refused, allowed};
 ghost use Rattle.zns_commands.specs.Address.{place_in};
-ghost use Rattle.zns_commands.specs.Answer.{outcome};
+ghost use Rattle.zns_commands.specs.Answer.{effect_of_answer};
 ghost use Rattle.zns_commands.specs.Read.{read_checks, read_meaning, blocks_read};
 
 use crate::address::range;
@@ -71,7 +71,7 @@ fn give_blocks(image: &Image, place: Place, blocks: BlockCount, output: &mut [u8
 /// Gives the data of the blocks from `lba` on. It changes nothing.
 pub fn read(image: &Image, lba: u64, blocks: BlockCount, input: &[u8], output: &mut [u8]) -> Answer
     requires { MOST_TRANSFER ≤ length output.old }
-    ensures answer { outcome result image.now output.new ≡ read_meaning image.now lba blocks input.now }
+    ensures answer { effect_of_answer result image.now output.new ≡ read_meaning image.now lba blocks input.now }
     ensures most { result.length ≤ MOST_TRANSFER }
     ensures rest { drop result.length output.new ≡ drop result.length output.old }
 {

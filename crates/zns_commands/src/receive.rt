@@ -5,7 +5,7 @@ ghost use Rattle.nvme_entry.specs.Checks.{first_refused, allowed};
 ghost use Rattle.nvme_entry.specs.Report.{report};
 ghost use Rattle.zns_commands.specs.Address.{zone_number};
 ghost use Rattle.image_store.specs.Namespace.{records};
-ghost use Rattle.zns_commands.specs.Answer.{outcome};
+ghost use Rattle.zns_commands.specs.Answer.{effect_of_answer};
 ghost use Rattle.zns_commands.specs.Receive.{receive_checks, receive_meaning};
 
 use crate::answer::Answer;
@@ -70,7 +70,7 @@ pub fn receive(
     output: &mut [u8],
 ) -> Answer
     requires { MOST_TRANSFER ≤ length output.old }
-    ensures answer { outcome result image.now output.new ≡ receive_meaning image.now lba dwords filter partial input.now }
+    ensures answer { effect_of_answer result image.now output.new ≡ receive_meaning image.now lba dwords filter partial input.now }
     ensures most { result.length ≤ MOST_TRANSFER }
     ensures rest { drop result.length output.new ≡ drop result.length output.old }
 {

@@ -3,8 +3,8 @@ use Rattle.interp.proofs.Stepping.{goes, stuck}
 use Rattle.interp.specs.Machine.{state_at}
 use Rattle.interp.proofs.machine.Machine.execute.Goals as goal
 
-pub returns-in-Ok-perform-clause-outcome : goal.returns-in-Ok-perform-clause-outcome
-returns-in-Ok-perform-clause-outcome c =
+pub returns-in-Ok-perform-clause-step_end : goal.returns-in-Ok-perform-clause-step_end
+returns-in-Ok-perform-clause-step_end c =
     let program = c.args.program.now in
     let slot = c.args.slot in
     let s = state_at c.args.self.now slot c.args.group.now in
@@ -12,8 +12,8 @@ returns-in-Ok-perform-clause-outcome c =
     (state_at c.perform.new.self slot c.perform.new.group) c.in-Ok.ensures.value
     (c.in-Ok-perform.ensures.answer program slot) (c.in-Ok-perform.ensures.state slot)
 
-pub returns-in-Err-perform-clause-outcome : goal.returns-in-Err-perform-clause-outcome
-returns-in-Err-perform-clause-outcome c =
+pub returns-in-Err-perform-clause-step_end : goal.returns-in-Err-perform-clause-step_end
+returns-in-Err-perform-clause-step_end c =
     let program = c.args.program.now in
     let slot = c.args.slot in
     let s = state_at c.args.self.now slot c.args.group.now in

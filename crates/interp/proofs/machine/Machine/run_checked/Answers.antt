@@ -5,7 +5,7 @@ use Rattle.interp.proofs.machine.Machine.run_checked.Goals as goal
 
 pub steps-preserved : goal.steps-preserved
 steps-preserved c = record {
-  run = goes_on _ _ _ _ _ 0 _ _ _ c.steps-test.true c.in-Next.ensures.outcome c.steps.invariant.run;
+  run = goes_on _ _ _ _ _ 0 _ _ _ c.steps-test.true c.in-Next.ensures.step_end c.steps.invariant.run;
   at = search rules;
   steps = search rules;
   same_scratch = search rules;
@@ -20,7 +20,7 @@ returns-clause-run c =
 
 pub returns-in-Exit-clause-run : goal.returns-in-Exit-clause-run
 returns-in-Exit-clause-run c =
-    ends _ _ _ _ _ _ _ _ _ _ (search rules) c.steps-test.true c.in-Exit.ensures.outcome c.steps.invariant.run
+    ends _ _ _ _ _ _ _ _ _ _ (search rules) c.steps-test.true c.in-Exit.ensures.step_end c.steps.invariant.run
 
 pub returns-in-Exit-clause-beyond : goal.returns-in-Exit-clause-beyond
 returns-in-Exit-clause-beyond c =
@@ -28,7 +28,7 @@ returns-in-Exit-clause-beyond c =
 
 pub returns-in-Trap-clause-run : goal.returns-in-Trap-clause-run
 returns-in-Trap-clause-run c =
-    sticks _ _ _ _ _ _ _ _ _ _ _ (search rules) c.steps-test.true c.in-Trap.ensures.outcome c.steps.invariant.run
+    sticks _ _ _ _ _ _ _ _ _ _ _ (search rules) c.steps-test.true c.in-Trap.ensures.step_end c.steps.invariant.run
 
 pub returns-in-Trap-clause-beyond : goal.returns-in-Trap-clause-beyond
 returns-in-Trap-clause-beyond c =
