@@ -3,7 +3,7 @@
 ghost use Rattle.std.specs.Prelude.{[], None};
 
 use crate::files::{FileError, Files};
-use image_store::{DeviceFault, Sink, Source};
+use image_store::{StreamFault, Sink, Source};
 use std::fs::OpenFile;
 use std::io::{BufReader, BufWriter, Read, Write};
 use std::path::Path;
@@ -112,12 +112,12 @@ impl<F: Read + Drop> Source for FileReader<F> {
 
     ghost failures = { λ reader. reader.failures };
 
-    fn read(&mut self, to: &mut [u8]) -> Result<usize, DeviceFault> {
+    fn read(&mut self, to: &mut [u8]) -> Result<usize, StreamFault> {
         match self.file.read(to) {
             Ok(count) => Ok(count),
             Err(_) => {
                 self.failures += 1;
-                Err(DeviceFault)
+                Err(StreamFault)
             }
         }
     }
@@ -143,12 +143,12 @@ impl<F: Write + Drop> Sink for FileWriter<F> {
 
     ghost failures = { λ writer. writer.failures };
 
-    fn write(&mut self, from: &[u8]) -> Result<usize, DeviceFault> {
+    fn write(&mut self, from: &[u8]) -> Result<usize, StreamFault> {
         match self.file.write_all(from) {
             Ok(()) => Ok(from.len()),
             Err(_) => {
                 self.failures += 1;
-                Err(DeviceFault)
+                Err(StreamFault)
             }
         }
     }

@@ -32,13 +32,13 @@ pub fn load<'a, F: Files>(alloc: Global, path: &'a str, files: &mut F) -> Result
 /// What the user is told of an image that was not loaded.
 fn refused<'a>(path: &'a str, fault: LoadFault) -> Failure<'a>
     ensures told { result ≡ told_of_image path.entry fault }
-    ensures device { fault ≡ LoadFault.Device → result ≡ Failure.CannotRead path.entry }
+    ensures stream { fault ≡ LoadFault.Stream → result ≡ Failure.CannotRead path.entry }
     ensures memory { fault ≡ LoadFault.Memory → result ≡ Failure.NoMemory }
-    ensures others { fault ≢ LoadFault.Device → fault ≢ LoadFault.Memory → result ≡ Failure.ImageRefused path.entry fault }
+    ensures others { fault ≢ LoadFault.Stream → fault ≢ LoadFault.Memory → result ≡ Failure.ImageRefused path.entry fault }
     ensures elsewhere { result ≢ Failure.CannotPrint }
 {
     match fault {
-        LoadFault::Device => Failure::CannotRead(path),
+        LoadFault::Stream => Failure::CannotRead(path),
         LoadFault::Memory => Failure::NoMemory,
         _ => Failure::ImageRefused { path, fault },
     }

@@ -9,7 +9,7 @@ use Rattle.std.proofs.Math.Nat.{mul-le-mul, suc-mul}
 use Rattle.zone_state.specs.declared.state.ZoneState.{ZoneState}
 use Rattle.zone_state.specs.declared.state.ZoneState.TheVariants.{Empty, ImplicitlyOpened, ExplicitlyOpened, Closed, ReadOnly, Full, Offline}
 use Rattle.zone_state.specs.State.{code_of, state_of}
-use Rattle.zone_state.specs.Zone.{ZoneRecord, IsZone}
+use Rattle.zone_state.specs.Zone.{CountedZone, IsZone}
 use Rattle.zone_resources.specs.Admission.{IsWithin}
 use Rattle.zone_resources.specs.Counts.{open_count, active_count}
 use Rattle.zone_resources.specs.declared.admission.Limits.{Limits}
@@ -17,7 +17,7 @@ use Rattle.image_store.specs.declared.fault.LoadFault.{LoadFault}
 use Rattle.image_store.specs.declared.fault.LoadFault.TheVariants as fault
 use Rattle.image_store.specs.declared.fault.RecordFault.TheVariants as record_fault
 use Rattle.image_store.specs.Blocks.{blocks_of, bytes_of}
-use Rattle.image_store.specs.Flat.{no_record, zone_seen}
+use Rattle.image_store.specs.Flat.{no_counted_zone, zone_seen}
 use Rattle.image_store.specs.declared.geometry.TheConstants.{MOST_ZONES, MOST_ZONE_BLOCKS}
 use Rattle.image_store.specs.declared.header.Header.{Header}
 use Rattle.image_store.specs.declared.version.Version.{Version}
@@ -52,39 +52,39 @@ code_again Full = refl
 code_again Offline = refl
 
 -- records that can be spelled
-pub record CanSpell (capacity : ℕ) (z : ZoneRecord) : Type 0 where
+pub record CanSpell (capacity : ℕ) (z : CountedZone) : Type 0 where
   pub same : z.capacity ≡ capacity
   pub fits : IsZone z.state z.written capacity
   pub small : capacity < 2 ^ 32
 
-record_again : (zone capacity : ℕ) (z : ZoneRecord) → CanSpell capacity z → zone_in zone capacity (record_text z) ≡ Ok z
+record_again : (zone capacity : ℕ) (z : CountedZone) → CanSpell capacity z → zone_in zone capacity (record_text z) ≡ Ok z
 record_again zone capacity z can =
     let most = within_capacity z.state z.written capacity can.fits in
     let small = can.small in
     let number = word_again z.written [] (omega arith) in
     ap (λ (n : ℕ). zone_told zone (code_of z.state) (state_of (code_of z.state)) n capacity) number
     ∙ (ap (λ state. zone_told zone (code_of z.state) state z.written capacity) (code_again z.state)
-    ∙ (ap (λ (test : Bool). let r : Result ZoneRecord LoadFault = cond test (Ok (record { state = z.state; written = z.written; capacity = capacity })) (Err (fault.ZoneRecord zone (record_fault.Blocks z.state z.written capacity))) in r) (allows_true z.state z.written capacity can.fits)
-    ∙ ap (λ (n : ℕ). let same : ZoneRecord = record { state = z.state; written = z.written; capacity = n } in let r : Result ZoneRecord LoadFault = Ok same in r) (sym can.same)))
+    ∙ (ap (λ (test : Bool). let r : Result CountedZone LoadFault = cond test (Ok (record { state = z.state; written = z.written; capacity = capacity })) (Err (fault.BadZone zone (record_fault.Blocks z.state z.written capacity))) in r) (allows_true z.state z.written capacity can.fits)
+    ∙ ap (λ (n : ℕ). let same : CountedZone = record { state = z.state; written = z.written; capacity = n } in let r : Result CountedZone LoadFault = Ok same in r) (sym can.same)))
 
-records_again : (zone capacity : ℕ) (zs : List ZoneRecord) → ((k : ℕ) → k < length zs → CanSpell capacity (get_or zs k no_record)) → zones_in zone capacity (length zs) (records_text zs) ≡ Ok zs
+records_again : (zone capacity : ℕ) (zs : List CountedZone) → ((k : ℕ) → k < length zs → CanSpell capacity (get_or zs k no_counted_zone)) → zones_in zone capacity (length zs) (records_text zs) ≡ Ok zs
 records_again zone capacity [] can = refl
 records_again zone capacity (z ∷ zs) can =
-    ap (λ (r : Result ZoneRecord LoadFault). r >>= λ first. zones_in (zone + 1) capacity (length zs) (records_text zs) >>= λ more. Ok (first ∷ more)) (record_again zone capacity z (can 0 (omega arith)))
-    ∙ ap (λ (r : Result (List ZoneRecord) LoadFault). r >>= λ more. Ok (z ∷ more)) (records_again (zone + 1) capacity zs (λ k h. can (suc k) (omega arith)))
+    ap (λ (r : Result CountedZone LoadFault). r >>= λ first. zones_in (zone + 1) capacity (length zs) (records_text zs) >>= λ more. Ok (first ∷ more)) (record_again zone capacity z (can 0 (omega arith)))
+    ∙ ap (λ (r : Result (List CountedZone) LoadFault). r >>= λ more. Ok (z ∷ more)) (records_again (zone + 1) capacity zs (λ k h. can (suc k) (omega arith)))
 
-pub length-records : (zs : List ZoneRecord) → length (records_text zs) ≡ length zs * 8
+pub length-records : (zs : List CountedZone) → length (records_text zs) ≡ length zs * 8
 length-records [] = refl
 length-records (z ∷ zs) = omega (arith, length-records zs, suc-mul (length zs) 8, length-append (record_text z) (records_text zs))
 
-pub records_read : (s : Shape) (zs : List ZoneRecord) (rest : List ℕ) → length zs ≡ s.zones → ((k : ℕ) → k < length zs → CanSpell s.capacity (get_or zs k no_record))
+pub records_read : (s : Shape) (zs : List CountedZone) (rest : List ℕ) → length zs ≡ s.zones → ((k : ℕ) → k < length zs → CanSpell s.capacity (get_or zs k no_counted_zone))
     → records_in s (records_text zs ++ rest) ≡ Ok (zs, rest)
 records_read s zs rest count can =
     ap (λ (r : Result Split LoadFault). r >>= λ front. zones_in 0 s.capacity s.zones front.0 >>= λ all. Ok (all, front.1)) (bytes_whole (s.zones * 8) (records_text zs) rest (length-records zs ∙ ap (λ (n : ℕ). n * 8) count))
     ∙ (ap (λ (n : ℕ). zones_in 0 s.capacity n (records_text zs) >>= λ all. Ok (all, rest)) (sym count)
-    ∙ ap (λ (r : Result (List ZoneRecord) LoadFault). r >>= λ all. Ok (all, rest)) (records_again 0 s.capacity zs can))
+    ∙ ap (λ (r : Result (List CountedZone) LoadFault). r >>= λ all. Ok (all, rest)) (records_again 0 s.capacity zs can))
 
-pub limits_read : (limits : Limits) (zs : List ZoneRecord) → IsWithin zs limits → limits_kept limits zs ≡ Ok tt
+pub limits_read : (limits : Limits) (zs : List CountedZone) → IsWithin zs limits → limits_kept limits zs ≡ Ok tt
 limits_read limits zs within = rw (le-leb (open_count zs) limits.open_limit within.opened, le-leb (active_count zs) limits.active_limit within.active) refl
 
 -- blocks that are whole are cut from their bytes again
@@ -112,12 +112,12 @@ blocks_read b c (zone ∷ zones) rest whole =
     ∙ (ap (λ (r : Result (List ZoneBlocks × List ℕ) LoadFault). r >>= λ more. Ok (zone_seen b (counted c zone) (bytes_of zone.blocks) ∷ more.0, more.1)) (blocks_read b c zones rest (λ z i h. whole (suc z) i h))
     ∙ ap (λ (bs : List (List ℕ)). let seen : ZoneBlocks = record { state = zone.state; blocks = bs } in let r : Result (List ZoneBlocks × List ℕ) LoadFault = Ok (seen ∷ zones, rest) in r) (blocks_again b zone.blocks (whole 0))))
 
-pub at-counted : (c : ℕ) (zones : List ZoneBlocks) (k : ℕ) → k < length zones → get_or (map (counted c) zones) k no_record ≡ counted c (get_or zones k no_zone)
+pub at-counted : (c : ℕ) (zones : List ZoneBlocks) (k : ℕ) → k < length zones → get_or (map (counted c) zones) k no_counted_zone ≡ counted c (get_or zones k no_zone)
 at-counted c [] k h = absurd (omega arith)
 at-counted c (zone ∷ zones) zero h = refl
 at-counted c (zone ∷ zones) (suc k) h = at-counted c zones k (omega arith)
 
-pub can_spell : (ns : ZonedNamespace) → IsNamespace ns → (k : ℕ) → k < length (records ns) → CanSpell ns.capacity (get_or (records ns) k no_record)
+pub can_spell : (ns : ZonedNamespace) → IsNamespace ns → (k : ℕ) → k < length (records ns) → CanSpell ns.capacity (get_or (records ns) k no_counted_zone)
 can_spell ns sound k h =
     let there : k < length ns.zones = omega (arith, length-map ns.zones (counted ns.capacity)) in
     let most = sound.shape.capacity_most in
@@ -127,9 +127,9 @@ can_spell ns sound k h =
 -- no namespace has more written blocks than can be told
 pub total_small : (ns : ZonedNamespace) → IsNamespace ns → written_blocks (records ns) < 2 ^ 64
 total_small ns sound =
-    let each : (k : ℕ) → k < length (records ns) → (get_or (records ns) k no_record).written ≤ ns.capacity =
-    λ k h. let z = get_or (records ns) k no_record in within_capacity z.state z.written ns.capacity (can_spell ns sound k h).fits in
-    let most = sum_by-le (λ z. z.written) ns.capacity (records ns) (All-from_get_or (λ (z : ZoneRecord). z.written ≤ ns.capacity) (records ns) no_record each) in
+    let each : (k : ℕ) → k < length (records ns) → (get_or (records ns) k no_counted_zone).written ≤ ns.capacity =
+    λ k h. let z = get_or (records ns) k no_counted_zone in within_capacity z.state z.written ns.capacity (can_spell ns sound k h).fits in
+    let most = sum_by-le (λ z. z.written) ns.capacity (records ns) (All-from_get_or (λ (z : CountedZone). z.written ≤ ns.capacity) (records ns) no_counted_zone each) in
     let known = sound.shape in
     let zones : length (records ns) ≤ MOST_ZONES = let count = length-map ns.zones (counted ns.capacity) in let few = known.zones_most in omega arith in
     let capacity : ns.capacity ≤ MOST_ZONE_BLOCKS = let some = known.capacity_most in let few = known.size_most in omega arith in
@@ -140,7 +140,7 @@ same_number : (n : ℕ) → nat_eq n n ≡ true
 same_number n = grind (arith, nat_tests)
 
 -- the number of written blocks that the header tells is that of the records
-pub total_read : (version : Version) (zs : List ZoneRecord) → total_kept (total_in version (written_blocks zs)) zs ≡ Ok tt
+pub total_read : (version : Version) (zs : List CountedZone) → total_kept (total_in version (written_blocks zs)) zs ≡ Ok tt
 total_read One zs = refl
 total_read Two zs =
     let total = written_blocks zs in

@@ -1,18 +1,18 @@
 -- What calls that read answer, one after another.
 use Rattle.std.proofs.Common.{◌≡◌, Bool, true, false, cond, Result, Ok, Err, refl, ap, sym, subst}
 use Rattle.image_store.specs.declared.fault.LoadFault.{LoadFault}
-use Rattle.image_store.specs.declared.fault.LoadFault.TheVariants.{Truncated, Magic, Geometry, ZoneRecord, Total, Limits, Trailing, Device, Memory}
+use Rattle.image_store.specs.declared.fault.LoadFault.TheVariants.{Truncated, Magic, Geometry, BadZone, Total, Limits, Trailing, Stream, Memory}
 use Rattle.image_store.specs.Loading.{Fails, Gives}
 use Rattle.image_store.specs.Reading.{◌>>=◌}
 
 -- a fault of the first call is one of both
 pub fails_then : {X Y : Type 0} (wanted may : Type 0) (fault : LoadFault) (read : Result X LoadFault) (next : X → Result Y LoadFault) → (wanted → may) → Fails wanted fault read → Fails may fault (read >>= next)
-fails_then wanted may Device read next up h = tt
+fails_then wanted may Stream read next up h = tt
 fails_then wanted may Memory read next up h = up h
 fails_then wanted may Truncated read next up h = ap (λ r. r >>= next) h
 fails_then wanted may Magic read next up h = ap (λ r. r >>= next) h
 fails_then wanted may (Geometry first) read next up h = ap (λ r. r >>= next) h
-fails_then wanted may (ZoneRecord zone first) read next up h = ap (λ r. r >>= next) h
+fails_then wanted may (BadZone zone first) read next up h = ap (λ r. r >>= next) h
 fails_then wanted may (Total told counted) read next up h = ap (λ r. r >>= next) h
 fails_then wanted may Limits read next up h = ap (λ r. r >>= next) h
 fails_then wanted may Trailing read next up h = ap (λ r. r >>= next) h
@@ -24,7 +24,7 @@ gives_then may view result read x next e h =
 
 -- what never fails itself has the fault of what it follows
 pub fails_before : {X Y : Type 0} (fault : LoadFault) (read : Result X LoadFault) (f : X → Y) → Fails ⊥ fault (read >>= λ x. Ok (f x)) → Fails ⊥ fault read
-fails_before Device read f h = tt
+fails_before Stream read f h = tt
 fails_before Memory read f h = h
 fails_before Truncated (Ok x) f h = absurd cc
 fails_before Truncated (Err first) f h = cc
@@ -32,8 +32,8 @@ fails_before Magic (Ok x) f h = absurd cc
 fails_before Magic (Err first) f h = cc
 fails_before (Geometry why) (Ok x) f h = absurd cc
 fails_before (Geometry why) (Err first) f h = cc
-fails_before (ZoneRecord zone why) (Ok x) f h = absurd cc
-fails_before (ZoneRecord zone why) (Err first) f h = cc
+fails_before (BadZone zone why) (Ok x) f h = absurd cc
+fails_before (BadZone zone why) (Err first) f h = cc
 fails_before (Total told counted) (Ok x) f h = absurd cc
 fails_before (Total told counted) (Err first) f h = cc
 fails_before Limits (Ok x) f h = absurd cc

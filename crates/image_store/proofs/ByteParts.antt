@@ -1,7 +1,7 @@
 -- Parts of bytes are bytes.
 use Rattle.std.proofs.Common.{ℕ, ◌+◌, ◌*◌, ◌<◌, zero, suc, List, [], ◌∷◌, ◌++◌, length, get_or, take, drop, sym, subst, arith}
 use Rattle.std.proofs.lemmas.List.{take-append-drop, get_or-drop}
-use Rattle.zone_state.specs.Zone.{ZoneRecord}
+use Rattle.zone_state.specs.Zone.{CountedZone}
 use Rattle.image_store.specs.Blocks.{AreBytes, blocks_of}
 use Rattle.image_store.specs.Flat.{zones_of, spliced}
 use Rattle.image_store.specs.Namespace.{no_zone}
@@ -36,7 +36,7 @@ blocks_fit b zero xs fit i = λ k. omega arith
 blocks_fit b (suc n) xs fit zero = bytes_to b xs fit
 blocks_fit b (suc n) xs fit (suc i) = blocks_fit b n (drop b xs) (bytes_from b xs fit) i
 
-pub zones_fit : (b c : ℕ) (zs : List ZoneRecord) (xs : List ℕ) → AreBytes xs
+pub zones_fit : (b c : ℕ) (zs : List CountedZone) (xs : List ℕ) → AreBytes xs
     → (z i : ℕ) → AreBytes (get_or (get_or (zones_of b c zs xs) z no_zone).blocks i [])
 zones_fit b c [] xs fit z i = λ k. omega arith
 zones_fit b c (r ∷ zs) xs fit zero i = blocks_fit b r.written xs fit i

@@ -4,7 +4,7 @@ use Rattle.std.proofs.lemmas.Bool.Decides.{leb_tells}
 use Rattle.std.proofs.lemmas.List.{length-map, length-take-le}
 use Rattle.std.proofs.Math.Dec.{eqb-suc-zero}
 use Rattle.std.proofs.Math.Seq.{take-append-add}
-use Rattle.zone_state.specs.Zone.{ZoneRecord}
+use Rattle.zone_state.specs.Zone.{CountedZone}
 use Rattle.image_store.specs.declared.fault.LoadFault.{LoadFault}
 use Rattle.image_store.specs.declared.fault.LoadFault.TheVariants as fault
 use Rattle.image_store.specs.Blocks.{bytes_of}
@@ -89,7 +89,7 @@ past_cut_records version ns sound has n h =
     let last = blocks_text ns.zones in
     let cut = take n (front ++ last) in
     let size : length front ≡ s.zones * 8 = length-records zs ∙ ap (λ (k : ℕ). k * 8) (length-map ns.zones (counted ns.capacity)) in
-    let zones : Result Split LoadFault → Result (List ZoneRecord × List ℕ) LoadFault =
+    let zones : Result Split LoadFault → Result (List CountedZone × List ℕ) LoadFault =
     λ r. r >>= λ part. zones_in 0 s.capacity s.zones part.0 >>= λ zs. Ok (zs, part.1) in
     elim (leb_tells (length front) n) [
       | inl there ↦
@@ -100,7 +100,7 @@ past_cut_records version ns sound has n h =
           (blocks_cut ns.block ns.capacity ns.zones left sound.whole (omega (arith, length-append front last, there.1))))
       | inr short ↦
           past_header (header version s total ++ cut) cut (told_of version ns) (header_read version s total cut sound.shape has (total_small ns sound))
-          ∙ ap (λ (r : Result (List ZoneRecord × List ℕ) LoadFault). r >>= λ got. after_records (told_of version ns) got.0 got.1)
+          ∙ ap (λ (r : Result (List CountedZone × List ℕ) LoadFault). r >>= λ got. after_records (told_of version ns) got.0 got.1)
           (ap zones (cut_within (s.zones * 8) front last n size (omega (arith, short.1, size))))
     ]
 

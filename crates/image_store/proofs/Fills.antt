@@ -6,7 +6,7 @@ use Rattle.std.proofs.Math.Seq.{take-add}
 use borrow.Rule.Slice.PartMut.{put_mid, post_of}
 use Rattle.image_store.specs.declared.fault.LoadFault.{LoadFault}
 use Rattle.image_store.specs.declared.fault.LoadFault.TheVariants.{Truncated}
-use Rattle.image_store.specs.Device.{IsRead}
+use Rattle.image_store.specs.Streams.{IsRead}
 use Rattle.image_store.specs.Reading.{bytes_in}
 
 abbrev pub Split : Type 0

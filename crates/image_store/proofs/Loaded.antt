@@ -4,13 +4,13 @@ use Rattle.std.proofs.lemmas.Bool.{leb-true, and_parts}
 use Rattle.std.proofs.lemmas.List.{length-map}
 use Rattle.std.proofs.Math.Nat.{mul-le-mul_right, suc-mul}
 use Rattle.std.specs.Prelude.{nat_le, ◌&&◌}
-use Rattle.zone_state.specs.Zone.{ZoneRecord, IsZone}
+use Rattle.zone_state.specs.Zone.{CountedZone, IsZone}
 use Rattle.zone_resources.specs.Admission.{IsWithin}
 use Rattle.zone_resources.specs.Counts.{open_count, active_count}
 use Rattle.zone_resources.specs.declared.admission.Limits.{Limits}
 use Rattle.image_store.specs.declared.fault.LoadFault.TheVariants as fault
 use Rattle.image_store.specs.Blocks.{AreBytes, blocks_of}
-use Rattle.image_store.specs.Flat.{no_record, zone_seen}
+use Rattle.image_store.specs.Flat.{no_counted_zone, zone_seen}
 use Rattle.image_store.specs.Geometry.{Shape, IsShape}
 use Rattle.image_store.specs.Laws.{LoadedIsNamespace}
 use Rattle.image_store.specs.Namespace.{ZoneBlocks, no_zone, counted, IsNamespace}
@@ -51,7 +51,7 @@ cut_whole b n xs size i h =
     let product : suc i * b ≤ n * b = mul-le-mul_right b below in
     ap length (block-at b n i xs there) ∙ omega (arith, suc-mul i b, length-take b (drop (i * b) xs), length-drop (i * b) xs)
 
-blocks_whole : (b : ℕ) (zs : List ZoneRecord) (xs : List ℕ) (got : List ZoneBlocks × List ℕ) → AreBytes xs → blocks_in b zs xs ≡ Ok got → AreWhole b got.0
+blocks_whole : (b : ℕ) (zs : List CountedZone) (xs : List ℕ) (got : List ZoneBlocks × List ℕ) → AreBytes xs → blocks_in b zs xs ≡ Ok got → AreWhole b got.0
 blocks_whole b [] xs got fit e =
     subst (λ (x : List ZoneBlocks × List ℕ). AreWhole b x.0) (ok_is ([], xs) got e)
     (record { whole = λ z i h. absurd (omega arith); bytes = λ z i k. omega arith })
@@ -67,45 +67,45 @@ blocks_whole b (z ∷ zs) xs got fit e =
       bytes = first_bytes b first c.0.0 (blocks_fit b z.written a.0.0 (front_fit a.0.0 a.0.1 all)) more;
     })
 
-kept_within : (limits : Limits) (zs : List ZoneRecord) (done : Unit {0}) → limits_kept limits zs ≡ Ok done → IsWithin zs limits
+kept_within : (limits : Limits) (zs : List CountedZone) (done : Unit {0}) → limits_kept limits zs ≡ Ok done → IsWithin zs limits
 kept_within limits zs done e =
     let test = (chosen (nat_le (open_count zs) limits.open_limit && nat_le (active_count zs) limits.active_limit) tt done fault.Limits e).0 in
     let p = and_parts (nat_le (open_count zs) limits.open_limit) (nat_le (active_count zs) limits.active_limit) test in
     record { opened = leb-true (open_count zs) limits.open_limit p.0; active = leb-true (active_count zs) limits.active_limit p.1 }
 
 -- the zones, whose records are read
-zone_allowed : (c : ℕ) (zs : List ZoneRecord) (zones : List ZoneBlocks) → map (counted c) zones ≡ zs
-    → ((k : ℕ) → k < length zs → IsZone (get_or zs k no_record).state (get_or zs k no_record).written c)
+zone_allowed : (c : ℕ) (zs : List CountedZone) (zones : List ZoneBlocks) → map (counted c) zones ≡ zs
+    → ((k : ℕ) → k < length zs → IsZone (get_or zs k no_counted_zone).state (get_or zs k no_counted_zone).written c)
     → (z : ℕ) → z < length zones → IsZone (get_or zones z no_zone).state (length (get_or zones z no_zone).blocks) c
 zone_allowed c zs zones same each z h =
     let there : z < length zs = omega (arith, ap length same, length-map zones (counted c)) in
-    let read = ap (λ (all : List ZoneRecord). get_or all z no_record) (sym same) ∙ at-counted c zones z h in
-    subst (λ (r : ZoneRecord). IsZone r.state r.written c) read (each z there)
+    let read = ap (λ (all : List CountedZone). get_or all z no_counted_zone) (sym same) ∙ at-counted c zones z h in
+    subst (λ (r : CountedZone). IsZone r.state r.written c) read (each z there)
 
 -- the records that are read
-record AreAllowed (s : Shape) (zs : List ZoneRecord) : Type 0 where
+record AreAllowed (s : Shape) (zs : List CountedZone) : Type 0 where
   pub count : length zs ≡ s.zones
-  pub each : (k : ℕ) → k < length zs → IsZone (get_or zs k no_record).state (get_or zs k no_record).written s.capacity
+  pub each : (k : ℕ) → k < length zs → IsZone (get_or zs k no_counted_zone).state (get_or zs k no_counted_zone).written s.capacity
 
-records_allowed : (s : Shape) (bytes : List ℕ) (got : List ZoneRecord × List ℕ) → IsShape s → records_in s bytes ≡ Ok got → AreAllowed s got.0
+records_allowed : (s : Shape) (bytes : List ℕ) (got : List CountedZone × List ℕ) → IsShape s → records_in s bytes ≡ Ok got → AreAllowed s got.0
 records_allowed s bytes got known e =
     let r = bind_ok (bytes_in (s.zones * 8) bytes) (λ front. zones_in 0 s.capacity s.zones front.0 >>= λ all. Ok (all, front.1)) got e in
     let q = bind_ok (zones_in 0 s.capacity s.zones r.0.0) (λ all. Ok (all, r.0.1)) got r.2 in
     let fit = zones_fit 0 s.capacity s.zones r.0.0 q.0 known.capacity_some q.1 in
-    subst (λ (x : List ZoneRecord × List ℕ). AreAllowed s x.0) (ok_is (q.0, r.0.1) got q.2) (record {
+    subst (λ (x : List CountedZone × List ℕ). AreAllowed s x.0) (ok_is (q.0, r.0.1) got q.2) (record {
       count = fit.count;
       each = λ k h. (fit.each k h).1;
     })
 
 -- the parts of a text make a namespace
-parts_are : (s : Shape) (zs : List ZoneRecord) (zones : List ZoneBlocks) → IsShape s → AreAllowed s zs → IsWithin zs s.limits → map (counted s.capacity) zones ≡ zs → AreWhole s.block zones
+parts_are : (s : Shape) (zs : List CountedZone) (zones : List ZoneBlocks) → IsShape s → AreAllowed s zs → IsWithin zs s.limits → map (counted s.capacity) zones ≡ zs → AreWhole s.block zones
     → IsNamespace (namespace_with s zones)
 parts_are s zs zones known allowed within same whole =
     let count : s.zones ≡ length zones = omega (arith, allowed.count, ap length same, length-map zones (counted s.capacity)) in
     record {
       shape = subst (λ (n : ℕ). IsShape (record { block = s.block; zones = n; size = s.size; capacity = s.capacity; limits = s.limits })) count known;
       fits = zone_allowed s.capacity zs zones same allowed.each;
-      within = subst (λ (all : List ZoneRecord). IsWithin all s.limits) (sym same) within;
+      within = subst (λ (all : List CountedZone). IsWithin all s.limits) (sym same) within;
       whole = whole.whole;
       bytes = whole.bytes;
     }

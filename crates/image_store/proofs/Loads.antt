@@ -6,18 +6,18 @@ use Rattle.std.proofs.lemmas.Bool.{leb-true, ltb-true, eqb-true, and_parts}
 use Rattle.zone_state.specs.declared.state.ZoneState.{ZoneState}
 use Rattle.zone_state.specs.declared.state.ZoneState.TheVariants.{Empty, ImplicitlyOpened, ExplicitlyOpened, Closed, ReadOnly, Full, Offline}
 use Rattle.zone_state.specs.State.{state_of}
-use Rattle.zone_state.specs.Zone.{ZoneRecord, IsZone}
+use Rattle.zone_state.specs.Zone.{CountedZone, IsZone}
 use Rattle.image_store.specs.declared.fault.LoadFault.{LoadFault}
 use Rattle.image_store.specs.declared.fault.LoadFault.TheVariants as fault
 use Rattle.image_store.specs.declared.fault.RecordFault.TheVariants as record_fault
 use Rattle.image_store.specs.declared.header.Header.{Header}
-use Rattle.image_store.specs.Flat.{no_record}
+use Rattle.image_store.specs.Flat.{no_counted_zone}
 use Rattle.image_store.specs.Geometry.{Shape, IsShape}
-use Rattle.image_store.specs.Loading.{Fails, Gives, NoDeviceFails, AreZones}
+use Rattle.image_store.specs.Loading.{Fails, Gives, NoStreamFails, AreZones}
 use Rattle.image_store.specs.Namespace.{ZoneBlocks, ZonedNamespace}
 use Rattle.image_store.specs.Reading.{◌>>=◌, are_zeros, number_at, allows, bytes_in, header_told, header_in, zone_told, zone_in, zones_in, records_in, total_kept, limits_kept, blocks_in, end_in, namespace_with, namespace_in}
 use Rattle.image_store.proofs.Answered.{bind_ok, ok_is, chosen, passed, fails_then}
-use Rattle.image_store.proofs.Faults.{no_device, fails_text, header_text_fault}
+use Rattle.image_store.proofs.Faults.{no_stream, fails_text, header_text_fault}
 use Rattle.image_store.proofs.Fills.{Split}
 
 told : (result : Result Header LoadFault) (front rest : List ℕ) → result ≡ header_told front → Gives {Y = Header × List ℕ} ⊥ (λ (h : Header). (h, rest)) result (header_told front >>= λ h. Ok (h, rest))
@@ -32,9 +32,9 @@ header_given result front rest all read given =
     let step : header_in all ≡ (header_told front >>= λ h. Ok (h, rest)) = ap (λ (r : Result Split LoadFault). r >>= λ part. header_told part.0 >>= λ h. Ok (h, part.1)) read in
     subst (λ (r : Result (Header × List ℕ) LoadFault). Gives {Y = Header × List ℕ} ⊥ (λ (h : Header). (h, rest)) result r) (sym step) (told result front rest given)
 
-pub header_no_device : (result : Result Header LoadFault) (front : List ℕ) → result ≡ header_told front → NoDeviceFails result
-header_no_device (Ok h) front e = tt
-header_no_device (Err first) front e = no_device first (header_text_fault front first (sym e))
+pub header_no_stream : (result : Result Header LoadFault) (front : List ℕ) → result ≡ header_told front → NoStreamFails result
+header_no_stream (Ok h) front e = tt
+header_no_stream (Err first) front e = no_stream first (header_text_fault front first (sym e))
 
 -- the test of the state table says what the table does
 allows_zone : (state : ZoneState) (written capacity : ℕ) → 1 ≤ capacity → allows state written capacity ≡ true → IsZone state written capacity
@@ -48,32 +48,32 @@ allows_zone ReadOnly written capacity some h = (some, leb-true written capacity 
 allows_zone Full written capacity some h = (some, leb-true written capacity h)
 allows_zone Offline written capacity some h = (some, eqb-true written 0 h)
 
-with_fits : (zone code : ℕ) (told : Option ZoneState) (written capacity : ℕ) (z : ZoneRecord) → 1 ≤ capacity → zone_told zone code told written capacity ≡ Ok z
+with_fits : (zone code : ℕ) (told : Option ZoneState) (written capacity : ℕ) (z : CountedZone) → 1 ≤ capacity → zone_told zone code told written capacity ≡ Ok z
     → (z.capacity ≡ capacity) × IsZone z.state z.written capacity
 with_fits zone code None written capacity z some e = absurd cc
 with_fits zone code (Some state) written capacity z some e =
-    let made : ZoneRecord = record { state = state; written = written; capacity = capacity } in
-    let p = chosen (allows state written capacity) made z (fault.ZoneRecord zone (record_fault.Blocks state written capacity)) e in
-    (sym (ap (λ (x : ZoneRecord). x.capacity) p.1), subst (λ (x : ZoneRecord). IsZone x.state x.written capacity) p.1 (allows_zone state written capacity some p.0))
+    let made : CountedZone = record { state = state; written = written; capacity = capacity } in
+    let p = chosen (allows state written capacity) made z (fault.BadZone zone (record_fault.Blocks state written capacity)) e in
+    (sym (ap (λ (x : CountedZone). x.capacity) p.1), subst (λ (x : CountedZone). IsZone x.state x.written capacity) p.1 (allows_zone state written capacity some p.0))
 
-zone_fits : (zone capacity : ℕ) (bytes : List ℕ) (z : ZoneRecord) → 1 ≤ capacity → zone_in zone capacity bytes ≡ Ok z → (z.capacity ≡ capacity) × IsZone z.state z.written capacity
+zone_fits : (zone capacity : ℕ) (bytes : List ℕ) (z : CountedZone) → 1 ≤ capacity → zone_in zone capacity bytes ≡ Ok z → (z.capacity ≡ capacity) × IsZone z.state z.written capacity
 zone_fits zone capacity bytes z some e =
     let code = get_or bytes 0 0 in
     with_fits zone code (state_of code) (number_at bytes 4) capacity z some
-    (passed (are_zeros (take 3 (drop 1 bytes))) (zone_told zone code (state_of code) (number_at bytes 4) capacity) z (fault.ZoneRecord zone record_fault.Reserved) e).1
+    (passed (are_zeros (take 3 (drop 1 bytes))) (zone_told zone code (state_of code) (number_at bytes 4) capacity) z (fault.BadZone zone record_fault.Reserved) e).1
 
 -- the zones of records, as many as were wanted
-pub record HaveFit (capacity n : ℕ) (zs : List ZoneRecord) : Type 0 where
+pub record HaveFit (capacity n : ℕ) (zs : List CountedZone) : Type 0 where
   pub count : length zs ≡ n
-  pub each : (k : ℕ) → k < length zs → ((get_or zs k no_record).capacity ≡ capacity) × IsZone (get_or zs k no_record).state (get_or zs k no_record).written capacity
+  pub each : (k : ℕ) → k < length zs → ((get_or zs k no_counted_zone).capacity ≡ capacity) × IsZone (get_or zs k no_counted_zone).state (get_or zs k no_counted_zone).written capacity
 
-fit_more : (capacity : ℕ) (z : ZoneRecord) (zs : List ZoneRecord) → (z.capacity ≡ capacity) × IsZone z.state z.written capacity
-    → ((k : ℕ) → k < length zs → ((get_or zs k no_record).capacity ≡ capacity) × IsZone (get_or zs k no_record).state (get_or zs k no_record).written capacity)
-    → (k : ℕ) → k < suc (length zs) → ((get_or (z ∷ zs) k no_record).capacity ≡ capacity) × IsZone (get_or (z ∷ zs) k no_record).state (get_or (z ∷ zs) k no_record).written capacity
+fit_more : (capacity : ℕ) (z : CountedZone) (zs : List CountedZone) → (z.capacity ≡ capacity) × IsZone z.state z.written capacity
+    → ((k : ℕ) → k < length zs → ((get_or zs k no_counted_zone).capacity ≡ capacity) × IsZone (get_or zs k no_counted_zone).state (get_or zs k no_counted_zone).written capacity)
+    → (k : ℕ) → k < suc (length zs) → ((get_or (z ∷ zs) k no_counted_zone).capacity ≡ capacity) × IsZone (get_or (z ∷ zs) k no_counted_zone).state (get_or (z ∷ zs) k no_counted_zone).written capacity
 fit_more capacity z zs first more zero h = first
 fit_more capacity z zs first more (suc k) h = more k (omega arith)
 
-pub zones_fit : (zone capacity n : ℕ) (bytes : List ℕ) (zs : List ZoneRecord) → 1 ≤ capacity → zones_in zone capacity n bytes ≡ Ok zs → HaveFit capacity n zs
+pub zones_fit : (zone capacity n : ℕ) (bytes : List ℕ) (zs : List CountedZone) → 1 ≤ capacity → zones_in zone capacity n bytes ≡ Ok zs → HaveFit capacity n zs
 zones_fit zone capacity zero bytes zs some e = subst (HaveFit capacity 0) (ok_is [] zs e) (record { count = refl; each = λ k h. absurd (omega arith) })
 zones_fit zone capacity (suc n) bytes zs some e =
     let a = bind_ok (zone_in zone capacity (take 8 bytes)) (λ z. zones_in (zone + 1) capacity n (drop 8 bytes) >>= λ more. Ok (z ∷ more)) zs e in
@@ -82,7 +82,7 @@ zones_fit zone capacity (suc n) bytes zs some e =
     let more = zones_fit (zone + 1) capacity n (drop 8 bytes) b.0 some b.1 in
     subst (HaveFit capacity (suc n)) (ok_is (a.0 ∷ b.0) zs b.2) (record { count = ap suc more.count; each = fit_more capacity a.0 b.0 first more.each })
 
-pub records_fit : {X : Type 0} (view : X → List ZoneRecord) (s : Shape) (result : Result X LoadFault) (bytes : List ℕ) → IsShape s
+pub records_fit : {X : Type 0} (view : X → List CountedZone) (s : Shape) (result : Result X LoadFault) (bytes : List ℕ) → IsShape s
     → Gives (Unit {0}) view result (zones_in 0 s.capacity s.zones bytes) → IfOk result (λ x. AreZones s (view x))
 records_fit view s (Ok x) bytes known e =
     let fit = zones_fit 0 s.capacity s.zones bytes (view x) known.capacity_some e in
@@ -96,7 +96,7 @@ records_fit view s (Ok x) bytes known e =
 records_fit view s (Err first) bytes known e = tt
 
 -- zones that fit their shape are few
-pub zones_few : (s : Shape) (zs : List ZoneRecord) → AreZones s zs → length zs < 2 ^ 32
+pub zones_few : (s : Shape) (zs : List CountedZone) → AreZones s zs → length zs < 2 ^ 32
 zones_few s zs fit =
     let room = s.zones * (s.capacity * s.block) in
     let flat = fit (replicate room 0) (length-replicate {A = ℕ} room 0) in
@@ -106,13 +106,13 @@ zones_few s zs fit =
 abbrev pub after_blocks : Shape → List ZoneBlocks → List ℕ → Result ZonedNamespace LoadFault
 after_blocks s zones bytes = end_in bytes >>= λ end. Ok (namespace_with s zones)
 
-abbrev pub after_limits : Shape → List ZoneRecord → List ℕ → Result ZonedNamespace LoadFault
+abbrev pub after_limits : Shape → List CountedZone → List ℕ → Result ZonedNamespace LoadFault
 after_limits s zs bytes = blocks_in s.block zs bytes >>= λ blocks. after_blocks s blocks.0 blocks.1
 
-abbrev pub after_total : Shape → List ZoneRecord → List ℕ → Result ZonedNamespace LoadFault
+abbrev pub after_total : Shape → List CountedZone → List ℕ → Result ZonedNamespace LoadFault
 after_total s zs bytes = limits_kept s.limits zs >>= λ kept. after_limits s zs bytes
 
-abbrev pub after_records : Header → List ZoneRecord → List ℕ → Result ZonedNamespace LoadFault
+abbrev pub after_records : Header → List CountedZone → List ℕ → Result ZonedNamespace LoadFault
 after_records h zs bytes = total_kept h.total zs >>= λ same. after_total h.geometry zs bytes
 
 abbrev pub after_header : Header → List ℕ → Result ZonedNamespace LoadFault
@@ -122,16 +122,16 @@ pub past_header : (all rest : List ℕ) (h : Header) → header_in all ≡ Ok (h
 unfolding namespace_in
 past_header all rest h e = ap (λ (r : Result (Header × List ℕ) LoadFault). r >>= λ x. after_header x.0 x.1) e
 
-pub past_records : (h : Header) (bytes rest : List ℕ) (zs : List ZoneRecord) → records_in h.geometry bytes ≡ Ok (zs, rest) → after_header h bytes ≡ after_records h zs rest
-past_records h bytes rest zs e = ap (λ (r : Result (List ZoneRecord × List ℕ) LoadFault). r >>= λ records. after_records h records.0 records.1) e
+pub past_records : (h : Header) (bytes rest : List ℕ) (zs : List CountedZone) → records_in h.geometry bytes ≡ Ok (zs, rest) → after_header h bytes ≡ after_records h zs rest
+past_records h bytes rest zs e = ap (λ (r : Result (List CountedZone × List ℕ) LoadFault). r >>= λ records. after_records h records.0 records.1) e
 
-pub past_total : (h : Header) (zs : List ZoneRecord) (bytes : List ℕ) → total_kept h.total zs ≡ Ok tt → after_records h zs bytes ≡ after_total h.geometry zs bytes
+pub past_total : (h : Header) (zs : List CountedZone) (bytes : List ℕ) → total_kept h.total zs ≡ Ok tt → after_records h zs bytes ≡ after_total h.geometry zs bytes
 past_total h zs bytes e = ap (λ (r : Result (Unit {0}) LoadFault). r >>= λ same. after_total h.geometry zs bytes) e
 
-pub past_limits : (s : Shape) (zs : List ZoneRecord) (bytes : List ℕ) → limits_kept s.limits zs ≡ Ok tt → after_total s zs bytes ≡ after_limits s zs bytes
+pub past_limits : (s : Shape) (zs : List CountedZone) (bytes : List ℕ) → limits_kept s.limits zs ≡ Ok tt → after_total s zs bytes ≡ after_limits s zs bytes
 past_limits s zs bytes e = ap (λ (r : Result Unit LoadFault). r >>= λ kept. after_limits s zs bytes) e
 
-pub past_blocks : (s : Shape) (zs : List ZoneRecord) (bytes rest : List ℕ) (zones : List ZoneBlocks) → blocks_in s.block zs bytes ≡ Ok (zones, rest) → after_limits s zs bytes ≡ after_blocks s zones rest
+pub past_blocks : (s : Shape) (zs : List CountedZone) (bytes rest : List ℕ) (zones : List ZoneBlocks) → blocks_in s.block zs bytes ≡ Ok (zones, rest) → after_limits s zs bytes ≡ after_blocks s zones rest
 past_blocks s zs bytes rest zones e = ap (λ (r : Result (List ZoneBlocks × List ℕ) LoadFault). r >>= λ blocks. after_blocks s blocks.0 blocks.1) e
 
 pub past_end : (s : Shape) (zones : List ZoneBlocks) (bytes : List ℕ) → end_in bytes ≡ Ok tt → after_blocks s zones bytes ≡ Ok (namespace_with s zones)

@@ -7,12 +7,12 @@ use Rattle.std.specs.List.{find}
 use Rattle.std.specs.Prelude.{◌==◌}
 use Rattle.zone_state.specs.declared.state.ZoneState.{ZoneState}
 use Rattle.zone_state.specs.State.{code_of, state_of, states}
-use Rattle.zone_state.specs.Zone.{ZoneRecord}
+use Rattle.zone_state.specs.Zone.{CountedZone}
 use Rattle.byteorder.specs.Endian.{little_number}
 use Rattle.image_store.specs.declared.fault.LoadFault.TheVariants as fault
 use Rattle.image_store.specs.declared.fault.RecordFault.TheVariants as record_fault
 use Rattle.image_store.specs.Blocks.{AreBytes, blocks_of, bytes_of}
-use Rattle.image_store.specs.Flat.{no_record, zone_seen}
+use Rattle.image_store.specs.Flat.{no_counted_zone, zone_seen}
 use Rattle.image_store.specs.declared.header.Header.{Header}
 use Rattle.image_store.specs.declared.version.Version.{Version}
 use Rattle.image_store.specs.declared.version.Version.TheVariants.{One, Two}
@@ -65,7 +65,7 @@ header_only bytes told rest fit e =
     })
 
 -- a number of written blocks that is told is that of the records
-pub header_counted : (version : Version) (s : Shape) (total : ℕ) (zs : List ZoneRecord) (done : Unit {0}) → total_kept (total_in version total) zs ≡ Ok done
+pub header_counted : (version : Version) (s : Shape) (total : ℕ) (zs : List CountedZone) (done : Unit {0}) → total_kept (total_in version total) zs ≡ Ok done
     → header version s total ≡ header version s (written_blocks zs)
 header_counted One s total zs done e = refl
 header_counted Two s total zs done e =
@@ -81,23 +81,23 @@ found (x ∷ xs) n s e =
     let P : Bool → Type 0 = λ test. (code_of x == n) ≡ test → cond test (Some x) (find (λ y. code_of y == n) xs) ≡ Some s → code_of s ≡ n in
     elim (code_of x == n) as P [ true ↦ λ here same. ap code_of (sym (some_is x s same)) ∙ eqb-true (code_of x) n here | false ↦ λ here later. found xs n s later ] refl e
 
-zone_told_only : (zone code : ℕ) (told : Option ZoneState) (written capacity : ℕ) (z : ZoneRecord) → zone_told zone code told written capacity ≡ Ok z
+zone_told_only : (zone code : ℕ) (told : Option ZoneState) (written capacity : ℕ) (z : CountedZone) → zone_told zone code told written capacity ≡ Ok z
     → (told ≡ Some z.state) × (z.written ≡ written) × (z.capacity ≡ capacity)
 zone_told_only zone code None written capacity z e = absurd cc
 zone_told_only zone code (Some state) written capacity z e =
-    let made : ZoneRecord = record { state = state; written = written; capacity = capacity } in
-    let same = (chosen (allows state written capacity) made z (fault.ZoneRecord zone (record_fault.Blocks state written capacity)) e).1 in
-    (ap (λ (x : ZoneRecord). Some x.state) same, sym (ap (λ (x : ZoneRecord). x.written) same), sym (ap (λ (x : ZoneRecord). x.capacity) same))
+    let made : CountedZone = record { state = state; written = written; capacity = capacity } in
+    let same = (chosen (allows state written capacity) made z (fault.BadZone zone (record_fault.Blocks state written capacity)) e).1 in
+    (ap (λ (x : CountedZone). Some x.state) same, sym (ap (λ (x : CountedZone). x.written) same), sym (ap (λ (x : CountedZone). x.capacity) same))
 
 -- a record that is read is spelled so
-record_only : (zone capacity : ℕ) (xs : List ℕ) (z : ZoneRecord) → length xs ≡ 8 → AreBytes xs → zone_in zone capacity xs ≡ Ok z → (record_text z ≡ xs) × (z.capacity ≡ capacity)
+record_only : (zone capacity : ℕ) (xs : List ℕ) (z : CountedZone) → length xs ≡ 8 → AreBytes xs → zone_in zone capacity xs ≡ Ok z → (record_text z ≡ xs) × (z.capacity ≡ capacity)
 record_only zone capacity [] z size fit e = absurd (omega arith)
 record_only zone capacity (a ∷ []) z size fit e = absurd (omega arith)
 record_only zone capacity (a ∷ p ∷ []) z size fit e = absurd (omega arith)
 record_only zone capacity (a ∷ p ∷ q ∷ []) z size fit e = absurd (omega arith)
 record_only zone capacity (a ∷ p ∷ q ∷ r ∷ xs) z size fit e =
     let few : length xs ≡ 4 = omega arith in
-    let tests = passed (are_zeros (p ∷ q ∷ r ∷ [])) (zone_told zone a (state_of a) (little_number 4 xs) capacity) z (fault.ZoneRecord zone record_fault.Reserved) e in
+    let tests = passed (are_zeros (p ∷ q ∷ r ∷ [])) (zone_told zone a (state_of a) (little_number 4 xs) capacity) z (fault.BadZone zone record_fault.Reserved) e in
     let told = zone_told_only zone a (state_of a) (little_number 4 xs) capacity z tests.1 in
     let zeros = zeros_spelled (p ∷ q ∷ r ∷ []) tests.0 in
     let none : drop 4 xs ≡ [] = drop_all 4 xs (omega arith) in
@@ -112,17 +112,17 @@ record_only zone capacity (a ∷ p ∷ q ∷ r ∷ xs) z size fit e =
     )
 
 -- records that are read are spelled so, and there are as many as were wanted
-record AreSpelled (capacity n : ℕ) (xs : List ℕ) (zs : List ZoneRecord) : Type 0 where
+record AreSpelled (capacity n : ℕ) (xs : List ℕ) (zs : List CountedZone) : Type 0 where
   pub spelled : records_text zs ≡ xs
   pub count : length zs ≡ n
-  pub same : (k : ℕ) → k < length zs → (get_or zs k no_record).capacity ≡ capacity
+  pub same : (k : ℕ) → k < length zs → (get_or zs k no_counted_zone).capacity ≡ capacity
 
-same_more : (capacity : ℕ) (z : ZoneRecord) (zs : List ZoneRecord) → z.capacity ≡ capacity → ((k : ℕ) → k < length zs → (get_or zs k no_record).capacity ≡ capacity)
-    → (k : ℕ) → k < suc (length zs) → (get_or (z ∷ zs) k no_record).capacity ≡ capacity
+same_more : (capacity : ℕ) (z : CountedZone) (zs : List CountedZone) → z.capacity ≡ capacity → ((k : ℕ) → k < length zs → (get_or zs k no_counted_zone).capacity ≡ capacity)
+    → (k : ℕ) → k < suc (length zs) → (get_or (z ∷ zs) k no_counted_zone).capacity ≡ capacity
 same_more capacity z zs first more zero h = first
 same_more capacity z zs first more (suc k) h = more k (omega arith)
 
-zones_only : (zone capacity n : ℕ) (xs : List ℕ) (zs : List ZoneRecord) → length xs ≡ n * 8 → AreBytes xs → zones_in zone capacity n xs ≡ Ok zs → AreSpelled capacity n xs zs
+zones_only : (zone capacity n : ℕ) (xs : List ℕ) (zs : List CountedZone) → length xs ≡ n * 8 → AreBytes xs → zones_in zone capacity n xs ≡ Ok zs → AreSpelled capacity n xs zs
 zones_only zone capacity zero xs zs size fit e =
     let none : xs ≡ [] = nil_from_length xs (omega arith) in
     let same : [] ≡ zs = ok_is [] zs e in
@@ -143,11 +143,11 @@ zones_only zone capacity (suc n) xs zs size fit e =
     })
 
 -- blocks that are read are spelled so
-pub record AreWritten (capacity : ℕ) (zs : List ZoneRecord) (xs : List ℕ) (got : List ZoneBlocks × List ℕ) : Type 0 where
+pub record AreWritten (capacity : ℕ) (zs : List CountedZone) (xs : List ℕ) (got : List ZoneBlocks × List ℕ) : Type 0 where
   pub spelled : blocks_text got.0 ++ got.1 ≡ xs
   pub counted : map (counted capacity) got.0 ≡ zs
 
-pub blocks_only : (b capacity : ℕ) (zs : List ZoneRecord) (xs : List ℕ) (got : List ZoneBlocks × List ℕ) → ((k : ℕ) → k < length zs → (get_or zs k no_record).capacity ≡ capacity)
+pub blocks_only : (b capacity : ℕ) (zs : List CountedZone) (xs : List ℕ) (got : List ZoneBlocks × List ℕ) → ((k : ℕ) → k < length zs → (get_or zs k no_counted_zone).capacity ≡ capacity)
     → blocks_in b zs xs ≡ Ok got → AreWritten capacity zs xs got
 blocks_only b capacity [] xs got same e =
     subst (AreWritten capacity [] xs) (ok_is ([], xs) got e) (record { spelled = refl; counted = refl })
@@ -161,30 +161,30 @@ blocks_only b capacity (z ∷ zs) xs got same e =
       spelled = append_assoc (bytes_of (blocks_of b z.written a.0.0)) (blocks_text c.0.0) c.0.1
           ∙ (ap (λ (first : List ℕ). first ++ (blocks_text c.0.0 ++ c.0.1)) front
           ∙ (ap (λ (more : List ℕ). a.0.0 ++ more) rest.spelled ∙ bytes_parts (z.written * b) xs a.0 a.1));
-      counted = ap (λ (first : ZoneRecord). first ∷ map (counted capacity) c.0.0) (counted_seen b capacity z a.0.0 (same 0 (omega arith))) ∙ ap (λ (more : List ZoneRecord). z ∷ more) rest.counted;
+      counted = ap (λ (first : CountedZone). first ∷ map (counted capacity) c.0.0) (counted_seen b capacity z a.0.0 (same 0 (omega arith))) ∙ ap (λ (more : List CountedZone). z ∷ more) rest.counted;
     })
 
 -- records that are read stand in front, as many as were told
-pub record AreRecords (s : Shape) (bytes : List ℕ) (zs : List ZoneRecord) (rest : List ℕ) : Type 0 where
+pub record AreRecords (s : Shape) (bytes : List ℕ) (zs : List CountedZone) (rest : List ℕ) : Type 0 where
   pub spelled : records_text zs ++ rest ≡ bytes
   pub count : length zs ≡ s.zones
-  pub same : (k : ℕ) → k < length zs → (get_or zs k no_record).capacity ≡ s.capacity
+  pub same : (k : ℕ) → k < length zs → (get_or zs k no_counted_zone).capacity ≡ s.capacity
 
-pub records_only : (s : Shape) (bytes : List ℕ) (got : List ZoneRecord × List ℕ) → AreBytes bytes → records_in s bytes ≡ Ok got → AreRecords s bytes got.0 got.1
+pub records_only : (s : Shape) (bytes : List ℕ) (got : List CountedZone × List ℕ) → AreBytes bytes → records_in s bytes ≡ Ok got → AreRecords s bytes got.0 got.1
 records_only s bytes got fit e =
     let r = bind_ok (bytes_in (s.zones * 8) bytes) (λ front. zones_in 0 s.capacity s.zones front.0 >>= λ all. Ok (all, front.1)) got e in
     let q = bind_ok (zones_in 0 s.capacity s.zones r.0.0) (λ all. Ok (all, r.0.1)) got r.2 in
     let parts = bytes_parts (s.zones * 8) bytes r.0 r.1 in
     let front = front_fit r.0.0 r.0.1 (subst AreBytes (sym parts) fit) in
     let records = zones_only 0 s.capacity s.zones r.0.0 q.0 (bytes_size (s.zones * 8) bytes r.0 r.1) front q.1 in
-    subst (λ (x : List ZoneRecord × List ℕ). AreRecords s bytes x.0 x.1) (ok_is (q.0, r.0.1) got q.2) (record {
+    subst (λ (x : List CountedZone × List ℕ). AreRecords s bytes x.0 x.1) (ok_is (q.0, r.0.1) got q.2) (record {
       spelled = ap (λ (xs : List ℕ). xs ++ r.0.1) records.spelled ∙ parts;
       count = records.count;
       same = records.same;
     })
 
 -- header, records and blocks, one behind another
-joined : (front : List ℕ) (zs : List ZoneRecord) (zones : List ZoneBlocks) (bytes rest later last : List ℕ) → front ++ rest ≡ bytes → records_text zs ++ later ≡ rest → blocks_text zones ++ last ≡ later → last ≡ []
+joined : (front : List ℕ) (zs : List CountedZone) (zones : List ZoneBlocks) (bytes rest later last : List ℕ) → front ++ rest ≡ bytes → records_text zs ++ later ≡ rest → blocks_text zones ++ last ≡ later → last ≡ []
     → bytes ≡ front ++ (records_text zs ++ blocks_text zones)
 joined front zs zones bytes rest later last start records blocks ended =
     let written : later ≡ blocks_text zones = sym blocks ∙ (ap (λ (xs : List ℕ). blocks_text zones ++ xs) ended ∙ append-nil (blocks_text zones)) in
@@ -192,7 +192,7 @@ joined front zs zones bytes rest later last start records blocks ended =
     ∙ (ap (λ (xs : List ℕ). front ++ xs) (sym records)
     ∙ ap (λ (xs : List ℕ). front ++ (records_text zs ++ xs)) written)
 
-size_read : (s : Shape) (zs : List ZoneRecord) (zones : List ZoneBlocks) → length zs ≡ s.zones → map (counted s.capacity) zones ≡ zs → s.zones ≡ length zones
+size_read : (s : Shape) (zs : List CountedZone) (zones : List ZoneBlocks) → length zs ≡ s.zones → map (counted s.capacity) zones ≡ zs → s.zones ≡ length zones
 size_read s zs zones count same = sym (sym (length-map zones (counted s.capacity)) ∙ (ap length same ∙ count))
 
 -- the shape with another number of zones
@@ -200,11 +200,11 @@ abbrev resized : Shape → ℕ → Shape
 resized s n = record { block = s.block; zones = n; size = s.size; capacity = s.capacity; limits = s.limits }
 
 -- the text of the namespace that is read
-text_with : (version : Version) (s : Shape) (zs : List ZoneRecord) (zones : List ZoneBlocks) → s.zones ≡ length zones → map (counted s.capacity) zones ≡ zs
+text_with : (version : Version) (s : Shape) (zs : List CountedZone) (zones : List ZoneBlocks) → s.zones ≡ length zones → map (counted s.capacity) zones ≡ zs
     → header version s (written_blocks zs) ++ (records_text zs ++ blocks_text zones) ≡ text_of version (namespace_with s zones)
 text_with version s zs zones size same =
     let all = map (counted s.capacity) zones in
-    ap (λ (read : List ZoneRecord). header version s (written_blocks read) ++ (records_text read ++ blocks_text zones)) (sym same)
+    ap (λ (read : List CountedZone). header version s (written_blocks read) ++ (records_text read ++ blocks_text zones)) (sym same)
     ∙ ap (λ (n : ℕ). header version (resized s n) (written_blocks all) ++ (records_text all ++ blocks_text zones)) size
 
 pub text_only : (bytes : List ℕ) (ns : ZonedNamespace) → AreBytes bytes → namespace_in bytes ≡ Ok ns

@@ -1,21 +1,21 @@
 -- Reading records one after the other, as a loop does.
 use Rattle.std.proofs.Common.{◌≡◌, ℕ, suc, ◌-◌, ◌+◌, ◌≤◌, ◌<◌, List, [], ◌∷◌, ◌++◌, take, drop, Result, Ok, Err, refl, sym, ap, ◌∙◌, append_assoc, arith}
 use Rattle.std.proofs.lemmas.List.{append-nil}
-use Rattle.zone_state.specs.Zone.{ZoneRecord}
+use Rattle.zone_state.specs.Zone.{CountedZone}
 use Rattle.image_store.specs.declared.fault.LoadFault.{LoadFault}
-use Rattle.image_store.specs.declared.fault.LoadFault.TheVariants.{Truncated, Magic, Geometry, ZoneRecord as BadRecord, Total, Limits, Trailing, Device, Memory}
+use Rattle.image_store.specs.declared.fault.LoadFault.TheVariants.{Truncated, Magic, Geometry, BadZone, Total, Limits, Trailing, Stream, Memory}
 use Rattle.image_store.specs.Loading.{Fails}
 use Rattle.image_store.specs.Reading.{◌>>=◌, zone_in, zones_in}
 
 -- what was read before, and what is still read
-abbrev pub with_front : List ZoneRecord → Result (List ZoneRecord) LoadFault → Result (List ZoneRecord) LoadFault
+abbrev pub with_front : List CountedZone → Result (List CountedZone) LoadFault → Result (List CountedZone) LoadFault
 with_front front read = read >>= λ zs. Ok (front ++ zs)
 
-regroup : (front : List ZoneRecord) (z : ZoneRecord) (read : Result (List ZoneRecord) LoadFault) → with_front front (read >>= λ zs. Ok (z ∷ zs)) ≡ with_front (front ++ z ∷ []) read
-regroup front z (Ok zs) = ap (λ (all : List ZoneRecord). let r : Result (List ZoneRecord) LoadFault = Ok all in r) (sym (append_assoc front (z ∷ []) zs))
+regroup : (front : List CountedZone) (z : CountedZone) (read : Result (List CountedZone) LoadFault) → with_front front (read >>= λ zs. Ok (z ∷ zs)) ≡ with_front (front ++ z ∷ []) read
+regroup front z (Ok zs) = ap (λ (all : List CountedZone). let r : Result (List CountedZone) LoadFault = Ok all in r) (sym (append_assoc front (z ∷ []) zs))
 regroup front z (Err fault) = refl
 
-pub goes_on : (front : List ZoneRecord) (capacity count i : ℕ) (bytes : List ℕ) (z : ZoneRecord) (total : Result (List ZoneRecord) LoadFault) → i < count → zone_in i capacity (take 8 bytes) ≡ Ok z
+pub goes_on : (front : List CountedZone) (capacity count i : ℕ) (bytes : List ℕ) (z : CountedZone) (total : Result (List CountedZone) LoadFault) → i < count → zone_in i capacity (take 8 bytes) ≡ Ok z
     → with_front front (zones_in i capacity (count - i) bytes) ≡ total → with_front (front ++ z ∷ []) (zones_in (i + 1) capacity (count - (i + 1)) (drop 8 bytes)) ≡ total
 goes_on front capacity count i bytes z total lt h so_far =
     let k : count - i ≡ suc (count - (i + 1)) = omega arith in
@@ -23,27 +23,27 @@ goes_on front capacity count i bytes z total lt h so_far =
     ∙ (sym (ap (λ (n : ℕ). with_front front (zones_in i capacity n bytes)) k ∙ ap (λ r. with_front front (r >>= λ first. zones_in (i + 1) capacity (count - (i + 1)) (drop 8 bytes) >>= λ zs. Ok (first ∷ zs))) h)
     ∙ so_far)
 
-pub stops : (front : List ZoneRecord) (capacity count i : ℕ) (bytes : List ℕ) (fault : LoadFault) (total : Result (List ZoneRecord) LoadFault) → i < count → zone_in i capacity (take 8 bytes) ≡ Err fault
+pub stops : (front : List CountedZone) (capacity count i : ℕ) (bytes : List ℕ) (fault : LoadFault) (total : Result (List CountedZone) LoadFault) → i < count → zone_in i capacity (take 8 bytes) ≡ Err fault
     → with_front front (zones_in i capacity (count - i) bytes) ≡ total → total ≡ Err fault
 stops front capacity count i bytes fault total lt h so_far =
     let k : count - i ≡ suc (count - (i + 1)) = omega arith in
     sym so_far
     ∙ (ap (λ (n : ℕ). with_front front (zones_in i capacity n bytes)) k ∙ ap (λ r. with_front front (r >>= λ first. zones_in (i + 1) capacity (count - (i + 1)) (drop 8 bytes) >>= λ zs. Ok (first ∷ zs))) h)
 
-pub is_done : (front : List ZoneRecord) (capacity count i : ℕ) (bytes : List ℕ) (total : Result (List ZoneRecord) LoadFault) → count ≤ i → with_front front (zones_in i capacity (count - i) bytes) ≡ total → total ≡ Ok front
+pub is_done : (front : List CountedZone) (capacity count i : ℕ) (bytes : List ℕ) (total : Result (List CountedZone) LoadFault) → count ≤ i → with_front front (zones_in i capacity (count - i) bytes) ≡ total → total ≡ Ok front
 is_done front capacity count i bytes total le so_far =
     let k : count - i ≡ 0 = omega arith in
     sym so_far
-    ∙ (ap (λ (n : ℕ). with_front front (zones_in i capacity n bytes)) k ∙ ap (λ (all : List ZoneRecord). let r : Result (List ZoneRecord) LoadFault = Ok all in r) (append-nil front))
+    ∙ (ap (λ (n : ℕ). with_front front (zones_in i capacity n bytes)) k ∙ ap (λ (all : List CountedZone). let r : Result (List CountedZone) LoadFault = Ok all in r) (append-nil front))
 
 -- a fault that reading gives is one of a call that may want memory
 pub fails_free : {Y : Type 0} (fault : LoadFault) (reading : Result Y LoadFault) → reading ≡ Err fault → Fails (Unit {0}) fault reading
-fails_free Device reading h = tt
+fails_free Stream reading h = tt
 fails_free Memory reading h = tt
 fails_free Truncated reading h = h
 fails_free Magic reading h = h
 fails_free (Geometry first) reading h = h
-fails_free (BadRecord zone first) reading h = h
+fails_free (BadZone zone first) reading h = h
 fails_free (Total told counted) reading h = h
 fails_free Limits reading h = h
 fails_free Trailing reading h = h

@@ -1,7 +1,7 @@
 -- What a sink has of a text that it is handed in parts.
 use Rattle.std.proofs.Common.{◌≡◌, ℕ, List, [], ◌++◌, Result, Ok, Err, refl, ap, sym, ◌∙◌, append_assoc}
 use Rattle.std.proofs.lemmas.List.{append-nil}
-use Rattle.image_store.specs.Device.{IsBegun, Takes}
+use Rattle.image_store.specs.Streams.{IsBegun, Takes}
 
 pub begins : (before text : List ℕ) → IsBegun before before text text
 begins before text = record { part = []; whole = refl; taken = sym (append-nil before) }

@@ -2,9 +2,9 @@
 use Rattle.std.proofs.Common.{◌≡◌, ℕ, ◌+◌, ◌*◌, ◌<◌, ◌≤◌, zero, suc, List, [], ◌∷◌, ◌++◌, length, get_or, take, drop, Result, Ok, Err, refl, ap, sym, subst, ◌∙◌, append_assoc, arith, length-take}
 use Rattle.std.proofs.lemmas.List.{append-nil, take-take, drop-take, drop-drop, take_at, take_all, drop_all, drop_more, get_or-take}
 use Rattle.std.proofs.Math.Nat.{suc-mul, mul-le-mul_right}
-use Rattle.zone_state.specs.Zone.{ZoneRecord}
+use Rattle.zone_state.specs.Zone.{CountedZone}
 use Rattle.image_store.specs.declared.fault.LoadFault.{LoadFault}
-use Rattle.image_store.specs.Flat.{zones_of, zone_seen, spliced, no_record, IsFlat}
+use Rattle.image_store.specs.Flat.{zones_of, zone_seen, spliced, no_counted_zone, IsFlat}
 use Rattle.image_store.specs.Geometry.{Shape}
 use Rattle.image_store.specs.Loading.{Fails, spliced_in}
 use Rattle.image_store.specs.Namespace.{ZoneBlocks}
@@ -22,7 +22,7 @@ abbrev pub with_zones : List ZoneBlocks → Result Zones LoadFault → Result Zo
 with_zones front read = read >>= λ x. Ok (front ++ x.0, x.1)
 
 -- zones depend on the bytes of their slots alone
-zones-same : (b c : ℕ) (zs : List ZoneRecord) (xs ys : List ℕ) → ((z : ℕ) → z < length zs → (get_or zs z no_record).written ≤ c)
+zones-same : (b c : ℕ) (zs : List CountedZone) (xs ys : List ℕ) → ((z : ℕ) → z < length zs → (get_or zs z no_counted_zone).written ≤ c)
     → take (length zs * (c * b)) xs ≡ take (length zs * (c * b)) ys → zones_of b c zs xs ≡ zones_of b c zs ys
 zones-same b c [] xs ys within e = refl
 zones-same b c (z ∷ zs) xs ys within e =
@@ -37,8 +37,8 @@ zones-same b c (z ∷ zs) xs ys within e =
     ∙ ap (λ (rest : List ZoneBlocks). zone_seen b z ys ∷ rest) (zones-same b c zs (drop (c * b) xs) (drop (c * b) ys) (λ k h. within (suc k) (omega arith)) later)
 
 -- one zone more
-zones-more : (b c : ℕ) (zs : List ZoneRecord) (xs : List ℕ) (i : ℕ) → i < length zs
-    → zones_of b c (take (suc i) zs) xs ≡ zones_of b c (take i zs) xs ++ zone_seen b (get_or zs i no_record) (drop (i * (c * b)) xs) ∷ []
+zones-more : (b c : ℕ) (zs : List CountedZone) (xs : List ℕ) (i : ℕ) → i < length zs
+    → zones_of b c (take (suc i) zs) xs ≡ zones_of b c (take i zs) xs ++ zone_seen b (get_or zs i no_counted_zone) (drop (i * (c * b)) xs) ∷ []
 zones-more b c [] xs i h = absurd (omega arith)
 zones-more b c (z ∷ zs) xs zero h =
     let start : 0 ≡ zero * (c * b) = omega arith in
@@ -47,25 +47,25 @@ zones-more b c (z ∷ zs) xs (suc i) h =
     let place : i * (c * b) + c * b ≡ suc i * (c * b) = omega (arith, suc-mul i (c * b)) in
     let next : c * b + i * (c * b) ≡ suc i * (c * b) = omega (arith, suc-mul i (c * b)) in
     ap (λ (rest : List ZoneBlocks). zone_seen b z xs ∷ rest) (zones-more b c zs (drop (c * b) xs) i (omega arith))
-    ∙ ap (λ (ys : List ℕ). zone_seen b z xs ∷ (zones_of b c (take i zs) (drop (c * b) xs) ++ zone_seen b (get_or zs i no_record) ys ∷ []))
+    ∙ ap (λ (ys : List ℕ). zone_seen b z xs ∷ (zones_of b c (take i zs) (drop (c * b) xs) ++ zone_seen b (get_or zs i no_counted_zone) ys ∷ []))
     (drop-drop (i * (c * b)) (c * b) xs ∙ ap (λ (m : ℕ). drop m xs) next)
 
 -- bytes read into a slot are that zone's blocks, and leave the zones before it
-filled : (s : Shape) (zs : List ZoneRecord) (xs : List ℕ) (i : ℕ) (new : List ℕ) → IsFlat s zs xs → i < length zs → length new ≡ (get_or zs i no_record).written * s.block
+filled : (s : Shape) (zs : List CountedZone) (xs : List ℕ) (i : ℕ) (new : List ℕ) → IsFlat s zs xs → i < length zs → length new ≡ (get_or zs i no_counted_zone).written * s.block
     → zones_of s.block s.capacity (take (suc i) zs) (spliced (i * (s.capacity * s.block)) new xs)
-    ≡ zones_of s.block s.capacity (take i zs) xs ++ zone_seen s.block (get_or zs i no_record) new ∷ []
+    ≡ zones_of s.block s.capacity (take i zs) xs ++ zone_seen s.block (get_or zs i no_counted_zone) new ∷ []
 filled s zs xs i new flat inside size =
     let at = i * (s.capacity * s.block) in
-    let z = get_or zs i no_record in
+    let z = get_or zs i no_counted_zone in
     let end = slot_end s zs xs i flat inside in
     let in_list : at ≤ length xs = omega arith in
     let count : length (take i zs) ≡ i = omega (arith, length-take i zs) in
     let before : take (length (take i zs) * (s.capacity * s.block)) (spliced at new xs) ≡ take (length (take i zs) * (s.capacity * s.block)) xs =
     subst (λ (n : ℕ). take (n * (s.capacity * s.block)) (spliced at new xs) ≡ take (n * (s.capacity * s.block)) xs) (sym count) (take-spliced at at new xs (omega arith) in_list) in
-    let fit : (k : ℕ) → k < length (take i zs) → (get_or (take i zs) k no_record).written ≤ s.capacity =
+    let fit : (k : ℕ) → k < length (take i zs) → (get_or (take i zs) k no_counted_zone).written ≤ s.capacity =
     λ k h. let low : k < i = omega arith in
     let known : k < length zs = omega arith in
-    subst (λ (r : ZoneRecord). r.written ≤ s.capacity) (sym (get_or-take i zs k no_record low)) (within s zs xs k flat known) in
+    subst (λ (r : CountedZone). r.written ≤ s.capacity) (sym (get_or-take i zs k no_counted_zone low)) (within s zs xs k flat known) in
     let front : take (z.written * s.block) (new ++ drop (at + length new) xs) ≡ new = take_at new (drop (at + length new) xs) (z.written * s.block) size in
     let whole : take (z.written * s.block) new ≡ new = take_all (z.written * s.block) new (omega arith) in
     let here = blocks-same s.block z.written (z.written * s.block) (new ++ drop (at + length new) xs) new (omega arith) (front ∙ sym whole) in
@@ -75,32 +75,32 @@ filled s zs xs i new flat inside size =
     ∙ ap (λ (bs : List (List ℕ)). let seen : ZoneBlocks = record { state = z.state; blocks = bs } in zones_of s.block s.capacity (take i zs) xs ++ seen ∷ []) here))
 
 -- the blocks of a zone lie within its slot
-pub slot_holds : (s : Shape) (zs : List ZoneRecord) (xs : List ℕ) (i : ℕ) → IsFlat s zs xs → i < length zs
-    → i * (s.capacity * s.block) + (get_or zs i no_record).written * s.block ≤ length xs
+pub slot_holds : (s : Shape) (zs : List CountedZone) (xs : List ℕ) (i : ℕ) → IsFlat s zs xs → i < length zs
+    → i * (s.capacity * s.block) + (get_or zs i no_counted_zone).written * s.block ≤ length xs
 slot_holds s zs xs i flat inside =
     let end = slot_end s zs xs i flat inside in
-    let low : (get_or zs i no_record).written * s.block ≤ s.capacity * s.block = mul-le-mul_right s.block (within s zs xs i flat inside) in
+    let low : (get_or zs i no_counted_zone).written * s.block ≤ s.capacity * s.block = mul-le-mul_right s.block (within s zs xs i flat inside) in
     omega arith
 
 abbrev pub put_in : ℕ → List ℕ → Split → Result Split LoadFault
 put_in at xs part = Ok (spliced at part.0 xs, part.1)
 
-rest_of : (s : Shape) (zs : List ZoneRecord) (i : ℕ) (rest : List ℕ) (front : List ZoneBlocks) → i < length zs
+rest_of : (s : Shape) (zs : List CountedZone) (i : ℕ) (rest : List ℕ) (front : List ZoneBlocks) → i < length zs
     → with_zones front (blocks_in s.block (drop i zs) rest)
-    ≡ with_zones front (bytes_in ((get_or zs i no_record).written * s.block) rest >>= λ part. blocks_in s.block (drop (i + 1) zs) part.1 >>= λ more. Ok (zone_seen s.block (get_or zs i no_record) part.0 ∷ more.0, more.1))
-rest_of s zs i rest front inside = ap (λ (left : List ZoneRecord). with_zones front (blocks_in s.block left rest)) (drop_more zs i no_record inside)
+    ≡ with_zones front (bytes_in ((get_or zs i no_counted_zone).written * s.block) rest >>= λ part. blocks_in s.block (drop (i + 1) zs) part.1 >>= λ more. Ok (zone_seen s.block (get_or zs i no_counted_zone) part.0 ∷ more.0, more.1))
+rest_of s zs i rest front inside = ap (λ (left : List CountedZone). with_zones front (blocks_in s.block left rest)) (drop_more zs i no_counted_zone inside)
 
 regroup : (front : List ZoneBlocks) (zone : ZoneBlocks) (read : Result Zones LoadFault) → with_zones front (read >>= λ more. Ok (zone ∷ more.0, more.1)) ≡ with_zones (front ++ zone ∷ []) read
 regroup front zone (Ok more) = ap (λ (all : List ZoneBlocks). let r : Result Zones LoadFault = Ok (all, more.1) in r) (sym (append_assoc front (zone ∷ []) more.0))
 regroup front zone (Err fault) = refl
 
 -- one zone's blocks were read
-pub goes_on : (s : Shape) (zs : List ZoneRecord) (xs ys rest after : List ℕ) (i : ℕ) (total : Result Zones LoadFault) → IsFlat s zs xs → i < length zs
-    → spliced_in (i * (s.capacity * s.block)) ((get_or zs i no_record).written * s.block) xs rest ≡ Ok (ys, after)
+pub goes_on : (s : Shape) (zs : List CountedZone) (xs ys rest after : List ℕ) (i : ℕ) (total : Result Zones LoadFault) → IsFlat s zs xs → i < length zs
+    → spliced_in (i * (s.capacity * s.block)) ((get_or zs i no_counted_zone).written * s.block) xs rest ≡ Ok (ys, after)
     → with_zones (zones_of s.block s.capacity (take i zs) xs) (blocks_in s.block (drop i zs) rest) ≡ total
     → with_zones (zones_of s.block s.capacity (take (i + 1) zs) ys) (blocks_in s.block (drop (i + 1) zs) after) ≡ total
 goes_on s zs xs ys rest after i total flat inside e so_far =
-    let z = get_or zs i no_record in
+    let z = get_or zs i no_counted_zone in
     let at = i * (s.capacity * s.block) in
     let front = zones_of s.block s.capacity (take i zs) xs in
     let got = bind_ok (bytes_in (z.written * s.block) rest) (put_in at xs) (ys, after) e in
@@ -119,11 +119,11 @@ goes_on s zs xs ys rest after i total flat inside e so_far =
     ∙ (sym step ∙ so_far))
 
 -- one zone's blocks were not read
-pub stops : (s : Shape) (zs : List ZoneRecord) (xs rest : List ℕ) (i : ℕ) (fault : LoadFault) (front : List ZoneBlocks) (total : Result Zones LoadFault) → i < length zs
-    → Fails ⊥ fault (spliced_in (i * (s.capacity * s.block)) ((get_or zs i no_record).written * s.block) xs rest)
+pub stops : (s : Shape) (zs : List CountedZone) (xs rest : List ℕ) (i : ℕ) (fault : LoadFault) (front : List ZoneBlocks) (total : Result Zones LoadFault) → i < length zs
+    → Fails ⊥ fault (spliced_in (i * (s.capacity * s.block)) ((get_or zs i no_counted_zone).written * s.block) xs rest)
     → with_zones front (blocks_in s.block (drop i zs) rest) ≡ total → Fails ⊥ fault total
 stops s zs xs rest i fault front total inside h so_far =
-    let z = get_or zs i no_record in
+    let z = get_or zs i no_counted_zone in
     let at = i * (s.capacity * s.block) in
     let bytes = fails_before fault (bytes_in (z.written * s.block) rest) (λ (part : Split). let all : Split = (spliced at part.0 xs, part.1) in all) h in
     let more = fails_then ⊥ ⊥ fault (bytes_in (z.written * s.block) rest) (λ part. blocks_in s.block (drop (i + 1) zs) part.1 >>= λ more. Ok (zone_seen s.block z part.0 ∷ more.0, more.1)) (λ no. no) bytes in
@@ -131,14 +131,14 @@ stops s zs xs rest i fault front total inside h so_far =
     subst (λ (r : Result Zones LoadFault). Fails ⊥ fault r) (sym (rest_of s zs i rest front inside) ∙ so_far) all
 
 -- no zone is left
-pub is_done : (s : Shape) (zs : List ZoneRecord) (xs rest : List ℕ) (i : ℕ) (total : Result Zones LoadFault) → length zs ≤ i
+pub is_done : (s : Shape) (zs : List CountedZone) (xs rest : List ℕ) (i : ℕ) (total : Result Zones LoadFault) → length zs ≤ i
     → with_zones (zones_of s.block s.capacity (take i zs) xs) (blocks_in s.block (drop i zs) rest) ≡ total → total ≡ Ok (zones_of s.block s.capacity zs xs, rest)
 is_done s zs xs rest i total le so_far =
     sym so_far
-    ∙ (ap (λ (left : List ZoneRecord). with_zones (zones_of s.block s.capacity (take i zs) xs) (blocks_in s.block left rest)) (drop_all i zs le)
+    ∙ (ap (λ (left : List CountedZone). with_zones (zones_of s.block s.capacity (take i zs) xs) (blocks_in s.block left rest)) (drop_all i zs le)
     ∙ (ap (λ (all : List ZoneBlocks). let r : Result Zones LoadFault = Ok (all, rest) in r) (append-nil (zones_of s.block s.capacity (take i zs) xs))
-    ∙ ap (λ (all : List ZoneRecord). let r : Result Zones LoadFault = Ok (zones_of s.block s.capacity all xs, rest) in r) (take_all i zs le)))
+    ∙ ap (λ (all : List CountedZone). let r : Result Zones LoadFault = Ok (zones_of s.block s.capacity all xs, rest) in r) (take_all i zs le)))
 
 -- other bytes of the same number have room too
-pub flat_same : (s : Shape) (zs : List ZoneRecord) (xs ys : List ℕ) → IsFlat s zs xs → length ys ≡ length xs → IsFlat s zs ys
+pub flat_same : (s : Shape) (zs : List CountedZone) (xs ys : List ℕ) → IsFlat s zs xs → length ys ≡ length xs → IsFlat s zs ys
 flat_same s zs xs ys flat size = record { shape = flat.shape; count = flat.count; room = size ∙ flat.room; capacities = flat.capacities; fits = flat.fits }

@@ -4,31 +4,31 @@ use Rattle.std.proofs.lemmas.Bool.{eqb-false}
 use Rattle.std.proofs.lemmas.List.{length-set}
 use Rattle.zone_state.specs.declared.state.ZoneState.{ZoneState}
 use Rattle.zone_state.specs.declared.state.ZoneState.TheVariants.{Empty, ImplicitlyOpened, ExplicitlyOpened, Closed, ReadOnly, Full, Offline}
-use Rattle.zone_state.specs.Zone.{ZoneRecord, IsZone, refusal, after_write, written_state}
+use Rattle.zone_state.specs.Zone.{CountedZone, IsZone, refusal, after_write, written_state}
 use Rattle.image_store.specs.Blocks.{block_count}
-use Rattle.image_store.specs.Flat.{zone_seen, no_record, namespace_of, spliced, IsFlat}
+use Rattle.image_store.specs.Flat.{zone_seen, no_counted_zone, namespace_of, spliced, IsFlat}
 use Rattle.image_store.specs.Geometry.{Shape}
 use Rattle.image_store.specs.Namespace.{ZoneBlocks, ZonedNamespace, zone_at, with_zone, in_zone_state, cleared}
 use Rattle.image_store.proofs.Pieces.{length-blocks, length-spliced}
 use Rattle.image_store.proofs.Zones.{zone-at, zones-set}
 use Rattle.image_store.proofs.Images.{allowed_fits, write_fits}
 
-pub zone_set : (s : Shape) (zs : List ZoneRecord) (xs : List ℕ) (z : ℕ) (r : ZoneRecord)
+pub zone_set : (s : Shape) (zs : List CountedZone) (xs : List ℕ) (z : ℕ) (r : CountedZone)
     → namespace_of s (set zs z r) xs ≡ with_zone (namespace_of s zs xs) z (zone_seen s.block r (drop (z * (s.capacity * s.block)) xs))
 zone_set s zs xs z r =
     ap (λ (all : List ZoneBlocks). let ns : ZonedNamespace = record { block = s.block; size = s.size; capacity = s.capacity; limits = s.limits; zones = all } in ns)
     (zones-set s.block s.capacity zs xs z r)
 
 -- a record with another state alone changes the zone's state alone
-pub state_set : (s : Shape) (zs : List ZoneRecord) (xs : List ℕ) (z : ℕ) (to : ZoneState) → z < length zs
-    → namespace_of s (set zs z (record { state = to; written = (get_or zs z no_record).written; capacity = s.capacity })) xs ≡ in_zone_state (namespace_of s zs xs) z to
+pub state_set : (s : Shape) (zs : List CountedZone) (xs : List ℕ) (z : ℕ) (to : ZoneState) → z < length zs
+    → namespace_of s (set zs z (record { state = to; written = (get_or zs z no_counted_zone).written; capacity = s.capacity })) xs ≡ in_zone_state (namespace_of s zs xs) z to
 state_set s zs xs z to inside =
-    zone_set s zs xs z (record { state = to; written = (get_or zs z no_record).written; capacity = s.capacity })
+    zone_set s zs xs z (record { state = to; written = (get_or zs z no_counted_zone).written; capacity = s.capacity })
     ∙ ap (λ (zone : ZoneBlocks). let other : ZoneBlocks = record { state = to; blocks = zone.blocks } in with_zone (namespace_of s zs xs) z other)
     (sym (zone-at s.block s.capacity zs xs z inside))
 
 -- a record that counts no blocks forgets them
-pub cleared_set : (s : Shape) (zs : List ZoneRecord) (xs : List ℕ) (z : ℕ) (to : ZoneState)
+pub cleared_set : (s : Shape) (zs : List CountedZone) (xs : List ℕ) (z : ℕ) (to : ZoneState)
     → namespace_of s (set zs z (record { state = to; written = 0; capacity = s.capacity })) xs ≡ cleared (namespace_of s zs xs) z to
 cleared_set s zs xs z to = zone_set s zs xs z (record { state = to; written = 0; capacity = s.capacity })
 
@@ -44,12 +44,12 @@ written_zone ReadOnly written capacity false some fits other = let apart = eqb-f
 written_zone Full written capacity false some fits other = let apart = eqb-false written capacity other in (omega arith, (some, omega arith))
 written_zone Offline written capacity false some fits other = let apart = eqb-false written capacity other in (omega arith, (some, omega arith))
 
-pub after_write_zone : (z : ZoneRecord) (n : ℕ) → 1 ≤ n → refusal z z.written n ≡ Ok tt → IsZone (after_write z n).state (after_write z n).written z.capacity
+pub after_write_zone : (z : CountedZone) (n : ℕ) → 1 ≤ n → refusal z z.written n ≡ Ok tt → IsZone (after_write z n).state (after_write z n).written z.capacity
 after_write_zone z n some allowed =
     written_zone z.state (z.written + n) z.capacity (nat_eq (z.written + n) z.capacity) (omega arith) (allowed_fits z z.written n allowed) refl
 
-each_set : (P : ZoneRecord → Type 0) (zs : List ZoneRecord) (z : ℕ) (r : ZoneRecord)
-    → ((y : ℕ) → y < length zs → P (get_or zs y no_record)) → P r → (y : ℕ) → y < length (set zs z r) → P (get_or (set zs z r) y no_record)
+each_set : (P : CountedZone → Type 0) (zs : List CountedZone) (z : ℕ) (r : CountedZone)
+    → ((y : ℕ) → y < length zs → P (get_or zs y no_counted_zone)) → P r → (y : ℕ) → y < length (set zs z r) → P (get_or (set zs z r) y no_counted_zone)
 each_set P [] z r all here y h = absurd (omega arith)
 each_set P (x ∷ zs) zero r all here zero h = here
 each_set P (x ∷ zs) zero r all here (suc y) h = all (suc y) h
@@ -57,22 +57,22 @@ each_set P (x ∷ zs) (suc z) r all here zero h = all 0 (omega arith)
 each_set P (x ∷ zs) (suc z) r all here (suc y) h = each_set P zs z r (λ k in_list. all (suc k) (omega arith)) here y (omega arith)
 
 -- an allowed record in one place, over bytes of the same number
-pub flat_set : (s : Shape) (zs : List ZoneRecord) (xs ys : List ℕ) (z : ℕ) (r : ZoneRecord)
+pub flat_set : (s : Shape) (zs : List CountedZone) (xs ys : List ℕ) (z : ℕ) (r : CountedZone)
     → IsFlat s zs xs → length ys ≡ length xs → r.capacity ≡ s.capacity → IsZone r.state r.written s.capacity → IsFlat s (set zs z r) ys
 flat_set s zs xs ys z r flat size same fits = record {
   shape = flat.shape;
   count = length-set zs z r ∙ flat.count;
   room = size ∙ flat.room;
-  capacities = each_set (λ (x : ZoneRecord). x.capacity ≡ s.capacity) zs z r flat.capacities same;
-  fits = each_set (λ (x : ZoneRecord). IsZone x.state x.written s.capacity) zs z r flat.fits fits;
+  capacities = each_set (λ (x : CountedZone). x.capacity ≡ s.capacity) zs z r flat.capacities same;
+  fits = each_set (λ (x : CountedZone). IsZone x.state x.written s.capacity) zs z r flat.fits fits;
 }
 
 -- a write that is allowed leaves an allowed record
-pub flat_append : (s : Shape) (zs : List ZoneRecord) (xs : List ℕ) (z : ℕ) (new : List ℕ) → IsFlat s zs xs → z < length zs → 1 ≤ block_count s.block new
-    → length new ≡ block_count s.block new * s.block → refusal (get_or zs z no_record) (get_or zs z no_record).written (block_count s.block new) ≡ Ok tt
-    → IsFlat s (set zs z (after_write (get_or zs z no_record) (block_count s.block new))) (spliced (z * (s.capacity * s.block) + (get_or zs z no_record).written * s.block) new xs)
+pub flat_append : (s : Shape) (zs : List CountedZone) (xs : List ℕ) (z : ℕ) (new : List ℕ) → IsFlat s zs xs → z < length zs → 1 ≤ block_count s.block new
+    → length new ≡ block_count s.block new * s.block → refusal (get_or zs z no_counted_zone) (get_or zs z no_counted_zone).written (block_count s.block new) ≡ Ok tt
+    → IsFlat s (set zs z (after_write (get_or zs z no_counted_zone) (block_count s.block new))) (spliced (z * (s.capacity * s.block) + (get_or zs z no_counted_zone).written * s.block) new xs)
 flat_append s zs xs z new flat inside some whole allowed =
-    let was = get_or zs z no_record in
+    let was = get_or zs z no_counted_zone in
     let is = after_write was (block_count s.block new) in
     let at = z * (s.capacity * s.block) + was.written * s.block in
     let same = flat.capacities z inside in
@@ -83,10 +83,10 @@ flat_append s zs xs z new flat inside some whole allowed =
     (subst (λ (n : ℕ). IsZone is.state is.written n) same fits)
 
 -- a state that allows the blocks of the namespace's zone allows those that the image counts
-pub fits_seen : (s : Shape) (zs : List ZoneRecord) (xs : List ℕ) (z : ℕ) (ns : ZonedNamespace) (to : ZoneState) → namespace_of s zs xs ≡ ns → z < length zs
-    → IsZone to (length (zone_at ns z).blocks) ns.capacity → IsZone to (get_or zs z no_record).written s.capacity
+pub fits_seen : (s : Shape) (zs : List CountedZone) (xs : List ℕ) (z : ℕ) (ns : ZonedNamespace) (to : ZoneState) → namespace_of s zs xs ≡ ns → z < length zs
+    → IsZone to (length (zone_at ns z).blocks) ns.capacity → IsZone to (get_or zs z no_counted_zone).written s.capacity
 fits_seen s zs xs z ns to seen inside h =
     let count = ap (λ (zone : ZoneBlocks). length zone.blocks) (zone-at s.block s.capacity zs xs z inside)
-    ∙ length-blocks s.block (get_or zs z no_record).written (drop (z * (s.capacity * s.block)) xs) in
+    ∙ length-blocks s.block (get_or zs z no_counted_zone).written (drop (z * (s.capacity * s.block)) xs) in
     subst (λ (n : ℕ). IsZone to n s.capacity) count
     (subst (λ (m : ZonedNamespace). IsZone to (length (zone_at m z).blocks) m.capacity) (sym seen) h)

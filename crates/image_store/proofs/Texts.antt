@@ -1,10 +1,10 @@
 -- The text of what an image's fields stand for.
 use Rattle.std.proofs.Common.{◌≡◌, ℕ, ◌+◌, ◌*◌, ◌<◌, List, ◌++◌, length, get_or, take, drop, refl, ap, sym, ◌∙◌, arith}
 use Rattle.std.proofs.lemmas.List.{take_all, at_drop_more, get_or_default}
-use Rattle.zone_state.specs.Zone.{ZoneRecord}
+use Rattle.zone_state.specs.Zone.{CountedZone}
 use Rattle.image_store.specs.declared.version.Version.TheVariants.{Two}
 use Rattle.image_store.specs.Blocks.{bytes_of}
-use Rattle.image_store.specs.Flat.{namespace_of, zones_of, no_record, IsFlat}
+use Rattle.image_store.specs.Flat.{namespace_of, zones_of, no_counted_zone, IsFlat}
 use Rattle.image_store.specs.Geometry.{Shape}
 use Rattle.image_store.specs.Namespace.{ZoneBlocks, no_zone, zone_at, shape}
 use Rattle.image_store.specs.Text.{header, written_blocks, records_text, blocks_text, text}
@@ -13,28 +13,28 @@ use Rattle.image_store.proofs.Zones.{length-zones, zone-at}
 use Rattle.image_store.proofs.Images.{counted_zones, shape_seen}
 
 -- the text of the namespace, by the fields
-abbrev pub fields_text : Shape → List ZoneRecord → List ℕ → List ℕ
+abbrev pub fields_text : Shape → List CountedZone → List ℕ → List ℕ
 fields_text s zs xs = header Two s (written_blocks zs) ++ (records_text zs ++ blocks_text (zones_of s.block s.capacity zs xs))
 
-pub text_seen : (s : Shape) (zs : List ZoneRecord) (xs : List ℕ) → IsFlat s zs xs → fields_text s zs xs ≡ text (namespace_of s zs xs)
+pub text_seen : (s : Shape) (zs : List CountedZone) (xs : List ℕ) → IsFlat s zs xs → fields_text s zs xs ≡ text (namespace_of s zs xs)
 text_seen s zs xs flat =
     let blocks = blocks_text (zones_of s.block s.capacity zs xs) in
     let records = sym (counted_zones s.block s.capacity zs xs flat.capacities) in
     ap (λ (known : Shape). header Two known (written_blocks zs) ++ (records_text zs ++ blocks)) (shape_seen s zs xs (namespace_of s zs xs) refl flat)
-    ∙ ap (λ (all : List ZoneRecord). header Two (shape (namespace_of s zs xs)) (written_blocks all) ++ (records_text all ++ blocks)) records
+    ∙ ap (λ (all : List CountedZone). header Two (shape (namespace_of s zs xs)) (written_blocks all) ++ (records_text all ++ blocks)) records
 
 -- the blocks of one zone, as a call gave them, and those of the zones behind it
-pub blocks_step : (s : Shape) (zs : List ZoneRecord) (xs : List ℕ) (i w : ℕ) (z : ZoneRecord) (piece : List ℕ) → i < length zs → z ≡ get_or zs i z → w ≡ z.written
+pub blocks_step : (s : Shape) (zs : List CountedZone) (xs : List ℕ) (i w : ℕ) (z : CountedZone) (piece : List ℕ) → i < length zs → z ≡ get_or zs i z → w ≡ z.written
     → piece ≡ bytes_of (take w (drop 0 (zone_at (namespace_of s zs xs) i).blocks))
     → blocks_text (drop i (zones_of s.block s.capacity zs xs)) ≡ piece ++ blocks_text (drop (i + 1) (zones_of s.block s.capacity zs xs))
 blocks_step s zs xs i w z piece inside read same given =
     let zones = zones_of s.block s.capacity zs xs in
     let blocks = (get_or zones i no_zone).blocks in
     let there : i < length zones = omega (arith, length-zones s.block s.capacity zs xs) in
-    let known : z ≡ get_or zs i no_record = read ∙ get_or_default zs i z no_record inside in
-    let count : w ≡ (get_or zs i no_record).written = same ∙ ap (λ (x : ZoneRecord). x.written) known in
+    let known : z ≡ get_or zs i no_counted_zone = read ∙ get_or_default zs i z no_counted_zone inside in
+    let count : w ≡ (get_or zs i no_counted_zone).written = same ∙ ap (λ (x : CountedZone). x.written) known in
     let seen = ap (λ (zone : ZoneBlocks). length zone.blocks) (zone-at s.block s.capacity zs xs i inside)
-    ∙ length-blocks s.block (get_or zs i no_record).written (drop (i * (s.capacity * s.block)) xs) in
+    ∙ length-blocks s.block (get_or zs i no_counted_zone).written (drop (i * (s.capacity * s.block)) xs) in
     let whole : take w blocks ≡ blocks = take_all w blocks (omega arith) in
     let all : bytes_of blocks ≡ piece = ap bytes_of (sym whole) ∙ sym given in
     at_drop_more blocks_text zones i no_zone there

@@ -1,6 +1,6 @@
 -- Laws of the blocks that bytes are cut into, and of the zones that hold them.
 use Rattle.std.specs.Prelude.{ℕ, ◌≡◌, ◌+◌, ◌*◌, ◌<◌, ◌≤◌, List, [], length, get_or, take, drop, Ok}
-use Rattle.zone_state.specs.Zone.{ZoneRecord, IsZone, refusal, after_write}
+use Rattle.zone_state.specs.Zone.{CountedZone, IsZone, refusal, after_write}
 use Rattle.zone_state.specs.declared.state.ZoneState.{ZoneState}
 use Rattle.image_store.specs.Blocks.{AreBytes, blocks_of, bytes_of}
 use Rattle.image_store.specs.Namespace.{ZoneBlocks, no_zone}
@@ -29,12 +29,12 @@ WrittenIsWithin = (state : ZoneState) (written capacity : ℕ) → IsZone state 
 
 -- and are so behind a write that is allowed,
 abbrev pub AllowedIsWithin : Type 0
-AllowedIsWithin = (z : ZoneRecord) (at count : ℕ) → refusal z at count ≡ Ok tt → z.written + count ≤ z.capacity
+AllowedIsWithin = (z : CountedZone) (at count : ℕ) → refusal z at count ≡ Ok tt → z.written + count ≤ z.capacity
 
 -- of which the zone is left in a state that fits it
 abbrev pub WritesKeepZones : Type 0
 WritesKeepZones =
-    (z : ZoneRecord) (count : ℕ) → 1 ≤ count → refusal z z.written count ≡ Ok tt
+    (z : CountedZone) (count : ℕ) → 1 ≤ count → refusal z z.written count ≡ Ok tt
     → IsZone (after_write z count).state (after_write z count).written z.capacity
 
 -- where a block stands there is a zone

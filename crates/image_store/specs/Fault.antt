@@ -1,7 +1,7 @@
 -- The faults of loading and saving an image.
 use Rattle.std.specs.Prelude.{ℕ}
 use Rattle.image_store.specs.declared.fault.LoadFault.{LoadFault}
-use Rattle.image_store.specs.declared.fault.LoadFault.TheVariants.{Truncated, Magic, Geometry, ZoneRecord, Total, Limits, Trailing, Device, Memory}
+use Rattle.image_store.specs.declared.fault.LoadFault.TheVariants.{Truncated, Magic, Geometry, BadZone, Total, Limits, Trailing, Stream, Memory}
 use Rattle.image_store.specs.declared.fault.SaveFault.{SaveFault}
 use Rattle.image_store.specs.declared.fault.SaveFault.TheVariants as save
 
@@ -10,13 +10,13 @@ abbrev pub load_number : LoadFault → ℕ
 load_number Truncated = 10
 load_number Magic = 11
 load_number (Geometry fault) = 12
-load_number (ZoneRecord zone fault) = 13
+load_number (BadZone zone fault) = 13
 load_number (Total told counted) = 18
 load_number Limits = 14
 load_number Trailing = 15
-load_number Device = 16
+load_number Stream = 16
 load_number Memory = 17
 
 -- the number by which a user is told of a fault of saving (profile)
 abbrev pub save_number : SaveFault → ℕ
-save_number save.Device = 16
+save_number save.Stream = 16

@@ -4,42 +4,42 @@ use Rattle.zone_state.specs.declared.state.ZoneState.TheVariants.{Empty, Offline
 use Rattle.zone_resources.specs.Admission.{IsWithin}
 use Rattle.zone_resources.specs.Counts.{counts_of}
 use Rattle.zone_resources.specs.declared.counts.Counts.{Counts}
-use Rattle.zone_state.specs.Zone.{ZoneRecord, IsZone}
+use Rattle.zone_state.specs.Zone.{CountedZone, IsZone}
 use Rattle.image_store.specs.Blocks.{AreBytes, blocks_of}
 use Rattle.image_store.specs.Geometry.{Shape, IsShape}
 use Rattle.image_store.specs.Namespace.{ZoneBlocks, ZonedNamespace}
 
 -- the zone of a record whose blocks stand at the front of these bytes
-abbrev pub zone_seen : ℕ → ZoneRecord → List ℕ → ZoneBlocks
+abbrev pub zone_seen : ℕ → CountedZone → List ℕ → ZoneBlocks
 zone_seen block z bytes = record { state = z.state; blocks = blocks_of block z.written bytes }
 
 -- the zones of these slots, each of so many blocks of this many bytes
-abbrev pub zones_of : ℕ → ℕ → List ZoneRecord → List ℕ → List ZoneBlocks
+abbrev pub zones_of : ℕ → ℕ → List CountedZone → List ℕ → List ZoneBlocks
 zones_of block capacity [] bytes = []
 zones_of block capacity (z ∷ zs) bytes =
     zone_seen block z bytes ∷ zones_of block capacity zs (drop (capacity * block) bytes)
 
-abbrev pub namespace_of : Shape → List ZoneRecord → List ℕ → ZonedNamespace
+abbrev pub namespace_of : Shape → List CountedZone → List ℕ → ZonedNamespace
 namespace_of s zones bytes = record { block = s.block; size = s.size; capacity = s.capacity; limits = s.limits; zones = zones_of s.block s.capacity zones bytes }
 
-abbrev pub no_record : ZoneRecord
-no_record = record { state = Offline; written = 0; capacity = 0 }
+abbrev pub no_counted_zone : CountedZone
+no_counted_zone = record { state = Offline; written = 0; capacity = 0 }
 
 -- a zone of which nothing is written
-abbrev pub empty_record : ℕ → ZoneRecord
-empty_record capacity = record { state = Empty; written = 0; capacity = capacity }
+abbrev pub empty_counted_zone : ℕ → CountedZone
+empty_counted_zone capacity = record { state = Empty; written = 0; capacity = capacity }
 
 -- a slot for each zone, and each zone's state allows its written blocks
-pub record IsFlat (s : Shape) (zones : List ZoneRecord) (bytes : List ℕ) : Type 0 where
+pub record IsFlat (s : Shape) (zones : List CountedZone) (bytes : List ℕ) : Type 0 where
   pub shape : IsShape s
   pub count : length zones ≡ s.zones
   pub room : length bytes ≡ s.zones * (s.capacity * s.block)
-  pub capacities : (z : ℕ) → z < length zones → (get_or zones z no_record).capacity ≡ s.capacity
-  pub fits : (z : ℕ) → z < length zones → IsZone (get_or zones z no_record).state (get_or zones z no_record).written s.capacity
+  pub capacities : (z : ℕ) → z < length zones → (get_or zones z no_counted_zone).capacity ≡ s.capacity
+  pub fits : (z : ℕ) → z < length zones → IsZone (get_or zones z no_counted_zone).state (get_or zones z no_counted_zone).written s.capacity
 
 -- the parts of an image fit one another: the counts are those of the zones, the open and active zones
 -- are within the limits, and the blocks are of bytes
-pub record IsImage (s : Shape) (zones : List ZoneRecord) (counts : Counts) (bytes : List ℕ) : Type 0 where
+pub record IsImage (s : Shape) (zones : List CountedZone) (counts : Counts) (bytes : List ℕ) : Type 0 where
   pub flat : IsFlat s zones bytes
   pub counted : counts ≡ counts_of zones
   pub within : IsWithin zones s.limits

@@ -3,7 +3,7 @@ use Rattle.std.specs.Prelude.{ℕ, Bool, ◌≤◌, ◌*◌, ◌/◌, ◌%◌, �
 use Rattle.program_interface.specs.BlockSize.{is_block_size, IsBlockSize}
 use Rattle.zone_resources.specs.declared.admission.Limits.{Limits}
 use Rattle.program_interface.specs.declared.block_size.TheConstants.{LARGEST_BLOCK}
-use Rattle.image_store.specs.declared.geometry.Place.{Place}
+use Rattle.image_store.specs.declared.geometry.ZoneBlock.{ZoneBlock}
 use Rattle.image_store.specs.declared.geometry.TheConstants.{MOST_BYTES, MOST_ZONES, MOST_ZONE_BLOCKS}
 use Rattle.image_store.specs.declared.geometry.GeometryFault.{GeometryFault}
 use Rattle.image_store.specs.declared.geometry.GeometryFault.TheVariants.{BlockSize, ZoneCount, ZoneSize, ZoneCapacity, ResourceLimits, TooLarge}
@@ -71,5 +71,5 @@ pub record IsShape (s : Shape) : Type 0 where
   pub room : s.zones * (s.capacity * s.block) ≤ MOST_BYTES
 
 -- the zone that contains a logical block, and the block's place from the zone's lowest one on
-abbrev pub place_of : Shape → ℕ → Option Place
-place_of s lba = if nat_lt lba (s.zones * s.size) then Some (record { zone = lba / s.size; offset = lba % s.size }) else None
+abbrev pub zone_block_of : Shape → ℕ → Option ZoneBlock
+zone_block_of s lba = if nat_lt lba (s.zones * s.size) then Some (record { zone = lba / s.size; offset = lba % s.size }) else None

@@ -1,7 +1,7 @@
 pub mod BlockLaws
 pub mod Blocks
 pub mod Checks
-pub mod Device
+pub mod Streams
 pub mod Fault
 pub mod Flat
 pub mod Geometry

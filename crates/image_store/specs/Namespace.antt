@@ -4,7 +4,7 @@ use Rattle.zone_resources.specs.Admission.{IsWithin}
 use Rattle.zone_resources.specs.declared.admission.Limits.{Limits}
 use Rattle.zone_state.specs.declared.state.ZoneState.{ZoneState}
 use Rattle.zone_state.specs.declared.state.ZoneState.TheVariants.{Empty, Offline}
-use Rattle.zone_state.specs.Zone.{ZoneRecord, after_write, IsZone}
+use Rattle.zone_state.specs.Zone.{CountedZone, after_write, IsZone}
 use Rattle.image_store.specs.Blocks.{AreBytes, as_blocks}
 use Rattle.image_store.specs.Geometry.{Shape, IsShape}
 
@@ -34,11 +34,11 @@ abbrev pub with_zone : ZonedNamespace → ℕ → ZoneBlocks → ZonedNamespace
 with_zone ns z zone = record { block = ns.block; size = ns.size; capacity = ns.capacity; limits = ns.limits; zones = set ns.zones z zone }
 
 -- a zone whose blocks are only counted
-abbrev pub counted : ℕ → ZoneBlocks → ZoneRecord
+abbrev pub counted : ℕ → ZoneBlocks → CountedZone
 counted capacity zone = record { state = zone.state; written = length zone.blocks; capacity = capacity }
 
 -- all zones so
-abbrev pub records : ZonedNamespace → List ZoneRecord
+abbrev pub records : ZonedNamespace → List CountedZone
 records ns = map (counted ns.capacity) ns.zones
 
 -- no more zones are open or active than may be (ZNS 1.1, Zone Resources)

@@ -7,7 +7,7 @@ use Rattle.byteorder.specs.Endian.{little_number}
 use Rattle.zone_state.specs.declared.state.ZoneState.{ZoneState}
 use Rattle.zone_state.specs.declared.state.ZoneState.TheVariants.{Empty, ImplicitlyOpened, ExplicitlyOpened, Closed, ReadOnly, Full, Offline}
 use Rattle.zone_state.specs.State.{state_of}
-use Rattle.zone_state.specs.Zone.{ZoneRecord}
+use Rattle.zone_state.specs.Zone.{CountedZone}
 use Rattle.zone_resources.specs.declared.admission.Limits.{Limits}
 use Rattle.zone_resources.specs.Counts.{open_count, active_count}
 use Rattle.image_store.specs.declared.fault.LoadFault.{LoadFault}
@@ -111,49 +111,49 @@ allows Full written capacity = nat_le written capacity
 allows Offline written capacity = written == 0
 
 -- the zone of a number in a state, with so many blocks written
-abbrev pub zone_with : ℕ → ZoneState → ℕ → ℕ → Result ZoneRecord LoadFault
+abbrev pub zone_with : ℕ → ZoneState → ℕ → ℕ → Result CountedZone LoadFault
 zone_with zone state written capacity =
     if allows state written capacity
     then Ok (record { state = state; written = written; capacity = capacity })
-    else Err (fault.ZoneRecord zone (record_fault.Blocks state written capacity))
+    else Err (fault.BadZone zone (record_fault.Blocks state written capacity))
 
 -- the same in the state that a code tells, if it tells one
-abbrev pub zone_told : ℕ → ℕ → Option ZoneState → ℕ → ℕ → Result ZoneRecord LoadFault
-zone_told zone code None written capacity = Err (fault.ZoneRecord zone (record_fault.State code))
+abbrev pub zone_told : ℕ → ℕ → Option ZoneState → ℕ → ℕ → Result CountedZone LoadFault
+zone_told zone code None written capacity = Err (fault.BadZone zone (record_fault.State code))
 zone_told zone code (Some state) written capacity = zone_with zone state written capacity
 
 -- what the 8 bytes of the zone with this number tell
-abbrev pub zone_in : ℕ → ℕ → List ℕ → Result ZoneRecord LoadFault
+abbrev pub zone_in : ℕ → ℕ → List ℕ → Result CountedZone LoadFault
 zone_in zone capacity bytes =
     if are_zeros (take 3 (drop 1 bytes))
     then zone_told zone (get_or bytes 0 0) (state_of (get_or bytes 0 0)) (number_at bytes 4) capacity
-    else Err (fault.ZoneRecord zone record_fault.Reserved)
+    else Err (fault.BadZone zone record_fault.Reserved)
 
 -- what the bytes of so many zones tell, from the one with this number on
-abbrev pub zones_in : ℕ → ℕ → ℕ → List ℕ → Result (List ZoneRecord) LoadFault
+abbrev pub zones_in : ℕ → ℕ → ℕ → List ℕ → Result (List CountedZone) LoadFault
 zones_in zone capacity zero bytes = Ok []
 zones_in zone capacity (suc n) bytes =
     zone_in zone capacity (take 8 bytes) >>= λ z. zones_in (zone + 1) capacity n (drop 8 bytes) >>= λ zs. Ok (z ∷ zs)
 
 -- the zones of records, all of which are there before any is looked at
-abbrev pub records_in : Shape → List ℕ → Result (List ZoneRecord × List ℕ) LoadFault
+abbrev pub records_in : Shape → List ℕ → Result (List CountedZone × List ℕ) LoadFault
 records_in s bytes =
     bytes_in (s.zones * 8) bytes >>= λ front. zones_in 0 s.capacity s.zones front.0 >>= λ zs. Ok (zs, front.1)
 
 -- the records have as many written blocks as the header tells, if it tells that
-abbrev pub total_kept : Option ℕ → List ZoneRecord → Result (Unit {0}) LoadFault
+abbrev pub total_kept : Option ℕ → List CountedZone → Result (Unit {0}) LoadFault
 total_kept None zs = Ok tt
 total_kept (Some total) zs = if total == written_blocks zs then Ok tt else Err (fault.Total total (written_blocks zs))
 
 -- no more zones are open or active than may be
-abbrev pub limits_kept : Limits → List ZoneRecord → Result Unit LoadFault
+abbrev pub limits_kept : Limits → List CountedZone → Result Unit LoadFault
 limits_kept limits zs =
     if nat_le (open_count zs) limits.open_limit && nat_le (active_count zs) limits.active_limit
     then Ok tt
     else Err fault.Limits
 
 -- the zones with their blocks, which lie one zone's behind another's
-abbrev pub blocks_in : ℕ → List ZoneRecord → List ℕ → Result (List ZoneBlocks × List ℕ) LoadFault
+abbrev pub blocks_in : ℕ → List CountedZone → List ℕ → Result (List ZoneBlocks × List ℕ) LoadFault
 blocks_in block [] bytes = Ok ([], bytes)
 blocks_in block (z ∷ zs) bytes =
     bytes_in (z.written * block) bytes

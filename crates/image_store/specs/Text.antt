@@ -3,7 +3,7 @@ use Rattle.std.specs.Prelude.{ℕ, List, [], ◌∷◌, ◌++◌, replicate}
 use Rattle.std.specs.List.{flat_map, sum_by}
 use Rattle.byteorder.specs.Endian.{little_bytes}
 use Rattle.zone_state.specs.State.{code_of}
-use Rattle.zone_state.specs.Zone.{ZoneRecord}
+use Rattle.zone_state.specs.Zone.{CountedZone}
 use Rattle.image_store.specs.declared.version.Version.{Version}
 use Rattle.image_store.specs.declared.version.Version.TheVariants.{One, Two}
 use Rattle.image_store.specs.Blocks.{bytes_of}
@@ -29,15 +29,15 @@ abbrev pub header : Version → Shape → ℕ → List ℕ
 header version s total = (numbers version).magic ++ (flat_map word (numbers_of s) ++ header_end version total)
 
 -- how many blocks of zones are written
-abbrev pub written_blocks : List ZoneRecord → ℕ
+abbrev pub written_blocks : List CountedZone → ℕ
 written_blocks zones = sum_by (λ zone. zone.written) zones
 
 -- 8 bytes: the state's code, zeros, and how many blocks are written
-abbrev pub record_text : ZoneRecord → List ℕ
+abbrev pub record_text : CountedZone → List ℕ
 record_text z = code_of z.state ∷ 0 ∷ 0 ∷ 0 ∷ word z.written
 
 -- the records of zones
-abbrev pub records_text : List ZoneRecord → List ℕ
+abbrev pub records_text : List CountedZone → List ℕ
 records_text zones = flat_map record_text zones
 
 -- the written blocks of zones, one zone's behind another's

@@ -5,7 +5,7 @@ ghost use Rattle.image_store.specs.Fault.{load_number, save_number};
 ghost use Rattle.image_store.specs.declared.fault.LoadFault.TheVariants as load_fault;
 ghost use Rattle.image_store.specs.declared.fault.SaveFault.TheVariants as save_fault;
 
-use crate::device::DeviceFault;
+use crate::streams::StreamFault;
 use crate::refusal::GeometryRefusal;
 use crate::version::Version;
 use std::alloc::{AllocError, AllocFailed};
@@ -57,7 +57,7 @@ pub enum LoadFault {
     Geometry(HeaderFault),
     /// The lowest zone whose record tells none, and why.
     #[error("record of zone {zone}: {fault}")]
-    ZoneRecord { zone: u32, fault: RecordFault },
+    BadZone { zone: u32, fault: RecordFault },
     /// The header tells another number of written blocks than the records have in all.
     #[error("the header tells of {told} written blocks, the records of {counted}")]
     Total { told: u64, counted: u64 },
@@ -65,8 +65,8 @@ pub enum LoadFault {
     Limits,
     #[error("bytes follow the last block")]
     Trailing,
-    #[error("the device failed")]
-    Device,
+    #[error("the stream failed")]
+    Stream,
     #[error("want of memory")]
     Memory,
 }
@@ -74,8 +74,8 @@ pub enum LoadFault {
 /// Why an image could not be saved. The variant has the number that a user is told (profile).
 #[derive(Clone, Copy, Debug, PartialEq, Eq, Error)]
 pub enum SaveFault {
-    #[error("the device failed")]
-    Device = 16,
+    #[error("the stream failed")]
+    Stream = 16,
 }
 
 impl LoadFault {
@@ -87,11 +87,11 @@ impl LoadFault {
             LoadFault::Truncated => 10,
             LoadFault::Magic => 11,
             LoadFault::Geometry(_) => 12,
-            LoadFault::ZoneRecord { .. } => 13,
+            LoadFault::BadZone { .. } => 13,
             LoadFault::Total { .. } => 18,
             LoadFault::Limits => 14,
             LoadFault::Trailing => 15,
-            LoadFault::Device => 16,
+            LoadFault::Stream => 16,
             LoadFault::Memory => 17,
         }
     }
@@ -106,19 +106,19 @@ impl SaveFault {
     }
 }
 
-impl From<DeviceFault> for LoadFault {
-    ghost from_gives = { λ _ e. e ≡ load_fault.Device };
+impl From<StreamFault> for LoadFault {
+    ghost from_gives = { λ _ e. e ≡ load_fault.Stream };
 
-    fn from(_fault: DeviceFault) -> LoadFault {
-        LoadFault::Device
+    fn from(_fault: StreamFault) -> LoadFault {
+        LoadFault::Stream
     }
 }
 
-impl From<DeviceFault> for SaveFault {
-    ghost from_gives = { λ _ e. e ≡ save_fault.Device };
+impl From<StreamFault> for SaveFault {
+    ghost from_gives = { λ _ e. e ≡ save_fault.Stream };
 
-    fn from(_fault: DeviceFault) -> SaveFault {
-        SaveFault::Device
+    fn from(_fault: StreamFault) -> SaveFault {
+        SaveFault::Stream
     }
 }
 

@@ -1,7 +1,7 @@
 //! The shape of a namespace.
 
 ghost use Rattle.std.specs.Prelude.{◌≡◌, ◌≤◌, ◌<◌, ◌*◌, ◌^◌, ◌+◌, IfSome, OnSome};
-ghost use Rattle.image_store.specs.Geometry.{tested, shape_of, place_of, number_of, is_counted, are_limits, IsShape};
+ghost use Rattle.image_store.specs.Geometry.{tested, shape_of, zone_block_of, number_of, is_counted, are_limits, IsShape};
 
 use program_interface::{BlockSize, LARGEST_BLOCK};
 use std::marker::Model;
@@ -46,7 +46,7 @@ impl GeometryFault {
 
 /// A logical block as a block of a zone.
 #[derive(Clone, Copy, Debug, PartialEq, Eq)]
-pub struct Place {
+pub struct ZoneBlock {
     /// The number of the zone.
     pub zone: u32,
     /// How many blocks lie between the zone's lowest one and this one.
@@ -163,8 +163,8 @@ impl Geometry {
     }
 
     /// The zone and place of a logical block, or `None` for an address past the namespace's end.
-    pub fn place(self, lba: u64) -> Option<Place>
-        ensures value { result ≡ place_of self lba }
+    pub fn zone_block(self, lba: u64) -> Option<ZoneBlock>
+        ensures value { result ≡ zone_block_of self lba }
         ensures inside { IfSome result (λ place. place.zone < self.zones) }
         ensures lowest { IfSome result (λ place. place.zone * self.size + place.offset ≡ lba) }
         ensures small { OnSome result (lba < 2 ^ 36) }
@@ -173,7 +173,7 @@ impl Geometry {
             return None;
         }
         let size = u64::from(self.size);
-        Some(Place {
+        Some(ZoneBlock {
             zone: (lba / size) as u32,
             offset: (lba % size) as u32,
         })

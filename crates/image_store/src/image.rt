@@ -5,14 +5,14 @@ ghost use Rattle.zone_resources.specs.Counts.{counts_of};
 ghost use Rattle.zone_state.specs.Zone.{refusal, IsZone};
 ghost use Rattle.image_store.specs.Geometry.{IsShape};
 ghost use Rattle.image_store.specs.Blocks.{block_count, bytes_of};
-ghost use Rattle.image_store.specs.Device.{Takes, CountsFailure};
+ghost use Rattle.image_store.specs.Streams.{Takes, CountsFailure};
 ghost use Rattle.image_store.specs.Loading.{Gives, CountsLoad};
 ghost use Rattle.image_store.specs.Reading.{header_in, namespace_in};
 ghost use Rattle.image_store.specs.Text.{text};
 ghost use Rattle.image_store.specs.Namespace.{appended, in_zone_state, cleared, counted, records, zone_at, all_empty, shape, block_at, IsWithinLimits, IsWritten, IsNamespace};
 
 use crate::bytes::are_bytes;
-use crate::device::{Sink, Source};
+use crate::streams::{Sink, Source};
 use crate::fault::{LoadFault, SaveFault};
 use crate::geometry::Geometry;
 use crate::{load, save, slots};
@@ -62,7 +62,7 @@ impl Image {
     ///
     /// # Errors
     ///
-    /// The first fault of the text from the left, or [`LoadFault::Device`] where the source fails, or
+    /// The first fault of the text from the left, or [`LoadFault::Stream`] where the source fails, or
     /// [`LoadFault::Memory`] where memory is refused: for the records once the header is accepted,
     /// and for the blocks once the records are.
     pub fn load<R: Source>(alloc: Global, source: &mut R) -> Result<Image, LoadFault>
@@ -86,7 +86,7 @@ impl Image {
     ///
     /// # Errors
     ///
-    /// [`SaveFault::Device`] where the sink fails, which then has a beginning of the text.
+    /// [`SaveFault::Stream`] where the sink fails, which then has a beginning of the text.
     pub fn save<W: Sink>(&self, sink: &mut W) -> Result<(), SaveFault>
         requires { W.failures sink.old < 2 ^ 64 - 1 }
         ensures text { W.tells → Takes (W.taken sink.old) (W.taken sink.new) (text self.now) result }
@@ -150,7 +150,7 @@ impl Image {
         ensures value { result.now ≡ block_at self.now lba }
         ensures size { length result.now ≡ self.now.block }
     {
-        let place = self.geometry().place(lba).unwrap();
+        let place = self.geometry().zone_block(lba).unwrap();
         self.blocks(place.zone, place.offset, 1)
     }
 

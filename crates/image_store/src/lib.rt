@@ -2,7 +2,6 @@
 #![tactic(auto)]
 
 mod bytes;
-mod device;
 mod fault;
 mod geometry;
 mod header;
@@ -14,13 +13,14 @@ mod record;
 mod refusal;
 mod save;
 mod slots;
+mod streams;
 #[cfg(test)]
 mod tests;
 mod version;
 
-pub use device::{DeviceFault, Sink, Source};
+pub use streams::{StreamFault, Sink, Source};
 pub use fault::{HeaderFault, LoadFault, RecordFault, SaveFault};
-pub use geometry::{Geometry, GeometryFault, MOST_ZONES, Place};
+pub use geometry::{Geometry, GeometryFault, MOST_ZONES, ZoneBlock};
 pub use image::Image;
 pub use memory::Buffer;
 pub use refusal::GeometryRefusal;

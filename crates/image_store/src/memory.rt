@@ -1,8 +1,8 @@
-//! Devices over memory. They tell which bytes pass through them.
+//! Streams over memory. They tell which bytes pass through them.
 
 ghost use Rattle.std.specs.Prelude.{◌≡◌, ◌^◌, ◌<◌, ◌-◌, [], OnOk, length};
 
-use crate::device::{DeviceFault, Sink, Source};
+use crate::streams::{StreamFault, Sink, Source};
 use std::alloc::Global;
 use std::marker::Model;
 
@@ -14,7 +14,7 @@ impl Source for &[u8] {
 
     ghost failures = { λ _. 0 };
 
-    fn read(&mut self, to: &mut [u8]) -> Result<usize, DeviceFault> {
+    fn read(&mut self, to: &mut [u8]) -> Result<usize, StreamFault> {
         let count = self.len().min(to.len());
         let (front, rest) = self.split_at(count);
         to[..count].copy_from_slice(front);
@@ -35,7 +35,7 @@ pub struct Buffer {
 }
 
 impl Model for Buffer {
-    ghost use Rattle.image_store.specs.Device.{Taken};
+    ghost use Rattle.image_store.specs.Streams.{Taken};
 
     ghost Value = { Taken };
 
@@ -76,10 +76,10 @@ impl Sink for Buffer {
 
     ghost failures = { λ s. s.failures };
 
-    fn write(&mut self, from: &[u8]) -> Result<usize, DeviceFault> {
+    fn write(&mut self, from: &[u8]) -> Result<usize, StreamFault> {
         if self.bytes.extend_from_slice(from).is_err() {
             self.failures += 1;
-            return Err(DeviceFault);
+            return Err(StreamFault);
         }
         Ok(from.len())
     }

@@ -1,7 +1,7 @@
 //! The records of an image's zones.
 
 ghost use Rattle.std.specs.Prelude.{◌≡◌, ◌≤◌, ◌*◌, ◌<◌, ◌^◌, length};
-ghost use Rattle.image_store.specs.Loading.{Gives, NoDeviceFails};
+ghost use Rattle.image_store.specs.Loading.{Gives, NoStreamFails};
 ghost use Rattle.image_store.specs.Reading.{zone_in, zone_with, zones_in};
 ghost use Rattle.image_store.specs.Text.{record_text, written_blocks};
 
@@ -42,7 +42,7 @@ pub fn decode_all(
     requires size { length bytes.now ≡ count * 8 }
     requires some { 1 ≤ capacity }
     ensures zones { Gives (Unit {0}) (λ zones. zones.items) result (zones_in 0 capacity count bytes.now) }
-    ensures no_device { NoDeviceFails result }
+    ensures no_stream { NoStreamFails result }
 {
     let mut zones = Vec::with_capacity(alloc, count as usize)?;
     let mut rest = bytes;
@@ -62,14 +62,14 @@ fn decode(zone: u32, bytes: &[u8], capacity: u32) -> Result<Zone, LoadFault>
 {
     if !are_zeros(&bytes[1..4]) {
         let fault = RecordFault::Reserved;
-        return Err(LoadFault::ZoneRecord { zone, fault });
+        return Err(LoadFault::BadZone { zone, fault });
     }
     let written = LittleEndian::read_u32(&bytes[4..]);
     match ZoneState::from_code(bytes[0]) {
         Some(state) => zone_of(zone, state, written, capacity),
         None => {
             let fault = RecordFault::State(bytes[0]);
-            Err(LoadFault::ZoneRecord { zone, fault })
+            Err(LoadFault::BadZone { zone, fault })
         }
     }
 }
@@ -87,7 +87,7 @@ fn zone_of(zone: u32, state: ZoneState, written: u32, capacity: u32) -> Result<Z
                 written,
                 capacity,
             };
-            Err(LoadFault::ZoneRecord { zone, fault })
+            Err(LoadFault::BadZone { zone, fault })
         }
     }
 }

@@ -1,11 +1,11 @@
 //! Saving the fields of an image.
 
 ghost use Rattle.std.specs.Prelude.{◌≡◌, ◌<◌, ◌-◌, ◌^◌};
-ghost use Rattle.image_store.specs.Device.{Takes, CountsFailure};
+ghost use Rattle.image_store.specs.Streams.{Takes, CountsFailure};
 ghost use Rattle.image_store.specs.Flat.{IsFlat, namespace_of};
 ghost use Rattle.image_store.specs.Text.{text, records_text, blocks_text};
 
-use crate::device::Sink;
+use crate::streams::Sink;
 use crate::fault::SaveFault;
 use crate::geometry::Geometry;
 use crate::{header, record, slots};

@@ -5,7 +5,7 @@ ghost use Rattle.zone_resources.specs.Counts.{counts_of};
 ghost use Rattle.zone_state.specs.State.{is_active};
 ghost use Rattle.zone_state.specs.Zone.{refusal, IsZone};
 ghost use Rattle.image_store.specs.Blocks.{block_count, bytes_of};
-ghost use Rattle.image_store.specs.Flat.{IsFlat, IsImage, namespace_of, spliced, empty_record, no_record};
+ghost use Rattle.image_store.specs.Flat.{IsFlat, IsImage, namespace_of, spliced, empty_counted_zone, no_counted_zone};
 ghost use Rattle.image_store.specs.Namespace.{appended, in_zone_state, cleared, zone_at, IsWithinLimits};
 
 use crate::geometry::Geometry;
@@ -15,7 +15,7 @@ use zone_state::{Zone, ZoneState};
 /// A zone of which nothing is written.
 pub fn empty_zone(capacity: u32) -> Zone
     requires { 1 ≤ capacity }
-    ensures { result ≡ empty_record capacity }
+    ensures { result ≡ empty_counted_zone capacity }
 {
     Zone::new(ZoneState::Empty, 0, capacity).unwrap()
 }
@@ -59,7 +59,7 @@ pub fn set_state(
 )
     requires image { IsImage geometry zones.old counts.old blocks.now }
     requires inside { zone < length zones.old }
-    requires fits { IsZone to (get_or zones.old zone no_record).written geometry.capacity }
+    requires fits { IsZone to (get_or zones.old zone no_counted_zone).written geometry.capacity }
     requires allowed { IsWithinLimits (in_zone_state (namespace_of geometry zones.old blocks.now) zone to) }
     ensures state { namespace_of geometry zones.new blocks.now ≡ in_zone_state (namespace_of geometry zones.old blocks.now) zone to }
     ensures image { IsImage geometry zones.new counts.new blocks.now }
@@ -102,7 +102,7 @@ pub fn append(
     requires inside { zone < length zones.old }
     requires some { 1 ≤ block_count geometry.block bytes.now }
     requires whole { length bytes.now ≡ block_count geometry.block bytes.now * geometry.block }
-    requires allowed { let z = get_or zones.old zone no_record in refusal z z.written (block_count geometry.block bytes.now) ≡ Ok tt }
+    requires allowed { let z = get_or zones.old zone no_counted_zone in refusal z z.written (block_count geometry.block bytes.now) ≡ Ok tt }
     requires limits { IsWithinLimits (appended (namespace_of geometry zones.old blocks.old) zone bytes.now) }
     ensures state { namespace_of geometry zones.new blocks.new ≡ appended (namespace_of geometry zones.old blocks.old) zone bytes.now }
     ensures image { IsImage geometry zones.new counts.new blocks.new }
@@ -129,7 +129,7 @@ pub fn blocks<'a>(
 ) -> &'a [u8]
     requires flat { IsFlat geometry zones.now blocks.now }
     requires inside { zone < length zones.now }
-    requires written { first + count ≤ (get_or zones.now zone no_record).written }
+    requires written { first + count ≤ (get_or zones.now zone no_counted_zone).written }
     ensures size { length result.now ≡ count * geometry.block }
     ensures value { result.now ≡ bytes_of (take count (drop first (zone_at (namespace_of geometry zones.now blocks.now) zone).blocks)) }
 {

@@ -1,10 +1,10 @@
-//! What no clause says: images that were written down byte by byte, and devices that give little at
+//! What no clause says: images that were written down byte by byte, and streams that give little at
 //! a time or fail.
 
 ghost use Rattle.std.specs.Prelude.{◌≤◌};
 
 use crate::{
-    Buffer, DeviceFault, Geometry, GeometryFault, GeometryRefusal, HeaderFault, Image, Limits,
+    Buffer, StreamFault, Geometry, GeometryFault, GeometryRefusal, HeaderFault, Image, Limits,
     LoadFault, RecordFault, Sink, Source, Version,
 };
 use std::alloc::{AllocError, Global};
@@ -167,7 +167,7 @@ fn bad_header(fault: HeaderFault) -> Option<LoadFault> {
 
 /// What is told of the record of a zone that has this fault.
 fn bad_record(zone: u32, fault: RecordFault) -> Option<LoadFault> {
-    Some(LoadFault::ZoneRecord { zone, fault })
+    Some(LoadFault::BadZone { zone, fault })
 }
 
 /// What is told of zone 0, in an implicitly opened state with so many of its 6 blocks written.
@@ -231,9 +231,9 @@ fn the_first_fault_decides(rt: HostRuntime) -> Result<(), Fail> {
         counted: 1,
     };
     assert_eq!(rt; fault_of(rt.alloc(), &miscounted), Some(total));
-    let no_record = changed(&[(32, 1), (91, 1)]);
+    let no_counted_zone = changed(&[(32, 1), (91, 1)]);
     assert_eq!(rt;
-        fault_of(rt.alloc(), &no_record),
+        fault_of(rt.alloc(), &no_counted_zone),
         bad_record(3, RecordFault::Reserved)
     );
     Ok(())
@@ -272,10 +272,10 @@ impl Source for Slow<'_> {
 
     ghost failures = { λ s. s.failures };
 
-    fn read(&mut self, to: &mut [u8]) -> Result<usize, DeviceFault> {
+    fn read(&mut self, to: &mut [u8]) -> Result<usize, StreamFault> {
         if self.calls == 0 {
             self.failures += 1;
-            return Err(DeviceFault);
+            return Err(StreamFault);
         }
         self.calls -= 1;
         let Some((first, rest)) = self.rest.split_first() else {
@@ -305,7 +305,7 @@ fn a_slow_source_is_read_to_its_end(rt: HostRuntime) -> Result<(), Fail> {
         };
         match Image::load(rt.alloc(), &mut source) {
             Ok(_) => assert!(rt; false, "call {calls} failed"),
-            Err(fault) => assert_eq!(rt; fault, LoadFault::Device),
+            Err(fault) => assert_eq!(rt; fault, LoadFault::Stream),
         }
         assert_eq!(rt; source.failures(), 1);
     }
@@ -338,11 +338,11 @@ impl Sink for Narrow {
 
     ghost failures = { λ s. s.failures };
 
-    fn write(&mut self, from: &[u8]) -> Result<usize, DeviceFault> {
+    fn write(&mut self, from: &[u8]) -> Result<usize, StreamFault> {
         let count = from.len().min(self.width);
         if self.calls == 0 || self.taken.extend_from_slice(&from[..count]).is_err() {
             self.failures += 1;
-            return Err(DeviceFault);
+            return Err(StreamFault);
         }
         self.calls -= 1;
         Ok(count)

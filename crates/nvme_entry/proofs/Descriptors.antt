@@ -4,7 +4,7 @@ use lib.Pointwise.{pointwise, bytes_decides}
 use Rattle.byteorder.specs.Endian.{little_bytes, little_number}
 use Rattle.byteorder.specs.Numbers.{little_number-reads_back}
 use Rattle.zone_state.specs.State.{code_of, state_of}
-use Rattle.zone_state.specs.Zone.{ZoneRecord}
+use Rattle.zone_state.specs.Zone.{CountedZone}
 use Rattle.zone_state.specs.declared.state.ZoneState.{ZoneState}
 use Rattle.zone_state.specs.declared.state.ZoneState.TheVariants.{Empty, ImplicitlyOpened, ExplicitlyOpened, Closed, ReadOnly, Full, Offline}
 use Rattle.nvme_entry.specs.Report.{descriptor, has_write_pointer}
@@ -25,7 +25,7 @@ front-is Full = refl
 front-is Offline = refl
 
 -- a zone's descriptor, by its words
-descriptor-is_words : (zone : ZoneRecord) (lowest : ℕ) → descriptor zone lowest ≡ descriptor_bytes (described zone lowest)
+descriptor-is_words : (zone : CountedZone) (lowest : ℕ) → descriptor zone lowest ≡ descriptor_bytes (described zone lowest)
 unfolding descriptor
 descriptor-is_words zone lowest = ap (λ (front : List ℕ). front ++ drop 8 (descriptor_bytes (described zone lowest))) (sym (front-is zone.state))
 
@@ -63,18 +63,18 @@ pointer_if true n h = h
 pointer_if false n h = omega arith
 
 -- the fields read from the bytes of a zone's descriptor are the zone's
-zone_read_back : (zone : ZoneRecord) (lowest : ℕ) → zone.capacity < 2 ^ 64 → lowest + zone.written < 2 ^ 64 → descriptor_in (descriptor zone lowest) ≡ Some (described zone lowest)
+zone_read_back : (zone : CountedZone) (lowest : ℕ) → zone.capacity < 2 ^ 64 → lowest + zone.written < 2 ^ 64 → descriptor_in (descriptor zone lowest) ≡ Some (described zone lowest)
 zone_read_back zone lowest capacity written =
     ap descriptor_in (descriptor-is_words zone lowest)
     ∙ read_back (described zone lowest) capacity (omega (arith, written)) (pointer_if (has_write_pointer zone.state) (lowest + zone.written) written)
 
-pub is_read_back : (bytes : List ℕ) (found : Option ZoneDescriptor) → found ≡ descriptor_in bytes → (zone : ZoneRecord) (lowest : ℕ) → zone.capacity < 2 ^ 64 → lowest + zone.written < 2 ^ 64
+pub is_read_back : (bytes : List ℕ) (found : Option ZoneDescriptor) → found ≡ descriptor_in bytes → (zone : CountedZone) (lowest : ℕ) → zone.capacity < 2 ^ 64 → lowest + zone.written < 2 ^ 64
     → bytes ≡ descriptor zone lowest → found ≡ Some (described zone lowest)
 is_read_back bytes found read zone lowest capacity written is = read ∙ ap descriptor_in is ∙ zone_read_back zone lowest capacity written
 
 -- where the descriptor with the fields that bytes tell has other bytes, no zone's descriptor has these
 pub no_other_is_read : (bytes again : List ℕ) (read : ZoneDescriptor) → Some read ≡ descriptor_in bytes → again ≡ descriptor_bytes read → pointwise nat_eq again bytes ≡ false
-    → (zone : ZoneRecord) (lowest : ℕ) → zone.capacity < 2 ^ 64 → lowest + zone.written < 2 ^ 64 → bytes ≡ descriptor zone lowest → None ≡ Some (described zone lowest)
+    → (zone : CountedZone) (lowest : ℕ) → zone.capacity < 2 ^ 64 → lowest + zone.written < 2 ^ 64 → bytes ≡ descriptor zone lowest → None ≡ Some (described zone lowest)
 no_other_is_read bytes again read told spelled differ zone lowest capacity written is =
     let one : read ≡ described zone lowest = some_is_one read (described zone lowest) (is_read_back bytes (Some read) told zone lowest capacity written is) in
     let equal : again ≡ bytes = spelled ∙ ap descriptor_bytes one ∙ sym (descriptor-is_words zone lowest) ∙ sym is in

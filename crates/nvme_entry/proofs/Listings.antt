@@ -3,12 +3,12 @@ use Rattle.std.proofs.Common.{◌≡◌, ℕ, zero, suc, ◌+◌, ◌-◌, ◌*�
 use Rattle.std.specs.List.{enumerate_from, flat_map}
 use Rattle.std.proofs.lemmas.Bool.{cases_lt}
 use Rattle.std.proofs.lemmas.List.{take_at, drop_all, drop_more, length-take-le, length-replicate}
-use Rattle.zone_state.specs.Zone.{ZoneRecord}
+use Rattle.zone_state.specs.Zone.{CountedZone}
 use Rattle.nvme_entry.specs.Filter.{takes}
 use Rattle.nvme_entry.specs.declared.filter.ZoneFilter.{ZoneFilter}
 use Rattle.nvme_entry.specs.Report.{descriptor, descriptor_at, filled, header, listed, taken}
 
-pub length-descriptor : (zone : ZoneRecord) (lowest : ℕ) → length (descriptor zone lowest) ≡ 64
+pub length-descriptor : (zone : CountedZone) (lowest : ℕ) → length (descriptor zone lowest) ≡ 64
 unfolding descriptor
 length-descriptor zone lowest = refl
 
@@ -95,40 +95,40 @@ whole-none {X = X} f n =
     let same : n - 0 ≡ n = omega arith in
     ap (λ (xs : List X). filled n (flat_map f xs)) (take-none (n / 64)) ∙ ap (λ (m : ℕ). replicate m 0) same
 
-cut : (zones : List ZoneRecord) (index : ℕ) (zone : ZoneRecord) → index < length zones → zone ≡ get_or zones index zone → drop index zones ≡ zone ∷ drop (index + 1) zones
-cut zones index zone inside is = drop_more zones index zone inside ∙ ap (λ (z : ZoneRecord). z ∷ drop (index + 1) zones) (sym is)
+cut : (zones : List CountedZone) (index : ℕ) (zone : CountedZone) → index < length zones → zone ≡ get_or zones index zone → drop index zones ≡ zone ∷ drop (index + 1) zones
+cut zones index zone inside is = drop_more zones index zone inside ∙ ap (λ (z : CountedZone). z ∷ drop (index + 1) zones) (sym is)
 
-taken-cut : (option : ZoneFilter) (first index : ℕ) (zones : List ZoneRecord) (zone : ZoneRecord) (test : Bool) → index < length zones → zone ≡ get_or zones index zone
+taken-cut : (option : ZoneFilter) (first index : ℕ) (zones : List CountedZone) (zone : CountedZone) (test : Bool) → index < length zones → zone ≡ get_or zones index zone
     → takes option zone.state ≡ test
     → taken option (enumerate_from (first + index) (drop index zones))
     ≡ cond test ((first + index, zone) ∷ taken option (enumerate_from (first + (index + 1)) (drop (index + 1) zones))) (taken option (enumerate_from (first + (index + 1)) (drop (index + 1) zones)))
 taken-cut option first index zones zone test inside is tested =
     let behind = drop (index + 1) zones in
     let next : first + index + 1 ≡ first + (index + 1) = omega arith in
-    ap (λ (zs : List ZoneRecord). taken option (enumerate_from (first + index) zs)) (cut zones index zone inside is)
+    ap (λ (zs : List CountedZone). taken option (enumerate_from (first + index) zs)) (cut zones index zone inside is)
     ∙ (ap (λ (b : Bool). cond b ((first + index, zone) ∷ taken option (enumerate_from (first + index + 1) behind)) (taken option (enumerate_from (first + index + 1) behind))) tested
     ∙ ap (λ (n : ℕ). cond test ((first + index, zone) ∷ taken option (enumerate_from n behind)) (taken option (enumerate_from n behind))) next)
 
 -- a zone that the filter takes is the first of those that are left
-pub taken-next : (option : ZoneFilter) (first index : ℕ) (zones : List ZoneRecord) (zone : ZoneRecord) → index < length zones → zone ≡ get_or zones index zone
+pub taken-next : (option : ZoneFilter) (first index : ℕ) (zones : List CountedZone) (zone : CountedZone) → index < length zones → zone ≡ get_or zones index zone
     → takes option zone.state ≡ true
     → taken option (enumerate_from (first + index) (drop index zones)) ≡ (first + index, zone) ∷ taken option (enumerate_from (first + (index + 1)) (drop (index + 1) zones))
 taken-next option first index zones zone inside is tested = taken-cut option first index zones zone true inside is tested
 
 -- a zone that it doesn't take is none of them
-pub taken-not : (option : ZoneFilter) (first index : ℕ) (zones : List ZoneRecord) (zone : ZoneRecord) → index < length zones → zone ≡ get_or zones index zone
+pub taken-not : (option : ZoneFilter) (first index : ℕ) (zones : List CountedZone) (zone : CountedZone) → index < length zones → zone ≡ get_or zones index zone
     → takes option zone.state ≡ false
     → taken option (enumerate_from (first + index) (drop index zones)) ≡ taken option (enumerate_from (first + (index + 1)) (drop (index + 1) zones))
 taken-not option first index zones zone inside is tested = taken-cut option first index zones zone false inside is tested
 
 -- so far: what the loop over the zones has found and put before one of them
-pub record HasListed (option : ZoneFilter) (first size : ℕ) (zones : List ZoneRecord) (start output : List ℕ) (index found at : ℕ) : Type 0 where
+pub record HasListed (option : ZoneFilter) (first size : ℕ) (zones : List CountedZone) (start output : List ℕ) (index found at : ℕ) : Type 0 where
   pub inside : at ≤ length output
   pub few : found ≤ index
   pub number : found + length (taken option (enumerate_from (first + index) (drop index zones))) ≡ length (taken option (enumerate_from first zones))
   pub bytes : take at output ++ listed size (length output - at) (taken option (enumerate_from (first + index) (drop index zones))) ≡ listed size (length start) (taken option (enumerate_from first zones))
 
-pub listed-begins : (option : ZoneFilter) (first size : ℕ) (zones : List ZoneRecord) (output : List ℕ) → HasListed option first size zones output output 0 0 0
+pub listed-begins : (option : ZoneFilter) (first size : ℕ) (zones : List CountedZone) (output : List ℕ) → HasListed option first size zones output output 0 0 0
 listed-begins option first size zones output =
     let same : first + 0 ≡ first = omega arith in
     let long : length output - 0 ≡ length output = omega arith in
@@ -141,7 +141,7 @@ listed-begins option first size zones output =
           ∙ ap (λ (n : ℕ). listed size n (taken option (enumerate_from first zones))) long;
     }
 
-pub listed-not : (option : ZoneFilter) (first size : ℕ) (zones : List ZoneRecord) (start output : List ℕ) (index found at : ℕ) (zone : ZoneRecord)
+pub listed-not : (option : ZoneFilter) (first size : ℕ) (zones : List CountedZone) (start output : List ℕ) (index found at : ℕ) (zone : CountedZone)
     → index < length zones → zone ≡ get_or zones index zone → takes option zone.state ≡ false
     → HasListed option first size zones start output index found at → HasListed option first size zones start output (index + 1) found at
 listed-not option first size zones start output index found at zone inside is tested has =
@@ -149,11 +149,11 @@ listed-not option first size zones start output index found at zone inside is te
     record {
       inside = has.inside;
       few = omega (arith, has.few);
-      number = ap (λ (zs : List (ℕ × ZoneRecord)). found + length zs) (sym next) ∙ has.number;
-      bytes = ap (λ (zs : List (ℕ × ZoneRecord)). take at output ++ listed size (length output - at) zs) (sym next) ∙ has.bytes;
+      number = ap (λ (zs : List (ℕ × CountedZone)). found + length zs) (sym next) ∙ has.number;
+      bytes = ap (λ (zs : List (ℕ × CountedZone)). take at output ++ listed size (length output - at) zs) (sym next) ∙ has.bytes;
     }
 
-pub listed-next : (option : ZoneFilter) (first size : ℕ) (zones : List ZoneRecord) (start output new : List ℕ) (index found at place lowest : ℕ) (zone : ZoneRecord)
+pub listed-next : (option : ZoneFilter) (first size : ℕ) (zones : List CountedZone) (start output new : List ℕ) (index found at place lowest : ℕ) (zone : CountedZone)
     → index < length zones → zone ≡ get_or zones index zone → takes option zone.state ≡ true
     → lowest ≡ (first + index) * size
     → place ≤ length new → length new ≡ length output
@@ -163,7 +163,7 @@ pub listed-next : (option : ZoneFilter) (first size : ℕ) (zones : List ZoneRec
 listed-next option first size zones start output new index found at place lowest zone inside is tested is_lowest within same_length fits full has =
     let next = taken-next option first index zones zone inside is tested in
     let rest = taken option (enumerate_from (first + (index + 1)) (drop (index + 1) zones)) in
-    let longer = ap (λ (zs : List (ℕ × ZoneRecord)). length zs) next in
+    let longer = ap (λ (zs : List (ℕ × CountedZone)). length zs) next in
     record {
       inside = within;
       few = omega (arith, has.few);
@@ -171,23 +171,23 @@ listed-next option first size zones start output new index found at place lowest
       bytes =
           step-more (descriptor_at size) (first + index, zone) rest output new at place (length-descriptor zone ((first + index) * size)) same_length
           (λ h. ((fits h).0, (fits h).1 ∙ ap (λ (n : ℕ). take at output ++ descriptor zone n) is_lowest)) full
-          ∙ (ap (λ (zs : List (ℕ × ZoneRecord)). take at output ++ listed size (length output - at) zs) (sym next) ∙ has.bytes);
+          ∙ (ap (λ (zs : List (ℕ × CountedZone)). take at output ++ listed size (length output - at) zs) (sym next) ∙ has.bytes);
     }
 
 -- behind the last zone nothing is left to list
-taken-last : (option : ZoneFilter) (first index : ℕ) (zones : List ZoneRecord) → length zones ≤ index → taken option (enumerate_from (first + index) (drop index zones)) ≡ []
-taken-last option first index zones past = ap (λ (zs : List ZoneRecord). taken option (enumerate_from (first + index) zs)) (drop_all index zones past)
+taken-last : (option : ZoneFilter) (first index : ℕ) (zones : List CountedZone) → length zones ≤ index → taken option (enumerate_from (first + index) (drop index zones)) ≡ []
+taken-last option first index zones past = ap (λ (zs : List CountedZone). taken option (enumerate_from (first + index) zs)) (drop_all index zones past)
 
-pub listed-number : (option : ZoneFilter) (first size : ℕ) (zones : List ZoneRecord) (start output : List ℕ) (index found at : ℕ) → length zones ≤ index
+pub listed-number : (option : ZoneFilter) (first size : ℕ) (zones : List CountedZone) (start output : List ℕ) (index found at : ℕ) → length zones ≤ index
     → HasListed option first size zones start output index found at → found ≡ length (taken option (enumerate_from first zones))
 listed-number option first size zones start output index found at past has =
-    let none = ap (λ (zs : List (ℕ × ZoneRecord)). length zs) (taken-last option first index zones past) in
+    let none = ap (λ (zs : List (ℕ × CountedZone)). length zs) (taken-last option first index zones past) in
     omega (arith, has.number, none)
 
-pub listed-bytes : (option : ZoneFilter) (first size : ℕ) (zones : List ZoneRecord) (start output new : List ℕ) (index found at : ℕ) → length zones ≤ index
+pub listed-bytes : (option : ZoneFilter) (first size : ℕ) (zones : List CountedZone) (start output new : List ℕ) (index found at : ℕ) → length zones ≤ index
     → new ≡ take at output ++ replicate (length output - at) 0
     → HasListed option first size zones start output index found at → new ≡ listed size (length start) (taken option (enumerate_from first zones))
 listed-bytes option first size zones start output new index found at past is has =
     is
     ∙ (ap (λ (ys : List ℕ). take at output ++ ys) (sym (whole-none (descriptor_at size) (length output - at)))
-    ∙ (ap (λ (zs : List (ℕ × ZoneRecord)). take at output ++ listed size (length output - at) zs) (sym (taken-last option first index zones past)) ∙ has.bytes))
+    ∙ (ap (λ (zs : List (ℕ × CountedZone)). take at output ++ listed size (length output - at) zs) (sym (taken-last option first index zones past)) ∙ has.bytes))

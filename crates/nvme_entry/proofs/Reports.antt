@@ -7,7 +7,7 @@ use Rattle.std.proofs.lemmas.List.FromFn.{length-enumerate_from}
 use Rattle.std.proofs.lemmas.Nat.{le-div}
 use Rattle.byteorder.specs.Endian.{little_bytes}
 use Rattle.byteorder.specs.Numbers.{little_number-reads_back}
-use Rattle.zone_state.specs.Zone.{ZoneRecord}
+use Rattle.zone_state.specs.Zone.{CountedZone}
 use Rattle.nvme_entry.specs.Filter.{takes}
 use Rattle.nvme_entry.specs.declared.filter.ZoneFilter.{ZoneFilter}
 use Rattle.nvme_entry.specs.declared.filter.ZoneFilter.TheVariants.{All}
@@ -15,7 +15,7 @@ use Rattle.nvme_entry.specs.Report.{descriptor_at, fitting, header, listed, matc
 use Rattle.nvme_entry.specs.Laws.{GivesWhatMatches, ListsEveryZone, Tells, descriptors_in, number_in, pieces}
 use Rattle.nvme_entry.proofs.Listings.{length-descriptor, length-header, length-whole, whole}
 
-length-each : (size : ℕ) (zone : ℕ × ZoneRecord) → length (descriptor_at size zone) ≡ 64
+length-each : (size : ℕ) (zone : ℕ × CountedZone) → length (descriptor_at size zone) ≡ 64
 length-each size zone = length-descriptor zone.1 (zone.0 * size)
 
 told : {X : Type 0} (partial : Bool) (room : ℕ) (xs : List X) → cond partial (min room (length xs)) (length xs) ≡ length (cond partial (take room xs) xs)
@@ -49,7 +49,7 @@ behind-header f each output start xs is =
     ⊎_elim (λ short. behind-short f each output start xs is short) (λ enough. behind-long f output start xs is enough) (cases_lt (length output) 64)
 
 -- the two parts, written one after the other, are the report
-pub report-written : (output second new : List ℕ) (zones : List ZoneRecord) (first size : ℕ) (option : ZoneFilter) (partial : Bool) (start room number : ℕ)
+pub report-written : (output second new : List ℕ) (zones : List CountedZone) (first size : ℕ) (option : ZoneFilter) (partial : Bool) (start room number : ℕ)
     → start ≡ min (length output) 64
     → room ≡ (length output - start) / 64
     → second ≡ take start output ++ listed size (length output - start) (matching zones first option)
@@ -74,10 +74,10 @@ report-written output second new zones first size option partial start room numb
     ∙ ap (λ (ys : List ℕ). take n (header (length (cond partial (fitting (n - 64) found) found))) ++ ys) back))
 
 -- the number of zones that a report tells
-abbrev told_by : ℕ → List (ℕ × ZoneRecord) → Bool → ℕ
+abbrev told_by : ℕ → List (ℕ × CountedZone) → Bool → ℕ
 told_by bytes found partial = length (cond partial (fitting (bytes - 64) found) found)
 
-report-parts : (bytes : ℕ) (zones : List ZoneRecord) (first size : ℕ) (option : ZoneFilter) (partial : Bool) → 64 ≤ bytes
+report-parts : (bytes : ℕ) (zones : List CountedZone) (first size : ℕ) (option : ZoneFilter) (partial : Bool) → 64 ≤ bytes
     → report bytes zones first size option partial ≡ header (told_by bytes (matching zones first option) partial) ++ whole (descriptor_at size) (bytes - 64) (matching zones first option)
 unfolding report
 report-parts bytes zones first size option partial long =
@@ -86,7 +86,7 @@ report-parts bytes zones first size option partial long =
     ap (λ (ys : List ℕ). ys ++ whole (descriptor_at size) (bytes - 64) (matching zones first option)) (take_all bytes (header number) fits)
 
 -- a report has the length of the transfer
-pub length-report : (bytes : ℕ) (zones : List ZoneRecord) (first size : ℕ) (option : ZoneFilter) (partial : Bool) → length (report bytes zones first size option partial) ≡ bytes
+pub length-report : (bytes : ℕ) (zones : List CountedZone) (first size : ℕ) (option : ZoneFilter) (partial : Bool) → length (report bytes zones first size option partial) ≡ bytes
 unfolding report
 length-report bytes zones first size option partial =
     let found = matching zones first option in
@@ -117,11 +117,11 @@ kept : {X : Type 0} (test : Bool) (x : X) (xs : List X) (n : ℕ) → length xs 
 kept true x xs n few = omega arith
 kept false x xs n few = omega arith
 
-length-taken : (option : ZoneFilter) (zones : List (ℕ × ZoneRecord)) → length (taken option zones) ≤ length zones
+length-taken : (option : ZoneFilter) (zones : List (ℕ × CountedZone)) → length (taken option zones) ≤ length zones
 length-taken option [] = omega arith
 length-taken option (zone ∷ zones) = kept (takes option zone.1.state) zone (taken option zones) (length zones) (length-taken option zones)
 
-length-matching : (zones : List ZoneRecord) (first : ℕ) (option : ZoneFilter) → length (matching zones first option) ≤ length zones
+length-matching : (zones : List CountedZone) (first : ℕ) (option : ZoneFilter) → length (matching zones first option) ≤ length zones
 length-matching zones first option =
     omega (arith, length-taken option (enumerate_from first (drop first zones)), length-enumerate_from first (drop first zones), length-drop first zones)
 
@@ -130,7 +130,7 @@ told-few true room xs = omega (arith, length-take room xs)
 told-few false room xs = omega arith
 
 -- what a host reads behind a header of the zones found
-tells : (bytes : ℕ) (partial : Bool) (size : ℕ) (found : List (ℕ × ZoneRecord)) (given : List ℕ) → 64 ≤ bytes → length found < 2 ^ 64
+tells : (bytes : ℕ) (partial : Bool) (size : ℕ) (found : List (ℕ × CountedZone)) (given : List ℕ) → 64 ≤ bytes → length found < 2 ^ 64
     → given ≡ header (told_by bytes found partial) ++ whole (descriptor_at size) (bytes - 64) found
     → length given ≡ bytes
     → Tells given partial size (min ((bytes - 64) / 64) (length found)) found
@@ -150,7 +150,7 @@ tells bytes partial size found given long few parts same_length =
       descriptors =
           ap (λ (ys : List ℕ). pieces (min room (length found)) ys) back
           ∙ (ap (λ (k : ℕ). pieces k (flat_map f shown ++ zeros)) (sym count)
-          ∙ (pieces-flat f (length-each size) shown zeros ∙ ap (λ (zs : List (ℕ × ZoneRecord)). map f zs) (sym (take_min room found))));
+          ∙ (pieces-flat f (length-each size) shown zeros ∙ ap (λ (zs : List (ℕ × CountedZone)). map f zs) (sym (take_min room found))));
       rest =
           sym (drop-drop (64 * min room (length found)) 64 given)
           ∙ (ap (λ (ys : List ℕ). drop (64 * min room (length found)) ys) back
@@ -164,9 +164,9 @@ gives_what_matches bytes zones first size option partial long few =
     let few_found : length found < 2 ^ 64 = omega (arith, length-matching zones first option) in
     (same_length, tells bytes partial size found (report bytes zones first size option partial) long few_found (report-parts bytes zones first size option partial long) same_length)
 
-taken-all : (zones : List (ℕ × ZoneRecord)) → taken All zones ≡ zones
+taken-all : (zones : List (ℕ × CountedZone)) → taken All zones ≡ zones
 taken-all [] = refl
-taken-all (zone ∷ zones) = ap (λ (zs : List (ℕ × ZoneRecord)). zone ∷ zs) (taken-all zones)
+taken-all (zone ∷ zones) = ap (λ (zs : List (ℕ × CountedZone)). zone ∷ zs) (taken-all zones)
 
 same_number : (partial : Bool) (given count number : ℕ) → given ≡ count → number ≡ cond partial given count → number ≡ count
 same_number true given count number e is = is ∙ e
@@ -177,7 +177,7 @@ lists_every_zone bytes zones size partial room few =
     let given = report bytes zones 0 size All partial in
     let found = matching zones 0 All in
     let all : found ≡ enumerate_from 0 zones = taken-all (enumerate_from 0 zones) in
-    let count : length found ≡ length zones = ap (λ (zs : List (ℕ × ZoneRecord)). length zs) all ∙ length-enumerate_from 0 zones in
+    let count : length found ≡ length zones = ap (λ (zs : List (ℕ × CountedZone)). length zs) all ∙ length-enumerate_from 0 zones in
     let enough : length zones ≤ (bytes - 64) / 64 = le-div (length zones) (bytes - 64) 64 (omega arith) (omega arith) in
     let shown : min ((bytes - 64) / 64) (length found) ≡ length zones = omega arith in
     let told_all = (gives_what_matches bytes zones 0 size All partial (omega arith) few).1 in
@@ -186,5 +186,5 @@ lists_every_zone bytes zones size partial room few =
       ap (λ (k : ℕ). descriptors_in k given) (sym shown)
           ∙ (told_all.descriptors
           ∙ (ap (λ (k : ℕ). map (descriptor_at size) (take k found)) shown
-          ∙ ap (λ (zs : List (ℕ × ZoneRecord)). map (descriptor_at size) zs) whole_list)),
+          ∙ ap (λ (zs : List (ℕ × CountedZone)). map (descriptor_at size) zs) whole_list)),
     )

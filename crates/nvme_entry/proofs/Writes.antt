@@ -4,7 +4,7 @@ use Rattle.std.specs.List.{flat_map}
 use Rattle.std.proofs.lemmas.List.{append-nil, drop_all, drop_at, drop_min, drop-drop, length-drop, length-take, take_at, take_min}
 use Rattle.byteorder.specs.Endian.{little_bytes}
 use Rattle.zone_state.specs.State.{code_of}
-use Rattle.zone_state.specs.Zone.{ZoneRecord}
+use Rattle.zone_state.specs.Zone.{CountedZone}
 use Rattle.nvme_entry.specs.Report.{descriptor, listed, write_pointer}
 use Rattle.nvme_entry.proofs.Listings.{piece-fits}
 
@@ -20,7 +20,7 @@ header-put output bytes new count size is_count is =
     is ∙ (ap (λ (ys : List ℕ). take count bytes ++ ys) back ∙ ap (λ (ys : List ℕ). ys ++ drop 64 output) front)
 
 -- the bytes of a descriptor up to its capacity, and its words from there on
-pub descriptor-is : (zone : ZoneRecord) (lowest state capacity pointer : ℕ) → state ≡ code_of zone.state * 2 ^ 4 → capacity ≡ zone.capacity → pointer ≡ write_pointer zone lowest
+pub descriptor-is : (zone : CountedZone) (lowest state capacity pointer : ℕ) → state ≡ code_of zone.state * 2 ^ 4 → capacity ≡ zone.capacity → pointer ≡ write_pointer zone lowest
     → (2 ∷ state ∷ 0 ∷ 0 ∷ 0 ∷ 0 ∷ 0 ∷ 0 ∷ []) ++ flat_map (little_bytes 8) (capacity ∷ lowest ∷ pointer ∷ 0 ∷ 0 ∷ 0 ∷ 0 ∷ []) ≡ descriptor zone lowest
 unfolding descriptor
 descriptor-is zone lowest state capacity pointer is_state is_capacity is_pointer =
@@ -51,7 +51,7 @@ piece-put output second rest piece behind at inside size is =
     ∙ piece-fits output piece (behind ++ rest) at inside size)
 
 -- what is listed from a place to the end
-pub listed-put : (output second : List ℕ) (start room size : ℕ) (found : List (ℕ × ZoneRecord)) → second ≡ listed size room found → room ≡ length output - start
+pub listed-put : (output second : List ℕ) (start room size : ℕ) (found : List (ℕ × CountedZone)) → second ≡ listed size room found → room ≡ length output - start
     → take start output ++ (second ++ drop (length output - start) (drop start output)) ≡ take start output ++ listed size (length output - start) found
 listed-put output second start room size found is is_room =
     let nothing : drop (length output - start) (drop start output) ≡ [] = drop_all (length output - start) (drop start output) (omega (arith, length-drop start output)) in

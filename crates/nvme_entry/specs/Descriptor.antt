@@ -4,7 +4,7 @@ use Rattle.std.specs.Option.{option_map}
 use Rattle.std.specs.List.{flat_map}
 use Rattle.byteorder.specs.Endian.{little_bytes, little_number}
 use Rattle.zone_state.specs.State.{code_of, state_of}
-use Rattle.zone_state.specs.Zone.{ZoneRecord}
+use Rattle.zone_state.specs.Zone.{CountedZone}
 use Rattle.zone_state.specs.declared.state.ZoneState.{ZoneState}
 use Rattle.nvme_entry.specs.Report.{write_pointer}
 use Rattle.nvme_entry.specs.declared.descriptor.ZoneDescriptor.{ZoneDescriptor}
@@ -19,7 +19,7 @@ abbrev pub descriptor_bytes : ZoneDescriptor → List ℕ
 descriptor_bytes d = flat_map (little_bytes 8) (first_word d.state ∷ d.capacity ∷ d.lowest ∷ d.write_pointer ∷ 0 ∷ 0 ∷ 0 ∷ 0 ∷ [])
 
 -- what a report tells of a zone with this lowest address
-abbrev pub described : ZoneRecord → ℕ → ZoneDescriptor
+abbrev pub described : CountedZone → ℕ → ZoneDescriptor
 described zone lowest = record { state = zone.state; capacity = zone.capacity; lowest = lowest; write_pointer = write_pointer zone lowest }
 
 -- the 8 bytes with this number, as a number

@@ -2,7 +2,7 @@
 use Rattle.std.specs.Prelude.{ℕ, zero, suc, ◌≡◌, ◌≤◌, ◌<◌, ◌+◌, ◌-◌, ◌*◌, ◌/◌, ◌^◌, min, Bool, List, [], ◌∷◌, length, map, take, drop, replicate, if◌then◌else◌}
 use Rattle.std.specs.List.{enumerate_from}
 use Rattle.byteorder.specs.Endian.{little_number}
-use Rattle.zone_state.specs.Zone.{ZoneRecord}
+use Rattle.zone_state.specs.Zone.{CountedZone}
 use Rattle.nvme_entry.specs.declared.filter.ZoneFilter.{ZoneFilter}
 use Rattle.nvme_entry.specs.declared.filter.ZoneFilter.TheVariants.{All}
 use Rattle.nvme_entry.specs.Report.{report, matching, descriptor_at}
@@ -21,7 +21,7 @@ abbrev pub descriptors_in : ℕ → List ℕ → List (List ℕ)
 descriptors_in count bytes = pieces count (drop 64 bytes)
 
 -- what bytes tell of zones that match: so many descriptors are given
-pub record Tells (bytes : List ℕ) (partial : Bool) (size given : ℕ) (found : List (ℕ × ZoneRecord)) : Type 0 where
+pub record Tells (bytes : List ℕ) (partial : Bool) (size given : ℕ) (found : List (ℕ × CountedZone)) : Type 0 where
   -- the number of the descriptors given or of all zones that match,
   pub number : number_in bytes ≡ (if partial then given else length found)
   -- the descriptors of the first of these zones, in order and none left out,
@@ -33,7 +33,7 @@ pub record Tells (bytes : List ℕ) (partial : Bool) (size given : ℕ) (found :
 -- as fit whole behind the header.
 abbrev pub GivesWhatMatches : Type 0
 GivesWhatMatches =
-    (bytes : ℕ) (zones : List ZoneRecord) (first size : ℕ) (option : ZoneFilter) (partial : Bool)
+    (bytes : ℕ) (zones : List CountedZone) (first size : ℕ) (option : ZoneFilter) (partial : Bool)
     → 64 ≤ bytes → length zones < 2 ^ 64
     → let given = report bytes zones first size option partial in
     let found = matching zones first option in
@@ -43,7 +43,7 @@ GivesWhatMatches =
 -- tells their number.
 abbrev pub ListsEveryZone : Type 0
 ListsEveryZone =
-    (bytes : ℕ) (zones : List ZoneRecord) (size : ℕ) (partial : Bool)
+    (bytes : ℕ) (zones : List CountedZone) (size : ℕ) (partial : Bool)
     → 64 + 64 * length zones ≤ bytes → length zones < 2 ^ 64
     → let given = report bytes zones 0 size All partial in
     (number_in given ≡ length zones)

@@ -3,7 +3,7 @@ use Rattle.std.specs.Prelude.{ℕ, Bool, true, false, ◌+◌, ◌-◌, ◌*◌,
 use Rattle.std.specs.List.{enumerate_from, flat_map}
 use Rattle.byteorder.specs.Endian.{little_bytes}
 use Rattle.zone_state.specs.State.{code_of}
-use Rattle.zone_state.specs.Zone.{ZoneRecord}
+use Rattle.zone_state.specs.Zone.{CountedZone}
 use Rattle.zone_state.specs.declared.state.ZoneState.{ZoneState}
 use Rattle.zone_state.specs.declared.state.ZoneState.TheVariants.{ReadOnly, Full, Offline}
 use Rattle.nvme_entry.specs.Filter.{takes}
@@ -17,13 +17,13 @@ has_write_pointer Offline = false
 has_write_pointer _ = true
 
 -- the write pointer of a zone with this lowest address; all bits are set where it has none (profile)
-abbrev pub write_pointer : ZoneRecord → ℕ → ℕ
+abbrev pub write_pointer : CountedZone → ℕ → ℕ
 write_pointer zone lowest = if has_write_pointer zone.state then lowest + zone.written else 0xFFFF_FFFF_FFFF_FFFF
 
 -- a Zone Descriptor, of 64 bytes: the zone type, which is Sequential Write Required; the zone state in
 -- bits 7:4; the attributes and the information on them (both 0: profile), and 4 reserved bytes; the
 -- capacity; the lowest address; the write pointer; 32 reserved bytes
-unfoldable pub descriptor : ZoneRecord → ℕ → List ℕ
+unfoldable pub descriptor : CountedZone → ℕ → List ℕ
 descriptor zone lowest =
     (0x02 ∷ (code_of zone.state * 2 ^ 4) ∷ replicate 6 0)
     ++ little_bytes 8 zone.capacity
@@ -32,7 +32,7 @@ descriptor zone lowest =
     ++ replicate 32 0
 
 -- the descriptor of a zone with its number, where each zone has so many addresses
-abbrev pub descriptor_at : ℕ → ℕ × ZoneRecord → List ℕ
+abbrev pub descriptor_at : ℕ → ℕ × CountedZone → List ℕ
 descriptor_at size zone = descriptor zone.1 (zone.0 * size)
 
 -- the header, of 64 bytes: a number of zones and 56 reserved bytes
@@ -40,11 +40,11 @@ unfoldable pub header : ℕ → List ℕ
 header number = little_bytes 8 number ++ replicate 56 0
 
 -- those of numbered zones that the filter takes
-abbrev pub taken : ZoneFilter → List (ℕ × ZoneRecord) → List (ℕ × ZoneRecord)
-taken option zones = filter (λ (zone : ℕ × ZoneRecord). takes option zone.1.state) zones
+abbrev pub taken : ZoneFilter → List (ℕ × CountedZone) → List (ℕ × CountedZone)
+taken option zones = filter (λ (zone : ℕ × CountedZone). takes option zone.1.state) zones
 
 -- the zones with their numbers, from the first on, that match the filter
-abbrev pub matching : List ZoneRecord → ℕ → ZoneFilter → List (ℕ × ZoneRecord)
+abbrev pub matching : List CountedZone → ℕ → ZoneFilter → List (ℕ × CountedZone)
 matching zones first option = taken option (enumerate_from first (drop first zones))
 
 -- bytes, and zeros behind them up to a length
@@ -52,17 +52,17 @@ abbrev pub filled : ℕ → List ℕ → List ℕ
 filled length_wanted bytes = bytes ++ replicate (length_wanted - length bytes) 0
 
 -- the zones whose descriptors fit whole into so many bytes, in order
-abbrev pub fitting : ℕ → List (ℕ × ZoneRecord) → List (ℕ × ZoneRecord)
+abbrev pub fitting : ℕ → List (ℕ × CountedZone) → List (ℕ × CountedZone)
 fitting bytes zones = take (bytes / 64) zones
 
 -- so many bytes with the descriptors of these zones, as many as fit whole, and zeros
-abbrev pub listed : ℕ → ℕ → List (ℕ × ZoneRecord) → List ℕ
+abbrev pub listed : ℕ → ℕ → List (ℕ × CountedZone) → List ℕ
 listed size bytes zones = filled bytes (flat_map (descriptor_at size) (fitting bytes zones))
 
 -- A transfer of so many bytes: the header, and behind it the zones that match. With Partial Report the
 -- header's number is that of the descriptors given, else that of all zones that match. A transfer of
 -- fewer than 64 bytes is a beginning of the header (profile).
-unfoldable pub report : ℕ → List ZoneRecord → ℕ → ℕ → ZoneFilter → Bool → List ℕ
+unfoldable pub report : ℕ → List CountedZone → ℕ → ℕ → ZoneFilter → Bool → List ℕ
 report bytes zones first size option partial =
     let found = matching zones first option in
     let counted = if partial then fitting (bytes - 64) found else found in

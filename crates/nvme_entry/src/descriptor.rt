@@ -1,7 +1,7 @@
 //! Reports of zones, as a host reads them.
 
 ghost use Rattle.std.specs.Prelude.{◌≡◌, ◌<◌, ◌+◌, ◌/◌, ◌%◌, ◌^◌, ℕ, IfSome};
-ghost use Rattle.zone_state.specs.Zone.{ZoneRecord};
+ghost use Rattle.zone_state.specs.Zone.{CountedZone};
 ghost use Rattle.nvme_entry.specs.Report.{descriptor};
 ghost use Rattle.nvme_entry.specs.Laws.{number_in};
 ghost use Rattle.nvme_entry.specs.Descriptor.{first_word, descriptor_bytes, described, word_in, descriptor_in};
@@ -26,7 +26,7 @@ impl ZoneDescriptor {
     /// The descriptor that 64 bytes spell. `None` where no zone's descriptor has them.
     pub fn decode(bytes: &[u8; 64]) -> Option<ZoneDescriptor>
         ensures spelled { IfSome result (λ found. bytes.now ≡ descriptor_bytes found) }
-        ensures read_back { (zone : ZoneRecord) (lowest : ℕ) → zone.capacity < 2 ^ 64 → lowest + zone.written < 2 ^ 64 → bytes.now ≡ descriptor zone lowest → result ≡ Some (described zone lowest) }
+        ensures read_back { (zone : CountedZone) (lowest : ℕ) → zone.capacity < 2 ^ 64 → lowest + zone.written < 2 ^ 64 → bytes.now ≡ descriptor zone lowest → result ≡ Some (described zone lowest) }
     {
         let found = fields(bytes)?;
         if found.encode() == *bytes {

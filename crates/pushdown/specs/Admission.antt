@@ -10,8 +10,8 @@ use Rattle.nvme_entry.specs.declared.command.RunCommand.{RunCommand}
 use Rattle.instruction_set.specs.declared.insn.Insn.{Insn}
 use Rattle.program_interface.specs.RunSizes.{Sizes}
 use Rattle.image_store.specs.Namespace.{ZonedNamespace, zone_at}
-use Rattle.image_store.specs.declared.geometry.Place.{Place}
-use Rattle.zns_commands.specs.Address.{zone_number, place_in, address_check, lowest_check, range_check}
+use Rattle.image_store.specs.declared.geometry.ZoneBlock.{ZoneBlock}
+use Rattle.zns_commands.specs.Address.{zone_number, zone_block_in, address_check, lowest_check, range_check}
 use Rattle.zns_commands.specs.Read.{read_refusal}
 use Rattle.zns_commands.specs.Transfer.{transfer_checks}
 use Rattle.emit_append.specs.Need.{need}
@@ -60,7 +60,7 @@ address_checks ns order =
     ∷ []
 
 -- the checks of the source, of which so many blocks from this one on are to be read
-abbrev pub source_checks : ZonedNamespace → Place → ℕ → List (Option Status)
+abbrev pub source_checks : ZonedNamespace → ZoneBlock → ℕ → List (Option Status)
 source_checks ns first blocks =
     demand (nat_le (first.offset + blocks) ns.size) ZONE_BOUNDARY_ERROR
     ∷ read_refusal (zone_at ns first.zone).state
@@ -83,7 +83,7 @@ admission_checks ns holds place_free slot order input =
     ++ demand (is_some slot) NO_SUCH_PROGRAM
     ∷ address_checks ns order
     ++ demand place_free NO_RUN_FREE
-    ∷ source_checks ns (place_in ns order.lba) order.blocks
+    ∷ source_checks ns (zone_block_in ns order.lba) order.blocks
     ++ destination_checks ns holds (destination_zone ns order) (need order.blocks (sizes_in ns slot))
 
 -- the status of the first check that fails

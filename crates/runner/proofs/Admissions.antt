@@ -8,10 +8,10 @@ use Rattle.zone_resources.specs.declared.holds.Holds.{Holds}
 use Rattle.nvme_entry.specs.Checks.{demand, first_refused, or_else}
 use Rattle.nvme_entry.specs.declared.command.RunCommand.{RunCommand}
 use Rattle.image_store.specs.Namespace.{ZonedNamespace}
-use Rattle.image_store.specs.declared.geometry.Place.{Place}
+use Rattle.image_store.specs.declared.geometry.ZoneBlock.{ZoneBlock}
 use Rattle.emit_append.specs.Need.{need}
 use Rattle.verifier.specs.Verified.{sizes_of}
-use Rattle.zns_commands.specs.Address.{place_in}
+use Rattle.zns_commands.specs.Address.{zone_block_in}
 use Rattle.pushdown.specs.Admission.{Loaded, address_checks, destination_checks, destination_zone, run_refusal, sizes_in, source_checks}
 use Rattle.pushdown.specs.Answers.{Submission}
 use Rattle.pushdown.specs.Machine.{why_not_run}
@@ -34,23 +34,23 @@ passes first rest none = rw none refl
 
 -- where no check before those of the destination fails, they decide
 last_decides : (ns : ZonedNamespace) (holds : Holds) (place_free : Bool) (slot : Option Loaded) (order : RunCommand) (input : List ℕ)
-    (source : Place) (destination blocks : ℕ) → (length input == 0) ≡ true → is_some slot ≡ true → ArePlaces ns order source destination
+    (source : ZoneBlock) (destination blocks : ℕ) → (length input == 0) ≡ true → is_some slot ≡ true → ArePlaces ns order source destination
     → first_refused (address_checks ns order) ≡ None → place_free ≡ true → first_refused (source_checks ns source order.blocks) ≡ None
     → blocks ≡ need order.blocks (sizes_in ns slot)
     → first_refused (destination_checks ns holds destination blocks) ≡ run_refusal ns holds place_free slot order input
 last_decides ns holds place_free slot order input source destination blocks no_input loaded places addresses free sources enough =
     let to = first_refused (destination_checks ns holds (destination_zone ns order) (need order.blocks (sizes_in ns slot))) in
-    let from = first_refused (source_checks ns (place_in ns order.lba) order.blocks) in
+    let from = first_refused (source_checks ns (zone_block_in ns order.lba) order.blocks) in
     let parts : run_refusal ns holds place_free slot order input
     ≡ or_else (demand (length input == 0) INVALID_FIELD_IN_COMMAND)
     (or_else (demand (is_some slot) NO_SUCH_PROGRAM)
     (or_else (first_refused (address_checks ns order)) (or_else (demand place_free NO_RUN_FREE) (or_else from to)))) =
     ap (λ (rest : Option Status). or_else (demand (length input == 0) INVALID_FIELD_IN_COMMAND) (or_else (demand (is_some slot) NO_SUCH_PROGRAM) rest))
-    (joined (address_checks ns order) (demand place_free NO_RUN_FREE ∷ source_checks ns (place_in ns order.lba) order.blocks
+    (joined (address_checks ns order) (demand place_free NO_RUN_FREE ∷ source_checks ns (zone_block_in ns order.lba) order.blocks
     ++ destination_checks ns holds (destination_zone ns order) (need order.blocks (sizes_in ns slot)))
     ∙ ap (λ (rest : Option Status). or_else (first_refused (address_checks ns order)) (or_else (demand place_free NO_RUN_FREE) rest))
-    (joined (source_checks ns (place_in ns order.lba) order.blocks) (destination_checks ns holds (destination_zone ns order) (need order.blocks (sizes_in ns slot))))) in
-    let from_none : from ≡ None = ap (λ (p : Place). first_refused (source_checks ns p order.blocks)) (sym places.source_is) ∙ sources in
+    (joined (source_checks ns (zone_block_in ns order.lba) order.blocks) (destination_checks ns holds (destination_zone ns order) (need order.blocks (sizes_in ns slot))))) in
+    let from_none : from ≡ None = ap (λ (p : ZoneBlock). first_refused (source_checks ns p order.blocks)) (sym places.source_is) ∙ sources in
     ap (λ (z : ℕ). first_refused (destination_checks ns holds z blocks)) places.destination_is
     ∙ ap (λ (n : ℕ). first_refused (destination_checks ns holds (destination_zone ns order) n)) enough
     ∙ sym (parts
@@ -74,7 +74,7 @@ module _ (ns : ZonedNamespace) (slots : List (Option LoadedProgram)) (runs : Lis
       ∙ ap (λ (o : Option LoadedProgram). sizes_in ns (filled o)) (sym at)
 
   -- the same, by what a device tests before
-  pub destination_decides : (order : RunCommand) (input : List ℕ) (p : LoadedProgram) (source : Place) (destination run blocks : ℕ) (holds : Holds)
+  pub destination_decides : (order : RunCommand) (input : List ℕ) (p : LoadedProgram) (source : ZoneBlock) (destination run blocks : ℕ) (holds : Holds)
       → IsReady ns slots runs → true ≡ (length input == 0) → get_or slots order.slot None ≡ Some p
       → ArePlaces ns order source destination → None ≡ first_refused (address_checks ns order)
       → Some run ≡ position is_none runs → None ≡ first_refused (source_checks ns source order.blocks)

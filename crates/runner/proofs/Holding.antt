@@ -1,6 +1,6 @@
 -- What the active runs hold.
 use Rattle.std.proofs.Common.{◌≡◌, ℕ, zero, suc, List, [], ◌∷◌, map, get_or, Option, Some, None, refl, ap, ◌∙◌}
-use Rattle.image_store.specs.declared.geometry.Place.{Place}
+use Rattle.image_store.specs.declared.geometry.ZoneBlock.{ZoneBlock}
 use Rattle.image_store.specs.Namespace.{ZonedNamespace}
 use Rattle.zns_commands.specs.Address.{zone_number}
 use Rattle.pushdown.specs.Admission.{Loaded}
@@ -19,7 +19,7 @@ module _ (ns : ZonedNamespace) (slots : List (Option Loaded)) where
   sources_are [] fit = refl
   sources_are (None ∷ runs) fit = ap (λ (held : List (Option ℕ)). None ∷ held) (sources_are runs (λ k. fit (suc k)))
   sources_are (Some a ∷ runs) fit =
-      ap (λ (place : Place). Some place.zone ∷ map source_held runs) (fit zero a refl).source
+      ap (λ (place : ZoneBlock). Some place.zone ∷ map source_held runs) (fit zero a refl).source
       ∙ ap (λ (held : List (Option ℕ)). Some (zone_number ns a.order.lba) ∷ held) (sources_are runs (λ k. fit (suc k)))
 
   destinations_are : (runs : List (Option Held)) → AllFit ns runs

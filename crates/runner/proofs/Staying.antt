@@ -2,7 +2,7 @@
 use Rattle.std.proofs.Common.{◌≡◌, ◌≢◌, ℕ, zero, suc, ◌+◌, ◌/◌, ◌%◌, ◌≤◌, List, [], ◌∷◌, length, map, set, get_or, Option, Some, None, refl, ap, sym, subst, ◌∙◌, arith, length-append}
 use Rattle.image_store.specs.Geometry.{Shape}
 use Rattle.image_store.specs.Namespace.{ZonedNamespace, shape, zone_at}
-use Rattle.image_store.specs.declared.geometry.Place.{Place as Spot}
+use Rattle.image_store.specs.declared.geometry.ZoneBlock.{ZoneBlock}
 use Rattle.zns_commands.specs.Address.{zone_number}
 use Rattle.zns_commands.specs.Kept.{Grows}
 use Rattle.pushdown.specs.Admission.{SameProgram}
@@ -27,7 +27,7 @@ still_fits ns later a fits same grows =
     let size : ns.size ≡ later.size = ap (λ (s : Shape). s.size) (sym same) in
     let block : ns.block ≡ later.block = ap (λ (s : Shape). s.block) (sym same) in
     let longer = ap length grows.is ∙ length-append (zone_at ns a.source.zone).blocks grows.more in
-    let spot : ℕ → Spot = λ n. record { zone = a.order.lba / n; offset = a.order.lba % n } in
+    let spot : ℕ → ZoneBlock = λ n. record { zone = a.order.lba / n; offset = a.order.lba % n } in
     record {
       source = fits.source ∙ ap spot size;
       destination = fits.destination ∙ ap (λ (n : ℕ). a.order.destination / n) size;
@@ -46,8 +46,8 @@ still_fits ns later a fits same grows =
 pub keeps_source : (ns later : ZonedNamespace) (a : Held) → Fits ns a → shape later ≡ shape ns
     → Grows (zone_at ns a.source.zone).blocks (zone_at later a.source.zone).blocks → KeepsSource ns later (active_of a)
 keeps_source ns later a fits same grows =
-    let zone : a.source.zone ≡ zone_number ns a.order.lba = ap (λ (p : Spot). p.zone) fits.source in
-    let offset : a.source.offset ≡ a.order.lba % ns.size = ap (λ (p : Spot). p.offset) fits.source in
+    let zone : a.source.zone ≡ zone_number ns a.order.lba = ap (λ (p : ZoneBlock). p.zone) fits.source in
+    let offset : a.source.offset ≡ a.order.lba % ns.size = ap (λ (p : ZoneBlock). p.offset) fits.source in
     let written = subst (λ (z : ℕ). a.source.offset + a.order.blocks ≤ length (zone_at ns z).blocks) zone fits.written in
     record {
       size = ap (λ (s : Shape). s.size) same;
@@ -61,7 +61,7 @@ pub grows_there : (ns later : ZonedNamespace) (a : Held) → Fits ns a
     → Grows (zone_at ns (zone_number ns a.order.lba)).blocks (zone_at later (zone_number ns a.order.lba)).blocks
     → Grows (zone_at ns a.source.zone).blocks (zone_at later a.source.zone).blocks
 grows_there ns later a fits grows =
-    subst (λ (z : ℕ). Grows (zone_at ns z).blocks (zone_at later z).blocks) (sym (ap (λ (p : Spot). p.zone) fits.source)) grows
+    subst (λ (z : ℕ). Grows (zone_at ns z).blocks (zone_at later z).blocks) (sym (ap (λ (p : ZoneBlock). p.zone) fits.source)) grows
 
 -- ---- all runs
 

@@ -12,7 +12,7 @@ use Rattle.emit_append.specs.Packer.{after_put, given_by_finish, given_by_put, n
 use Rattle.emit_append.specs.Packing.{packed, pending_of, released}
 use Rattle.emit_append.proofs.Proved.{one_group_is_pending, packing_goes_on}
 use Rattle.image_store.specs.Namespace.{ZoneBlocks, ZonedNamespace, zone_at}
-use Rattle.image_store.specs.declared.geometry.Place.{Place}
+use Rattle.image_store.specs.declared.geometry.ZoneBlock.{ZoneBlock}
 use Rattle.zns_commands.specs.Address.{zone_number}
 use Rattle.zns_commands.proofs.Proved.{open_is_there}
 use Rattle.pushdown.specs.Admission.{task_by}
@@ -190,10 +190,10 @@ module _ (ns : ZonedNamespace) (program : List (Option Insn)) (limit : ℕ) (a :
   groups = a.packer.pending ∷ ran.state.group ∷ []
 
   written_in : a.order.lba % ns.size + a.order.blocks ≤ length (zone_at ns (zone_number ns a.order.lba)).blocks
-  written_in = subst (λ (place : Place). place.offset + a.order.blocks ≤ length (zone_at ns place.zone).blocks) h.run.source h.run.written
+  written_in = subst (λ (place : ZoneBlock). place.offset + a.order.blocks ≤ length (zone_at ns place.zone).blocks) h.run.source h.run.written
 
   other_zone : zone_number ns a.order.lba ≢ a.destination
-  other_zone e = h.run.other (ap (λ (place : Place). place.zone) h.run.source ∙ e)
+  other_zone e = h.run.other (ap (λ (place : ZoneBlock). place.zone) h.run.source ∙ e)
 
   going : goes_on ran.end ≡ true → a.index + 1 < a.order.blocks
       → turns_of ns program limit (active_of a) ≡ record { blocks = sent; ending = None } ∷ turns_of ns program limit (active_of stepped)

@@ -2,15 +2,15 @@
 use Rattle.std.specs.Prelude.{ℕ, ◌≡◌, ◌≢◌, ◌<◌, ◌≤◌, ◌+◌, ◌^◌, List, length, position, is_none, is_some, get_or, true, Option, Some, None}
 use Rattle.nvme_entry.specs.declared.command.RunCommand.{RunCommand}
 use Rattle.image_store.specs.Namespace.{ZonedNamespace, zone_at}
-use Rattle.image_store.specs.declared.geometry.Place.{Place}
-use Rattle.zns_commands.specs.Address.{place_in, zone_number}
+use Rattle.image_store.specs.declared.geometry.ZoneBlock.{ZoneBlock}
+use Rattle.zns_commands.specs.Address.{zone_block_in, zone_number}
 use Rattle.runner.specs.declared.active.Active.{Active as Held}
 use Rattle.runner.specs.declared.admission.Admitted.{Admitted}
 use Rattle.runner.specs.declared.loaded.LoadedProgram.{LoadedProgram}
 
 -- where an order reads and appends
-pub record ArePlaces (ns : ZonedNamespace) (order : RunCommand) (source : Place) (destination : ℕ) : Type 0 where
-  pub source_is : source ≡ place_in ns order.lba
+pub record ArePlaces (ns : ZonedNamespace) (order : RunCommand) (source : ZoneBlock) (destination : ℕ) : Type 0 where
+  pub source_is : source ≡ zone_block_in ns order.lba
   pub destination_is : destination ≡ zone_number ns order.destination
   pub other : source.zone ≢ destination
   pub address : order.lba < 2 ^ 36
@@ -18,7 +18,7 @@ pub record ArePlaces (ns : ZonedNamespace) (order : RunCommand) (source : Place)
   pub destination_inside : destination < length ns.zones
 
 -- the blocks are written
-abbrev pub AreWritten : ZonedNamespace → Place → ℕ → Type 0
+abbrev pub AreWritten : ZonedNamespace → ZoneBlock → ℕ → Type 0
 AreWritten ns first blocks = first.offset + blocks ≤ length (zone_at ns first.zone).blocks
 
 -- what an admitted run is given, of its order

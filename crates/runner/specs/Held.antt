@@ -2,7 +2,7 @@
 use Rattle.std.specs.Prelude.{ℕ, List, map, Option, Some, None}
 use Rattle.nvme_entry.specs.declared.command.RunCommand.{RunCommand}
 use Rattle.emit_append.specs.Packer.{new_packer}
-use Rattle.image_store.specs.declared.geometry.Place.{Place}
+use Rattle.image_store.specs.declared.geometry.ZoneBlock.{ZoneBlock}
 use Rattle.pushdown.specs.BlockRuns.{no_scratch}
 use Rattle.zone_resources.specs.declared.holds.Holds.{Holds}
 use Rattle.image_store.specs.Namespace.{ZonedNamespace}
@@ -23,7 +23,7 @@ active_of a = record {
 }
 
 -- a run before its first turn
-abbrev pub new_active : ℕ → ℕ → RunCommand → Place → ℕ → ℕ → Held
+abbrev pub new_active : ℕ → ℕ → RunCommand → ZoneBlock → ℕ → ℕ → Held
 new_active queue cid order source destination block = record {
   queue = queue;
   cid = cid;

@@ -4,7 +4,7 @@ use Rattle.program_interface.specs.declared.block_size.TheConstants.{LARGEST_BLO
 use Rattle.interval_domain.specs.Intervals.{intervals}
 use Rattle.verifier.specs.Verified.{sizes_of}
 use Rattle.image_store.specs.Namespace.{ZonedNamespace, zone_at, IsNamespace}
-use Rattle.zns_commands.specs.Address.{zone_number, place_in}
+use Rattle.zns_commands.specs.Address.{zone_number, zone_block_in}
 use Rattle.pushdown.specs.Events.{Occurrence, state_after}
 use Rattle.pushdown.specs.Pushdown.{AreEvents}
 use Rattle.pushdown.specs.State.{State, new_state}
@@ -14,7 +14,7 @@ use Rattle.runner.specs.declared.loaded.LoadedProgram.{LoadedProgram}
 
 -- what holds of each active run, whatever its program
 pub record Fits (ns : ZonedNamespace) (a : Held) : Type 0 where
-  pub source : a.source ≡ place_in ns a.order.lba
+  pub source : a.source ≡ zone_block_in ns a.order.lba
   pub destination : a.destination ≡ zone_number ns a.order.destination
   pub other : a.source.zone ≢ a.destination
   pub left : a.index < a.order.blocks

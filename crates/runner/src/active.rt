@@ -4,7 +4,7 @@ ghost use Rattle.std.specs.Prelude.{◌≡◌};
 ghost use Rattle.runner.specs.Held.{new_active};
 
 use emit_append::Packer;
-use image_store::Place;
+use image_store::ZoneBlock;
 use nvme_entry::RunCommand;
 use program_interface::{BlockSize, SCRATCH_BYTES};
 
@@ -18,7 +18,7 @@ pub struct Active {
     /// The command that started it.
     pub order: RunCommand,
     /// Where its first source block is.
-    pub source: Place,
+    pub source: ZoneBlock,
     /// The number of the zone that it appends to.
     pub destination: u32,
     /// How many source blocks are done.
@@ -39,7 +39,7 @@ impl Active {
         queue: u16,
         cid: u16,
         order: RunCommand,
-        source: Place,
+        source: ZoneBlock,
         destination: u32,
         block: BlockSize,
     ) -> Active

@@ -7,14 +7,14 @@ ghost use Rattle.runner.specs.Admitting.{ArePlaces, AreWritten, IsAdmission};
 ghost use Rattle.runner.specs.Answered.{Refuses, Starts};
 ghost use Rattle.runner.specs.Held.{filled, held_by, state_of};
 ghost use Rattle.runner.specs.Ready.{IsReady};
-ghost use Rattle.zns_commands.specs.Address.{lowest_checks, place_in, range_check, zone_number, IsPlace};
+ghost use Rattle.zns_commands.specs.Address.{lowest_checks, zone_block_in, range_check, zone_number, IsZoneBlock};
 ghost use Rattle.zns_commands.specs.Resources.{why_not};
 
 use crate::active::Active;
 use crate::loaded::LoadedProgram;
 use crate::places::{free_run, holds};
 use emit_append::need;
-use image_store::Place;
+use image_store::ZoneBlock;
 use nvme_entry::{BlockCount, PROGRAM_SLOTS, RunCommand, Status};
 use zns_commands::{Holds, Namespace};
 use zone_resources::RUNS;
@@ -25,7 +25,7 @@ use zone_state::ZoneState;
 #[derive(Clone, Copy, Debug, PartialEq, Eq)]
 struct Admitted {
     run: u8,
-    source: Place,
+    source: ZoneBlock,
     destination: u32,
 }
 
@@ -91,7 +91,7 @@ fn admit(
 }
 
 /// Where a run reads and appends: its first source block, and its destination.
-fn places(namespace: &Namespace, order: &RunCommand) -> Result<(Place, u32), Status>
+fn places(namespace: &Namespace, order: &RunCommand) -> Result<(ZoneBlock, u32), Status>
     ensures why { why_not result ≡ first_refused (address_checks namespace.now order.now) }
     ensures places { IfOk result (λ found. ArePlaces namespace.now order.now found.0 found.1) }
 {
@@ -104,13 +104,13 @@ fn places(namespace: &Namespace, order: &RunCommand) -> Result<(Place, u32), Sta
 }
 
 /// The place of the first of some blocks, all of which the namespace has.
-fn first_block(namespace: &Namespace, lba: u64, blocks: BlockCount) -> Result<Place, Status>
+fn first_block(namespace: &Namespace, lba: u64, blocks: BlockCount) -> Result<ZoneBlock, Status>
     ensures why { why_not result ≡ range_check namespace.now lba blocks }
-    ensures value { IfOk result (λ place. place ≡ place_in namespace.now lba) }
-    ensures place { IfOk result (IsPlace namespace.now lba) }
+    ensures value { IfOk result (λ place. place ≡ zone_block_in namespace.now lba) }
+    ensures place { IfOk result (IsZoneBlock namespace.now lba) }
 {
     let geometry = namespace.geometry();
-    let Some(place) = geometry.place(lba) else {
+    let Some(place) = geometry.zone_block(lba) else {
         return Err(Status::LBA_OUT_OF_RANGE);
     };
     if u64::from(blocks.get()) > geometry.blocks() - lba {
@@ -125,7 +125,7 @@ fn destination_zone(namespace: &Namespace, lba: u64) -> Result<u32, Status>
     ensures value { IfOk result (λ zone. zone ≡ zone_number namespace.now lba) }
     ensures inside { IfOk result (λ zone. zone < length namespace.now.zones) }
 {
-    let Some(place) = namespace.geometry().place(lba) else {
+    let Some(place) = namespace.geometry().zone_block(lba) else {
         return Err(Status::LBA_OUT_OF_RANGE);
     };
     if place.offset != 0 {
@@ -135,7 +135,7 @@ fn destination_zone(namespace: &Namespace, lba: u64) -> Result<u32, Status>
 }
 
 /// Tests the blocks that a run is to read: they lie in one zone, and are written.
-fn check_source(namespace: &Namespace, first: Place, blocks: BlockCount) -> Result<(), Status>
+fn check_source(namespace: &Namespace, first: ZoneBlock, blocks: BlockCount) -> Result<(), Status>
     requires { first.zone < length namespace.now.zones }
     ensures why { why_not result ≡ first_refused (source_checks namespace.now first blocks) }
     ensures written { OnOk result (AreWritten namespace.now first blocks) }

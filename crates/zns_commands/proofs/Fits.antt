@@ -3,13 +3,13 @@ use Rattle.std.proofs.Common.{◌≡◌, ℕ, zero, suc, ◌<◌, List, [], ◌�
 use Rattle.std.specs.Prelude.{slice_get, slice_set}
 use Rattle.std.proofs.lemmas.List.{length-map, length-set, get_or-map, map-set}
 use Rattle.std.proofs.lemmas.Option.{slice_get-get_or}
-use Rattle.zone_state.specs.Zone.{ZoneRecord, IsZone}
+use Rattle.zone_state.specs.Zone.{CountedZone, IsZone}
 use Rattle.zone_resources.specs.Admission.{HoldsNoMore, IsWithin}
 use Rattle.zone_resources.proofs.Proved.{release_keeps_limits}
 use Rattle.image_store.specs.Blocks.{AreBytes}
 use Rattle.image_store.specs.Geometry.{IsShape}
 use Rattle.image_store.specs.Namespace.{ZoneBlocks, ZonedNamespace, no_zone, zone_at, with_zone, counted, shape, records, IsNamespace, IsWithinLimits}
-use Rattle.zns_commands.specs.Address.{record_at}
+use Rattle.zns_commands.specs.Address.{counted_zone_at}
 
 -- what holds of one zone: its state allows its blocks, and each of them is whole and of bytes
 pub record FitsIn (block capacity : ℕ) (zone : ZoneBlocks) : Type 0 where
@@ -68,7 +68,7 @@ set_namespace ns z zone sound fits within =
     namespace_of_zones ns (set ns.zones z zone) sound.shape (length-set ns.zones z zone)
     (each_set (FitsIn ns.block ns.capacity) ns.zones z zone (λ y inside. zone_fits ns y sound inside) fits) within
 
-pub record_there : (ns : ZonedNamespace) (z : ℕ) → z < length ns.zones → slice_get (records ns) z ≡ Some (record_at ns z)
+pub record_there : (ns : ZonedNamespace) (z : ℕ) → z < length ns.zones → slice_get (records ns) z ≡ Some (counted_zone_at ns z)
 record_there ns z inside =
     let c = ns.capacity in
     let within : z < length (records ns) = omega (arith, length-map ns.zones (counted c)) in
@@ -81,8 +81,8 @@ records_with ns z zone = map-set (counted ns.capacity) ns.zones z zone
 pub one_within : (ns : ZonedNamespace) (z : ℕ) (zone : ZoneBlocks) → z < length ns.zones → IsWithinLimits ns
     → HoldsNoMore zone.state (zone_at ns z).state → IsWithinLimits (with_zone ns z zone)
 one_within ns z zone inside within less =
-    subst (λ (zones : List ZoneRecord). IsWithin zones ns.limits) (sym (records_with ns z zone))
-    (release_keeps_limits (records ns) ns.limits z (record_at ns z) (counted ns.capacity zone) within (record_there ns z inside) less)
+    subst (λ (zones : List CountedZone). IsWithin zones ns.limits) (sym (records_with ns z zone))
+    (release_keeps_limits (records ns) ns.limits z (counted_zone_at ns z) (counted ns.capacity zone) within (record_there ns z inside) less)
 
 pub one_sound : (ns : ZonedNamespace) (z : ℕ) (zone : ZoneBlocks) → IsNamespace ns → z < length ns.zones
     → FitsIn ns.block ns.capacity zone → HoldsNoMore zone.state (zone_at ns z).state → IsNamespace (with_zone ns z zone)

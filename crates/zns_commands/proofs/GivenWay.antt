@@ -2,7 +2,7 @@
 use Rattle.std.proofs.Common.{arith, ◌≡◌, ◌≢◌, ℕ, ◌<◌, Bool, true, false, cond, List, length, Option, Some, None, Result, Ok, Err, refl, ap, sym, subst, ◌∙◌, get_or-set_other}
 use Rattle.std.specs.Prelude.{slice_set, nat_lt, MatchOption}
 use Rattle.std.specs.Option.{ForSome}
-use Rattle.zone_state.specs.Zone.{ZoneRecord}
+use Rattle.zone_state.specs.Zone.{CountedZone}
 use Rattle.zone_state.specs.declared.state.ZoneState.{ZoneState}
 use Rattle.zone_state.specs.declared.state.ZoneState.TheVariants.{Empty, ImplicitlyOpened, ExplicitlyOpened, Closed, ReadOnly, Full, Offline}
 use Rattle.zone_state.specs.declared.status.Status.{Status}
@@ -16,21 +16,21 @@ use Rattle.zone_resources.specs.declared.holds.Holds.{Holds}
 use Rattle.zone_resources.proofs.Proved.{closes_the_lowest, admission_keeps_limits}
 use Rattle.image_store.specs.Blocks.{as_blocks}
 use Rattle.image_store.specs.Namespace.{ZoneBlocks, ZonedNamespace, no_zone, zone_at, with_zone, counted, grown, records, IsNamespace, IsWithinLimits}
-use Rattle.zns_commands.specs.Address.{record_at}
+use Rattle.zns_commands.specs.Address.{counted_zone_at}
 use Rattle.zns_commands.specs.Resources.{room_by, room_for, closed, arrived, moved_to, CanGiveWay}
 use Rattle.zns_commands.specs.Write.{written}
 use Rattle.zns_commands.proofs.Rooms.{closable_zone, closable_state, other_zone, closed_fits}
 use Rattle.zns_commands.proofs.Fits.{FitsIn, set_namespace, record_there, records_with, one_within}
 
 -- what is to be closed may be
-lowest_closable : (zones : List ZoneRecord) (holds : Holds) (lowest : ℕ) → zone_to_close holds zones ≡ Some lowest → IsClosable holds zones lowest
+lowest_closable : (zones : List CountedZone) (holds : Holds) (lowest : ℕ) → zone_to_close holds zones ≡ Some lowest → IsClosable holds zones lowest
 lowest_closable zones holds lowest e =
     let Is : Option ℕ → Type 0 = λ found. MatchOption found ((k : ℕ) → ¬ IsClosable holds zones k) (λ k. IsClosable holds zones k × ((j : ℕ) → j < k → ¬ IsClosable holds zones j)) in
     let is : Is (Some lowest) = subst Is e (closes_the_lowest zones holds) in
     is.0
 
 -- the zone that gives way may be closed
-closing_closable : (zones : List ZoneRecord) (holds : Holds) (free : Bool) (found closed : Option ℕ)
+closing_closable : (zones : List CountedZone) (holds : Holds) (free : Bool) (found closed : Option ℕ)
     → zone_to_close holds zones ≡ found → cond free (Ok None) (closing found) ≡ Ok closed → ForSome closed (IsClosable holds zones)
 closing_closable zones holds true found closed is_found admitted = λ k is. cc
 closing_closable zones holds false None closed is_found admitted = cc
@@ -42,7 +42,7 @@ guarded : (b : Bool) (r : Result (Option ℕ) Status) (s : Status) (closed : Opt
 guarded true r s closed e = e
 guarded false r s closed e = cc
 
-pub admitted_closable : (zones : List ZoneRecord) (limits : Limits) (holds : Holds) (wanted : Wanted) (closed : Option ℕ)
+pub admitted_closable : (zones : List CountedZone) (limits : Limits) (holds : Holds) (wanted : Wanted) (closed : Option ℕ)
     → admission zones limits holds wanted ≡ Ok closed → ForSome closed (IsClosable holds zones)
 admitted_closable zones limits holds OpenOnly closed e =
     closing_closable zones holds (nat_lt (open_count zones) limits.open_limit) (zone_to_close holds zones) closed refl e
@@ -55,13 +55,13 @@ closed_with_within : (ns : ZonedNamespace) (z : ℕ) (zone : ZoneBlocks) (gives 
     → IsWithin (slice_set (after_closing gives (records ns)) z (counted ns.capacity zone)) ns.limits
     → IsWithin (records (with_zone (closed ns gives) z zone)) (closed ns gives).limits
 closed_with_within ns z zone None inside within =
-    subst (λ (zones : List ZoneRecord). IsWithin zones ns.limits) (sym (records_with ns z zone)) within
+    subst (λ (zones : List CountedZone). IsWithin zones ns.limits) (sym (records_with ns z zone)) within
 closed_with_within ns z zone (Some k) inside within =
     let given : ZoneBlocks = record { state = Closed; blocks = (zone_at ns k).blocks } in
     let there = record_there ns k (inside k refl) in
-    subst (λ (zones : List ZoneRecord). IsWithin zones ns.limits)
-    (ap (λ (r : Option ZoneRecord). slice_set (closed_in (records ns) k r) z (counted ns.capacity zone)) there
-    ∙ (ap (λ (zones : List ZoneRecord). slice_set zones z (counted ns.capacity zone)) (sym (records_with ns k given))
+    subst (λ (zones : List CountedZone). IsWithin zones ns.limits)
+    (ap (λ (r : Option CountedZone). slice_set (closed_in (records ns) k r) z (counted ns.capacity zone)) there
+    ∙ (ap (λ (zones : List CountedZone). slice_set zones z (counted ns.capacity zone)) (sym (records_with ns k given))
     ∙ sym (records_with (with_zone ns k given) z zone)))
     within
 
@@ -137,7 +137,7 @@ room_of_wanted ns holds z gives (Some wanted) sound inside wants room =
       give = give;
       limits = λ zone less.
           closed_with_within ns z zone gives give.inside
-          (keeps.1 z (record_at ns z) (counted ns.capacity zone) (record_there ns z inside) wants);
+          (keeps.1 z (counted_zone_at ns z) (counted ns.capacity zone) (record_there ns z inside) wants);
     }
 
 pub has_room : (ns : ZonedNamespace) (holds : Holds) (z : ℕ) (gives : Option ℕ)

@@ -4,7 +4,7 @@ use Rattle.std.specs.Prelude.{nat_lt, not, ◌&&◌, ◌||◌}
 use Rattle.std.specs.List.{list_any, enumerate_from}
 use Rattle.std.specs.Option.{ForSome}
 use Rattle.std.proofs.lemmas.Bool.{eqb-true}
-use Rattle.zone_state.specs.Zone.{ZoneRecord, fault_refusal}
+use Rattle.zone_state.specs.Zone.{CountedZone, fault_refusal}
 use Rattle.zone_state.specs.declared.action.Action.{Action}
 use Rattle.zone_state.specs.declared.action.Action.TheVariants as action
 use Rattle.zone_state.specs.declared.state.ZoneState.{ZoneState}
@@ -66,7 +66,7 @@ not_both true false more held e = cc
 not_both false refuses_it more held e = refl
 
 -- is one of the zones held, of which the first has this number?
-abbrev held_from : Holds → ℕ → List ZoneRecord → Action → Bool
+abbrev held_from : Holds → ℕ → List CountedZone → Action → Bool
 held_from holds n zones a = list_any (λ p. takes a p.1.state && refuses holds a p.0) (enumerate_from n zones)
 
 not_taken_from : (holds : Holds) (a : Action) (c n at : ℕ) (zones : List ZoneBlocks) → refuses holds a (n + at) ≡ true

@@ -4,7 +4,7 @@ use Rattle.std.specs.Prelude.{nat_eq, nat_le}
 use Rattle.std.proofs.Math.Nat.{mul-div_cancel}
 use Rattle.std.proofs.lemmas.Bool.{eq-eqb, le-leb}
 use Rattle.zone_state.specs.State.{is_open}
-use Rattle.zone_state.specs.Zone.{ZoneRecord, fits_room, refusal, refusal_in}
+use Rattle.zone_state.specs.Zone.{CountedZone, fits_room, refusal, refusal_in}
 use Rattle.zone_state.specs.declared.state.ZoneState.{ZoneState}
 use Rattle.zone_state.specs.declared.state.ZoneState.TheVariants.{Empty, ImplicitlyOpened, ExplicitlyOpened, Closed, ReadOnly, Full, Offline}
 use Rattle.zone_resources.specs.Admission.{wanted_of, HoldsNoMore}
@@ -14,7 +14,7 @@ use Rattle.zone_resources.specs.declared.holds.Holds.{Holds}
 use Rattle.image_store.specs.Blocks.{as_blocks, block_count}
 use Rattle.image_store.specs.Namespace.{ZonedNamespace, zone_at, grown, appended, IsNamespace, IsWithinLimits}
 use Rattle.zns_commands.specs.Lasting.{OpenIsThere}
-use Rattle.zns_commands.specs.Address.{record_at, zone_number}
+use Rattle.zns_commands.specs.Address.{counted_zone_at, zone_number}
 use Rattle.zns_commands.specs.Laws.{BlocksAreAppended, BlocksKeepNamespaces}
 use Rattle.zns_commands.specs.Resources.{room_by, closing_of}
 use Rattle.zns_commands.specs.Write.{write_plan, written}
@@ -61,21 +61,21 @@ open_within ns z bytes sound is =
 
 -- ---- an open zone takes blocks that it has room for
 
-open_refuses : (s : ZoneState) (r : ZoneRecord) (at n : ℕ) → is_open s ≡ true → refusal_in s r at n ≡ fits_room r at n
+open_refuses : (s : ZoneState) (r : CountedZone) (at n : ℕ) → is_open s ≡ true → refusal_in s r at n ≡ fits_room r at n
 open_refuses ImplicitlyOpened r at n is = refl
 open_refuses ExplicitlyOpened r at n is = refl
 open_refuses s r at n is = cc
 
-fits_by : (r : ZoneRecord) (n : ℕ) (fits here : Bool) → fits ≡ nat_le (r.written + n) r.capacity → fits ≡ true → here ≡ nat_eq r.written r.written
+fits_by : (r : CountedZone) (n : ℕ) (fits here : Bool) → fits ≡ nat_le (r.written + n) r.capacity → fits ≡ true → here ≡ nat_eq r.written r.written
     → here ≡ true → fits_room r r.written n ≡ Ok tt
 fits_by r n fits here is_fit yes_fit is_here yes_here = rw (sym is_here ∙ yes_here, sym is_fit ∙ yes_fit) refl
 
 open_takes : (ns : ZonedNamespace) (z n : ℕ) → is_open (zone_at ns z).state ≡ true → length (zone_at ns z).blocks + n ≤ ns.capacity
-    → refusal (record_at ns z) (length (zone_at ns z).blocks) n ≡ Ok tt
+    → refusal (counted_zone_at ns z) (length (zone_at ns z).blocks) n ≡ Ok tt
 open_takes ns z n is room =
     let before = length (zone_at ns z).blocks in
-    open_refuses (zone_at ns z).state (record_at ns z) before n is
-    ∙ fits_by (record_at ns z) n (nat_le (before + n) ns.capacity) (nat_eq before before) refl
+    open_refuses (zone_at ns z).state (counted_zone_at ns z) before n is
+    ∙ fits_by (counted_zone_at ns z) n (nat_le (before + n) ns.capacity) (nat_eq before before) refl
     (le-leb (before + n) ns.capacity room) refl (eq-eqb before before refl)
 
 pub blocks_keep_namespaces : BlocksKeepNamespaces

@@ -2,7 +2,7 @@
 use Rattle.std.proofs.Common.{◌≡◌, ℕ, ◌+◌, ◌*◌, ◌%◌, ◌<◌, ◌≤◌, Bool, true, false, cond, List, [], ◌∷◌, length, Option, Some, None, Result, Ok, Err, refl, ap, subst, arith}
 use Rattle.std.specs.Prelude.{nat_lt, nat_le, nat_eq, not}
 use Rattle.std.proofs.Math.Nat.{div-lt_iff_lt-mul}
-use Rattle.zone_state.specs.Zone.{ZoneRecord, refusal, refusal_in, fits_room}
+use Rattle.zone_state.specs.Zone.{CountedZone, refusal, refusal_in, fits_room}
 use Rattle.zone_state.specs.declared.state.ZoneState.{ZoneState}
 use Rattle.zone_state.specs.declared.state.ZoneState.TheVariants.{ReadOnly, Full, Offline}
 use Rattle.zone_state.specs.declared.status.Status.{Status}
@@ -18,7 +18,7 @@ use Rattle.nvme_entry.specs.declared.command.StandardCommand.TheVariants.{Write,
 use Rattle.nvme_entry.specs.declared.command.TheConstants.{MOST_TRANSFER}
 use Rattle.nvme_entry.specs.Checks.{demand, or_else, first_refused}
 use Rattle.image_store.specs.Namespace.{ZonedNamespace, zone_at, records, IsNamespace}
-use Rattle.zns_commands.specs.Address.{record_at, zone_number, block_total}
+use Rattle.zns_commands.specs.Address.{counted_zone_at, zone_number, block_total}
 use Rattle.zns_commands.specs.Answer.{Effect, concluded}
 use Rattle.zns_commands.specs.Append.{append_checks, append_effect}
 use Rattle.zns_commands.specs.Resources.{room_by, room_for, why_not, closing_of}
@@ -65,13 +65,13 @@ cond_fails : {X : Type 0} (test : Bool) (x y : Result X Status) → Fails (why_n
 cond_fails true x y left right = left
 cond_fails false x y left right = right
 
-room_fails : (r : ZoneRecord) (at n : ℕ) → Fails (why_not (fits_room r at n))
+room_fails : (r : CountedZone) (at n : ℕ) → Fails (why_not (fits_room r at n))
 room_fails r at n =
     cond_fails (nat_eq at r.written) (cond (nat_le (r.written + n) r.capacity) (Ok tt) (Err ZONE_BOUNDARY_ERROR)) (Err ZONE_INVALID_WRITE)
     (cond_fails (nat_le (r.written + n) r.capacity) (Ok tt) (Err ZONE_BOUNDARY_ERROR) none_fails (err_fails ZONE_BOUNDARY_ERROR (omega arith)))
     (err_fails ZONE_INVALID_WRITE (omega arith))
 
-refusal_fails : (s : ZoneState) (r : ZoneRecord) (at n : ℕ) → Fails (why_not (refusal_in s r at n))
+refusal_fails : (s : ZoneState) (r : CountedZone) (at n : ℕ) → Fails (why_not (refusal_in s r at n))
 refusal_fails Full r at n = err_fails ZONE_IS_FULL (omega arith)
 refusal_fails ReadOnly r at n = err_fails ZONE_IS_READ_ONLY (omega arith)
 refusal_fails Offline r at n = err_fails ZONE_IS_OFFLINE (omega arith)
@@ -81,7 +81,7 @@ closing_fails : (found : Option ℕ) → Fails (why_not (closing found))
 closing_fails None = err_fails TOO_MANY_OPEN_ZONES (omega arith)
 closing_fails (Some k) = none_fails
 
-open_fails : (zones : List ZoneRecord) (limits : Limits) (holds : Holds) → Fails (why_not (open_admission zones limits holds))
+open_fails : (zones : List CountedZone) (limits : Limits) (holds : Holds) → Fails (why_not (open_admission zones limits holds))
 open_fails zones limits holds =
     cond_fails (nat_lt (open_count zones) limits.open_limit) (Ok None) (closing (zone_to_close holds zones))
     none_fails (closing_fails (zone_to_close holds zones))
@@ -121,9 +121,9 @@ append_passed ns holds lba blocks input done =
     none_failed (first_refused (append_checks ns holds lba blocks input)) ns (append_effect ns holds lba input)
     (all_fail (nat_le (blocks * ns.block) MOST_TRANSFER) (nat_eq (length input) (blocks * ns.block)) (nat_lt lba (block_total ns))
     (nat_eq (lba % ns.size) 0) (not (is_destination holds z)) INVALID_FIELD_IN_COMMAND
-    (why_not (refusal (record_at ns z) (length zone.blocks) blocks)) (why_not (room_for ns holds zone.state))
+    (why_not (refusal (counted_zone_at ns z) (length zone.blocks) blocks)) (why_not (room_for ns holds zone.state))
     (omega arith)
-    (refusal_fails zone.state (record_at ns z) (length zone.blocks) blocks)
+    (refusal_fails zone.state (counted_zone_at ns z) (length zone.blocks) blocks)
     (wanted_fails ns holds (wanted_of zone.state)))
     done
 
@@ -135,8 +135,8 @@ write_passed ns holds lba blocks input done =
     none_failed (first_refused (write_checks ns holds lba blocks input)) ns (write_effect ns holds lba input)
     (all_fail (nat_le (blocks * ns.block) MOST_TRANSFER) (nat_eq (length input) (blocks * ns.block)) (nat_le (lba + blocks) (block_total ns))
     (nat_le (lba % ns.size + blocks) ns.size) (not (is_destination holds z)) ZONE_BOUNDARY_ERROR
-    (why_not (refusal (record_at ns z) (lba % ns.size) blocks)) (why_not (room_for ns holds zone.state))
+    (why_not (refusal (counted_zone_at ns z) (lba % ns.size) blocks)) (why_not (room_for ns holds zone.state))
     (omega arith)
-    (refusal_fails zone.state (record_at ns z) (lba % ns.size) blocks)
+    (refusal_fails zone.state (counted_zone_at ns z) (lba % ns.size) blocks)
     (wanted_fails ns holds (wanted_of zone.state)))
     done

@@ -18,7 +18,7 @@ use Rattle.image_store.specs.Geometry.{Shape}
 use Rattle.image_store.specs.Namespace.{ZoneBlocks, ZonedNamespace, no_zone, zone_at, grown, IsNamespace}
 use Rattle.image_store.proofs.Proved.{allowed_is_within, blocks_keep_bytes}
 use Rattle.zns_commands.specs.Lasting.{Keeps, Lie, LyingIsRead, ReadsBack, ReadsAt, AppendedStays, WrittenStays}
-use Rattle.zns_commands.specs.Address.{record_at, zone_number, block_total, write_pointer}
+use Rattle.zns_commands.specs.Address.{counted_zone_at, zone_number, block_total, write_pointer}
 use Rattle.zns_commands.specs.Answer.{success_effect, concluded}
 use Rattle.zns_commands.specs.Append.{append_checks, append_effect}
 use Rattle.zns_commands.specs.Read.{read_refusal, blocks_read, read_checks, read_effect, read_meaning}
@@ -114,7 +114,7 @@ record Writes (ns : ZonedNamespace) (holds : Holds) (z blocks : ℕ) (input : Li
   some : 1 ≤ blocks
   size : length input ≡ blocks * ns.block
   transfer : nat_le (blocks * ns.block) MOST_TRANSFER ≡ true
-  fits : refusal (record_at ns z) (length (zone_at ns z).blocks) blocks ≡ Ok tt
+  fits : refusal (counted_zone_at ns z) (length (zone_at ns z).blocks) blocks ≡ Ok tt
   room : room_for ns holds (zone_at ns z).state ≡ Ok (closing_of (room_for ns holds (zone_at ns z).state))
 
 written_lie : (ns : ZonedNamespace) (holds : Holds) (z blocks : ℕ) (input : List ℕ) → IsNamespace ns → Writes ns holds z blocks input
@@ -129,7 +129,7 @@ written_lie ns holds z blocks input sound writes =
     let bring = brings ns.block blocks input block_some writes.size in
     let seen = written_zone ns z plan.closing input has.give.other writes.inside in
     let form = written_shape ns plan input in
-    let end : length zone.blocks + blocks ≤ ns.capacity = allowed_is_within (record_at ns z) (length zone.blocks) blocks writes.fits in
+    let end : length zone.blocks + blocks ≤ ns.capacity = allowed_is_within (counted_zone_at ns z) (length zone.blocks) blocks writes.fits in
     let reach : length zone.blocks + blocks ≤ ns.size = omega (arith, sound.shape.capacity_most) in
     record {
       front = zone.blocks;
@@ -174,7 +174,7 @@ appended_stays ns holds lba blocks input later sound some done =
       some = some;
       size = size;
       transfer = demanded (nat_le (blocks * ns.block) MOST_TRANSFER) _ (passed checks 0 none);
-      fits = allowed (refusal (record_at ns z) (length (zone_at ns z).blocks) blocks) (passed checks 5 none);
+      fits = allowed (refusal (counted_zone_at ns z) (length (zone_at ns z).blocks) blocks) (passed checks 5 none);
       room = roomed (room_for ns holds (zone_at ns z).state) (passed checks 6 none);
     } in
     let pointer = write_pointer ns z in
@@ -197,14 +197,14 @@ written_stays ns holds lba blocks input later sound some done =
     let size = eqb-true (length input) (blocks * ns.block) (demanded (nat_eq (length input) (blocks * ns.block)) _ (passed checks 1 none)) in
     let end = leb-true (lba + blocks) (block_total ns) (demanded (nat_le (lba + blocks) (block_total ns)) _ (passed checks 2 none)) in
     let start : lba < block_total ns = omega arith in
-    let fits = allowed (refusal (record_at ns z) (lba % ns.size) blocks) (passed checks 5 none) in
-    let at : lba % ns.size ≡ w = pointer_in zone.state (record_at ns z) (lba % ns.size) blocks fits in
+    let fits = allowed (refusal (counted_zone_at ns z) (lba % ns.size) blocks) (passed checks 5 none) in
+    let at : lba % ns.size ≡ w = pointer_in zone.state (counted_zone_at ns z) (lba % ns.size) blocks fits in
     let writes : Writes ns holds z blocks input = record {
       inside = zone_inside ns lba sound start;
       some = some;
       size = size;
       transfer = demanded (nat_le (blocks * ns.block) MOST_TRANSFER) _ (passed checks 0 none);
-      fits = subst (λ (k : ℕ). refusal (record_at ns z) k blocks ≡ Ok tt) at fits;
+      fits = subst (λ (k : ℕ). refusal (counted_zone_at ns z) k blocks ≡ Ok tt) at fits;
       room = roomed (room_for ns holds zone.state) (passed checks 6 none);
     } in
     let address : write_pointer ns z ≡ lba = omega (arith, at, mod-add-div' lba ns.size) in

@@ -3,7 +3,7 @@ use Rattle.std.proofs.Common.{◌≡◌, ℕ, ◌<◌, length, Option, Some, Non
 use Rattle.std.specs.Prelude.{◌≢◌}
 use Rattle.std.proofs.lemmas.List.{length-map, get_or-map}
 use Rattle.std.proofs.lemmas.Option.{slice_get_within, get_or_from_slice_get}
-use Rattle.zone_state.specs.Zone.{ZoneRecord, IsZone}
+use Rattle.zone_state.specs.Zone.{CountedZone, IsZone}
 use Rattle.zone_state.specs.declared.state.ZoneState.{ZoneState}
 use Rattle.zone_state.specs.declared.state.ZoneState.TheVariants.{Empty, ImplicitlyOpened, ExplicitlyOpened, Closed, ReadOnly, Full, Offline}
 use Rattle.zone_resources.specs.Admission.{wanted_of, IsClosable}
@@ -24,7 +24,7 @@ closable_state ns holds z h =
     let inside = closable_zone ns holds z h in
     let read = get_or_from_slice_get (records ns) z h.zone (counted ns.capacity no_zone) h.there in
     let mapped = get_or-map (counted ns.capacity) ns.zones z no_zone (counted ns.capacity no_zone) inside in
-    ap (λ (r : ZoneRecord). r.state) (sym mapped ∙ read) ∙ h.implicitly_opened
+    ap (λ (r : CountedZone). r.state) (sym mapped ∙ read) ∙ h.implicitly_opened
 
 wants_none : (state : ZoneState) (wanted : Wanted) → wanted_of state ≡ Some wanted → state ≢ ImplicitlyOpened
 wants_none Empty wanted e = λ is. cc

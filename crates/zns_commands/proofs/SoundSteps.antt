@@ -5,7 +5,7 @@ use Rattle.std.proofs.lemmas.Bool.{ltb-true, leb-true, eqb-true}
 use Rattle.std.proofs.lemmas.List.{length-replicate, get_or-replicate}
 use Rattle.std.proofs.lemmas.List.Sums.{sum_by-cons}
 use Rattle.zone_state.specs.State.{is_open, is_active}
-use Rattle.zone_state.specs.Zone.{ZoneRecord, refusal}
+use Rattle.zone_state.specs.Zone.{CountedZone, refusal}
 use Rattle.zone_state.specs.declared.action.Action.{Action}
 use Rattle.zone_state.specs.declared.state.ZoneState.{ZoneState}
 use Rattle.zone_state.specs.declared.state.ZoneState.TheVariants.{Empty}
@@ -17,7 +17,7 @@ use Rattle.nvme_entry.specs.Checks.{first_refused}
 use Rattle.image_store.specs.Blocks.{AreBytes}
 use Rattle.image_store.specs.Geometry.{IsShape}
 use Rattle.image_store.specs.Namespace.{ZoneBlocks, ZonedNamespace, no_zone, zone_at, counted, IsNamespace, all_empty}
-use Rattle.zns_commands.specs.Address.{record_at, zone_number, block_total}
+use Rattle.zns_commands.specs.Address.{counted_zone_at, zone_number, block_total}
 use Rattle.zns_commands.specs.Answer.{Effect, success_effect, concluded}
 use Rattle.zns_commands.specs.Append.{append_checks, append_effect}
 use Rattle.zns_commands.specs.Read.{read_checks, read_effect}
@@ -49,7 +49,7 @@ write_sound ns holds lba blocks input sound spelled none =
     let end = leb-true (lba + blocks) (block_total ns) (demanded (nat_le (lba + blocks) (block_total ns)) _ (passed checks 2 none)) in
     let start : lba < block_total ns = omega arith in
     written_sound ns holds z at blocks (closing_of room) input sound (zone_inside ns lba sound start) spelled.0 size spelled.1
-    (allowed (refusal (record_at ns z) at blocks) (passed checks 5 none))
+    (allowed (refusal (counted_zone_at ns z) at blocks) (passed checks 5 none))
     (roomed room (passed checks 6 none))
 
 append_sound : (ns : ZonedNamespace) (holds : Holds) (lba blocks : ℕ) (input : List ℕ) → IsNamespace ns → (1 ≤ blocks) × AreBytes input
@@ -62,7 +62,7 @@ append_sound ns holds lba blocks input sound spelled none =
     let size = eqb-true (length input) (blocks * ns.block) (demanded (nat_eq (length input) (blocks * ns.block)) _ (passed checks 1 none)) in
     let start = ltb-true lba (block_total ns) (demanded (nat_lt lba (block_total ns)) _ (passed checks 2 none)) in
     written_sound ns holds z at blocks (closing_of room) input sound (zone_inside ns lba sound start) spelled.0 size spelled.1
-    (allowed (refusal (record_at ns z) at blocks) (passed checks 5 none))
+    (allowed (refusal (counted_zone_at ns z) at blocks) (passed checks 5 none))
     (roomed room (passed checks 6 none))
 
 send_sound : (ns : ZonedNamespace) (holds : Holds) (lba : ℕ) (a : Action) (select_all : Bool) (input : List ℕ) → IsNamespace ns
@@ -106,7 +106,7 @@ empty_counts test c zero none = refl
 empty_counts test c (suc n) none =
     let rest = empty_counts test c n none in
     let first : one_if (test Empty) ≡ 0 = ap one_if none in
-    let both = sum_by-cons (λ (z : ZoneRecord). one_if (test z.state)) (counted c (record { state = Empty; blocks = [] }))
+    let both = sum_by-cons (λ (z : CountedZone). one_if (test z.state)) (counted c (record { state = Empty; blocks = [] }))
     (map (counted c) (replicate n (record { state = Empty; blocks = [] }))) in
     omega arith
 

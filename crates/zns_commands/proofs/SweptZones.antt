@@ -5,7 +5,7 @@ use Rattle.std.proofs.lemmas.Bool.{leb-true}
 use Rattle.std.proofs.lemmas.List.{length-map, get_or-map}
 use Rattle.std.proofs.lemmas.List.Sums.{sum_by-cons}
 use Rattle.zone_state.specs.State.{is_open, is_active}
-use Rattle.zone_state.specs.Zone.{ZoneRecord, IsZone, kept}
+use Rattle.zone_state.specs.Zone.{CountedZone, IsZone, kept}
 use Rattle.zone_state.specs.declared.action.Action.{Action}
 use Rattle.zone_state.specs.declared.action.Action.TheVariants as action
 use Rattle.zone_state.specs.declared.state.ZoneState.{ZoneState}
@@ -59,7 +59,7 @@ sweep_holds action.Offline Empty = record { opened = omega arith; active = omega
 sweep_holds a s = record { opened = omega arith; active = omega arith }
 
 -- how many zones are of a state that passes a test
-abbrev pub count_in : (ZoneState → Bool) → List ZoneRecord → ℕ
+abbrev pub count_in : (ZoneState → Bool) → List CountedZone → ℕ
 count_in test zones = sum_by (λ z. one_if (test z.state)) zones
 
 -- where each of the first zones adds to a count no more than it did, but for some, the count grows by no more than these
@@ -72,12 +72,12 @@ count_mapped test more c f zero (zone ∷ zones) each = omega arith
 count_mapped test more c f (suc n) (zone ∷ zones) each =
     let rest = count_mapped test more c f n zones each in
     let first = each zone in
-    let after_it = sum_by-cons (λ (z : ZoneRecord). one_if (test z.state)) (counted c (f zone)) (map (counted c) (mapped f n zones)) in
-    let before_it = sum_by-cons (λ (z : ZoneRecord). one_if (test z.state)) (counted c zone) (map (counted c) zones) in
-    let more_it = sum_by-cons (λ (z : ZoneRecord). one_if (more z.state)) (counted c zone) (map (counted c) zones) in
+    let after_it = sum_by-cons (λ (z : CountedZone). one_if (test z.state)) (counted c (f zone)) (map (counted c) (mapped f n zones)) in
+    let before_it = sum_by-cons (λ (z : CountedZone). one_if (test z.state)) (counted c zone) (map (counted c) zones) in
+    let more_it = sum_by-cons (λ (z : CountedZone). one_if (more z.state)) (counted c zone) (map (counted c) zones) in
     omega arith
 
-count_none : (zones : List ZoneRecord) → count_in (λ s. false) zones ≡ 0
+count_none : (zones : List CountedZone) → count_in (λ s. false) zones ≡ 0
 count_none [] = refl
 count_none (zone ∷ zones) = count_none zones
 

@@ -3,7 +3,7 @@ use Rattle.std.proofs.Common.{◌≡◌, ℕ, zero, suc, ◌+◌, ◌*◌, ◌/�
 use Rattle.std.specs.Prelude.{nat_le, nat_eq}
 use Rattle.std.proofs.lemmas.Bool.{eqb-true}
 use Rattle.std.proofs.Math.Nat.{suc-mul, mul-le-mul_right, mul-div_cancel}
-use Rattle.zone_state.specs.Zone.{ZoneRecord, IsZone, refusal, refusal_in, fits_room, after_write, written_state}
+use Rattle.zone_state.specs.Zone.{CountedZone, IsZone, refusal, refusal_in, fits_room, after_write, written_state}
 use Rattle.zone_state.specs.declared.state.ZoneState.{ZoneState}
 use Rattle.zone_state.specs.declared.state.ZoneState.TheVariants.{Empty, ImplicitlyOpened, ExplicitlyOpened, Closed, ReadOnly, Full, Offline}
 use Rattle.zone_state.specs.declared.status.Status.{Status}
@@ -13,7 +13,7 @@ use Rattle.zone_resources.specs.declared.holds.Holds.{Holds}
 use Rattle.image_store.specs.Blocks.{AreBytes, as_blocks, block_count, blocks_of}
 use Rattle.image_store.specs.Namespace.{ZoneBlocks, ZonedNamespace, zone_at, counted, grown, IsNamespace, IsWithinLimits}
 use Rattle.image_store.proofs.Proved.{block_is_a_part, blocks_are_bytes, blocks_are_counted, writes_keep_zones}
-use Rattle.zns_commands.specs.Address.{record_at}
+use Rattle.zns_commands.specs.Address.{counted_zone_at}
 use Rattle.zns_commands.specs.Resources.{room_for}
 use Rattle.zns_commands.specs.Write.{written}
 use Rattle.zns_commands.proofs.Fits.{FitsIn, zone_fits}
@@ -53,16 +53,16 @@ brings block blocks input some size =
     record { count = count ∙ is; whole = λ i h. block_whole block n input long i (omega arith) }
 
 -- a write that isn't refused is at the write pointer
-fits_at : (r : ZoneRecord) (at n : ℕ) (here : Bool) (fits : Result Unit Status) (other : Status)
+fits_at : (r : CountedZone) (at n : ℕ) (here : Bool) (fits : Result Unit Status) (other : Status)
     → nat_eq at r.written ≡ here → cond here fits (Err other) ≡ Ok tt → at ≡ r.written
 fits_at r at n true fits other is allowed = eqb-true at r.written is
 fits_at r at n false fits other is allowed = cc
 
-at_pointer : (r : ZoneRecord) (at n : ℕ) → fits_room r at n ≡ Ok tt → at ≡ r.written
+at_pointer : (r : CountedZone) (at n : ℕ) → fits_room r at n ≡ Ok tt → at ≡ r.written
 at_pointer r at n allowed =
     fits_at r at n (nat_eq at r.written) (cond (nat_le (r.written + n) r.capacity) (Ok tt) (Err ZONE_BOUNDARY_ERROR)) ZONE_INVALID_WRITE refl allowed
 
-pub pointer_in : (s : ZoneState) (r : ZoneRecord) (at n : ℕ) → refusal_in s r at n ≡ Ok tt → at ≡ r.written
+pub pointer_in : (s : ZoneState) (r : CountedZone) (at n : ℕ) → refusal_in s r at n ≡ Ok tt → at ≡ r.written
 pointer_in Empty r at n allowed = at_pointer r at n allowed
 pointer_in ImplicitlyOpened r at n allowed = at_pointer r at n allowed
 pointer_in ExplicitlyOpened r at n allowed = at_pointer r at n allowed
@@ -88,7 +88,7 @@ grown_fits b c zone more at n fits some bring are allowed =
     }
 
 -- a write opens no zone that wants nothing
-write_takes_none : (s : ZoneState) (r : ZoneRecord) (at n : ℕ) (full : Bool)
+write_takes_none : (s : ZoneState) (r : CountedZone) (at n : ℕ) (full : Bool)
     → refusal_in s r at n ≡ Ok tt → wanted_of s ≡ None → HoldsNoMore (cond full Full (written_state s)) s
 write_takes_none Empty r at n full fits none = cc
 write_takes_none Closed r at n full fits none = cc
@@ -102,17 +102,17 @@ write_takes_none ExplicitlyOpened r at n false fits none = record { opened = ome
 
 -- the limits allow a write that isn't refused, whatever is written
 pub written_within : (ns : ZonedNamespace) (z at blocks : ℕ) (gives : Option ℕ) (input : List ℕ) → HasRoom ns z gives
-    → refusal (record_at ns z) at blocks ≡ Ok tt → IsWithinLimits (written ns (record { zone = z; closing = gives }) input)
+    → refusal (counted_zone_at ns z) at blocks ≡ Ok tt → IsWithinLimits (written ns (record { zone = z; closing = gives }) input)
 written_within ns z at blocks gives input has allowed =
     let zone = zone_at ns z in
     let more = as_blocks ns.block input in
     subst IsWithinLimits (sym (written_is ns z gives input has.give.other))
     (has.limits (grown ns.capacity zone more)
-    (write_takes_none zone.state (record_at ns z) at blocks (nat_eq (length zone.blocks + length more) ns.capacity) allowed))
+    (write_takes_none zone.state (counted_zone_at ns z) at blocks (nat_eq (length zone.blocks + length more) ns.capacity) allowed))
 
 pub written_sound : (ns : ZonedNamespace) (holds : Holds) (z at blocks : ℕ) (gives : Option ℕ) (input : List ℕ)
     → IsNamespace ns → z < length ns.zones → 1 ≤ blocks → length input ≡ blocks * ns.block → AreBytes input
-    → refusal (record_at ns z) at blocks ≡ Ok tt → room_for ns holds (zone_at ns z).state ≡ Ok gives
+    → refusal (counted_zone_at ns z) at blocks ≡ Ok tt → room_for ns holds (zone_at ns z).state ≡ Ok gives
     → IsNamespace (written ns (record { zone = z; closing = gives }) input)
 written_sound ns holds z at blocks gives input sound inside some size are allowed room =
     let has = has_room ns holds z gives sound inside room in
@@ -124,4 +124,4 @@ written_sound ns holds z at blocks gives input sound inside some size are allowe
     (room_sound ns z gives (grown ns.capacity zone more) sound has
     (grown_fits ns.block ns.capacity zone more at blocks (zone_fits ns z sound inside) some bring
     (blocks_are_bytes ns.block (block_count ns.block input) input are) allowed)
-    (write_takes_none zone.state (record_at ns z) at blocks (nat_eq (length zone.blocks + length more) ns.capacity) allowed))
+    (write_takes_none zone.state (counted_zone_at ns z) at blocks (nat_eq (length zone.blocks + length more) ns.capacity) allowed))

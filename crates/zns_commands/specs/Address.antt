@@ -1,10 +1,10 @@
 -- Logical blocks and zones.
 use Rattle.std.specs.Prelude.{ℕ, zero, suc, ◌≡◌, ◌<◌, ◌+◌, ◌*◌, ◌/◌, ◌%◌, ◌^◌, ◌==◌, nat_lt, nat_le, List, [], ◌∷◌, length, Option}
-use Rattle.zone_state.specs.Zone.{ZoneRecord}
+use Rattle.zone_state.specs.Zone.{CountedZone}
 use Rattle.zone_state.specs.declared.status.Status.{Status}
 use Rattle.zone_state.specs.declared.status.TheConstants.Status.{INVALID_FIELD_IN_COMMAND, LBA_OUT_OF_RANGE, ZONE_BOUNDARY_ERROR}
 use Rattle.nvme_entry.specs.Checks.{demand}
-use Rattle.image_store.specs.declared.geometry.Place.{Place}
+use Rattle.image_store.specs.declared.geometry.ZoneBlock.{ZoneBlock}
 use Rattle.image_store.specs.Namespace.{ZonedNamespace, zone_at, counted, block_at}
 
 -- the number of logical blocks
@@ -20,8 +20,8 @@ abbrev pub write_pointer : ZonedNamespace → ℕ → ℕ
 write_pointer ns z = z * ns.size + length (zone_at ns z).blocks
 
 -- a zone with its blocks only counted
-abbrev pub record_at : ZonedNamespace → ℕ → ZoneRecord
-record_at ns z = counted ns.capacity (zone_at ns z)
+abbrev pub counted_zone_at : ZonedNamespace → ℕ → CountedZone
+counted_zone_at ns z = counted ns.capacity (zone_at ns z)
 
 -- so many blocks, one logical block after another from this one on
 abbrev pub blocks_from : ZonedNamespace → ℕ → ℕ → List (List ℕ)
@@ -53,11 +53,11 @@ abbrev pub range_checks : ZonedNamespace → ℕ → ℕ → List (Option Status
 range_checks ns lba blocks = range_check ns lba blocks ∷ boundary_check ns lba blocks ∷ []
 
 -- the zone of a logical block, and the block's place in it
-abbrev pub place_in : ZonedNamespace → ℕ → Place
-place_in ns lba = record { zone = zone_number ns lba; offset = lba % ns.size }
+abbrev pub zone_block_in : ZonedNamespace → ℕ → ZoneBlock
+zone_block_in ns lba = record { zone = zone_number ns lba; offset = lba % ns.size }
 
 -- what holds of the place of a logical block that the namespace has
-pub record IsPlace (ns : ZonedNamespace) (lba : ℕ) (place : Place) : Type 0 where
+pub record IsZoneBlock (ns : ZonedNamespace) (lba : ℕ) (place : ZoneBlock) : Type 0 where
   pub inside : place.zone < length ns.zones
   pub address : place.zone * ns.size + place.offset ≡ lba
   pub small : lba < 2 ^ 36

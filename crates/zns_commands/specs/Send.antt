@@ -3,7 +3,7 @@ use Rattle.std.specs.Prelude.{ℕ, Bool, true, false, ◌+◌, ◌<◌, ◌++◌
 use Rattle.std.specs.List.{enumerate_from, list_any}
 use Rattle.zone_state.specs.State.{is_open, is_active}
 use Rattle.zone_state.specs.Transition.{transition}
-use Rattle.zone_state.specs.Zone.{ZoneRecord, IsZone, kept}
+use Rattle.zone_state.specs.Zone.{CountedZone, IsZone, kept}
 use Rattle.zone_state.specs.declared.action.Action.{Action}
 use Rattle.zone_state.specs.declared.action.Action.TheVariants as action
 use Rattle.zone_state.specs.declared.state.ZoneState.{ZoneState}
@@ -64,11 +64,11 @@ takes action.Offline ReadOnly = true
 takes action.Offline _ = false
 
 -- is one of these zones, which would be taken, held against the action?
-abbrev pub held_among : List ZoneRecord → Holds → Action → Bool
+abbrev pub held_among : List CountedZone → Holds → Action → Bool
 held_among zones holds action = list_any (λ p. takes action p.1.state && refuses holds action p.0) (enumerate_from 0 zones)
 
 -- how many of these zones would be taken
-abbrev pub taken_among : List ZoneRecord → Action → ℕ
+abbrev pub taken_among : List CountedZone → Action → ℕ
 taken_among zones action = count_by (λ zone. takes action zone.state) zones
 
 -- has each zone that would be opened an open resource? None is freed for it (profile)

@@ -9,7 +9,7 @@ use Rattle.nvme_entry.specs.Checks.{demand, first_refused}
 use Rattle.image_store.specs.Blocks.{block_count}
 use Rattle.image_store.specs.Namespace.{ZonedNamespace, zone_at, appended, IsWithinLimits}
 use Rattle.zns_commands.specs.declared.write.WritePlan.{WritePlan}
-use Rattle.zns_commands.specs.Address.{zone_number, record_at, range_checks}
+use Rattle.zns_commands.specs.Address.{zone_number, counted_zone_at, range_checks}
 use Rattle.zns_commands.specs.Answer.{Effect, success_effect, concluded}
 use Rattle.zns_commands.specs.Resources.{room_for, why_not, closing_of, closed, CanGiveWay}
 use Rattle.zns_commands.specs.Transfer.{transfer_checks}
@@ -20,7 +20,7 @@ use Rattle.zns_commands.specs.Transfer.{transfer_checks}
 abbrev pub zone_write_checks : ZonedNamespace → Holds → ℕ → ℕ → ℕ → List (Option Status)
 zone_write_checks ns holds z at blocks =
     demand (not (is_destination holds z)) ZONE_HELD
-    ∷ why_not (refusal (record_at ns z) at blocks)
+    ∷ why_not (refusal (counted_zone_at ns z) at blocks)
     ∷ why_not (room_for ns holds (zone_at ns z).state)
     ∷ []
 
@@ -50,7 +50,7 @@ write_meaning ns holds lba blocks input =
 pub record CanWrite (ns : ZonedNamespace) (at blocks : ℕ) (plan : WritePlan) : Type 0 where
   pub inside : plan.zone < length ns.zones
   pub some : 1 ≤ blocks
-  pub fits : refusal (record_at ns plan.zone) at blocks ≡ Ok tt
+  pub fits : refusal (counted_zone_at ns plan.zone) at blocks ≡ Ok tt
   pub gives : CanGiveWay ns plan.zone plan.closing
   pub limits : (bytes : List ℕ) → IsWithinLimits (written ns plan bytes)
 

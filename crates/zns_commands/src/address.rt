@@ -2,17 +2,17 @@
 
 ghost use Rattle.std.specs.Prelude.{◌≡◌, IfOk};
 ghost use Rattle.nvme_entry.specs.Checks.{first_refused, allowed};
-ghost use Rattle.zns_commands.specs.Address.{lowest_checks, range_checks, zone_number, place_in, IsPlace};
+ghost use Rattle.zns_commands.specs.Address.{lowest_checks, range_checks, zone_number, zone_block_in, IsZoneBlock};
 
-use image_store::{Image, Place};
+use image_store::{Image, ZoneBlock};
 use nvme_entry::{BlockCount, Status};
 
 /// The zone whose lowest block is `lba`.
 pub fn lowest(image: &Image, lba: u64) -> Result<u32, Status>
     ensures value { result ≡ allowed (first_refused (lowest_checks image.now lba)) (zone_number image.now lba) }
-    ensures place { IfOk result (λ zone. IsPlace image.now lba (record { zone = zone; offset = 0 })) }
+    ensures place { IfOk result (λ zone. IsZoneBlock image.now lba (record { zone = zone; offset = 0 })) }
 {
-    let Some(place) = image.geometry().place(lba) else {
+    let Some(place) = image.geometry().zone_block(lba) else {
         return Err(Status::LBA_OUT_OF_RANGE);
     };
     if place.offset != 0 {
@@ -22,12 +22,12 @@ pub fn lowest(image: &Image, lba: u64) -> Result<u32, Status>
 }
 
 /// Where a range of blocks begins, which lies in one zone.
-pub fn range(image: &Image, lba: u64, blocks: BlockCount) -> Result<Place, Status>
-    ensures value { result ≡ allowed (first_refused (range_checks image.now lba blocks)) (place_in image.now lba) }
-    ensures place { IfOk result (IsPlace image.now lba) }
+pub fn range(image: &Image, lba: u64, blocks: BlockCount) -> Result<ZoneBlock, Status>
+    ensures value { result ≡ allowed (first_refused (range_checks image.now lba blocks)) (zone_block_in image.now lba) }
+    ensures place { IfOk result (IsZoneBlock image.now lba) }
 {
     let geometry = image.geometry();
-    let Some(place) = geometry.place(lba) else {
+    let Some(place) = geometry.zone_block(lba) else {
         return Err(Status::LBA_OUT_OF_RANGE);
     };
     if u64::from(blocks.get()) > geometry.blocks() - lba {

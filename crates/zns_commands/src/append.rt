@@ -2,7 +2,7 @@
 
 ghost use Rattle.std.specs.Prelude.{◌≡◌, ◌≤◌, ◌<◌, ◌^◌, length, List, ℕ, OnOk, OnErr};
 ghost use Rattle.nvme_entry.specs.Checks.{first_refused, allowed};
-ghost use Rattle.zns_commands.specs.Address.{IsPlace, zone_number, write_pointer};
+ghost use Rattle.zns_commands.specs.Address.{IsZoneBlock, zone_number, write_pointer};
 ghost use Rattle.zns_commands.specs.Answer.{effect_of_answer};
 ghost use Rattle.zns_commands.specs.Append.{append_checks, append_meaning};
 ghost use Rattle.zns_commands.specs.Write.{write_plan, written};
@@ -54,7 +54,7 @@ fn try_append(
 
 /// The block that the next write to a zone goes to; `lba` is the zone's lowest.
 fn pointer(image: &Image, zone: u32, lba: u64) -> u64
-    requires { IsPlace image.now lba (record { zone = zone; offset = 0 }) }
+    requires { IsZoneBlock image.now lba (record { zone = zone; offset = 0 }) }
     ensures { result ≡ write_pointer image.now zone }
 {
     lba + u64::from(image.zone(zone).written())

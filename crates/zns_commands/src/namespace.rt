@@ -4,7 +4,7 @@ ghost use Rattle.std.specs.Prelude.{◌≡◌, ◌≤◌, ◌<◌, ◌*◌, leng
 ghost use Rattle.zone_resources.specs.Holds.{no_holds};
 ghost use Rattle.image_store.specs.Geometry.{IsShape};
 ghost use Rattle.image_store.specs.Namespace.{appended, block_at, shape, IsNamespace, IsWritten};
-ghost use Rattle.zns_commands.specs.Address.{record_at};
+ghost use Rattle.zns_commands.specs.Address.{counted_zone_at};
 ghost use Rattle.zns_commands.specs.Answer.{effect_of_answer};
 ghost use Rattle.zns_commands.specs.Append.{append_effect, TakesBlocks};
 ghost use Rattle.zns_commands.specs.Fault.{fault_answer, faulted};
@@ -64,7 +64,7 @@ impl Namespace {
     /// The zone with this number, without its blocks.
     pub fn zone(&self, zone: u32) -> Zone
         requires { zone < length self.now.zones }
-        ensures { result ≡ record_at self.now zone }
+        ensures { result ≡ counted_zone_at self.now zone }
     {
         self.image.zone(zone)
     }

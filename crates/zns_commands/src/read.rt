@@ -4,20 +4,20 @@ ghost use Rattle.std.specs.Prelude.{◌≡◌, ◌≤◌, ◌<◌, ◌*◌, ◌+
 ghost use Rattle.image_store.specs.Blocks.{bytes_of};
 ghost use Rattle.image_store.specs.Namespace.{ZonedNamespace, zone_at};
 ghost use Rattle.nvme_entry.specs.Checks.{first_refused, allowed};
-ghost use Rattle.zns_commands.specs.Address.{place_in};
+ghost use Rattle.zns_commands.specs.Address.{zone_block_in};
 ghost use Rattle.zns_commands.specs.Answer.{effect_of_answer};
 ghost use Rattle.zns_commands.specs.Read.{read_checks, read_meaning, blocks_read};
 
 use crate::address::range;
 use crate::answer::Answer;
 use crate::transfer;
-use image_store::{Image, Place};
+use image_store::{Image, ZoneBlock};
 use nvme_entry::{BlockCount, MOST_TRANSFER, Status, put_front};
 use zone_state::ZoneState;
 
 /// The checks of a read: where it begins.
-fn check(image: &Image, lba: u64, blocks: BlockCount, input: &[u8]) -> Result<Place, Status>
-    ensures value { result ≡ allowed (first_refused (read_checks image.now lba blocks input.now)) (place_in image.now lba) }
+fn check(image: &Image, lba: u64, blocks: BlockCount, input: &[u8]) -> Result<ZoneBlock, Status>
+    ensures value { result ≡ allowed (first_refused (read_checks image.now lba blocks input.now)) (zone_block_in image.now lba) }
     ensures inside { IfOk result (λ place. place.zone < length image.now.zones) }
     ensures most { OnOk result (blocks * image.now.block ≤ MOST_TRANSFER) }
 {
@@ -48,7 +48,7 @@ fn give(output: &mut [u8], bytes: &[u8], zeros: usize)
 }
 
 /// Gives the blocks from a place on, and answers how many bytes they are.
-fn give_blocks(image: &Image, place: Place, blocks: BlockCount, output: &mut [u8]) -> usize
+fn give_blocks(image: &Image, place: ZoneBlock, blocks: BlockCount, output: &mut [u8]) -> usize
     requires inside { place.zone < length image.now.zones }
     requires room { blocks * image.now.block ≤ length output.old }
     ensures length { result ≡ blocks * image.now.block }

@@ -18,7 +18,7 @@ fn check(image: &Image, lba: u64, dwords: DwordCount, input: &[u8]) -> Result<u3
     ensures { result ≡ allowed (first_refused (receive_checks image.now lba dwords input.now)) (zone_number image.now lba) }
 {
     transfer::check(dwords.bytes() as u64, 0, input)?;
-    match image.geometry().place(lba) {
+    match image.geometry().zone_block(lba) {
         Some(place) => Ok(place.zone),
         None => Err(Status::LBA_OUT_OF_RANGE),
     }

@@ -7,7 +7,7 @@ use Rattle.std.proofs.lemmas.List.FromFn.{length-enumerate_from, get_or-enumerat
 use Rattle.std.proofs.lemmas.List.Quantifiers.{position-Some}
 use Rattle.std.proofs.lemmas.List.Sums.{fails_before_first}
 use Rattle.std.proofs.lemmas.Option.{slice_get_within, get_or_from_slice_get, slice_get-get_or}
-use Rattle.zone_state.specs.Zone.{ZoneRecord}
+use Rattle.zone_state.specs.Zone.{CountedZone}
 use Rattle.zone_state.specs.declared.state.ZoneState.{ZoneState}
 use Rattle.zone_state.specs.declared.state.ZoneState.TheVariants.{Empty, ImplicitlyOpened, ExplicitlyOpened, Closed, ReadOnly, Full, Offline}
 use Rattle.zone_resources.specs.Admission.{may_close, is_implicitly_opened, zone_to_close, IsClosable, ClosesTheLowest}
@@ -29,11 +29,11 @@ passed Full held e = cc
 passed Offline held e = cc
 
 -- the test of a zone with its number
-abbrev pub closable : Holds → ℕ × ZoneRecord → Bool
+abbrev pub closable : Holds → ℕ × CountedZone → Bool
 closable holds p = may_close holds p.0 p.1
 
 -- the test of the zone at a number is that of its entry
-closable-at : (holds : Holds) (zones : List ZoneRecord) (number : ℕ) (zone : ZoneRecord)
+closable-at : (holds : Holds) (zones : List CountedZone) (number : ℕ) (zone : CountedZone)
     → slice_get zones number ≡ Some zone
     → closable holds (get_or (enumerate_from 0 zones) number (0, zone)) ≡ may_close holds number zone
 closable-at holds zones number zone there =
@@ -53,15 +53,15 @@ position-None p xs e k d within =
     fails_before_first p xs k d (omega arith)
 
 -- a zone that may be closed passes where it stands
-closable-passes : (holds : Holds) (zones : List ZoneRecord) (number : ℕ) (h : IsClosable holds zones number)
+closable-passes : (holds : Holds) (zones : List CountedZone) (number : ℕ) (h : IsClosable holds zones number)
     → closable holds (get_or (enumerate_from 0 zones) number (0, h.zone)) ≡ true
 closable-passes holds zones number h =
     closable-at holds zones number h.zone h.there ∙ passes h.zone.state (is_destination holds number) h.implicitly_opened h.free
 
-abbrev pub no_zone : ZoneRecord
+abbrev pub no_zone : CountedZone
 no_zone = record { state = Empty; written = 0; capacity = 0 }
 
-pub closes_at : (zones : List ZoneRecord) (holds : Holds) (found : Option ℕ) → zone_to_close holds zones ≡ found
+pub closes_at : (zones : List CountedZone) (holds : Holds) (found : Option ℕ) → zone_to_close holds zones ≡ found
     → MatchOption found
     ((number : ℕ) → ¬ IsClosable holds zones number)
     (λ lowest. IsClosable holds zones lowest × ((number : ℕ) → number < lowest → ¬ IsClosable holds zones number))
@@ -74,7 +74,7 @@ closes_at zones holds None e = λ number h.
 closes_at zones holds (Some lowest) e =
     let at = position-Some (closable holds) (enumerate_from 0 zones) lowest (0, no_zone) e in
     let within : lowest < length zones = rw length-enumerate_from at at.0 in
-    let zone : ZoneRecord = get_or zones lowest no_zone in
+    let zone : CountedZone = get_or zones lowest no_zone in
     let there : slice_get zones lowest ≡ Some zone = slice_get-get_or zones lowest no_zone within in
     let first = position-Some (closable holds) (enumerate_from 0 zones) lowest (0, zone) e in
     let is = passed zone.state (is_destination holds lowest) (sym (closable-at holds zones lowest zone there) ∙ first.1) in (

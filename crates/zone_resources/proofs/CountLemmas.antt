@@ -5,18 +5,18 @@ use Rattle.std.proofs.lemmas.List.{length-set}
 use Rattle.std.proofs.lemmas.List.Sums.{sum_by-set, sum_by-le-sum_by, get_or-le-sum_by, count_by-le-length}
 use Rattle.std.proofs.lemmas.Option.{slice_get_within, get_or_from_slice_get}
 use Rattle.zone_state.specs.State.{is_open, is_active}
-use Rattle.zone_state.specs.Zone.{ZoneRecord}
+use Rattle.zone_state.specs.Zone.{CountedZone}
 use Rattle.zone_state.specs.declared.state.ZoneState.{ZoneState}
 use Rattle.zone_state.specs.declared.state.ZoneState.TheVariants.{Empty, ImplicitlyOpened, ExplicitlyOpened, Closed, ReadOnly, Full, Offline}
 use Rattle.zone_resources.specs.Counts.{one_if, CountsOne, MovesOne, CountsFollowOne, CountsAreFew}
 use Rattle.zone_resources.specs.declared.counts.Counts.{Counts}
 
 -- how many zones are of a state that passes a test
-abbrev pub count_in : (ZoneState → Bool) → List ZoneRecord → ℕ
+abbrev pub count_in : (ZoneState → Bool) → List CountedZone → ℕ
 count_in test zones = count_by (λ z. test z.state) zones
 
 -- the count loses what the zone was, and gains what it is
-count_in-set : (test : ZoneState → Bool) (zones : List ZoneRecord) (number : ℕ) (was is : ZoneRecord)
+count_in-set : (test : ZoneState → Bool) (zones : List CountedZone) (number : ℕ) (was is : CountedZone)
     → slice_get zones number ≡ Some was
     → count_in test (slice_set zones number is) + one_if (test was.state) ≡ count_in test zones + one_if (test is.state)
 count_in-set test zones number was is there =
@@ -25,7 +25,7 @@ count_in-set test zones number was is there =
     rw read at (sum_by-set (λ z. one_if (test z.state)) zones number is was within)
 
 -- each zone is in the count that it is counted in
-one_if-le-count_in : (test : ZoneState → Bool) (zones : List ZoneRecord) (number : ℕ) (was : ZoneRecord)
+one_if-le-count_in : (test : ZoneState → Bool) (zones : List CountedZone) (number : ℕ) (was : CountedZone)
     → slice_get zones number ≡ Some was → one_if (test was.state) ≤ count_in test zones
 one_if-le-count_in test zones number was there =
     let within : number < length zones = slice_get_within zones number was there in
@@ -33,13 +33,13 @@ one_if-le-count_in test zones number was there =
     rw read at (get_or-le-sum_by (λ z. one_if (test z.state)) zones number was within)
 
 -- the count does not grow past the number of zones
-count_in-fits : (test : ZoneState → Bool) (zones : List ZoneRecord) (number : ℕ) (was : ZoneRecord) (to : ZoneState)
+count_in-fits : (test : ZoneState → Bool) (zones : List CountedZone) (number : ℕ) (was : CountedZone) (to : ZoneState)
     → slice_get zones number ≡ Some was
     → (count_in test zones - one_if (test was.state)) + one_if (test to) ≤ length zones
 count_in-fits test zones number was to there =
-    let is : ZoneRecord = record was { state = to } in
+    let is : CountedZone = record was { state = to } in
     let after = count_in-set test zones number was is there in
-    let few = count_by-le-length (λ (z : ZoneRecord). test z.state) (slice_set zones number is) in
+    let few = count_by-le-length (λ (z : CountedZone). test z.state) (slice_set zones number is) in
     omega (arith, one_if-le-count_in test zones number was there, length-set zones number is)
 
 pub counts_follow_one : CountsFollowOne

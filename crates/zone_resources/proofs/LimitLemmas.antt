@@ -5,7 +5,7 @@ use Rattle.std.proofs.lemmas.Bool.{ltb-true}
 use Rattle.std.proofs.lemmas.List.{length-set, get_or-set_other}
 use Rattle.std.proofs.lemmas.Option.{slice_get_within, get_or_from_slice_get, slice_get_read}
 use Rattle.zone_state.specs.State.{is_open, is_active}
-use Rattle.zone_state.specs.Zone.{ZoneRecord, in_state}
+use Rattle.zone_state.specs.Zone.{CountedZone, in_state}
 use Rattle.zone_state.specs.declared.state.ZoneState.{ZoneState}
 use Rattle.zone_state.specs.declared.state.ZoneState.TheVariants.{Empty, ImplicitlyOpened, ExplicitlyOpened, Closed, ReadOnly, Full, Offline}
 use Rattle.zone_state.specs.declared.status.Status.{Status}
@@ -20,14 +20,14 @@ use Rattle.zone_resources.specs.declared.admission.Wanted.TheVariants.{OpenOnly,
 use Rattle.zone_resources.specs.declared.holds.Holds.{Holds}
 
 -- an open resource is free after the close, and nothing else has changed
-pub record HasRoom (zones after : List ZoneRecord) (limits : Limits) : Type 0 where
+pub record HasRoom (zones after : List CountedZone) (limits : Limits) : Type 0 where
   pub opened : open_count after < limits.open_limit
   pub active : active_count after ≡ active_count zones
-  pub others : (number : ℕ) (zone : ZoneRecord)
+  pub others : (number : ℕ) (zone : CountedZone)
       → slice_get zones number ≡ Some zone → zone.state ≢ ImplicitlyOpened → slice_get after number ≡ Some zone
 
 -- a zone is as it was where another one is set
-slice_get-set_other : (zones : List ZoneRecord) (k number : ℕ) (is zone : ZoneRecord)
+slice_get-set_other : (zones : List CountedZone) (k number : ℕ) (is zone : CountedZone)
     → number ≢ k → slice_get zones number ≡ Some zone → slice_get (slice_set zones k is) number ≡ Some zone
 slice_get-set_other zones k number is zone differs there =
     let within = slice_get_within zones number zone there in
@@ -36,7 +36,7 @@ slice_get-set_other zones k number is zone differs there =
     (sym (get_or-set_other zones k number is zone differs ∙ read))
 
 -- closing an implicitly opened zone frees one open resource
-room_of_closed : (zones : List ZoneRecord) (limits : Limits) (holds : Holds) (k : ℕ)
+room_of_closed : (zones : List CountedZone) (limits : Limits) (holds : Holds) (k : ℕ)
     → IsWithin zones limits → IsClosable holds zones k → HasRoom zones (after_closing (Some k) zones) limits
 room_of_closed zones limits holds k within h =
     let follow = rw h.implicitly_opened at (counts_follow_one zones k h.zone (in_state Closed h.zone) h.there) in
@@ -52,7 +52,7 @@ room_of_closed zones limits holds k within h =
           there;
     })
 
-room_in : (zones : List ZoneRecord) (limits : Limits) (holds : Holds) (closed : Option ℕ) (free : Bool) (found : Option ℕ)
+room_in : (zones : List CountedZone) (limits : Limits) (holds : Holds) (closed : Option ℕ) (free : Bool) (found : Option ℕ)
     → IsWithin zones limits → nat_lt (open_count zones) limits.open_limit ≡ free → zone_to_close holds zones ≡ found
     → cond free (Ok None) (closing found) ≡ Ok closed
     → HasRoom zones (after_closing closed zones) limits
@@ -64,7 +64,7 @@ room_in zones limits holds closed false (Some k) within is_free is_found admitte
     let same : closed ≡ Some k = cc in
     rw same (room_of_closed zones limits holds k within ((closes_at zones holds (Some k) is_found).0))
 
-pub room_of_admission : (zones : List ZoneRecord) (limits : Limits) (holds : Holds) (closed : Option ℕ)
+pub room_of_admission : (zones : List CountedZone) (limits : Limits) (holds : Holds) (closed : Option ℕ)
     → IsWithin zones limits → open_admission zones limits holds ≡ Ok closed
     → HasRoom zones (after_closing closed zones) limits
 room_of_admission zones limits holds closed within admitted =
@@ -95,7 +95,7 @@ guarded true r s closed e = (refl, e)
 guarded false r s closed e = cc
 
 -- what `admission` tests of the active limit
-active_room : (zones : List ZoneRecord) (limits : Limits) (holds : Holds) (wanted : Wanted) (closed : Option ℕ)
+active_room : (zones : List CountedZone) (limits : Limits) (holds : Holds) (wanted : Wanted) (closed : Option ℕ)
     → admission zones limits holds wanted ≡ Ok closed
     → (open_admission zones limits holds ≡ Ok closed) × (wanted ≡ OpenAndActive → active_count zones < limits.active_limit)
 active_room zones limits holds OpenOnly closed e = (e, λ o. cc)

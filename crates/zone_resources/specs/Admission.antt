@@ -8,7 +8,7 @@ use Rattle.zone_resources.specs.declared.admission.Wanted.{Wanted}
 use Rattle.zone_resources.specs.declared.admission.Wanted.TheVariants.{OpenOnly, OpenAndActive}
 use Rattle.zone_resources.specs.declared.holds.Holds.{Holds}
 use Rattle.zone_state.specs.State.{is_open, is_active}
-use Rattle.zone_state.specs.Zone.{ZoneRecord, in_state}
+use Rattle.zone_state.specs.Zone.{CountedZone, in_state}
 use Rattle.zone_state.specs.declared.state.ZoneState.{ZoneState}
 use Rattle.zone_state.specs.declared.state.ZoneState.TheVariants.{Empty, ImplicitlyOpened, Closed}
 use Rattle.zone_state.specs.declared.status.Status.{Status}
@@ -26,11 +26,11 @@ is_implicitly_opened _ = false
 
 -- may the zone of this number be closed to make room? (ZNS 1.1, Zone Resources: an
 -- implicitly opened one; that it is no run's destination: profile)
-abbrev pub may_close : Holds → ℕ → ZoneRecord → Bool
+abbrev pub may_close : Holds → ℕ → CountedZone → Bool
 may_close holds number zone = is_implicitly_opened zone.state && not (is_destination holds number)
 
 -- the lowest number of a zone that may be closed (profile)
-abbrev pub zone_to_close : Holds → List ZoneRecord → Option ℕ
+abbrev pub zone_to_close : Holds → List CountedZone → Option ℕ
 zone_to_close holds zones = position (λ p. may_close holds p.0 p.1) (enumerate_from 0 zones)
 
 -- what is answered where no open resource is free
@@ -39,13 +39,13 @@ closing None = Err TOO_MANY_OPEN_ZONES
 closing (Some number) = Ok (Some number)
 
 -- whether an open resource can be had, and the zone to be closed for it, if one has to be
-abbrev pub open_admission : List ZoneRecord → Limits → Holds → Result (Option ℕ) Status
+abbrev pub open_admission : List CountedZone → Limits → Holds → Result (Option ℕ) Status
 open_admission zones limits holds =
     if nat_lt (open_count zones) limits.open_limit then Ok None else closing (zone_to_close holds zones)
 
 -- whether what is wanted can be had: an active resource first (ZNS 1.1, Zone Resources;
 -- the order: profile)
-abbrev pub admission : List ZoneRecord → Limits → Holds → Wanted → Result (Option ℕ) Status
+abbrev pub admission : List CountedZone → Limits → Holds → Wanted → Result (Option ℕ) Status
 admission zones limits holds OpenOnly = open_admission zones limits holds
 admission zones limits holds OpenAndActive =
     if nat_lt (active_count zones) limits.active_limit
@@ -53,8 +53,8 @@ admission zones limits holds OpenAndActive =
     else Err TOO_MANY_ACTIVE_ZONES
 
 -- the zone of this number may be closed
-pub record IsClosable (holds : Holds) (zones : List ZoneRecord) (number : ℕ) : Type 0 where
-  pub zone : ZoneRecord
+pub record IsClosable (holds : Holds) (zones : List CountedZone) (number : ℕ) : Type 0 where
+  pub zone : CountedZone
   pub there : slice_get zones number ≡ Some zone
   pub implicitly_opened : zone.state ≡ ImplicitlyOpened
   pub free : is_destination holds number ≡ false
@@ -62,22 +62,22 @@ pub record IsClosable (holds : Holds) (zones : List ZoneRecord) (number : ℕ) :
 -- the zone that is closed may be, and is the lowest that may; where none is, none may be
 abbrev pub ClosesTheLowest : Type 0
 ClosesTheLowest =
-    (zones : List ZoneRecord) (holds : Holds)
+    (zones : List CountedZone) (holds : Holds)
     → MatchOption (zone_to_close holds zones)
     ((number : ℕ) → ¬ IsClosable holds zones number)
     (λ lowest. IsClosable holds zones lowest × ((number : ℕ) → number < lowest → ¬ IsClosable holds zones number))
 
 -- the zones, once the one that gives way, if one has to, is closed
-abbrev pub closed_in : List ZoneRecord → ℕ → Option ZoneRecord → List ZoneRecord
+abbrev pub closed_in : List CountedZone → ℕ → Option CountedZone → List CountedZone
 closed_in zones number None = zones
 closed_in zones number (Some zone) = slice_set zones number (in_state Closed zone)
 
-abbrev pub after_closing : Option ℕ → List ZoneRecord → List ZoneRecord
+abbrev pub after_closing : Option ℕ → List CountedZone → List CountedZone
 after_closing None zones = zones
 after_closing (Some number) zones = closed_in zones number (slice_get zones number)
 
 -- the zones pass neither limit
-pub record IsWithin (zones : List ZoneRecord) (limits : Limits) : Type 0 where
+pub record IsWithin (zones : List CountedZone) (limits : Limits) : Type 0 where
   pub opened : open_count zones ≤ limits.open_limit
   pub active : active_count zones ≤ limits.active_limit
 
@@ -85,10 +85,10 @@ pub record IsWithin (zones : List ZoneRecord) (limits : Limits) : Type 0 where
 -- one that was admitted is in its new state
 abbrev pub AdmissionKeepsLimits : Type 0
 AdmissionKeepsLimits =
-    (zones : List ZoneRecord) (limits : Limits) (holds : Holds) (wanted : Wanted) (closing : Option ℕ)
+    (zones : List CountedZone) (limits : Limits) (holds : Holds) (wanted : Wanted) (closing : Option ℕ)
     → IsWithin zones limits → admission zones limits holds wanted ≡ Ok closing
     → IsWithin (after_closing closing zones) limits
-    × ((number : ℕ) (was is : ZoneRecord)
+    × ((number : ℕ) (was is : CountedZone)
     → slice_get zones number ≡ Some was → wanted_of was.state ≡ Some wanted
     → IsWithin (slice_set (after_closing closing zones) number is) limits)
 
@@ -100,7 +100,7 @@ pub record HoldsNoMore (is was : ZoneState) : Type 0 where
 -- zones within their limits stay so where one of them changes and holds no more than it did
 abbrev pub ReleaseKeepsLimits : Type 0
 ReleaseKeepsLimits =
-    (zones : List ZoneRecord) (limits : Limits) (number : ℕ) (was is : ZoneRecord)
+    (zones : List CountedZone) (limits : Limits) (number : ℕ) (was is : CountedZone)
     → IsWithin zones limits → slice_get zones number ≡ Some was → HoldsNoMore is.state was.state
     → IsWithin (slice_set zones number is) limits
 

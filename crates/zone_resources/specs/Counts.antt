@@ -2,18 +2,18 @@
 use Rattle.std.specs.Prelude.{ℕ, Bool, List, ◌≡◌, ◌+◌, ◌<◌, ◌≤◌, ◌^◌, length, count_by, Some, slice_get, slice_set, if◌then◌else◌}
 use Rattle.zone_resources.specs.declared.counts.Counts.{Counts}
 use Rattle.zone_state.specs.State.{is_open, is_active}
-use Rattle.zone_state.specs.Zone.{ZoneRecord}
+use Rattle.zone_state.specs.Zone.{CountedZone}
 use Rattle.zone_state.specs.declared.state.ZoneState.{ZoneState}
 
 -- how many zones hold an open resource (ZNS 1.1, Zone Resources)
-abbrev pub open_count : List ZoneRecord → ℕ
+abbrev pub open_count : List CountedZone → ℕ
 open_count zones = count_by (λ z. is_open z.state) zones
 
 -- how many zones hold an active resource
-abbrev pub active_count : List ZoneRecord → ℕ
+abbrev pub active_count : List CountedZone → ℕ
 active_count zones = count_by (λ z. is_active z.state) zones
 
-abbrev pub counts_of : List ZoneRecord → Counts
+abbrev pub counts_of : List CountedZone → Counts
 counts_of zones = record { opened = open_count zones; active = active_count zones }
 
 -- what one zone adds to a count that it is in, or is not
@@ -22,9 +22,9 @@ one_if counted = if counted then 1 else 0
 
 -- these are the counts of some zones, and one of the zones is of the state
 pub record CountsOne (counts : Counts) (state : ZoneState) : Type 0 where
-  pub zones : List ZoneRecord
+  pub zones : List CountedZone
   pub number : ℕ
-  pub zone : ZoneRecord
+  pub zone : CountedZone
   pub few : length zones < 2 ^ 64
   pub there : slice_get zones number ≡ Some zone
   pub same_state : zone.state ≡ state
@@ -34,17 +34,17 @@ pub record CountsOne (counts : Counts) (state : ZoneState) : Type 0 where
 -- first state is of the second
 abbrev pub MovesOne : Counts → Counts → ZoneState → ZoneState → Type 0
 MovesOne old new from to =
-    (zones : List ZoneRecord) (number : ℕ) (was is : ZoneRecord)
+    (zones : List CountedZone) (number : ℕ) (was is : CountedZone)
     → old ≡ counts_of zones → slice_get zones number ≡ Some was → was.state ≡ from → is.state ≡ to
     → new ≡ counts_of (slice_set zones number is)
 
 -- where one zone changes, the counts lose what it was and gain what it is
 abbrev pub CountsFollowOne : Type 0
 CountsFollowOne =
-    (zones : List ZoneRecord) (number : ℕ) (was is : ZoneRecord) → slice_get zones number ≡ Some was
+    (zones : List CountedZone) (number : ℕ) (was is : CountedZone) → slice_get zones number ≡ Some was
     → (open_count (slice_set zones number is) + one_if (is_open was.state) ≡ open_count zones + one_if (is_open is.state))
     × (active_count (slice_set zones number is) + one_if (is_active was.state) ≡ active_count zones + one_if (is_active is.state))
 
 -- each open zone is active, and each active zone is a zone
 abbrev pub CountsAreFew : Type 0
-CountsAreFew = (zones : List ZoneRecord) → (open_count zones ≤ active_count zones) × (active_count zones ≤ length zones)
+CountsAreFew = (zones : List CountedZone) → (open_count zones ≤ active_count zones) × (active_count zones ≤ length zones)

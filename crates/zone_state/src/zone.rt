@@ -25,9 +25,9 @@ pub struct Zone {
 pub struct FaultRefused;
 
 impl Model for Zone {
-    ghost use Rattle.zone_state.specs.Zone.{ZoneRecord, IsZone};
+    ghost use Rattle.zone_state.specs.Zone.{CountedZone, IsZone};
 
-    ghost Value = { ZoneRecord };
+    ghost Value = { CountedZone };
 
     ghost view = { λ z. record { state = z.state; written = z.written; capacity = z.capacity } };
 

@@ -3,7 +3,7 @@
 ghost use Rattle.std.specs.Prelude.{◌≡◌, [], None};
 
 use command_files::{FileError, Files};
-use image_store::{DeviceFault, Sink, Source};
+use image_store::{StreamFault, Sink, Source};
 use std::alloc::{AllocError, Global};
 
 #[derive(Drop)]
@@ -124,10 +124,10 @@ impl Source for Reader {
 
     ghost failures = { λ reader. reader.failures };
 
-    fn read(&mut self, to: &mut [u8]) -> Result<usize, DeviceFault> {
+    fn read(&mut self, to: &mut [u8]) -> Result<usize, StreamFault> {
         if self.fails && self.at > 0 {
             self.failures += 1;
-            return Err(DeviceFault);
+            return Err(StreamFault);
         }
         let start = self.at.min(self.bytes.len());
         let rest = &self.bytes.as_slice()[start..];
@@ -157,13 +157,13 @@ impl Sink for Writer {
 
     ghost failures = { λ writer. writer.failures };
 
-    fn write(&mut self, from: &[u8]) -> Result<usize, DeviceFault> {
+    fn write(&mut self, from: &[u8]) -> Result<usize, StreamFault> {
         if from.len() <= self.room && self.bytes.extend_from_slice(from).is_ok() {
             self.room -= from.len();
             return Ok(from.len());
         }
         self.failures += 1;
-        Err(DeviceFault)
+        Err(StreamFault)
     }
 
     fn failures(&self) -> u64 {

@@ -1,6 +1,6 @@
 use Rattle.std.proofs.Common.{◌∙◌}
 use Rattle.std.proofs.lemmas.List.{get_or_default}
-use Rattle.image_store.specs.Flat.{no_record}
+use Rattle.image_store.specs.Flat.{no_counted_zone}
 use Rattle.image_store.specs.Reading.{blocks_in}
 use Rattle.image_store.proofs.SlotsRead.{slot_holds, goes_on, flat_same}
 use Rattle.image_store.proofs.load.fill_slots.Goals as goal
@@ -8,7 +8,7 @@ use Rattle.image_store.proofs.load.fill_slots.Goals as goal
 pub fill_part-requires-clause-inside : goal.fill_part-requires-clause-inside
 fill_part-requires-clause-inside g c =
     let l = c.loop-number in
-    let read = c.index-zones-number.is ∙ get_or_default c.args.zones.now l.number c.index-zones-number.result no_record c.loop-number-test.true in
+    let read = c.index-zones-number.is ∙ get_or_default c.args.zones.now l.number c.index-zones-number.result no_counted_zone c.loop-number-test.true in
     let holds = slot_holds c.args.geometry c.args.zones.now l.blocks l.number l.invariant.flat c.loop-number-test.true in
     rw (c.slot-slot.ensures, c.written.ensures, c.bytes-block.ensures.value, c.block.ensures.value, read) holds
 
@@ -17,7 +17,7 @@ loop-number-preserved g c =
     let l = c.loop-number in
     let s = c.args.geometry in
     let zs = c.args.zones.now in
-    let read = c.index-zones-number.is ∙ get_or_default zs l.number c.index-zones-number.result no_record c.loop-number-test.true in
+    let read = c.index-zones-number.is ∙ get_or_default zs l.number c.index-zones-number.result no_counted_zone c.loop-number-test.true in
     record {
       read = λ told.
           let got = rw (c.slot-slot.ensures, c.written.ensures, c.bytes-block.ensures.value, c.block.ensures.value, read) at c.in_ok-fill_part.ensures.bytes told in

@@ -1,5 +1,5 @@
 use Rattle.image_store.proofs.Faults.{counts_last}
-use Rattle.image_store.proofs.Loads.{header_given, header_no_device}
+use Rattle.image_store.proofs.Loads.{header_given, header_no_stream}
 use Rattle.image_store.proofs.load.read_header.Goals as goal
 
 pub returns-clause-header : goal.returns-clause-header
@@ -8,4 +8,4 @@ returns-clause-header g c =
 
 pub returns-clause-failures : goal.returns-clause-failures
 returns-clause-failures g c =
-    counts_last (g.R.Source.failures c.args.source.now) (g.R.Source.failures c.fill.new.source) c.decode.result (header_no_device c.decode.result c.fill.new.to c.decode.ensures) c.in_ok-fill.ensures.failures
+    counts_last (g.R.Source.failures c.args.source.now) (g.R.Source.failures c.fill.new.source) c.decode.result (header_no_stream c.decode.result c.fill.new.to c.decode.ensures) c.in_ok-fill.ensures.failures

@@ -12,4 +12,4 @@ returns-clause-fit g c =
 
 pub returns-clause-failures : goal.returns-clause-failures
 returns-clause-failures g c =
-    counts_last (g.R.Source.failures c.args.source.now) (g.R.Source.failures c.fill.new.source) c.decode_all.result c.decode_all.ensures.no_device c.in_ok-fill.ensures.failures
+    counts_last (g.R.Source.failures c.args.source.now) (g.R.Source.failures c.fill.new.source) c.decode_all.result c.decode_all.ensures.no_stream c.in_ok-fill.ensures.failures

@@ -1,7 +1,7 @@
 use Rattle.std.proofs.Common.{◌≡◌, take, Ok, Err, ap, sym, ◌∙◌, arith}
 use Rattle.std.proofs.lemmas.Result.{err_from_is_err_and}
 use Rattle.image_store.specs.Reading.{zone_in, zones_in}
-use Rattle.image_store.proofs.Faults.{no_device, zone_text_fault}
+use Rattle.image_store.proofs.Faults.{no_stream, zone_text_fault}
 use Rattle.image_store.proofs.Records.{goes_on, stops, fails_free}
 use Rattle.image_store.proofs.record.decode_all.Goals as goal
 
@@ -27,9 +27,9 @@ loop-zone-preserved c =
       left = omega (arith, c.split_at.ensures.back_len);
     }
 
-pub returns-in_err-decode-clause-no_device : goal.returns-in_err-decode-clause-no_device
-returns-in_err-decode-clause-no_device c =
+pub returns-in_err-decode-clause-no_stream : goal.returns-in_err-decode-clause-no_stream
+returns-in_err-decode-clause-no_stream c =
     let p = err_from_is_err_and c.from_residual-in_err-decode.result c.from_residual-in_err-decode.ensures.1 in
     let fault = c.in_err-decode.field-0.0 in
     let read : zone_in c.loop-zone.zone c.args.capacity c.split_at.result.0.now ≡ Err fault = sym c.in_err-decode.ensures in
-    rw (p.1, p.2) (no_device fault (zone_text_fault c.loop-zone.zone c.args.capacity c.split_at.result.0.now fault read))
+    rw (p.1, p.2) (no_stream fault (zone_text_fault c.loop-zone.zone c.args.capacity c.split_at.result.0.now fault read))

@@ -1,6 +1,6 @@
 use Rattle.std.proofs.Common.{◌++◌, ap, sym, subst, ◌∙◌}
 use Rattle.std.proofs.lemmas.Result.{err_from_is_err_and}
-use Rattle.image_store.specs.Device.{IsBegun}
+use Rattle.image_store.specs.Streams.{IsBegun}
 use Rattle.image_store.specs.Flat.{namespace_of, zones_of}
 use Rattle.image_store.specs.Text.{records_text, blocks_text, text}
 use Rattle.image_store.proofs.Sinks.{begins, goes_on, stops, takes_last}

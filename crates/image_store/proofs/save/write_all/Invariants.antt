@@ -1,5 +1,5 @@
 use Rattle.std.proofs.Common.{◌≡◌, length}
-use Rattle.image_store.specs.Device.{IsBegun}
+use Rattle.image_store.specs.Streams.{IsBegun}
 use Rattle.image_store.proofs.save.write_all.Given as goal
 
 abbrev pub invariant-loop-rest : goal.invariant-loop-rest

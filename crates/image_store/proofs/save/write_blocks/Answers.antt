@@ -1,7 +1,7 @@
 use Rattle.std.proofs.Common.{◌≡◌, ◌+◌, [], drop, subst, ◌∙◌, arith}
 use Rattle.std.proofs.lemmas.List.{drop_all}
 use Rattle.std.proofs.lemmas.Result.{err_from_is_err_and}
-use Rattle.image_store.specs.Device.{IsBegun}
+use Rattle.image_store.specs.Streams.{IsBegun}
 use Rattle.image_store.specs.Flat.{zones_of}
 use Rattle.image_store.specs.Text.{blocks_text}
 use Rattle.image_store.proofs.Sinks.{goes_on, stops, ends}

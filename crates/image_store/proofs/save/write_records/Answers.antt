@@ -1,7 +1,7 @@
 use Rattle.std.proofs.Common.{◌≡◌, ◌+◌, ◌++◌, drop, ap, sym, subst, ◌∙◌}
 use Rattle.std.proofs.lemmas.List.{at_drop_more}
 use Rattle.std.proofs.lemmas.Result.{err_from_is_err_and}
-use Rattle.image_store.specs.Device.{IsBegun}
+use Rattle.image_store.specs.Streams.{IsBegun}
 use Rattle.image_store.specs.Text.{record_text, records_text}
 use Rattle.image_store.proofs.Sinks.{stops}
 use Rattle.image_store.proofs.save.write_records.Goals as goal

@@ -1,5 +1,5 @@
 use Rattle.std.proofs.Common.{◌≡◌, drop}
-use Rattle.image_store.specs.Device.{IsBegun}
+use Rattle.image_store.specs.Streams.{IsBegun}
 use Rattle.image_store.specs.Text.{records_text}
 use Rattle.image_store.proofs.save.write_records.Given as goal
 

@@ -1,5 +1,5 @@
 use Rattle.std.proofs.Common.{refl}
-use Rattle.zone_state.specs.Zone.{ZoneRecord}
+use Rattle.zone_state.specs.Zone.{CountedZone}
 use Rattle.image_store.proofs.Limited.{idle_within}
 use Rattle.image_store.proofs.States.{cleared_set, flat_set}
 use Rattle.image_store.proofs.slots.clear.Goals as goal
@@ -13,7 +13,7 @@ pub returns-clause-image : goal.returns-clause-image
 returns-clause-image c =
     let is = rw c.unwrap-is.ensures at c.new.ensures.value in
     let was = c.requires.image in
-    let r : ZoneRecord = record { state = c.args.to; written = 0; capacity = c.args.geometry.capacity } in
+    let r : CountedZone = record { state = c.args.to; written = 0; capacity = c.args.geometry.capacity } in
     let flat = flat_set c.args.geometry c.args.zones.now c.args.blocks.now c.args.blocks.now c.args.zone r was.flat refl refl c.requires.fits in
     record {
       flat = rw (c.replace.ensures.zones, is, c.capacity.ensures) flat;

@@ -2,13 +2,13 @@ use Rattle.std.proofs.Common.{◌≡◌, ℕ, ◌/◌, ◌<◌, ◌≤◌, Bool,
 use Rattle.std.proofs.lemmas.List.{map-set}
 use Rattle.std.proofs.lemmas.Option.{slice_get-get_or}
 use Rattle.zone_state.specs.State.{is_open, is_active}
-use Rattle.zone_state.specs.Zone.{ZoneRecord, refusal}
+use Rattle.zone_state.specs.Zone.{CountedZone, refusal}
 use Rattle.zone_resources.specs.Admission.{IsWithin}
 use Rattle.zone_resources.specs.Counts.{open_count, active_count, one_if}
 use Rattle.zone_resources.specs.declared.admission.Limits.{Limits}
 use Rattle.zone_resources.specs.declared.counts.Counts.{Counts}
 use Rattle.zone_resources.proofs.Proved.{counts_follow_one}
-use Rattle.image_store.specs.Flat.{no_record}
+use Rattle.image_store.specs.Flat.{no_counted_zone}
 use Rattle.image_store.specs.Geometry.{Shape}
 use Rattle.image_store.specs.Namespace.{counted, records, zone_at}
 use Rattle.image_store.proofs.tests.an_appended_block_is_saved.Goals as goal
@@ -18,11 +18,11 @@ most_one true = omega arith
 most_one false = omega arith
 
 -- where one more zone may be open and active, any one may change
-one_more : (zs : List ZoneRecord) (limits : Limits) (z : ℕ) (is : ZoneRecord)
+one_more : (zs : List CountedZone) (limits : Limits) (z : ℕ) (is : CountedZone)
     → z < length zs → open_count zs < limits.open_limit → active_count zs < limits.active_limit → IsWithin (set zs z is) limits
 one_more zs limits z is inside opened active =
-    let was = get_or zs z no_record in
-    let follow = counts_follow_one zs z was is (slice_get-get_or zs z no_record inside) in
+    let was = get_or zs z no_counted_zone in
+    let follow = counts_follow_one zs z was is (slice_get-get_or zs z no_counted_zone inside) in
     record {
       opened = omega (arith, follow.0, most_one (is_open is.state));
       active = omega (arith, follow.1, most_one (is_active is.state));
@@ -44,6 +44,6 @@ append-requires-clause-allowed g c =
     let image = c.in_ok-image.image in
     let z = counted image.capacity (zone_at image 1) in
     let block : image.block ≡ 512 = omega (arith, ap (λ (s : Shape). s.block) c.geometry-2.ensures.value, c.block.ensures.value, c.bytes.ensures.value) in
-    let none : length (zone_at image 1).blocks ≡ 0 = omega (arith, ap (λ (x : ZoneRecord). x.written) c.zone.ensures, c.written.ensures) in
+    let none : length (zone_at image 1).blocks ≡ 0 = omega (arith, ap (λ (x : CountedZone). x.written) c.zone.ensures, c.written.ensures) in
     let told : refusal z 0 1 ≡ Ok tt = rw c.zone-2.ensures at (sym c.in-Ok.ensures) in
     subst (λ (n : ℕ). refusal z n (512 / image.block) ≡ Ok tt) (sym none) (subst (λ (b : ℕ). refusal z 0 (512 / b) ≡ Ok tt) (sym block) told)

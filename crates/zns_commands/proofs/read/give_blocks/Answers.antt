@@ -1,5 +1,5 @@
 use Rattle.std.proofs.Common.{◌≡◌, ◌+◌, ◌-◌, ◌*◌, min, ℕ, length, drop, ap, refl, ◌∙◌, arith}
-use Rattle.zone_state.specs.Zone.{ZoneRecord}
+use Rattle.zone_state.specs.Zone.{CountedZone}
 use Rattle.image_store.specs.Geometry.{Shape}
 use Rattle.image_store.specs.Namespace.{zone_at}
 use Rattle.zns_commands.proofs.ReadBytes.{read_bytes, parts, given_front, given_rest}
@@ -19,7 +19,7 @@ returns-clause-front c =
     let size : length bytes + zeros ≡ c.get-3.result * c.bytes-block.result =
     rw (c.get-2.ensures.value, c.get-3.ensures.value, block, c.blocks-2.ensures.size) (parts c.args.blocks c.min-stored.result c.args.image.now.block (omega arith)) in
     let blocks = (zone_at c.args.image.now c.args.place.zone).blocks in
-    let written : c.written-written.result ≡ length blocks = c.written-written.ensures ∙ ap (λ (r : ZoneRecord). r.written) c.zone.ensures in
+    let written : c.written-written.result ≡ length blocks = c.written-written.ensures ∙ ap (λ (r : CountedZone). r.written) c.zone.ensures in
     given_front c.give.new.output bytes (drop (length bytes + zeros) c.args.output.now) zeros _ c.give.ensures size
     ∙ rw (c.get-2.ensures.value, block, c.blocks-2.ensures.value)
     (read_bytes c.args.image.now.block blocks c.args.place.offset c.args.blocks c.min-first.result c.min-stored.result

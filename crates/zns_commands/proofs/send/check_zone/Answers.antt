@@ -1,6 +1,6 @@
 use Rattle.std.proofs.Common.{◌≡◌, ℕ, false, Ok, ap, sym, ◌∙◌}
 use Rattle.zone_state.specs.Transition.{transition}
-use Rattle.zone_state.specs.Zone.{ZoneRecord}
+use Rattle.zone_state.specs.Zone.{CountedZone}
 use Rattle.zone_state.specs.declared.state.ZoneState.{ZoneState}
 use Rattle.zone_resources.specs.Holds.{refuses}
 use Rattle.nvme_entry.specs.Checks.{first_refused}
@@ -23,7 +23,7 @@ returns-clause-value c =
     let zone = c.in_ok-zone.zone in
     let same : zone ≡ z = allowed_ok (first_refused (lowest_checks ns lba)) z zone c.in_ok-zone.ensures.value in
     let free : refuses holds a z ≡ false = ap (λ (n : ℕ). refuses holds a n) (sym same) ∙ (sym c.refuses.ensures ∙ c.if-refuses.false) in
-    let state : c.zone.result.state ≡ from = ap (λ (r : ZoneRecord). r.state) c.zone.ensures ∙ ap (λ (n : ℕ). (zone_at ns n).state) same in
+    let state : c.zone.result.state ≡ from = ap (λ (r : CountedZone). r.state) c.zone.ensures ∙ ap (λ (n : ℕ). (zone_at ns n).state) same in
     zone_checked (address_check ns lba) (lowest_check ns lba) (refuses holds a z) (transition a from) (room_of ns holds a from) from z
     zone c.in_ok-to.to c.in_ok-closing.closing c.in_ok-zone.ensures.value free
     (c.in_ok-to.ensures.state ∙ ap (λ (s : ZoneState). transition a s) state)

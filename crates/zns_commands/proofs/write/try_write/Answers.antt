@@ -1,7 +1,7 @@
 use Rattle.std.proofs.Common.{ap, ◌∙◌}
 use Rattle.nvme_entry.specs.Checks.{first_refused}
-use Rattle.image_store.specs.declared.geometry.Place.{Place}
-use Rattle.zns_commands.specs.Address.{range_checks, place_in}
+use Rattle.image_store.specs.declared.geometry.ZoneBlock.{ZoneBlock}
+use Rattle.zns_commands.specs.Address.{range_checks, zone_block_in}
 use Rattle.zns_commands.specs.Write.{zone_write_checks, write_plan, written}
 use Rattle.zns_commands.specs.declared.write.WritePlan.{WritePlan}
 use Rattle.zns_commands.proofs.Rooms.{allowed_ok}
@@ -10,7 +10,7 @@ use Rattle.zns_commands.proofs.write.try_write.Goals as goal
 pub returns-clause-ok : goal.returns-clause-ok
 returns-clause-ok c =
     let ns = c.args.image.now in
-    let place = allowed_ok (first_refused (range_checks ns c.args.lba c.args.blocks)) (place_in ns c.args.lba) c.in_ok-place.place c.in_ok-place.ensures.value in
+    let place = allowed_ok (first_refused (range_checks ns c.args.lba c.args.blocks)) (zone_block_in ns c.args.lba) c.in_ok-place.place c.in_ok-place.ensures.value in
     let plan = allowed_ok (first_refused (zone_write_checks ns c.args.holds.now c.in_ok-place.place.zone c.in_ok-place.place.offset c.args.blocks)) (write_plan ns c.args.holds.now c.in_ok-place.place.zone) c.in_ok-plan.plan c.in_ok-plan.ensures.value in
     c.put.ensures
-    ∙ ap (λ (p : WritePlan). written ns p c.args.input.now) (plan ∙ ap (λ (p : Place). write_plan ns c.args.holds.now p.zone) place)
+    ∙ ap (λ (p : WritePlan). written ns p c.args.input.now) (plan ∙ ap (λ (p : ZoneBlock). write_plan ns c.args.holds.now p.zone) place)

@@ -1,14 +1,14 @@
-//! The devices that an image is read from and written to. Each counts its failures.
+//! The streams that an image is read from and written to. Each counts its failures.
 
 ghost use Rattle.std.specs.Prelude.{◌≡◌, ℕ, List, ◌++◌, ◌^◌, ◌<◌, ◌≤◌, ◌-◌, length, take, IfOk, OnOk, OnErr};
-ghost use Rattle.image_store.specs.Device.{IsRead};
+ghost use Rattle.image_store.specs.Streams.{IsRead};
 
 use thiserror::Error;
 
-/// A call of a device failed.
+/// A call of a stream failed.
 #[derive(Clone, Copy, Debug, PartialEq, Eq, Error)]
-#[error("the device failed")]
-pub struct DeviceFault;
+#[error("the stream failed")]
+pub struct StreamFault;
 
 /// What bytes come from, in pieces of any size.
 pub trait Source {
@@ -27,8 +27,8 @@ pub trait Source {
     ///
     /// # Errors
     ///
-    /// [`DeviceFault`] where the device fails, which is counted. No byte is lost by it.
-    fn read(&mut self, to: &mut [u8]) -> Result<usize, DeviceFault>
+    /// [`StreamFault`] where the stream fails, which is counted. No byte is lost by it.
+    fn read(&mut self, to: &mut [u8]) -> Result<usize, StreamFault>
         requires { failures self.old < 2 ^ 64 - 1 }
         ensures bound { IfOk result (λ n. n ≤ length to.new) }
         ensures read { tells → IfOk result (IsRead (rest self.old) (rest self.new) to.new) }
@@ -58,8 +58,8 @@ pub trait Sink {
     ///
     /// # Errors
     ///
-    /// [`DeviceFault`] where the device fails, which is counted. No byte is taken then.
-    fn write(&mut self, from: &[u8]) -> Result<usize, DeviceFault>
+    /// [`StreamFault`] where the stream fails, which is counted. No byte is taken then.
+    fn write(&mut self, from: &[u8]) -> Result<usize, StreamFault>
         requires { failures self.old < 2 ^ 64 - 1 }
         ensures bound { IfOk result (λ n. n ≤ length from.now) }
         ensures some { IfOk result (λ n. 1 ≤ length from.now → 1 ≤ n) }

@@ -23,7 +23,7 @@ abbrev pub Takes : {E : Type 0} → List ℕ → List ℕ → List ℕ → Resul
 Takes before after text (Ok done) = after ≡ before ++ text
 Takes before after text (Err fault) = (rest : List ℕ) × IsBegun before after text rest
 
--- the count of failures stays, and grows where the device failed
+-- the count of failures stays, and grows where the stream failed
 abbrev pub CountsFailure : {X E : Type 0} → ℕ → ℕ → Result X E → Type 0
 CountsFailure before after (Ok x) = after ≡ before
 CountsFailure before after (Err fault) = before < after
