@@ -1,7 +1,7 @@
 //! The command `explain`: what `exec` printed, in words.
 
 ghost use Rattle.std.specs.Prelude.{◌≡◌};
-ghost use Rattle.command_explain.specs.Told.{told_of_replies};
+ghost use Rattle.command_explain.specs.UserTold.{told_of_replies};
 
 use crate::completion_words::{Answered, tell_completion};
 use crate::waiting::Waiting;

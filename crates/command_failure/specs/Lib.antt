@@ -1,2 +1,2 @@
 pub mod Failure
-pub mod Told
+pub mod UserTold

@@ -4,7 +4,7 @@ ghost use Rattle.std.specs.Prelude.{◌≡◌, ◌≢◌, OnOk, OnErr};
 ghost use Rattle.std.specs.IoError.{error_kind};
 ghost use Rattle.command_failure.specs.Failure.{status_of};
 ghost use Rattle.command_failure.specs.declared.failure.Failure.TheVariants.{NoMemory};
-ghost use Rattle.command_failure.specs.Told.{told_of_command_line, told_of_commands, told_of_words};
+ghost use Rattle.command_failure.specs.UserTold.{told_of_command_line, told_of_commands, told_of_words};
 
 use crate::data_fault::DataFault;
 use ebpf_asm::AssemblyRefusal;

@@ -3,7 +3,7 @@
 ghost use Rattle.std.specs.Prelude.{◌≡◌, ℕ, List, [], ◌∷◌, IfOk, IfSome, OnOk, OnErr, Option, None};
 ghost use Rattle.std.specs.IoError.{error_kind};
 ghost use Rattle.command_files.specs.Made.{Made, then_made};
-ghost use Rattle.command_files.specs.Told.{told_of_file};
+ghost use Rattle.command_files.specs.UserTold.{told_of_file};
 ghost use Rattle.command_files.specs.declared.files.FileError.TheVariants.{OutOfMemory};
 
 use image_store::{Sink, Source};

@@ -3,7 +3,7 @@
 ghost use Rattle.std.specs.Prelude.{◌≡◌, OnOk, OnErr};
 ghost use Rattle.command_files.specs.Made.{MakesOne};
 ghost use Rattle.image_store.specs.Geometry.{shape_of};
-ghost use Rattle.command_images.specs.Told.{told_of_geometry};
+ghost use Rattle.command_images.specs.UserTold.{told_of_geometry};
 
 use crate::image_file;
 use clap::{Arg, ArgMatches, Command};

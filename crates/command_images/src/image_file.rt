@@ -4,7 +4,7 @@ ghost use Rattle.std.specs.Prelude.{◌≡◌, ◌≢◌, IfOk, IfErr, IfSome, O
 ghost use Rattle.image_store.specs.Reading.{namespace_in};
 ghost use Rattle.image_store.specs.Text.{text};
 ghost use Rattle.command_files.specs.Made.{MakesOne, then_made};
-ghost use Rattle.command_images.specs.Told.{RefusesImage, told_of_image};
+ghost use Rattle.command_images.specs.UserTold.{RefusesImage, told_of_image};
 
 use command_failure::Failure;
 use command_files::{Files, cannot_read, cannot_write};

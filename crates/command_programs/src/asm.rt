@@ -4,7 +4,7 @@ ghost use Rattle.std.specs.Prelude.{◌≡◌, OnOk, OnErr};
 ghost use Rattle.ebpf_asm.specs.Assembly.{assembled};
 ghost use Rattle.command_files.specs.Made.{MakesOne};
 ghost use Rattle.command_programs.specs.Made.{MakesProgram};
-ghost use Rattle.command_programs.specs.Told.{IsToldOfAssembly};
+ghost use Rattle.command_programs.specs.UserTold.{IsToldOfAssembly};
 
 use clap::{Arg, ArgMatches, Command};
 use command_failure::Failure;

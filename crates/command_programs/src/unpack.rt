@@ -1,7 +1,7 @@
 //! The command `unpack`: the records of output blocks.
 
 ghost use Rattle.std.specs.Prelude.{◌≡◌};
-ghost use Rattle.command_programs.specs.Told.{IsToldOfFrame};
+ghost use Rattle.command_programs.specs.UserTold.{IsToldOfFrame};
 
 use crate::sizes::block_size;
 use clap::{Arg, ArgMatches, Command};

@@ -6,14 +6,14 @@ mod blocks_needed;
 mod fault;
 pub mod laws;
 mod packer;
-mod reader;
 mod refusal;
 #[cfg(test)]
 mod tests;
+mod unpacking;
 
 pub use blocks_needed::need;
 pub use fault::UnpackFault;
 pub use packer::{Full, Packer};
 pub use program_interface::{BlockSize, RunSizes};
-pub use reader::unpack;
+pub use unpacking::unpack;
 pub use refusal::FrameRefusal;

@@ -22,7 +22,7 @@ use Rattle.image_store.specs.Loading.{Fails, CountsFault, CountsLoad, IsNoStream
 use Rattle.image_store.specs.Reading.{◌>>=◌, are_zeros, number_at, numbers_fault, numbers_in, shape_told, version_in, version_kept, zeros_kept, total_told, header_of, header_told, allows, zone_told, zone_in, total_kept, limits_kept}
 use Rattle.image_store.specs.Text.{written_blocks}
 use Rattle.image_store.specs.Version.{has_block, numbers}
-use Rattle.image_store.proofs.Answered.{bind_err}
+use Rattle.image_store.proofs.ReadingCalls.{bind_err}
 
 abbrev pub IsOfText : LoadFault → Type 0
 IsOfText Stream = ⊥

@@ -15,7 +15,7 @@ use Rattle.image_store.specs.Checks.{demand, first_fault, unless_fault}
 use Rattle.image_store.specs.Geometry.{Shape, IsShape, shape_checks}
 use Rattle.image_store.specs.Reading.{◌>>=◌, are_zeros, numbers_fault, numbers_in, shape_told, version_in, version_checks, version_kept, zeros_kept, total_told, header_of, header_told}
 use Rattle.image_store.specs.Version.{Has, has_block, numbers}
-use Rattle.image_store.proofs.Answered.{bind_ok, ok_is, chosen}
+use Rattle.image_store.proofs.ReadingCalls.{bind_ok, ok_is, chosen}
 use Rattle.image_store.proofs.Shapes.{both, none_fails, shape_is}
 
 -- do bytes begin with a version's magic?

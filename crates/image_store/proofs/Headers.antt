@@ -16,7 +16,7 @@ use Rattle.image_store.specs.Geometry.{Shape, IsShape, shape_of, shape_checks}
 use Rattle.image_store.specs.Reading.{◌>>=◌, numbers_fault, numbers_in, shape_told, version_kept, zeros_kept, total_told, header_of, header_told, header_in}
 use Rattle.image_store.specs.Text.{word, numbers_of, header_end, header}
 use Rattle.image_store.specs.Version.{Has, numbers}
-use Rattle.image_store.proofs.Fills.{Split, bytes_whole}
+use Rattle.image_store.proofs.FilledBuffers.{Split, bytes_whole}
 use Rattle.image_store.proofs.Shapes.{none_fails, shape_passes}
 
 pub word_again : (n : ℕ) (rest : List ℕ) → n < 2 ^ 32 → little_number 4 (word n ++ rest) ≡ n

@@ -1,13 +1,13 @@
 -- The laws of this crate, proved: what the proofs of other crates cite of it.
 use Rattle.image_store.specs.BlockLaws.{AllowedIsWithin, BlockIsAPart, BlocksAreBytes, BlocksAreCounted, BlocksKeepBytes, BlocksLieInZones, WritesKeepZones, WrittenIsWithin}
 use Rattle.image_store.specs.Laws.{LoadedIsNamespace, SavedTextsLoad}
-use Rattle.image_store.proofs.Again.{saved_again}
+use Rattle.image_store.proofs.TextsReadBack.{saved_again}
 use Rattle.image_store.proofs.ByteParts.{blocks_fit}
-use Rattle.image_store.proofs.Images.{allowed_fits, within_capacity}
-use Rattle.image_store.proofs.Loaded as loaded
-use Rattle.image_store.proofs.Pieces.{bytes-blocks, length-blocks}
-use Rattle.image_store.proofs.Sound.{block-at, zone_with_blocks}
-use Rattle.image_store.proofs.States.{after_write_zone}
+use Rattle.image_store.proofs.ImageFields.{allowed_fits, within_capacity}
+use Rattle.image_store.proofs.LoadedNamespaces as loaded
+use Rattle.image_store.proofs.BlocksOfBytes.{bytes-blocks, length-blocks}
+use Rattle.image_store.proofs.SoundImages.{block-at, zone_with_blocks}
+use Rattle.image_store.proofs.ReplacedZones.{after_write_zone}
 
 pub saved_texts_load : SavedTextsLoad
 saved_texts_load = saved_again

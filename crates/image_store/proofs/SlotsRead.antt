@@ -9,10 +9,10 @@ use Rattle.image_store.specs.Geometry.{Shape}
 use Rattle.image_store.specs.Loading.{Fails, spliced_in}
 use Rattle.image_store.specs.Namespace.{ZoneBlocks}
 use Rattle.image_store.specs.Reading.{◌>>=◌, bytes_in, blocks_in}
-use Rattle.image_store.proofs.Answered.{fails_then, fails_before, bind_ok, ok_is}
-use Rattle.image_store.proofs.Fills.{Split, bytes_size}
-use Rattle.image_store.proofs.Images.{within, slot_end}
-use Rattle.image_store.proofs.Pieces.{blocks-same, take-spliced, drop-spliced}
+use Rattle.image_store.proofs.ReadingCalls.{fails_then, fails_before, bind_ok, ok_is}
+use Rattle.image_store.proofs.FilledBuffers.{Split, bytes_size}
+use Rattle.image_store.proofs.ImageFields.{within, slot_end}
+use Rattle.image_store.proofs.BlocksOfBytes.{blocks-same, take-spliced, drop-spliced}
 
 abbrev pub Zones : Type 0
 Zones = List ZoneBlocks × List ℕ

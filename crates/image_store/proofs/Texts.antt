@@ -8,9 +8,9 @@ use Rattle.image_store.specs.Flat.{namespace_of, zones_of, no_counted_zone, IsFl
 use Rattle.image_store.specs.Geometry.{Shape}
 use Rattle.image_store.specs.Namespace.{ZoneBlocks, no_zone, zone_at, shape}
 use Rattle.image_store.specs.Text.{header, written_blocks, records_text, blocks_text, text}
-use Rattle.image_store.proofs.Pieces.{length-blocks}
-use Rattle.image_store.proofs.Zones.{length-zones, zone-at}
-use Rattle.image_store.proofs.Images.{counted_zones, shape_seen}
+use Rattle.image_store.proofs.BlocksOfBytes.{length-blocks}
+use Rattle.image_store.proofs.ZonesInSlots.{length-zones, zone-at}
+use Rattle.image_store.proofs.ImageFields.{counted_zones, shape_seen}
 
 -- the text of the namespace, by the fields
 abbrev pub fields_text : Shape → List CountedZone → List ℕ → List ℕ

@@ -5,9 +5,9 @@ use Rattle.image_store.specs.Laws.{UpgradedStandsForTheSame, UpgradingTwiceIsOnc
 use Rattle.image_store.specs.Namespace.{ZonedNamespace}
 use Rattle.image_store.specs.Reading.{◌>>=◌, namespace_in}
 use Rattle.image_store.specs.Text.{text}
-use Rattle.image_store.proofs.Again.{saved_again}
-use Rattle.image_store.proofs.Answered.{bind_ok, ok_is}
-use Rattle.image_store.proofs.Loaded.{loaded_is_namespace}
+use Rattle.image_store.proofs.TextsReadBack.{saved_again}
+use Rattle.image_store.proofs.ReadingCalls.{bind_ok, ok_is}
+use Rattle.image_store.proofs.LoadedNamespaces.{loaded_is_namespace}
 
 pub upgraded_is_same : UpgradedStandsForTheSame
 upgraded_is_same bytes ns fit e = saved_again ns (loaded_is_namespace bytes ns fit e)

@@ -15,7 +15,7 @@ use crate::bytes::are_bytes;
 use crate::streams::{Sink, Source};
 use crate::fault::{LoadFault, SaveFault};
 use crate::geometry::Geometry;
-use crate::{load, save, slots};
+use crate::{load, save, image_fields};
 use std::alloc::{AllocError, Global};
 use std::marker::Model;
 use zone_resources::Counts;
@@ -47,7 +47,7 @@ impl Image {
     pub fn empty(alloc: Global, geometry: Geometry) -> Result<Image, AllocError>
         ensures { IfOk result (λ image. image ≡ all_empty geometry) }
     {
-        let zone = slots::empty_zone(geometry.capacity());
+        let zone = image_fields::empty_zone(geometry.capacity());
         let zones = vec![in alloc; zone; geometry.zones() as usize]?;
         let counts = Counts::of(&zones);
         Ok(Image {
@@ -134,7 +134,7 @@ impl Image {
         ensures value { result.now ≡ bytes_of (take count (drop first (zone_at self.now zone).blocks)) }
         ensures size { length result.now ≡ count * self.now.block }
     {
-        slots::blocks(
+        image_fields::blocks(
             self.geometry,
             &self.zones,
             &self.blocks,
@@ -162,7 +162,7 @@ impl Image {
         requires allowed { IsWithinLimits (in_zone_state self.old zone to) }
         ensures { self.new ≡ in_zone_state self.old zone to }
     {
-        slots::set_state(
+        image_fields::set_state(
             self.geometry,
             &mut self.zones,
             &mut self.counts,
@@ -177,7 +177,7 @@ impl Image {
         requires { zone < length self.old.zones }
         ensures { self.new ≡ cleared self.old zone ZoneState.Empty }
     {
-        slots::clear(
+        image_fields::clear(
             self.geometry,
             &mut self.zones,
             &mut self.counts,
@@ -192,7 +192,7 @@ impl Image {
         requires { zone < length self.old.zones }
         ensures { self.new ≡ cleared self.old zone ZoneState.Offline }
     {
-        slots::clear(
+        image_fields::clear(
             self.geometry,
             &mut self.zones,
             &mut self.counts,
@@ -212,7 +212,7 @@ impl Image {
         requires limits { IsWithinLimits (appended self.old zone bytes.now) }
         ensures { self.new ≡ appended self.old zone bytes.now }
     {
-        slots::append(
+        image_fields::append(
             self.geometry,
             &mut self.zones,
             &mut self.counts,

@@ -8,7 +8,7 @@ ghost use Rattle.image_store.specs.Text.{text, records_text, blocks_text};
 use crate::streams::Sink;
 use crate::fault::SaveFault;
 use crate::geometry::Geometry;
-use crate::{header, record, slots};
+use crate::{header, record, image_fields};
 use zone_state::Zone;
 
 /// Hands the text of an image to a sink.
@@ -57,7 +57,7 @@ fn write_blocks<W: Sink>(
         let written = zone.written() as usize;
         write_all(
             sink,
-            slots::blocks(geometry, zones, blocks, number, 0, written),
+            image_fields::blocks(geometry, zones, blocks, number, 0, written),
         )?;
     }
     Ok(())

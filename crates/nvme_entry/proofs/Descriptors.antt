@@ -10,7 +10,7 @@ use Rattle.zone_state.specs.declared.state.ZoneState.TheVariants.{Empty, Implici
 use Rattle.nvme_entry.specs.Report.{descriptor, has_write_pointer}
 use Rattle.nvme_entry.specs.declared.descriptor.ZoneDescriptor.{ZoneDescriptor}
 use Rattle.nvme_entry.specs.Descriptor.{described, descriptor_bytes, descriptor_in, first_word, word_in}
-use Rattle.nvme_entry.proofs.Told.{false_is_not_true, some_is_one}
+use Rattle.nvme_entry.proofs.CompletionFields.{false_is_not_true, some_is_one}
 
 again : (n : ℕ) (rest : List ℕ) → n < 2 ^ 64 → little_number 8 (little_bytes 8 n ++ rest) ≡ n
 again n rest h = little_number-reads_back 8 n rest (omega arith)

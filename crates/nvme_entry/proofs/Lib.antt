@@ -4,6 +4,6 @@ mod Encodings
 mod Descriptors
 mod Listings
 mod Reports
-mod Told
+mod CompletionFields
 mod Writes
 pub mod Proved

@@ -1,10 +1,10 @@
 -- The laws of this crate, proved: all that the proofs of other crates cite of it.
 use Rattle.nvme_entry.specs.CheckLaws.{DemandedHolds, EachCheckPasses}
 use Rattle.nvme_entry.specs.Laws.{GivesWhatMatches, ListsEveryZone}
-use Rattle.nvme_entry.specs.Told.{CompletionsTell}
+use Rattle.nvme_entry.specs.CompletionFields.{CompletionsTell}
 use Rattle.nvme_entry.proofs.Checked as checked
 use Rattle.nvme_entry.proofs.Reports as reports
-use Rattle.nvme_entry.proofs.Told as told
+use Rattle.nvme_entry.proofs.CompletionFields as told
 
 pub passed : EachCheckPasses
 passed = checked.passed

@@ -8,4 +8,4 @@ pub mod Filter
 pub mod Laws
 pub mod ProgramSlot
 pub mod Report
-pub mod Told
+pub mod CompletionFields

@@ -2,7 +2,7 @@
 
 ghost use Rattle.std.specs.Prelude.{◌≡◌, ◌<◌, ◌/◌, ◌%◌, ◌^◌, IfSome};
 ghost use Rattle.nvme_entry.specs.Completion.{completion_bytes, status_dword};
-ghost use Rattle.nvme_entry.specs.Told.{AreFields, completion_in, dword_in};
+ghost use Rattle.nvme_entry.specs.CompletionFields.{AreFields, completion_in, dword_in};
 
 use byteorder::{ByteOrder, LittleEndian};
 use zone_state::{Status, StatusType};

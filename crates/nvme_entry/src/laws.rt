@@ -3,7 +3,7 @@
 
 ghost use Rattle.nvme_entry.specs.CheckLaws.{DemandedHolds, EachCheckPasses};
 ghost use Rattle.nvme_entry.specs.Laws.{GivesWhatMatches, ListsEveryZone};
-ghost use Rattle.nvme_entry.specs.Told.{CompletionsTell};
+ghost use Rattle.nvme_entry.specs.CompletionFields.{CompletionsTell};
 
 /// A completion's 16 bytes give back its dwords, its queue and its command's identifier, and the code and the
 /// type of its status.

@@ -11,7 +11,7 @@ use Rattle.emit_append.specs.OutputBlocks.{AreBytes as AllAreBytes}
 use Rattle.image_store.specs.Blocks.{AreBytes, as_blocks, block_count, blocks_of, bytes_of}
 use Rattle.image_store.specs.Geometry.{Shape}
 use Rattle.image_store.specs.Namespace.{ZoneBlocks, ZonedNamespace, appended, grown, no_zone, shape, with_zone, zone_at}
-use Rattle.zns_commands.specs.Kept.{Grows}
+use Rattle.zns_commands.specs.Left.{Grows}
 use Rattle.zns_commands.proofs.Proved.{grows_by_none, replaced_grows}
 use Rattle.pushdown.specs.Machine.{added}
 use Rattle.pushdown.proofs.Bytes.{AreBlocks, all_append, by_index, from_index}

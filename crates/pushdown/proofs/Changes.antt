@@ -9,7 +9,7 @@ use Rattle.nvme_entry.specs.declared.command.LoadCommand.{LoadCommand}
 use Rattle.nvme_entry.specs.declared.command.RunCommand.{RunCommand}
 use Rattle.reg_domain.specs.Domain.{Operations}
 use Rattle.image_store.specs.Blocks.{AreBytes}
-use Rattle.zns_commands.specs.Kept as kept
+use Rattle.zns_commands.specs.Left as kept
 use Rattle.zns_commands.specs.Laws.{Commanded, Failed, IsSpelled, Step, after}
 use Rattle.zns_commands.specs.Transfer.{transfer_checks}
 use Rattle.pushdown.specs.Admission.{Loaded}

@@ -10,8 +10,8 @@ use Rattle.pushdown.specs.Machine.{added, keeping, place_left, slots_left, take_
 use Rattle.pushdown.specs.Outcome.{Ending, Turn}
 use Rattle.pushdown.specs.State.{Place, State, place_at, program_at}
 use Rattle.pushdown.proofs.Changes.{after_turn}
-use Rattle.pushdown.proofs.Foreign.{turned_leaves}
-use Rattle.pushdown.proofs.Needed.{left_program, same_program}
+use Rattle.pushdown.proofs.OthersEvents.{turned_leaves}
+use Rattle.pushdown.proofs.KeptForRuns.{left_program, same_program}
 use Rattle.pushdown.proofs.Places.{AreApart, turned_apart, turned_older}
 
 -- ---- two elements of a list are changed

@@ -11,7 +11,7 @@ use Rattle.pushdown.specs.Laws.{DrainingEnds}
 use Rattle.pushdown.specs.Machine.{place_left, turned}
 use Rattle.pushdown.specs.Outcome.{Ending, Turn}
 use Rattle.pushdown.specs.State.{Place, State, new_state, place_at}
-use Rattle.pushdown.proofs.Foreign.{turned_is}
+use Rattle.pushdown.proofs.OthersEvents.{turned_is}
 use Rattle.pushdown.proofs.States.{AreTurns, IsFine, PlaceIsFine, place_fine, reached, turn_fine}
 
 less_left : (place : Place) (later : List Turn) (ending : Option Ending) → turns_left_at (place_left place later ending) ≤ length later

@@ -20,7 +20,7 @@ use Rattle.pushdown.specs.Outcome.{Ending, Turn}
 use Rattle.pushdown.specs.State.{Place, State, destination_of, free_run, holds_of, new_state, place_at, program_at}
 use Rattle.device_events.specs.declared.event.Event.{Event}
 use Rattle.pushdown.proofs.Changes.{after_event, after_turn}
-use Rattle.pushdown.proofs.Foreign.{free_within, there}
+use Rattle.pushdown.proofs.OthersEvents.{free_within, there}
 
 pub record AreApart (places : List (Option Place)) : Type 0 where
   pub apart : (j k : ℕ) (p q : Place) → get_or places j None ≡ Some p → get_or places k None ≡ Some q

@@ -31,7 +31,7 @@ use Rattle.emit_append.proofs.Proved.{need_grows, need_is_enough}
 use Rattle.image_store.specs.Blocks.{AreBytes}
 use Rattle.image_store.specs.Geometry.{Shape}
 use Rattle.image_store.specs.Namespace.{ZonedNamespace, IsNamespace, zone_at}
-use Rattle.zns_commands.specs.Kept as kept
+use Rattle.zns_commands.specs.Left as kept
 use Rattle.zns_commands.specs.Laws.{IsSpelled, Step, after}
 use Rattle.zns_commands.proofs.Proved.{destinations_are_left, steps_keep_namespaces, steps_keep_shapes}
 use Rattle.nvme_entry.proofs.Proved.{demanded, passed}
@@ -49,12 +49,12 @@ use Rattle.pushdown.proofs.Added.{added_block}
 use Rattle.pushdown.proofs.BlockRuns.{IsDone, IsReady, few_runs, runs_done, some_runs}
 use Rattle.pushdown.proofs.Bytes.{AreBlocks, IsBlock, all_at, all_drop, all_from, all_same, all_set, all_take, blocks_by_place}
 use Rattle.pushdown.proofs.Changes.{after_event, after_turn}
-use Rattle.pushdown.proofs.Foreign.{free_within}
+use Rattle.pushdown.proofs.OthersEvents.{free_within}
 use Rattle.pushdown.proofs.Loads.{TakesSlot}
 use Rattle.pushdown.proofs.Outcomes.{HasWhole, ends_with_last, no_groups, outcome_is_packed, turns_whole}
 use Rattle.pushdown.proofs.Places.{AreApart, held_at, left_apart, new_apart, new_none, started_apart}
-use Rattle.pushdown.proofs.Room.{turn_appended, turn_sound}
-use Rattle.pushdown.proofs.Rooms.{Rooms, kept_rooms, now_room, turn_rooms}
+use Rattle.pushdown.proofs.TurnsFit.{turn_appended, turn_sound}
+use Rattle.pushdown.proofs.RunsFit.{Rooms, kept_rooms, now_room, turn_rooms}
 use Rattle.pushdown.proofs.Spelled.{just_one}
 
 -- ---- the source

@@ -14,7 +14,7 @@ use Rattle.emit_append.specs.Packing.{packed, pending_of, released}
 use Rattle.image_store.specs.Blocks.{bytes_of}
 use Rattle.image_store.specs.Namespace.{ZoneBlocks, ZonedNamespace, zone_at, shape, IsNamespace}
 use Rattle.zns_commands.specs.Append.{TakesBlocks, append_effect}
-use Rattle.zns_commands.specs.Kept.{Grows}
+use Rattle.zns_commands.specs.Left.{Grows}
 use Rattle.pushdown.specs.Admission.{SameProgram, source_blocks, task_of}
 use Rattle.pushdown.specs.Answers.{Happening, Submission, plain}
 use Rattle.pushdown.specs.BlockRuns.{Task, block_run, frames_of, goes_on, groups_of, runs_of, scratch_after}

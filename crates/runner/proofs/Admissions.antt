@@ -19,8 +19,8 @@ use Rattle.pushdown.specs.State.{program_at}
 use Rattle.runner.specs.Admitting.{ArePlaces}
 use Rattle.runner.specs.Held.{filled, held_by, state_of}
 use Rattle.runner.specs.Ready.{IsReady}
-use Rattle.runner.specs.declared.active.Active.{Active as Held}
-use Rattle.runner.specs.declared.loaded.LoadedProgram.{LoadedProgram}
+use Rattle.runner.specs.declared.active_run.Active.{Active as Held}
+use Rattle.runner.specs.declared.loaded_program.LoadedProgram.{LoadedProgram}
 use Rattle.runner.proofs.Holding.{holds_are}
 use Rattle.runner.proofs.Numbers.{free_is}
 

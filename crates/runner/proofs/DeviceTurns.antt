@@ -10,7 +10,7 @@ use Rattle.verifier.specs.Verified.{program_of, sizes_of}
 use Rattle.image_store.specs.Geometry.{Shape}
 use Rattle.image_store.specs.Namespace.{ZonedNamespace, shape, zone_at}
 use Rattle.zns_commands.specs.Address.{zone_number}
-use Rattle.zns_commands.specs.Kept.{Grows}
+use Rattle.zns_commands.specs.Left.{Grows}
 use Rattle.zns_commands.specs.declared.answer.Answer.{Answer}
 use Rattle.pushdown.specs.Admission.{Loaded, SameProgram, task_of}
 use Rattle.pushdown.specs.Answers.{Happening, idle}
@@ -22,14 +22,14 @@ use Rattle.pushdown.specs.View.{place_of, seen, to_come, turns_of}
 use Rattle.device_events.specs.declared.event.Event.TheVariants as event
 use Rattle.device_events.specs.declared.reply.Reply.{Reply}
 use Rattle.device_events.specs.declared.reply.Reply.TheVariants as reply
-use Rattle.pushdown.proofs.Foreign.{turned_is}
-use Rattle.pushdown.proofs.Needed.{events_keep_for_runs}
+use Rattle.pushdown.proofs.OthersEvents.{turned_is}
+use Rattle.pushdown.proofs.KeptForRuns.{events_keep_for_runs}
 use Rattle.runner.specs.Answered.{complete_reply}
 use Rattle.runner.specs.Held.{active_of, filled, loaded_of, running, state_of}
 use Rattle.runner.specs.Ready.{Fits, IsFor, IsReached, IsReady, IsRunning}
 use Rattle.runner.specs.Turning.{FitsAt, FitsIn, FitsOn, GoesOn, HasEnded, IsTurned, Keeps, SlotTurned}
-use Rattle.runner.specs.declared.active.Active.{Active as Held}
-use Rattle.runner.specs.declared.loaded.LoadedProgram.{LoadedProgram}
+use Rattle.runner.specs.declared.active_run.Active.{Active as Held}
+use Rattle.runner.specs.declared.loaded_program.LoadedProgram.{LoadedProgram}
 use Rattle.runner.proofs.MayBeThere.{Where, found, still_some, was_set}
 use Rattle.runner.proofs.Reached.{reached_is_sound}
 use Rattle.runner.proofs.Staying.{Stays, grows_there, keeps_source, others_stay, placed_at, still_fits}

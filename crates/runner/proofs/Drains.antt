@@ -19,8 +19,8 @@ use Rattle.pushdown.proofs.States.{IsFine}
 use Rattle.pushdown.proofs.States.{reached as are_fine}
 use Rattle.runner.specs.Held.{active_of, filled, state_of}
 use Rattle.runner.specs.Ready.{Fits, IsReached}
-use Rattle.runner.specs.declared.active.Active.{Active as Held}
-use Rattle.runner.specs.declared.loaded.LoadedProgram.{LoadedProgram}
+use Rattle.runner.specs.declared.active_run.Active.{Active as Held}
+use Rattle.runner.specs.declared.loaded_program.LoadedProgram.{LoadedProgram}
 use Rattle.runner.proofs.Reached.{never}
 
 -- ---- fewer turns are left

@@ -8,8 +8,8 @@ use Rattle.pushdown.specs.State.{destination_of, holds_of, source_of}
 use Rattle.pushdown.specs.View.{seen}
 use Rattle.runner.specs.Held.{destination_held, filled, held_by, running, source_held, state_of}
 use Rattle.runner.specs.Ready.{Fits, IsReady}
-use Rattle.runner.specs.declared.active.Active.{Active as Held}
-use Rattle.runner.specs.declared.loaded.LoadedProgram.{LoadedProgram}
+use Rattle.runner.specs.declared.active_run.Active.{Active as Held}
+use Rattle.runner.specs.declared.loaded_program.LoadedProgram.{LoadedProgram}
 
 abbrev AllFit : ZonedNamespace → List (Option Held) → Type 0
 AllFit ns runs = (k : ℕ) (a : Held) → get_or runs k None ≡ Some a → Fits ns a

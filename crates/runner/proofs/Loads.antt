@@ -26,8 +26,8 @@ use Rattle.runner.specs.Answered.{HasLoaded}
 use Rattle.runner.specs.Held.{filled, running, state_of}
 use Rattle.runner.specs.Loading.{IsLoadable, IsNotAccepted, uses_slot}
 use Rattle.runner.specs.Ready.{IsFor, IsReady}
-use Rattle.runner.specs.declared.active.Active.{Active as Held}
-use Rattle.runner.specs.declared.loaded.LoadedProgram.{LoadedProgram}
+use Rattle.runner.specs.declared.active_run.Active.{Active as Held}
+use Rattle.runner.specs.declared.loaded_program.LoadedProgram.{LoadedProgram}
 
 -- ---- which slots are used
 

@@ -9,8 +9,8 @@ use Rattle.pushdown.specs.Draining.{lowest_run}
 use Rattle.pushdown.specs.State.{free_run}
 use Rattle.pushdown.specs.View.{Active, seen}
 use Rattle.runner.specs.Held.{filled, running, state_of}
-use Rattle.runner.specs.declared.active.Active.{Active as Held}
-use Rattle.runner.specs.declared.loaded.LoadedProgram.{LoadedProgram}
+use Rattle.runner.specs.declared.active_run.Active.{Active as Held}
+use Rattle.runner.specs.declared.loaded_program.LoadedProgram.{LoadedProgram}
 
 -- the first that passes is at the same index in a mapped list, for tests that are the same
 module _ {X Y : Type 0} (f : X → Y) (p : X → Bool) (q : Y → Bool) (same : (x : X) → q (f x) ≡ p x) where

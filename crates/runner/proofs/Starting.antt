@@ -18,9 +18,9 @@ use Rattle.runner.specs.Admitting.{IsAdmission}
 use Rattle.runner.specs.Answered.{Refuses, Starts}
 use Rattle.runner.specs.Held.{active_of, filled, held_by, new_active, running, state_of}
 use Rattle.runner.specs.Ready.{IsReady, IsRunning}
-use Rattle.runner.specs.declared.active.Active.{Active as Held}
+use Rattle.runner.specs.declared.active_run.Active.{Active as Held}
 use Rattle.runner.specs.declared.admission.Admitted.{Admitted}
-use Rattle.runner.specs.declared.loaded.LoadedProgram.{LoadedProgram}
+use Rattle.runner.specs.declared.loaded_program.LoadedProgram.{LoadedProgram}
 use Rattle.runner.proofs.Admissions.{why_is}
 use Rattle.runner.proofs.Numbers.{free_is}
 

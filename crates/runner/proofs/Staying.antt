@@ -4,15 +4,15 @@ use Rattle.image_store.specs.Geometry.{Shape}
 use Rattle.image_store.specs.Namespace.{ZonedNamespace, shape, zone_at}
 use Rattle.image_store.specs.declared.geometry.ZoneBlock.{ZoneBlock}
 use Rattle.zns_commands.specs.Address.{zone_number}
-use Rattle.zns_commands.specs.Kept.{Grows}
+use Rattle.zns_commands.specs.Left.{Grows}
 use Rattle.pushdown.specs.Admission.{SameProgram}
 use Rattle.pushdown.specs.State.{Place, place_at}
 use Rattle.pushdown.specs.View.{KeepsSource, place_of, seen}
 use Rattle.pushdown.proofs.Views.{seen_stays}
 use Rattle.runner.specs.Held.{active_of, filled, running, state_of}
 use Rattle.runner.specs.Ready.{Fits}
-use Rattle.runner.specs.declared.active.Active.{Active as Held}
-use Rattle.runner.specs.declared.loaded.LoadedProgram.{LoadedProgram}
+use Rattle.runner.specs.declared.active_run.Active.{Active as Held}
+use Rattle.runner.specs.declared.loaded_program.LoadedProgram.{LoadedProgram}
 
 -- what a run needs to be seen as before: its source blocks and its program
 pub record Stays (ns later : ZonedNamespace) (slots slots' : List (Option LoadedProgram)) (a : Held) : Type 0 where

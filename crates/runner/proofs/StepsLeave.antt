@@ -7,7 +7,7 @@ use Rattle.zone_state.specs.declared.state.FaultState.{FaultState}
 use Rattle.nvme_entry.specs.declared.command.StandardCommand.{StandardCommand}
 use Rattle.image_store.specs.Geometry.{Shape}
 use Rattle.image_store.specs.Namespace.{ZonedNamespace, shape, zone_at}
-use Rattle.zns_commands.specs.Kept.{Grows, holds_of}
+use Rattle.zns_commands.specs.Left.{Grows, holds_of}
 use Rattle.zns_commands.specs.Answer.{Effect, effect_of_answer}
 use Rattle.zns_commands.specs.Fault.{faulted}
 use Rattle.zns_commands.specs.Laws.{Commanded, Failed, Step, after}
@@ -18,13 +18,13 @@ use Rattle.pushdown.specs.Answers.{Submission}
 use Rattle.pushdown.specs.Machine.{commanded, failed}
 use Rattle.pushdown.specs.State.{Place, with_namespace}
 use Rattle.pushdown.specs.State.{holds_of as places_hold}
-use Rattle.pushdown.proofs.Needed.{same_program}
+use Rattle.pushdown.proofs.KeptForRuns.{same_program}
 use Rattle.pushdown.proofs.Places.{named_at}
 use Rattle.runner.specs.Answered.{answered}
 use Rattle.runner.specs.Held.{filled, held_by, source_held, state_of}
 use Rattle.runner.specs.Ready.{IsReady}
-use Rattle.runner.specs.declared.active.Active.{Active as Held}
-use Rattle.runner.specs.declared.loaded.LoadedProgram.{LoadedProgram}
+use Rattle.runner.specs.declared.active_run.Active.{Active as Held}
+use Rattle.runner.specs.declared.loaded_program.LoadedProgram.{LoadedProgram}
 use Rattle.runner.proofs.Holding.{holds_are}
 use Rattle.runner.proofs.Staying.{keeps_source, places_stay, still_fits}
 

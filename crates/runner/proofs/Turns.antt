@@ -23,11 +23,11 @@ use Rattle.pushdown.specs.Outcome.{Ending, Progress, Turn, appended_by, behind, 
 use Rattle.pushdown.specs.View.{Active, to_come, turns_of}
 use Rattle.pushdown.proofs.Added.{added_block, added_capacity, added_leaves}
 use Rattle.pushdown.proofs.Rests.{rest_ends, rest_goes_on}
-use Rattle.pushdown.proofs.Room.{still_open, turn_room}
+use Rattle.pushdown.proofs.TurnsFit.{still_open, turn_room}
 use Rattle.runner.specs.Held.{active_of}
 use Rattle.runner.specs.Ran.{HasRun}
 use Rattle.runner.specs.Turning.{FitsOn, GoesOn, HasEnded, HasRoom, next_block, next_run, with_packer, with_scratch}
-use Rattle.runner.specs.declared.active.Active.{Active as Held}
+use Rattle.runner.specs.declared.active_run.Active.{Active as Held}
 use Rattle.runner.proofs.Appends.{added_both}
 
 lt_or_le : (a b : ℕ) → (a < b) ⊎ (b ≤ a)

@@ -4,9 +4,9 @@ use Rattle.nvme_entry.specs.declared.command.RunCommand.{RunCommand}
 use Rattle.image_store.specs.Namespace.{ZonedNamespace, zone_at}
 use Rattle.image_store.specs.declared.geometry.ZoneBlock.{ZoneBlock}
 use Rattle.zns_commands.specs.Address.{zone_block_in, zone_number}
-use Rattle.runner.specs.declared.active.Active.{Active as Held}
+use Rattle.runner.specs.declared.active_run.Active.{Active as Held}
 use Rattle.runner.specs.declared.admission.Admitted.{Admitted}
-use Rattle.runner.specs.declared.loaded.LoadedProgram.{LoadedProgram}
+use Rattle.runner.specs.declared.loaded_program.LoadedProgram.{LoadedProgram}
 
 -- where an order reads and appends
 pub record ArePlaces (ns : ZonedNamespace) (order : RunCommand) (source : ZoneBlock) (destination : ℕ) : Type 0 where

@@ -10,8 +10,8 @@ use Rattle.verifier.specs.Verified.{program_of, sizes_of}
 use Rattle.pushdown.specs.Admission.{Loaded}
 use Rattle.pushdown.specs.State.{State}
 use Rattle.pushdown.specs.View.{Active, view_of}
-use Rattle.runner.specs.declared.active.Active.{Active as Held}
-use Rattle.runner.specs.declared.loaded.LoadedProgram.{LoadedProgram}
+use Rattle.runner.specs.declared.active_run.Active.{Active as Held}
+use Rattle.runner.specs.declared.loaded_program.LoadedProgram.{LoadedProgram}
 
 -- an active run; where its blocks lie is found again
 abbrev pub active_of : Held → Active

@@ -9,8 +9,8 @@ use Rattle.pushdown.specs.Events.{Occurrence, state_after}
 use Rattle.pushdown.specs.Pushdown.{AreEvents}
 use Rattle.pushdown.specs.State.{State, new_state}
 use Rattle.runner.specs.Held.{state_of}
-use Rattle.runner.specs.declared.active.Active.{Active as Held}
-use Rattle.runner.specs.declared.loaded.LoadedProgram.{LoadedProgram}
+use Rattle.runner.specs.declared.active_run.Active.{Active as Held}
+use Rattle.runner.specs.declared.loaded_program.LoadedProgram.{LoadedProgram}
 
 -- what holds of each active run, whatever its program
 pub record Fits (ns : ZonedNamespace) (a : Held) : Type 0 where

@@ -17,8 +17,8 @@ use Rattle.pushdown.specs.View.{Active, turns_of}
 use Rattle.device_events.specs.declared.reply.Reply.{Reply}
 use Rattle.runner.specs.Held.{active_of, state_of}
 use Rattle.runner.specs.Ready.{Fits, IsFor, IsReady}
-use Rattle.runner.specs.declared.active.Active.{Active as Held}
-use Rattle.runner.specs.declared.loaded.LoadedProgram.{LoadedProgram}
+use Rattle.runner.specs.declared.active_run.Active.{Active as Held}
+use Rattle.runner.specs.declared.loaded_program.LoadedProgram.{LoadedProgram}
 
 abbrev pub with_scratch : Held → List ℕ → Held
 with_scratch a bytes = record a { scratch = bytes }

@@ -10,8 +10,8 @@ ghost use Rattle.runner.specs.Ready.{IsReady};
 ghost use Rattle.zns_commands.specs.Address.{lowest_checks, zone_block_in, range_check, zone_number, IsZoneBlock};
 ghost use Rattle.zns_commands.specs.Resources.{why_not};
 
-use crate::active::Active;
-use crate::loaded::LoadedProgram;
+use crate::active_run::Active;
+use crate::loaded_program::LoadedProgram;
 use crate::places::{free_run, holds};
 use emit_append::need;
 use image_store::ZoneBlock;

@@ -4,9 +4,9 @@ ghost use Rattle.std.specs.Prelude.{◌≡◌, ◌≤◌, ◌++◌, drop, length
 ghost use Rattle.image_store.specs.Namespace.{ZonedNamespace};
 ghost use Rattle.runner.specs.Answered.{GivesResult, complete_reply};
 ghost use Rattle.runner.specs.Held.{state_of};
-ghost use Rattle.runner.specs.declared.active.Active.{Active as Held};
+ghost use Rattle.runner.specs.declared.active_run.Active.{Active as Held};
 
-use crate::loaded::LoadedProgram;
+use crate::loaded_program::LoadedProgram;
 use device_events::Reply;
 use nvme_entry::{Completion, PROGRAM_SLOTS, ProgramSlot, Status};
 use program_interface::SCRATCH_BYTES;

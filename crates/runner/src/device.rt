@@ -12,8 +12,8 @@ ghost use Rattle.pushdown.specs.State.{new_state};
 ghost use Rattle.runner.specs.Ready.{IsReached};
 ghost use Rattle.device_events.specs.Refusals.{CountsRefusals};
 
-use crate::active::Active;
-use crate::loaded::LoadedProgram;
+use crate::active_run::Active;
+use crate::loaded_program::LoadedProgram;
 use crate::places::{holds, lowest_run as lowest};
 use crate::submission::{Submission, submit};
 use crate::turn::turn;

@@ -1,14 +1,14 @@
 //! The device: events happen to it, one after another, and each has its answer.
 #![tactic(auto)]
 
-mod active;
+mod active_run;
 mod admission;
 mod block_run;
 mod commands;
 mod device;
 pub mod laws;
 mod load;
-mod loaded;
+mod loaded_program;
 mod places;
 mod submission;
 #[cfg(test)]

@@ -11,8 +11,8 @@ ghost use Rattle.runner.specs.Ready.{IsReady};
 ghost use Rattle.verifier.specs.Verified.{program_of, sizes_of};
 ghost use Rattle.zns_commands.specs.Resources.{why_not};
 
-use crate::active::Active;
-use crate::loaded::LoadedProgram;
+use crate::active_run::Active;
+use crate::loaded_program::LoadedProgram;
 use ebpf_decode::{DecodeFault, decode};
 use interval_domain::Intervals;
 use nvme_entry::{LoadCommand, MOST_TRANSFER, PROGRAM_SLOTS, ProgramSlot, Status};

@@ -3,7 +3,7 @@
 ghost use Rattle.std.specs.Prelude.{◌≡◌, is_none, is_some, length, position};
 ghost use Rattle.runner.specs.Held.{destination_held, held_by, source_held};
 
-use crate::active::Active;
+use crate::active_run::Active;
 use zns_commands::Holds;
 use zone_resources::RUNS;
 

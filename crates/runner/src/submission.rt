@@ -10,11 +10,11 @@ ghost use Rattle.runner.specs.Answered.{HasExecuted, HasSubmitted, complete_repl
 ghost use Rattle.runner.specs.Held.{state_of};
 ghost use Rattle.runner.specs.Ready.{IsReady};
 
-use crate::active::Active;
+use crate::active_run::Active;
 use crate::admission::start;
 use crate::commands::{complete, give_result};
 use crate::load::load;
-use crate::loaded::LoadedProgram;
+use crate::loaded_program::LoadedProgram;
 use crate::places::holds;
 use device_events::Reply;
 use nvme_entry::{Command, Entry, MOST_TRANSFER, PROGRAM_SLOTS, RunCommand, StandardCommand};

@@ -12,10 +12,10 @@ ghost use Rattle.runner.specs.Ran.{HasRun};
 ghost use Rattle.runner.specs.Ready.{Fits, IsReady, IsReached};
 ghost use Rattle.runner.specs.Turning.{FitsAt, FitsIn, FitsOn, HasRoom, IsTaking, IsTurned, Keeps, PlaceTurned, SlotTurned, Turned, next_block, next_run, with_packer, with_scratch};
 
-use crate::active::Active;
+use crate::active_run::Active;
 use crate::block_run::run_block;
 use crate::commands::complete;
-use crate::loaded::LoadedProgram;
+use crate::loaded_program::LoadedProgram;
 use device_events::Reply;
 use interp::Exit;
 use nvme_entry::{PROGRAM_SLOTS, Status};

@@ -6,7 +6,7 @@ ghost use Rattle.verifier.specs.Rows.{held, held_at};
 ghost use Rattle.accepted_programs.specs.Emitted.{group_in};
 ghost use Rattle.verifier.specs.Judged.{IsJudged};
 
-use crate::accept::first_rows;
+use crate::verifying::first_rows;
 use crate::rows::{Refused, Row, visit};
 use accepted_programs::{Facts, Refusal};
 use instruction_set::Program;

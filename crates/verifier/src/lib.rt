@@ -2,7 +2,6 @@
 //! and the stack.
 #![tactic(auto)]
 
-mod accept;
 mod cells;
 mod check;
 mod edges;
@@ -11,8 +10,9 @@ mod fault;
 mod judging;
 mod rows;
 mod verified;
+mod verifying;
 
-pub use accept::verify;
+pub use verifying::verify;
 pub use fault::VerifyFault;
 pub use judging::{Judgement, judge};
 pub use verified::Verified;

@@ -19,8 +19,8 @@ use Rattle.image_store.specs.Namespace.{ZoneBlocks, ZonedNamespace, no_zone, zon
 use Rattle.zns_commands.specs.Address.{counted_zone_at}
 use Rattle.zns_commands.specs.Resources.{room_by, room_for, closed, arrived, moved_to, CanGiveWay}
 use Rattle.zns_commands.specs.Write.{written}
-use Rattle.zns_commands.proofs.Rooms.{closable_zone, closable_state, other_zone, closed_fits}
-use Rattle.zns_commands.proofs.Fits.{FitsIn, set_namespace, record_there, records_with, one_within}
+use Rattle.zns_commands.proofs.ClosableZones.{closable_zone, closable_state, other_zone, closed_fits}
+use Rattle.zns_commands.proofs.FittingZones.{FitsIn, set_namespace, record_there, records_with, one_within}
 
 -- what is to be closed may be
 lowest_closable : (zones : List CountedZone) (holds : Holds) (lowest : ℕ) → zone_to_close holds zones ≡ Some lowest → IsClosable holds zones lowest

@@ -17,7 +17,7 @@ use Rattle.nvme_entry.specs.declared.command.StandardCommand.TheVariants.{Write,
 use Rattle.image_store.specs.Namespace.{ZoneBlocks, ZonedNamespace, no_zone, zone_at, with_zone}
 use Rattle.zns_commands.specs.Address.{zone_number}
 use Rattle.zns_commands.specs.Fault.{fault_answer, faulted_by}
-use Rattle.zns_commands.specs.Kept.{Grows, SourcesKeepBlocks}
+use Rattle.zns_commands.specs.Left.{Grows, SourcesKeepBlocks}
 use Rattle.zns_commands.specs.Laws.{Commanded, Failed, is_cleared, checks_of, effect_of}
 use Rattle.zns_commands.specs.Resources.{why_not, closed, arrived, moved_to}
 use Rattle.zns_commands.specs.Send.{send_checks, send_effect, zone_plan, takes, swept}

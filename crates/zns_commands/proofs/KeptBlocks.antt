@@ -24,7 +24,7 @@ use Rattle.zns_commands.specs.Resources.{closed, arrived, moved_to}
 use Rattle.zns_commands.specs.Receive.{receive_checks, receive_effect}
 use Rattle.zns_commands.specs.Send.{send_checks, send_effect, zone_plan, takes, swept}
 use Rattle.zns_commands.specs.Write.{write_checks, write_effect, write_plan, written}
-use Rattle.zns_commands.specs.Kept.{Grows}
+use Rattle.zns_commands.specs.Left.{Grows}
 use Rattle.zns_commands.specs.Lasting.{GrowsByNone, GrowsOn, ReplacedGrows, UnclearedIsReadable, StepsKeepZones}
 use Rattle.zns_commands.specs.Laws.{Step, Commanded, Failed, after, after_all, is_cleared}
 use Rattle.zns_commands.proofs.MovedZones.{after_action}

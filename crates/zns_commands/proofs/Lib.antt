@@ -1,5 +1,5 @@
 mod BlockParts
-mod Fits
+mod FittingZones
 mod GivenWay
 mod HeldSources
 mod HeldZones
@@ -8,12 +8,12 @@ mod Meanings
 mod MovedZones
 mod OpenZones
 mod PassedChecks
-mod Planned
+mod AcceptedActions
 mod ReadBack
 mod ReadBytes
 mod Refusals
 mod ReportedZones
-mod Rooms
+mod ClosableZones
 mod SoundSteps
 mod Sweeps
 mod SweptZones

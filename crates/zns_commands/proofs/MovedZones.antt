@@ -19,7 +19,7 @@ use Rattle.image_store.proofs.Proved.{written_is_within}
 use Rattle.zns_commands.specs.Fault.{fault_answer, faulted_by, faulted}
 use Rattle.zns_commands.specs.Resources.{room_by, closed, arrived, moved_to}
 use Rattle.zns_commands.specs.Send.{room_of, led_to}
-use Rattle.zns_commands.proofs.Fits.{FitsIn, no_bytes, zone_fits, one_sound}
+use Rattle.zns_commands.proofs.FittingZones.{FitsIn, no_bytes, zone_fits, one_sound}
 use Rattle.zns_commands.proofs.GivenWay.{has_room, room_sound, moved_is}
 
 -- a zone that comes into a state

@@ -19,7 +19,7 @@ use Rattle.zns_commands.specs.Laws.{BlocksAreAppended, BlocksKeepNamespaces}
 use Rattle.zns_commands.specs.Resources.{room_by, closing_of}
 use Rattle.zns_commands.specs.Write.{write_plan, written}
 use Rattle.zns_commands.specs.declared.write.WritePlan.{WritePlan}
-use Rattle.zns_commands.proofs.Fits.{one_within}
+use Rattle.zns_commands.proofs.FittingZones.{one_within}
 use Rattle.zns_commands.proofs.WrittenZones.{written_sound}
 
 open_wants_none : (s : ZoneState) → is_open s ≡ true → wanted_of s ≡ None

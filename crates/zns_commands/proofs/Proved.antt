@@ -1,5 +1,5 @@
 -- The laws of this crate, proved: what the proofs of other crates cite of it.
-use Rattle.zns_commands.specs.Kept.{DestinationsAreLeft, ShapesAreKept, SourcesKeepBlocks}
+use Rattle.zns_commands.specs.Left.{DestinationsAreLeft, ShapesAreKept, SourcesKeepBlocks}
 use Rattle.zns_commands.specs.Lasting.{AppendedStays, GrowsByNone, GrowsOn, LyingIsRead, OpenIsThere, ReplacedGrows, StepsKeepZones, UnclearedIsReadable, WrittenStays}
 use Rattle.zns_commands.specs.Laws.{BlocksAreAppended, BlocksKeepNamespaces, EmptyIsNamespace, StepsKeepNamespaces}
 use Rattle.zns_commands.proofs.HeldSources as held_sources

@@ -26,7 +26,7 @@ use Rattle.zns_commands.specs.Receive.{receive_checks, receive_effect}
 use Rattle.zns_commands.specs.Send.{send_checks, send_effect, all_fit, room_of}
 use Rattle.zns_commands.specs.Write.{write_checks, write_effect}
 use Rattle.zns_commands.specs.Laws.{Step, Commanded, Failed, after, IsSpelled, StepsKeepNamespaces, EmptyIsNamespace}
-use Rattle.zns_commands.proofs.Fits.{FitsIn, namespace_of_zones, no_bytes}
+use Rattle.zns_commands.proofs.FittingZones.{FitsIn, namespace_of_zones, no_bytes}
 use Rattle.zns_commands.proofs.WrittenZones.{written_sound}
 use Rattle.zns_commands.proofs.MovedZones.{moved_sound, fault_sound}
 use Rattle.zns_commands.proofs.SweptZones.{count_in, all_sound}

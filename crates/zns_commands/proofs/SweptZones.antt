@@ -15,7 +15,7 @@ use Rattle.zone_resources.specs.Counts.{open_count, one_if}
 use Rattle.image_store.specs.Namespace.{ZoneBlocks, ZonedNamespace, no_zone, zone_at, counted, records, IsNamespace, IsWithinLimits}
 use Rattle.zns_commands.specs.Resources.{arrived}
 use Rattle.zns_commands.specs.Send.{all_effect, all_fit, takes, taken_among, swept, swept_below}
-use Rattle.zns_commands.proofs.Fits.{FitsIn, zone_fits, namespace_of_zones}
+use Rattle.zns_commands.proofs.FittingZones.{FitsIn, zone_fits, namespace_of_zones}
 use Rattle.zns_commands.proofs.Sweeps.{mapped, mapped-all}
 use Rattle.zns_commands.proofs.MovedZones.{arrived_state, arrived_fits, after_action, action_fits}
 

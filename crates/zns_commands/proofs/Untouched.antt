@@ -17,7 +17,7 @@ use Rattle.image_store.specs.Blocks.{as_blocks}
 use Rattle.image_store.specs.Namespace.{ZoneBlocks, ZonedNamespace, no_zone, zone_at, with_zone, grown}
 use Rattle.zns_commands.specs.Address.{zone_number}
 use Rattle.zns_commands.specs.Fault.{fault_answer, faulted_by}
-use Rattle.zns_commands.specs.Kept.{is_either, touches, OthersAreLeft}
+use Rattle.zns_commands.specs.Left.{is_either, touches, OthersAreLeft}
 use Rattle.zns_commands.specs.Laws.{Commanded, Failed, effect_of}
 use Rattle.zns_commands.specs.Resources.{closed, arrived, moved_to}
 use Rattle.zns_commands.specs.Send.{send_effect, zone_plan, takes, swept, led_to}

@@ -16,7 +16,7 @@ use Rattle.image_store.proofs.Proved.{block_is_a_part, blocks_are_bytes, blocks_
 use Rattle.zns_commands.specs.Address.{counted_zone_at}
 use Rattle.zns_commands.specs.Resources.{room_for}
 use Rattle.zns_commands.specs.Write.{written}
-use Rattle.zns_commands.proofs.Fits.{FitsIn, zone_fits}
+use Rattle.zns_commands.proofs.FittingZones.{FitsIn, zone_fits}
 use Rattle.zns_commands.proofs.GivenWay.{HasRoom, has_room, room_sound, written_is}
 
 -- blocks behind blocks

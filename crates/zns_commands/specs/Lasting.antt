@@ -10,7 +10,7 @@ use Rattle.image_store.specs.Blocks.{bytes_of}
 use Rattle.image_store.specs.Namespace.{ZoneBlocks, ZonedNamespace, no_zone, zone_at, shape, IsNamespace}
 use Rattle.zns_commands.specs.Address.{zone_number}
 use Rattle.zns_commands.specs.Answer.{Effect, success_effect}
-use Rattle.zns_commands.specs.Kept.{Grows}
+use Rattle.zns_commands.specs.Left.{Grows}
 use Rattle.zns_commands.specs.Laws.{Step, after_all, is_cleared, NoneClears, AreRead}
 use Rattle.zns_commands.specs.Meaning.{meaning}
 use Rattle.zns_commands.specs.Read.{read_meaning, read_refusal}

@@ -2,7 +2,7 @@ pub mod Address
 pub mod Answer
 pub mod Append
 pub mod Fault
-pub mod Kept
+pub mod Left
 pub mod Lasting
 pub mod Laws
 pub mod Meaning

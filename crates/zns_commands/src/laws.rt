@@ -1,7 +1,7 @@
 //! Laws of the definitions that the contracts of this crate cite. Each function does nothing: what
 //! it ensures is the law.
 
-ghost use Rattle.zns_commands.specs.Kept.{BlocksAreAPart, DestinationsAreLeft, OthersAreLeft, ShapesAreKept, SourcesKeepBlocks};
+ghost use Rattle.zns_commands.specs.Left.{BlocksAreAPart, DestinationsAreLeft, OthersAreLeft, ShapesAreKept, SourcesKeepBlocks};
 ghost use Rattle.zns_commands.specs.Lasting.{AppendedStays, GrowsByNone, GrowsOn, LyingIsRead, OpenIsThere, ReplacedGrows, StepsKeepZones, UnclearedIsReadable, WrittenStays};
 ghost use Rattle.zns_commands.specs.Laws.{AppendedReadsBack, BlocksAreAppended, BlocksKeepNamespaces, EmptyIsNamespace, JustOneCase, RefusedChangesNothing, ReportsEveryZone, StepsKeepNamespaces, WrittenReadsBack};
 

@@ -1,6 +1,6 @@
 use Rattle.image_store.proofs.ByteParts.{blocks_fit}
-use Rattle.image_store.proofs.Pieces.{bytes-blocks, length-blocks}
-use Rattle.image_store.proofs.Sound.{block-at}
+use Rattle.image_store.proofs.BlocksOfBytes.{bytes-blocks, length-blocks}
+use Rattle.image_store.proofs.SoundImages.{block-at}
 use Rattle.image_store.proofs.laws.bytes_are_cut_into_blocks.Goals as goal
 
 pub returns-clause-count : goal.returns-clause-count

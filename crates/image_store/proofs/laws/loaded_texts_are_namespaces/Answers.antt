@@ -1,4 +1,4 @@
-use Rattle.image_store.proofs.Loaded.{loaded_is_namespace}
+use Rattle.image_store.proofs.LoadedNamespaces.{loaded_is_namespace}
 use Rattle.image_store.proofs.laws.loaded_texts_are_namespaces.Goals as goal
 
 pub returns : goal.returns

@@ -1,4 +1,4 @@
-use Rattle.image_store.proofs.Only.{text_only}
+use Rattle.image_store.proofs.OnlyTextsLoad.{text_only}
 use Rattle.image_store.proofs.laws.only_texts_load.Goals as goal
 
 pub returns : goal.returns

@@ -1,4 +1,4 @@
-use Rattle.image_store.proofs.Again.{saved_again, text_again}
+use Rattle.image_store.proofs.TextsReadBack.{saved_again, text_again}
 use Rattle.image_store.proofs.laws.saved_texts_load.Goals as goal
 
 pub returns-clause-saved : goal.returns-clause-saved

@@ -1,4 +1,4 @@
-use Rattle.image_store.proofs.Cut.{cut_is_truncated, longer_is_trailing}
+use Rattle.image_store.proofs.CutTexts.{cut_is_truncated, longer_is_trailing}
 use Rattle.image_store.proofs.laws.texts_have_one_length.Goals as goal
 
 pub returns-clause-cut : goal.returns-clause-cut

@@ -1,4 +1,4 @@
-use Rattle.image_store.proofs.Again.{last_has}
+use Rattle.image_store.proofs.TextsReadBack.{last_has}
 use Rattle.image_store.proofs.Shapes.{version_known}
 use Rattle.image_store.proofs.laws.versions_are_known.Goals as goal
 

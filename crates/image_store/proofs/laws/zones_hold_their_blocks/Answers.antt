@@ -1,6 +1,6 @@
-use Rattle.image_store.proofs.Images.{allowed_fits, within_capacity}
-use Rattle.image_store.proofs.Sound.{zone_with_blocks}
-use Rattle.image_store.proofs.States.{after_write_zone}
+use Rattle.image_store.proofs.ImageFields.{allowed_fits, within_capacity}
+use Rattle.image_store.proofs.SoundImages.{zone_with_blocks}
+use Rattle.image_store.proofs.ReplacedZones.{after_write_zone}
 use Rattle.image_store.proofs.laws.zones_hold_their_blocks.Goals as goal
 
 pub returns-clause-within : goal.returns-clause-within

@@ -1,5 +1,5 @@
 use Rattle.std.proofs.Common.{◌-◌, length, ◌∙◌}
-use Rattle.image_store.proofs.Fills.{fill_bytes, fill_within}
+use Rattle.image_store.proofs.FilledBuffers.{fill_bytes, fill_within}
 use Rattle.image_store.proofs.load.fill.Goals as goal
 
 pub loop-at-preserved : goal.loop-at-preserved

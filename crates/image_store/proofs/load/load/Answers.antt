@@ -3,7 +3,7 @@ use Rattle.std.proofs.lemmas.Result.{err_from_is_err_and}
 use Rattle.image_store.specs.Flat.{zones_of}
 use Rattle.image_store.specs.Reading.{records_in, total_kept, limits_kept, blocks_in, end_in, namespace_in, namespace_with}
 use Rattle.image_store.proofs.Faults.{fails_text, limits_text_fault, total_text_fault}
-use Rattle.image_store.proofs.Loads.{after_records, after_total, after_limits, after_blocks, past_header, past_records, past_total, past_limits, past_blocks, past_end, header_accepted, header_fails, fails_at, zones_few}
+use Rattle.image_store.proofs.LoadedParts.{after_records, after_total, after_limits, after_blocks, past_header, past_records, past_total, past_limits, past_blocks, past_end, header_accepted, header_fails, fails_at, zones_few}
 use Rattle.image_store.proofs.load.load.Goals as goal
 
 pub returns-in_err-header-clause-parts : goal.returns-in_err-header-clause-parts

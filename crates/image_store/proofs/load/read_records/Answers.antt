@@ -1,7 +1,7 @@
 use Rattle.std.proofs.Common.{rules}
 use Rattle.image_store.specs.Geometry.{IsShape}
 use Rattle.image_store.proofs.Faults.{counts_last}
-use Rattle.image_store.proofs.Loads.{records_fit}
+use Rattle.image_store.proofs.LoadedParts.{records_fit}
 use Rattle.image_store.proofs.load.read_records.Goals as goal
 
 pub returns-clause-fit : goal.returns-clause-fit

@@ -1,6 +1,6 @@
 use Rattle.std.proofs.Common.{◌≡◌, ◌*◌, ◌-◌, length}
 use Rattle.image_store.specs.Reading.{zones_in}
-use Rattle.image_store.proofs.Records.{with_front}
+use Rattle.image_store.proofs.RecordsRead.{with_front}
 use Rattle.image_store.proofs.record.decode_all.Given as goal
 
 abbrev pub invariant-loop-zone : goal.invariant-loop-zone

@@ -6,7 +6,7 @@ use Rattle.image_store.specs.Flat.{zones_of}
 use Rattle.image_store.specs.Text.{blocks_text}
 use Rattle.image_store.proofs.Sinks.{goes_on, stops, ends}
 use Rattle.image_store.proofs.Texts.{blocks_step}
-use Rattle.image_store.proofs.Zones.{length-zones}
+use Rattle.image_store.proofs.ZonesInSlots.{length-zones}
 use Rattle.image_store.proofs.save.write_blocks.Goals as goal
 
 pub returns-in_err-write_all-clause-text : goal.returns-in_err-write_all-clause-text

@@ -1,4 +1,4 @@
-use Rattle.nvme_entry.proofs.Told.{completions_tell}
+use Rattle.nvme_entry.proofs.CompletionFields.{completions_tell}
 use Rattle.nvme_entry.proofs.laws.completions_tell.Goals as goal
 
 pub returns : goal.returns

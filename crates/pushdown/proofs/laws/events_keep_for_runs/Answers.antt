@@ -1,4 +1,4 @@
-use Rattle.pushdown.proofs.Needed.{events_keep_for_runs}
+use Rattle.pushdown.proofs.KeptForRuns.{events_keep_for_runs}
 use Rattle.pushdown.proofs.laws.events_keep_for_runs.Goals as goal
 
 pub returns : goal.returns

@@ -1,4 +1,4 @@
-use Rattle.pushdown.proofs.Foreign.{foreign_leaves_turns, turn_takes_first}
+use Rattle.pushdown.proofs.OthersEvents.{foreign_leaves_turns, turn_takes_first}
 use Rattle.pushdown.proofs.Headline.{admitted_starts}
 use Rattle.pushdown.proofs.Pending.{pending_is_admitted}
 use Rattle.pushdown.proofs.laws.turns_are_fixed_at_admission.Goals as goal

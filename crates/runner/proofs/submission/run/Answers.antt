@@ -3,7 +3,7 @@ use Rattle.nvme_entry.specs.declared.command.Command.TheVariants as command
 use Rattle.pushdown.specs.Answers.{Submission}
 use Rattle.pushdown.specs.State.{State}
 use Rattle.runner.specs.Held.{state_of}
-use Rattle.runner.specs.declared.active.Active.{Active as Held}
+use Rattle.runner.specs.declared.active_run.Active.{Active as Held}
 use Rattle.runner.proofs.Replies.{replied_refusal}
 use Rattle.runner.proofs.submission.run.Goals as goal
 

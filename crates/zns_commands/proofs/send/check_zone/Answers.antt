@@ -8,8 +8,8 @@ use Rattle.image_store.specs.Namespace.{zone_at}
 use Rattle.zns_commands.specs.Address.{zone_number, address_check, lowest_check, lowest_checks}
 use Rattle.zns_commands.specs.Send.{room_of, zone_checks, zone_plan, CanMove}
 use Rattle.zns_commands.specs.declared.send.ZonePlan.{ZonePlan}
-use Rattle.zns_commands.proofs.Planned.{zone_checked, if_allowed, can_move}
-use Rattle.zns_commands.proofs.Rooms.{allowed_ok}
+use Rattle.zns_commands.proofs.AcceptedActions.{zone_checked, if_allowed, can_move}
+use Rattle.zns_commands.proofs.ClosableZones.{allowed_ok}
 use Rattle.zns_commands.proofs.send.check_zone.Goals as goal
 
 pub returns-clause-value : goal.returns-clause-value

@@ -3,7 +3,7 @@ use Rattle.nvme_entry.specs.Checks.{first_refused}
 use Rattle.zns_commands.specs.Resources.{closed, moved_to}
 use Rattle.zns_commands.specs.Send.{zone_checks, zone_plan}
 use Rattle.zns_commands.specs.declared.send.ZonePlan.{ZonePlan}
-use Rattle.zns_commands.proofs.Rooms.{allowed_ok}
+use Rattle.zns_commands.proofs.ClosableZones.{allowed_ok}
 use Rattle.zns_commands.proofs.send.send_to_zone.Goals as goal
 
 pub returns-clause-ok : goal.returns-clause-ok

@@ -4,7 +4,7 @@ use Rattle.image_store.specs.declared.geometry.ZoneBlock.{ZoneBlock}
 use Rattle.zns_commands.specs.Address.{range_checks, zone_block_in}
 use Rattle.zns_commands.specs.Write.{zone_write_checks, write_plan, written}
 use Rattle.zns_commands.specs.declared.write.WritePlan.{WritePlan}
-use Rattle.zns_commands.proofs.Rooms.{allowed_ok}
+use Rattle.zns_commands.proofs.ClosableZones.{allowed_ok}
 use Rattle.zns_commands.proofs.write.try_write.Goals as goal
 
 pub returns-clause-ok : goal.returns-clause-ok

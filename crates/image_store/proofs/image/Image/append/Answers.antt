@@ -1,4 +1,4 @@
-use Rattle.image_store.proofs.Images.{inside_seen, allowed_seen}
+use Rattle.image_store.proofs.ImageFields.{inside_seen, allowed_seen}
 use Rattle.image_store.proofs.image.Image.append.Goals as goal
 
 pub append-requires-clause-inside : goal.append-requires-clause-inside

@@ -1,6 +1,6 @@
 use Rattle.std.proofs.Common.{◌/◌, ◌%◌, refl, sym, ◌∙◌, arith}
 use Rattle.image_store.specs.Namespace.{zone_at}
-use Rattle.image_store.proofs.Sound.{written_place, place_found, zone_with_blocks, one_block}
+use Rattle.image_store.proofs.SoundImages.{written_place, place_found, zone_with_blocks, one_block}
 use Rattle.image_store.proofs.image.Image.block.Goals as goal
 
 pub unwrap-place-requires : goal.unwrap-place-requires

@@ -1,5 +1,5 @@
 use Rattle.std.proofs.Common.{◌+◌}
-use Rattle.image_store.proofs.Images.{inside_seen, written_seen}
+use Rattle.image_store.proofs.ImageFields.{inside_seen, written_seen}
 use Rattle.image_store.proofs.image.Image.blocks.Goals as goal
 
 pub blocks-requires-clause-inside : goal.blocks-requires-clause-inside

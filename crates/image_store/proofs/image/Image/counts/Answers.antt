@@ -1,6 +1,6 @@
 use Rattle.std.proofs.Common.{ap, sym, ◌∙◌}
 use Rattle.zone_resources.specs.Counts.{counts_of}
-use Rattle.image_store.proofs.Images.{counted_zones}
+use Rattle.image_store.proofs.ImageFields.{counted_zones}
 use Rattle.image_store.proofs.image.Image.counts.Goals as goal
 
 pub returns : goal.returns

@@ -1,4 +1,4 @@
-use Rattle.image_store.proofs.Images.{empty_seen}
+use Rattle.image_store.proofs.ImageFields.{empty_seen}
 use Rattle.image_store.proofs.image.Image.empty.Goals as goal
 
 pub returns : goal.returns

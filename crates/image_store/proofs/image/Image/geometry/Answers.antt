@@ -1,5 +1,5 @@
-use Rattle.image_store.proofs.Images.{shape_seen}
-use Rattle.image_store.proofs.Sound.{sound}
+use Rattle.image_store.proofs.ImageFields.{shape_seen}
+use Rattle.image_store.proofs.SoundImages.{sound}
 use Rattle.image_store.proofs.image.Image.geometry.Goals as goal
 
 pub returns-clause-value : goal.returns-clause-value

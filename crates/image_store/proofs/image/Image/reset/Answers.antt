@@ -1,4 +1,4 @@
-use Rattle.image_store.proofs.Images.{inside_seen}
+use Rattle.image_store.proofs.ImageFields.{inside_seen}
 use Rattle.image_store.proofs.image.Image.reset.Goals as goal
 
 pub clear-requires-clause-inside : goal.clear-requires-clause-inside

@@ -1,5 +1,5 @@
-use Rattle.image_store.proofs.Images.{inside_seen}
-use Rattle.image_store.proofs.States.{fits_seen}
+use Rattle.image_store.proofs.ImageFields.{inside_seen}
+use Rattle.image_store.proofs.ReplacedZones.{fits_seen}
 use Rattle.image_store.proofs.image.Image.set_state.Goals as goal
 
 pub set_state-requires-clause-inside : goal.set_state-requires-clause-inside

@@ -1,5 +1,5 @@
 use Rattle.std.proofs.Common.{sym, ◌∙◌}
-use Rattle.image_store.proofs.Images.{counted_zones}
+use Rattle.image_store.proofs.ImageFields.{counted_zones}
 use Rattle.image_store.proofs.image.Image.zones.Goals as goal
 
 pub returns : goal.returns

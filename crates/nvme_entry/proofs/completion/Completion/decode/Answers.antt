@@ -1,5 +1,5 @@
 use Rattle.std.proofs.Common.{sym, ◌∙◌}
-use Rattle.nvme_entry.proofs.Told.{no_other_is_read}
+use Rattle.nvme_entry.proofs.CompletionFields.{no_other_is_read}
 use Rattle.nvme_entry.proofs.completion.Completion.decode.Goals as goal
 
 pub returns-else-eq-clause-read_back : goal.returns-else-eq-clause-read_back

@@ -1,0 +1,131 @@
+-- What is read as a namespace is one that an image can have.
+use Rattle.std.proofs.Common.{◌≡◌, ℕ, ◌*◌, ◌<◌, ◌≤◌, zero, suc, List, [], ◌∷◌, length, get_or, map, drop, Ok, ap, sym, subst, ◌∙◌, arith, length-take, length-drop}
+use Rattle.std.proofs.lemmas.Bool.{leb-true, and_parts}
+use Rattle.std.proofs.lemmas.List.{length-map}
+use Rattle.std.proofs.Math.Nat.{mul-le-mul_right, suc-mul}
+use Rattle.std.specs.Prelude.{nat_le, ◌&&◌}
+use Rattle.zone_state.specs.Zone.{CountedZone, IsZone}
+use Rattle.zone_resources.specs.Admission.{IsWithin}
+use Rattle.zone_resources.specs.Counts.{open_count, active_count}
+use Rattle.zone_resources.specs.declared.admission.Limits.{Limits}
+use Rattle.image_store.specs.declared.fault.LoadFault.TheVariants as fault
+use Rattle.image_store.specs.Blocks.{AreBytes, blocks_of}
+use Rattle.image_store.specs.Flat.{no_counted_zone, zone_seen}
+use Rattle.image_store.specs.Geometry.{Shape, IsShape}
+use Rattle.image_store.specs.Laws.{LoadedIsNamespace}
+use Rattle.image_store.specs.Namespace.{ZoneBlocks, no_zone, counted, IsNamespace}
+use Rattle.image_store.specs.Reading.{◌>>=◌, bytes_in, header_in, records_in, zones_in, total_kept, limits_kept, blocks_in, end_in, namespace_with, namespace_in}
+use Rattle.image_store.specs.Text.{header, records_text}
+use Rattle.image_store.proofs.TextsReadBack.{at-counted}
+use Rattle.image_store.proofs.ReadingCalls.{bind_ok, ok_is, chosen}
+use Rattle.image_store.proofs.ByteParts.{front_fit, rest_fit, blocks_fit}
+use Rattle.image_store.proofs.FilledBuffers.{bytes_parts, bytes_size}
+use Rattle.image_store.proofs.LoadedParts.{after_header, after_records, after_total, after_limits, after_blocks, zones_fit}
+use Rattle.image_store.proofs.OnlyTextsLoad.{header_only, records_only, blocks_only}
+use Rattle.image_store.proofs.BlocksOfBytes.{length-blocks}
+use Rattle.image_store.proofs.SoundImages.{block-at}
+
+-- zones of whole blocks
+record AreWhole (block : ℕ) (zones : List ZoneBlocks) : Type 0 where
+  pub whole : (z i : ℕ) → i < length (get_or zones z no_zone).blocks → length (get_or (get_or zones z no_zone).blocks i []) ≡ block
+  pub bytes : (z i : ℕ) → AreBytes (get_or (get_or zones z no_zone).blocks i [])
+
+-- one more zone
+first_whole : (b : ℕ) (zone : ZoneBlocks) (zones : List ZoneBlocks)
+    → ((i : ℕ) → i < length zone.blocks → length (get_or zone.blocks i []) ≡ b) → AreWhole b zones
+    → (z i : ℕ) → i < length (get_or (zone ∷ zones) z no_zone).blocks → length (get_or (get_or (zone ∷ zones) z no_zone).blocks i []) ≡ b
+first_whole b zone zones whole more zero i h = whole i h
+first_whole b zone zones whole more (suc z) i h = more.whole z i h
+
+first_bytes : (b : ℕ) (zone : ZoneBlocks) (zones : List ZoneBlocks)
+    → ((i : ℕ) → AreBytes (get_or zone.blocks i [])) → AreWhole b zones
+    → (z i : ℕ) → AreBytes (get_or (get_or (zone ∷ zones) z no_zone).blocks i [])
+first_bytes b zone zones bytes more zero i = bytes i
+first_bytes b zone zones bytes more (suc z) i = more.bytes z i
+
+-- blocks that are cut from enough bytes
+cut_whole : (b n : ℕ) (xs : List ℕ) → length xs ≡ n * b → (i : ℕ) → i < length (blocks_of b n xs) → length (get_or (blocks_of b n xs) i []) ≡ b
+cut_whole b n xs size i h =
+    let there : i < n = omega (arith, length-blocks b n xs) in
+    let below : suc i ≤ n = omega arith in
+    let product : suc i * b ≤ n * b = mul-le-mul_right b below in
+    ap length (block-at b n i xs there) ∙ omega (arith, suc-mul i b, length-take b (drop (i * b) xs), length-drop (i * b) xs)
+
+blocks_whole : (b : ℕ) (zs : List CountedZone) (xs : List ℕ) (got : List ZoneBlocks × List ℕ) → AreBytes xs → blocks_in b zs xs ≡ Ok got → AreWhole b got.0
+blocks_whole b [] xs got fit e =
+    subst (λ (x : List ZoneBlocks × List ℕ). AreWhole b x.0) (ok_is ([], xs) got e)
+    (record { whole = λ z i h. absurd (omega arith); bytes = λ z i k. omega arith })
+blocks_whole b (z ∷ zs) xs got fit e =
+    let a = bind_ok (bytes_in (z.written * b) xs) (λ front. blocks_in b zs front.1 >>= λ rest. Ok (zone_seen b z front.0 ∷ rest.0, rest.1)) got e in
+    let c = bind_ok (blocks_in b zs a.0.1) (λ rest. Ok (zone_seen b z a.0.0 ∷ rest.0, rest.1)) got a.2 in
+    let size = bytes_size (z.written * b) xs a.0 a.1 in
+    let all = subst AreBytes (sym (bytes_parts (z.written * b) xs a.0 a.1)) fit in
+    let more = blocks_whole b zs a.0.1 c.0 (rest_fit a.0.0 a.0.1 all) c.1 in
+    let first = zone_seen b z a.0.0 in
+    subst (λ (x : List ZoneBlocks × List ℕ). AreWhole b x.0) (ok_is (first ∷ c.0.0, c.0.1) got c.2) (record {
+      whole = first_whole b first c.0.0 (cut_whole b z.written a.0.0 size) more;
+      bytes = first_bytes b first c.0.0 (blocks_fit b z.written a.0.0 (front_fit a.0.0 a.0.1 all)) more;
+    })
+
+kept_within : (limits : Limits) (zs : List CountedZone) (done : Unit {0}) → limits_kept limits zs ≡ Ok done → IsWithin zs limits
+kept_within limits zs done e =
+    let test = (chosen (nat_le (open_count zs) limits.open_limit && nat_le (active_count zs) limits.active_limit) tt done fault.Limits e).0 in
+    let p = and_parts (nat_le (open_count zs) limits.open_limit) (nat_le (active_count zs) limits.active_limit) test in
+    record { opened = leb-true (open_count zs) limits.open_limit p.0; active = leb-true (active_count zs) limits.active_limit p.1 }
+
+-- the zones, whose records are read
+zone_allowed : (c : ℕ) (zs : List CountedZone) (zones : List ZoneBlocks) → map (counted c) zones ≡ zs
+    → ((k : ℕ) → k < length zs → IsZone (get_or zs k no_counted_zone).state (get_or zs k no_counted_zone).written c)
+    → (z : ℕ) → z < length zones → IsZone (get_or zones z no_zone).state (length (get_or zones z no_zone).blocks) c
+zone_allowed c zs zones same each z h =
+    let there : z < length zs = omega (arith, ap length same, length-map zones (counted c)) in
+    let read = ap (λ (all : List CountedZone). get_or all z no_counted_zone) (sym same) ∙ at-counted c zones z h in
+    subst (λ (r : CountedZone). IsZone r.state r.written c) read (each z there)
+
+-- the records that are read
+record AreAllowed (s : Shape) (zs : List CountedZone) : Type 0 where
+  pub count : length zs ≡ s.zones
+  pub each : (k : ℕ) → k < length zs → IsZone (get_or zs k no_counted_zone).state (get_or zs k no_counted_zone).written s.capacity
+
+records_allowed : (s : Shape) (bytes : List ℕ) (got : List CountedZone × List ℕ) → IsShape s → records_in s bytes ≡ Ok got → AreAllowed s got.0
+records_allowed s bytes got known e =
+    let r = bind_ok (bytes_in (s.zones * 8) bytes) (λ front. zones_in 0 s.capacity s.zones front.0 >>= λ all. Ok (all, front.1)) got e in
+    let q = bind_ok (zones_in 0 s.capacity s.zones r.0.0) (λ all. Ok (all, r.0.1)) got r.2 in
+    let fit = zones_fit 0 s.capacity s.zones r.0.0 q.0 known.capacity_some q.1 in
+    subst (λ (x : List CountedZone × List ℕ). AreAllowed s x.0) (ok_is (q.0, r.0.1) got q.2) (record {
+      count = fit.count;
+      each = λ k h. (fit.each k h).1;
+    })
+
+-- the parts of a text make a namespace
+parts_are : (s : Shape) (zs : List CountedZone) (zones : List ZoneBlocks) → IsShape s → AreAllowed s zs → IsWithin zs s.limits → map (counted s.capacity) zones ≡ zs → AreWhole s.block zones
+    → IsNamespace (namespace_with s zones)
+parts_are s zs zones known allowed within same whole =
+    let count : s.zones ≡ length zones = omega (arith, allowed.count, ap length same, length-map zones (counted s.capacity)) in
+    record {
+      shape = subst (λ (n : ℕ). IsShape (record { block = s.block; zones = n; size = s.size; capacity = s.capacity; limits = s.limits })) count known;
+      fits = zone_allowed s.capacity zs zones same allowed.each;
+      within = subst (λ (all : List CountedZone). IsWithin all s.limits) (sym same) within;
+      whole = whole.whole;
+      bytes = whole.bytes;
+    }
+
+pub loaded_is_namespace : LoadedIsNamespace
+unfolding namespace_in
+loaded_is_namespace bytes ns fit e =
+    let a = bind_ok (header_in bytes) (λ h. after_header h.0 h.1) ns e in
+    let h = a.0.0 in
+    let s = h.geometry in
+    let b = bind_ok (records_in s a.0.1) (λ records. after_records h records.0 records.1) ns a.2 in
+    let t = bind_ok (total_kept h.total b.0.0) (λ same. after_total s b.0.0 b.0.1) ns b.2 in
+    let c = bind_ok (limits_kept s.limits b.0.0) (λ kept. after_limits s b.0.0 b.0.1) ns t.2 in
+    let d = bind_ok (blocks_in s.block b.0.0 b.0.1) (λ blocks. after_blocks s blocks.0 blocks.1) ns c.2 in
+    let f = bind_ok (end_in d.0.1) (λ end. Ok (namespace_with s d.0.0)) ns d.2 in
+    let headed = header_only bytes h a.0.1 fit a.1 in
+    let later = rest_fit (header headed.version s headed.total) a.0.1 (subst AreBytes (sym headed.spelled) fit) in
+    let records = records_only s a.0.1 b.0 later b.1 in
+    let last = rest_fit (records_text b.0.0) b.0.1 (subst AreBytes (sym records.spelled) later) in
+    let blocks = blocks_only s.block s.capacity b.0.0 b.0.1 d.0 records.same d.1 in
+    subst IsNamespace (ok_is (namespace_with s d.0.0) ns f.2)
+    (parts_are s b.0.0 d.0.0 headed.known (records_allowed s a.0.1 b.0 headed.known b.1) (kept_within s.limits b.0.0 c.0 c.1) blocks.counted
+    (blocks_whole s.block b.0.0 b.0.1 d.0 last d.1))

@@ -1,0 +1,151 @@
+-- One part of an image read after another.
+use Rattle.std.proofs.Common.{◌≡◌, ℕ, ◌+◌, ◌*◌, ◌^◌, ◌<◌, ◌≤◌, zero, suc, true, List, [], ◌∷◌, length, get_or, replicate, take, drop, Option, Some, None, Result, Ok, Err, refl, ap, sym, subst, arith}
+use Rattle.std.specs.Prelude.{IfOk, IsOk, nat_le, nat_lt}
+use Rattle.std.proofs.lemmas.List.{length-replicate}
+use Rattle.std.proofs.lemmas.Bool.{leb-true, ltb-true, eqb-true, and_parts}
+use Rattle.zone_state.specs.declared.state.ZoneState.{ZoneState}
+use Rattle.zone_state.specs.declared.state.ZoneState.TheVariants.{Empty, ImplicitlyOpened, ExplicitlyOpened, Closed, ReadOnly, Full, Offline}
+use Rattle.zone_state.specs.State.{state_of}
+use Rattle.zone_state.specs.Zone.{CountedZone, IsZone}
+use Rattle.image_store.specs.declared.fault.LoadFault.{LoadFault}
+use Rattle.image_store.specs.declared.fault.LoadFault.TheVariants as fault
+use Rattle.image_store.specs.declared.fault.RecordFault.TheVariants as record_fault
+use Rattle.image_store.specs.declared.header.Header.{Header}
+use Rattle.image_store.specs.Flat.{no_counted_zone}
+use Rattle.image_store.specs.Geometry.{Shape, IsShape}
+use Rattle.image_store.specs.Loading.{Fails, Gives, NoStreamFails, AreZones}
+use Rattle.image_store.specs.Namespace.{ZoneBlocks, ZonedNamespace}
+use Rattle.image_store.specs.Reading.{◌>>=◌, are_zeros, number_at, allows, bytes_in, header_told, header_in, zone_told, zone_in, zones_in, records_in, total_kept, limits_kept, blocks_in, end_in, namespace_with, namespace_in}
+use Rattle.image_store.proofs.ReadingCalls.{bind_ok, ok_is, chosen, passed, fails_then}
+use Rattle.image_store.proofs.Faults.{no_stream, fails_text, header_text_fault}
+use Rattle.image_store.proofs.FilledBuffers.{Split}
+
+told : (result : Result Header LoadFault) (front rest : List ℕ) → result ≡ header_told front → Gives {Y = Header × List ℕ} ⊥ (λ (h : Header). (h, rest)) result (header_told front >>= λ h. Ok (h, rest))
+told (Ok h) front rest e = ap (λ (r : Result Header LoadFault). r >>= λ x. let all : Result (Header × List ℕ) LoadFault = Ok (x, rest) in all) (sym e)
+told (Err first) front rest e =
+    fails_then ⊥ ⊥ first (header_told front) (λ (h : Header). let all : Result (Header × List ℕ) LoadFault = Ok (h, rest) in all) (λ no. no)
+    (fails_text ⊥ first (header_told front) (header_text_fault front first (sym e)) (sym e))
+
+-- the header, of 64 bytes that were read
+pub header_given : (result : Result Header LoadFault) (front rest all : List ℕ) → bytes_in 64 all ≡ Ok (front, rest) → result ≡ header_told front → Gives {Y = Header × List ℕ} ⊥ (λ (h : Header). (h, rest)) result (header_in all)
+header_given result front rest all read given =
+    let step : header_in all ≡ (header_told front >>= λ h. Ok (h, rest)) = ap (λ (r : Result Split LoadFault). r >>= λ part. header_told part.0 >>= λ h. Ok (h, part.1)) read in
+    subst (λ (r : Result (Header × List ℕ) LoadFault). Gives {Y = Header × List ℕ} ⊥ (λ (h : Header). (h, rest)) result r) (sym step) (told result front rest given)
+
+pub header_no_stream : (result : Result Header LoadFault) (front : List ℕ) → result ≡ header_told front → NoStreamFails result
+header_no_stream (Ok h) front e = tt
+header_no_stream (Err first) front e = no_stream first (header_text_fault front first (sym e))
+
+-- the test of the state table says what the table does
+allows_zone : (state : ZoneState) (written capacity : ℕ) → 1 ≤ capacity → allows state written capacity ≡ true → IsZone state written capacity
+allows_zone Empty written capacity some h = (some, eqb-true written 0 h)
+allows_zone ImplicitlyOpened written capacity some h =
+    let p = and_parts (nat_le 1 written) (nat_lt written capacity) h in
+    (some, (leb-true 1 written p.0, ltb-true written capacity p.1))
+allows_zone ExplicitlyOpened written capacity some h = (some, ltb-true written capacity h)
+allows_zone Closed written capacity some h = (some, ltb-true written capacity h)
+allows_zone ReadOnly written capacity some h = (some, leb-true written capacity h)
+allows_zone Full written capacity some h = (some, leb-true written capacity h)
+allows_zone Offline written capacity some h = (some, eqb-true written 0 h)
+
+with_fits : (zone code : ℕ) (told : Option ZoneState) (written capacity : ℕ) (z : CountedZone) → 1 ≤ capacity → zone_told zone code told written capacity ≡ Ok z
+    → (z.capacity ≡ capacity) × IsZone z.state z.written capacity
+with_fits zone code None written capacity z some e = absurd cc
+with_fits zone code (Some state) written capacity z some e =
+    let made : CountedZone = record { state = state; written = written; capacity = capacity } in
+    let p = chosen (allows state written capacity) made z (fault.BadZone zone (record_fault.Blocks state written capacity)) e in
+    (sym (ap (λ (x : CountedZone). x.capacity) p.1), subst (λ (x : CountedZone). IsZone x.state x.written capacity) p.1 (allows_zone state written capacity some p.0))
+
+zone_fits : (zone capacity : ℕ) (bytes : List ℕ) (z : CountedZone) → 1 ≤ capacity → zone_in zone capacity bytes ≡ Ok z → (z.capacity ≡ capacity) × IsZone z.state z.written capacity
+zone_fits zone capacity bytes z some e =
+    let code = get_or bytes 0 0 in
+    with_fits zone code (state_of code) (number_at bytes 4) capacity z some
+    (passed (are_zeros (take 3 (drop 1 bytes))) (zone_told zone code (state_of code) (number_at bytes 4) capacity) z (fault.BadZone zone record_fault.Reserved) e).1
+
+-- the zones of records, as many as were wanted
+pub record HaveFit (capacity n : ℕ) (zs : List CountedZone) : Type 0 where
+  pub count : length zs ≡ n
+  pub each : (k : ℕ) → k < length zs → ((get_or zs k no_counted_zone).capacity ≡ capacity) × IsZone (get_or zs k no_counted_zone).state (get_or zs k no_counted_zone).written capacity
+
+fit_more : (capacity : ℕ) (z : CountedZone) (zs : List CountedZone) → (z.capacity ≡ capacity) × IsZone z.state z.written capacity
+    → ((k : ℕ) → k < length zs → ((get_or zs k no_counted_zone).capacity ≡ capacity) × IsZone (get_or zs k no_counted_zone).state (get_or zs k no_counted_zone).written capacity)
+    → (k : ℕ) → k < suc (length zs) → ((get_or (z ∷ zs) k no_counted_zone).capacity ≡ capacity) × IsZone (get_or (z ∷ zs) k no_counted_zone).state (get_or (z ∷ zs) k no_counted_zone).written capacity
+fit_more capacity z zs first more zero h = first
+fit_more capacity z zs first more (suc k) h = more k (omega arith)
+
+pub zones_fit : (zone capacity n : ℕ) (bytes : List ℕ) (zs : List CountedZone) → 1 ≤ capacity → zones_in zone capacity n bytes ≡ Ok zs → HaveFit capacity n zs
+zones_fit zone capacity zero bytes zs some e = subst (HaveFit capacity 0) (ok_is [] zs e) (record { count = refl; each = λ k h. absurd (omega arith) })
+zones_fit zone capacity (suc n) bytes zs some e =
+    let a = bind_ok (zone_in zone capacity (take 8 bytes)) (λ z. zones_in (zone + 1) capacity n (drop 8 bytes) >>= λ more. Ok (z ∷ more)) zs e in
+    let b = bind_ok (zones_in (zone + 1) capacity n (drop 8 bytes)) (λ more. Ok (a.0 ∷ more)) zs a.2 in
+    let first = zone_fits zone capacity (take 8 bytes) a.0 some a.1 in
+    let more = zones_fit (zone + 1) capacity n (drop 8 bytes) b.0 some b.1 in
+    subst (HaveFit capacity (suc n)) (ok_is (a.0 ∷ b.0) zs b.2) (record { count = ap suc more.count; each = fit_more capacity a.0 b.0 first more.each })
+
+pub records_fit : {X : Type 0} (view : X → List CountedZone) (s : Shape) (result : Result X LoadFault) (bytes : List ℕ) → IsShape s
+    → Gives (Unit {0}) view result (zones_in 0 s.capacity s.zones bytes) → IfOk result (λ x. AreZones s (view x))
+records_fit view s (Ok x) bytes known e =
+    let fit = zones_fit 0 s.capacity s.zones bytes (view x) known.capacity_some e in
+    λ room size. record {
+      shape = known;
+      count = fit.count;
+      room = size;
+      capacities = λ k h. (fit.each k h).0;
+      fits = λ k h. (fit.each k h).1;
+    }
+records_fit view s (Err first) bytes known e = tt
+
+-- zones that fit their shape are few
+pub zones_few : (s : Shape) (zs : List CountedZone) → AreZones s zs → length zs < 2 ^ 32
+zones_few s zs fit =
+    let room = s.zones * (s.capacity * s.block) in
+    let flat = fit (replicate room 0) (length-replicate {A = ℕ} room 0) in
+    omega (arith, flat.count, flat.shape.zones_most)
+
+-- what is still to be read, after each part
+abbrev pub after_blocks : Shape → List ZoneBlocks → List ℕ → Result ZonedNamespace LoadFault
+after_blocks s zones bytes = end_in bytes >>= λ end. Ok (namespace_with s zones)
+
+abbrev pub after_limits : Shape → List CountedZone → List ℕ → Result ZonedNamespace LoadFault
+after_limits s zs bytes = blocks_in s.block zs bytes >>= λ blocks. after_blocks s blocks.0 blocks.1
+
+abbrev pub after_total : Shape → List CountedZone → List ℕ → Result ZonedNamespace LoadFault
+after_total s zs bytes = limits_kept s.limits zs >>= λ kept. after_limits s zs bytes
+
+abbrev pub after_records : Header → List CountedZone → List ℕ → Result ZonedNamespace LoadFault
+after_records h zs bytes = total_kept h.total zs >>= λ same. after_total h.geometry zs bytes
+
+abbrev pub after_header : Header → List ℕ → Result ZonedNamespace LoadFault
+after_header h bytes = records_in h.geometry bytes >>= λ records. after_records h records.0 records.1
+
+pub past_header : (all rest : List ℕ) (h : Header) → header_in all ≡ Ok (h, rest) → namespace_in all ≡ after_header h rest
+unfolding namespace_in
+past_header all rest h e = ap (λ (r : Result (Header × List ℕ) LoadFault). r >>= λ x. after_header x.0 x.1) e
+
+pub past_records : (h : Header) (bytes rest : List ℕ) (zs : List CountedZone) → records_in h.geometry bytes ≡ Ok (zs, rest) → after_header h bytes ≡ after_records h zs rest
+past_records h bytes rest zs e = ap (λ (r : Result (List CountedZone × List ℕ) LoadFault). r >>= λ records. after_records h records.0 records.1) e
+
+pub past_total : (h : Header) (zs : List CountedZone) (bytes : List ℕ) → total_kept h.total zs ≡ Ok tt → after_records h zs bytes ≡ after_total h.geometry zs bytes
+past_total h zs bytes e = ap (λ (r : Result (Unit {0}) LoadFault). r >>= λ same. after_total h.geometry zs bytes) e
+
+pub past_limits : (s : Shape) (zs : List CountedZone) (bytes : List ℕ) → limits_kept s.limits zs ≡ Ok tt → after_total s zs bytes ≡ after_limits s zs bytes
+past_limits s zs bytes e = ap (λ (r : Result Unit LoadFault). r >>= λ kept. after_limits s zs bytes) e
+
+pub past_blocks : (s : Shape) (zs : List CountedZone) (bytes rest : List ℕ) (zones : List ZoneBlocks) → blocks_in s.block zs bytes ≡ Ok (zones, rest) → after_limits s zs bytes ≡ after_blocks s zones rest
+past_blocks s zs bytes rest zones e = ap (λ (r : Result (List ZoneBlocks × List ℕ) LoadFault). r >>= λ blocks. after_blocks s blocks.0 blocks.1) e
+
+pub past_end : (s : Shape) (zones : List ZoneBlocks) (bytes : List ℕ) → end_in bytes ≡ Ok tt → after_blocks s zones bytes ≡ Ok (namespace_with s zones)
+past_end s zones bytes e = ap (λ (r : Result Unit LoadFault). r >>= λ end. let all : Result ZonedNamespace LoadFault = Ok (namespace_with s zones) in all) e
+
+pub header_accepted : (all rest : List ℕ) (h : Header) → header_in all ≡ Ok (h, rest) → IsOk (header_in all)
+header_accepted all rest h e = subst (λ (r : Result (Header × List ℕ) LoadFault). IsOk r) (sym e) refl
+
+-- a part that fails, by what was still to be read
+pub fails_at : {X : Type 0} (wanted may : Type 0) (first : LoadFault) (part : Result X LoadFault) (next : X → Result ZonedNamespace LoadFault) (all : Result ZonedNamespace LoadFault)
+    → all ≡ (part >>= next) → (wanted → may) → Fails wanted first part → Fails may first all
+fails_at wanted may first part next all so_far up h =
+    subst (λ (r : Result ZonedNamespace LoadFault). Fails may first r) (sym so_far) (fails_then wanted may first part next up h)
+
+pub header_fails : (first : LoadFault) (all : List ℕ) → Fails ⊥ first (header_in all) → Fails (IsOk (header_in all)) first (namespace_in all)
+unfolding namespace_in
+header_fails first all h = fails_then ⊥ (IsOk (header_in all)) first (header_in all) (λ x. after_header x.0 x.1) (λ no. absurd no) h

@@ -1,0 +1,92 @@
+-- One zone's record replaced.
+use Rattle.std.proofs.Common.{◌≡◌, ℕ, ◌+◌, ◌*◌, ◌<◌, ◌≤◌, zero, suc, Bool, true, false, nat_eq, if◌then◌else◌, List, [], ◌∷◌, length, get_or, set, drop, refl, ap, sym, subst, ◌∙◌, arith, Ok}
+use Rattle.std.proofs.lemmas.Bool.{eqb-false}
+use Rattle.std.proofs.lemmas.List.{length-set}
+use Rattle.zone_state.specs.declared.state.ZoneState.{ZoneState}
+use Rattle.zone_state.specs.declared.state.ZoneState.TheVariants.{Empty, ImplicitlyOpened, ExplicitlyOpened, Closed, ReadOnly, Full, Offline}
+use Rattle.zone_state.specs.Zone.{CountedZone, IsZone, refusal, after_write, written_state}
+use Rattle.image_store.specs.Blocks.{block_count}
+use Rattle.image_store.specs.Flat.{zone_seen, no_counted_zone, namespace_of, spliced, IsFlat}
+use Rattle.image_store.specs.Geometry.{Shape}
+use Rattle.image_store.specs.Namespace.{ZoneBlocks, ZonedNamespace, zone_at, with_zone, in_zone_state, cleared}
+use Rattle.image_store.proofs.BlocksOfBytes.{length-blocks, length-spliced}
+use Rattle.image_store.proofs.ZonesInSlots.{zone-at, zones-set}
+use Rattle.image_store.proofs.ImageFields.{allowed_fits, write_fits}
+
+pub zone_set : (s : Shape) (zs : List CountedZone) (xs : List ℕ) (z : ℕ) (r : CountedZone)
+    → namespace_of s (set zs z r) xs ≡ with_zone (namespace_of s zs xs) z (zone_seen s.block r (drop (z * (s.capacity * s.block)) xs))
+zone_set s zs xs z r =
+    ap (λ (all : List ZoneBlocks). let ns : ZonedNamespace = record { block = s.block; size = s.size; capacity = s.capacity; limits = s.limits; zones = all } in ns)
+    (zones-set s.block s.capacity zs xs z r)
+
+-- a record with another state alone changes the zone's state alone
+pub state_set : (s : Shape) (zs : List CountedZone) (xs : List ℕ) (z : ℕ) (to : ZoneState) → z < length zs
+    → namespace_of s (set zs z (record { state = to; written = (get_or zs z no_counted_zone).written; capacity = s.capacity })) xs ≡ in_zone_state (namespace_of s zs xs) z to
+state_set s zs xs z to inside =
+    zone_set s zs xs z (record { state = to; written = (get_or zs z no_counted_zone).written; capacity = s.capacity })
+    ∙ ap (λ (zone : ZoneBlocks). let other : ZoneBlocks = record { state = to; blocks = zone.blocks } in with_zone (namespace_of s zs xs) z other)
+    (sym (zone-at s.block s.capacity zs xs z inside))
+
+-- a record that counts no blocks forgets them
+pub cleared_set : (s : Shape) (zs : List CountedZone) (xs : List ℕ) (z : ℕ) (to : ZoneState)
+    → namespace_of s (set zs z (record { state = to; written = 0; capacity = s.capacity })) xs ≡ cleared (namespace_of s zs xs) z to
+cleared_set s zs xs z to = zone_set s zs xs z (record { state = to; written = 0; capacity = s.capacity })
+
+-- a state after a write allows the blocks that are then written
+written_zone : (from : ZoneState) (written capacity : ℕ) (is_full : Bool) → 1 ≤ written → written ≤ capacity → nat_eq written capacity ≡ is_full
+    → IsZone (if is_full then Full else written_state from) written capacity
+written_zone from written capacity true some fits same = (omega arith, fits)
+written_zone Empty written capacity false some fits other = let apart = eqb-false written capacity other in (omega arith, (some, omega arith))
+written_zone ImplicitlyOpened written capacity false some fits other = let apart = eqb-false written capacity other in (omega arith, (some, omega arith))
+written_zone ExplicitlyOpened written capacity false some fits other = let apart = eqb-false written capacity other in (omega arith, omega arith)
+written_zone Closed written capacity false some fits other = let apart = eqb-false written capacity other in (omega arith, (some, omega arith))
+written_zone ReadOnly written capacity false some fits other = let apart = eqb-false written capacity other in (omega arith, (some, omega arith))
+written_zone Full written capacity false some fits other = let apart = eqb-false written capacity other in (omega arith, (some, omega arith))
+written_zone Offline written capacity false some fits other = let apart = eqb-false written capacity other in (omega arith, (some, omega arith))
+
+pub after_write_zone : (z : CountedZone) (n : ℕ) → 1 ≤ n → refusal z z.written n ≡ Ok tt → IsZone (after_write z n).state (after_write z n).written z.capacity
+after_write_zone z n some allowed =
+    written_zone z.state (z.written + n) z.capacity (nat_eq (z.written + n) z.capacity) (omega arith) (allowed_fits z z.written n allowed) refl
+
+each_set : (P : CountedZone → Type 0) (zs : List CountedZone) (z : ℕ) (r : CountedZone)
+    → ((y : ℕ) → y < length zs → P (get_or zs y no_counted_zone)) → P r → (y : ℕ) → y < length (set zs z r) → P (get_or (set zs z r) y no_counted_zone)
+each_set P [] z r all here y h = absurd (omega arith)
+each_set P (x ∷ zs) zero r all here zero h = here
+each_set P (x ∷ zs) zero r all here (suc y) h = all (suc y) h
+each_set P (x ∷ zs) (suc z) r all here zero h = all 0 (omega arith)
+each_set P (x ∷ zs) (suc z) r all here (suc y) h = each_set P zs z r (λ k in_list. all (suc k) (omega arith)) here y (omega arith)
+
+-- an allowed record in one place, over bytes of the same number
+pub flat_set : (s : Shape) (zs : List CountedZone) (xs ys : List ℕ) (z : ℕ) (r : CountedZone)
+    → IsFlat s zs xs → length ys ≡ length xs → r.capacity ≡ s.capacity → IsZone r.state r.written s.capacity → IsFlat s (set zs z r) ys
+flat_set s zs xs ys z r flat size same fits = record {
+  shape = flat.shape;
+  count = length-set zs z r ∙ flat.count;
+  room = size ∙ flat.room;
+  capacities = each_set (λ (x : CountedZone). x.capacity ≡ s.capacity) zs z r flat.capacities same;
+  fits = each_set (λ (x : CountedZone). IsZone x.state x.written s.capacity) zs z r flat.fits fits;
+}
+
+-- a write that is allowed leaves an allowed record
+pub flat_append : (s : Shape) (zs : List CountedZone) (xs : List ℕ) (z : ℕ) (new : List ℕ) → IsFlat s zs xs → z < length zs → 1 ≤ block_count s.block new
+    → length new ≡ block_count s.block new * s.block → refusal (get_or zs z no_counted_zone) (get_or zs z no_counted_zone).written (block_count s.block new) ≡ Ok tt
+    → IsFlat s (set zs z (after_write (get_or zs z no_counted_zone) (block_count s.block new))) (spliced (z * (s.capacity * s.block) + (get_or zs z no_counted_zone).written * s.block) new xs)
+flat_append s zs xs z new flat inside some whole allowed =
+    let was = get_or zs z no_counted_zone in
+    let is = after_write was (block_count s.block new) in
+    let at = z * (s.capacity * s.block) + was.written * s.block in
+    let same = flat.capacities z inside in
+    let fits = after_write_zone was (block_count s.block new) some allowed in
+    flat_set s zs xs (spliced at new xs) z is flat
+    (length-spliced at new xs (write_fits s zs xs z new flat inside whole allowed))
+    same
+    (subst (λ (n : ℕ). IsZone is.state is.written n) same fits)
+
+-- a state that allows the blocks of the namespace's zone allows those that the image counts
+pub fits_seen : (s : Shape) (zs : List CountedZone) (xs : List ℕ) (z : ℕ) (ns : ZonedNamespace) (to : ZoneState) → namespace_of s zs xs ≡ ns → z < length zs
+    → IsZone to (length (zone_at ns z).blocks) ns.capacity → IsZone to (get_or zs z no_counted_zone).written s.capacity
+fits_seen s zs xs z ns to seen inside h =
+    let count = ap (λ (zone : ZoneBlocks). length zone.blocks) (zone-at s.block s.capacity zs xs z inside)
+    ∙ length-blocks s.block (get_or zs z no_counted_zone).written (drop (z * (s.capacity * s.block)) xs) in
+    subst (λ (n : ℕ). IsZone to n s.capacity) count
+    (subst (λ (m : ZonedNamespace). IsZone to (length (zone_at m z).blocks) m.capacity) (sym seen) h)

@@ -1,0 +1,181 @@
+-- A text of a namespace is read as that namespace.
+use Rattle.std.proofs.Common.{◌≡◌, ℕ, ◌+◌, ◌*◌, ◌^◌, ◌<◌, ◌≤◌, zero, suc, Bool, true, cond, nat_eq, List, [], ◌∷◌, ◌++◌, length, get_or, map, drop, Some, Result, Ok, Err, refl, ap, sym, subst, ◌∙◌, append_assoc, arith, length-append}
+use Rattle.std.proofs.lemmas.Bool.{le-leb, lt-ltb}
+use Rattle.std.proofs.lemmas.List.{append-nil, take_at, drop_at, length-map}
+use Rattle.std.proofs.lemmas.Bool.Decides.{nat_tests}
+use Rattle.std.proofs.lemmas.List.Elements.{All-from_get_or}
+use Rattle.std.proofs.lemmas.List.Sums.{sum_by-le}
+use Rattle.std.proofs.Math.Nat.{mul-le-mul, suc-mul}
+use Rattle.zone_state.specs.declared.state.ZoneState.{ZoneState}
+use Rattle.zone_state.specs.declared.state.ZoneState.TheVariants.{Empty, ImplicitlyOpened, ExplicitlyOpened, Closed, ReadOnly, Full, Offline}
+use Rattle.zone_state.specs.State.{code_of, state_of}
+use Rattle.zone_state.specs.Zone.{CountedZone, IsZone}
+use Rattle.zone_resources.specs.Admission.{IsWithin}
+use Rattle.zone_resources.specs.Counts.{open_count, active_count}
+use Rattle.zone_resources.specs.declared.admission.Limits.{Limits}
+use Rattle.image_store.specs.declared.fault.LoadFault.{LoadFault}
+use Rattle.image_store.specs.declared.fault.LoadFault.TheVariants as fault
+use Rattle.image_store.specs.declared.fault.RecordFault.TheVariants as record_fault
+use Rattle.image_store.specs.Blocks.{blocks_of, bytes_of}
+use Rattle.image_store.specs.Flat.{no_counted_zone, zone_seen}
+use Rattle.image_store.specs.declared.geometry.TheConstants.{MOST_ZONES, MOST_ZONE_BLOCKS}
+use Rattle.image_store.specs.declared.header.Header.{Header}
+use Rattle.image_store.specs.declared.version.Version.{Version}
+use Rattle.image_store.specs.declared.version.Version.TheVariants.{One, Two}
+use Rattle.image_store.specs.Geometry.{Shape, IsShape}
+use Rattle.image_store.specs.Namespace.{ZoneBlocks, ZonedNamespace, no_zone, counted, records, shape, IsNamespace}
+use Rattle.image_store.specs.Reading.{◌>>=◌, allows, zone_told, zone_in, zones_in, records_in, total_kept, limits_kept, blocks_in, namespace_in}
+use Rattle.image_store.specs.Text.{header, written_blocks, record_text, records_text, blocks_text, text, text_of}
+use Rattle.image_store.specs.Version.{Has}
+use Rattle.image_store.proofs.FilledBuffers.{Split, bytes_whole}
+use Rattle.image_store.proofs.Headers.{word_again, header_read, header_seen, total_in}
+use Rattle.image_store.proofs.ImageFields.{within_capacity}
+use Rattle.image_store.proofs.LoadedParts.{after_limits, past_header, past_records, past_total, past_limits, past_blocks, past_end}
+
+-- the table of states as a test
+pub allows_true : (state : ZoneState) (written capacity : ℕ) → IsZone state written capacity → allows state written capacity ≡ true
+allows_true Empty written capacity h = rw h.1 refl
+allows_true ImplicitlyOpened written capacity h = rw (le-leb 1 written h.1.0, lt-ltb written capacity h.1.1) refl
+allows_true ExplicitlyOpened written capacity h = lt-ltb written capacity h.1
+allows_true Closed written capacity h = lt-ltb written capacity h.1
+allows_true ReadOnly written capacity h = le-leb written capacity h.1
+allows_true Full written capacity h = le-leb written capacity h.1
+allows_true Offline written capacity h = rw h.1 refl
+
+code_again : (state : ZoneState) → state_of (code_of state) ≡ Some state
+code_again Empty = refl
+code_again ImplicitlyOpened = refl
+code_again ExplicitlyOpened = refl
+code_again Closed = refl
+code_again ReadOnly = refl
+code_again Full = refl
+code_again Offline = refl
+
+-- records that can be spelled
+pub record CanSpell (capacity : ℕ) (z : CountedZone) : Type 0 where
+  pub same : z.capacity ≡ capacity
+  pub fits : IsZone z.state z.written capacity
+  pub small : capacity < 2 ^ 32
+
+record_again : (zone capacity : ℕ) (z : CountedZone) → CanSpell capacity z → zone_in zone capacity (record_text z) ≡ Ok z
+record_again zone capacity z can =
+    let most = within_capacity z.state z.written capacity can.fits in
+    let small = can.small in
+    let number = word_again z.written [] (omega arith) in
+    ap (λ (n : ℕ). zone_told zone (code_of z.state) (state_of (code_of z.state)) n capacity) number
+    ∙ (ap (λ state. zone_told zone (code_of z.state) state z.written capacity) (code_again z.state)
+    ∙ (ap (λ (test : Bool). let r : Result CountedZone LoadFault = cond test (Ok (record { state = z.state; written = z.written; capacity = capacity })) (Err (fault.BadZone zone (record_fault.Blocks z.state z.written capacity))) in r) (allows_true z.state z.written capacity can.fits)
+    ∙ ap (λ (n : ℕ). let same : CountedZone = record { state = z.state; written = z.written; capacity = n } in let r : Result CountedZone LoadFault = Ok same in r) (sym can.same)))
+
+records_again : (zone capacity : ℕ) (zs : List CountedZone) → ((k : ℕ) → k < length zs → CanSpell capacity (get_or zs k no_counted_zone)) → zones_in zone capacity (length zs) (records_text zs) ≡ Ok zs
+records_again zone capacity [] can = refl
+records_again zone capacity (z ∷ zs) can =
+    ap (λ (r : Result CountedZone LoadFault). r >>= λ first. zones_in (zone + 1) capacity (length zs) (records_text zs) >>= λ more. Ok (first ∷ more)) (record_again zone capacity z (can 0 (omega arith)))
+    ∙ ap (λ (r : Result (List CountedZone) LoadFault). r >>= λ more. Ok (z ∷ more)) (records_again (zone + 1) capacity zs (λ k h. can (suc k) (omega arith)))
+
+pub length-records : (zs : List CountedZone) → length (records_text zs) ≡ length zs * 8
+length-records [] = refl
+length-records (z ∷ zs) = omega (arith, length-records zs, suc-mul (length zs) 8, length-append (record_text z) (records_text zs))
+
+pub records_read : (s : Shape) (zs : List CountedZone) (rest : List ℕ) → length zs ≡ s.zones → ((k : ℕ) → k < length zs → CanSpell s.capacity (get_or zs k no_counted_zone))
+    → records_in s (records_text zs ++ rest) ≡ Ok (zs, rest)
+records_read s zs rest count can =
+    ap (λ (r : Result Split LoadFault). r >>= λ front. zones_in 0 s.capacity s.zones front.0 >>= λ all. Ok (all, front.1)) (bytes_whole (s.zones * 8) (records_text zs) rest (length-records zs ∙ ap (λ (n : ℕ). n * 8) count))
+    ∙ (ap (λ (n : ℕ). zones_in 0 s.capacity n (records_text zs) >>= λ all. Ok (all, rest)) (sym count)
+    ∙ ap (λ (r : Result (List CountedZone) LoadFault). r >>= λ all. Ok (all, rest)) (records_again 0 s.capacity zs can))
+
+pub limits_read : (limits : Limits) (zs : List CountedZone) → IsWithin zs limits → limits_kept limits zs ≡ Ok tt
+limits_read limits zs within = rw (le-leb (open_count zs) limits.open_limit within.opened, le-leb (active_count zs) limits.active_limit within.active) refl
+
+-- blocks that are whole are cut from their bytes again
+blocks_again : (b : ℕ) (blocks : List (List ℕ)) → ((i : ℕ) → i < length blocks → length (get_or blocks i []) ≡ b) → blocks_of b (length blocks) (bytes_of blocks) ≡ blocks
+blocks_again b [] whole = refl
+blocks_again b (x ∷ blocks) whole =
+    let size = whole 0 (omega arith) in
+    ap (λ (front : List ℕ). front ∷ blocks_of b (length blocks) (drop b (x ++ bytes_of blocks))) (take_at x (bytes_of blocks) b size)
+    ∙ (ap (λ (back : List ℕ). x ∷ blocks_of b (length blocks) back) (drop_at x (bytes_of blocks) b size)
+    ∙ ap (λ (more : List (List ℕ)). x ∷ more) (blocks_again b blocks (λ i h. whole (suc i) (omega arith))))
+
+pub length-bytes : (b : ℕ) (blocks : List (List ℕ)) → ((i : ℕ) → i < length blocks → length (get_or blocks i []) ≡ b) → length (bytes_of blocks) ≡ length blocks * b
+length-bytes b [] whole = omega arith
+length-bytes b (x ∷ blocks) whole =
+    omega (arith, whole 0 (omega arith), length-bytes b blocks (λ i h. whole (suc i) (omega arith)), suc-mul (length blocks) b, length-append x (bytes_of blocks))
+
+pub blocks_read : (b c : ℕ) (zones : List ZoneBlocks) (rest : List ℕ) → ((z i : ℕ) → i < length (get_or zones z no_zone).blocks → length (get_or (get_or zones z no_zone).blocks i []) ≡ b)
+    → blocks_in b (map (counted c) zones) (blocks_text zones ++ rest) ≡ Ok (zones, rest)
+blocks_read b c [] rest whole = refl
+blocks_read b c (zone ∷ zones) rest whole =
+    let size = length-bytes b zone.blocks (whole 0) in
+    let parts = append_assoc (bytes_of zone.blocks) (blocks_text zones) rest in
+    ap (blocks_in b (map (counted c) (zone ∷ zones))) parts
+    ∙ (ap (λ (r : Result Split LoadFault). r >>= λ front. blocks_in b (map (counted c) zones) front.1 >>= λ more. Ok (zone_seen b (counted c zone) front.0 ∷ more.0, more.1)) (bytes_whole (length zone.blocks * b) (bytes_of zone.blocks) (blocks_text zones ++ rest) size)
+    ∙ (ap (λ (r : Result (List ZoneBlocks × List ℕ) LoadFault). r >>= λ more. Ok (zone_seen b (counted c zone) (bytes_of zone.blocks) ∷ more.0, more.1)) (blocks_read b c zones rest (λ z i h. whole (suc z) i h))
+    ∙ ap (λ (bs : List (List ℕ)). let seen : ZoneBlocks = record { state = zone.state; blocks = bs } in let r : Result (List ZoneBlocks × List ℕ) LoadFault = Ok (seen ∷ zones, rest) in r) (blocks_again b zone.blocks (whole 0))))
+
+pub at-counted : (c : ℕ) (zones : List ZoneBlocks) (k : ℕ) → k < length zones → get_or (map (counted c) zones) k no_counted_zone ≡ counted c (get_or zones k no_zone)
+at-counted c [] k h = absurd (omega arith)
+at-counted c (zone ∷ zones) zero h = refl
+at-counted c (zone ∷ zones) (suc k) h = at-counted c zones k (omega arith)
+
+pub can_spell : (ns : ZonedNamespace) → IsNamespace ns → (k : ℕ) → k < length (records ns) → CanSpell ns.capacity (get_or (records ns) k no_counted_zone)
+can_spell ns sound k h =
+    let there : k < length ns.zones = omega (arith, length-map ns.zones (counted ns.capacity)) in
+    let most = sound.shape.capacity_most in
+    let size = sound.shape.size_most in
+    subst (CanSpell ns.capacity) (sym (at-counted ns.capacity ns.zones k there)) (record { same = refl; fits = sound.fits k there; small = omega arith })
+
+-- no namespace has more written blocks than can be told
+pub total_small : (ns : ZonedNamespace) → IsNamespace ns → written_blocks (records ns) < 2 ^ 64
+total_small ns sound =
+    let each : (k : ℕ) → k < length (records ns) → (get_or (records ns) k no_counted_zone).written ≤ ns.capacity =
+    λ k h. let z = get_or (records ns) k no_counted_zone in within_capacity z.state z.written ns.capacity (can_spell ns sound k h).fits in
+    let most = sum_by-le (λ z. z.written) ns.capacity (records ns) (All-from_get_or (λ (z : CountedZone). z.written ≤ ns.capacity) (records ns) no_counted_zone each) in
+    let known = sound.shape in
+    let zones : length (records ns) ≤ MOST_ZONES = let count = length-map ns.zones (counted ns.capacity) in let few = known.zones_most in omega arith in
+    let capacity : ns.capacity ≤ MOST_ZONE_BLOCKS = let some = known.capacity_most in let few = known.size_most in omega arith in
+    let product : length (records ns) * ns.capacity ≤ MOST_ZONES * MOST_ZONE_BLOCKS = mul-le-mul zones capacity in
+    omega arith
+
+same_number : (n : ℕ) → nat_eq n n ≡ true
+same_number n = grind (arith, nat_tests)
+
+-- the number of written blocks that the header tells is that of the records
+pub total_read : (version : Version) (zs : List CountedZone) → total_kept (total_in version (written_blocks zs)) zs ≡ Ok tt
+total_read One zs = refl
+total_read Two zs =
+    let total = written_blocks zs in
+    ap (λ (test : Bool). let r : Result (Unit {0}) LoadFault = cond test (Ok tt) (Err (fault.Total total total)) in r) (same_number total)
+
+-- what the header of a namespace tells
+abbrev pub told_of : Version → ZonedNamespace → Header
+told_of version ns = header_seen version (shape ns) (written_blocks (records ns))
+
+-- header and records are read, whatever is behind them
+pub front_read : (version : Version) (ns : ZonedNamespace) (rest : List ℕ) → IsNamespace ns → Has version (shape ns)
+    → namespace_in (header version (shape ns) (written_blocks (records ns)) ++ (records_text (records ns) ++ rest)) ≡ after_limits (shape ns) (records ns) rest
+front_read version ns rest sound has =
+    let s = shape ns in
+    let zs = records ns in
+    let total = written_blocks zs in
+    let h = told_of version ns in
+    let bytes = records_text zs ++ rest in
+    past_header (header version s total ++ bytes) bytes h (header_read version s total bytes sound.shape has (total_small ns sound))
+    ∙ (past_records h bytes rest zs (records_read s zs rest (length-map ns.zones (counted ns.capacity)) (can_spell ns sound))
+    ∙ (past_total h zs rest (total_read version zs)
+    ∙ past_limits s zs rest (limits_read ns.limits zs sound.within)))
+
+pub text_again : (version : Version) (ns : ZonedNamespace) → IsNamespace ns → Has version (shape ns) → namespace_in (text_of version ns) ≡ Ok ns
+text_again version ns sound has =
+    let s = shape ns in
+    let zs = records ns in
+    let last = blocks_text ns.zones in
+    let blocks : blocks_in ns.block zs last ≡ Ok (ns.zones, []) = ap (blocks_in ns.block zs) (sym (append-nil last)) ∙ blocks_read ns.block ns.capacity ns.zones [] sound.whole in
+    front_read version ns last sound has ∙ (past_blocks s zs last [] ns.zones blocks ∙ past_end s ns.zones [] refl)
+
+-- the last version has the shape of each namespace
+pub last_has : (s : Shape) → IsShape s → Has Two s
+last_has s known = record { block = known.block_size; zones = known.zones_most }
+
+-- what is saved is read as what it was saved of
+pub saved_again : (ns : ZonedNamespace) → IsNamespace ns → namespace_in (text ns) ≡ Ok ns
+saved_again ns sound = text_again Two ns sound (last_has (shape ns) sound.shape)

@@ -1,0 +1,62 @@
+-- A completion's bytes tell its fields.
+use Rattle.std.proofs.Common.{◌≡◌, ℕ, ◌*◌, ◌/◌, ◌%◌, ◌^◌, ◌<◌, List, ◌++◌, drop, refl, sym, ap, ◌∙◌, arith, true, false, nat_eq, Some, None}
+use lib.Pointwise.{pointwise, bytes_decides}
+use Rattle.byteorder.specs.Endian.{little_bytes, little_number}
+use Rattle.byteorder.specs.Numbers.{little_number-reads_back}
+use Rattle.zone_state.specs.declared.status.StatusType.{StatusType}
+use Rattle.zone_state.specs.declared.status.StatusType.TheVariants.{Generic, CommandSpecific, VendorSpecific}
+use Rattle.zone_state.specs.Status.{type_number, type_of}
+use Rattle.nvme_entry.specs.declared.completion.Completion.{Completion}
+use Rattle.nvme_entry.specs.Completion.{completion_bytes, status_dword}
+use Rattle.nvme_entry.specs.CompletionFields.{CompletionsTell, AreFields, completion_in, dword_in}
+
+again : (n : ℕ) (rest : List ℕ) → n < 2 ^ 32 → little_number 4 (little_bytes 4 n ++ rest) ≡ n
+again n rest h = little_number-reads_back 4 n rest (omega arith)
+
+three_bits : (kind : StatusType) → type_number kind < 2 ^ 3
+three_bits Generic = omega arith
+three_bits CommandSpecific = omega arith
+three_bits VendorSpecific = omega arith
+
+pub completions_tell : CompletionsTell
+completions_tell c fields =
+    let bytes = completion_bytes c in
+    let kind = three_bits c.status.kind in
+    let small : status_dword c.cid c.status < 2 ^ 32 = omega (arith, fields.cid, fields.code, kind) in
+    let second : dword_in bytes 2 ≡ c.queue * 2 ^ 16 = again (c.queue * 2 ^ 16) (drop 12 bytes) (omega (arith, fields.queue)) in
+    let third : dword_in bytes 3 ≡ status_dword c.cid c.status = again (status_dword c.cid c.status) (drop 16 bytes) small in
+    record {
+      size = refl;
+      dw0 = again c.dw0 (drop 4 bytes) fields.dw0;
+      dw1 = again c.dw1 (drop 8 bytes) fields.dw1;
+      queue = ap (λ (n : ℕ). n / 2 ^ 16) second ∙ omega (arith, fields.queue);
+      cid = ap (λ (n : ℕ). n % 2 ^ 16) third ∙ omega (arith, fields.cid);
+      code = ap (λ (n : ℕ). n / 2 ^ 17 % 2 ^ 8) third ∙ omega (arith, fields.cid, fields.code);
+      kind = ap (λ (n : ℕ). n / 2 ^ 25 % 2 ^ 3) third ∙ omega (arith, fields.cid, fields.code, kind);
+    }
+
+pub false_is_not_true : false ≡ true → ⊥
+false_is_not_true e = cc
+
+type_told : (kind : StatusType) → type_of (type_number kind) ≡ Some kind
+type_told Generic = refl
+type_told CommandSpecific = refl
+type_told VendorSpecific = refl
+
+-- the completion with those fields is the one whose bytes they are
+pub completions_read_back : (c : Completion) → AreFields c → completion_in (completion_bytes c) ≡ Some c
+completions_read_back c fields =
+    let told = completions_tell c fields in
+    let kind : type_of (dword_in (completion_bytes c) 3 / 2 ^ 25 % 2 ^ 3) ≡ Some c.status.kind = ap type_of told.kind ∙ type_told c.status.kind in
+    rw (kind, told.dw0, told.dw1, told.queue, told.cid, told.code) refl
+
+pub some_is_one : {A : Type 0} (a b : A) → Some a ≡ Some b → a ≡ b
+some_is_one a b e = cc
+
+-- where the completion with the fields that bytes tell has other bytes, no completion has these
+pub no_other_is_read : (bytes again : List ℕ) (read : Completion) → Some read ≡ completion_in bytes → again ≡ completion_bytes read → pointwise nat_eq again bytes ≡ false
+    → (c : Completion) → AreFields c → bytes ≡ completion_bytes c → None ≡ Some c
+no_other_is_read bytes again read told spelled differ c fields is =
+    let one : read ≡ c = some_is_one read c (told ∙ ap completion_in is ∙ completions_read_back c fields) in
+    let equal : again ≡ bytes = spelled ∙ ap completion_bytes one ∙ sym is in
+    absurd (false_is_not_true (sym differ ∙ (bytes_decides again bytes).1 equal))

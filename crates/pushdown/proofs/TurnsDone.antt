@@ -1,0 +1,214 @@
+-- A run does its turns, whatever comes between.
+use Rattle.std.proofs.Common.{◌≡◌, ◌≢◌, ℕ, zero, suc, ◌+◌, ◌<◌, Bool, true, false, List, [], ◌∷◌, ◌++◌, length, get_or, take, drop, Option, Some, None, refl, ap, sym, subst, ◌∙◌, arith, append_assoc, get_or-set_other, get_or-set_same}
+use Rattle.std.proofs.lemmas.Bool.{eqb-true}
+use Rattle.std.proofs.lemmas.List.{append-nil}
+use Rattle.zone_state.specs.declared.state.ZoneState.TheVariants.{Offline}
+use Rattle.zone_resources.specs.Holds.{is_destination}
+use Rattle.zone_resources.specs.declared.holds.Holds.{Holds}
+use Rattle.reg_domain.specs.Domain.{Operations}
+use Rattle.image_store.specs.Namespace.{ZoneBlocks, ZonedNamespace, zone_at}
+use Rattle.zns_commands.proofs.Proved.{destinations_are_left}
+use Rattle.pushdown.specs.Admission.{SameProgram}
+use Rattle.pushdown.specs.Answers.{Happening}
+use Rattle.pushdown.specs.Events.{Occurrence, state_after}
+use Rattle.pushdown.specs.Machine.{added, happens, keeping, place_left, slots_left, turn_answer, turned}
+use Rattle.pushdown.specs.Outcome.{Ending, Turn, appended_by}
+use Rattle.pushdown.specs.Pushdown.{EndsWithLast, blocks_at, is_turn_of, no_turn, one_if, own_turns}
+use Rattle.pushdown.specs.State.{Place, State, place_at, program_at}
+use Rattle.device_events.specs.declared.event.Event.{Event}
+use Rattle.device_events.specs.declared.event.Event.TheVariants as event
+use Rattle.pushdown.proofs.Added.{added_leaves, is_added}
+use Rattle.pushdown.proofs.Changes.{after_event}
+use Rattle.pushdown.proofs.OthersEvents.{foreign_event, not_own, there, turn_takes_first, turned_is}
+use Rattle.pushdown.proofs.KeptForRuns.{left_program}
+use Rattle.pushdown.proofs.Places.{AreApart, event_apart, held_at}
+
+-- ---- a foreign event leaves the destination
+
+foreign_zone : {D : Type 0} (operations : Operations D) (s : State) (starved : Bool) (e : Event) (run : ℕ) (place : Place) → is_turn_of run e ≡ false
+    → AreApart s.places → place_at s run ≡ Some place
+    → zone_at (happens operations s starved e).state.namespace place.destination ≡ zone_at s.namespace place.destination
+foreign_zone operations s starved e run place foreign h at =
+    let d = place.destination in
+    after_event operations (λ (t : State). zone_at t.namespace d ≡ zone_at s.namespace d) s starved e (record {
+      same = refl;
+      step = λ step same is.
+          destinations_are_left step s.namespace d (subst (λ (holds : Holds). is_destination holds d ≡ true) (sym same) (held_at s.places run place at));
+      load = λ sub load t are takes. refl;
+      start = λ sub order first passed free some. refl;
+      turn = λ other p turn later is there first.
+          added_leaves s.namespace p.destination d turn.blocks (λ same. not_own run other e is foreign (h.apart run other place p at there same));
+    })
+
+-- ---- a run through events
+
+-- a run with these turns left
+abbrev pub with_turns : Place → List Turn → Place
+with_turns place turns = record place { turns = turns }
+
+-- what holds of a run after so many of its turns
+pub record Stands (s now : State) (run : ℕ) (place : Place) (turns : List Turn) (k : ℕ) : Type 0 where
+  pub left : place_at now run ≡ Some (with_turns place (drop k turns))
+  pub appended : blocks_at now place.destination ≡ blocks_at s place.destination ++ appended_by (take k turns)
+  pub apart : AreApart now.places
+  pub on : (zone_at now.namespace place.destination).state ≢ Offline
+
+module _ {D : Type 0} (operations : Operations D) where
+  own_event : (s : State) (starved : Bool) (e : Event) (run : ℕ) → is_turn_of run e ≡ true → happens operations s starved e ≡ turned s run
+  own_event s starved (event.Submit queue entry input) run mine = cc
+  own_event s starved (event.Turn other) run mine = ap (turned s) (eqb-true other run mine)
+  own_event s starved (event.Fault zone state) run mine = cc
+
+  module _ (run : ℕ) (place : Place) where
+    -- what is known of a run before events
+    pub record Ready (s : State) (turns : List Turn) : Type 0 where
+      pub apart : AreApart s.places
+      pub at : place_at s run ≡ Some (with_turns place turns)
+      pub on : (zone_at s.namespace place.destination).state ≢ Offline
+      pub goes : EndsWithLast turns
+
+    abbrev Stand : List Occurrence → Type 0
+    Stand events = (k : ℕ) (s : State) (turns : List Turn) → Ready s turns → own_turns run events ≡ k → k < length turns
+        → Stands s (state_after operations events s) run place turns k
+
+    abbrev Step : Occurrence → List Occurrence → Bool → Type 0
+    Step o os mine = (k : ℕ) (s : State) (turns : List Turn) → is_turn_of run o.event ≡ mine → Ready s turns
+        → one_if mine + own_turns run os ≡ k → k < length turns
+        → Stands s (state_after operations (o ∷ os) s) run place turns k
+
+    foreign_step : (o : Occurrence) (os : List Occurrence) → Stand os → Step o os false
+    foreign_step o os rest k s turns mine ready own less =
+        let then = (happens operations s o.starved o.event).state in
+        let here = with_turns place turns in
+        let zone = foreign_zone operations s o.starved o.event run here mine ready.apart ready.at in
+        let later = rest k then turns
+        (record {
+          apart = event_apart operations s o.starved o.event ready.apart;
+          at = foreign_event operations s o.starved o.event run here mine ready.at;
+          on = subst (λ (z : ZoneBlocks). z.state ≢ Offline) (sym zone) ready.on;
+          goes = ready.goes;
+        }) (omega (arith, own)) less in
+        record {
+          left = later.left;
+          appended = later.appended ∙ ap (λ (z : ZoneBlocks). z.blocks ++ appended_by (take k turns)) zone;
+          apart = later.apart;
+          on = later.on;
+        }
+
+    own_step : (o : Occurrence) (os : List Occurrence) → Stand os → Step o os true
+    own_step o os rest zero s turns mine ready own less = absurd (omega (arith, own))
+    own_step o os rest (suc m) s [] mine ready own less = absurd (omega (arith, less))
+    own_step o os rest (suc m) s (turn ∷ []) mine ready own less = absurd (omega (arith, less))
+    own_step o os rest (suc m) s (turn ∷ next ∷ turns) mine ready own less =
+        let d = place.destination in
+        let here = with_turns place (turn ∷ next ∷ turns) in
+        let is = own_event s o.starved o.event run mine in
+        let then = (happens operations s o.starved o.event).state in
+        let took = ap (λ (h : Happening). h.state.namespace) (is ∙ turned_is s run here turn (next ∷ turns) ready.at refl) in
+        let new = is_added s.namespace d turn.blocks ready.on in
+        let blocks : blocks_at then d ≡ blocks_at s d ++ turn.blocks = ap (λ (ns : ZonedNamespace). (zone_at ns d).blocks) took ∙ new.blocks_is in
+        let all = appended_by (take m (next ∷ turns)) in
+        let later = rest m then (next ∷ turns)
+        (record {
+          apart = event_apart operations s o.starved o.event ready.apart;
+          at = ap (λ (h : Happening). place_at h.state run) is ∙ turn_takes_first s run here turn (next ∷ turns) ready.at refl ready.goes.0;
+          on = subst (λ (ns : ZonedNamespace). (zone_at ns d).state ≢ Offline) (sym took) new.on;
+          goes = ready.goes.1;
+        }) (omega (arith, own)) (omega (arith, less)) in
+        record {
+          left = later.left;
+          appended = later.appended ∙ ap (λ (xs : List (List ℕ)). xs ++ all) blocks ∙ append_assoc (blocks_at s d) turn.blocks all;
+          apart = later.apart;
+          on = later.on;
+        }
+
+    either_step : (o : Occurrence) (os : List Occurrence) → Stand os → (mine : Bool) → Step o os mine
+    either_step o os rest true = own_step o os rest
+    either_step o os rest false = foreign_step o os rest
+
+    pub stand : (events : List Occurrence) → Stand events
+    stand [] zero s turns ready own less =
+        record { left = ready.at; appended = sym (append-nil (blocks_at s place.destination)); apart = ready.apart; on = ready.on }
+    stand [] (suc m) s turns ready own less = cc
+    stand (o ∷ os) k s turns ready own less = either_step o os (stand os) (is_turn_of run o.event) k s turns refl ready own less
+
+-- ---- the next turn
+
+split : (turns : List Turn) (k : ℕ) → k < length turns → drop k turns ≡ get_or turns k no_turn ∷ drop (k + 1) turns
+split [] k less = absurd (omega (arith, less))
+split (turn ∷ turns) zero less = refl
+split (turn ∷ turns) (suc k) less =
+    let more : suc k + 1 ≡ suc (k + 1) = omega arith in
+    split turns k (omega (arith, less)) ∙ ap (λ (n : ℕ). get_or turns k no_turn ∷ drop n (turn ∷ turns)) (sym more)
+
+take_next : (turns : List Turn) (k : ℕ) → k < length turns
+    → appended_by (take k turns) ++ (get_or turns k no_turn).blocks ≡ appended_by (take (k + 1) turns)
+take_next [] k less = absurd (omega (arith, less))
+take_next (turn ∷ turns) zero less = sym (append-nil turn.blocks)
+take_next (turn ∷ turns) (suc k) less =
+    let more : suc k + 1 ≡ suc (k + 1) = omega arith in
+    append_assoc turn.blocks (appended_by (take k turns)) (get_or turns k no_turn).blocks
+    ∙ ap (λ (xs : List (List ℕ)). turn.blocks ++ xs) (take_next turns k (omega (arith, less)))
+    ∙ ap (λ (n : ℕ). appended_by (take n (turn ∷ turns))) (sym more)
+
+-- ---- the slot of a run's program
+
+left_other : (s : State) (place : Place) (ending : Option Ending) (slot : ℕ) → slot ≢ place.slot → get_or (slots_left s place ending) slot None ≡ program_at s slot
+left_other s place None slot differs = refl
+left_other s place (Some ending) slot differs =
+    get_or-set_other s.slots place.slot slot (keeping (program_at s place.slot) ending.result) None differs
+
+-- ---- the turns that a place had don't matter for what is left
+
+place_of : (place : Place) (turns later : List Turn) (ending : Option Ending)
+    → place_left (with_turns place turns) later ending ≡ place_left place later ending
+place_of place turns later None = refl
+place_of place turns later (Some ending) = refl
+
+slots_of : (s : State) (place : Place) (turns : List Turn) (ending : Option Ending)
+    → slots_left s (with_turns place turns) ending ≡ slots_left s place ending
+slots_of s place turns None = refl
+slots_of s place turns (Some ending) = refl
+
+-- ---- what the next turn does
+
+pub record Next (s now : State) (run : ℕ) (place : Place) (turns : List Turn) (k : ℕ) : Type 0 where
+  pub answer : (turned now run).answer ≡ turn_answer run place (get_or turns k no_turn).ending
+  pub namespace : (turned now run).state.namespace ≡ added now.namespace place.destination (get_or turns k no_turn).blocks
+  pub at_its_end : blocks_at (turned now run).state place.destination ≡ blocks_at now place.destination ++ (get_or turns k no_turn).blocks
+  pub then_appended : blocks_at (turned now run).state place.destination
+      ≡ blocks_at s place.destination ++ appended_by (take (k + 1) turns)
+  pub then_left : place_at (turned now run).state run ≡ place_left place (drop (k + 1) turns) (get_or turns k no_turn).ending
+  pub then_slots : (turned now run).state.slots ≡ slots_left now place (get_or turns k no_turn).ending
+  pub runs_left : (other : ℕ) → other ≢ run → place_at (turned now run).state other ≡ place_at now other
+  pub slots_kept : (slot : ℕ) → slot ≢ place.slot → program_at (turned now run).state slot ≡ program_at now slot
+  pub program_left : SameProgram (program_at now place.slot) (program_at (turned now run).state place.slot)
+
+pub next_is : (s now : State) (run : ℕ) (place : Place) (turns : List Turn) (k : ℕ) → Stands s now run place turns k → k < length turns
+    → Next s now run place turns k
+next_is s now run place turns k stands less =
+    let d = place.destination in
+    let turn = get_or turns k no_turn in
+    let later = drop (k + 1) turns in
+    let here = with_turns place (drop k turns) in
+    let took = turned_is now run here turn later stands.left (split turns k less) in
+    let same = ap (λ (h : Happening). h.state.namespace) took in
+    let grown_by = ap (λ (ns : ZonedNamespace). (zone_at ns d).blocks) same ∙ (is_added now.namespace d turn.blocks stands.on).blocks_is in
+    record {
+      answer = ap (λ (h : Happening). h.answer) took;
+      namespace = same;
+      at_its_end = grown_by;
+      then_appended = grown_by ∙ ap (λ (xs : List (List ℕ)). xs ++ turn.blocks) stands.appended
+          ∙ append_assoc (blocks_at s d) (appended_by (take k turns)) turn.blocks
+          ∙ ap (λ (xs : List (List ℕ)). blocks_at s d ++ xs) (take_next turns k less);
+      then_left = ap (λ (h : Happening). place_at h.state run) took
+          ∙ get_or-set_same now.places run (place_left here later turn.ending) None (there now.places run here stands.left)
+          ∙ place_of place (drop k turns) later turn.ending;
+      then_slots = ap (λ (h : Happening). h.state.slots) took ∙ slots_of now place (drop k turns) turn.ending;
+      runs_left = λ other differs.
+          ap (λ (h : Happening). place_at h.state other) took
+          ∙ get_or-set_other now.places run other (place_left here later turn.ending) None differs;
+      slots_kept = λ slot differs. ap (λ (h : Happening). program_at h.state slot) took ∙ left_other now here turn.ending slot differs;
+      program_left = subst (λ (h : Happening). SameProgram (program_at now place.slot) (program_at h.state place.slot)) (sym took)
+          (left_program now here turn.ending place.slot);
+    }

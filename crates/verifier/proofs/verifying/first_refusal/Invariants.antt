@@ -1,0 +1,13 @@
+use Rattle.std.proofs.Common.{◌≡◌, ◌<◌, ◌≤◌, ℕ, length, None}
+use Rattle.accepted_programs.specs.Accepted.{refusal_below}
+use Rattle.accepted_programs.specs.Facts.{given_below}
+use Rattle.verifier.specs.Rows.{held_at}
+use Rattle.verifier.proofs.verifying.first_refusal.Given as goal
+
+-- the rows of the slots that are left hold what those before give to them
+abbrev pub invariant-loop-slot : goal.invariant-loop-slot
+invariant-loop-slot g l = record {
+  long : length l.rows ≡ length l.program;
+  rows : (s : ℕ) → l.slot ≤ s → s < length l.rows → held_at l.rows s ≡ given_below g.D.Domain.operations l.sizes.block l.program l.slot s;
+  none : refusal_below g.D.Domain.operations l.program l.sizes l.slot ≡ None;
+}
