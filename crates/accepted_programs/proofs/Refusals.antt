@@ -1,17 +1,17 @@
--- Why and where a program is refused.
+-- Why and where a program is refused_for.
 use Rattle.std.proofs.Common.{◌≡◌, ℕ, zero, suc, ◌<◌, List, length, Option, Some, None, arith}
 use Rattle.instruction_set.specs.Program.{instruction_at}
 use Rattle.instruction_set.specs.declared.insn.Insn.{Insn}
 use Rattle.program_interface.specs.RunSizes.{Sizes}
 use Rattle.reg_domain.specs.Domain.{Operations}
-use Rattle.accepted_programs.specs.Accepted.{all_reasons, fails, or_else, reason_of, refusal_at, refusal_below, refused}
+use Rattle.accepted_programs.specs.Accepted.{all_reasons, fails, or_else, reason_of, refusal_at, refusal_below, refused_for}
 use Rattle.accepted_programs.specs.Laws.{NoReasonHolds, RefusalIsAtItsSlot, RefusalIsInside}
 use Rattle.accepted_programs.specs.Facts.{facts_at}
 use Rattle.accepted_programs.specs.declared.reason.Reason.{Reason}
 use Rattle.accepted_programs.specs.declared.reason.Refusal.{Refusal}
 use Rattle.accepted_programs.proofs.Unhindered.{all_fail, of_all}
 
-told_here : (slot : ℕ) (reason : Option Reason) (r : Refusal) → refused slot reason ≡ Some r → r.slot ≡ slot
+told_here : (slot : ℕ) (reason : Option Reason) (r : Refusal) → refused_for slot reason ≡ Some r → r.slot ≡ slot
 told_here slot None r e = cc
 told_here slot (Some reason) r e = cc
 

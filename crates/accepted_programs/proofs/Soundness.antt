@@ -15,7 +15,7 @@ use Rattle.program_meaning.specs.declared.cause.Cause.{Cause}
 use Rattle.program_interface.specs.declared.area.Area.TheVariants.{Context, Block, Stack, Scratch}
 use Rattle.program_interface.specs.RunSizes.{AreSizes, Sizes}
 use Rattle.reg_domain.specs.Domain.{IsSound, Operations}
-use Rattle.accepted_programs.specs.Accepted.{or_else, reason_of, refusal, refusal_at, refusal_below, refused}
+use Rattle.accepted_programs.specs.Accepted.{or_else, reason_of, refusal, refusal_at, refusal_below, refused_for}
 use Rattle.accepted_programs.specs.ShortOffsets.{HasShortOffsets}
 use Rattle.accepted_programs.proofs.CellLaws.{none_known}
 use Rattle.accepted_programs.specs.Facts.{entry_facts, facts_at}
@@ -77,7 +77,7 @@ module _ {D : Type 0} {IsFact : D → Type 0} {contains : D → ℕ → Type 0} 
   module _ (program : List (Option Insn)) (short : HasShortOffsets program) (sizes : Sizes) (are_sizes : AreSizes sizes)
       (accepted : refusal operations program sizes ≡ None) where
     -- ---- no refusal
-    refused_not : (slot : ℕ) (reason : Option Reason) → refused slot reason ≡ None
+    refused_not : (slot : ℕ) (reason : Option Reason) → refused_for slot reason ≡ None
         → reason ≡ None
     refused_not slot None e = refl
     refused_not slot (Some reason) e = cc

@@ -15,17 +15,17 @@ use Rattle.accepted_programs.specs.declared.reason.Reason.{Reason}
 use Rattle.accepted_programs.specs.declared.reason.Reason.TheVariants.{JumpBack, JumpOutside, FallsOff, WriteToFramePointer, LoadOutside, StoreOutside, UnknownHelper, EmitAddress, EmitLength, EmitBudget}
 use Rattle.accepted_programs.specs.declared.reason.Refusal.{Refusal}
 
-abbrev pub number_of : Reason → ℕ
-number_of JumpBack = 1
-number_of JumpOutside = 2
-number_of FallsOff = 3
-number_of WriteToFramePointer = 4
-number_of LoadOutside = 5
-number_of StoreOutside = 6
-number_of UnknownHelper = 7
-number_of EmitAddress = 8
-number_of EmitLength = 9
-number_of EmitBudget = 10
+abbrev pub reason_number : Reason → ℕ
+reason_number JumpBack = 1
+reason_number JumpOutside = 2
+reason_number FallsOff = 3
+reason_number WriteToFramePointer = 4
+reason_number LoadOutside = 5
+reason_number StoreOutside = 6
+reason_number UnknownHelper = 7
+reason_number EmitAddress = 8
+reason_number EmitLength = 9
+reason_number EmitBudget = 10
 
 abbrev pub all_reasons : List Reason
 all_reasons =
@@ -56,9 +56,9 @@ abbrev pub is_unwritable : Option Area → Bool
 is_unwritable None = true
 is_unwritable (Some area) = not (is_writable area)
 
-abbrev pub refused : ℕ → Option Reason → Option Refusal
-refused slot (Some reason) = Some (record { slot = slot; reason = reason })
-refused slot None = None
+abbrev pub refused_for : ℕ → Option Reason → Option Refusal
+refused_for slot (Some reason) = Some (record { slot = slot; reason = reason })
+refused_for slot None = None
 
 -- the first of two refusals
 abbrev pub or_else : Option Refusal → Option Refusal → Option Refusal
@@ -106,7 +106,7 @@ module _ {D : Type 0} (operations : Operations D) where
 
     -- the refusal of a slot; one with no facts isn't looked at
     abbrev pub refusal_at : ℕ → Option Insn → Option (Facts D) → Option Refusal
-    refusal_at slot (Some i) (Some facts) = refused slot (reason_of slot facts i)
+    refusal_at slot (Some i) (Some facts) = refused_for slot (reason_of slot facts i)
     refusal_at slot _ _ = None
 
     -- the first refusal at the slots below this one

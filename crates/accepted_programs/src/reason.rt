@@ -1,7 +1,7 @@
 //! What a verifier refuses.
 
 ghost use Rattle.std.specs.Prelude.{◌≡◌};
-ghost use Rattle.accepted_programs.specs.Accepted.{number_of};
+ghost use Rattle.accepted_programs.specs.Accepted.{reason_number};
 
 use thiserror::Error;
 
@@ -45,7 +45,7 @@ pub enum Reason {
 impl Reason {
     /// The reason's number, 1 to 10.
     pub fn number(self) -> u8
-        ensures { result ≡ number_of self }
+        ensures { result ≡ reason_number self }
     {
         match self {
             Reason::JumpBack => 1,

@@ -1,7 +1,7 @@
 //! What is timed: runs, and nothing that could fail or that has to be dropped.
 
 ghost use Rattle.std.specs.Prelude.{◌≡◌};
-ghost use Rattle.interp.specs.Machine.{group_length, slot_of, steps_of};
+ghost use Rattle.interp.specs.Machine.{group_length, machine_slot, steps_of};
 
 use interp::{Exit, Machine};
 use interval_domain::Intervals;
@@ -40,7 +40,7 @@ pub fn run(
 /// One run with every check.
 #[inline(always)]
 fn run_checked(verified: &Verified<Intervals>, machine: &mut Machine) -> Option<Exit>
-    requires slot { slot_of machine.old ≡ 0 }
+    requires slot { machine_slot machine.old ≡ 0 }
     requires steps { steps_of machine.old ≡ 0 }
     requires group_len { group_length machine.old ≡ 0 }
 {

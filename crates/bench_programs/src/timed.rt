@@ -1,7 +1,7 @@
 //! What is timed: runs, and nothing that could fail or that has to be dropped.
 
 ghost use Rattle.std.specs.Prelude.{◌≡◌, ◌≤◌, length};
-ghost use Rattle.interp.specs.Machine.{group_length, slot_of, steps_of};
+ghost use Rattle.interp.specs.Machine.{group_length, machine_slot, steps_of};
 ghost use Rattle.verifier.specs.Verified.{sizes_of};
 
 use interp::{Exit, Machine};
@@ -41,7 +41,7 @@ fn run_checked(
     machine: &mut Machine,
     group: &mut [u8; LARGEST_BLOCK],
 ) -> Option<Exit>
-    requires slot { slot_of machine.old ≡ 0 }
+    requires slot { machine_slot machine.old ≡ 0 }
     requires steps { steps_of machine.old ≡ 0 }
     requires group_len { group_length machine.old ≡ 0 }
     requires room { (sizes_of verified.now).limit ≤ length group.old }

@@ -6,7 +6,7 @@ use Rattle.ebpf_asm.specs.declared.fault.AssembleError.TheVariants as assembly
 use Rattle.ebpf_decode.specs.Refusal.{refusal_of}
 use Rattle.ebpf_decode.specs.declared.fault.DecodeFault.{DecodeFault}
 use Rattle.ebpf_decode.specs.declared.fault.DecodeFault.TheVariants as program
-use Rattle.emit_append.specs.Refusal.{place_of}
+use Rattle.emit_append.specs.Refusal.{refused_byte}
 use Rattle.emit_append.specs.declared.fault.UnpackFault.{UnpackFault}
 use Rattle.emit_append.specs.declared.fault.UnpackFault.TheVariants as frame
 use Rattle.command_failure.specs.declared.failure.Failure.{Failure}
@@ -22,6 +22,6 @@ told_of_program path bytes (program.Fault fault) = ProgramRefused path (refusal_
 told_of_program path bytes program.Memory = NoMemory
 
 abbrev pub IsToldOfFrame : Bor (List ℕ) → UnpackFault → Failure → Type 0
-IsToldOfFrame path (frame.At byte) (FrameRefused told refusal) = (told ≡ path) × (place_of refusal ≡ byte)
+IsToldOfFrame path (frame.At byte) (FrameRefused told refusal) = (told ≡ path) × (refused_byte refusal ≡ byte)
 IsToldOfFrame path (frame.At byte) _ = ⊥
 IsToldOfFrame path frame.Memory failure = failure ≡ NoMemory

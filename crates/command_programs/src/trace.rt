@@ -2,7 +2,7 @@
 
 ghost use Rattle.std.specs.Prelude.{◌≡◌, ◌≤◌, ◌<◌, ◌+◌, ◌^◌, length};
 ghost use Rattle.program_meaning.specs.Step.{IsAt};
-ghost use Rattle.interp.specs.Machine.{slot_of, steps_of, group_length};
+ghost use Rattle.interp.specs.Machine.{machine_slot, steps_of, group_length};
 ghost use Rattle.program_interface.specs.Context.{context_bytes};
 
 use crate::program::read_program;
@@ -195,7 +195,7 @@ impl Tracer<'_> {
         group: &mut [u8],
         out: &mut O,
     ) -> Result<(), Failure<'a>>
-        requires at { IsAt self.now.program.now (slot_of machine.old) }
+        requires at { IsAt self.now.program.now (machine_slot machine.old) }
         requires steps { steps_of machine.old ≡ 0 }
         requires group { length group.old ≤ LARGEST_BLOCK }
         requires used { group_length machine.old ≤ length group.old }

@@ -16,7 +16,7 @@ use Rattle.std.proofs.lemmas.Fmt.{decimal_is_IsNumeral, digits_is_IsNumeral, dec
 use Rattle.std.proofs.lemmas.Str.Parse.{digit_from_value}
 use Rattle.ebpf_asm.specs.declared.fault.FaultKind.TheVariants.{Operand, OutOfRange}
 use Rattle.ebpf_asm.specs.Fault.{◌>>=◌}
-use Rattle.ebpf_asm.specs.Operand.{numeral_of, magnitude_of, number_of, immediate_of, wide_of, in_range, register_of}
+use Rattle.ebpf_asm.specs.Operand.{numeral_of, magnitude_of, literal_of, immediate_of, wide_of, in_range, register_of}
 use Rattle.ebpf_asm.specs.Listing.{register_text, wide_text}
 
 all_digits : (radix : ℕ) (ds : List ℕ) → AllDigits radix ds → list_all (λ byte. is_digit byte radix) ds ≡ true
@@ -77,8 +77,8 @@ magnitude_again n small =
     ap (λ b. cond b (numeral_of 16 (drop 2 (decimal n))) (numeral_of 10 (decimal n))) (ap (λ b. eqb (get_or (decimal n) 0 0) 48 && b) (no_x_second (decimal n) d.0.1) ∙ and_false (eqb (get_or (decimal n) 0 0) 48))
     ∙ numeral_again 10 (decimal n) n d.0 d.1 small
 
-pub number_again : (z : ℤ) → mag z + 1 < 2 ^ 64 → number_of (signed_decimal z) ≡ Ok z
-unfolding number_of
+pub number_again : (z : ℤ) → mag z + 1 < 2 ^ 64 → literal_of (signed_decimal z) ≡ Ok z
+unfolding literal_of
 number_again (pos n) small =
     let d = decimal_is_IsNumeral n (omega arith) in
     ap (λ b. cond b (numeral_of 10 (drop 1 (decimal n)) >>= λ m. Ok (neg_ℤ (pos m))) (magnitude_of (decimal n) >>= λ m. Ok (pos m))) (no_sign_first (decimal n) d.0.1)
@@ -109,7 +109,7 @@ zeros_value zero ds = refl
 zeros_value (suc k) ds = zeros_value k ds
 
 pub wide_again : (value : ℕ) → value < 2 ^ 64 → wide_of (wide_text value) ≡ Ok value
-unfolding wide_of number_of magnitude_of
+unfolding wide_of literal_of magnitude_of
 wide_again value small =
     let ds = digits 16 false value in
     let k = 16 - length ds in

@@ -31,8 +31,8 @@ magnitude_of text =
     if slice_index text 0 == 48 && slice_index text 1 == 120 then numeral_of 16 (drop 2 text) else numeral_of 10 text
 
 -- a number: decimal behind a `-`, or one without a sign
-unfoldable pub number_of : List ℕ → Result ℤ FaultKind
-number_of text =
+unfoldable pub literal_of : List ℕ → Result ℤ FaultKind
+literal_of text =
     if slice_index text 0 == 45 then (numeral_of 10 (drop 1 text) >>= λ n. Ok (neg_ℤ (pos n)))
     else (magnitude_of text >>= λ n. Ok (pos n))
 
@@ -58,14 +58,14 @@ long_of z = in_range (negsuc 2147483647) (pos 2147483647) z
 -- an immediate: the low 32 bits of a number from -2 ^ 31 to 2 ^ 32 - 1
 unfoldable pub immediate_of : List ℕ → Result ℤ FaultKind
 immediate_of text = do
-  number ← number_of text
+  number ← literal_of text
   immediate ← in_range (negsuc 2147483647) (pos 4294967295) number
   Ok (cast_signed w32 (cast_unsigned w32 immediate))
 
 -- a wide value: the low 64 bits of a number from -2 ^ 63 to 2 ^ 64 - 1
 unfoldable pub wide_of : List ℕ → Result ℕ FaultKind
 wide_of text = do
-  number ← number_of text
+  number ← literal_of text
   value ← in_range (negsuc 9223372036854775807) (pos 18446744073709551615) number
   Ok (cast_unsigned w64 value)
 

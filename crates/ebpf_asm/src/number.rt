@@ -1,7 +1,7 @@
 //! Numbers.
 
 ghost use Rattle.std.specs.Prelude.{◌≡◌, ◌+◌, ◌*◌, ◌^◌, ◌<◌, ◌≤◌, ℕ};
-ghost use Rattle.ebpf_asm.specs.Operand.{numeral_of, magnitude_of, number_of, signed_of, short_of, long_of, immediate_of, wide_of};
+ghost use Rattle.ebpf_asm.specs.Operand.{numeral_of, magnitude_of, literal_of, signed_of, short_of, long_of, immediate_of, wide_of};
 ghost use Rattle.ebpf_asm.specs.Number.{below_2_64};
 
 use crate::fault::FaultKind;
@@ -71,9 +71,9 @@ pub(crate) fn signed(text: &[u8]) -> Result<i128, FaultKind>
 }
 
 /// A decimal number behind a `-`, or a number without a sign.
-#[tactic(auto, unfolding(crate::specs::Operand::number_of))]
+#[tactic(auto, unfolding(crate::specs::Operand::literal_of))]
 fn number(text: &[u8]) -> Result<i128, FaultKind>
-    ensures { result ≡ number_of text.now }
+    ensures { result ≡ literal_of text.now }
 {
     match text {
         [b'-', digits @ ..] => Ok(-i128::from(numeral(digits, 10)?)),

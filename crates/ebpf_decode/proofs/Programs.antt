@@ -8,7 +8,7 @@ use Rattle.instruction_set.specs.declared.fields.Fields.{Fields}
 use Rattle.instruction_set.specs.declared.insn.Insn.{Insn}
 use Rattle.instruction_set.specs.declared.insn.Insn.TheVariants.{LoadImmediate}
 use Rattle.instruction_set.specs.Program.{IsProgram, is_wide, slots_of}
-use Rattle.ebpf_decode.specs.Reading.{decoded, found_in, length_fault, read, read_slots, slots_at, then_read, unless_length, with_front}
+use Rattle.ebpf_decode.specs.Reading.{decoded_program, found_in, length_fault, read, read_slots, slots_at, then_read, unless_length, with_front}
 use Rattle.instruction_set.specs.Spelling.{Fits, first_slot, instructions_of, program_bytes, second_slot, slot_bytes, slots_spelled, spelling}
 use Rattle.program_interface.specs.declared.TheConstants.{MOST_SLOTS}
 use Rattle.std.proofs.lemmas.Bool.{eq-eqb, eqb-false, eqb-true, le-ltb, ltb-false, ne_eqb, not-false, not_from_true}
@@ -178,7 +178,7 @@ three-none : (a b c : Bool) (p q r : FaultKind) → a ≡ false → b ≡ false 
 three-none a b c p q r x y z = rw (x, y, z) refl
 
 -- what a program spells decodes as the program
-pub program-again : (slots : List (Option Insn)) → IsProgram slots → decoded (program_bytes slots) ≡ Ok slots
+pub program-again : (slots : List (Option Insn)) → IsProgram slots → decoded_program (program_bytes slots) ≡ Ok slots
 program-again slots program =
     let is = program.instructions in
     let fs = flat_map slots_spelled is in
@@ -191,7 +191,7 @@ program-again slots program =
     let whole : not (eqb (length (flat_map slot_bytes fs) % 8) 0) ≡ false = not_from_true _ (eq-eqb _ _ (omega arith)) in
     let filled : eqb (length (flat_map slot_bytes fs)) 0 ≡ false = ne_eqb _ _ (λ none. omega arith) in
     let few : ltb MOST_SLOTS (length (flat_map slot_bytes fs) / 8) ≡ false = le-ltb _ _ (omega arith) in
-    ap decoded bytes
+    ap decoded_program bytes
     ∙ ap (λ k. unless_length k (read_slots false 0 (slots_at (length (flat_map slot_bytes fs) / 8) (flat_map slot_bytes fs)))) (three-none _ _ _ _ _ _ whole filled few)
     ∙ ap (λ n. read_slots false 0 (slots_at n (flat_map slot_bytes fs))) count
     ∙ ap (read_slots false 0) (slots-again fs (fit-slots is program.fits))
@@ -206,14 +206,14 @@ one-read a b e = cc
 
 -- programs that are spelled alike are one
 pub one-program : (a b : List (Option Insn)) → IsProgram a → IsProgram b → program_bytes a ≡ program_bytes b → a ≡ b
-one-program a b p q same = one-read a b (sym (program-again a p) ∙ ap decoded same ∙ program-again b q)
+one-program a b p q same = one-read a b (sym (program-again a p) ∙ ap decoded_program same ∙ program-again b q)
 
 unless_length-ok : (k : Option FaultKind) (read : Result (List (Option Insn)) Fault) (slots : List (Option Insn)) → unless_length k read ≡ Ok slots → (k ≡ None) × (read ≡ Ok slots)
 unless_length-ok (Some kind) read slots e = absurd cc
 unless_length-ok None read slots e = (refl, e)
 
 -- what decodes is a program, spelled by the bytes
-pub decoded-program : (bytes : List ℕ) (slots : List (Option Insn)) → IsBytes bytes → decoded bytes ≡ Ok slots → IsProgram slots × (bytes ≡ program_bytes slots)
+pub decoded-program : (bytes : List ℕ) (slots : List (Option Insn)) → IsBytes bytes → decoded_program bytes ≡ Ok slots → IsProgram slots × (bytes ≡ program_bytes slots)
 decoded-program bytes slots fits e =
     let ok = unless_length-ok (length_fault (length bytes)) (read_slots false 0 (slots_at (length bytes / 8) bytes)) slots e in
     program-read bytes slots fits ok.0 ok.1

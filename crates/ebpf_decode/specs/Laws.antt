@@ -3,13 +3,13 @@ use Rattle.std.specs.Prelude.{◌≡◌, ◌<◌, ℕ, List, Option, Ok, Err, sl
 use Rattle.ebpf_decode.specs.declared.fault.Fault.{Fault}
 use Rattle.instruction_set.specs.declared.insn.Insn.{Insn}
 use Rattle.instruction_set.specs.Program.{IsProgram}
-use Rattle.ebpf_decode.specs.Reading.{decoded}
+use Rattle.ebpf_decode.specs.Reading.{decoded_program}
 use Rattle.instruction_set.specs.Spelling.{program_bytes}
 use Rattle.program_interface.specs.declared.TheConstants.{MOST_SLOTS}
 
 -- what a program spells decodes as the program
 abbrev pub SpelledIsDecoded : Type 0
-SpelledIsDecoded = (slots : List (Option Insn)) → IsProgram slots → decoded (program_bytes slots) ≡ Ok slots
+SpelledIsDecoded = (slots : List (Option Insn)) → IsProgram slots → decoded_program (program_bytes slots) ≡ Ok slots
 
 -- programs that are spelled alike are one
 abbrev pub HasOneProgram : Type 0
@@ -18,9 +18,9 @@ HasOneProgram = (a b : List (Option Insn)) → IsProgram a → IsProgram b → p
 -- what decodes, of numbers below 256, is a program spelled by the bytes
 abbrev pub DecodedIsSpelled : Type 0
 DecodedIsSpelled =
-    (bytes : List ℕ) (slots : List (Option Insn)) → ((k : ℕ) → slice_index bytes k < 256) → decoded bytes ≡ Ok slots
+    (bytes : List ℕ) (slots : List (Option Insn)) → ((k : ℕ) → slice_index bytes k < 256) → decoded_program bytes ≡ Ok slots
     → IsProgram slots × (bytes ≡ program_bytes slots)
 
 -- the slot of a fault is below the most slots of a program
 abbrev pub FaultIsInside : Type 0
-FaultIsInside = (bytes : List ℕ) (fault : Fault) → decoded bytes ≡ Err fault → fault.slot < MOST_SLOTS
+FaultIsInside = (bytes : List ℕ) (fault : Fault) → decoded_program bytes ≡ Err fault → fault.slot < MOST_SLOTS

@@ -167,8 +167,8 @@ unless_length (Some kind) slots = Err (record { slot = 0; kind = kind })
 unless_length None slots = slots
 
 -- the program that bytes spell, or their first fault
-abbrev pub decoded : List ℕ → Result (List (Option Insn)) Fault
-decoded bytes = unless_length (length_fault (length bytes)) (read_slots false 0 (slots_at (length bytes / 8) bytes))
+abbrev pub decoded_program : List ℕ → Result (List (Option Insn)) Fault
+decoded_program bytes = unless_length (length_fault (length bytes)) (read_slots false 0 (slots_at (length bytes / 8) bytes))
 
 -- ---- what a function answers: what was read, unless memory ran out
 

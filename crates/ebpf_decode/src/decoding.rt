@@ -3,7 +3,7 @@
 ghost use Rattle.std.specs.Prelude.{◌≡◌, ◌<◌, ◌≤◌, ◌+◌, ◌*◌, ◌/◌, ◌^◌, drop, length, slice_get, false, None, IfOk};
 ghost use Rattle.std.specs.Int.{w32, cast_unsigned};
 ghost use Rattle.instruction_set.specs.Spelling.{program_bytes};
-ghost use Rattle.ebpf_decode.specs.Reading.{Gives, begins_wide, decoded, entry, fields_at, first_fault, has_more, has_no_register, has_unused, immediate_of, instruction, is_left_out, length_fault, read, read_slots, slots_at, source_of, signed_move};
+ghost use Rattle.ebpf_decode.specs.Reading.{Gives, begins_wide, decoded_program, entry, fields_at, first_fault, has_more, has_no_register, has_unused, immediate_of, instruction, is_left_out, length_fault, read, read_slots, slots_at, source_of, signed_move};
 
 use crate::fault::{DecodeFault, Fault, FaultKind};
 use crate::fields::from_bytes;
@@ -289,7 +289,7 @@ pub fn decode(alloc: Global, bytes: &[u8]) -> Result<Program, DecodeFault>
     // What is decoded is spelled by the bytes.
     ensures found { IfOk result (λ program. bytes.now ≡ program_bytes program) }
     // Which program or fault it is.
-    ensures exact { Gives (λ program. program) result (decoded bytes.now) }
+    ensures exact { Gives (λ program. program) result (decoded_program bytes.now) }
 {
     if let Some(kind) = length_fault(bytes.len()) {
         return Err(DecodeFault::Fault(Fault { slot: 0, kind }));

@@ -3,7 +3,7 @@
 ghost use Rattle.std.specs.Prelude.{◌≡◌, ◌<◌, ◌≤◌, ◌%◌, ◌/◌, ◌^◌, ◌++◌, length, IfSome, IfOk, OnOk, Ok};
 ghost use Rattle.std.specs.Int.{w32, cast_signed};
 ghost use Rattle.std.specs.List.{flat_map};
-ghost use Rattle.ebpf_decode.specs.Reading.{decoded};
+ghost use Rattle.ebpf_decode.specs.Reading.{decoded_program};
 ghost use Rattle.instruction_set.specs.Spelling.{access_opcode, first_slot, operation_opcode, program_bytes, second_slot, slot_bytes, source_bit, source_immediate, source_register, spelling};
 
 use crate::fields::to_bytes;
@@ -258,7 +258,7 @@ fn encode_slots(alloc: Global, slots: &[Option<Insn>]) -> Result<Vec<u8>, AllocE
 pub fn encode(alloc: Global, program: &Program) -> Result<Vec<u8>, AllocError>
     ensures spelled { IfOk result (λ bytes. bytes.items ≡ program_bytes program.now) }
     // Decoding gives the program again.
-    ensures again { IfOk result (λ bytes. decoded bytes.items ≡ Ok program.now) }
+    ensures again { IfOk result (λ bytes. decoded_program bytes.items ≡ Ok program.now) }
 {
     encode_slots(alloc, program.as_slice())
 }

@@ -4,7 +4,7 @@ use Rattle.std.proofs.lemmas.List.{append-nil, nil_from_length}
 use Rattle.std.proofs.Math.Nat.{div-eq_of_lt}
 use Rattle.emit_append.specs.declared.fault.UnpackFault.{UnpackFault}
 use Rattle.emit_append.specs.declared.fault.UnpackFault.TheVariants.{At, Memory}
-use Rattle.emit_append.specs.Frames.{Reading, and_then, block_at, blocks_at, then_read}
+use Rattle.emit_append.specs.Frames.{Reading, and_then, output_block_at, output_blocks_at, then_read}
 use Rattle.emit_append.specs.Unpacking.{Fails, Gives}
 use Rattle.emit_append.proofs.FramesRead.{and_then-err, more_blocks, no_more_blocks, part_of_block}
 
@@ -21,20 +21,20 @@ fails_on Memory records first rest is = tt
 
 -- blocks from a place on, after some records, where their reading is all
 module _ (block at : ℕ) (records : List (List ℕ)) (all : Reading) (rest : List ℕ) (some : 0 < block)
-    (read : then_read records (blocks_at (length rest / block) block at rest) ≡ all) where
+    (read : then_read records (output_blocks_at (length rest / block) block at rest) ≡ all) where
   pub goes_on_with : (front back : List ℕ) → block ≤ length rest → front ≡ take block rest → back ≡ drop block rest →
-      all ≡ then_read records (and_then (block_at at front) (blocks_at (length back / block) block (at + block) back))
+      all ≡ then_read records (and_then (output_block_at at front) (output_blocks_at (length back / block) block (at + block) back))
   goes_on_with front back long first last = rw (first, last) (sym read ∙ ap (then_read records) (more_blocks block at rest some long))
 
   pub is_part : length rest < block → 0 < length rest → all ≡ Err at
   is_part short left =
       let none : length rest / block ≡ 0 = div-eq_of_lt short in
-      sym read ∙ ap (λ count. then_read records (blocks_at count block at rest)) none ∙ ap (then_read records) (part_of_block block at rest left)
+      sym read ∙ ap (λ count. then_read records (output_blocks_at count block at rest)) none ∙ ap (then_read records) (part_of_block block at rest left)
 
   pub is_end : length rest ≡ 0 → all ≡ Ok records
   is_end empty =
       let none : length rest / block ≡ 0 = div-eq_of_lt (omega arith) in
       let nothing = nil_from_length rest empty in
-      sym read ∙ ap (λ count. then_read records (blocks_at count block at rest)) none
-      ∙ ap (λ bytes. then_read records (blocks_at 0 block at bytes)) nothing
+      sym read ∙ ap (λ count. then_read records (output_blocks_at count block at rest)) none
+      ∙ ap (λ bytes. then_read records (output_blocks_at 0 block at bytes)) nothing
       ∙ ap (then_read records) (no_more_blocks block at) ∙ ap Ok (append-nil records)

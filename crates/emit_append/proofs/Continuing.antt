@@ -4,12 +4,12 @@ use Rattle.std.proofs.lemmas.Bool.{cases_lt}
 use Rattle.std.proofs.lemmas.List.{map-append}
 use Rattle.std.specs.List.{AllByRecursion}
 use Rattle.emit_append.specs.GoingOn.{PackingGoesOn}
-use Rattle.emit_append.specs.Packing.{Layout, behind, beginning, laid_out, filled, packed, padded, released, pending_of, all_but_last, last_or_empty}
+use Rattle.emit_append.specs.Packing.{Layout, behind, beginning, laid_out, block_fillings, packed, padded, released, pending_of, all_but_last, last_or_empty}
 use Rattle.emit_append.proofs.Layouts.{laid-behind, laid-beginning, laid-empty}
 
 -- the blocks begun, with more groups after them
 abbrev extended : ℕ → List (List ℕ) → List (List ℕ) → List (List ℕ)
-extended block [] after = filled block after
+extended block [] after = block_fillings block after
 extended block (x ∷ []) after = (beginning x (laid_out block (block - length x) after)).later
 extended block (x ∷ y ∷ ys) after = x ∷ extended block (y ∷ ys) after
 
@@ -47,7 +47,7 @@ extended-later : (block : ℕ) (begun : List ℕ) (later after : List (List ℕ)
 extended-later block begun [] after = let none : 0 - length begun ≡ 0 = omega arith in rw none refl
 extended-later block begun (x ∷ xs) after = refl
 
-filled-append : (block : ℕ) (before after : List (List ℕ)) → filled block (before ++ after) ≡ extended block (filled block before) after
+filled-append : (block : ℕ) (before after : List (List ℕ)) → block_fillings block (before ++ after) ≡ extended block (block_fillings block before) after
 filled-append block before after = ap (λ l. l.later) (laid-append block 0 before after) ∙ extended-later block (laid_out block 0 before).begun (laid_out block 0 before).later after
 
 -- a block begun holds a byte
@@ -63,16 +63,16 @@ later-hold block room (g ∷ gs) =
     (cases_lt room (length g))
 
 -- one block more goes on as a first group
-filled-first : (block : ℕ) (x : List ℕ) (after : List (List ℕ)) → 0 < length x → filled block (x ∷ after) ≡ (beginning x (laid_out block (block - length x) after)).later
+filled-first : (block : ℕ) (x : List ℕ) (after : List (List ℕ)) → 0 < length x → block_fillings block (x ∷ after) ≡ (beginning x (laid_out block (block - length x) after)).later
 filled-first block x after some = ap (λ l. l.later) (laid-beginning block 0 x after some)
 
-extended-is : (block : ℕ) (blocks after : List (List ℕ)) → HoldBytes blocks → extended block blocks after ≡ all_but_last blocks ++ filled block (last_or_empty blocks ∷ after)
+extended-is : (block : ℕ) (blocks after : List (List ℕ)) → HoldBytes blocks → extended block blocks after ≡ all_but_last blocks ++ block_fillings block (last_or_empty blocks ∷ after)
 extended-is block [] after hold = ap (λ l. l.later) (sym (laid-empty block 0 after))
 extended-is block (x ∷ []) after hold = sym (filled-first block x after hold.0)
 extended-is block (x ∷ y ∷ ys) after hold = ap (λ bs. x ∷ bs) (extended-is block (y ∷ ys) after hold.1)
 
-filled_goes_on : (block : ℕ) (before after : List (List ℕ)) → filled block (before ++ after) ≡ all_but_last (filled block before) ++ filled block (pending_of block before ∷ after)
-filled_goes_on block before after = filled-append block before after ∙ extended-is block (filled block before) after (later-hold block 0 before)
+filled_goes_on : (block : ℕ) (before after : List (List ℕ)) → block_fillings block (before ++ after) ≡ all_but_last (block_fillings block before) ++ block_fillings block (pending_of block before ∷ after)
+filled_goes_on block before after = filled-append block before after ∙ extended-is block (block_fillings block before) after (later-hold block 0 before)
 
 map-all_but_last : (f : List ℕ → List ℕ) (xs : List (List ℕ)) → map f (all_but_last xs) ≡ all_but_last (map f xs)
 map-all_but_last f [] = refl
@@ -84,7 +84,7 @@ last-holds x [] hold = hold.0
 last-holds x (y ∷ ys) hold = last-holds y ys hold.1
 
 -- what goes on from a block begun begins with a block
-goes_on_some : (block : ℕ) (blocks after : List (List ℕ)) → HoldBytes blocks → 0 < length blocks → 0 < length (filled block (last_or_empty blocks ∷ after))
+goes_on_some : (block : ℕ) (blocks after : List (List ℕ)) → HoldBytes blocks → 0 < length blocks → 0 < length (block_fillings block (last_or_empty blocks ∷ after))
 goes_on_some block [] after hold some = absurd (omega arith)
 goes_on_some block (x ∷ xs) after hold some = rw (filled-first block (last_or_empty (x ∷ xs)) after (last-holds x xs hold)) (omega arith)
 
@@ -109,28 +109,28 @@ last-goes_on (x ∷ xs) [] some = absurd (omega (arith, some (omega arith)))
 last-goes_on (x ∷ xs) (y ∷ ys) some = last-append (all_but_last (x ∷ xs)) y ys
 
 module _ (block : ℕ) (before after : List (List ℕ)) where
-  some_more : 0 < length (filled block before) → 0 < length (filled block (pending_of block before ∷ after))
-  some_more some = goes_on_some block (filled block before) after (later-hold block 0 before) some
+  some_more : 0 < length (block_fillings block before) → 0 < length (block_fillings block (pending_of block before ∷ after))
+  some_more some = goes_on_some block (block_fillings block before) after (later-hold block 0 before) some
 
   packed_goes_on : packed block (before ++ after) ≡ released block before ++ packed block (pending_of block before ∷ after)
   packed_goes_on =
       ap (map (padded block)) (filled_goes_on block before after)
-      ∙ map-append (padded block) (all_but_last (filled block before)) (filled block (pending_of block before ∷ after))
-      ∙ ap (λ bs. bs ++ packed block (pending_of block before ∷ after)) (map-all_but_last (padded block) (filled block before))
+      ∙ map-append (padded block) (all_but_last (block_fillings block before)) (block_fillings block (pending_of block before ∷ after))
+      ∙ ap (λ bs. bs ++ packed block (pending_of block before ∷ after)) (map-all_but_last (padded block) (block_fillings block before))
 
   released_goes_on : released block (before ++ after) ≡ released block before ++ released block (pending_of block before ∷ after)
   released_goes_on =
-      let rest = filled block (pending_of block before ∷ after) in
+      let rest = block_fillings block (pending_of block before ∷ after) in
       ap (λ bs. all_but_last (map (padded block) bs)) (filled_goes_on block before after)
-      ∙ sym (map-all_but_last (padded block) (all_but_last (filled block before) ++ rest))
-      ∙ ap (map (padded block)) (all_but_last-goes_on (filled block before) rest some_more)
-      ∙ map-append (padded block) (all_but_last (filled block before)) (all_but_last rest)
-      ∙ ap (λ bs. bs ++ map (padded block) (all_but_last rest)) (map-all_but_last (padded block) (filled block before))
+      ∙ sym (map-all_but_last (padded block) (all_but_last (block_fillings block before) ++ rest))
+      ∙ ap (map (padded block)) (all_but_last-goes_on (block_fillings block before) rest some_more)
+      ∙ map-append (padded block) (all_but_last (block_fillings block before)) (all_but_last rest)
+      ∙ ap (λ bs. bs ++ map (padded block) (all_but_last rest)) (map-all_but_last (padded block) (block_fillings block before))
       ∙ ap (λ bs. released block before ++ bs) (map-all_but_last (padded block) rest)
 
   pending_goes_on : pending_of block (before ++ after) ≡ pending_of block (pending_of block before ∷ after)
   pending_goes_on =
-      ap last_or_empty (filled_goes_on block before after) ∙ last-goes_on (filled block before) (filled block (pending_of block before ∷ after)) some_more
+      ap last_or_empty (filled_goes_on block before after) ∙ last-goes_on (block_fillings block before) (block_fillings block (pending_of block before ∷ after)) some_more
 
 pub packing_goes_on : PackingGoesOn
 packing_goes_on block before after = record {

@@ -4,7 +4,7 @@ use Rattle.std.proofs.Math.Nat.{add-div_right}
 use Rattle.std.proofs.lemmas.Bool.{cases_lt}
 use Rattle.std.proofs.lemmas.Bool.Decides.{nat_tests}
 use Rattle.std.proofs.lemmas.List.{drop-take, length-take-le, take-take}
-use Rattle.emit_append.specs.Frames.{Reading, after_frame, and_then, block_at, blocks_at, frame_length, frame_record, frames_at, then_read, zeros_at}
+use Rattle.emit_append.specs.Frames.{Reading, after_frame, and_then, output_block_at, output_blocks_at, frame_length, frame_record, frames_at, then_read, zeros_at}
 
 pub then_read-none : (reading : Reading) → then_read [] reading ≡ reading
 then_read-none (Ok records) = refl
@@ -51,17 +51,17 @@ same_steps (suc first) (suc second) at rest few more =
     (cases_lt 0 (frame_length rest))
 
 -- what is left of a block, by what stands in front
-pub block-zeros : (at : ℕ) (rest : List ℕ) → frame_length rest ≡ 0 → block_at at rest ≡ zeros_at at rest
+pub block-zeros : (at : ℕ) (rest : List ℕ) → frame_length rest ≡ 0 → output_block_at at rest ≡ zeros_at at rest
 unfolding frames_at
 block-zeros at [] none = refl
 block-zeros at (x ∷ xs) none = step-zeros (length xs) at (x ∷ xs) none
 
-pub block-short : (at : ℕ) (rest : List ℕ) → 0 < frame_length rest → length rest < 2 + frame_length rest → block_at at rest ≡ Err at
+pub block-short : (at : ℕ) (rest : List ℕ) → 0 < frame_length rest → length rest < 2 + frame_length rest → output_block_at at rest ≡ Err at
 block-short at [] some short = absurd (omega arith)
 block-short at (x ∷ xs) some short = step-short (length xs) at (x ∷ xs) some short
 
 pub block-frame : (at : ℕ) (rest : List ℕ) → 0 < frame_length rest → 2 + frame_length rest ≤ length rest →
-    block_at at rest ≡ then_read (frame_record rest ∷ []) (block_at (at + (2 + frame_length rest)) (after_frame rest))
+    output_block_at at rest ≡ then_read (frame_record rest ∷ []) (output_block_at (at + (2 + frame_length rest)) (after_frame rest))
 block-frame at [] some long = absurd (omega arith)
 block-frame at (x ∷ xs) some long =
     let left = length-drop (2 + frame_length (x ∷ xs)) (x ∷ xs) in
@@ -69,14 +69,14 @@ block-frame at (x ∷ xs) some long =
     ∙ ap (then_read (frame_record (x ∷ xs) ∷ [])) (same_steps (length xs) (length (after_frame (x ∷ xs))) (at + (2 + frame_length (x ∷ xs))) (after_frame (x ∷ xs)) (omega arith) (omega arith))
 
 -- the same after some records, where a block's reading is all
-module _ (records : List (List ℕ)) (all : Reading) (place n : ℕ) (rest : List ℕ) (front : n ≡ frame_length rest) (read : then_read records (block_at place rest) ≡ all) where
+module _ (records : List (List ℕ)) (all : Reading) (place n : ℕ) (rest : List ℕ) (front : n ≡ frame_length rest) (read : then_read records (output_block_at place rest) ≡ all) where
   pub is_short : 0 < n → length rest < 2 + n → all ≡ Err place
   is_short some short = sym read ∙ ap (then_read records) (block-short place rest (rw (← front) some) (rw (← front) short))
 
-  pub goes_on : 0 < n → 2 + n ≤ length rest → then_read (records ++ take n (drop 2 rest) ∷ []) (block_at (place + (2 + n)) (drop (2 + n) rest)) ≡ all
+  pub goes_on : 0 < n → 2 + n ≤ length rest → then_read (records ++ take n (drop 2 rest) ∷ []) (output_block_at (place + (2 + n)) (drop (2 + n) rest)) ≡ all
   goes_on some long =
       let one = block-frame place rest (rw (← front) some) (rw (← front) long) in
-      then_read-append records (take n (drop 2 rest) ∷ []) (block_at (place + (2 + n)) (drop (2 + n) rest))
+      then_read-append records (take n (drop 2 rest) ∷ []) (output_block_at (place + (2 + n)) (drop (2 + n) rest))
       ∙ ap (then_read records) (rw front (sym one)) ∙ read
 
   pub is_zeros : n ≡ 0 → all ≡ then_read records (zeros_at place rest)
@@ -90,19 +90,19 @@ frame_is n rest frame bytes long is behind =
     behind ∙ rw (count, cut) (take-take n n (drop 2 rest) (omega arith))
 
 pub more_blocks : (block at : ℕ) (rest : List ℕ) → 0 < block → block ≤ length rest →
-    blocks_at (length rest / block) block at rest ≡ and_then (block_at at (take block rest)) (blocks_at (length (drop block rest) / block) block (at + block) (drop block rest))
-unfolding blocks_at
+    output_blocks_at (length rest / block) block at rest ≡ and_then (output_block_at at (take block rest)) (output_blocks_at (length (drop block rest) / block) block (at + block) (drop block rest))
+unfolding output_blocks_at
 more_blocks block at rest some long =
     let whole : length rest ≡ length (drop block rest) + block = omega (arith, length-drop block rest) in
     let count : length rest / block ≡ suc (length (drop block rest) / block) = ap (λ n. n / block) whole ∙ add-div_right (length (drop block rest)) some ∙ add-one _ in
     rw count refl
 
-pub no_more_blocks : (block at : ℕ) → blocks_at 0 block at [] ≡ Ok []
-unfolding blocks_at
+pub no_more_blocks : (block at : ℕ) → output_blocks_at 0 block at [] ≡ Ok []
+unfolding output_blocks_at
 no_more_blocks block at = refl
 
-pub part_of_block : (block at : ℕ) (rest : List ℕ) → 0 < length rest → blocks_at 0 block at rest ≡ Err at
-unfolding blocks_at
+pub part_of_block : (block at : ℕ) (rest : List ℕ) → 0 < length rest → output_blocks_at 0 block at rest ≡ Err at
+unfolding output_blocks_at
 part_of_block block at [] some = absurd (omega arith)
 part_of_block block at (x ∷ xs) some = refl
 

@@ -1,7 +1,7 @@
 -- One step of a layout: a group goes into the room that is left, or begins a block.
 use Rattle.std.proofs.Common.{◌≡◌, ℕ, ◌-◌, ◌≤◌, ◌<◌, true, false, cond, List, [], ◌∷◌, length, ap, ◌∙◌, arith, rules, leb}
 use Rattle.std.proofs.lemmas.Bool.Decides.{nat_tests}
-use Rattle.emit_append.specs.Packing.{behind, beginning, laid_out, filled}
+use Rattle.emit_append.specs.Packing.{behind, beginning, laid_out, block_fillings}
 
 leb-true : (m n : ℕ) → m ≤ n → leb m n ≡ true
 leb-true m n h = search (rules, nat_tests)
@@ -25,8 +25,8 @@ laid-empty block room groups =
     laid-behind block room [] groups (omega arith) ∙ ap (λ r. laid_out block r groups) left
 
 pub filled-begins : (block x : ℕ) (xs : List ℕ) (groups : List (List ℕ)) →
-    filled block ((x ∷ xs) ∷ groups) ≡ (beginning (x ∷ xs) (laid_out block (block - length (x ∷ xs)) groups)).later
+    block_fillings block ((x ∷ xs) ∷ groups) ≡ (beginning (x ∷ xs) (laid_out block (block - length (x ∷ xs)) groups)).later
 filled-begins block x xs groups = ap (λ l. l.later) (laid-beginning block 0 (x ∷ xs) groups (omega arith))
 
-pub filled-empty : (block : ℕ) (groups : List (List ℕ)) → filled block ([] ∷ groups) ≡ filled block groups
+pub filled-empty : (block : ℕ) (groups : List (List ℕ)) → block_fillings block ([] ∷ groups) ≡ block_fillings block groups
 filled-empty block groups = ap (λ l. l.later) (laid-empty block 0 groups)

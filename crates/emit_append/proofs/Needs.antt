@@ -8,7 +8,7 @@ use Rattle.std.proofs.lemmas.List.{length-map}
 use Rattle.std.proofs.lemmas.Nat.{le-div}
 use Rattle.std.proofs.lemmas.Bool.Decides.{nat_tests}
 use Rattle.std.proofs.lemmas.Grind.{div_ceil_times}
-use Rattle.emit_append.specs.Packing.{laid_out, filled, packed, padded}
+use Rattle.emit_append.specs.Packing.{laid_out, block_fillings, packed, padded}
 use Rattle.emit_append.specs.Need.{NeedGrows, NeedIsEnough, need}
 use Rattle.emit_append.proofs.Layouts.{laid-behind, laid-beginning, laid-empty}
 
@@ -61,10 +61,10 @@ quotient_below many groups e few =
     omega (arith, lt_of_mul-lt-mul_left (suc e) below)
 
 filled-few : (block limit each : ℕ) (groups : List (List ℕ)) → 0 < each → each * limit ≤ block → AllByRecursion (λ group. length group ≤ limit) groups →
-    length (filled block groups) ≤ div_ceil (length groups) each
+    length (block_fillings block groups) ≤ div_ceil (length groups) each
 filled-few block limit zero groups some fits all = absurd (omega arith)
 filled-few block limit (suc e) groups some fits all =
-    quotient_below (length (filled block groups)) (length groups) e (omega (arith, blocks-few block limit e 0 0 groups fits (omega arith) all))
+    quotient_below (length (block_fillings block groups)) (length groups) e (omega (arith, blocks-few block limit e 0 0 groups fits (omega arith) all))
 
 -- what `need` is where a group may have bytes
 need-some : (groups block limit : ℕ) → need groups (record { block = block; limit = suc limit }) ≡ div_ceil groups (block / suc limit)
@@ -72,11 +72,11 @@ need-some groups block limit = search (rules, nat_tests)
 
 enough : (block limit : ℕ) (groups : List (List ℕ)) → limit ≤ block → AllByRecursion (λ group. length group ≤ limit) groups →
     length (packed block groups) ≤ need (length groups) (record { block = block; limit = limit })
-enough block zero groups within all = omega (arith, length-map (filled block groups) (padded block), ap length (none_begun block 0 groups all))
+enough block zero groups within all = omega (arith, length-map (block_fillings block groups) (padded block), ap length (none_begun block 0 groups all))
 enough block (suc limit) groups within all =
     let some : 0 < block / suc limit = le-div 1 block (suc limit) (omega arith) (omega arith) in
     let few = filled-few block (suc limit) (block / suc limit) groups some (div-mul-le_self block (suc limit)) all in
-    rw (need-some (length groups) block limit, length-map (filled block groups) (padded block)) few
+    rw (need-some (length groups) block limit, length-map (block_fillings block groups) (padded block)) few
 
 pub need_is_enough : NeedIsEnough
 need_is_enough sizes groups within all = enough sizes.block sizes.limit groups within all

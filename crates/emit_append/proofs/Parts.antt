@@ -3,7 +3,7 @@ use Rattle.std.proofs.Common.{◌≡◌, ℕ, ◌+◌, ◌-◌, ◌≤◌, ◌<�
 use Rattle.std.specs.List.{AllByRecursion, concat, flat_map}
 use Rattle.std.proofs.lemmas.List.{append-nil}
 use Rattle.std.proofs.lemmas.Bool.{cases_lt}
-use Rattle.emit_append.specs.Packing.{Layout, behind, beginning, filled, laid_out, packed, padded}
+use Rattle.emit_append.specs.Packing.{Layout, behind, beginning, block_fillings, laid_out, packed, padded}
 use Rattle.emit_append.specs.Packed.{ArePacked, EachNextIsLonger, FitBlock, NextIsLonger, PackedAsDescribed, with_bytes}
 use Rattle.emit_append.proofs.Layouts.{laid-behind, laid-beginning, laid-empty}
 
@@ -145,7 +145,7 @@ joined_fit block [] fits = tt
 joined_fit block (part ∷ parts) fits = (fits.0, joined_fit block parts fits.1)
 
 -- what groups fill of each block fits into it
-pub filled_fits : (block : ℕ) (groups : List (List ℕ)) → FitBlock block groups → FitBlock block (filled block groups)
+pub filled_fits : (block : ℕ) (groups : List (List ℕ)) → FitBlock block groups → FitBlock block (block_fillings block groups)
 filled_fits block groups fit =
     let d = divided block 0 groups fit in
     subst (λ (l : Layout). FitBlock block l.later) (sym d.is) (joined_fit block d.parts d.fits)

@@ -1,14 +1,14 @@
 -- Groups put one after another come to the packing of the whole list.
 use Rattle.std.proofs.Common.{◌≡◌, ℕ, ◌+◌, ◌-◌, ◌<◌, ◌≤◌, List, [], ◌∷◌, ◌++◌, length, map, refl, ap, sym, ◌∙◌, arith}
 use Rattle.std.proofs.lemmas.List.{append-nil}
-use Rattle.emit_append.specs.Packing.{filled, packed, padded, released, pending_of, all_but_last, last_or_empty}
+use Rattle.emit_append.specs.Packing.{block_fillings, packed, padded, released, pending_of, all_but_last, last_or_empty}
 use Rattle.emit_append.specs.Packer.{LendingIsFinishing, LendingIsPutting, PuttingIsPacking, after_put, after_puts, given_by_puts, new_packer}
 use Rattle.emit_append.specs.GoingOn.{OneGroupIsPending}
 use Rattle.emit_append.proofs.Continuing.{packing_goes_on}
 use Rattle.emit_append.proofs.Layouts.{filled-begins, filled-empty, laid-beginning, laid-behind}
 
 -- bytes alone fill one block, or none
-filled-one : (block x : ℕ) (xs : List ℕ) → filled block ((x ∷ xs) ∷ []) ≡ (x ∷ xs) ∷ []
+filled-one : (block x : ℕ) (xs : List ℕ) → block_fillings block ((x ∷ xs) ∷ []) ≡ (x ∷ xs) ∷ []
 filled-one block x xs = filled-begins block x xs [] ∙ simp append-nil
 
 released-one : (block : ℕ) (group : List ℕ) → released block (group ∷ []) ≡ []
@@ -46,7 +46,7 @@ putting_is_packing block groups =
     }
 
 -- a group that has room behind what is pending fills one block with it
-filled-room : (block x : ℕ) (xs group : List ℕ) → length (x ∷ xs) + length group ≤ block → filled block ((x ∷ xs) ∷ group ∷ []) ≡ ((x ∷ xs) ++ group) ∷ []
+filled-room : (block x : ℕ) (xs group : List ℕ) → length (x ∷ xs) + length group ≤ block → block_fillings block ((x ∷ xs) ∷ group ∷ []) ≡ ((x ∷ xs) ++ group) ∷ []
 filled-room block x xs group room =
     filled-begins block x xs (group ∷ [])
     ∙ ap (λ rest. ((x ∷ xs) ++ rest.begun) ∷ rest.later) (laid-behind block (block - length (x ∷ xs)) group [] (omega (arith, room)))
@@ -54,7 +54,7 @@ filled-room block x xs group room =
 
 -- one that has none begins the next block
 filled-full : (block x : ℕ) (xs group : List ℕ) → length (x ∷ xs) ≤ block → block < length (x ∷ xs) + length group →
-    filled block ((x ∷ xs) ∷ group ∷ []) ≡ (x ∷ xs) ∷ group ∷ []
+    block_fillings block ((x ∷ xs) ∷ group ∷ []) ≡ (x ∷ xs) ∷ group ∷ []
 filled-full block x xs group fits full =
     filled-begins block x xs (group ∷ [])
     ∙ ap (λ rest. ((x ∷ xs) ++ rest.begun) ∷ rest.later) (laid-beginning block (block - length (x ∷ xs)) group [] (omega (arith, fits, full)))

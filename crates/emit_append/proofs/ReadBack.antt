@@ -11,7 +11,7 @@ use Rattle.byteorder.specs.Numbers.{little_number-reads_back}
 use Rattle.program_interface.specs.Frame.{frame, frames}
 use Rattle.emit_append.specs.Packed.{FitBlock}
 use Rattle.emit_append.specs.Packing.{Layout, behind, beginning, laid_out, packed, padded}
-use Rattle.emit_append.specs.Frames.{PackedFramesReadBack, block_at, blocks_at, frame_length, then_read, unpacked, zeros_at}
+use Rattle.emit_append.specs.Frames.{PackedFramesReadBack, output_block_at, output_blocks_at, frame_length, then_read, unpacked, zeros_at}
 use Rattle.emit_append.proofs.Layouts.{laid-behind, laid-beginning}
 use Rattle.emit_append.proofs.Padding.{length-padded}
 use Rattle.emit_append.proofs.FramesRead.{block-frame, block-zeros}
@@ -37,7 +37,7 @@ front_length bytes rest small = front_two _ _ (bytes ++ rest) ∙ little_number-
 
 -- a frame in front, and then what is read after it
 frame-read : (at : ℕ) (bytes rest : List ℕ) → 0 < length bytes → length bytes < 2 ^ 16 →
-    block_at at (frame bytes ++ rest) ≡ then_read (bytes ∷ []) (block_at (at + (2 + length bytes)) rest)
+    output_block_at at (frame bytes ++ rest) ≡ then_read (bytes ∷ []) (output_block_at (at + (2 + length bytes)) rest)
 frame-read at bytes rest some small =
     let front = front_length bytes rest small in
     let long : 2 + length bytes ≤ length (frame bytes ++ rest) = omega (arith, length-append bytes rest) in
@@ -45,13 +45,13 @@ frame-read at bytes rest some small =
     let whole : take (length bytes) (bytes ++ rest) ≡ bytes = take_at bytes rest (length bytes) refl in
     let after : drop (2 + length bytes) (frame bytes ++ rest) ≡ rest = sym (drop-drop (length bytes) 2 (frame bytes ++ rest)) ∙ drop_at bytes rest (length bytes) refl in
     (rw front at one)
-    ∙ ap (λ b. then_read (b ∷ []) (block_at (at + (2 + length bytes)) (drop (2 + length bytes) (frame bytes ++ rest)))) whole
-    ∙ ap (λ left. then_read (bytes ∷ []) (block_at (at + (2 + length bytes)) left)) after
+    ∙ ap (λ b. then_read (b ∷ []) (output_block_at (at + (2 + length bytes)) (drop (2 + length bytes) (frame bytes ++ rest)))) whole
+    ∙ ap (λ left. then_read (bytes ∷ []) (output_block_at (at + (2 + length bytes)) left)) after
 
-group-read : (at count : ℕ) (records : List (List ℕ)) → AreRecords records → block_at at (frames records ++ replicate count 0) ≡ Ok records
+group-read : (at count : ℕ) (records : List (List ℕ)) → AreRecords records → output_block_at at (frames records ++ replicate count 0) ≡ Ok records
 group-read at count [] are = block-zeros at (replicate count 0) (no_frame count) ∙ zeros-read at count
 group-read at count (bytes ∷ records) are =
-    ap (block_at at) (append_assoc (frame bytes) (frames records) (replicate count 0))
+    ap (output_block_at at) (append_assoc (frame bytes) (frames records) (replicate count 0))
     ∙ frame-read at bytes (frames records ++ replicate count 0) are.0.0 are.0.1
     ∙ ap (then_read (bytes ∷ [])) (group-read (at + (2 + length bytes)) count records are.1)
 
@@ -116,16 +116,16 @@ none_in_front (bytes ∷ records) none = absurd (omega arith)
 
 -- blocks of frames, one after another
 blocks-read : (block at : ℕ) (parts : List (List (List ℕ))) → AllByRecursion AreRecords parts → AllByRecursion (λ part. length (frames part) ≤ block) parts →
-    blocks_at (length parts) block at (concat (map (padded block) (map frames parts))) ≡ Ok (flat_map (λ part. part) parts)
-unfolding blocks_at
+    output_blocks_at (length parts) block at (concat (map (padded block) (map frames parts))) ≡ Ok (flat_map (λ part. part) parts)
+unfolding output_blocks_at
 blocks-read block at [] are fits = refl
 blocks-read block at (part ∷ parts) are fits =
     let bytes = frames part in
     let rest = concat (map (padded block) (map frames parts)) in
     let long = length-padded block bytes fits.0 in
-    let first : block_at at (take block (padded block bytes ++ rest)) ≡ Ok part = ap (block_at at) (take_at (padded block bytes) rest block long) ∙ group-read at (block - length bytes) part are.0 in
-    let others : blocks_at (length parts) block (at + block) (drop block (padded block bytes ++ rest)) ≡ Ok (flat_map (λ p. p) parts) =
-    ap (blocks_at (length parts) block (at + block)) (drop_at (padded block bytes) rest block long) ∙ blocks-read block (at + block) parts are.1 fits.1 in
+    let first : output_block_at at (take block (padded block bytes ++ rest)) ≡ Ok part = ap (output_block_at at) (take_at (padded block bytes) rest block long) ∙ group-read at (block - length bytes) part are.0 in
+    let others : output_blocks_at (length parts) block (at + block) (drop block (padded block bytes ++ rest)) ≡ Ok (flat_map (λ p. p) parts) =
+    ap (output_blocks_at (length parts) block (at + block)) (drop_at (padded block bytes) rest block long) ∙ blocks-read block (at + block) parts are.1 fits.1 in
     rw (first, others) refl
 
 length-blocks : (block : ℕ) (parts : List (List (List ℕ))) → AllByRecursion (λ part. length (frames part) ≤ block) parts →
@@ -153,7 +153,7 @@ reads_back block groups positive d =
     let same : concat (packed block (map frames groups)) ≡ blocks = ap (λ l. concat (map (padded block) l.later)) d.is in
     let count : length blocks / block ≡ length d.parts = ap (λ n. n / block) (length-blocks block d.parts d.fits) ∙ mul-div_cancel (length d.parts) positive in
     let whole : flat_map (λ part. part) d.parts ≡ flat_map (λ group. group) groups = rw (none_in_front d.front d.in_room) at d.in_order in
-    ap (unpacked block) same ∙ ap (λ n. blocks_at n block 0 blocks) count ∙ blocks-read block 0 d.parts d.records d.fits ∙ ap Ok whole
+    ap (unpacked block) same ∙ ap (λ n. output_blocks_at n block 0 blocks) count ∙ blocks-read block 0 d.parts d.records d.fits ∙ ap Ok whole
 
 pub packed_frames_read_back : PackedFramesReadBack
 packed_frames_read_back block groups positive small some fit =

@@ -4,7 +4,7 @@ use Rattle.std.specs.List.{AllByRecursion}
 use Rattle.std.proofs.lemmas.Bool.{cases_lt}
 use Rattle.emit_append.specs.OutputBlocks.{AreAllBytes, AreBytes, AreWhole, OutputBlocksAreBytes, OutputBlocksAreWhole}
 use Rattle.emit_append.specs.Packed.{FitBlock}
-use Rattle.emit_append.specs.Packing.{all_but_last, filled, laid_out, last_or_empty, padded}
+use Rattle.emit_append.specs.Packing.{all_but_last, block_fillings, laid_out, last_or_empty, padded}
 use Rattle.emit_append.proofs.Layouts.{laid-behind, laid-beginning}
 use Rattle.emit_append.proofs.Padding.{length-padded}
 use Rattle.emit_append.proofs.Parts.{filled_fits}
@@ -28,11 +28,11 @@ padded-whole block (bytes ∷ blocks) fit = (length-padded block bytes fit.0, pa
 pub output_blocks_are_whole : OutputBlocksAreWhole
 output_blocks_are_whole block groups fit =
     let fits = filled_fits block groups fit in
-    let whole = padded-whole block (filled block groups) fits in
+    let whole = padded-whole block (block_fillings block groups) fits in
     record {
       blocks = whole;
-      released_blocks = but_last (λ bytes. length bytes ≡ block) (map (padded block) (filled block groups)) whole;
-      pending = of_last (λ bytes. length bytes ≤ block) (filled block groups) (omega arith) fits;
+      released_blocks = but_last (λ bytes. length bytes ≡ block) (map (padded block) (block_fillings block groups)) whole;
+      pending = of_last (λ bytes. length bytes ≤ block) (block_fillings block groups) (omega arith) fits;
     }
 
 bytes-append : (xs ys : List ℕ) → AreBytes xs → AreBytes ys → AreBytes (xs ++ ys)
@@ -64,9 +64,9 @@ laid-bytes block room (g ∷ gs) are =
 pub output_blocks_are_bytes : OutputBlocksAreBytes
 output_blocks_are_bytes block groups are =
     let filling = (laid-bytes block 0 groups are).1 in
-    let whole = padded-bytes block (filled block groups) filling in
+    let whole = padded-bytes block (block_fillings block groups) filling in
     record {
       blocks = whole;
-      released_blocks = but_last AreBytes (map (padded block) (filled block groups)) whole;
-      pending = of_last AreBytes (filled block groups) tt filling;
+      released_blocks = but_last AreBytes (map (padded block) (block_fillings block groups)) whole;
+      pending = of_last AreBytes (block_fillings block groups) tt filling;
     }

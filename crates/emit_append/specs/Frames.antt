@@ -40,8 +40,8 @@ frames_at (suc steps) at rest =
     then_read (frame_record rest ∷ []) (frames_at steps (at + (2 + frame_length rest)) (after_frame rest))
 
 -- the records of a block whose first byte is at this place
-abbrev pub block_at : ℕ → List ℕ → Reading
-block_at at block = frames_at (length block) at block
+abbrev pub output_block_at : ℕ → List ℕ → Reading
+output_block_at at block = frames_at (length block) at block
 
 -- what is read in one block, and then in what follows it
 abbrev pub and_then : Reading → Reading → Reading
@@ -49,14 +49,14 @@ and_then (Ok records) rest = then_read records rest
 and_then (Err at) rest = Err at
 
 -- so many blocks from a place on, after which nothing may follow
-unfoldable pub blocks_at : ℕ → ℕ → ℕ → List ℕ → Reading
-blocks_at zero block at [] = Ok []
-blocks_at zero block at (byte ∷ rest) = Err at
-blocks_at (suc count) block at bytes = and_then (block_at at (take block bytes)) (blocks_at count block (at + block) (drop block bytes))
+unfoldable pub output_blocks_at : ℕ → ℕ → ℕ → List ℕ → Reading
+output_blocks_at zero block at [] = Ok []
+output_blocks_at zero block at (byte ∷ rest) = Err at
+output_blocks_at (suc count) block at bytes = and_then (output_block_at at (take block bytes)) (output_blocks_at count block (at + block) (drop block bytes))
 
 -- the records of the blocks that these bytes are
 abbrev pub unpacked : ℕ → List ℕ → Reading
-unpacked block bytes = blocks_at (length bytes / block) block 0 bytes
+unpacked block bytes = output_blocks_at (length bytes / block) block 0 bytes
 
 -- What is packed of groups that hold frames reads back as the records of all of them, in order.
 abbrev pub PackedFramesReadBack : Type 0

@@ -22,8 +22,8 @@ laid_out block room (group ∷ groups) =
     else beginning group (laid_out block (block - length group) groups)
 
 -- the bytes that groups fill in each output block; no block is begun before the first of them
-abbrev pub filled : ℕ → List (List ℕ) → List (List ℕ)
-filled block groups = (laid_out block 0 groups).later
+abbrev pub block_fillings : ℕ → List (List ℕ) → List (List ℕ)
+block_fillings block groups = (laid_out block 0 groups).later
 
 -- a block of these bytes and zeros
 abbrev pub padded : ℕ → List ℕ → List ℕ
@@ -31,7 +31,7 @@ padded block bytes = bytes ++ replicate (block - length bytes) 0
 
 -- the output blocks of groups
 abbrev pub packed : ℕ → List (List ℕ) → List (List ℕ)
-packed block groups = map (padded block) (filled block groups)
+packed block groups = map (padded block) (block_fillings block groups)
 
 abbrev pub all_but_last : List (List ℕ) → List (List ℕ)
 all_but_last [] = []
@@ -50,4 +50,4 @@ released block groups = all_but_last (packed block groups)
 
 -- the bytes in the last block, where later groups may still go
 abbrev pub pending_of : ℕ → List (List ℕ) → List ℕ
-pending_of block groups = last_or_empty (filled block groups)
+pending_of block groups = last_or_empty (block_fillings block groups)

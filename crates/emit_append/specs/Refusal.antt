@@ -4,6 +4,6 @@ use Rattle.emit_append.specs.declared.refusal.FrameRefusal.{FrameRefusal}
 use Rattle.emit_append.specs.declared.refusal.FrameRefusal.TheVariants.{Part, Byte}
 
 -- the byte that is refused
-abbrev pub place_of : FrameRefusal → ℕ
-place_of (Part at left block) = at
-place_of (Byte at byte) = at
+abbrev pub refused_byte : FrameRefusal → ℕ
+refused_byte (Part at left block) = at
+refused_byte (Byte at byte) = at

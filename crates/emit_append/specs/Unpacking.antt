@@ -6,8 +6,8 @@ use Rattle.emit_append.specs.declared.fault.UnpackFault.TheVariants.{At, Memory}
 use Rattle.emit_append.specs.Frames.{Reading}
 
 -- the bytes of records, without where they lie in memory
-abbrev pub bytes_of : List (Vec ℕ Global) → List (List ℕ)
-bytes_of records = map (λ r. r.items) records
+abbrev pub record_bytes : List (Vec ℕ Global) → List (List ℕ)
+record_bytes records = map (λ r. r.items) records
 
 -- The place of a fault is the one that reading refuses; want of memory says nothing of the bytes.
 abbrev pub Fails : UnpackFault → Reading → Type 0

@@ -1,7 +1,7 @@
 //! What a user is told of bytes that are no output blocks.
 
 ghost use Rattle.std.specs.Prelude.{◌≡◌};
-ghost use Rattle.emit_append.specs.Refusal.{place_of};
+ghost use Rattle.emit_append.specs.Refusal.{refused_byte};
 
 use program_interface::BlockSize;
 use thiserror::Error;
@@ -20,7 +20,7 @@ pub enum FrameRefusal {
 impl FrameRefusal {
     /// What stands at this place of these bytes, where [`unpack`](crate::unpack) refuses it.
     pub fn of(at: usize, bytes: &[u8], block: BlockSize) -> FrameRefusal
-        ensures { place_of result ≡ at }
+        ensures { refused_byte result ≡ at }
     {
         let block = block.bytes();
         let left = bytes.len() % block as usize;
@@ -35,7 +35,7 @@ impl FrameRefusal {
 
     /// The place of the byte.
     pub fn place(self) -> usize
-        ensures { result ≡ place_of self }
+        ensures { result ≡ refused_byte self }
     {
         match self {
             FrameRefusal::Part { at, .. } | FrameRefusal::Byte { at, .. } => at,

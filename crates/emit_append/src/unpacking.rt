@@ -1,8 +1,8 @@
 //! Reading output blocks back.
 
 ghost use Rattle.std.specs.Prelude.{◌≡◌, ◌+◌, ◌^◌, ◌<◌, [], length};
-ghost use Rattle.emit_append.specs.Frames.{block_at, frame_length as length_in_front, then_read, unpacked, zeros_at};
-ghost use Rattle.emit_append.specs.Unpacking.{Gives, bytes_of};
+ghost use Rattle.emit_append.specs.Frames.{output_block_at, frame_length as length_in_front, then_read, unpacked, zeros_at};
+ghost use Rattle.emit_append.specs.Unpacking.{Gives, record_bytes};
 
 use crate::fault::UnpackFault;
 use byteorder::{ByteOrder, LittleEndian};
@@ -15,7 +15,7 @@ use std::alloc::Global;
 /// Where the length is 0, or fewer than two bytes are left, the rest of the block is zeros.
 /// Otherwise the fault tells the lowest byte that is refused, counted from the first of `bytes`.
 pub fn unpack(alloc: Global, bytes: &[u8], block: BlockSize) -> Result<Vec<Vec<u8>>, UnpackFault>
-    ensures { Gives (λ records. bytes_of records.items) result (unpacked block bytes.now) }
+    ensures { Gives (λ records. record_bytes records.items) result (unpacked block bytes.now) }
 {
     let size = block.bytes() as usize;
     let mut records = Vec::new(alloc);
@@ -39,7 +39,7 @@ fn read_block(
     records: &mut Vec<Vec<u8>>,
 ) -> Result<(), UnpackFault>
     requires { at + length block.now < 2 ^ 64 }
-    ensures { Gives (λ _. bytes_of records.new.items) result (then_read (bytes_of records.old.items) (block_at at block.now)) }
+    ensures { Gives (λ _. record_bytes records.new.items) result (then_read (record_bytes records.old.items) (output_block_at at block.now)) }
 {
     let mut rest = block;
     let mut place = at;

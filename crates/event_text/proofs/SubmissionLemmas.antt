@@ -17,7 +17,7 @@ use Rattle.std.proofs.lemmas.Str.Parse.{digit_from_value}
 use Rattle.hex.specs.Hex.{IsBytes, decode_of, decode_pairs, decode_sized, encode_lower, encode_with, hex_digit_value, lower_digits}
 use Rattle.hex.proofs.HexLemmas.{IsDigits-lower_digits, decode_of-encode_lower, decode_sized-encode_lower, length-encode_with}
 use Rattle.text_lines.specs.Cut.{is_blank_byte, uncommented}
-use Rattle.text_lines.specs.Number.{number_of}
+use Rattle.text_lines.specs.Number.{decimal_of}
 use Rattle.event_text.specs.CommandFile.{Submitted, below, line_told, submission, words_told}
 use Rattle.event_text.specs.Lines.{data_text}
 use Rattle.event_text.specs.Submission.{Tells, submission_text}
@@ -162,7 +162,7 @@ ascii_digits (c ∷ cs) h =
     All-cons (λ c. is_ascii_digit c ≡ true) c cs (grind (arith, nat_tests)) (ascii_digits cs h.1)
 
 number_again : (ds : List ℕ) (queue : ℕ) → list_all is_ascii_digit ds ≡ true → 0 < length ds → digits_value 10 ds ≡ queue → queue < 2 ^ 16
-    → option_and_then (below (2 ^ 16)) (number_of ds) ≡ Some queue
+    → option_and_then (below (2 ^ 16)) (decimal_of ds) ≡ Some queue
 number_again ds queue digits some value small =
     let v = digits_value 10 ds in
     let rest : Bool = nat_lt 0 (length ds) && nat_lt v (2 ^ 32) in
@@ -172,11 +172,11 @@ number_again ds queue digits some value small =
     ∙ (ap (λ (b : Bool). option_and_then (below (2 ^ 16)) (cond b (Some queue) None)) (lt-ltb queue (2 ^ 32) (omega arith))
     ∙ ap (λ (b : Bool). cond b (Some queue) None) (lt-ltb queue (2 ^ 16) small))))
 
-event_again : (number digits behind entry input : List ℕ) (queue : ℕ) → option_and_then (below (2 ^ 16)) (number_of number) ≡ Some queue → decode_sized digits 64 ≡ Ok entry → decode_of behind ≡ Ok input
-    → option_map Some (submission (option_and_then (below (2 ^ 16)) (number_of number)) (result_ok (decode_sized digits 64)) (result_ok (decode_of behind))) ≡ Some (Some (Submitted queue entry input))
+event_again : (number digits behind entry input : List ℕ) (queue : ℕ) → option_and_then (below (2 ^ 16)) (decimal_of number) ≡ Some queue → decode_sized digits 64 ≡ Ok entry → decode_of behind ≡ Ok input
+    → option_map Some (submission (option_and_then (below (2 ^ 16)) (decimal_of number)) (result_ok (decode_sized digits 64)) (result_ok (decode_of behind))) ≡ Some (Some (Submitted queue entry input))
 event_again number digits behind entry input queue is_queue is_entry is_input = rw (is_queue, is_entry, is_input) refl
 
-words_again : (number digits entry input : List ℕ) (queue : ℕ) → option_and_then (below (2 ^ 16)) (number_of number) ≡ Some queue → decode_sized digits 64 ≡ Ok entry → IsBytes input
+words_again : (number digits entry input : List ℕ) (queue : ℕ) → option_and_then (below (2 ^ 16)) (decimal_of number) ≡ Some queue → decode_sized digits 64 ≡ Ok entry → IsBytes input
     → words_told (codes "submit" ∷ number ∷ digits ∷ data_words input) ≡ Some (Some (Submitted queue entry input))
 unfolding decode_pairs
 words_again number digits entry [] queue is_queue is_entry small = event_again number digits [] entry [] queue is_queue is_entry refl

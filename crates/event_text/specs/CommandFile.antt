@@ -11,7 +11,7 @@ use Rattle.hex.specs.declared.error.FromHexError.TheVariants as digits
 use Rattle.zone_state.specs.declared.state.FaultState.{FaultState}
 use Rattle.zone_state.specs.declared.state.FaultState.TheVariants.{ReadOnly, Offline}
 use Rattle.text_lines.specs.Cut.{uncommented}
-use Rattle.text_lines.specs.Number.{number_of}
+use Rattle.text_lines.specs.Number.{decimal_of}
 use Rattle.device_events.specs.declared.event.Event.{Event}
 use Rattle.device_events.specs.declared.event.Event.TheVariants as event
 use Rattle.event_text.specs.declared.command_file.ParseError.{ParseError}
@@ -44,12 +44,12 @@ submission _ _ _ = None
 
 abbrev pub submission_of : List (List ℕ) → Option Told
 submission_of words = option_and_then
-    (λ w. submission (option_and_then (below (2 ^ 16)) (number_of w.0)) (result_ok (decode_sized w.1 64)) (result_ok (decode_of w.2)))
+    (λ w. submission (option_and_then (below (2 ^ 16)) (decimal_of w.0)) (result_ok (decode_sized w.1 64)) (result_ok (decode_of w.2)))
     (three_of words)
 
 -- a run
 abbrev pub turn_of : List (List ℕ) → Option Told
-turn_of words = option_and_then (λ word. option_map Turned (option_and_then (below (2 ^ 8)) (number_of word))) (one_of words)
+turn_of words = option_and_then (λ word. option_map Turned (option_and_then (below (2 ^ 8)) (decimal_of word))) (one_of words)
 
 -- a zone, and the state that it fails to
 abbrev pub state_named : List ℕ → Option FaultState
@@ -61,7 +61,7 @@ failure (Some zone) (Some state) = Some (Failed zone state)
 failure _ _ = None
 
 abbrev pub fault_of : List (List ℕ) → Option Told
-fault_of words = option_and_then (λ w. failure (number_of w.0) (state_named w.1)) (two_of words)
+fault_of words = option_and_then (λ w. failure (decimal_of w.0) (state_named w.1)) (two_of words)
 
 -- the event that a word names and the words behind it describe
 abbrev pub event_named : List ℕ → List (List ℕ) → Option Told

@@ -8,7 +8,7 @@
 //! ```
 
 ghost use Rattle.std.specs.Prelude.{◌≡◌, ◌^◌, map, option_and_then, Ok, IfOk, IfErr};
-ghost use Rattle.text_lines.specs.Number.{number_of};
+ghost use Rattle.text_lines.specs.Number.{decimal_of};
 ghost use Rattle.event_text.specs.Words.{words_of};
 ghost use Rattle.event_text.specs.declared.command_file.ParseError.TheVariants.{OutOfMemory};
 ghost use Rattle.event_text.specs.CommandFile.{told_of, below, submission_of, turn_of, fault_of, state_named, event_named as named_event, line_told, events_in, entry_reason, data_reason, GivesEvent, GivesLine, RefusesFile};
@@ -118,7 +118,7 @@ fn submit(alloc: Global, words: Words<'_>) -> Result<Event, LineError>
 
 /// A number below 2^16.
 pub(crate) fn queue_number(word: &[u8]) -> Option<u16>
-    ensures { result ≡ option_and_then (below (2 ^ 16)) (number_of word.now) }
+    ensures { result ≡ option_and_then (below (2 ^ 16)) (decimal_of word.now) }
 {
     u16::try_from(decimal(word)?).ok()
 }
@@ -170,7 +170,7 @@ fn turn(words: Words<'_>) -> Result<Event, LineError>
 
 /// A number below 2^8.
 pub(crate) fn run_number(word: &[u8]) -> Option<u8>
-    ensures { result ≡ option_and_then (below (2 ^ 8)) (number_of word.now) }
+    ensures { result ≡ option_and_then (below (2 ^ 8)) (decimal_of word.now) }
 {
     u8::try_from(decimal(word)?).ok()
 }

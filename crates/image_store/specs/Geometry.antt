@@ -27,13 +27,13 @@ abbrev pub are_limits : Limits → ℕ → Bool
 are_limits limits zones = is_counted limits.open_limit limits.active_limit && nat_le limits.active_limit zones
 
 -- the number by which a user is told of a fault (profile)
-abbrev pub number_of : GeometryFault → ℕ
-number_of BlockSize = 1
-number_of ZoneCount = 2
-number_of ZoneSize = 3
-number_of ZoneCapacity = 4
-number_of ResourceLimits = 5
-number_of TooLarge = 6
+abbrev pub geometry_fault_number : GeometryFault → ℕ
+geometry_fault_number BlockSize = 1
+geometry_fault_number ZoneCount = 2
+geometry_fault_number ZoneSize = 3
+geometry_fault_number ZoneCapacity = 4
+geometry_fault_number ResourceLimits = 5
+geometry_fault_number TooLarge = 6
 
 -- the limits of a shape, in the order of the tests (profile)
 abbrev pub shape_checks : Shape → List (Option GeometryFault)

@@ -1,7 +1,7 @@
 //! The shape of a namespace.
 
 ghost use Rattle.std.specs.Prelude.{◌≡◌, ◌≤◌, ◌<◌, ◌*◌, ◌^◌, ◌+◌, IfSome, OnSome};
-ghost use Rattle.image_store.specs.Geometry.{tested, shape_of, zone_block_of, number_of, is_counted, are_limits, IsShape};
+ghost use Rattle.image_store.specs.Geometry.{tested, shape_of, zone_block_of, geometry_fault_number, is_counted, are_limits, IsShape};
 
 use program_interface::{BlockSize, LARGEST_BLOCK};
 use std::marker::Model;
@@ -38,7 +38,7 @@ pub enum GeometryFault {
 impl GeometryFault {
     /// The fault's number, from 1 to 6.
     pub fn number(self) -> u8
-        ensures { result ≡ number_of self }
+        ensures { result ≡ geometry_fault_number self }
     {
         self as u8
     }

@@ -30,7 +30,7 @@ pub struct Machine<'a> {
 
 impl<'a> Machine<'a> {
     ghost use Rattle.std.specs.Prelude.{◌≡◌, ◌<◌, ◌^◌, ℕ, List, length, slice_index};
-    ghost use Rattle.interp.specs.Machine.{IsNew, block_length, frames_of, group_length, memory_of, scratch_name, slot_of, state_at, state_of, steps_of};
+    ghost use Rattle.interp.specs.Machine.{IsNew, block_length, frames_of, group_length, memory_of, scratch_name, machine_slot, state_at, machine_state, steps_of};
     ghost use Rattle.program_meaning.specs.State.{entry};
 
     /// A machine at the start of a block run, at slot 0: R1, R2 and R3 are the addresses of
@@ -42,10 +42,10 @@ impl<'a> Machine<'a> {
         scratch: &'a mut [u8; SCRATCH_BYTES],
     ) -> Machine<'a>
         requires { length block.now < 2 ^ 32 }
-        ensures state { (group : List ℕ) → state_of result group ≡ entry block.now context.now scratch.old }
+        ensures state { (group : List ℕ) → machine_state result group ≡ entry block.now context.now scratch.old }
         ensures new { IsNew result }
         ensures block { block_length result ≡ length block.now }
-        ensures slot { slot_of result ≡ 0 }
+        ensures slot { machine_slot result ≡ 0 }
         ensures steps { steps_of result ≡ 0 }
         ensures group_len { group_length result ≡ 0 }
         ensures same_scratch { scratch_name result ≡ scratch.entry.ghost_name }
@@ -82,7 +82,7 @@ impl<'a> Machine<'a> {
     /// Says where the machine stands, after how many steps.
     #[inline(always)]
     pub fn stand_at(&mut self, slot: usize, steps: u64)
-        ensures state { (group : List ℕ) → state_of self.new group ≡ state_at self.old slot group }
+        ensures state { (group : List ℕ) → machine_state self.new group ≡ state_at self.old slot group }
         ensures steps { steps_of self.new ≡ steps }
         ensures group_len { group_length self.new ≡ group_length self.old }
         ensures same_scratch { scratch_name self.new ≡ scratch_name self.old }
@@ -93,7 +93,7 @@ impl<'a> Machine<'a> {
 
     /// The slot of the instruction at which the machine stands.
     pub fn slot(&self) -> usize
-        ensures { result ≡ slot_of self.now }
+        ensures { result ≡ machine_slot self.now }
     {
         self.slot
     }

@@ -8,9 +8,9 @@ use Rattle.zone_state.specs.declared.action.Action.TheVariants as action
 use Rattle.zone_state.specs.declared.status.TheConstants.Status.{INVALID_FIELD_IN_COMMAND}
 use Rattle.nvme_entry.specs.Checks.{allowed, demand, first_refused, or_else}
 use Rattle.nvme_entry.specs.Encoding.{HasFields}
-use Rattle.nvme_entry.specs.Entry.{action_of, block_count, decoded, destination_lba, dword, dwords_of, is_partial, receive_action, run_slot, selects_all, slot_number, starting_lba}
+use Rattle.nvme_entry.specs.Entry.{action_of, asked_blocks, decoded, destination_lba, dword, dwords_of, is_partial, receive_action, run_slot, selects_all, slot_number, starting_lba}
 use Rattle.nvme_entry.specs.Filter.{filter_of}
-use Rattle.nvme_entry.specs.ProgramSlot.{slot_of}
+use Rattle.nvme_entry.specs.ProgramSlot.{program_slot_of}
 use Rattle.nvme_entry.specs.declared.command.Command.TheVariants as command
 use Rattle.nvme_entry.specs.declared.command.LoadCommand.{LoadCommand}
 use Rattle.nvme_entry.specs.declared.command.Opcode.TheVariants as opcode
@@ -63,7 +63,7 @@ told_receive entry d cid lba dwords code which partial has is_lba is_dwords is_1
     ∙ (ap (λ (n : ℕ). Ok (command.Standard (Receive n dwords which (is_partial entry)))) start
     ∙ ap (λ (b : Bool). Ok (command.Standard (Receive lba dwords which b))) (flag_back partial (slice_index entry 54) third)))))
 
-slot_back : (number : ℕ) → number < 8 → slot_of number ≡ Some number
+slot_back : (number : ℕ) → number < 8 → program_slot_of number ≡ Some number
 slot_back number few = ap (λ (b : Bool). cond b (Some number) None) (lt-ltb number 8 few)
 
 le_back : (n most : ℕ) → n ≤ most → nat_le n most ≡ true
@@ -72,7 +72,7 @@ le_back n most few = le-leb n most few
 pub told_result : (entry : List ℕ) (d : CommandDwords) (cid slot : ℕ) → HasFields entry opcode.Result cid d → d.cdw10 ≡ slot → slot < 8
     → decoded entry ≡ Ok (command.Result slot)
 told_result entry d cid slot has is_slot few =
-    let found : slot_of (slot_number entry) ≡ Some slot = ap slot_of (has.cdw10 ∙ is_slot) ∙ slot_back slot few in
+    let found : program_slot_of (slot_number entry) ≡ Some slot = ap program_slot_of (has.cdw10 ∙ is_slot) ∙ slot_back slot few in
     has.command
     ∙ ap (λ (o : Option ℕ). allowed (first_refused (demand (is_some o) INVALID_FIELD_IN_COMMAND ∷ [])) (command.Result (unwrap_or o 0))) found
 
@@ -80,13 +80,13 @@ pub told_load : (entry : List ℕ) (d : CommandDwords) (cid : ℕ) (load : LoadC
     → d.cdw11 ≡ load.limit → d.cdw12 ≡ load.bytes → load.bytes ≤ MOST_TRANSFER
     → decoded entry ≡ Ok (command.Load load)
 told_load entry d cid load has is_slot few is_limit is_bytes fits =
-    let found : slot_of (slot_number entry) ≡ Some load.slot = ap slot_of (has.cdw10 ∙ is_slot) ∙ slot_back load.slot few in
+    let found : program_slot_of (slot_number entry) ≡ Some load.slot = ap program_slot_of (has.cdw10 ∙ is_slot) ∙ slot_back load.slot few in
     let bytes : dword entry 12 ≡ load.bytes = has.cdw12 ∙ is_bytes in
     let limit : dword entry 11 ≡ load.limit = has.cdw11 ∙ is_limit in
     let small : nat_le (dword entry 12) MOST_TRANSFER ≡ true = le_back (dword entry 12) MOST_TRANSFER (omega (arith, bytes)) in
     has.command
-    ∙ (ap (λ (b : Bool). allowed (or_else (demand b INVALID_FIELD_IN_COMMAND) (or_else (demand (is_some (slot_of (slot_number entry))) INVALID_FIELD_IN_COMMAND) (first_refused [])))
-    (command.Load record { slot = unwrap_or (slot_of (slot_number entry)) 0; limit = dword entry 11; bytes = dword entry 12 })) small
+    ∙ (ap (λ (b : Bool). allowed (or_else (demand b INVALID_FIELD_IN_COMMAND) (or_else (demand (is_some (program_slot_of (slot_number entry))) INVALID_FIELD_IN_COMMAND) (first_refused [])))
+    (command.Load record { slot = unwrap_or (program_slot_of (slot_number entry)) 0; limit = dword entry 11; bytes = dword entry 12 })) small
     ∙ (ap (λ (o : Option ℕ). allowed (or_else (demand (is_some o) INVALID_FIELD_IN_COMMAND) (first_refused [])) (command.Load record { slot = unwrap_or o 0; limit = dword entry 11; bytes = dword entry 12 })) found
     ∙ (ap (λ (n : ℕ). Ok (command.Load record { slot = load.slot; limit = n; bytes = dword entry 12 })) limit
     ∙ ap (λ (n : ℕ). Ok (command.Load record { slot = load.slot; limit = load.limit; bytes = n })) bytes)))
@@ -96,14 +96,14 @@ pub told_run : (entry : List ℕ) (d : CommandDwords) (cid field_12 : ℕ) (run 
     → decoded entry ≡ Ok (command.Run run)
 told_run entry d cid field_12 run has is_lba is_blocks half is_12 few is_argument is_destination =
     let third : run_slot entry ≡ run.slot = omega (arith, has.third_byte) in
-    let found : slot_of (run_slot entry) ≡ Some run.slot = ap slot_of third ∙ slot_back run.slot few in
+    let found : program_slot_of (run_slot entry) ≡ Some run.slot = ap program_slot_of third ∙ slot_back run.slot few in
     let start : starting_lba entry ≡ run.lba = omega (arith, has.cdw10, has.cdw11) in
-    let blocks : block_count entry ≡ run.blocks = omega (arith, has.low_half) in
+    let blocks : asked_blocks entry ≡ run.blocks = omega (arith, has.low_half) in
     let argument : dword entry 13 ≡ run.argument = has.cdw13 ∙ is_argument in
     let destination : destination_lba entry ≡ run.destination = omega (arith, has.cdw14, has.cdw15) in
     has.command
-    ∙ (ap (λ (o : Option ℕ). allowed (or_else (demand (is_some o) INVALID_FIELD_IN_COMMAND) (first_refused [])) (command.Run record { lba = starting_lba entry; blocks = block_count entry; slot = unwrap_or o 0; argument = dword entry 13; destination = destination_lba entry })) found
-    ∙ (ap (λ (n : ℕ). Ok (command.Run record { lba = n; blocks = block_count entry; slot = run.slot; argument = dword entry 13; destination = destination_lba entry })) start
+    ∙ (ap (λ (o : Option ℕ). allowed (or_else (demand (is_some o) INVALID_FIELD_IN_COMMAND) (first_refused [])) (command.Run record { lba = starting_lba entry; blocks = asked_blocks entry; slot = unwrap_or o 0; argument = dword entry 13; destination = destination_lba entry })) found
+    ∙ (ap (λ (n : ℕ). Ok (command.Run record { lba = n; blocks = asked_blocks entry; slot = run.slot; argument = dword entry 13; destination = destination_lba entry })) start
     ∙ (ap (λ (n : ℕ). Ok (command.Run record { lba = run.lba; blocks = n; slot = run.slot; argument = dword entry 13; destination = destination_lba entry })) blocks
     ∙ (ap (λ (n : ℕ). Ok (command.Run record { lba = run.lba; blocks = run.blocks; slot = run.slot; argument = n; destination = destination_lba entry })) argument
     ∙ ap (λ (n : ℕ). Ok (command.Run record { lba = run.lba; blocks = run.blocks; slot = run.slot; argument = run.argument; destination = n })) destination))))

@@ -11,7 +11,7 @@ use Rattle.zone_state.specs.Zone.{CountedZone}
 use Rattle.nvme_entry.specs.Filter.{takes}
 use Rattle.nvme_entry.specs.declared.filter.ZoneFilter.{ZoneFilter}
 use Rattle.nvme_entry.specs.declared.filter.ZoneFilter.TheVariants.{All}
-use Rattle.nvme_entry.specs.Report.{descriptor_at, fitting, header, listed, matching, report, taken}
+use Rattle.nvme_entry.specs.Report.{descriptor_at, fitting, report_header, listed, matching, report, taken}
 use Rattle.nvme_entry.specs.Laws.{GivesWhatMatches, ListsEveryZone, Tells, descriptors_in, number_in, pieces}
 use Rattle.nvme_entry.proofs.Listings.{length-descriptor, length-header, length-whole, whole}
 
@@ -54,7 +54,7 @@ pub report-written : (output second new : List ℕ) (zones : List CountedZone) (
     → room ≡ (length output - start) / 64
     → second ≡ take start output ++ listed size (length output - start) (matching zones first option)
     → number ≡ cond partial (min room (length (matching zones first option))) (length (matching zones first option))
-    → new ≡ take (length second) (header number) ++ drop 64 second
+    → new ≡ take (length second) (report_header number) ++ drop 64 second
     → new ≡ report (length output) zones first size option partial
 unfolding report
 report-written output second new zones first size option partial start room number is_start is_room is_second is_number is_new =
@@ -69,33 +69,33 @@ report-written output second new zones first size option partial start room numb
     let long : length second ≡ n = ap (λ (ys : List ℕ). length ys) is_second ∙ length-second f (length-each size) output start found inside in
     let back : drop 64 second ≡ listed size (n - 64) found = ap (λ (ys : List ℕ). drop 64 ys) is_second ∙ behind-header f (length-each size) output start found is_start in
     is_new
-    ∙ (ap (λ (k : ℕ). take k (header number) ++ drop 64 second) long
-    ∙ (ap (λ (k : ℕ). take n (header k) ++ drop 64 second) counted
-    ∙ ap (λ (ys : List ℕ). take n (header (length (cond partial (fitting (n - 64) found) found))) ++ ys) back))
+    ∙ (ap (λ (k : ℕ). take k (report_header number) ++ drop 64 second) long
+    ∙ (ap (λ (k : ℕ). take n (report_header k) ++ drop 64 second) counted
+    ∙ ap (λ (ys : List ℕ). take n (report_header (length (cond partial (fitting (n - 64) found) found))) ++ ys) back))
 
 -- the number of zones that a report tells
 abbrev told_by : ℕ → List (ℕ × CountedZone) → Bool → ℕ
 told_by bytes found partial = length (cond partial (fitting (bytes - 64) found) found)
 
 report-parts : (bytes : ℕ) (zones : List CountedZone) (first size : ℕ) (option : ZoneFilter) (partial : Bool) → 64 ≤ bytes
-    → report bytes zones first size option partial ≡ header (told_by bytes (matching zones first option) partial) ++ whole (descriptor_at size) (bytes - 64) (matching zones first option)
+    → report bytes zones first size option partial ≡ report_header (told_by bytes (matching zones first option) partial) ++ whole (descriptor_at size) (bytes - 64) (matching zones first option)
 unfolding report
 report-parts bytes zones first size option partial long =
     let number = told_by bytes (matching zones first option) partial in
-    let fits : length (header number) ≤ bytes = omega (arith, length-header number) in
-    ap (λ (ys : List ℕ). ys ++ whole (descriptor_at size) (bytes - 64) (matching zones first option)) (take_all bytes (header number) fits)
+    let fits : length (report_header number) ≤ bytes = omega (arith, length-header number) in
+    ap (λ (ys : List ℕ). ys ++ whole (descriptor_at size) (bytes - 64) (matching zones first option)) (take_all bytes (report_header number) fits)
 
 -- a report has the length of the transfer
 pub length-report : (bytes : ℕ) (zones : List CountedZone) (first size : ℕ) (option : ZoneFilter) (partial : Bool) → length (report bytes zones first size option partial) ≡ bytes
 unfolding report
 length-report bytes zones first size option partial =
     let found = matching zones first option in
-    let front = take bytes (header (told_by bytes found partial)) in
+    let front = take bytes (report_header (told_by bytes found partial)) in
     let behind = whole (descriptor_at size) (bytes - 64) found in
-    omega (arith, length-append front behind, length-take bytes (header (told_by bytes found partial)), length-header (told_by bytes found partial), length-whole (descriptor_at size) (length-each size) (bytes - 64) found)
+    omega (arith, length-append front behind, length-take bytes (report_header (told_by bytes found partial)), length-header (told_by bytes found partial), length-whole (descriptor_at size) (length-each size) (bytes - 64) found)
 
-number-in-header : (number : ℕ) (rest : List ℕ) → number < 2 ^ 64 → number_in (header number ++ rest) ≡ number
-unfolding header
+number-in-header : (number : ℕ) (rest : List ℕ) → number < 2 ^ 64 → number_in (report_header number ++ rest) ≡ number
+unfolding report_header
 number-in-header number rest small =
     ap (λ (ys : List ℕ). number_in ys) (append_assoc (little_bytes 8 number) (replicate 56 0) rest)
     ∙ little_number-reads_back 8 number (replicate 56 0 ++ rest) small
@@ -129,9 +129,9 @@ told-few : {X : Type 0} (partial : Bool) (room : ℕ) (xs : List X) → length (
 told-few true room xs = omega (arith, length-take room xs)
 told-few false room xs = omega arith
 
--- what a host reads behind a header of the zones found
+-- what a host reads behind a report_header of the zones found
 tells : (bytes : ℕ) (partial : Bool) (size : ℕ) (found : List (ℕ × CountedZone)) (given : List ℕ) → 64 ≤ bytes → length found < 2 ^ 64
-    → given ≡ header (told_by bytes found partial) ++ whole (descriptor_at size) (bytes - 64) found
+    → given ≡ report_header (told_by bytes found partial) ++ whole (descriptor_at size) (bytes - 64) found
     → length given ≡ bytes
     → Tells given partial size (min ((bytes - 64) / 64) (length found)) found
 tells bytes partial size found given long few parts same_length =
@@ -141,7 +141,7 @@ tells bytes partial size found given long few parts same_length =
     let shown = take room found in
     let zeros : List ℕ = replicate (bytes - 64 - length (flat_map f shown)) 0 in
     let small : number < 2 ^ 64 = omega (arith, told-few partial room found) in
-    let back : drop 64 given ≡ flat_map f shown ++ zeros = ap (λ (ys : List ℕ). drop 64 ys) parts ∙ drop_at (header number) (whole f (bytes - 64) found) 64 (length-header number) in
+    let back : drop 64 given ≡ flat_map f shown ++ zeros = ap (λ (ys : List ℕ). drop 64 ys) parts ∙ drop_at (report_header number) (whole f (bytes - 64) found) 64 (length-header number) in
     let count : length shown ≡ min room (length found) = length-take room found in
     let size_shown : length (flat_map f shown) ≡ 64 * min room (length found) = omega (arith, length-flat f (length-each size) shown, count) in
     let left : bytes - 64 - length (flat_map f shown) ≡ length given - (64 + 64 * min room (length found)) = omega arith in

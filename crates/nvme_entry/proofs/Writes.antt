@@ -5,7 +5,7 @@ use Rattle.std.proofs.lemmas.List.{append-nil, drop_all, drop_at, drop_min, drop
 use Rattle.byteorder.specs.Endian.{little_bytes}
 use Rattle.zone_state.specs.State.{code_of}
 use Rattle.zone_state.specs.Zone.{CountedZone}
-use Rattle.nvme_entry.specs.Report.{descriptor, listed, write_pointer}
+use Rattle.nvme_entry.specs.Report.{descriptor, listed, pointer_told}
 use Rattle.nvme_entry.proofs.Listings.{piece-fits}
 
 -- the first bytes of a header, as many as there is room for
@@ -20,7 +20,7 @@ header-put output bytes new count size is_count is =
     is ∙ (ap (λ (ys : List ℕ). take count bytes ++ ys) back ∙ ap (λ (ys : List ℕ). ys ++ drop 64 output) front)
 
 -- the bytes of a descriptor up to its capacity, and its words from there on
-pub descriptor-is : (zone : CountedZone) (lowest state capacity pointer : ℕ) → state ≡ code_of zone.state * 2 ^ 4 → capacity ≡ zone.capacity → pointer ≡ write_pointer zone lowest
+pub descriptor-is : (zone : CountedZone) (lowest state capacity pointer : ℕ) → state ≡ code_of zone.state * 2 ^ 4 → capacity ≡ zone.capacity → pointer ≡ pointer_told zone lowest
     → (2 ∷ state ∷ 0 ∷ 0 ∷ 0 ∷ 0 ∷ 0 ∷ 0 ∷ []) ++ flat_map (little_bytes 8) (capacity ∷ lowest ∷ pointer ∷ 0 ∷ 0 ∷ 0 ∷ 0 ∷ []) ≡ descriptor zone lowest
 unfolding descriptor
 descriptor-is zone lowest state capacity pointer is_state is_capacity is_pointer =

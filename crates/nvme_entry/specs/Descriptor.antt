@@ -6,7 +6,7 @@ use Rattle.byteorder.specs.Endian.{little_bytes, little_number}
 use Rattle.zone_state.specs.State.{code_of, state_of}
 use Rattle.zone_state.specs.Zone.{CountedZone}
 use Rattle.zone_state.specs.declared.state.ZoneState.{ZoneState}
-use Rattle.nvme_entry.specs.Report.{write_pointer}
+use Rattle.nvme_entry.specs.Report.{pointer_told}
 use Rattle.nvme_entry.specs.declared.descriptor.ZoneDescriptor.{ZoneDescriptor}
 
 -- the first 8 bytes as a number: the zone type Sequential Write Required in byte 0, the state in bits 7:4 of byte 1;
@@ -20,7 +20,7 @@ descriptor_bytes d = flat_map (little_bytes 8) (first_word d.state ∷ d.capacit
 
 -- what a report tells of a zone with this lowest address
 abbrev pub described : CountedZone → ℕ → ZoneDescriptor
-described zone lowest = record { state = zone.state; capacity = zone.capacity; lowest = lowest; write_pointer = write_pointer zone lowest }
+described zone lowest = record { state = zone.state; capacity = zone.capacity; lowest = lowest; write_pointer = pointer_told zone lowest }
 
 -- the 8 bytes with this number, as a number
 abbrev pub word_in : List ℕ → ℕ → ℕ

@@ -16,7 +16,7 @@ use Rattle.nvme_entry.specs.declared.command.StandardCommand.TheVariants.{Write,
 use Rattle.nvme_entry.specs.declared.command.TheConstants.{MOST_TRANSFER}
 use Rattle.nvme_entry.specs.declared.filter.ZoneFilter.TheVariants as filter
 use Rattle.nvme_entry.specs.Filter.{filter_of}
-use Rattle.nvme_entry.specs.ProgramSlot.{slot_of}
+use Rattle.nvme_entry.specs.ProgramSlot.{program_slot_of}
 
 -- the number that so many bytes from a byte on spell, the lowest first (NVMe Base 2.0, 1.8.2)
 abbrev pub field : List ℕ → ℕ → ℕ → ℕ
@@ -43,8 +43,8 @@ abbrev pub starting_lba : List ℕ → ℕ
 starting_lba entry = dword entry 10 + dword entry 11 * 2 ^ 32
 
 -- Command Dword 12, bits 15:0: the number of logical blocks, which is zero-based
-abbrev pub block_count : List ℕ → ℕ
-block_count entry = field entry 48 2 + 1
+abbrev pub asked_blocks : List ℕ → ℕ
+asked_blocks entry = field entry 48 2 + 1
 
 -- Command Dword 0, bits 7:0 (NVM Command Set 1.0, figure 20; ZNS 1.1, figure 28). Those from 80h on are
 -- left to vendors: the three here are profile.
@@ -105,38 +105,38 @@ abbrev pub emit_limit : List ℕ → ℕ
 emit_limit entry = dword entry 11
 
 -- Command Dword 12: the number of bytes of a Load's program, which is not zero-based (profile)
-abbrev pub program_bytes : List ℕ → ℕ
-program_bytes entry = dword entry 12
+abbrev pub asked_program_bytes : List ℕ → ℕ
+asked_program_bytes entry = dword entry 12
 
 -- a Run, which has its source where a Read has what it reads
-abbrev pub run_of : List ℕ → RunCommand
-run_of entry = record {
+abbrev pub run_command_of : List ℕ → RunCommand
+run_command_of entry = record {
   lba = starting_lba entry;
-  blocks = block_count entry;
-  slot = unwrap_or (slot_of (run_slot entry)) 0;
+  blocks = asked_blocks entry;
+  slot = unwrap_or (program_slot_of (run_slot entry)) 0;
   argument = argument_of entry;
   destination = destination_lba entry;
 }
 
 abbrev pub load_of : List ℕ → LoadCommand
 load_of entry = record {
-  slot = unwrap_or (slot_of (slot_number entry)) 0;
+  slot = unwrap_or (program_slot_of (slot_number entry)) 0;
   limit = emit_limit entry;
-  bytes = program_bytes entry;
+  bytes = asked_program_bytes entry;
 }
 
 -- the command that the fields name
 abbrev pub command_of : Opcode → List ℕ → Command
-command_of opcode.Write entry = command.Standard (Write (starting_lba entry) (block_count entry))
-command_of opcode.Read entry = command.Standard (Read (starting_lba entry) (block_count entry))
+command_of opcode.Write entry = command.Standard (Write (starting_lba entry) (asked_blocks entry))
+command_of opcode.Read entry = command.Standard (Read (starting_lba entry) (asked_blocks entry))
 command_of opcode.ZoneManagementSend entry =
     command.Standard (Send (starting_lba entry) (unwrap_or (action_of (slice_index entry 52)) action.Close) (selects_all entry))
 command_of opcode.ZoneManagementReceive entry =
     command.Standard (Receive (starting_lba entry) (unwrap_or (dwords_of (dword entry 12)) 1) (unwrap_or (filter_of (slice_index entry 53)) filter.All) (is_partial entry))
-command_of opcode.ZoneAppend entry = command.Standard (Append (starting_lba entry) (block_count entry))
-command_of opcode.Run entry = command.Run (run_of entry)
+command_of opcode.ZoneAppend entry = command.Standard (Append (starting_lba entry) (asked_blocks entry))
+command_of opcode.Run entry = command.Run (run_command_of entry)
 command_of opcode.Load entry = command.Load (load_of entry)
-command_of opcode.Result entry = command.Result (unwrap_or (slot_of (slot_number entry)) 0)
+command_of opcode.Result entry = command.Result (unwrap_or (program_slot_of (slot_number entry)) 0)
 
 -- the checks of the fields of a command (profile)
 abbrev pub field_checks : Opcode → List ℕ → List (Option Status)
@@ -146,12 +146,12 @@ field_checks opcode.ZoneManagementReceive entry =
     ∷ demand (receive_action entry == 0x00) INVALID_FIELD_IN_COMMAND
     ∷ demand (is_some (filter_of (slice_index entry 53))) INVALID_FIELD_IN_COMMAND
     ∷ []
-field_checks opcode.Run entry = demand (is_some (slot_of (run_slot entry))) INVALID_FIELD_IN_COMMAND ∷ []
+field_checks opcode.Run entry = demand (is_some (program_slot_of (run_slot entry))) INVALID_FIELD_IN_COMMAND ∷ []
 field_checks opcode.Load entry =
-    demand (nat_le (program_bytes entry) MOST_TRANSFER) INVALID_FIELD_IN_COMMAND
-    ∷ demand (is_some (slot_of (slot_number entry))) INVALID_FIELD_IN_COMMAND
+    demand (nat_le (asked_program_bytes entry) MOST_TRANSFER) INVALID_FIELD_IN_COMMAND
+    ∷ demand (is_some (program_slot_of (slot_number entry))) INVALID_FIELD_IN_COMMAND
     ∷ []
-field_checks opcode.Result entry = demand (is_some (slot_of (slot_number entry))) INVALID_FIELD_IN_COMMAND ∷ []
+field_checks opcode.Result entry = demand (is_some (program_slot_of (slot_number entry))) INVALID_FIELD_IN_COMMAND ∷ []
 field_checks _ entry = []
 
 -- the checks of an entry alone, in order (profile); the one namespace is 1 (profile)

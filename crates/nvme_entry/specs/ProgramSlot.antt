@@ -3,5 +3,5 @@ use Rattle.std.specs.Prelude.{ℕ, nat_lt, Option, Some, None, if◌then◌else�
 use Rattle.nvme_entry.specs.declared.program_slot.TheConstants.{PROGRAM_SLOTS}
 
 -- the slot of this number, if there is one
-abbrev pub slot_of : ℕ → Option ℕ
-slot_of number = if nat_lt number PROGRAM_SLOTS then Some number else None
+abbrev pub program_slot_of : ℕ → Option ℕ
+program_slot_of number = if nat_lt number PROGRAM_SLOTS then Some number else None

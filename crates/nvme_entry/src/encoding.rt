@@ -1,7 +1,7 @@
 //! Submission queue entries, made of the commands that they are to ask for.
 
 ghost use Rattle.std.specs.Prelude.{◌≡◌, ◌+◌, ◌*◌, ◌^◌, ◌≤◌, ◌<◌};
-ghost use Rattle.nvme_entry.specs.Entry.{action_of, block_count, command_of, decoded, field_checks, identifier_of, starting_lba};
+ghost use Rattle.nvme_entry.specs.Entry.{action_of, asked_blocks, command_of, decoded, field_checks, identifier_of, starting_lba};
 ghost use Rattle.nvme_entry.specs.Checks.{allowed, first_refused};
 ghost use Rattle.nvme_entry.specs.Encoding.{program_length, HasFields};
 
@@ -84,7 +84,7 @@ fn encode_standard(command: StandardCommand, cid: u16) -> [u8; 64]
 fn transfer(opcode: Opcode, lba: u64, blocks: BlockCount, cid: u16) -> [u8; 64]
     ensures command { decoded result ≡ allowed (first_refused (field_checks opcode result)) (command_of opcode result) }
     ensures lba { starting_lba result ≡ lba }
-    ensures blocks { block_count result ≡ blocks }
+    ensures blocks { asked_blocks result ≡ blocks }
     ensures identifier { identifier_of result ≡ cid }
 {
     let (low, high) = halves(lba);

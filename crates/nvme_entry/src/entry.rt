@@ -2,7 +2,7 @@
 
 ghost use Rattle.std.specs.Prelude.{◌≡◌, ◌+◌, ◌*◌, ◌^◌, ◌<◌};
 ghost use Rattle.nvme_entry.specs.Checks.{allowed, first_refused};
-ghost use Rattle.nvme_entry.specs.Entry.{decoded, command_of, field_checks, action_of, identifier_of, starting_lba, block_count, dword, fuse_of, namespace_of};
+ghost use Rattle.nvme_entry.specs.Entry.{decoded, command_of, field_checks, action_of, identifier_of, starting_lba, asked_blocks, dword, fuse_of, namespace_of};
 
 use crate::command::{
     BlockCount, Command, DwordCount, LoadCommand, MOST_TRANSFER, Opcode, RunCommand,
@@ -174,7 +174,7 @@ impl Entry {
     }
 
     fn blocks(entry: &[u8; 64]) -> BlockCount
-        ensures { result ≡ block_count entry.now }
+        ensures { result ≡ asked_blocks entry.now }
     {
         BlockCount::from_zero_based(LittleEndian::read_u16(&entry[48..]))
     }

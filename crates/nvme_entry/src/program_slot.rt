@@ -1,7 +1,7 @@
 //! The slots for programs.
 
 ghost use Rattle.std.specs.Prelude.{◌≡◌, ◌<◌};
-ghost use Rattle.nvme_entry.specs.ProgramSlot.{slot_of};
+ghost use Rattle.nvme_entry.specs.ProgramSlot.{program_slot_of};
 
 use std::marker::Model;
 
@@ -30,7 +30,7 @@ impl Model for ProgramSlot {
 impl ProgramSlot {
     /// The slot of this number; `None` where there are not so many.
     pub fn new(number: u32) -> Option<ProgramSlot>
-        ensures { result ≡ slot_of number }
+        ensures { result ≡ program_slot_of number }
     {
         if number as usize >= PROGRAM_SLOTS {
             return None;

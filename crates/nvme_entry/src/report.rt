@@ -4,7 +4,7 @@ ghost use Rattle.std.specs.Prelude.{◌≡◌, ◌≤◌, ◌<◌, ◌+◌, ◌-
 ghost use Rattle.std.specs.List.{enumerate_from, flat_map};
 ghost use Rattle.byteorder.specs.Endian.{little_bytes};
 ghost use Rattle.zone_state.specs.State.{code_of};
-ghost use Rattle.nvme_entry.specs.Report.{report, listed, taken, header, descriptor, write_pointer};
+ghost use Rattle.nvme_entry.specs.Report.{report, listed, taken, report_header, descriptor, pointer_told};
 
 use crate::filter::ZoneFilter;
 use byteorder::{ByteOrder, LittleEndian};
@@ -87,7 +87,7 @@ pub fn put_front(output: &mut [u8], bytes: &[u8])
 
 /// The header's bytes.
 fn header(number: u64) -> [u8; HEADER_BYTES]
-    ensures { result ≡ header number }
+    ensures { result ≡ report_header number }
 {
     let mut bytes = [0; HEADER_BYTES];
     LittleEndian::write_u64(&mut bytes, number);
@@ -96,7 +96,7 @@ fn header(number: u64) -> [u8; HEADER_BYTES]
 
 /// Puts the header at the front, or as much of it as there is room for.
 fn write_header(output: &mut [u8], number: u64)
-    ensures { output.new ≡ take (length output.old) (header number) ++ drop 64 output.old }
+    ensures { output.new ≡ take (length output.old) (report_header number) ++ drop 64 output.old }
 {
     let length = output.len().min(HEADER_BYTES);
     put_front(output, &header(number)[..length]);
@@ -177,7 +177,7 @@ fn state_byte(state: ZoneState) -> u8
 /// The write pointer of a zone with this lowest address, where it has one.
 fn write_pointer(zone: Zone, lowest: u64) -> u64
     requires { lowest + 2 ^ 32 ≤ 2 ^ 64 }
-    ensures { result ≡ write_pointer zone lowest }
+    ensures { result ≡ pointer_told zone lowest }
 {
     match zone.state() {
         ZoneState::ReadOnly | ZoneState::Full | ZoneState::Offline => u64::MAX,

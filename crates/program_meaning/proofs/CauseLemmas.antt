@@ -3,7 +3,7 @@ use Rattle.std.proofs.Common.{ℕ, suc, zero, ◌-◌, ◌<◌, ◌≤◌, ◌�
 use Rattle.std.specs.List.{find}
 use Rattle.std.specs.Prelude.{if◌then◌else◌}
 use Rattle.instruction_set.specs.declared.insn.Insn.{Insn}
-use Rattle.program_meaning.specs.Cause.{causes_of_effect, holds, is_exit, least_cause, number_of}
+use Rattle.program_meaning.specs.Cause.{causes_of_effect, holds, is_exit, least_cause, cause_number}
 use Rattle.program_meaning.specs.Effect.{register}
 use Rattle.program_meaning.specs.Laws.{StuckByLeast}
 use Rattle.program_meaning.specs.State.{State}
@@ -53,7 +53,7 @@ module _ {X : Type 0} (test : X → Bool) where
   find_first (y ∷ xs) x e = find_by y xs x (test y) (find_first xs x) refl e
 
 -- the place of a cause in the list
-numbered : (k : ℕ) (cause : Cause) → slice_get causes k ≡ Some cause → number_of cause ≡ suc k
+numbered : (k : ℕ) (cause : Cause) → slice_get causes k ≡ Some cause → cause_number cause ≡ suc k
 numbered zero cause e = cc
 numbered (suc zero) cause e = cc
 numbered (suc (suc zero)) cause e = cc
@@ -64,7 +64,7 @@ numbered (suc (suc (suc (suc (suc (suc zero)))))) cause e = cc
 numbered (suc (suc (suc (suc (suc (suc (suc zero))))))) cause e = cc
 numbered (suc (suc (suc (suc (suc (suc (suc (suc k)))))))) cause e = cc
 
-listed : (cause : Cause) → slice_get causes (number_of cause - 1) ≡ Some cause
+listed : (cause : Cause) → slice_get causes (cause_number cause - 1) ≡ Some cause
 listed NextOutside = refl
 listed NextInsideWide = refl
 listed WriteToFramePointer = refl
@@ -74,7 +74,7 @@ listed UnknownHelper = refl
 listed EmitOutside = refl
 listed EmitLength = refl
 
-positive : (cause : Cause) → 1 ≤ number_of cause
+positive : (cause : Cause) → 1 ≤ cause_number cause
 positive NextOutside = lit≤ tt
 positive NextInsideWide = lit≤ tt
 positive WriteToFramePointer = lit≤ tt
@@ -88,15 +88,15 @@ pub least_holds : (test : Cause → Bool) (cause : Cause) → find test causes �
 least_holds test cause e = (find_first test causes cause e).passes
 
 pub least_fails : (test : Cause → Bool) (cause other : Cause) → find test causes ≡ Some cause
-    → number_of other < number_of cause → test other ≡ false
+    → cause_number other < cause_number cause → test other ≡ false
 least_fails test cause other e less =
     let first = find_first test causes cause e in
     let last = numbered first.place cause first.is in
     let some = positive other in
-    first.before (number_of other - 1) other (omega (arith, less, last, some)) (listed other)
+    first.before (cause_number other - 1) other (omega (arith, less, last, some)) (listed other)
 
 pub least_is : (test : Cause → Bool) (cause : Cause) → test cause ≡ true
-    → ((other : Cause) → number_of other < number_of cause → test other ≡ false) → find test causes ≡ Some cause
+    → ((other : Cause) → cause_number other < cause_number cause → test other ≡ false) → find test causes ≡ Some cause
 least_is test NextOutside is less = rw is refl
 least_is test NextInsideWide is less = rw (less NextOutside (lit< tt), is) refl
 least_is test WriteToFramePointer is less = rw (less NextOutside (lit< tt), less NextInsideWide (lit< tt), is) refl
@@ -165,6 +165,6 @@ done program limit s s' i e =
     let facts = done_by s s' i (least_cause program limit s i) e in
     record {
       runs_on = facts.1;
-      free = λ cause. none_found (holds program limit s i) causes (number_of cause - 1) cause facts.0 (listed cause);
+      free = λ cause. none_found (holds program limit s i) causes (cause_number cause - 1) cause facts.0 (listed cause);
       next = facts.2;
     }

@@ -1,7 +1,7 @@
 //! Why an instruction can't be done.
 
 ghost use Rattle.std.specs.Prelude.{◌≡◌};
-ghost use Rattle.program_meaning.specs.Cause.{number_of};
+ghost use Rattle.program_meaning.specs.Cause.{cause_number};
 
 /// Why an instruction can't be done. Where several causes hold, the one with the least number is
 /// told (profile).
@@ -28,7 +28,7 @@ pub enum Cause {
 impl Cause {
     /// The cause's number, 1 to 8.
     pub fn number(self) -> u8
-        ensures { result ≡ number_of self }
+        ensures { result ≡ cause_number self }
     {
         match self {
             Cause::NextOutside => 1,

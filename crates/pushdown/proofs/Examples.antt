@@ -1,6 +1,6 @@
 -- What the examples share: programs, blocks, namespaces and entries.
 use Rattle.std.proofs.Common.{ℕ, List, [], ◌∷◌, ◌++◌, replicate, Option, Some, None, Result, Ok, Err}
-use Rattle.ebpf_decode.specs.Reading.{decoded}
+use Rattle.ebpf_decode.specs.Reading.{decoded_program}
 use Rattle.ebpf_decode.specs.declared.fault.Fault.{Fault}
 use Rattle.instruction_set.specs.declared.insn.Insn.{Insn}
 use Rattle.image_store.specs.Namespace.{ZoneBlocks, ZonedNamespace}
@@ -24,14 +24,14 @@ program_of (Err fault) = []
 
 -- mov r0, 0; exit
 abbrev pub passes : List (Option Insn)
-passes = program_of (decoded (
+passes = program_of (decoded_program (
     0xb7 ∷ 0 ∷ 0 ∷ 0 ∷ 0 ∷ 0 ∷ 0 ∷ 0
     ∷ 0x95 ∷ 0 ∷ 0 ∷ 0 ∷ 0 ∷ 0 ∷ 0 ∷ 0 ∷ []))
 
 -- emits a block's first 8 bytes, where its first byte is 7:
 -- ldxb r6, [r2+0]; jne r6, 7, +3; mov r1, r2; mov r2, 8; call 1; mov r0, 0; exit
 abbrev pub sevens : List (Option Insn)
-sevens = program_of (decoded (
+sevens = program_of (decoded_program (
     0x71 ∷ 0x26 ∷ 0 ∷ 0 ∷ 0 ∷ 0 ∷ 0 ∷ 0
     ∷ 0x55 ∷ 0x06 ∷ 3 ∷ 0 ∷ 7 ∷ 0 ∷ 0 ∷ 0
     ∷ 0xbf ∷ 0x21 ∷ 0 ∷ 0 ∷ 0 ∷ 0 ∷ 0 ∷ 0
@@ -44,7 +44,7 @@ sevens = program_of (decoded (
 -- ldxb r4, [r2+0]; ldxdw r5, [r3+0]; add r5, r4; stxdw [r3+0], r5; ldxw r6, [r1+8]; mov r0, 0;
 -- jne r6, 2, +1; mov r0, 1; exit
 abbrev pub sums : List (Option Insn)
-sums = program_of (decoded (
+sums = program_of (decoded_program (
     0x71 ∷ 0x24 ∷ 0 ∷ 0 ∷ 0 ∷ 0 ∷ 0 ∷ 0
     ∷ 0x79 ∷ 0x35 ∷ 0 ∷ 0 ∷ 0 ∷ 0 ∷ 0 ∷ 0
     ∷ 0x0f ∷ 0x45 ∷ 0 ∷ 0 ∷ 0 ∷ 0 ∷ 0 ∷ 0
@@ -58,7 +58,7 @@ sums = program_of (decoded (
 -- emits a block's first byte twice:
 -- mov r6, r2; mov r1, r6; mov r2, 1; call 1; mov r1, r6; mov r2, 1; call 1; exit
 abbrev pub twice : List (Option Insn)
-twice = program_of (decoded (
+twice = program_of (decoded_program (
     0xbf ∷ 0x26 ∷ replicate 6 0
     ++ 0xbf ∷ 0x61 ∷ replicate 6 0
     ++ 0xb7 ∷ 0x02 ∷ 0 ∷ 0 ∷ 1 ∷ 0 ∷ 0 ∷ 0
@@ -70,7 +70,7 @@ twice = program_of (decoded (
 
 -- emits the context: mov r2, 32; call 1; exit
 abbrev pub tells : List (Option Insn)
-tells = program_of (decoded (
+tells = program_of (decoded_program (
     0xb7 ∷ 0x02 ∷ 0 ∷ 0 ∷ 32 ∷ 0 ∷ 0 ∷ 0
     ∷ 0x85 ∷ 0 ∷ 0 ∷ 0 ∷ 1 ∷ 0 ∷ 0 ∷ 0
     ∷ 0x95 ∷ replicate 7 0))
@@ -79,7 +79,7 @@ tells = program_of (decoded (
 -- verifier refuses it:
 -- ldxb r6, [r2+0]; jeq r6, 9, +5; mov r1, r2; mov r2, 510; call 1; mov r0, 0; exit; ldxdw r0, [r0+0]; exit
 abbrev pub traps : List (Option Insn)
-traps = program_of (decoded (
+traps = program_of (decoded_program (
     0x71 ∷ 0x26 ∷ replicate 6 0
     ++ 0x15 ∷ 0x06 ∷ 5 ∷ 0 ∷ 9 ∷ 0 ∷ 0 ∷ 0
     ∷ 0xbf ∷ 0x21 ∷ replicate 6 0
@@ -92,7 +92,7 @@ traps = program_of (decoded (
 
 -- goes back for ever, and is refused too: ja -1; exit
 abbrev pub loops : List (Option Insn)
-loops = program_of (decoded (0x05 ∷ 0 ∷ 0xff ∷ 0xff ∷ replicate 4 0 ++ 0x95 ∷ replicate 7 0))
+loops = program_of (decoded_program (0x05 ∷ 0 ∷ 0xff ∷ 0xff ∷ replicate 4 0 ++ 0x95 ∷ replicate 7 0))
 
 -- the frame that the second program emits of such a block
 abbrev pub frame : List ℕ

@@ -11,12 +11,12 @@ use Rattle.nvme_entry.specs.declared.command.Command.TheVariants as command
 use Rattle.nvme_entry.specs.declared.command.LoadCommand.{LoadCommand}
 use Rattle.nvme_entry.specs.declared.command.RunCommand.{RunCommand}
 use Rattle.ebpf_decode.specs.Faults.{fault_number}
-use Rattle.ebpf_decode.specs.Reading.{decoded as program_in_bytes}
+use Rattle.ebpf_decode.specs.Reading.{decoded_program as program_in_bytes}
 use Rattle.ebpf_decode.specs.declared.fault.Fault.{Fault}
 use Rattle.instruction_set.specs.declared.insn.Insn.{Insn}
 use Rattle.program_interface.specs.RunSizes.{Sizes}
 use Rattle.reg_domain.specs.Domain.{Operations}
-use Rattle.accepted_programs.specs.Accepted.{refusal, number_of}
+use Rattle.accepted_programs.specs.Accepted.{refusal, reason_number}
 use Rattle.accepted_programs.specs.declared.reason.Refusal.{Refusal}
 use Rattle.image_store.specs.Namespace.{ZonedNamespace, zone_at, with_zone, grown}
 use Rattle.zns_commands.specs.Answer.{Effect}
@@ -54,7 +54,7 @@ just_loaded program limit = record { program = program; limit = limit; result = 
 
 -- an accepted program takes its slot
 abbrev pub judged : Submission → State → LoadCommand → List (Option Insn) → Option Refusal → Happening
-judged sub s load program (Some why) = program_refused sub why.slot (number_of why.reason) s
+judged sub s load program (Some why) = program_refused sub why.slot (reason_number why.reason) s
 judged sub s load program None = completed sub SUCCESS 0 0 [] (with_slot s load.slot (Some (just_loaded program load.limit)))
 
 -- the sizes that a program is judged for

@@ -3,7 +3,7 @@
 use Rattle.std.specs.Prelude.{ℕ, ◌+◌, List, [], ◌∷◌, ◌++◌, length, drop, Option, Some, None}
 use Rattle.zone_state.specs.declared.status.Status.{Status}
 use Rattle.zone_state.specs.declared.status.TheConstants.Status.{SUCCESS, PROGRAM_TRAPPED}
-use Rattle.program_meaning.specs.Cause.{number_of}
+use Rattle.program_meaning.specs.Cause.{cause_number}
 use Rattle.program_meaning.specs.Run.{Run}
 use Rattle.program_meaning.specs.declared.end.End.{End}
 use Rattle.program_meaning.specs.declared.end.End.TheVariants as end
@@ -75,7 +75,7 @@ trapped slot cause = record {
 -- the last turn; 9 tells that a block run had no fuel left (profile)
 abbrev pub last_turn_by : End → ℕ → Output → Run → Turn
 last_turn_by (end.Exit r0) block output run = finished block output (with_group output run) (scratch_after run)
-last_turn_by (end.Trap slot cause) block output run = trapped slot (number_of cause)
+last_turn_by (end.Trap slot cause) block output run = trapped slot (cause_number cause)
 last_turn_by end.OutOfFuel block output run = trapped 0 9
 
 abbrev pub last_turn : ℕ → Output → Run → Turn

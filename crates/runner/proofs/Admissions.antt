@@ -17,7 +17,7 @@ use Rattle.pushdown.specs.Answers.{Submission}
 use Rattle.pushdown.specs.Machine.{why_not_run}
 use Rattle.pushdown.specs.State.{program_at}
 use Rattle.runner.specs.Admitting.{ArePlaces}
-use Rattle.runner.specs.Held.{filled, held_by, state_of}
+use Rattle.runner.specs.Held.{loaded_slot, held_by, device_state}
 use Rattle.runner.specs.Ready.{IsReady}
 use Rattle.runner.specs.declared.active_run.Active.{Active as Held}
 use Rattle.runner.specs.declared.loaded_program.LoadedProgram.{LoadedProgram}
@@ -63,15 +63,15 @@ last_decides ns holds place_free slot order input source destination blocks no_i
 
 -- what a device tests is what is said of its state
 module _ (ns : ZonedNamespace) (slots : List (Option LoadedProgram)) (runs : List (Option Held)) where
-  pub program_is : (slot : ℕ) → program_at (state_of ns slots runs) slot ≡ filled (get_or slots slot None)
-  program_is slot = get_or-map filled slots slot None
+  pub program_is : (slot : ℕ) → program_at (device_state ns slots runs) slot ≡ loaded_slot (get_or slots slot None)
+  program_is slot = get_or-map loaded_slot slots slot None
 
   -- the sizes that the program of a slot was accepted for
   granted : (slot : ℕ) (p : LoadedProgram) → IsReady ns slots runs → get_or slots slot None ≡ Some p
-      → sizes_of p.prepared ≡ sizes_in ns (filled (get_or slots slot None))
+      → sizes_of p.prepared ≡ sizes_in ns (loaded_slot (get_or slots slot None))
   granted slot p ready at =
       ap (λ (block : ℕ). record { block = block; limit = (sizes_of p.prepared).limit }) (ready.programs slot p at)
-      ∙ ap (λ (o : Option LoadedProgram). sizes_in ns (filled o)) (sym at)
+      ∙ ap (λ (o : Option LoadedProgram). sizes_in ns (loaded_slot o)) (sym at)
 
   -- the same, by what a device tests before
   pub destination_decides : (order : RunCommand) (input : List ℕ) (p : LoadedProgram) (source : ZoneBlock) (destination run blocks : ℕ) (holds : Holds)
@@ -80,18 +80,18 @@ module _ (ns : ZonedNamespace) (slots : List (Option LoadedProgram)) (runs : Lis
       → Some run ≡ position is_none runs → None ≡ first_refused (source_checks ns source order.blocks)
       → holds ≡ held_by runs → blocks ≡ need order.blocks (sizes_of p.prepared)
       → first_refused (destination_checks ns holds destination blocks)
-      ≡ run_refusal ns (held_by runs) (is_some (position is_none runs)) (filled (get_or slots order.slot None)) order input
+      ≡ run_refusal ns (held_by runs) (is_some (position is_none runs)) (loaded_slot (get_or slots order.slot None)) order input
   destination_decides order input p source destination run blocks holds ready no_input at places addresses free sources held enough =
       ap (λ (h : Holds). first_refused (destination_checks ns h destination blocks)) held
-      ∙ last_decides ns (held_by runs) (is_some (position is_none runs)) (filled (get_or slots order.slot None)) order input source destination blocks
-      (sym no_input) (ap (λ (o : Option LoadedProgram). is_some (filled o)) at) places (sym addresses) (ap is_some (sym free)) (sym sources)
+      ∙ last_decides ns (held_by runs) (is_some (position is_none runs)) (loaded_slot (get_or slots order.slot None)) order input source destination blocks
+      (sym no_input) (ap (λ (o : Option LoadedProgram). is_some (loaded_slot o)) at) places (sym addresses) (ap is_some (sym free)) (sym sources)
       (enough ∙ ap (need order.blocks) (granted order.slot p ready at))
 
   pub why_is : (sub : Submission) (order : RunCommand) → IsReady ns slots runs
-      → why_not_run sub (state_of ns slots runs) order
-      ≡ run_refusal ns (held_by runs) (is_some (position is_none runs)) (filled (get_or slots order.slot None)) order sub.input
+      → why_not_run sub (device_state ns slots runs) order
+      ≡ run_refusal ns (held_by runs) (is_some (position is_none runs)) (loaded_slot (get_or slots order.slot None)) order sub.input
   why_is sub order ready =
-      let s = state_of ns slots runs in
+      let s = device_state ns slots runs in
       ap (λ (holds : Holds). run_refusal ns holds (is_some (position is_none s.places)) (program_at s order.slot) order sub.input) (sym (holds_are ns slots runs ready))
       ∙ ap (λ (free : Option ℕ). run_refusal ns (held_by runs) (is_some free) (program_at s order.slot) order sub.input) (free_is ns slots runs)
       ∙ ap (λ (slot : Option Loaded). run_refusal ns (held_by runs) (is_some (position is_none runs)) slot order sub.input) (program_is order.slot)

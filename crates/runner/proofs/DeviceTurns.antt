@@ -25,7 +25,7 @@ use Rattle.device_events.specs.declared.reply.Reply.TheVariants as reply
 use Rattle.pushdown.proofs.OthersEvents.{turned_is}
 use Rattle.pushdown.proofs.KeptForRuns.{events_keep_for_runs}
 use Rattle.runner.specs.Answered.{complete_reply}
-use Rattle.runner.specs.Held.{active_of, filled, loaded_of, running, state_of}
+use Rattle.runner.specs.Held.{active_of, loaded_slot, loaded_of, running, device_state}
 use Rattle.runner.specs.Ready.{Fits, IsFor, IsReached, IsReady, IsRunning}
 use Rattle.runner.specs.Turning.{FitsAt, FitsIn, FitsOn, GoesOn, HasEnded, IsTurned, Keeps, SlotTurned}
 use Rattle.runner.specs.declared.active_run.Active.{Active as Held}
@@ -37,13 +37,13 @@ use Rattle.runner.proofs.Staying.{Stays, grows_there, keeps_source, others_stay,
 module _ (ns : ZonedNamespace) (slots : List (Option LoadedProgram)) (runs : List (Option Held)) (ready : IsReady ns slots runs)
     (k : ℕ) (a : Held) (at : get_or runs k None ≡ Some a) (p : LoadedProgram) (loaded : get_or slots a.order.slot None ≡ Some p) where
   abbrev s : State
-  s = state_of ns slots runs
+  s = device_state ns slots runs
 
   abbrev after : State
   after = (turned s k).state
 
   abbrev place : Place
-  place = place_of ns (map filled slots) (active_of a)
+  place = place_of ns (map loaded_slot slots) (active_of a)
 
   abbrev code : List (Option Insn)
   code = program_of p.prepared
@@ -60,8 +60,8 @@ module _ (ns : ZonedNamespace) (slots : List (Option LoadedProgram)) (runs : Lis
   accepted : IsFor ns p
   accepted = ready.programs a.order.slot p loaded
 
-  slot_is : get_or (map filled slots) a.order.slot None ≡ Some (loaded_of p)
-  slot_is = get_or-map filled slots a.order.slot None ∙ ap filled loaded
+  slot_is : get_or (map loaded_slot slots) a.order.slot None ≡ Some (loaded_of p)
+  slot_is = get_or-map loaded_slot slots a.order.slot None ∙ ap loaded_slot loaded
 
   turns_are : place.turns ≡ turns_of ns code limit (active_of a)
   turns_are = ap (λ (o : Option Loaded). rest (task_of ns o a.order) (active_of a).so_far (to_come ns (active_of a))) slot_is
@@ -85,7 +85,7 @@ module _ (ns : ZonedNamespace) (slots : List (Option LoadedProgram)) (runs : Lis
 
   module _ (new : ZonedNamespace) (q : LoadedProgram) (r : Option Held) (turn : Turn) (later : List Turn)
       (first : turns_of ns code limit (active_of a) ≡ turn ∷ later) (written : new ≡ added ns a.destination turn.blocks)
-      (same : q.prepared ≡ p.prepared) (programs : slots_left s place turn.ending ≡ map filled (set slots a.order.slot (Some q))) where
+      (same : q.prepared ≡ p.prepared) (programs : slots_left s place turn.ending ≡ map loaded_slot (set slots a.order.slot (Some q))) where
     abbrev slots' : List (Option LoadedProgram)
     slots' = set slots a.order.slot (Some q)
 
@@ -98,12 +98,12 @@ module _ (ns : ZonedNamespace) (slots : List (Option LoadedProgram)) (runs : Lis
     namespace_is : after.namespace ≡ new
     namespace_is = ap (λ (h : Happening). h.state.namespace) comes ∙ written_there
 
-    programs_are : after.slots ≡ map filled slots'
+    programs_are : after.slots ≡ map loaded_slot slots'
     programs_are = ap (λ (h : Happening). h.state.slots) comes ∙ programs
 
-    keeps : (j : ℕ) (b : Held) → get_or runs j None ≡ Some b → KeepsFor (place_of ns (map filled slots) (active_of b)) s after
+    keeps : (j : ℕ) (b : Held) → get_or runs j None ≡ Some b → KeepsFor (place_of ns (map loaded_slot slots) (active_of b)) s after
     keeps j b there =
-        events_keep_for_runs intervals s (record { event = event.Turn k; starved = false }) j (place_of ns (map filled slots) (active_of b))
+        events_keep_for_runs intervals s (record { event = event.Turn k; starved = false }) j (place_of ns (map loaded_slot slots) (active_of b))
         (placed_at ns slots runs j b there)
 
     same_shape : shape new ≡ shape ns
@@ -121,7 +121,7 @@ module _ (ns : ZonedNamespace) (slots : List (Option LoadedProgram)) (runs : Lis
     stays : (j : ℕ) (b : Held) → get_or runs j None ≡ Some b → Stays ns new slots slots' b
     stays j b there = record {
       source = keeps_source ns new b (ready.running j b there).fits same_shape (grows j b there);
-      program = subst (λ (xs : List (Option Loaded)). SameProgram (get_or (map filled slots) b.order.slot None) (get_or xs b.order.slot None)) programs_are
+      program = subst (λ (xs : List (Option Loaded)). SameProgram (get_or (map loaded_slot slots) b.order.slot None) (get_or xs b.order.slot None)) programs_are
           (keeps j b there).program;
     }
 
@@ -154,10 +154,10 @@ module _ (ns : ZonedNamespace) (slots : List (Option LoadedProgram)) (runs : Lis
     }
 
     is_turned : (answer : Reply) → answer ≡ (turn_answer k place turn.ending).reply
-        → seen new (map filled slots') (running r) ≡ place_left place later turn.ending → Where OwnFits r
+        → seen new (map loaded_slot slots') (running r) ≡ place_left place later turn.ending → Where OwnFits r
         → IsTurned s k new slots' (set runs k r) answer
     is_turned answer told left own =
-        let with_places : List (Option Place) → State = λ places. record { namespace = new; slots = map filled slots'; places = places } in
+        let with_places : List (Option Place) → State = λ places. record { namespace = new; slots = map loaded_slot slots'; places = places } in
         let places = set s.places k (place_left place later turn.ending) in
         record {
           reply = told ∙ sym (ap (λ (h : Happening). h.answer.reply) comes);
@@ -179,9 +179,9 @@ module _ (ns : ZonedNamespace) (slots : List (Option LoadedProgram)) (runs : Lis
     abbrev turn : Turn
     turn = record { blocks = g.blocks; ending = None }
 
-    programs_same : map filled (set slots a.order.slot (Some q)) ≡ map filled slots
+    programs_same : map loaded_slot (set slots a.order.slot (Some q)) ≡ map loaded_slot slots
     programs_same =
-        map-set_same filled slots a.order.slot (Some q) None (ap (λ (x : LoadedProgram). filled (Some x)) same ∙ ap filled (sym loaded))
+        map-set_same loaded_slot slots a.order.slot (Some q) None (ap (λ (x : LoadedProgram). loaded_slot (Some x)) same ∙ ap loaded_slot (sym loaded))
 
     prepared_same : q.prepared ≡ p.prepared
     prepared_same = ap (λ (x : LoadedProgram). x.prepared) same
@@ -196,13 +196,13 @@ module _ (ns : ZonedNamespace) (slots : List (Option LoadedProgram)) (runs : Lis
       turns = turns;
     }
 
-    own_slot : get_or (map filled (set slots a.order.slot (Some q))) b.order.slot None ≡ Some (loaded_of p)
+    own_slot : get_or (map loaded_slot (set slots a.order.slot (Some q))) b.order.slot None ≡ Some (loaded_of p)
     own_slot =
         ap (λ (xs : List (Option Loaded)). get_or xs b.order.slot None) programs_same
-        ∙ ap (λ (order : RunCommand). get_or (map filled slots) order.slot None) kept.order
+        ∙ ap (λ (order : RunCommand). get_or (map loaded_slot slots) order.slot None) kept.order
         ∙ slot_is
 
-    own_place : place_of new (map filled (set slots a.order.slot (Some q))) (active_of b) ≡ record place { turns = later }
+    own_place : place_of new (map loaded_slot (set slots a.order.slot (Some q))) (active_of b) ≡ record place { turns = later }
     own_place =
         ap (λ (o : Option Loaded). sees b.queue b.cid b.order new.size (rest (task_of new o b.order) (active_of b).so_far (to_come new (active_of b)))) own_slot
         ∙ ap (λ (x : Shape). sees b.queue b.cid b.order x.size later) (same_shape new q (Some b) turn later g.turns g.namespace prepared_same (sym programs_same))
@@ -224,11 +224,11 @@ module _ (ns : ZonedNamespace) (slots : List (Option LoadedProgram)) (runs : Lis
       ending = Some (record { status = answer.status; dw0 = answer.dw0; dw1 = answer.dw1; result = Some b.scratch });
     }
 
-    programs_end : slots_left s place last.ending ≡ map filled (set slots a.order.slot (Some q))
+    programs_end : slots_left s place last.ending ≡ map loaded_slot (set slots a.order.slot (Some q))
     programs_end =
-        ap (λ (o : Option Loaded). set (map filled slots) a.order.slot (keeping o (Some b.scratch))) slot_is
-        ∙ ap (λ (x : LoadedProgram). set (map filled slots) a.order.slot (filled (Some x))) (sym same)
-        ∙ sym (map-set filled slots a.order.slot (Some q))
+        ap (λ (o : Option Loaded). set (map loaded_slot slots) a.order.slot (keeping o (Some b.scratch))) slot_is
+        ∙ ap (λ (x : LoadedProgram). set (map loaded_slot slots) a.order.slot (loaded_slot (Some x))) (sym same)
+        ∙ sym (map-set loaded_slot slots a.order.slot (Some q))
 
     told : complete_reply b.queue b.cid answer ≡ (turn_answer k place last.ending).reply
     told =
@@ -257,26 +257,26 @@ module _ (ns : ZonedNamespace) (slots : List (Option LoadedProgram)) (runs : Lis
 
 -- the run at a place fits, with the program of its slot
 pub fits_at : (ns : ZonedNamespace) (slots : List (Option LoadedProgram)) (runs : List (Option Held)) (k : ℕ) (place : Option Held)
-    → IsReady ns slots runs → IsReached (state_of ns slots runs) → get_or runs k None ≡ place → FitsAt ns slots place
+    → IsReady ns slots runs → IsReached (device_state ns slots runs) → get_or runs k None ≡ place → FitsAt ns slots place
 fits_at ns slots runs k None ready reached at = tt
 fits_at ns slots runs k (Some a) ready reached at =
     let own = ready.running k a at in fits_in ns slots runs ready k a at own.program own.loaded reached
 
 -- no run is there
 idles : (ns : ZonedNamespace) (slots : List (Option LoadedProgram)) (runs : List (Option Held)) (k : ℕ) → IsReady ns slots runs
-    → get_or runs k None ≡ None → IsTurned (state_of ns slots runs) k ns slots runs reply.Idle
+    → get_or runs k None ≡ None → IsTurned (device_state ns slots runs) k ns slots runs reply.Idle
 idles ns slots runs k ready none =
-    let s = state_of ns slots runs in
+    let s = device_state ns slots runs in
     let free : place_at s k ≡ None =
-    get_or-map (seen ns (map filled slots)) (map running runs) k None
-    ∙ ap (seen ns (map filled slots)) (get_or-map running runs k None ∙ ap running none) in
+    get_or-map (seen ns (map loaded_slot slots)) (map running runs) k None
+    ∙ ap (seen ns (map loaded_slot slots)) (get_or-map running runs k None ∙ ap running none) in
     let comes : turned s k ≡ idle s = ap (λ (o : Option Place). turned_at s k o) free in
     record { reply = sym (ap (λ (h : Happening). h.answer.reply) comes); state = sym (ap (λ (h : Happening). h.state) comes); ready = ready }
 
 pub idles_there : (ns : ZonedNamespace) (slots : List (Option LoadedProgram)) (runs : List (Option Held)) (k : ℕ) (o : Option Held) → IsReady ns slots runs
-    → get_or runs k None ≡ o → o ≡ None → IsTurned (state_of ns slots runs) k ns slots (set runs k o) reply.Idle
+    → get_or runs k None ≡ o → o ≡ None → IsTurned (device_state ns slots runs) k ns slots (set runs k o) reply.Idle
 idles_there ns slots runs k o ready at none =
-    subst (λ (xs : List (Option Held)). IsTurned (state_of ns slots runs) k ns slots xs reply.Idle)
+    subst (λ (xs : List (Option Held)). IsTurned (device_state ns slots runs) k ns slots xs reply.Idle)
     (sym (ap (set runs k) (sym at) ∙ set-get_or runs k None)) (idles ns slots runs k ready (at ∙ none))
 
 module _ (ns new : ZonedNamespace) (slots : List (Option LoadedProgram)) (k slot : ℕ) (a b : Held) (default q : Option LoadedProgram) (is_slot : slot ≡ a.order.slot)
@@ -288,7 +288,7 @@ module _ (ns new : ZonedNamespace) (slots : List (Option LoadedProgram)) (k slot
   in_slot = found slots slot a.order.slot default own.program is_slot within own.loaded
 
   abbrev Comes : ℕ → Option Held → Reply → Type 0
-  Comes slot place answer = IsTurned (state_of ns slots runs) k new (set slots slot q) (set runs k place) answer
+  Comes slot place answer = IsTurned (device_state ns slots runs) k new (set slots slot q) (set runs k place) answer
 
   pub more_there : SlotTurned ns new (get_or slots slot default) q a b None → Comes slot (Some b) (reply.Pending k)
   more_there turn =

@@ -17,7 +17,7 @@ use Rattle.pushdown.proofs.Parts.{and_then-and_then}
 use Rattle.pushdown.proofs.Rests.{rest_is_few}
 use Rattle.pushdown.proofs.States.{IsFine}
 use Rattle.pushdown.proofs.States.{reached as are_fine}
-use Rattle.runner.specs.Held.{active_of, filled, state_of}
+use Rattle.runner.specs.Held.{active_of, loaded_slot, device_state}
 use Rattle.runner.specs.Ready.{Fits, IsReached}
 use Rattle.runner.specs.declared.active_run.Active.{Active as Held}
 use Rattle.runner.specs.declared.loaded_program.LoadedProgram.{LoadedProgram}
@@ -33,17 +33,17 @@ turn_less s run reached low =
 
 -- a run has at most as many turns left as it has source blocks
 few_of : (ns : ZonedNamespace) (slots : List (Option LoadedProgram)) (a : Held) → Fits ns a
-    → turns_left (seen ns (map filled slots) (Some (active_of a)) ∷ []) ≤ 65536
+    → turns_left (seen ns (map loaded_slot slots) (Some (active_of a)) ∷ []) ≤ 65536
 few_of ns slots a fits =
     let b = active_of a in
-    let few = rest_is_few (task_of ns (get_or (map filled slots) a.order.slot None) a.order) b.so_far (to_come ns b) in
+    let few = rest_is_few (task_of ns (get_or (map loaded_slot slots) a.order.slot None) a.order) b.so_far (to_come ns b) in
     let blocks = drop (a.order.lba % ns.size + a.index) (zone_at ns (zone_number ns a.order.lba)).blocks in
     let left = length-take (a.order.blocks - a.index) blocks in
     omega (arith, few, left, fits.most)
 
 pub few_left : (ns : ZonedNamespace) (slots : List (Option LoadedProgram)) (runs : List (Option Held))
     → ((k : ℕ) (a : Held) → get_or runs k None ≡ Some a → Fits ns a)
-    → turns_left (state_of ns slots runs).places ≤ 65536 * length runs
+    → turns_left (device_state ns slots runs).places ≤ 65536 * length runs
 few_left ns slots [] fit = omega arith
 few_left ns slots (None ∷ runs) fit = let rest = few_left ns slots runs (λ k. fit (suc k)) in omega (arith, rest)
 few_left ns slots (Some a ∷ runs) fit =

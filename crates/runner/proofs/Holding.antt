@@ -6,7 +6,7 @@ use Rattle.zns_commands.specs.Address.{zone_number}
 use Rattle.pushdown.specs.Admission.{Loaded}
 use Rattle.pushdown.specs.State.{destination_of, holds_of, source_of}
 use Rattle.pushdown.specs.View.{seen}
-use Rattle.runner.specs.Held.{destination_held, filled, held_by, running, source_held, state_of}
+use Rattle.runner.specs.Held.{destination_held, loaded_slot, held_by, running, source_held, device_state}
 use Rattle.runner.specs.Ready.{Fits, IsReady}
 use Rattle.runner.specs.declared.active_run.Active.{Active as Held}
 use Rattle.runner.specs.declared.loaded_program.LoadedProgram.{LoadedProgram}
@@ -31,10 +31,10 @@ module _ (ns : ZonedNamespace) (slots : List (Option Loaded)) where
       ∙ ap (λ (held : List (Option ℕ)). Some (zone_number ns a.order.destination) ∷ held) (destinations_are runs (λ k. fit (suc k)))
 
 pub holds_are : (ns : ZonedNamespace) (slots : List (Option LoadedProgram)) (runs : List (Option Held)) → IsReady ns slots runs
-    → held_by runs ≡ holds_of (state_of ns slots runs)
+    → held_by runs ≡ holds_of (device_state ns slots runs)
 holds_are ns slots runs ready =
     let fit : AllFit ns runs = λ k a at. (ready.running k a at).fits in
-    let seen_slots = map filled slots in
+    let seen_slots = map loaded_slot slots in
     ap (λ (held : List (Option ℕ)). record { sources = held; destinations = map destination_held runs }) (sources_are ns seen_slots runs fit)
-    ∙ ap (λ (held : List (Option ℕ)). record { sources = map source_of (state_of ns slots runs).places; destinations = held })
+    ∙ ap (λ (held : List (Option ℕ)). record { sources = map source_of (device_state ns slots runs).places; destinations = held })
     (destinations_are ns seen_slots runs fit)

@@ -23,7 +23,7 @@ use Rattle.pushdown.specs.Outcome.{rest}
 use Rattle.pushdown.specs.State.{Place, State, in_use, uses, with_slot}
 use Rattle.pushdown.specs.View.{Active, place_of, seen, to_come}
 use Rattle.runner.specs.Answered.{HasLoaded}
-use Rattle.runner.specs.Held.{filled, running, state_of}
+use Rattle.runner.specs.Held.{loaded_slot, running, device_state}
 use Rattle.runner.specs.Loading.{IsLoadable, IsNotAccepted, uses_slot}
 use Rattle.runner.specs.Ready.{IsFor, IsReady}
 use Rattle.runner.specs.declared.active_run.Active.{Active as Held}
@@ -46,7 +46,7 @@ not_true true e = cc
 not_true false e = refl
 
 pub used_is : (ns : ZonedNamespace) (slots : List (Option LoadedProgram)) (runs : List (Option Held)) (slot : ℕ)
-    → in_use (state_of ns slots runs) slot ≡ list_any (uses_slot slot) runs
+    → in_use (device_state ns slots runs) slot ≡ list_any (uses_slot slot) runs
 used_is ns slots [] slot = refl
 used_is ns slots (None ∷ runs) slot = used_is ns slots runs slot
 used_is ns slots (Some a ∷ runs) slot = ap (λ (b : Bool). (a.order.slot == slot) || b) (used_is ns slots runs slot)
@@ -78,29 +78,29 @@ module _ (ns : ZonedNamespace) (slots : List (Option Loaded)) (slot : ℕ) (new 
 
 module _ (ns : ZonedNamespace) (slots : List (Option LoadedProgram)) (runs : List (Option Held)) (load : LoadCommand) (input : List ℕ)
     (new : LoadedProgram) (ready : IsReady ns slots runs) (inside : load.slot < length slots)
-    (loadable : IsLoadable load input (state_of ns slots runs) (program_of new.prepared) (sizes_of new.prepared)) where
+    (loadable : IsLoadable load input (device_state ns slots runs) (program_of new.prepared) (sizes_of new.prepared)) where
   abbrev s : State
-  s = state_of ns slots runs
+  s = device_state ns slots runs
 
   unused : in_use s load.slot ≡ false
   unused = not_true (in_use s load.slot) (demanded (not (in_use s load.slot)) PROGRAM_IN_USE (passed (load_checks s load input) 3 loadable.checks))
 
-  put : new.result ≡ no_scratch → state_of ns (set slots load.slot (Some new)) runs
+  put : new.result ≡ no_scratch → device_state ns (set slots load.slot (Some new)) runs
       ≡ with_slot s load.slot (Some (just_loaded (program_of new.prepared) load.limit))
   put blank =
       let seen_with : List (Option Loaded) → State = λ all. record { namespace = ns; slots = all; places = map (seen ns all) (map running runs) } in
-      ap seen_with (map-set filled slots load.slot (Some new))
-      ∙ ap (λ (n : ℕ). seen_with (set (map filled slots) load.slot (Some (record { program = program_of new.prepared; limit = n; result = new.result }))))
+      ap seen_with (map-set loaded_slot slots load.slot (Some new))
+      ∙ ap (λ (n : ℕ). seen_with (set (map loaded_slot slots) load.slot (Some (record { program = program_of new.prepared; limit = n; result = new.result }))))
       (ap (λ (sizes : Sizes). sizes.limit) loadable.accepted.kept_is)
-      ∙ ap (λ (bytes : List ℕ). seen_with (set (map filled slots) load.slot (Some (record { program = program_of new.prepared; limit = load.limit; result = bytes })))) blank
+      ∙ ap (λ (bytes : List ℕ). seen_with (set (map loaded_slot slots) load.slot (Some (record { program = program_of new.prepared; limit = load.limit; result = bytes })))) blank
       ∙ ap (λ (places : List (Option Place)). record {
         namespace = ns;
-        slots = set (map filled slots) load.slot (Some (just_loaded (program_of new.prepared) load.limit));
+        slots = set (map loaded_slot slots) load.slot (Some (just_loaded (program_of new.prepared) load.limit));
         places = places;
       })
-      (all_seen ns (map filled slots) load.slot (Some (just_loaded (program_of new.prepared) load.limit)) (map running runs) unused)
+      (all_seen ns (map loaded_slot slots) load.slot (Some (just_loaded (program_of new.prepared) load.limit)) (map running runs) unused)
 
-  pub loads : new.result ≡ no_scratch → HasLoaded load input s (state_of ns (set slots load.slot (Some new)) runs) (success_answer 0 0)
+  pub loads : new.result ≡ no_scratch → HasLoaded load input s (device_state ns (set slots load.slot (Some new)) runs) (success_answer 0 0)
   loads blank = record {
     starved = false;
     happening = λ queue entry.

@@ -8,7 +8,7 @@ use Rattle.pushdown.specs.Admission.{Loaded}
 use Rattle.pushdown.specs.Draining.{lowest_run}
 use Rattle.pushdown.specs.State.{free_run}
 use Rattle.pushdown.specs.View.{Active, seen}
-use Rattle.runner.specs.Held.{filled, running, state_of}
+use Rattle.runner.specs.Held.{loaded_slot, running, device_state}
 use Rattle.runner.specs.declared.active_run.Active.{Active as Held}
 use Rattle.runner.specs.declared.loaded_program.LoadedProgram.{LoadedProgram}
 
@@ -43,12 +43,12 @@ running_some None = refl
 running_some (Some a) = refl
 
 module _ (ns : ZonedNamespace) (slots : List (Option LoadedProgram)) (runs : List (Option Held)) where
-  pub free_is : free_run (state_of ns slots runs) ≡ position is_none runs
+  pub free_is : free_run (device_state ns slots runs) ≡ position is_none runs
   free_is =
-      position_mapped (seen ns (map filled slots)) is_none is_none (seen_none ns (map filled slots)) (map running runs)
+      position_mapped (seen ns (map loaded_slot slots)) is_none is_none (seen_none ns (map loaded_slot slots)) (map running runs)
       ∙ position_mapped running is_none is_none running_none runs
 
-  pub lowest_is : lowest_run (state_of ns slots runs) ≡ position is_some runs
+  pub lowest_is : lowest_run (device_state ns slots runs) ≡ position is_some runs
   lowest_is =
-      position_mapped (seen ns (map filled slots)) is_some is_some (seen_some ns (map filled slots)) (map running runs)
+      position_mapped (seen ns (map loaded_slot slots)) is_some is_some (seen_some ns (map loaded_slot slots)) (map running runs)
       ∙ position_mapped running is_some is_some running_some runs

@@ -16,7 +16,7 @@ use Rattle.device_events.specs.declared.reply.Reply.TheVariants as reply
 use Rattle.pushdown.proofs.Views.{seen_at_admission}
 use Rattle.runner.specs.Admitting.{IsAdmission}
 use Rattle.runner.specs.Answered.{Refuses, Starts}
-use Rattle.runner.specs.Held.{active_of, filled, held_by, new_active, running, state_of}
+use Rattle.runner.specs.Held.{active_of, loaded_slot, held_by, new_active, running, device_state}
 use Rattle.runner.specs.Ready.{IsReady, IsRunning}
 use Rattle.runner.specs.declared.active_run.Active.{Active as Held}
 use Rattle.runner.specs.declared.admission.Admitted.{Admitted}
@@ -27,19 +27,19 @@ use Rattle.runner.proofs.Numbers.{free_is}
 module _ (ns : ZonedNamespace) (slots : List (Option LoadedProgram)) (runs : List (Option Held)) where
   -- a run put at a place, seen
   placed : (run : ℕ) (a : Held)
-      → state_of ns slots (set runs run (Some a)) ≡ with_place (state_of ns slots runs) run (Some (place_of ns (map filled slots) (active_of a)))
+      → device_state ns slots (set runs run (Some a)) ≡ with_place (device_state ns slots runs) run (Some (place_of ns (map loaded_slot slots) (active_of a)))
   placed run a =
-      ap (λ (places : List (Option Place)). record { namespace = ns; slots = map filled slots; places = places })
-      (ap (map (seen ns (map filled slots))) (map-set running runs run (Some a))
-      ∙ map-set (seen ns (map filled slots)) (map running runs) run (Some (active_of a)))
+      ap (λ (places : List (Option Place)). record { namespace = ns; slots = map loaded_slot slots; places = places })
+      (ap (map (seen ns (map loaded_slot slots))) (map-set running runs run (Some a))
+      ∙ map-set (seen ns (map loaded_slot slots)) (map running runs) run (Some (active_of a)))
 
   pub starts : (order : RunCommand) (queue cid block : ℕ) (admitted : Admitted) (input : List ℕ) → IsReady ns slots runs
       → position is_none runs ≡ Some admitted.run
-      → None ≡ run_refusal ns (held_by runs) (is_some (position is_none runs)) (filled (get_or slots order.slot None)) order input
-      → Starts order queue cid input (state_of ns slots runs)
-      (state_of ns slots (set runs admitted.run (Some (new_active queue cid order admitted.source admitted.destination block)))) admitted.run
+      → None ≡ run_refusal ns (held_by runs) (is_some (position is_none runs)) (loaded_slot (get_or slots order.slot None)) order input
+      → Starts order queue cid input (device_state ns slots runs)
+      (device_state ns slots (set runs admitted.run (Some (new_active queue cid order admitted.source admitted.destination block)))) admitted.run
   starts order queue cid block admitted input ready free passes entry named =
-      let s = state_of ns slots runs in
+      let s = device_state ns slots runs in
       let sub : Submission = record { queue = queue; entry = entry; input = input } in
       let a = new_active queue cid order admitted.source admitted.destination block in
       let begins : active_of a ≡ begun sub order =
@@ -47,14 +47,14 @@ module _ (ns : ZonedNamespace) (slots : List (Option LoadedProgram)) (runs : Lis
       ap (λ (why : Option Status). start_by why (free_run s) sub s order) (why_is ns slots runs sub order ready ∙ sym passes)
       ∙ ap (λ (number : Option ℕ). start_by None number sub s order) (free_is ns slots runs ∙ free)
       ∙ ap (λ (place : Place). record { answer = plain (reply.Pending admitted.run); state = with_place s admitted.run (Some place) })
-      (sym (seen_at_admission sub s order) ∙ ap (place_of ns (map filled slots)) (sym begins))
+      (sym (seen_at_admission sub s order) ∙ ap (place_of ns (map loaded_slot slots)) (sym begins))
       ∙ ap (λ (t : State). record { answer = plain (reply.Pending admitted.run); state = t }) (sym (placed admitted.run a))
 
   pub refuses : (order : RunCommand) (input : List ℕ) (status : Status) → IsReady ns slots runs
-      → Some status ≡ run_refusal ns (held_by runs) (is_some (position is_none runs)) (filled (get_or slots order.slot None)) order input
-      → Refuses order input (state_of ns slots runs) status
+      → Some status ≡ run_refusal ns (held_by runs) (is_some (position is_none runs)) (loaded_slot (get_or slots order.slot None)) order input
+      → Refuses order input (device_state ns slots runs) status
   refuses order input status ready fails queue entry =
-      let s = state_of ns slots runs in
+      let s = device_state ns slots runs in
       let sub : Submission = record { queue = queue; entry = entry; input = input } in
       ap (λ (why : Option Status). start_by why (free_run s) sub s order) (why_is ns slots runs sub order ready ∙ sym fails)
 

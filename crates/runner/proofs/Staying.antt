@@ -9,7 +9,7 @@ use Rattle.pushdown.specs.Admission.{SameProgram}
 use Rattle.pushdown.specs.State.{Place, place_at}
 use Rattle.pushdown.specs.View.{KeepsSource, place_of, seen}
 use Rattle.pushdown.proofs.Views.{seen_stays}
-use Rattle.runner.specs.Held.{active_of, filled, running, state_of}
+use Rattle.runner.specs.Held.{active_of, loaded_slot, running, device_state}
 use Rattle.runner.specs.Ready.{Fits}
 use Rattle.runner.specs.declared.active_run.Active.{Active as Held}
 use Rattle.runner.specs.declared.loaded_program.LoadedProgram.{LoadedProgram}
@@ -17,7 +17,7 @@ use Rattle.runner.specs.declared.loaded_program.LoadedProgram.{LoadedProgram}
 -- what a run needs to be seen as before: its source blocks and its program
 pub record Stays (ns later : ZonedNamespace) (slots slots' : List (Option LoadedProgram)) (a : Held) : Type 0 where
   pub source : KeepsSource ns later (active_of a)
-  pub program : SameProgram (get_or (map filled slots) a.order.slot None) (get_or (map filled slots') a.order.slot None)
+  pub program : SameProgram (get_or (map loaded_slot slots) a.order.slot None) (get_or (map loaded_slot slots') a.order.slot None)
 
 -- ---- a run
 
@@ -67,9 +67,9 @@ grows_there ns later a fits grows =
 
 -- the place of a run
 pub placed_at : (ns : ZonedNamespace) (slots : List (Option LoadedProgram)) (runs : List (Option Held)) (k : ℕ) (a : Held)
-    → get_or runs k None ≡ Some a → place_at (state_of ns slots runs) k ≡ Some (place_of ns (map filled slots) (active_of a))
+    → get_or runs k None ≡ Some a → place_at (device_state ns slots runs) k ≡ Some (place_of ns (map loaded_slot slots) (active_of a))
 placed_at ns slots [] k a at = cc
-placed_at ns slots (r ∷ rs) zero a at = ap (λ (o : Option Held). seen ns (map filled slots) (running o)) at
+placed_at ns slots (r ∷ rs) zero a at = ap (λ (o : Option Held). seen ns (map loaded_slot slots) (running o)) at
 placed_at ns slots (r ∷ rs) (suc k) a at = placed_at ns slots rs k a at
 
 module _ (ns later : ZonedNamespace) (slots slots' : List (Option LoadedProgram)) where
@@ -77,27 +77,27 @@ module _ (ns later : ZonedNamespace) (slots slots' : List (Option LoadedProgram)
   StayAll runs = (k : ℕ) (a : Held) → get_or runs k None ≡ Some a → Stays ns later slots slots' a
 
   stays_seen : (r : Option Held) → ((a : Held) → r ≡ Some a → Stays ns later slots slots' a)
-      → seen later (map filled slots') (running r) ≡ seen ns (map filled slots) (running r)
+      → seen later (map loaded_slot slots') (running r) ≡ seen ns (map loaded_slot slots) (running r)
   stays_seen None stays = refl
   stays_seen (Some a) stays =
-      let s = stays a refl in ap Some (seen_stays ns later (map filled slots) (map filled slots') (active_of a) s.source s.program)
+      let s = stays a refl in ap Some (seen_stays ns later (map loaded_slot slots) (map loaded_slot slots') (active_of a) s.source s.program)
 
-  pub places_stay : (runs : List (Option Held)) → StayAll runs → (state_of later slots' runs).places ≡ (state_of ns slots runs).places
+  pub places_stay : (runs : List (Option Held)) → StayAll runs → (device_state later slots' runs).places ≡ (device_state ns slots runs).places
   places_stay [] stays = refl
   places_stay (r ∷ rs) stays =
-      ap (λ (p : Option Place). p ∷ (state_of later slots' rs).places) (stays_seen r (stays zero))
-      ∙ ap (λ (ps : List (Option Place)). seen ns (map filled slots) (running r) ∷ ps) (places_stay rs (λ k. stays (suc k)))
+      ap (λ (p : Option Place). p ∷ (device_state later slots' rs).places) (stays_seen r (stays zero))
+      ∙ ap (λ (ps : List (Option Place)). seen ns (map loaded_slot slots) (running r) ∷ ps) (places_stay rs (λ k. stays (suc k)))
 
   -- the same, where another run, or none, takes one of the places
   pub others_stay : (runs : List (Option Held)) (i : ℕ) (r : Option Held)
       → ((k : ℕ) (a : Held) → k ≢ i → get_or runs k None ≡ Some a → Stays ns later slots slots' a)
-      → (state_of later slots' (set runs i r)).places ≡ set (state_of ns slots runs).places i (seen later (map filled slots') (running r))
+      → (device_state later slots' (set runs i r)).places ≡ set (device_state ns slots runs).places i (seen later (map loaded_slot slots') (running r))
   others_stay [] i r stays = refl
   others_stay (x ∷ xs) zero r stays =
-      ap (λ (ps : List (Option Place)). seen later (map filled slots') (running r) ∷ ps)
+      ap (λ (ps : List (Option Place)). seen later (map loaded_slot slots') (running r) ∷ ps)
       (places_stay xs (λ k a at. stays (suc k) a (λ same. absurd (omega (arith, same))) at))
   others_stay (x ∷ xs) (suc i) r stays =
       let rest = others_stay xs i r (λ k a other at. stays (suc k) a (λ same. other (omega (arith, same))) at) in
-      ap (λ (p : Option Place). p ∷ (state_of later slots' (set xs i r)).places)
+      ap (λ (p : Option Place). p ∷ (device_state later slots' (set xs i r)).places)
       (stays_seen x (λ a at. stays zero a (λ same. absurd (omega (arith, same))) at))
-      ∙ ap (λ (ps : List (Option Place)). seen ns (map filled slots) (running x) ∷ ps) rest
+      ∙ ap (λ (ps : List (Option Place)). seen ns (map loaded_slot slots) (running x) ∷ ps) rest

@@ -21,7 +21,7 @@ use Rattle.pushdown.specs.State.{holds_of as places_hold}
 use Rattle.pushdown.proofs.KeptForRuns.{same_program}
 use Rattle.pushdown.proofs.Places.{named_at}
 use Rattle.runner.specs.Answered.{answered}
-use Rattle.runner.specs.Held.{filled, held_by, source_held, state_of}
+use Rattle.runner.specs.Held.{loaded_slot, held_by, source_held, device_state}
 use Rattle.runner.specs.Ready.{IsReady}
 use Rattle.runner.specs.declared.active_run.Active.{Active as Held}
 use Rattle.runner.specs.declared.loaded_program.LoadedProgram.{LoadedProgram}
@@ -31,7 +31,7 @@ use Rattle.runner.proofs.Staying.{keeps_source, places_stay, still_fits}
 -- a later namespace, in which what a device has is ready, and is seen as before
 pub record IsLeft (ns later : ZonedNamespace) (slots : List (Option LoadedProgram)) (runs : List (Option Held)) : Type 0 where
   pub ready : IsReady later slots runs
-  pub state : state_of later slots runs ≡ with_namespace (state_of ns slots runs) later
+  pub state : device_state later slots runs ≡ with_namespace (device_state ns slots runs) later
 
 abbrev SourcesGrow : ZonedNamespace → ZonedNamespace → List (Option Held) → Type 0
 SourcesGrow ns later runs =
@@ -53,11 +53,11 @@ is_left ns later slots runs ready same grow =
               fits = still_fits ns later a was.fits same (grow k a at);
             };
       };
-      state = ap (λ (places : List (Option Place)). record { namespace = later; slots = map filled slots; places = places })
+      state = ap (λ (places : List (Option Place)). record { namespace = later; slots = map loaded_slot slots; places = places })
           (places_stay ns later slots slots runs
           (λ k a at. record {
             source = keeps_source ns later a (ready.running k a at).fits same (grow k a at);
-            program = same_program (get_or (map filled slots) a.order.slot None);
+            program = same_program (get_or (map loaded_slot slots) a.order.slot None);
           }));
     }
 
@@ -79,9 +79,9 @@ step_leaves ns slots runs step ready heeds =
 
 pub fault_leaves : (ns new : ZonedNamespace) (slots : List (Option LoadedProgram)) (runs : List (Option Held)) (holds : Holds) (zone : ℕ) (fault : FaultState)
     → IsReady ns slots runs → holds ≡ held_by runs → new ≡ faulted ns holds zone fault
-    → IsReady new slots runs × (state_of new slots runs ≡ (failed (state_of ns slots runs) zone fault).state)
+    → IsReady new slots runs × (device_state new slots runs ≡ (failed (device_state ns slots runs) zone fault).state)
 fault_leaves ns new slots runs holds zone fault ready heeds is =
-    let s = state_of ns slots runs in
+    let s = device_state ns slots runs in
     let left : IsLeft ns new slots runs =
     subst (λ (later : ZonedNamespace). IsLeft ns later slots runs) (sym is) (step_leaves ns slots runs (Failed holds zone fault) ready heeds) in (
       left.ready,
@@ -94,10 +94,10 @@ pub command_leaves : (ns new : ZonedNamespace) (slots : List (Option LoadedProgr
     (input bytes : List ℕ) (answer : Answer) → IsReady ns slots runs → holds ≡ held_by runs
     → effect_of_answer answer new bytes ≡ meaning ns holds command input
     → IsReady new slots runs
-    × ((sub : Submission) → commanded sub (state_of ns slots runs) (meaning ns (places_hold (state_of ns slots runs)) command input)
-    ≡ answered sub answer bytes (state_of new slots runs))
+    × ((sub : Submission) → commanded sub (device_state ns slots runs) (meaning ns (places_hold (device_state ns slots runs)) command input)
+    ≡ answered sub answer bytes (device_state new slots runs))
 command_leaves ns new slots runs holds command input bytes answer ready heeds is =
-    let s = state_of ns slots runs in
+    let s = device_state ns slots runs in
     let later = ap (λ (o : Effect). o.namespace) is in
     let left : IsLeft ns new slots runs =
     subst (λ (m : ZonedNamespace). IsLeft ns m slots runs) (sym later) (step_leaves ns slots runs (Commanded holds command input) ready heeds) in (

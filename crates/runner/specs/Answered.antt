@@ -16,7 +16,7 @@ use Rattle.pushdown.specs.Machine.{commanded, giving_result, loading, starting, 
 use Rattle.pushdown.specs.State.{State, holds_of}
 use Rattle.device_events.specs.declared.reply.Reply.{Reply}
 use Rattle.device_events.specs.declared.reply.Reply.TheVariants as reply
-use Rattle.runner.specs.Held.{state_of}
+use Rattle.runner.specs.Held.{device_state}
 use Rattle.runner.specs.Ready.{IsReady}
 use Rattle.runner.specs.declared.active_run.Active.{Active as Held}
 use Rattle.runner.specs.declared.loaded_program.LoadedProgram.{LoadedProgram}
@@ -41,8 +41,8 @@ pub record HasExecuted (asked : StandardCommand) (input : List ℕ) (ns later : 
   pub ready : IsReady later slots runs
   pub happening : (queue : ℕ) (entry : List ℕ)
       → let sub : Submission = record { queue = queue; entry = entry; input = input } in
-      let s = state_of ns slots runs in
-      commanded sub s (meaning ns (holds_of s) asked input) ≡ answered sub answer bytes (state_of later slots runs)
+      let s = device_state ns slots runs in
+      commanded sub s (meaning ns (holds_of s) asked input) ≡ answered sub answer bytes (device_state later slots runs)
 
 -- a Load of these bytes was answered so, whatever its queue and its entry, and led from one state to the
 -- other; memory may have been refused to it

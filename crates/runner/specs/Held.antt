@@ -44,13 +44,13 @@ running (Some a) = Some (active_of a)
 abbrev pub loaded_of : LoadedProgram → Loaded
 loaded_of p = record { program = program_of p.prepared; limit = (sizes_of p.prepared).limit; result = p.result }
 
-abbrev pub filled : Option LoadedProgram → Option Loaded
-filled None = None
-filled (Some p) = Some (loaded_of p)
+abbrev pub loaded_slot : Option LoadedProgram → Option Loaded
+loaded_slot None = None
+loaded_slot (Some p) = Some (loaded_of p)
 
 -- the state of a device, in which each run has the turns that are left of it
-abbrev pub state_of : ZonedNamespace → List (Option LoadedProgram) → List (Option Held) → State
-state_of ns slots runs = view_of ns (map filled slots) (map running runs)
+abbrev pub device_state : ZonedNamespace → List (Option LoadedProgram) → List (Option Held) → State
+device_state ns slots runs = view_of ns (map loaded_slot slots) (map running runs)
 
 -- the zones that a run reads from and appends to
 abbrev pub source_held : Option Held → Option ℕ

@@ -3,7 +3,7 @@ use Rattle.std.specs.Prelude.{ℕ, Bool, false, ◌≡◌, ◌==◌, List, [], O
 use Rattle.zone_state.specs.declared.status.TheConstants.Status.{PROGRAM_REFUSED}
 use Rattle.nvme_entry.specs.Checks.{first_refused}
 use Rattle.nvme_entry.specs.declared.command.LoadCommand.{LoadCommand}
-use Rattle.ebpf_decode.specs.Reading.{decoded}
+use Rattle.ebpf_decode.specs.Reading.{decoded_program}
 use Rattle.instruction_set.specs.declared.insn.Insn.{Insn}
 use Rattle.program_interface.specs.RunSizes.{Sizes}
 use Rattle.interval_domain.specs.Intervals.{intervals}
@@ -22,7 +22,7 @@ uses_slot slot (Some a) = a.order.slot == slot
 
 -- they spell a program that is accepted, and kept with the sizes that it is accepted for
 pub record IsAccepted (bytes : List ℕ) (sizes : Sizes) (program : List (Option Insn)) (kept : Sizes) : Type 0 where
-  pub spelled : decoded bytes ≡ Ok program
+  pub spelled : decoded_program bytes ≡ Ok program
   pub accepted : refusal intervals program sizes ≡ None
   pub kept_is : kept ≡ sizes
 

@@ -8,7 +8,7 @@ use Rattle.zns_commands.specs.Address.{zone_number, zone_block_in}
 use Rattle.pushdown.specs.Events.{Occurrence, state_after}
 use Rattle.pushdown.specs.Pushdown.{AreEvents}
 use Rattle.pushdown.specs.State.{State, new_state}
-use Rattle.runner.specs.Held.{state_of}
+use Rattle.runner.specs.Held.{device_state}
 use Rattle.runner.specs.declared.active_run.Active.{Active as Held}
 use Rattle.runner.specs.declared.loaded_program.LoadedProgram.{LoadedProgram}
 
@@ -51,4 +51,4 @@ pub record IsReached (s : State) : Type 0 where
 
 pub record IsDevice (ns : ZonedNamespace) (slots : List (Option LoadedProgram)) (runs : List (Option Held)) : Type 0 where
   pub ready : IsReady ns slots runs
-  pub reached : IsReached (state_of ns slots runs)
+  pub reached : IsReached (device_state ns slots runs)

@@ -15,7 +15,7 @@ use Rattle.pushdown.specs.Machine.{added, turned}
 use Rattle.pushdown.specs.State.{State}
 use Rattle.pushdown.specs.View.{Active, turns_of}
 use Rattle.device_events.specs.declared.reply.Reply.{Reply}
-use Rattle.runner.specs.Held.{active_of, state_of}
+use Rattle.runner.specs.Held.{active_of, device_state}
 use Rattle.runner.specs.Ready.{Fits, IsFor, IsReady}
 use Rattle.runner.specs.declared.active_run.Active.{Active as Held}
 use Rattle.runner.specs.declared.loaded_program.LoadedProgram.{LoadedProgram}
@@ -98,11 +98,11 @@ FitsAt ns slots (Some a) = FitsIn ns (get_or slots a.order.slot None) a
 -- what a turn in a state comes to
 pub record IsTurned (s : State) (run : ℕ) (ns : ZonedNamespace) (slots : List (Option LoadedProgram)) (runs : List (Option Held)) (answer : Reply) : Type 0 where
   pub reply : answer ≡ (turned s run).answer.reply
-  pub state : state_of ns slots runs ≡ (turned s run).state
+  pub state : device_state ns slots runs ≡ (turned s run).state
   pub ready : IsReady ns slots runs
 
 -- a turn at a place, whatever the other places hold
 abbrev pub PlaceTurned : ZonedNamespace → ZonedNamespace → List (Option LoadedProgram) → List (Option LoadedProgram) → ℕ → Option Held → Option Held → Reply → Type 0
 PlaceTurned old new slots slots' run place place' answer =
     (runs : List (Option Held)) → get_or runs run None ≡ place → IsReady old slots runs
-    → IsTurned (state_of old slots runs) run new slots' (set runs run place') answer
+    → IsTurned (device_state old slots runs) run new slots' (set runs run place') answer

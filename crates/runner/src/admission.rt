@@ -5,7 +5,7 @@ ghost use Rattle.nvme_entry.specs.Checks.{first_refused};
 ghost use Rattle.pushdown.specs.Admission.{address_checks, destination_checks, run_refusal, source_checks};
 ghost use Rattle.runner.specs.Admitting.{ArePlaces, AreWritten, IsAdmission};
 ghost use Rattle.runner.specs.Answered.{Refuses, Starts};
-ghost use Rattle.runner.specs.Held.{filled, held_by, state_of};
+ghost use Rattle.runner.specs.Held.{loaded_slot, held_by, device_state};
 ghost use Rattle.runner.specs.Ready.{IsReady};
 ghost use Rattle.zns_commands.specs.Address.{lowest_checks, zone_block_in, range_check, zone_number, IsZoneBlock};
 ghost use Rattle.zns_commands.specs.Resources.{why_not};
@@ -40,8 +40,8 @@ pub fn start(
     input: &[u8],
 ) -> Result<u8, Status>
     requires ready { IsReady namespace.now slots.now runs.old }
-    ensures ok { IfOk result (Starts order.now queue cid input.now (state_of namespace.now slots.now runs.old) (state_of namespace.now slots.now runs.new)) }
-    ensures err { IfErr result (Refuses order.now input.now (state_of namespace.now slots.now runs.old)) }
+    ensures ok { IfOk result (Starts order.now queue cid input.now (device_state namespace.now slots.now runs.old) (device_state namespace.now slots.now runs.new)) }
+    ensures err { IfErr result (Refuses order.now input.now (device_state namespace.now slots.now runs.old)) }
     ensures kept { OnErr result (runs.new ≡ runs.old) }
     ensures ready { IsReady namespace.now slots.now runs.new }
 {
@@ -67,7 +67,7 @@ fn admit(
     input: &[u8],
 ) -> Result<Admitted, Status>
     requires { IsReady namespace.now slots.now runs.now }
-    ensures why { why_not result ≡ run_refusal namespace.now (held_by runs.now) (is_some (position is_none runs.now)) (filled (get_or slots.now order.now.slot None)) order.now input.now }
+    ensures why { why_not result ≡ run_refusal namespace.now (held_by runs.now) (is_some (position is_none runs.now)) (loaded_slot (get_or slots.now order.now.slot None)) order.now input.now }
     ensures admission { IfOk result (IsAdmission namespace.now slots.now runs.now order.now) }
 {
     if !input.is_empty() {

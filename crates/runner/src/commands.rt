@@ -3,7 +3,7 @@
 ghost use Rattle.std.specs.Prelude.{◌≡◌, ◌≤◌, ◌++◌, drop, length, List, Option};
 ghost use Rattle.image_store.specs.Namespace.{ZonedNamespace};
 ghost use Rattle.runner.specs.Answered.{GivesResult, complete_reply};
-ghost use Rattle.runner.specs.Held.{state_of};
+ghost use Rattle.runner.specs.Held.{device_state};
 ghost use Rattle.runner.specs.declared.active_run.Active.{Active as Held};
 
 use crate::loaded_program::LoadedProgram;
@@ -29,7 +29,7 @@ pub fn give_result(
     output: &mut [u8],
 ) -> Answer
     requires { SCRATCH_BYTES ≤ length output.old }
-    ensures gives { (ns : ZonedNamespace) (runs : List (Option Held)) → GivesResult slot input.now (state_of ns slots.now runs) result output.new }
+    ensures gives { (ns : ZonedNamespace) (runs : List (Option Held)) → GivesResult slot input.now (device_state ns slots.now runs) result output.new }
     ensures rest { drop result.length output.new ≡ drop result.length output.old }
     ensures within { result.length ≤ length output.new }
 {

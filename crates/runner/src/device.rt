@@ -45,12 +45,12 @@ pub struct Device {
 
 impl Model for Device {
     ghost use Rattle.pushdown.specs.State.{State};
-    ghost use Rattle.runner.specs.Held.{state_of};
+    ghost use Rattle.runner.specs.Held.{device_state};
     ghost use Rattle.runner.specs.Ready.{IsDevice};
 
     ghost Value = { State };
 
-    ghost view = { λ d. state_of d.namespace d.slots d.runs };
+    ghost view = { λ d. device_state d.namespace d.slots d.runs };
 
     ghost invariant = { λ d. IsDevice d.namespace d.slots d.runs };
 }

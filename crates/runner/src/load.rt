@@ -5,7 +5,7 @@ ghost use Rattle.std.specs.List.{list_any};
 ghost use Rattle.nvme_entry.specs.Checks.{first_refused};
 ghost use Rattle.pushdown.specs.Machine.{load_checks};
 ghost use Rattle.runner.specs.Answered.{HasLoaded};
-ghost use Rattle.runner.specs.Held.{state_of};
+ghost use Rattle.runner.specs.Held.{device_state};
 ghost use Rattle.runner.specs.Loading.{uses_slot, refused_program, IsAccepted, IsLoadable, IsNotAccepted};
 ghost use Rattle.runner.specs.Ready.{IsReady};
 ghost use Rattle.verifier.specs.Verified.{program_of, sizes_of};
@@ -33,7 +33,7 @@ pub fn load(
     input: &[u8],
 ) -> Answer
     requires ready { IsReady namespace.now slots.old runs.now }
-    ensures loaded { HasLoaded command.now input.now (state_of namespace.now slots.old runs.now) (state_of namespace.now slots.new runs.now) result }
+    ensures loaded { HasLoaded command.now input.now (device_state namespace.now slots.old runs.now) (device_state namespace.now slots.new runs.now) result }
     ensures ready { IsReady namespace.now slots.new runs.now }
     ensures no_data { result.length ≡ 0 }
 {
@@ -54,8 +54,8 @@ fn try_load(
     command: &LoadCommand,
     input: &[u8],
 ) -> Result<Prepared<Verified<Intervals>>, Answer>
-    ensures ok { IfOk result (λ v. (slots : List (Option LoadedProgram)) → IsLoadable command.now input.now (state_of namespace.now slots runs.now) (program_of v) (sizes_of v)) }
-    ensures err { IfErr result (λ answer. (slots : List (Option LoadedProgram)) → let s = state_of namespace.now slots runs.now in HasLoaded command.now input.now s s answer) }
+    ensures ok { IfOk result (λ v. (slots : List (Option LoadedProgram)) → IsLoadable command.now input.now (device_state namespace.now slots runs.now) (program_of v) (sizes_of v)) }
+    ensures err { IfErr result (λ answer. (slots : List (Option LoadedProgram)) → let s = device_state namespace.now slots runs.now in HasLoaded command.now input.now s s answer) }
     ensures no_data { IfErr result (λ answer. answer.length ≡ 0) }
 {
     match check(namespace, runs, command, input) {
@@ -71,7 +71,7 @@ fn check(
     command: &LoadCommand,
     input: &[u8],
 ) -> Result<RunSizes, Status>
-    ensures why { (slots : List (Option LoadedProgram)) → why_not result ≡ first_refused (load_checks (state_of namespace.now slots runs.now) command.now input.now) }
+    ensures why { (slots : List (Option LoadedProgram)) → why_not result ≡ first_refused (load_checks (device_state namespace.now slots runs.now) command.now input.now) }
     ensures sizes { IfOk result (λ sizes. sizes ≡ record { block = namespace.now.block; limit = command.now.limit }) }
 {
     let bytes = command.bytes as usize;

@@ -7,7 +7,7 @@ ghost use Rattle.emit_append.specs.Packing.{padded};
 ghost use Rattle.device_events.specs.Replies.{data_length};
 ghost use Rattle.pushdown.specs.BlockRuns.{scratch_after};
 ghost use Rattle.pushdown.specs.Machine.{added};
-ghost use Rattle.runner.specs.Held.{active_of, state_of};
+ghost use Rattle.runner.specs.Held.{active_of, device_state};
 ghost use Rattle.runner.specs.Ran.{HasRun};
 ghost use Rattle.runner.specs.Ready.{Fits, IsReady, IsReached};
 ghost use Rattle.runner.specs.Turning.{FitsAt, FitsIn, FitsOn, HasRoom, IsTaking, IsTurned, Keeps, PlaceTurned, SlotTurned, Turned, next_block, next_run, with_packer, with_scratch};
@@ -195,8 +195,8 @@ pub fn turn(
     run: u8,
 ) -> Reply
     requires ready { IsReady namespace.old slots.old runs.old }
-    requires reached { IsReached (state_of namespace.old slots.old runs.old) }
-    ensures turned { IsTurned (state_of namespace.old slots.old runs.old) run namespace.new slots.new runs.new result }
+    requires reached { IsReached (device_state namespace.old slots.old runs.old) }
+    ensures turned { IsTurned (device_state namespace.old slots.old runs.old) run namespace.new slots.new runs.new result }
     ensures no_data { data_length result ≡ 0 }
 {
     let place = usize::from(run);

@@ -9,7 +9,7 @@ use Rattle.std.proofs.lemmas.Bool.{ltb-true, lt-ltb}
 use Rattle.std.proofs.lemmas.Str.{IsUtf8-from_ascii}
 use Rattle.std.proofs.lemmas.Fmt.{IsAscii-from_digits}
 use Rattle.std.proofs.lemmas.Str.Parse.{IsNumeralModel, numerals_by_value, parse_digits}
-use Rattle.text_lines.specs.Number.{number_of}
+use Rattle.text_lines.specs.Number.{decimal_of}
 
 digits : IsNumeralModel (λ ds. list_all is_ascii_digit ds ≡ true) (digits_value 10)
 digits = numerals_by_value _ (search rules)
@@ -22,12 +22,12 @@ none_unless true true n h = absurd (h refl refl)
 none_unless true false n h = refl
 none_unless false b n h = refl
 
-number_if : {E : Type 0} (ds : List ℕ) (r : Result ℕ E) → list_all is_ascii_digit ds ≡ true → OkIff r ((0 < length ds) × (digits_value 10 ds < 2 ^ 32)) (digits_value 10 ds) → result_ok r ≡ number_of ds
+number_if : {E : Type 0} (ds : List ℕ) (r : Result ℕ E) → list_all is_ascii_digit ds ≡ true → OkIff r ((0 < length ds) × (digits_value 10 ds < 2 ^ 32)) (digits_value 10 ds) → result_ok r ≡ decimal_of ds
 number_if ds (Ok n) all h = rw (all, lt-ltb 0 (length ds) h.0.0, lt-ltb (digits_value 10 ds) (2 ^ 32) h.0.1) (ap Some h.1)
 number_if ds (Err e) all h =
     rw all (none_unless (ltb 0 (length ds)) (ltb (digits_value 10 ds) (2 ^ 32)) (digits_value 10 ds) (λ some small. h (ltb-true _ _ some, ltb-true _ _ small)))
 
-pub number_read : {E : Type 0} (ds : List ℕ) (r : Result ℕ E) → list_all is_ascii_digit ds ≡ true → ParsesUnsigned 32 10 ds r → result_ok r ≡ number_of ds
+pub number_read : {E : Type 0} (ds : List ℕ) (r : Result ℕ E) → list_all is_ascii_digit ds ≡ true → ParsesUnsigned 32 10 ds r → result_ok r ≡ decimal_of ds
 number_read ds r all h = number_if ds r all (parse_digits digits 32 ds r h all)
 
 -- reading text fails at bytes that are none alone

@@ -8,7 +8,7 @@ use program_meaning::End;
 impl Machine<'_> {
     ghost use Rattle.std.specs.Prelude.{◌≡◌, ◌+◌, ◌<◌, ◌≤◌, ◌^◌, drop, length};
     ghost use Rattle.program_meaning.specs.Run.{ran, run_of};
-    ghost use Rattle.interp.specs.Machine.{group_length, scratch_name, slot_of, state_of, steps_of};
+    ghost use Rattle.interp.specs.Machine.{group_length, scratch_name, machine_slot, machine_state, steps_of};
     ghost use Rattle.program_meaning.specs.Step.{IsAt};
 
     /// Takes steps from where the machine stands until the run ends, and at most `fuel` of them;
@@ -21,13 +21,13 @@ impl Machine<'_> {
         fuel: u64,
         group: &mut [u8],
     ) -> End
-        requires at { IsAt program.now (slot_of self.old) }
+        requires at { IsAt program.now (machine_slot self.old) }
         requires steps { steps_of self.old + fuel < 2 ^ 64 }
         requires limit { limit < 2 ^ 16 }
         requires room { limit ≤ length group.old }
         requires used { group_length self.old ≤ length group.old }
-        ensures run { ran result (steps_of self.new) (state_of self.new group.new) ≡ run_of program.now limit fuel (steps_of self.old) (state_of self.old group.old) }
-        ensures at { IsAt program.now (slot_of self.new) }
+        ensures run { ran result (steps_of self.new) (machine_state self.new group.new) ≡ run_of program.now limit fuel (steps_of self.old) (machine_state self.old group.old) }
+        ensures at { IsAt program.now (machine_slot self.new) }
         ensures grows { group_length self.old ≤ group_length self.new }
         ensures used { group_length self.new ≤ length group.new }
         ensures beyond { drop (group_length self.new) group.new ≡ drop (group_length self.new) group.old }

@@ -1,11 +1,11 @@
 use Rattle.std.proofs.Common.{◌≡◌, ◌+◌, ◌<◌, ◌^◌, length}
-use Rattle.emit_append.specs.Frames.{block_at, frame_length, then_read}
-use Rattle.emit_append.specs.Unpacking.{bytes_of}
+use Rattle.emit_append.specs.Frames.{output_block_at, frame_length, then_read}
+use Rattle.emit_append.specs.Unpacking.{record_bytes}
 use Rattle.emit_append.proofs.unpacking.read_block.Given as goal
 
 abbrev pub invariant-loop-length : goal.invariant-loop-length
 invariant-loop-length l = record {
-  read : then_read (bytes_of l.records.items) (block_at l.place l.rest) ≡ then_read (bytes_of l.initial.records.items) (block_at l.at l.block);
+  read : then_read (record_bytes l.records.items) (output_block_at l.place l.rest) ≡ then_read (record_bytes l.initial.records.items) (output_block_at l.at l.block);
   front : l.length ≡ frame_length l.rest;
   small : l.length < 2 ^ 16;
   places : l.place + length l.rest ≡ l.at + length l.block;

@@ -1,6 +1,6 @@
-use Rattle.nvme_entry.specs.Report.{header}
+use Rattle.nvme_entry.specs.Report.{report_header}
 use Rattle.nvme_entry.proofs.report.header.Goals as goal
 
 pub returns : goal.returns
-unfolding header
+unfolding report_header
 returns c = c.write_u64.ensures

@@ -2,7 +2,7 @@ use Rattle.std.proofs.Common.{sym, subst}
 use Rattle.std.proofs.lemmas.Result.{IfOk-weaker, MatchResult-weaker}
 use Rattle.program_interface.specs.RunSizes.{Sizes}
 use Rattle.verifier.specs.Verified.{program_of, sizes_of}
-use Rattle.runner.specs.Held.{state_of}
+use Rattle.runner.specs.Held.{device_state}
 use Rattle.runner.specs.Loading.{IsAccepted}
 use Rattle.runner.proofs.Loads.{refuses_checked, refuses_read}
 use Rattle.runner.proofs.load.try_load.Goals as goal
@@ -19,9 +19,9 @@ returns-in-Ok-clause-ok c =
 pub returns-in-Ok-clause-err : goal.returns-in-Ok-clause-err
 returns-in-Ok-clause-err c =
     MatchResult-weaker c.read_program.result c.read_program.ensures.err (λ v none. none)
-    (λ answer refused slots. refuses_read c.args.command.now c.args.input.now (state_of c.args.namespace.now slots c.args.runs.now) c.in-Ok.sizes answer
+    (λ answer refused slots. refuses_read c.args.command.now c.args.input.now (device_state c.args.namespace.now slots c.args.runs.now) c.in-Ok.sizes answer
     (c.in-Ok.ensures.why slots) c.in-Ok.ensures.sizes refused)
 
 pub returns-in-Err-clause-err : goal.returns-in-Err-clause-err
 returns-in-Err-clause-err c = λ slots.
-    rw c.refused.ensures (refuses_checked c.args.command.now c.args.input.now (state_of c.args.namespace.now slots c.args.runs.now) c.in-Err.status (c.in-Err.ensures.why slots))
+    rw c.refused.ensures (refuses_checked c.args.command.now c.args.input.now (device_state c.args.namespace.now slots c.args.runs.now) c.in-Err.status (c.in-Err.ensures.why slots))

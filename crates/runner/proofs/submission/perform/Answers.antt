@@ -3,7 +3,7 @@ use Rattle.nvme_entry.specs.declared.command.Command.{Command}
 use Rattle.interval_domain.specs.Intervals.{intervals}
 use Rattle.pushdown.specs.Answers.{Happening, Submission}
 use Rattle.pushdown.specs.Machine.{submitted}
-use Rattle.runner.specs.Held.{state_of}
+use Rattle.runner.specs.Held.{device_state}
 use Rattle.runner.proofs.Replies.{replied, replied_alone}
 use Rattle.runner.proofs.submission.perform.Goals as goal
 
@@ -12,9 +12,9 @@ returns-in-Standard-clause-submitted c =
     let a = c.args in
     let told = a.submission.now in
     let sub : Submission = record { queue = told.queue; entry = told.entry.now; input = told.input.now } in
-    let old = state_of a.namespace.now a.slots.now a.runs.now in
+    let old = device_state a.namespace.now a.slots.now a.runs.now in
     let asking : Command → Happening = λ x. submitted intervals false sub old (Ok x) in
-    replied sub (Ok a.command) old (state_of c.execute.new.namespace a.slots.now a.runs.now) false c.execute.result c.answer.result c.execute.new.output
+    replied sub (Ok a.command) old (device_state c.execute.new.namespace a.slots.now a.runs.now) false c.execute.result c.answer.result c.execute.new.output
     (ap asking c.in-Standard.is ∙ (c.execute.ensures.left a.slots.now c.requires.ready).happening told.queue told.entry.now)
     c.answer.ensures c.execute.ensures.within
 
@@ -23,10 +23,10 @@ returns-in-Load-clause-submitted c =
     let a = c.args in
     let told = a.submission.now in
     let sub : Submission = record { queue = told.queue; entry = told.entry.now; input = told.input.now } in
-    let old = state_of a.namespace.now a.slots.now a.runs.now in
+    let old = device_state a.namespace.now a.slots.now a.runs.now in
     let loaded = c.load.ensures.loaded in
     let asking : Command → Happening = λ x. submitted intervals loaded.starved sub old (Ok x) in
-    replied_alone sub (Ok a.command) old (state_of a.namespace.now c.load.new.slots a.runs.now) loaded.starved c.load.result c.answer-in-Load.result a.output.now
+    replied_alone sub (Ok a.command) old (device_state a.namespace.now c.load.new.slots a.runs.now) loaded.starved c.load.result c.answer-in-Load.result a.output.now
     (ap asking c.in-Load.is ∙ loaded.happening told.queue told.entry.now)
     c.answer-in-Load.ensures c.load.ensures.no_data
 
@@ -35,7 +35,7 @@ returns-in-Result-clause-submitted c =
     let a = c.args in
     let told = a.submission.now in
     let sub : Submission = record { queue = told.queue; entry = told.entry.now; input = told.input.now } in
-    let old = state_of a.namespace.now a.slots.now a.runs.now in
+    let old = device_state a.namespace.now a.slots.now a.runs.now in
     let asking : Command → Happening = λ x. submitted intervals false sub old (Ok x) in
     replied sub (Ok a.command) old old false c.give_result.result c.answer-in-Result.result c.give_result.new.output
     (ap asking c.in-Result.is ∙ c.give_result.ensures.gives a.namespace.now a.runs.now told.queue told.entry.now)

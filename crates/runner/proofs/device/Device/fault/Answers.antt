@@ -4,7 +4,7 @@ use Rattle.zns_commands.specs.Fault.{fault_answer}
 use Rattle.pushdown.specs.Machine.{failed, fault_reply}
 use Rattle.pushdown.specs.State.{State, holds_of}
 use Rattle.device_events.specs.declared.event.Event.TheVariants as event
-use Rattle.runner.specs.Held.{state_of}
+use Rattle.runner.specs.Held.{device_state}
 use Rattle.runner.proofs.Holding.{holds_are}
 use Rattle.runner.proofs.Occurrences.{reached_more}
 use Rattle.runner.proofs.StepsLeave.{fault_leaves}
@@ -17,7 +17,7 @@ invariant_of-self c =
     let left = fault_leaves d.namespace c.fault.new.self d.slots d.runs c.holds.result c.args.zone c.args.state c.self.invariant.ready c.holds.ensures c.fault.ensures.state in
     record {
       ready = left.0;
-      reached = reached_more (state_of d.namespace d.slots d.runs) (state_of c.fault.new.self d.slots d.runs)
+      reached = reached_more (device_state d.namespace d.slots d.runs) (device_state c.fault.new.self d.slots d.runs)
           (record { event = event.Fault c.args.zone c.args.state; starved = false }) c.self.invariant.reached tt left.1;
     }
 

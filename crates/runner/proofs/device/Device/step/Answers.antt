@@ -8,7 +8,7 @@ use Rattle.pushdown.specs.Pushdown.{HasBytes}
 use Rattle.pushdown.specs.State.{State}
 use Rattle.device_events.specs.declared.event.Event.{Event}
 use Rattle.device_events.specs.declared.event.Event.TheVariants as event
-use Rattle.runner.specs.Held.{state_of}
+use Rattle.runner.specs.Held.{device_state}
 use Rattle.runner.proofs.Occurrences.{reached_by, reached_more, submission_happened}
 use Rattle.runner.proofs.device.Device.step.Goals as goal
 
@@ -17,8 +17,8 @@ invariant_of-self c =
     let d = c.self.inside in
     let e = c.in-Submit in
     let made = c.new-submission in
-    let old = state_of d.namespace d.slots d.runs in
-    let new = state_of c.submit.new.namespace c.submit.new.slots c.submit.new.runs in
+    let old = device_state d.namespace d.slots d.runs in
+    let new = device_state c.submit.new.namespace c.submit.new.slots c.submit.new.runs in
     let sub : Submission = record { queue = made.result.queue; entry = made.result.entry.now; input = made.result.input.now } in
     let answer : ReplyWithData = record { reply = c.submit.result; bytes = take (data_length c.submit.result) c.submit.new.output } in
     let happened = submission_happened e.queue e.entry e.input sub old new answer made.ensures.queue made.ensures.entry
@@ -34,7 +34,7 @@ invariant_of-self-in-Turn c =
     let d = c.self-in-Turn.inside in
     record {
       ready = c.turn.ensures.turned.ready;
-      reached = reached_more (state_of d.namespace d.slots d.runs) (state_of c.turn.new.namespace c.turn.new.slots c.turn.new.runs)
+      reached = reached_more (device_state d.namespace d.slots d.runs) (device_state c.turn.new.namespace c.turn.new.slots c.turn.new.runs)
           (record { event = event.Turn c.in-Turn.run'; starved = false }) c.self-in-Turn.invariant.reached tt c.turn.ensures.turned.state;
     }
 
@@ -43,8 +43,8 @@ returns-in-Submit-clause-happened c =
     let d = c.self.inside in
     let e = c.in-Submit in
     let made = c.new-submission in
-    let old = state_of d.namespace d.slots d.runs in
-    let new = state_of c.submit.new.namespace c.submit.new.slots c.submit.new.runs in
+    let old = device_state d.namespace d.slots d.runs in
+    let new = device_state c.submit.new.namespace c.submit.new.slots c.submit.new.runs in
     let sub : Submission = record { queue = made.result.queue; entry = made.result.entry.now; input = made.result.input.now } in
     let answer : ReplyWithData = record { reply = c.submit.result; bytes = take (data_length c.submit.result) c.submit.new.output } in
     let happened = submission_happened e.queue e.entry e.input sub old new answer made.ensures.queue made.ensures.entry
