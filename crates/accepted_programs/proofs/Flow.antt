@@ -8,7 +8,7 @@ use Rattle.instruction_set.specs.Program.{instruction_at}
 use Rattle.instruction_set.specs.declared.insn.Insn.{Insn}
 use Rattle.program_meaning.specs.State.{IsState, State}
 use Rattle.program_interface.specs.declared.area.Area.TheVariants.{Stack}
-use Rattle.reg_domain.specs.Domain.{IsSound, Operations}
+use Rattle.word_domain.specs.Domain.{IsSound, Operations}
 use Rattle.accepted_programs.proofs.CellLaws.{joined_known, word_fits}
 use Rattle.accepted_programs.specs.Facts.{facts_at, facts_at_target, facts_behind, given_below, gives, join_registers, leads, merge, slot_behind}
 use Rattle.accepted_programs.proofs.KnownFacts.{AreFacts, SomeAreFacts, ahead_given, behind_given, given_facts, known_facts, merge_facts}

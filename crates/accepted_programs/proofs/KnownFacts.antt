@@ -17,8 +17,8 @@ use Rattle.instruction_set.specs.declared.operation.Width.TheVariants.{Bits32, B
 use Rattle.program_meaning.specs.Word.{low_bits}
 use Rattle.program_interface.specs.declared.area.Area.TheVariants.{Context, Block, Stack, Scratch}
 use Rattle.program_meaning.specs.declared.word.Arithmetic.TheVariants as word
-use Rattle.reg_domain.specs.Domain.{GiveFacts, Operations}
-use Rattle.reg_domain.specs.declared.offsets.Offsets.{Offsets}
+use Rattle.word_domain.specs.Domain.{GiveFacts, Operations}
+use Rattle.word_domain.specs.declared.offsets.Offsets.{Offsets}
 use Rattle.accepted_programs.specs.Cells.{cell_of, filled, is_stack, known_in, no_cells, overwritten}
 use Rattle.accepted_programs.proofs.CellLaws.{if_some, joined_known, left_known, none_known, set_known}
 use Rattle.accepted_programs.specs.declared.facts.TheConstants.{CELLS}

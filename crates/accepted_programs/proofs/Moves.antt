@@ -18,7 +18,7 @@ use Rattle.instruction_set.specs.declared.operation.Width.{Width}
 use Rattle.program_meaning.proofs.MemoryLemmas.{loaded_fits}
 use Rattle.program_meaning.specs.Cause.{is_exit, next_slot}
 use Rattle.program_meaning.specs.Effect.{address_from, bytes_at, emitted, operand, put, register}
-use Rattle.program_meaning.specs.Memory.{Memory, bytes_from, lies_in, loaded, place_of, stored}
+use Rattle.program_meaning.specs.Memory.{Memory, bytes_from, lies_in, loaded, area_offset_of, stored}
 use Rattle.program_meaning.specs.State.{IsState, State}
 use Rattle.program_meaning.specs.Step.{after, slot_number}
 use Rattle.program_meaning.specs.Word.{is_taken}
@@ -28,8 +28,8 @@ use Rattle.program_interface.specs.BlockSize.{IsBlockSize}
 use Rattle.program_interface.specs.RunSizes.{AreSizes, Sizes}
 use Rattle.program_interface.specs.declared.area.Area.{Area}
 use Rattle.program_interface.specs.declared.area.Area.TheVariants.{Context, Block, Stack, Scratch}
-use Rattle.reg_domain.specs.Domain.{BelongAfter, Belongs, IsAtOffset, IsSound, Operations}
-use Rattle.reg_domain.specs.declared.offsets.Offsets.{Offsets}
+use Rattle.word_domain.specs.Domain.{BelongAfter, Belongs, IsAtOffset, IsSound, Operations}
+use Rattle.word_domain.specs.declared.offsets.Offsets.{Offsets}
 use Rattle.accepted_programs.specs.Accepted.{all_reasons, fails, goes_back, is_unwritable, reason_of, stores_outside}
 use Rattle.accepted_programs.proofs.CellLaws.{if_some}
 use Rattle.accepted_programs.specs.Cells.{cell_of, filled, is_stack, known_in, overwritten}
@@ -55,7 +55,7 @@ ahead_is slot (negsuc n) forth = cc
 -- a frame of at most so many bytes
 frame_length : (m : Memory) (address n : ℕ) → length (frame (bytes_at m address n)) ≤ 2 + n
 frame_length m address n =
-    let taken = length-take n (bytes_from m (place_of (length m.block) address n)) in
+    let taken = length-take n (bytes_from m (area_offset_of (length m.block) address n)) in
     omega (arith, taken)
 
 module _ {D : Type 0} {IsFact : D → Type 0} {contains : D → ℕ → Type 0} {operations : Operations D}

@@ -10,12 +10,12 @@ use Rattle.instruction_set.specs.declared.operation.Size.{Size}
 use Rattle.instruction_set.specs.declared.operation.Size.TheVariants.{Byte, HalfWord, Word, DoubleWord}
 use Rattle.program_meaning.proofs.MemoryLemmas.{fits_area, length-written}
 use Rattle.program_meaning.specs.Effect.{address_from, effect, register}
-use Rattle.program_meaning.specs.Memory.{IsMemory, Memory, bytes_of, place_of, stored, stored_at, with_bytes, written}
+use Rattle.program_meaning.specs.Memory.{IsMemory, Memory, bytes_of, area_offset_of, stored, stored_at, with_bytes, written}
 use Rattle.program_meaning.specs.State.{IsState, State}
 use Rattle.program_meaning.specs.Step.{IsAt}
 use Rattle.program_interface.specs.declared.area.Area.{Area}
 use Rattle.program_interface.specs.declared.area.Area.TheVariants.{Context, Block, Stack, Scratch}
-use Rattle.program_meaning.specs.declared.place.Place.{Place}
+use Rattle.program_meaning.specs.declared.area_offset.AreaOffset.{AreaOffset}
 
 -- ---- a step keeps the block's length
 block_with : (m : Memory) (area : Area) (xs : List ℕ) → length xs ≡ length (bytes_of m area)
@@ -25,8 +25,8 @@ block_with m Block xs same = same
 block_with m Stack xs same = refl
 block_with m Scratch xs same = refl
 
-block_stored_at : (m : Memory) (o : Option Place) (address : ℕ) (bytes : List ℕ) → IsMemory m
-    → place_of (length m.block) address (length bytes) ≡ o → length (stored_at m o bytes).block ≡ length m.block
+block_stored_at : (m : Memory) (o : Option AreaOffset) (address : ℕ) (bytes : List ℕ) → IsMemory m
+    → area_offset_of (length m.block) address (length bytes) ≡ o → length (stored_at m o bytes).block ≡ length m.block
 block_stored_at m None address bytes is e = refl
 block_stored_at m (Some p) address bytes is e =
     let xs = bytes_of m p.area in
@@ -35,10 +35,10 @@ block_stored_at m (Some p) address bytes is e =
 
 block_stored : (m : Memory) (address : ℕ) (size : Size) (word : ℕ) → IsMemory m
     → length (stored m address size word).block ≡ length m.block
-block_stored m address Byte word is = block_stored_at m (place_of (length m.block) address 1) address _ is refl
-block_stored m address HalfWord word is = block_stored_at m (place_of (length m.block) address 2) address _ is refl
-block_stored m address Word word is = block_stored_at m (place_of (length m.block) address 4) address _ is refl
-block_stored m address DoubleWord word is = block_stored_at m (place_of (length m.block) address 8) address _ is refl
+block_stored m address Byte word is = block_stored_at m (area_offset_of (length m.block) address 1) address _ is refl
+block_stored m address HalfWord word is = block_stored_at m (area_offset_of (length m.block) address 2) address _ is refl
+block_stored m address Word word is = block_stored_at m (area_offset_of (length m.block) address 4) address _ is refl
+block_stored m address DoubleWord word is = block_stored_at m (area_offset_of (length m.block) address 8) address _ is refl
 
 pub block_kept : (s : State) (i : Insn) → IsState s → length (effect s i).memory.block ≡ length s.memory.block
 block_kept s (StoreImmediate size dst offset value) is =

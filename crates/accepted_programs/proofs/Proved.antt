@@ -1,6 +1,6 @@
 -- The laws of accepted programs that other crates cite.
 use Rattle.std.specs.Prelude.{ℕ}
-use Rattle.reg_domain.specs.Domain.{IsSound, Operations}
+use Rattle.word_domain.specs.Domain.{IsSound, Operations}
 use Rattle.accepted_programs.specs.Laws.{AcceptedEmitsNoMore, AcceptedNeverTraps, AcceptedSlotsNeverTrap, NoReasonHolds, OffsetsAreShort, RefusalIsAtItsSlot, RefusalIsInside}
 use Rattle.accepted_programs.proofs.Fitting as fitting
 use Rattle.accepted_programs.proofs.Refusals as refusals

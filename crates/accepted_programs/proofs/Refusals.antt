@@ -3,7 +3,7 @@ use Rattle.std.proofs.Common.{◌≡◌, ℕ, zero, suc, ◌<◌, List, length, 
 use Rattle.instruction_set.specs.Program.{instruction_at}
 use Rattle.instruction_set.specs.declared.insn.Insn.{Insn}
 use Rattle.program_interface.specs.RunSizes.{Sizes}
-use Rattle.reg_domain.specs.Domain.{Operations}
+use Rattle.word_domain.specs.Domain.{Operations}
 use Rattle.accepted_programs.specs.Accepted.{all_reasons, fails, or_else, reason_of, refusal_at, refusal_below, refused_for}
 use Rattle.accepted_programs.specs.Laws.{NoReasonHolds, RefusalIsAtItsSlot, RefusalIsInside}
 use Rattle.accepted_programs.specs.Facts.{facts_at}

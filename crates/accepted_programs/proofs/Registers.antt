@@ -10,7 +10,7 @@ use Rattle.instruction_set.specs.declared.operation.Width.{Width}
 use Rattle.instruction_set.specs.declared.operation.Width.TheVariants.{Bits32, Bits64}
 use Rattle.program_meaning.specs.Effect.{operand}
 use Rattle.program_meaning.specs.Word.{is_taken, low_bits}
-use Rattle.reg_domain.specs.Domain.{Belongs, IsSound, Operations}
+use Rattle.word_domain.specs.Domain.{Belongs, IsSound, Operations}
 use Rattle.accepted_programs.specs.Facts.{compared_fact, fact, is_register, source_fact}
 use Rattle.accepted_programs.proofs.KnownFacts.{AreFacts, fact_is, immediate_fits, low_fits}
 use Rattle.accepted_programs.specs.Meets.{Belong}

@@ -14,7 +14,7 @@ use Rattle.program_meaning.specs.Step.{Ends, Goes, IsAt, after, decided, step_at
 use Rattle.program_meaning.specs.declared.cause.Cause.{Cause}
 use Rattle.program_interface.specs.declared.area.Area.TheVariants.{Context, Block, Stack, Scratch}
 use Rattle.program_interface.specs.RunSizes.{AreSizes, Sizes}
-use Rattle.reg_domain.specs.Domain.{IsSound, Operations}
+use Rattle.word_domain.specs.Domain.{IsSound, Operations}
 use Rattle.accepted_programs.specs.Accepted.{or_else, reason_of, refusal, refusal_at, refusal_below, refused_for}
 use Rattle.accepted_programs.specs.ShortOffsets.{HasShortOffsets}
 use Rattle.accepted_programs.proofs.CellLaws.{none_known}

@@ -17,8 +17,8 @@ use Rattle.program_interface.specs.declared.area.Area.TheVariants.{Context, Bloc
 use Rattle.program_interface.specs.declared.area.TheConstants.{STACK_BYTES}
 use Rattle.program_meaning.specs.Memory.{IsMemory, Memory, lies_in, loaded, stored, truncated, written}
 use Rattle.program_meaning.specs.PlaceLaws.{placed}
-use Rattle.reg_domain.specs.Domain.{IsAtOffset}
-use Rattle.reg_domain.specs.declared.offsets.Offsets.{Offsets}
+use Rattle.word_domain.specs.Domain.{IsAtOffset}
+use Rattle.word_domain.specs.declared.offsets.Offsets.{Offsets}
 use Rattle.accepted_programs.specs.Cells.{cell_from, cell_of, filled, has_byte, is_stack, no_cells, overwritten}
 use Rattle.accepted_programs.proofs.CellLaws.{if_some, left_known, none_known, set_known, word_kept, word_written}
 use Rattle.accepted_programs.specs.Meets.{BelongInCells, word_in}

@@ -17,7 +17,7 @@ use Rattle.instruction_set.specs.declared.operation.Size.TheVariants.{Byte, Half
 use Rattle.program_meaning.specs.Cause as machine
 use Rattle.program_meaning.specs.Cause.{causes_of_effect, emits_badly, emits_outside, holds, is_emit, is_inside_wide, is_not_writable, is_nowhere, is_outside, least_cause, next_slot, slot_in}
 use Rattle.program_meaning.specs.Effect.{address_from, operand, register}
-use Rattle.program_meaning.specs.Memory.{lies_in, place_of}
+use Rattle.program_meaning.specs.Memory.{lies_in, area_offset_of}
 use Rattle.program_interface.specs.Area.{address_of, length_of}
 use Rattle.program_meaning.specs.State.{IsState, State}
 use Rattle.program_meaning.specs.Word.{is_taken}
@@ -25,7 +25,7 @@ use Rattle.program_meaning.specs.declared.cause.Cause.{Cause}
 use Rattle.program_meaning.specs.declared.cause.Cause.TheVariants as cause
 use Rattle.program_interface.specs.declared.area.Area.{Area}
 use Rattle.program_interface.specs.RunSizes.{AreSizes, Sizes}
-use Rattle.reg_domain.specs.Domain.{Belongs, IsSound, Operations}
+use Rattle.word_domain.specs.Domain.{Belongs, IsSound, Operations}
 use Rattle.program_meaning.specs.PlaceLaws.{placed}
 use Rattle.program_meaning.specs.PlaceLaws.{block_small}
 use Rattle.accepted_programs.specs.Accepted.{all_reasons, begins_at, fails, is_unwritable, leads_nowhere, least_emitted, loads_outside, most_emitted, reason_of, stores_outside, turns_away}
@@ -163,7 +163,7 @@ module _ {D : Type 0} {IsFact : D → Type 0} {contains : D → ℕ → Type 0} 
 
     writable : (o : Option Area) (r : ℕ) (offset : ℤ) (size : ℕ) → FitsSigned w16 offset → size < 2 ^ 64
         → area_of operations block facts r offset size ≡ o → is_unwritable o ≡ false
-        → is_not_writable (place_of (length s.memory.block) (address_from s.registers r offset) size) ≡ false
+        → is_not_writable (area_offset_of (length s.memory.block) (address_from s.registers r offset) size) ≡ false
     writable None r offset size near counted told some = cc
     writable (Some area) r offset size near counted told some =
         let inside = lies area r offset size near counted told in

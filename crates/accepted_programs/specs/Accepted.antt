@@ -8,7 +8,7 @@ use Rattle.program_meaning.specs.Cause.{calls_unknown, is_emit, slot_in}
 use Rattle.program_interface.specs.Area.{is_writable}
 use Rattle.program_interface.specs.declared.area.Area.{Area}
 use Rattle.program_interface.specs.RunSizes.{Sizes}
-use Rattle.reg_domain.specs.Domain.{Operations}
+use Rattle.word_domain.specs.Domain.{Operations}
 use Rattle.accepted_programs.specs.Facts.{area_of, fact, facts_at, slot_behind}
 use Rattle.accepted_programs.specs.declared.facts.Facts.{Facts}
 use Rattle.accepted_programs.specs.declared.reason.Reason.{Reason}

@@ -1,7 +1,7 @@
 -- How many bytes a group is known to have.
 use Rattle.std.specs.Prelude.{ℕ, zero, suc, List, length, max, Option, Some, None}
 use Rattle.instruction_set.specs.declared.insn.Insn.{Insn}
-use Rattle.reg_domain.specs.Domain.{Operations}
+use Rattle.word_domain.specs.Domain.{Operations}
 use Rattle.accepted_programs.specs.Facts.{facts_at}
 use Rattle.accepted_programs.specs.declared.facts.Facts.{Facts}
 

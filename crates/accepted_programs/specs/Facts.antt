@@ -16,7 +16,7 @@ use Rattle.program_interface.specs.declared.area.Area.TheVariants.{Context, Bloc
 use Rattle.program_meaning.specs.declared.word.Arithmetic.TheVariants as word
 use Rattle.program_interface.specs.declared.area.TheConstants.{STACK_BYTES}
 use Rattle.program_interface.specs.declared.area.Area.{Area}
-use Rattle.reg_domain.specs.Domain.{Operations}
+use Rattle.word_domain.specs.Domain.{Operations}
 use Rattle.accepted_programs.specs.Cells.{cell_of, filled, is_stack, join_cells, known_in, no_cells, overwritten}
 use Rattle.accepted_programs.specs.declared.facts.Facts.{Facts}
 

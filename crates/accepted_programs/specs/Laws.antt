@@ -7,7 +7,7 @@ use Rattle.program_meaning.specs.State.{IsState, entry}
 use Rattle.program_meaning.specs.TrapFree.{NeverTraps}
 use Rattle.program_interface.specs.RunSizes.{AreSizes, Sizes}
 use Rattle.program_interface.specs.declared.TheConstants.{MOST_SLOTS}
-use Rattle.reg_domain.specs.Domain.{Operations}
+use Rattle.word_domain.specs.Domain.{Operations}
 use Rattle.accepted_programs.specs.Accepted.{fails, reason_of, refusal, refusal_at}
 use Rattle.accepted_programs.specs.Emitted.{most_emitted}
 use Rattle.accepted_programs.specs.ShortOffsets.{HasShortOffsets}

@@ -5,7 +5,7 @@ ghost use Rattle.accepted_programs.specs.Facts.{fact, with_fact};
 
 use instruction_set::Register;
 use program_interface::REGISTERS;
-use reg_domain::Domain;
+use word_domain::Domain;
 use std::alloc::AllocError;
 
 /// The cells of the stack: words of eight bytes, each of which can be known.

@@ -2,7 +2,7 @@
 
 ghost use Rattle.accepted_programs.specs.Laws.{AcceptedEmitsNoMore, AcceptedNeverTraps, RefusalIsInside};
 
-use reg_domain::Domain;
+use word_domain::Domain;
 
 /// A program that is accepted over any domain never traps: over every block of the length that it was
 /// accepted for, every context and every scratch, a run of it ends by EXIT, after at most as many

@@ -6,7 +6,7 @@ use ebpf_asm::instruction_text;
 use instruction_set::{Insn, Register};
 use interp::Machine;
 use program_interface::{Area, REGISTERS};
-use reg_domain::Offsets;
+use word_domain::Offsets;
 use std::alloc::Global;
 use std::io::{self, Write};
 

@@ -8,7 +8,7 @@ use interval_facts::{
 };
 use program_interface::{Area, BlockSize};
 use program_meaning::Arithmetic;
-use reg_domain::{Bounds, Domain, Offsets};
+use word_domain::{Bounds, Domain, Offsets};
 use std::marker::Model;
 
 /// A word that is known, an address at a known distance from an area's, or any word.

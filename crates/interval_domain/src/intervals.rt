@@ -8,7 +8,7 @@ use interval_facts::{
 };
 use program_interface::{Area, BlockSize};
 use program_meaning::Arithmetic;
-use reg_domain::{Bounds, Domain, Offsets};
+use word_domain::{Bounds, Domain, Offsets};
 use std::marker::Model;
 
 /// The words between two bounds, or the addresses between two distances from an area's.

@@ -7,7 +7,7 @@ use crate::{Constants, Intervals};
 use instruction_set::{Operation, Size, Width};
 use program_interface::{Area, BlockSize};
 use program_meaning::Arithmetic;
-use reg_domain::{Bounds, Domain, Offsets};
+use word_domain::{Bounds, Domain, Offsets};
 use std::process::Abort;
 
 fn between(low: u64, high: u64) -> Bounds {

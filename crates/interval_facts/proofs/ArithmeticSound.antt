@@ -26,7 +26,7 @@ use Rattle.interval_facts.proofs.RangeSound.{combined_law, either, top_law}
 use Rattle.interval_facts.specs.Arithmetic.{added, alu_of, are_known, combined_64, combined_of, cut, estimated, extended_of, is_known, operand_of, subtracted, swapped_of, unsigned_below, width_of}
 use Rattle.interval_facts.specs.Fact.{ContainsWord, IsWithin, bounds_of, is_single, single}
 use Rattle.interval_facts.specs.Range.{combined, limit, top}
-use Rattle.reg_domain.specs.declared.bounds.Bounds.{Bounds}
+use Rattle.word_domain.specs.declared.bounds.Bounds.{Bounds}
 use Rattle.interval_facts.specs.declared.fact.Fact.{Fact}
 use Rattle.interval_facts.specs.declared.fact.Fact.TheVariants.{Words, Pointer}
 

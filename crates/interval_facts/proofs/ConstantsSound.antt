@@ -2,7 +2,7 @@
 use Rattle.std.specs.Prelude.{ℕ, Option, Some, None}
 use Rattle.program_meaning.specs.Effect.{sign_extended}
 use Rattle.program_meaning.specs.Word.{computed}
-use Rattle.reg_domain.specs.Domain.{BelongAfter, IsSound}
+use Rattle.word_domain.specs.Domain.{BelongAfter, IsSound}
 use Rattle.interval_facts.proofs.FactSound.{widened_law}
 use Rattle.interval_facts.proofs.IntervalsSound.{each_is_fact, intervals_sound}
 use Rattle.interval_facts.specs.Constants.{both_widened, constants}

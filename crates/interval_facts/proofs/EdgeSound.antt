@@ -8,10 +8,10 @@ use Rattle.instruction_set.specs.declared.operation.Width.{Width}
 use Rattle.instruction_set.specs.declared.operation.Width.TheVariants.{Bits32, Bits64}
 use Rattle.program_meaning.specs.Word.{is_taken, low_bits, relates, signed}
 use Rattle.interval_facts.proofs.Numbers.{mod_below_is}
-use Rattle.reg_domain.specs.Domain.{BelongAfter}
+use Rattle.word_domain.specs.Domain.{BelongAfter}
 use Rattle.interval_facts.specs.Edge.{agrees, as_facts, at_most, different, edge_of, equal, exchanged, fits, is_empty, less, narrowed, refine_of, refine_words, without}
 use Rattle.interval_facts.specs.Fact.{ContainsWord, IsWithin, is_single, range}
-use Rattle.reg_domain.specs.declared.bounds.Bounds.{Bounds}
+use Rattle.word_domain.specs.declared.bounds.Bounds.{Bounds}
 use Rattle.interval_facts.specs.declared.fact.Fact.{Fact}
 use Rattle.interval_facts.specs.declared.fact.Fact.TheVariants.{Words, Pointer}
 

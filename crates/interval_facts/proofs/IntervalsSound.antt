@@ -1,7 +1,7 @@
 -- The domain of intervals is sound.
 use Rattle.std.specs.Prelude.{Option, Some, None, IfSome}
 use Rattle.program_meaning.specs.PlaceLaws.{block_small}
-use Rattle.reg_domain.specs.Domain.{GiveFacts, IsSound, Operations}
+use Rattle.word_domain.specs.Domain.{GiveFacts, IsSound, Operations}
 use Rattle.interval_facts.proofs.ArithmeticSound.{alu_law}
 use Rattle.interval_facts.proofs.EdgeSound.{refine_law}
 use Rattle.interval_facts.proofs.FactSound.{any_law, bounds_law, constant_law, join_first, join_second, loaded_law, loaded_signed_law}

@@ -12,9 +12,9 @@ use Rattle.program_meaning.specs.PlaceLaws.{length_fits}
 use Rattle.interval_facts.proofs.FactSound.{any_law, either_fact}
 use Rattle.interval_facts.specs.Arithmetic.{moved_back, moved_on, signed_bounds}
 use Rattle.interval_facts.specs.Fact.{ContainsWord, access_of, farthest, offsets_of, pointer_to}
-use Rattle.reg_domain.specs.Domain.{IsAtOffset}
-use Rattle.reg_domain.specs.declared.bounds.Bounds.{Bounds}
-use Rattle.reg_domain.specs.declared.offsets.Offsets.{Offsets}
+use Rattle.word_domain.specs.Domain.{IsAtOffset}
+use Rattle.word_domain.specs.declared.bounds.Bounds.{Bounds}
+use Rattle.word_domain.specs.declared.offsets.Offsets.{Offsets}
 use Rattle.interval_facts.specs.declared.fact.Fact.{Fact}
 use Rattle.interval_facts.specs.declared.fact.Fact.TheVariants.{Words, Pointer}
 

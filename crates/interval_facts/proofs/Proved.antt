@@ -1,5 +1,5 @@
 -- What the crates above cite.
-use Rattle.reg_domain.specs.Domain.{IsSound}
+use Rattle.word_domain.specs.Domain.{IsSound}
 use Rattle.interval_facts.proofs.ConstantsSound as constants_lemma
 use Rattle.interval_facts.proofs.IntervalsSound as intervals_lemma
 use Rattle.interval_facts.specs.Constants.{constants}

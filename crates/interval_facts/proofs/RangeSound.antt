@@ -16,7 +16,7 @@ use Rattle.program_meaning.proofs.WordLemmas.{result_fits}
 use Rattle.interval_facts.proofs.Numbers.{mod_below_is, quotient_grows, wraps_once}
 use Rattle.interval_facts.specs.Fact.{IsWithin, is_single, range, single}
 use Rattle.interval_facts.specs.Range.{limit, half, top, sum, difference, product, quotient, remainder, if_positive, conjunction, shifted_left, shifted_left_by, shifted_right, shifted_right_by, combined}
-use Rattle.reg_domain.specs.declared.bounds.Bounds.{Bounds}
+use Rattle.word_domain.specs.declared.bounds.Bounds.{Bounds}
 
 -- the bounds that a test chooses are right where both are
 pub either : (test : Bool) (b c : Bounds) (n : ℕ) → (test ≡ true → IsWithin b n) → (test ≡ false → IsWithin c n)

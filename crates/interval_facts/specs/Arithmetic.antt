@@ -14,7 +14,7 @@ use Rattle.program_meaning.specs.declared.word.Arithmetic.{Arithmetic}
 use Rattle.program_meaning.specs.declared.word.Arithmetic.TheVariants.{Binary, Negate, MoveSigned, SwapBytes}
 use Rattle.interval_facts.specs.Fact.{bounds_of, full, is_single, pointer_to, range, single}
 use Rattle.interval_facts.specs.Range.{combined, difference, sum, top}
-use Rattle.reg_domain.specs.declared.bounds.Bounds.{Bounds}
+use Rattle.word_domain.specs.declared.bounds.Bounds.{Bounds}
 use Rattle.interval_facts.specs.declared.fact.Fact.{Fact}
 use Rattle.interval_facts.specs.declared.fact.Fact.TheVariants.{Words, Pointer}
 

@@ -1,7 +1,7 @@
 -- The domain of constants: that of intervals, but what comes out of a rule with two different bounds is
 -- widened to every word (profile).
 use Rattle.std.specs.Prelude.{Option, Some, None}
-use Rattle.reg_domain.specs.Domain.{Operations}
+use Rattle.word_domain.specs.Domain.{Operations}
 use Rattle.interval_facts.specs.Fact.{widened}
 use Rattle.interval_facts.specs.Intervals.{intervals}
 use Rattle.interval_facts.specs.declared.fact.Fact.{Fact}

@@ -6,7 +6,7 @@ use Rattle.instruction_set.specs.declared.operation.Width.{Width}
 use Rattle.instruction_set.specs.declared.operation.Width.TheVariants.{Bits32, Bits64}
 use Rattle.program_meaning.specs.Word.{is_taken}
 use Rattle.interval_facts.specs.Fact.{IsFact, is_single, range}
-use Rattle.reg_domain.specs.declared.bounds.Bounds.{Bounds}
+use Rattle.word_domain.specs.declared.bounds.Bounds.{Bounds}
 use Rattle.interval_facts.specs.declared.fact.Fact.{Fact}
 use Rattle.interval_facts.specs.declared.fact.Fact.TheVariants.{Words}
 

@@ -7,8 +7,8 @@ use Rattle.instruction_set.specs.declared.operation.Size.{Size}
 use Rattle.instruction_set.specs.declared.operation.Size.TheVariants.{Byte, HalfWord, Word, DoubleWord}
 use Rattle.program_interface.specs.Area.{address_of, length_of}
 use Rattle.program_interface.specs.declared.area.Area.{Area}
-use Rattle.reg_domain.specs.declared.bounds.Bounds.{Bounds}
-use Rattle.reg_domain.specs.declared.offsets.Offsets.{Offsets}
+use Rattle.word_domain.specs.declared.bounds.Bounds.{Bounds}
+use Rattle.word_domain.specs.declared.offsets.Offsets.{Offsets}
 use Rattle.interval_facts.specs.declared.fact.Fact.{Fact}
 use Rattle.interval_facts.specs.declared.fact.Fact.TheVariants.{Words, Pointer}
 

@@ -1,6 +1,6 @@
 -- What the rules for facts come to: the operations of the domain of intervals (profile).
 use Rattle.std.specs.Prelude.{pos}
-use Rattle.reg_domain.specs.Domain.{Operations}
+use Rattle.word_domain.specs.Domain.{Operations}
 use Rattle.interval_facts.specs.Arithmetic.{alu_of}
 use Rattle.interval_facts.specs.Edge.{refine_of}
 use Rattle.interval_facts.specs.Fact.{access_of, bounds_of, full, join_of, loaded_of, loaded_signed_of, offsets_of, pointer_to, single}

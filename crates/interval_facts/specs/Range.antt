@@ -6,7 +6,7 @@ use Rattle.instruction_set.specs.declared.operation.Operation.TheVariants.{Add, 
 use Rattle.instruction_set.specs.declared.operation.Width.{Width}
 use Rattle.program_meaning.specs.Word.{bits, count}
 use Rattle.interval_facts.specs.Fact.{is_single, range, single}
-use Rattle.reg_domain.specs.declared.bounds.Bounds.{Bounds}
+use Rattle.word_domain.specs.declared.bounds.Bounds.{Bounds}
 
 -- the number of numbers of a width
 abbrev pub limit : Width → ℕ

@@ -11,7 +11,7 @@ use crate::range::{all, combine};
 use instruction_set::{Operation, SignExtension, SwapSize, Width};
 use program_interface::Area;
 use program_meaning::{Arithmetic, alu};
-use reg_domain::Bounds;
+use word_domain::Bounds;
 
 /// The bounds of words as signed numbers, where all have one sign.
 fn as_signed(words: Bounds) -> Option<(i64, i64)>

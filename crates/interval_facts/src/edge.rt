@@ -7,7 +7,7 @@ ghost use Rattle.interval_facts.specs.Edge.{OrderedPair, FactPair, edge_of, equa
 use crate::fact::{Fact, is_one};
 use instruction_set::{Relation, Width};
 use program_meaning::taken as is_taken;
-use reg_domain::Bounds;
+use word_domain::Bounds;
 
 /// Both bounds, if there is a number within each.
 fn edge(dst: Bounds, source: Bounds) -> Option<(Bounds, Bounds)>

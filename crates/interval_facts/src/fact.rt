@@ -6,7 +6,7 @@ ghost use Rattle.interval_facts.specs.Fact.{IsFact, is_single, single, full, poi
 
 use instruction_set::Size;
 use program_interface::{Area, BlockSize};
-use reg_domain::{Bounds, Offsets};
+use word_domain::{Bounds, Offsets};
 
 /// A fact about a word.
 #[derive(Clone, Copy, Debug, PartialEq, Eq)]

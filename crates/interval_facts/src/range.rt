@@ -7,7 +7,7 @@ ghost use Rattle.interval_facts.specs.Range.{IsRange, limit, top, half, sum, dif
 
 use crate::fact::{is_one, one};
 use instruction_set::{Operation, Width};
-use reg_domain::Bounds;
+use word_domain::Bounds;
 
 /// The greatest number of a width.
 pub fn greatest(width: Width) -> u64

@@ -1,7 +1,7 @@
 //! Facts in words.
 
 use crate::fact::Fact;
-use reg_domain::{Bounds, Offsets};
+use word_domain::{Bounds, Offsets};
 use std::fmt;
 
 /// A fact in words: `any word`, `7`, `0 to 255`, or the offsets of a pointer.

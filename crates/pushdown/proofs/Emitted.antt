@@ -3,7 +3,7 @@ use Rattle.std.proofs.Common.{ℕ, ◌<◌, List, [], ◌∷◌, length, refl, a
 use Rattle.std.specs.List.{AllByRecursion, concat, flat_map}
 use Rattle.program_interface.specs.Frame.{frames}
 use Rattle.program_meaning.specs.Run.{Run}
-use Rattle.reg_domain.specs.Domain.{Operations}
+use Rattle.word_domain.specs.Domain.{Operations}
 use Rattle.accepted_programs.specs.Laws.{AcceptedNeverTraps}
 use Rattle.emit_append.specs.Frames.{unpacked}
 use Rattle.emit_append.specs.Packed.{FitBlock}

@@ -6,7 +6,7 @@ use Rattle.zone_state.specs.declared.state.ZoneState.TheVariants as zone
 use Rattle.nvme_entry.specs.Entry.{decoded}
 use Rattle.instruction_set.specs.declared.insn.Insn.{Insn}
 use Rattle.program_meaning.specs.Run.{run_of}
-use Rattle.reg_domain.specs.Domain.{Operations}
+use Rattle.word_domain.specs.Domain.{Operations}
 use Rattle.image_store.specs.Namespace.{ZoneBlocks, ZonedNamespace, zone_at}
 use Rattle.pushdown.specs.Answers.{Happening, plain}
 use Rattle.device_events.specs.Replies.{ReplyWithData}

@@ -9,7 +9,7 @@ use Rattle.zone_resources.specs.Holds.{is_source, names}
 use Rattle.zone_resources.specs.declared.holds.Holds.{Holds}
 use Rattle.nvme_entry.specs.Checks.{first_refused}
 use Rattle.nvme_entry.specs.declared.command.LoadCommand.{LoadCommand}
-use Rattle.reg_domain.specs.Domain.{Operations}
+use Rattle.word_domain.specs.Domain.{Operations}
 use Rattle.image_store.specs.Namespace.{zone_at}
 use Rattle.zns_commands.proofs.Proved.{grows_by_none, sources_keep_blocks, steps_keep_shapes}
 use Rattle.nvme_entry.proofs.Proved.{demanded, passed}

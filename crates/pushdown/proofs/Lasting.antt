@@ -1,6 +1,6 @@
 -- What events keep of a zone that they don't clear.
 use Rattle.std.proofs.Common.{◌≡◌, ℕ, Bool, false, List, [], ◌∷◌, refl, ◌∙◌}
-use Rattle.reg_domain.specs.Domain.{Operations}
+use Rattle.word_domain.specs.Domain.{Operations}
 use Rattle.image_store.specs.Namespace.{ZonedNamespace, shape, zone_at}
 use Rattle.zns_commands.specs.Laws.{Step, after, is_cleared}
 use Rattle.zns_commands.proofs.Proved.{grows_on, steps_keep_shapes, steps_keep_zones, uncleared_is_readable}

@@ -7,7 +7,7 @@ use Rattle.nvme_entry.specs.declared.command.LoadCommand.{LoadCommand}
 use Rattle.ebpf_decode.specs.Reading.{decoded_program as program_in_bytes}
 use Rattle.ebpf_decode.specs.declared.fault.Fault.{Fault}
 use Rattle.instruction_set.specs.declared.insn.Insn.{Insn}
-use Rattle.reg_domain.specs.Domain.{Operations}
+use Rattle.word_domain.specs.Domain.{Operations}
 use Rattle.accepted_programs.specs.Accepted.{refusal}
 use Rattle.accepted_programs.specs.declared.reason.Refusal.{Refusal}
 use Rattle.pushdown.specs.Answers.{Happening, Submission}

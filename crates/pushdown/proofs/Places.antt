@@ -10,7 +10,7 @@ use Rattle.zone_state.specs.declared.status.TheConstants.Status.{ZONE_HELD}
 use Rattle.zone_resources.specs.Holds.{is_destination, names}
 use Rattle.zone_resources.specs.declared.holds.TheConstants.{RUNS}
 use Rattle.nvme_entry.specs.declared.command.RunCommand.{RunCommand}
-use Rattle.reg_domain.specs.Domain.{Operations}
+use Rattle.word_domain.specs.Domain.{Operations}
 use Rattle.image_store.specs.Namespace.{ZonedNamespace}
 use Rattle.nvme_entry.proofs.Proved.{passed, demanded}
 use Rattle.pushdown.specs.Admission.{admission_checks, destination_zone}

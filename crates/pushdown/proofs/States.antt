@@ -21,7 +21,7 @@ use Rattle.program_interface.specs.BlockSize.{IsBlockSize}
 use Rattle.program_interface.specs.RunSizes.{AreSizes, Sizes}
 use Rattle.program_meaning.specs.Run.{Run}
 use Rattle.program_meaning.specs.TrapFree.{IsExit, NeverTraps}
-use Rattle.reg_domain.specs.Domain.{Operations}
+use Rattle.word_domain.specs.Domain.{Operations}
 use Rattle.accepted_programs.specs.Accepted.{refusal}
 use Rattle.accepted_programs.specs.Laws.{AcceptedNeverTraps}
 use Rattle.accepted_programs.specs.declared.reason.Refusal.{Refusal}

@@ -5,7 +5,7 @@ use Rattle.std.proofs.lemmas.List.{append-nil}
 use Rattle.zone_state.specs.declared.state.ZoneState.TheVariants.{Offline}
 use Rattle.zone_resources.specs.Holds.{is_destination}
 use Rattle.zone_resources.specs.declared.holds.Holds.{Holds}
-use Rattle.reg_domain.specs.Domain.{Operations}
+use Rattle.word_domain.specs.Domain.{Operations}
 use Rattle.image_store.specs.Namespace.{ZoneBlocks, ZonedNamespace, zone_at}
 use Rattle.zns_commands.proofs.Proved.{destinations_are_left}
 use Rattle.pushdown.specs.Admission.{SameProgram}

@@ -1,7 +1,7 @@
 -- Turns of runs, in any order.
 use Rattle.std.specs.Prelude.{ℕ, ◌≡◌, ◌==◌, List, map, count_by, Some}
 use Rattle.std.specs.List.{filter, zip}
-use Rattle.reg_domain.specs.Domain.{Operations}
+use Rattle.word_domain.specs.Domain.{Operations}
 use Rattle.image_store.specs.Namespace.{ZonedNamespace, IsNamespace}
 use Rattle.pushdown.specs.Admission.{SameProgram}
 use Rattle.device_events.specs.Replies.{ReplyWithData}

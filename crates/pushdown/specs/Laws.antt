@@ -8,7 +8,7 @@ use Rattle.nvme_entry.specs.declared.command.RunCommand.{RunCommand}
 use Rattle.program_interface.specs.Frame.{frames}
 use Rattle.program_meaning.specs.Run.{Run}
 use Rattle.program_meaning.specs.TrapFree.{IsExit}
-use Rattle.reg_domain.specs.Domain.{Operations}
+use Rattle.word_domain.specs.Domain.{Operations}
 use Rattle.emit_append.specs.Frames.{unpacked}
 use Rattle.emit_append.specs.Packing.{packed, pending_of, released}
 use Rattle.image_store.specs.Blocks.{bytes_of}

@@ -15,7 +15,7 @@ use Rattle.ebpf_decode.specs.Reading.{decoded_program as program_in_bytes}
 use Rattle.ebpf_decode.specs.declared.fault.Fault.{Fault}
 use Rattle.instruction_set.specs.declared.insn.Insn.{Insn}
 use Rattle.program_interface.specs.RunSizes.{Sizes}
-use Rattle.reg_domain.specs.Domain.{Operations}
+use Rattle.word_domain.specs.Domain.{Operations}
 use Rattle.accepted_programs.specs.Accepted.{refusal, reason_number}
 use Rattle.accepted_programs.specs.declared.reason.Refusal.{Refusal}
 use Rattle.image_store.specs.Namespace.{ZonedNamespace, zone_at, with_zone, grown}

@@ -1,6 +1,6 @@
 -- Lists of events, in parts, and turns as events.
 use Rattle.std.specs.Prelude.{ℕ, false, ◌≡◌, List, ◌++◌, length, map, Option, None}
-use Rattle.reg_domain.specs.Domain.{Operations}
+use Rattle.word_domain.specs.Domain.{Operations}
 use Rattle.device_events.specs.Replies.{ReplyWithData, and_then}
 use Rattle.pushdown.specs.Draining.{Drains, HasDrained, answers_to_turns, lowest_run, state_after_turns}
 use Rattle.pushdown.specs.Events.{AreOf, HasServed, Occurrence, answers_to, state_after}

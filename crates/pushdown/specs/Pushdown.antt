@@ -17,7 +17,7 @@ use Rattle.nvme_entry.specs.declared.command.RunCommand.{RunCommand}
 use Rattle.instruction_set.specs.Program.{instruction_count}
 use Rattle.program_meaning.specs.Run.{Run}
 use Rattle.program_meaning.specs.TrapFree.{IsExit}
-use Rattle.reg_domain.specs.Domain.{Operations}
+use Rattle.word_domain.specs.Domain.{Operations}
 use Rattle.image_store.specs.Blocks.{AreBytes}
 use Rattle.image_store.specs.Namespace.{ZonedNamespace, zone_at, shape, IsNamespace}
 use Rattle.pushdown.specs.Admission.{SameProgram, source_blocks, task_of}

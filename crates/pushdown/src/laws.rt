@@ -8,7 +8,7 @@ ghost use Rattle.pushdown.specs.Pushdown.{Pushdown};
 ghost use Rattle.pushdown.specs.ReadBack.{AppendedReadsBack, RunsReadBack, ShapesAreKept, UnclearedKeepBlocks, WrittenIsRead, WrittenReadsBack};
 ghost use Rattle.pushdown.specs.View.{SeenAtAdmission, SeenStays};
 
-use reg_domain::Domain;
+use word_domain::Domain;
 
 /// The rest of a run at its admission is its outcome; later it is its next turn and the rest after that,
 /// until the run ends. It has no more turns than source blocks are left.

@@ -10,7 +10,7 @@ use Rattle.instruction_set.specs.declared.insn.Insn.TheVariants.{LoadImmediate, 
 use Rattle.program_meaning.specs.Cause.{is_emit}
 use Rattle.program_interface.specs.declared.block_size.TheConstants.{LARGEST_BLOCK}
 use Rattle.program_interface.specs.RunSizes.{Sizes}
-use Rattle.reg_domain.specs.Domain.{Operations}
+use Rattle.word_domain.specs.Domain.{Operations}
 use Rattle.accepted_programs.specs.Accepted.{begins_at, fails, leads_nowhere, most_emitted, reason_of, turns_away}
 use Rattle.verifier.specs.Answer.{HasRoom, StaysInside}
 use Rattle.accepted_programs.specs.Facts.{facts_behind, slot_behind}

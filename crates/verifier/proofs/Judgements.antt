@@ -1,7 +1,7 @@
 -- The greatest bound on the group, at one more slot.
 use Rattle.std.proofs.Common.{◌≡◌, ℕ, ◌+◌, List, Option, max, refl, add-one}
 use Rattle.instruction_set.specs.declared.insn.Insn.{Insn}
-use Rattle.reg_domain.specs.Domain.{Operations}
+use Rattle.word_domain.specs.Domain.{Operations}
 use Rattle.accepted_programs.specs.Facts.{facts_at}
 use Rattle.accepted_programs.specs.Emitted.{group_in, most_below}
 

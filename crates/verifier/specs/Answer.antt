@@ -3,7 +3,7 @@ use Rattle.std.specs.Prelude.{ℕ, ◌≡◌, ◌<◌, ◌+◌, ◌^◌, ◌≤�
 use Rattle.instruction_set.specs.Instruction.{distance_of, target}
 use Rattle.instruction_set.specs.declared.insn.Insn.{Insn}
 use Rattle.instruction_set.specs.declared.insn.Insn.TheVariants.{Call}
-use Rattle.reg_domain.specs.Domain.{Operations}
+use Rattle.word_domain.specs.Domain.{Operations}
 use Rattle.accepted_programs.specs.Accepted.{most_emitted, turns_away}
 use Rattle.accepted_programs.specs.Facts.{slot_behind}
 use Rattle.accepted_programs.specs.declared.facts.Facts.{Facts}

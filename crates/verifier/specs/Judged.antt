@@ -2,7 +2,7 @@
 use Rattle.std.specs.Prelude.{◌≡◌, List, Option, Some, None}
 use Rattle.instruction_set.specs.declared.insn.Insn.{Insn}
 use Rattle.program_interface.specs.RunSizes.{Sizes}
-use Rattle.reg_domain.specs.Domain.{Operations}
+use Rattle.word_domain.specs.Domain.{Operations}
 use Rattle.accepted_programs.specs.Accepted.{refusal}
 use Rattle.accepted_programs.specs.Emitted.{most_emitted}
 use Rattle.accepted_programs.specs.Facts.{facts_at}

@@ -2,7 +2,7 @@
 use Rattle.std.specs.Prelude.{List, Option}
 use Rattle.instruction_set.specs.declared.insn.Insn.{Insn}
 use Rattle.program_interface.specs.RunSizes.{Sizes}
-use Rattle.reg_domain.specs.declared.domain.Domain.{Ghosts}
+use Rattle.word_domain.specs.declared.domain.Domain.{Ghosts}
 use Rattle.verifier.specs.declared.verified.Verified.{Verified}
 
 module _ {D : Type 0} {domain : Ghosts D} where

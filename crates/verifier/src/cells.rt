@@ -5,7 +5,7 @@ ghost use Rattle.accepted_programs.specs.Cells.{cell_from as cell_at_distance, c
 
 use accepted_programs::CELLS;
 use program_interface::{Area, STACK_BYTES};
-use reg_domain::{Domain, Offsets};
+use word_domain::{Domain, Offsets};
 
 /// The bytes of a cell.
 const CELL_BYTES: usize = 8;

@@ -9,7 +9,7 @@ ghost use Rattle.accepted_programs.specs.declared.reason.Reason.TheVariants.{Emi
 use accepted_programs::{Facts, Reason};
 use instruction_set::{Insn, Program, Register};
 use program_interface::{Area, BlockSize, MOST_SLOTS, RunSizes};
-use reg_domain::Domain;
+use word_domain::Domain;
 
 /// The slot behind an instruction.
 #[inline]

@@ -12,7 +12,7 @@ use accepted_programs::Facts;
 use instruction_set::{Insn, Register, Relation, Size, Source, Width};
 use program_interface::{Area, BlockSize};
 use program_meaning::Arithmetic;
-use reg_domain::Domain;
+use word_domain::Domain;
 
 /// The source of an arithmetic instruction.
 #[inline]

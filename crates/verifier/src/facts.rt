@@ -6,7 +6,7 @@ ghost use Rattle.accepted_programs.specs.Facts.{entry_facts, join_facts, join_re
 use crate::cells::join as join_cells;
 use accepted_programs::{CELLS, Facts};
 use program_interface::{Area, REGISTERS, STACK_BYTES};
-use reg_domain::Domain;
+use word_domain::Domain;
 
 /// What is known at the start of a block run.
 pub(crate) fn entry<D: Domain>() -> Facts<D>

@@ -11,7 +11,7 @@ use crate::rows::{Refused, Row, visit};
 use accepted_programs::{Facts, Refusal};
 use instruction_set::Program;
 use program_interface::RunSizes;
-use reg_domain::Domain;
+use word_domain::Domain;
 use std::alloc::{AllocError, Global};
 
 /// What a verifier says of a program, and what it knows.

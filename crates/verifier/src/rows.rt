@@ -14,7 +14,7 @@ use crate::facts::join;
 use accepted_programs::{Facts, Refusal};
 use instruction_set::{Insn, Program, Register, Source};
 use program_interface::{BlockSize, MOST_SLOTS, RunSizes};
-use reg_domain::Domain;
+use word_domain::Domain;
 use std::alloc::{AllocError, Global};
 
 /// What a slot was given so far.

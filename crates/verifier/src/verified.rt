@@ -9,7 +9,7 @@ ghost use Rattle.accepted_programs.specs.ShortOffsets.{HasShortOffsets};
 use instruction_set::Program;
 use program_interface::RunSizes;
 use program_meaning::TrapFree;
-use reg_domain::Domain;
+use word_domain::Domain;
 use std::marker::PhantomData;
 
 /// A program that is accepted over a domain, for runs of some sizes.

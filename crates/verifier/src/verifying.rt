@@ -14,7 +14,7 @@ use crate::verified::Verified;
 use accepted_programs::{Facts, Refusal};
 use instruction_set::Program;
 use program_interface::RunSizes;
-use reg_domain::Domain;
+use word_domain::Domain;
 use std::alloc::{AllocError, Global};
 
 /// So many slots, of which nothing is known.

@@ -3,7 +3,7 @@
 use super::between;
 use crate::{Constants, Intervals};
 use instruction_set::{Relation, Size, Width};
-use reg_domain::{Bounds, Domain};
+use word_domain::{Bounds, Domain};
 
 /// A byte after a 64-bit compare with a word.
 fn byte(relation: Relation, word: u64, taken: bool) -> Option<Bounds> {

@@ -4,7 +4,7 @@ use super::{between, bits64, span};
 use crate::{Constants, Intervals};
 use instruction_set::{Operation, SignExtension, Size, Swap, SwapSize, Width};
 use program_meaning::Arithmetic;
-use reg_domain::{Bounds, Domain};
+use word_domain::{Bounds, Domain};
 
 /// A 64-bit operation on a byte and a word.
 fn byte(operation: Operation, word: u64) -> Bounds {

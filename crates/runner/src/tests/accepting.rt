@@ -6,7 +6,7 @@ use ebpf_decode::decode;
 use instruction_set::Program;
 use interval_domain::{Constants, Intervals};
 use program_interface::{BlockSize, RunSizes};
-use reg_domain::Domain;
+use word_domain::Domain;
 use std::alloc::Global;
 use std::test::Fail;
 use verifier::{VerifyFault, verify};

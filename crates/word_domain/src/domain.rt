@@ -3,7 +3,7 @@
 ghost use Rattle.std.specs.Prelude.{◌≡◌, ◌+◌, ◌<◌, ◌^◌, ℕ};
 ghost use Rattle.std.specs.Align.{type_align};
 ghost use Rattle.std.specs.Mem.{type_size};
-ghost use Rattle.reg_domain.specs.Domain.{Operations, IsSound};
+ghost use Rattle.word_domain.specs.Domain.{Operations, IsSound};
 
 use crate::bounds::Bounds;
 use crate::offsets::Offsets;

@@ -4,7 +4,7 @@ use program_interface::Area;
 
 /// A place in an area, in bytes from its first.
 #[derive(Clone, Copy, Debug, PartialEq, Eq)]
-pub struct Place {
+pub struct AreaOffset {
     pub area: Area,
     pub offset: usize,
 }

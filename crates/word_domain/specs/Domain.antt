@@ -14,8 +14,8 @@ use Rattle.program_meaning.specs.Word.{computed, is_taken}
 use Rattle.program_interface.specs.declared.area.Area.{Area}
 use Rattle.program_meaning.specs.declared.word.Arithmetic.{Arithmetic}
 use Rattle.program_interface.specs.BlockSize.{IsBlockSize}
-use Rattle.reg_domain.specs.declared.bounds.Bounds.{Bounds}
-use Rattle.reg_domain.specs.declared.offsets.Offsets.{Offsets}
+use Rattle.word_domain.specs.declared.bounds.Bounds.{Bounds}
+use Rattle.word_domain.specs.declared.offsets.Offsets.{Offsets}
 
 -- the operations of a domain, whose facts are of type D
 pub record Operations (D : Type 0) : Type 0 where
