@@ -16,7 +16,7 @@ use Rattle.image_store.specs.declared.fault.HeaderFault.TheVariants.{VersionBloc
 use Rattle.image_store.specs.declared.geometry.GeometryFault.{GeometryFault}
 use Rattle.image_store.specs.declared.header.Header.{Header}
 use Rattle.image_store.specs.declared.version.Version.{Version}
-use Rattle.image_store.specs.Checks.{demand, first_fault, unless_fault}
+use Rattle.zone_state.specs.Checks.{demand, first_failed, unless_failed}
 use Rattle.image_store.specs.Geometry.{Shape, shape_checks}
 use Rattle.image_store.specs.Loading.{Fails, CountsFault, CountsLoad, IsNoStream, NoStreamFails}
 use Rattle.image_store.specs.Reading.{◌>>=◌, are_zeros, number_at, numbers_fault, numbers_in, shape_told, version_in, version_kept, zeros_kept, total_told, header_of, header_told, allows, zone_told, zone_in, total_kept, limits_kept}
@@ -79,12 +79,12 @@ magic_fault : (version : Option Version) (fault : LoadFault) → ok_or version M
 magic_fault None fault e = subst IsOfText (is_this {X = Version} Magic fault e) tt
 magic_fault (Some version) fault e = absurd cc
 
-numbers_text_fault : (check : Option GeometryFault) (s : Shape) (fault : LoadFault) → unless_fault (option_map (numbers_fault s) check) s ≡ Err fault → IsOfText fault
+numbers_text_fault : (check : Option GeometryFault) (s : Shape) (fault : LoadFault) → unless_failed (option_map (numbers_fault s) check) s ≡ Err fault → IsOfText fault
 numbers_text_fault None s fault e = absurd cc
 numbers_text_fault (Some first) s fault e = subst IsOfText (is_this {X = Shape} (numbers_fault s first) fault e) tt
 
 version_text_fault : (a b : Bool) (f g : HeaderFault) (fault : LoadFault)
-    → (let r : Result (Unit {0}) LoadFault = unless_fault (first_fault (demand a (Geometry f) ∷ demand b (Geometry g) ∷ [])) tt in r) ≡ Err fault → IsOfText fault
+    → (let r : Result (Unit {0}) LoadFault = unless_failed (first_failed (demand a (Geometry f) ∷ demand b (Geometry g) ∷ [])) tt in r) ≡ Err fault → IsOfText fault
 version_text_fault true true f g fault e = absurd cc
 version_text_fault true false f g fault e = subst IsOfText (is_this {X = Unit {0}} (Geometry g) fault e) tt
 version_text_fault false b f g fault e = subst IsOfText (is_this {X = Unit {0}} (Geometry f) fault e) tt
@@ -94,7 +94,7 @@ header_of_fault bytes version fault e =
     let made : Shape → Header = λ s. record { geometry = s; total = total_told version bytes } in
     let zeros : Shape → Result Header LoadFault = λ s. zeros_kept version bytes >>= λ z. Ok (made s) in
     let kept : Shape → Result Header LoadFault = λ s. version_kept version s >>= λ k. zeros s in
-    bind_err IsOfText (numbers_in (shape_told bytes)) kept fault e (numbers_text_fault (first_fault (shape_checks (shape_told bytes))) (shape_told bytes)) (λ s e2.
+    bind_err IsOfText (numbers_in (shape_told bytes)) kept fault e (numbers_text_fault (first_failed (shape_checks (shape_told bytes))) (shape_told bytes)) (λ s e2.
     bind_err IsOfText (version_kept version s) (λ k. zeros s) fault e2
     (version_text_fault (has_block version s.block) (nat_le s.zones (numbers version).most_zones) (VersionBlock version s.block) (VersionZones version s.zones)) (λ k e3.
     bind_err IsOfText (zeros_kept version bytes) (λ z. Ok (made s)) fault e3

@@ -11,7 +11,7 @@ use Rattle.image_store.specs.declared.geometry.GeometryFault.{GeometryFault}
 use Rattle.image_store.specs.declared.header.Header.{Header}
 use Rattle.image_store.specs.declared.version.Version.{Version}
 use Rattle.image_store.specs.declared.version.Version.TheVariants.{One, Two}
-use Rattle.image_store.specs.Checks.{demand, first_fault, unless_fault}
+use Rattle.zone_state.specs.Checks.{demand, first_failed, unless_failed}
 use Rattle.image_store.specs.Geometry.{Shape, IsShape, shape_checks}
 use Rattle.image_store.specs.Reading.{◌>>=◌, are_zeros, numbers_fault, numbers_in, shape_told, version_in, version_checks, version_kept, zeros_kept, total_told, header_of, header_told}
 use Rattle.image_store.specs.Version.{Has, has_block, numbers}
@@ -41,19 +41,19 @@ record ArePassed (told s : Shape) : Type 0 where
   pub same : told ≡ s
   pub known : IsShape told
 
-passed_by : (told s : Shape) (check : Option GeometryFault) → unless_fault (option_map (numbers_fault told) check) told ≡ Ok s → (check ≡ None) × (told ≡ s)
+passed_by : (told s : Shape) (check : Option GeometryFault) → unless_failed (option_map (numbers_fault told) check) told ≡ Ok s → (check ≡ None) × (told ≡ s)
 passed_by told s None e = (refl, ok_is told s e)
 passed_by told s (Some first) e = absurd cc
 
 passed : (told s : Shape) → numbers_in told ≡ Ok s → ArePassed told s
 passed told s e =
-    let p = passed_by told s (first_fault (shape_checks told)) e in
-    record { same = p.1; known = shape_is told told (ap (λ (check : Option GeometryFault). unless_fault check told) p.0) }
+    let p = passed_by told s (first_failed (shape_checks told)) e in
+    record { same = p.1; known = shape_is told told (ap (λ (check : Option GeometryFault). unless_failed check told) p.0) }
 
 version_has : (version : Version) (s : Shape) (done : Unit {0}) → version_kept version s ≡ Ok done → Has version s
 version_has version s done e =
-    let zones : Option LoadFault = first_fault (demand (nat_le s.zones (numbers version).most_zones) (fault.Geometry (header_fault.VersionZones version s.zones)) ∷ []) in
-    let a = both (has_block version s.block) (fault.Geometry (header_fault.VersionBlock version s.block)) zones (none_fails (first_fault (version_checks version s)) tt done e) in
+    let zones : Option LoadFault = first_failed (demand (nat_le s.zones (numbers version).most_zones) (fault.Geometry (header_fault.VersionZones version s.zones)) ∷ []) in
+    let a = both (has_block version s.block) (fault.Geometry (header_fault.VersionBlock version s.block)) zones (none_fails (first_failed (version_checks version s)) tt done e) in
     let b = both (nat_le s.zones (numbers version).most_zones) (fault.Geometry (header_fault.VersionZones version s.zones)) None a.1 in
     record { block = a.0; zones = leb-true s.zones (numbers version).most_zones b.0 }
 

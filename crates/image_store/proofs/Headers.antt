@@ -11,7 +11,7 @@ use Rattle.image_store.specs.declared.geometry.GeometryFault.{GeometryFault}
 use Rattle.image_store.specs.declared.header.Header.{Header}
 use Rattle.image_store.specs.declared.version.Version.{Version}
 use Rattle.image_store.specs.declared.version.Version.TheVariants.{One, Two}
-use Rattle.image_store.specs.Checks.{first_fault, unless_fault}
+use Rattle.zone_state.specs.Checks.{first_failed, unless_failed}
 use Rattle.image_store.specs.Geometry.{Shape, IsShape, shape_of, shape_checks}
 use Rattle.image_store.specs.Reading.{◌>>=◌, numbers_fault, numbers_in, shape_told, version_kept, zeros_kept, total_told, header_of, header_told, header_in}
 use Rattle.image_store.specs.Text.{word, numbers_of, header_end, header}
@@ -52,7 +52,7 @@ told Two s total known = numbers_again 50 s (header_end Two total) known
 
 numbers_pass : (s : Shape) → IsShape s → numbers_in s ≡ Ok s
 numbers_pass s known =
-    ap (λ (check : Option GeometryFault). unless_fault (option_map (numbers_fault s) check) s) (none_fails (first_fault (shape_checks s)) s s (shape_passes s known))
+    ap (λ (check : Option GeometryFault). unless_failed (option_map (numbers_fault s) check) s) (none_fails (first_failed (shape_checks s)) s s (shape_passes s known))
 
 version_passes : (version : Version) (s : Shape) → Has version s → version_kept version s ≡ Ok tt
 version_passes version s has = rw (has.block, le-leb s.zones (numbers version).most_zones has.zones) refl

@@ -8,7 +8,7 @@ use Rattle.program_interface.specs.BlockSize.{is_block_size, IsBlockSize}
 use Rattle.program_interface.specs.declared.block_size.TheConstants.{LARGEST_BLOCK}
 use Rattle.image_store.specs.declared.geometry.GeometryFault.TheVariants.{BlockSize, ZoneCount, ZoneSize, ZoneCapacity, ResourceLimits, TooLarge}
 use Rattle.image_store.specs.declared.geometry.TheConstants.{MOST_BYTES, MOST_ZONES, MOST_ZONE_BLOCKS}
-use Rattle.image_store.specs.Checks.{demand, or_else, first_fault, unless_fault}
+use Rattle.zone_state.specs.Checks.{demand, or_else, first_failed, unless_failed}
 use Rattle.image_store.specs.declared.version.Version.TheVariants.{One, Two}
 use Rattle.image_store.specs.Laws.{VersionsAreKnown}
 use Rattle.image_store.specs.Version.{has_block}
@@ -32,7 +32,7 @@ pub both : {F : Type 0} (test : Bool) (first : F) (rest : Option F) → or_else 
 both true first rest e = (refl, e)
 both false first rest e = absurd cc
 
-pub none_fails : {X F : Type 0} (check : Option F) (x y : X) → unless_fault check x ≡ Ok y → check ≡ None
+pub none_fails : {X F : Type 0} (check : Option F) (x y : X) → unless_failed check x ≡ Ok y → check ≡ None
 none_fails None x y e = refl
 none_fails (Some first) x y e = absurd cc
 
@@ -50,11 +50,11 @@ shape_is s t e =
     let capacity = demand (is_counted s.capacity s.size) ZoneCapacity ∷ limits in
     let size = demand (is_counted s.size MOST_ZONE_BLOCKS) ZoneSize ∷ capacity in
     let zones = demand (is_counted s.zones MOST_ZONES) ZoneCount ∷ size in
-    let a = both (is_block_size s.block) BlockSize (first_fault zones) (none_fails (first_fault (shape_checks s)) s t e) in
-    let b = both (is_counted s.zones MOST_ZONES) ZoneCount (first_fault size) a.1 in
-    let c = both (is_counted s.size MOST_ZONE_BLOCKS) ZoneSize (first_fault capacity) b.1 in
-    let d = both (is_counted s.capacity s.size) ZoneCapacity (first_fault limits) c.1 in
-    let f = both (are_limits s.limits s.zones) ResourceLimits (first_fault last) d.1 in
+    let a = both (is_block_size s.block) BlockSize (first_failed zones) (none_fails (first_failed (shape_checks s)) s t e) in
+    let b = both (is_counted s.zones MOST_ZONES) ZoneCount (first_failed size) a.1 in
+    let c = both (is_counted s.size MOST_ZONE_BLOCKS) ZoneSize (first_failed capacity) b.1 in
+    let d = both (is_counted s.capacity s.size) ZoneCapacity (first_failed limits) c.1 in
+    let f = both (are_limits s.limits s.zones) ResourceLimits (first_failed last) d.1 in
     let g = both room TooLarge None f.1 in
     let block = block_range s.block a.0 in
     let many = in_range s.zones MOST_ZONES b.0 in

@@ -7,7 +7,7 @@ use Rattle.image_store.specs.declared.geometry.ZoneBlock.{ZoneBlock}
 use Rattle.image_store.specs.declared.geometry.TheConstants.{MOST_BYTES, MOST_ZONES, MOST_ZONE_BLOCKS}
 use Rattle.image_store.specs.declared.geometry.GeometryFault.{GeometryFault}
 use Rattle.image_store.specs.declared.geometry.GeometryFault.TheVariants.{BlockSize, ZoneCount, ZoneSize, ZoneCapacity, ResourceLimits, TooLarge}
-use Rattle.image_store.specs.Checks.{demand, first_fault, unless_fault}
+use Rattle.zone_state.specs.Checks.{demand, first_failed, unless_failed}
 
 -- bytes of a block, number of zones, blocks of a zone (zone size), how many of these can be written
 -- (zone capacity; ZNS 1.1, 2.1.1), and how many zones may be open and active (ZNS 1.1, Zone Resources)
@@ -51,7 +51,7 @@ shape_of block zones size capacity limits = record { block = block; zones = zone
 
 -- the shape, or the first test that it fails
 abbrev pub tested : Shape → Result Shape GeometryFault
-tested s = unless_fault (first_fault (shape_checks s)) s
+tested s = unless_failed (first_failed (shape_checks s)) s
 
 -- what holds of each shape that is accepted
 pub record IsShape (s : Shape) : Type 0 where

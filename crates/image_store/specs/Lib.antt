@@ -1,6 +1,5 @@
 pub mod BlockLaws
 pub mod Blocks
-pub mod Checks
 pub mod Streams
 pub mod Fault
 pub mod Flat

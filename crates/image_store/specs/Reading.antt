@@ -13,7 +13,7 @@ use Rattle.zone_resources.specs.Counts.{open_count, active_count}
 use Rattle.image_store.specs.declared.fault.LoadFault.{LoadFault}
 use Rattle.image_store.specs.declared.fault.LoadFault.TheVariants as fault
 use Rattle.image_store.specs.declared.fault.RecordFault.TheVariants as record_fault
-use Rattle.image_store.specs.Checks.{demand, first_fault, unless_fault}
+use Rattle.zone_state.specs.Checks.{demand, first_failed, unless_failed}
 use Rattle.image_store.specs.Flat.{zone_seen}
 use Rattle.image_store.specs.declared.fault.HeaderFault.TheVariants as header_fault
 use Rattle.image_store.specs.declared.geometry.GeometryFault.{GeometryFault}
@@ -54,10 +54,10 @@ numbers_fault s first = fault.Geometry (header_fault.Numbers (refusal_of first s
 
 -- the first test of a geometry that they fail, so told
 abbrev pub numbers_check : Shape → Option LoadFault
-numbers_check s = option_map (numbers_fault s) (first_fault (shape_checks s))
+numbers_check s = option_map (numbers_fault s) (first_failed (shape_checks s))
 
 abbrev pub numbers_in : Shape → Result Shape LoadFault
-numbers_in s = unless_fault (numbers_check s) s
+numbers_in s = unless_failed (numbers_check s) s
 
 -- the version whose magic the bytes begin with
 abbrev pub version_in : List ℕ → Option Version
@@ -71,7 +71,7 @@ version_checks version s =
     ∷ []
 
 abbrev pub version_kept : Version → Shape → Result (Unit {0}) LoadFault
-version_kept version s = unless_fault (first_fault (version_checks version s)) tt
+version_kept version s = unless_failed (first_failed (version_checks version s)) tt
 
 -- the bytes behind what a header tells are zero
 abbrev pub zeros_kept : Version → List ℕ → Result (Unit {0}) LoadFault

@@ -6,7 +6,7 @@ use Rattle.std.specs.Prelude.{is_some, unwrap_or}
 use Rattle.zone_state.specs.declared.action.Action.{Action}
 use Rattle.zone_state.specs.declared.action.Action.TheVariants as action
 use Rattle.zone_state.specs.declared.status.TheConstants.Status.{INVALID_FIELD_IN_COMMAND}
-use Rattle.nvme_entry.specs.Checks.{allowed, demand, first_refused, or_else}
+use Rattle.zone_state.specs.Checks.{unless_failed, demand, first_failed, or_else}
 use Rattle.nvme_entry.specs.Encoding.{HasFields}
 use Rattle.nvme_entry.specs.Entry.{action_of, asked_blocks, decoded, destination_lba, dword, dwords_of, is_partial, receive_action, run_slot, selects_all, slot_number, starting_lba}
 use Rattle.nvme_entry.specs.Filter.{filter_of}
@@ -39,7 +39,7 @@ told_send entry d cid lba code what all has is_lba is_13 small is_what =
     let is_action : action_of (slice_index entry 52) ≡ Some what = ap action_of low ∙ is_what in
     let start : starting_lba entry ≡ lba = omega (arith, has.cdw10, has.cdw11) in
     has.command
-    ∙ (ap (λ (a : Option Action). allowed (first_refused (demand (is_some a) INVALID_FIELD_IN_COMMAND ∷ [])) (command.Standard (Send (starting_lba entry) (unwrap_or a action.Close) (selects_all entry)))) is_action
+    ∙ (ap (λ (a : Option Action). unless_failed (first_failed (demand (is_some a) INVALID_FIELD_IN_COMMAND ∷ [])) (command.Standard (Send (starting_lba entry) (unwrap_or a action.Close) (selects_all entry)))) is_action
     ∙ (ap (λ (n : ℕ). Ok (command.Standard (Send n what (selects_all entry)))) start
     ∙ ap (λ (b : Bool). Ok (command.Standard (Send lba what b))) (flag_back all (slice_index entry 53) next)))
 
@@ -55,11 +55,11 @@ told_receive entry d cid lba dwords code which partial has is_lba is_dwords is_1
     let is_filter : filter_of (slice_index entry 53) ≡ Some which = ap filter_of next ∙ is_which in
     let start : starting_lba entry ≡ lba = omega (arith, has.cdw10, has.cdw11) in
     has.command
-    ∙ (ap (λ (o : Option ℕ). allowed (or_else (demand (is_some o) INVALID_FIELD_IN_COMMAND) (or_else (demand (receive_action entry == 0) INVALID_FIELD_IN_COMMAND) (or_else (demand (is_some (filter_of (slice_index entry 53))) INVALID_FIELD_IN_COMMAND) (first_refused []))))
+    ∙ (ap (λ (o : Option ℕ). unless_failed (or_else (demand (is_some o) INVALID_FIELD_IN_COMMAND) (or_else (demand (receive_action entry == 0) INVALID_FIELD_IN_COMMAND) (or_else (demand (is_some (filter_of (slice_index entry 53))) INVALID_FIELD_IN_COMMAND) (first_failed []))))
     (command.Standard (Receive (starting_lba entry) (unwrap_or o 1) (unwrap_or (filter_of (slice_index entry 53)) filter.All) (is_partial entry)))) is_count
-    ∙ (ap (λ (n : ℕ). allowed (or_else (demand (n == 0) INVALID_FIELD_IN_COMMAND) (or_else (demand (is_some (filter_of (slice_index entry 53))) INVALID_FIELD_IN_COMMAND) (first_refused [])))
+    ∙ (ap (λ (n : ℕ). unless_failed (or_else (demand (n == 0) INVALID_FIELD_IN_COMMAND) (or_else (demand (is_some (filter_of (slice_index entry 53))) INVALID_FIELD_IN_COMMAND) (first_failed [])))
     (command.Standard (Receive (starting_lba entry) dwords (unwrap_or (filter_of (slice_index entry 53)) filter.All) (is_partial entry)))) low
-    ∙ (ap (λ (o : Option ZoneFilter). allowed (or_else (demand (is_some o) INVALID_FIELD_IN_COMMAND) (first_refused [])) (command.Standard (Receive (starting_lba entry) dwords (unwrap_or o filter.All) (is_partial entry)))) is_filter
+    ∙ (ap (λ (o : Option ZoneFilter). unless_failed (or_else (demand (is_some o) INVALID_FIELD_IN_COMMAND) (first_failed [])) (command.Standard (Receive (starting_lba entry) dwords (unwrap_or o filter.All) (is_partial entry)))) is_filter
     ∙ (ap (λ (n : ℕ). Ok (command.Standard (Receive n dwords which (is_partial entry)))) start
     ∙ ap (λ (b : Bool). Ok (command.Standard (Receive lba dwords which b))) (flag_back partial (slice_index entry 54) third)))))
 
@@ -74,7 +74,7 @@ pub told_result : (entry : List ℕ) (d : CommandDwords) (cid slot : ℕ) → Ha
 told_result entry d cid slot has is_slot few =
     let found : program_slot_of (slot_number entry) ≡ Some slot = ap program_slot_of (has.cdw10 ∙ is_slot) ∙ slot_back slot few in
     has.command
-    ∙ ap (λ (o : Option ℕ). allowed (first_refused (demand (is_some o) INVALID_FIELD_IN_COMMAND ∷ [])) (command.Result (unwrap_or o 0))) found
+    ∙ ap (λ (o : Option ℕ). unless_failed (first_failed (demand (is_some o) INVALID_FIELD_IN_COMMAND ∷ [])) (command.Result (unwrap_or o 0))) found
 
 pub told_load : (entry : List ℕ) (d : CommandDwords) (cid : ℕ) (load : LoadCommand) → HasFields entry opcode.Load cid d → d.cdw10 ≡ load.slot → load.slot < 8
     → d.cdw11 ≡ load.limit → d.cdw12 ≡ load.bytes → load.bytes ≤ MOST_TRANSFER
@@ -85,9 +85,9 @@ told_load entry d cid load has is_slot few is_limit is_bytes fits =
     let limit : dword entry 11 ≡ load.limit = has.cdw11 ∙ is_limit in
     let small : nat_le (dword entry 12) MOST_TRANSFER ≡ true = le_back (dword entry 12) MOST_TRANSFER (omega (arith, bytes)) in
     has.command
-    ∙ (ap (λ (b : Bool). allowed (or_else (demand b INVALID_FIELD_IN_COMMAND) (or_else (demand (is_some (program_slot_of (slot_number entry))) INVALID_FIELD_IN_COMMAND) (first_refused [])))
+    ∙ (ap (λ (b : Bool). unless_failed (or_else (demand b INVALID_FIELD_IN_COMMAND) (or_else (demand (is_some (program_slot_of (slot_number entry))) INVALID_FIELD_IN_COMMAND) (first_failed [])))
     (command.Load record { slot = unwrap_or (program_slot_of (slot_number entry)) 0; limit = dword entry 11; bytes = dword entry 12 })) small
-    ∙ (ap (λ (o : Option ℕ). allowed (or_else (demand (is_some o) INVALID_FIELD_IN_COMMAND) (first_refused [])) (command.Load record { slot = unwrap_or o 0; limit = dword entry 11; bytes = dword entry 12 })) found
+    ∙ (ap (λ (o : Option ℕ). unless_failed (or_else (demand (is_some o) INVALID_FIELD_IN_COMMAND) (first_failed [])) (command.Load record { slot = unwrap_or o 0; limit = dword entry 11; bytes = dword entry 12 })) found
     ∙ (ap (λ (n : ℕ). Ok (command.Load record { slot = load.slot; limit = n; bytes = dword entry 12 })) limit
     ∙ ap (λ (n : ℕ). Ok (command.Load record { slot = load.slot; limit = load.limit; bytes = n })) bytes)))
 
@@ -102,7 +102,7 @@ told_run entry d cid field_12 run has is_lba is_blocks half is_12 few is_argumen
     let argument : dword entry 13 ≡ run.argument = has.cdw13 ∙ is_argument in
     let destination : destination_lba entry ≡ run.destination = omega (arith, has.cdw14, has.cdw15) in
     has.command
-    ∙ (ap (λ (o : Option ℕ). allowed (or_else (demand (is_some o) INVALID_FIELD_IN_COMMAND) (first_refused [])) (command.Run record { lba = starting_lba entry; blocks = asked_blocks entry; slot = unwrap_or o 0; argument = dword entry 13; destination = destination_lba entry })) found
+    ∙ (ap (λ (o : Option ℕ). unless_failed (or_else (demand (is_some o) INVALID_FIELD_IN_COMMAND) (first_failed [])) (command.Run record { lba = starting_lba entry; blocks = asked_blocks entry; slot = unwrap_or o 0; argument = dword entry 13; destination = destination_lba entry })) found
     ∙ (ap (λ (n : ℕ). Ok (command.Run record { lba = n; blocks = asked_blocks entry; slot = run.slot; argument = dword entry 13; destination = destination_lba entry })) start
     ∙ (ap (λ (n : ℕ). Ok (command.Run record { lba = run.lba; blocks = n; slot = run.slot; argument = dword entry 13; destination = destination_lba entry })) blocks
     ∙ (ap (λ (n : ℕ). Ok (command.Run record { lba = run.lba; blocks = run.blocks; slot = run.slot; argument = n; destination = destination_lba entry })) argument

@@ -5,7 +5,7 @@ use Rattle.std.specs.Int.{byte_at}
 use Rattle.byteorder.specs.Endian.{little_bytes, little_number}
 use Rattle.byteorder.specs.Numbers.{little_from-bytes, little_number-reads_back}
 use Rattle.zone_state.specs.declared.status.TheConstants.Status.{INVALID_FIELD_IN_COMMAND, INVALID_NAMESPACE_OR_FORMAT}
-use Rattle.nvme_entry.specs.Checks.{allowed, demand, first_refused, or_else}
+use Rattle.zone_state.specs.Checks.{unless_failed, demand, first_failed, or_else}
 use Rattle.nvme_entry.specs.Encoding.{HasFields}
 use Rattle.nvme_entry.specs.Entry.{command_of, decoded, decoded_by, field_checks, fuse_of, identifier_of, namespace_of, opcode_of}
 use Rattle.nvme_entry.specs.declared.command.Opcode.{Opcode}
@@ -23,12 +23,12 @@ byte_is place n = omega (arith, little_from-bytes 1 place n [])
 
 -- no check of all entries fails
 decoded_is : (entry : List ℕ) (opcode : Opcode) → opcode_of (slice_index entry 0) ≡ Some opcode → fuse_of entry ≡ 0 → namespace_of entry ≡ 1
-    → decoded entry ≡ allowed (first_refused (field_checks opcode entry)) (command_of opcode entry)
+    → decoded entry ≡ unless_failed (first_failed (field_checks opcode entry)) (command_of opcode entry)
 decoded_is entry opcode is_opcode is_fuse is_namespace =
-    let checks = first_refused (field_checks opcode entry) in
+    let checks = first_failed (field_checks opcode entry) in
     ap (λ (found : Option Opcode). decoded_by found entry) is_opcode
-    ∙ (ap (λ (n : ℕ). allowed (or_else (demand (n == 0) INVALID_FIELD_IN_COMMAND) (or_else (demand (namespace_of entry == 1) INVALID_NAMESPACE_OR_FORMAT) checks)) (command_of opcode entry)) is_fuse
-    ∙ ap (λ (n : ℕ). allowed (or_else (demand (n == 1) INVALID_NAMESPACE_OR_FORMAT) checks) (command_of opcode entry)) is_namespace)
+    ∙ (ap (λ (n : ℕ). unless_failed (or_else (demand (n == 0) INVALID_FIELD_IN_COMMAND) (or_else (demand (namespace_of entry == 1) INVALID_NAMESPACE_OR_FORMAT) checks)) (command_of opcode entry)) is_fuse
+    ∙ ap (λ (n : ℕ). unless_failed (or_else (demand (n == 1) INVALID_NAMESPACE_OR_FORMAT) checks) (command_of opcode entry)) is_namespace)
 
 -- each dword fits
 pub record AreDwords (d : CommandDwords) : Type 0 where

@@ -1,6 +1,6 @@
 -- What an entry made of a command has.
 use Rattle.std.specs.Prelude.{◌≡◌, ℕ, ◌/◌, ◌%◌, ◌^◌, List, slice_index}
-use Rattle.nvme_entry.specs.Checks.{allowed, first_refused}
+use Rattle.zone_state.specs.Checks.{unless_failed, first_failed}
 use Rattle.nvme_entry.specs.Entry.{command_of, decoded, dword, field, field_checks, identifier_of}
 use Rattle.nvme_entry.specs.declared.command.Opcode.{Opcode}
 use Rattle.nvme_entry.specs.declared.command.Command.{Command}
@@ -15,7 +15,7 @@ program_length _ = 0
 -- an entry for namespace 1 that isn't part of a fused command, with this opcode, identifier and Command Dwords
 pub record HasFields (entry : List ℕ) (opcode : Opcode) (cid : ℕ) (fields : CommandDwords) : Type 0 where
   -- it is decoded by its opcode's fields alone,
-  pub command : decoded entry ≡ allowed (first_refused (field_checks opcode entry)) (command_of opcode entry)
+  pub command : decoded entry ≡ unless_failed (first_failed (field_checks opcode entry)) (command_of opcode entry)
   pub identifier : identifier_of entry ≡ cid
   -- which are these dwords,
   pub cdw10 : dword entry 10 ≡ fields.cdw10

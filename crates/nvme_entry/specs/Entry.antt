@@ -5,7 +5,7 @@ use Rattle.zone_state.specs.declared.action.Action.{Action}
 use Rattle.zone_state.specs.declared.action.Action.TheVariants as action
 use Rattle.zone_state.specs.declared.status.Status.{Status}
 use Rattle.zone_state.specs.declared.status.TheConstants.Status.{INVALID_COMMAND_OPCODE, INVALID_FIELD_IN_COMMAND, INVALID_NAMESPACE_OR_FORMAT}
-use Rattle.nvme_entry.specs.Checks.{demand, first_refused, allowed}
+use Rattle.zone_state.specs.Checks.{demand, first_failed, unless_failed}
 use Rattle.nvme_entry.specs.declared.command.Opcode.{Opcode}
 use Rattle.nvme_entry.specs.declared.command.Opcode.TheVariants as opcode
 use Rattle.nvme_entry.specs.declared.command.Command.{Command}
@@ -163,7 +163,7 @@ entry_checks found entry =
     ∷ field_checks (unwrap_or found opcode.Read) entry
 
 abbrev pub decoded_by : Option Opcode → List ℕ → Result Command Status
-decoded_by found entry = allowed (first_refused (entry_checks found entry)) (command_of (unwrap_or found opcode.Read) entry)
+decoded_by found entry = unless_failed (first_failed (entry_checks found entry)) (command_of (unwrap_or found opcode.Read) entry)
 
 -- the command of an entry, or the status of the first check that fails
 abbrev pub decoded : List ℕ → Result Command Status

@@ -1,5 +1,4 @@
 pub mod CheckLaws
-pub mod Checks
 pub mod Completion
 pub mod Descriptor
 pub mod Encoding

@@ -1,7 +1,7 @@
 //! Submission queue entries.
 
 ghost use Rattle.std.specs.Prelude.{◌≡◌, ◌+◌, ◌*◌, ◌^◌, ◌<◌};
-ghost use Rattle.nvme_entry.specs.Checks.{allowed, first_refused};
+ghost use Rattle.zone_state.specs.Checks.{unless_failed, first_failed};
 ghost use Rattle.nvme_entry.specs.Entry.{decoded, command_of, field_checks, action_of, identifier_of, starting_lba, asked_blocks, dword, fuse_of, namespace_of};
 
 use crate::command::{
@@ -51,7 +51,7 @@ impl Entry {
 
     /// The command that the fields of an entry name.
     fn command(opcode: Opcode, entry: &[u8; 64]) -> Result<Command, Status>
-        ensures { result ≡ allowed (first_refused (field_checks opcode entry.now)) (command_of opcode entry.now) }
+        ensures { result ≡ unless_failed (first_failed (field_checks opcode entry.now)) (command_of opcode entry.now) }
     {
         let lba = Entry::lba(entry);
         let blocks = Entry::blocks(entry);
@@ -76,7 +76,7 @@ impl Entry {
 
     /// A Zone Management Send.
     fn send(entry: &[u8; 64]) -> Result<Command, Status>
-        ensures { result ≡ allowed (first_refused (field_checks Opcode.ZoneManagementSend entry.now)) (command_of Opcode.ZoneManagementSend entry.now) }
+        ensures { result ≡ unless_failed (first_failed (field_checks Opcode.ZoneManagementSend entry.now)) (command_of Opcode.ZoneManagementSend entry.now) }
     {
         let lba = Entry::lba(entry);
         let Some(action) = action(entry[52]) else {
@@ -91,7 +91,7 @@ impl Entry {
 
     /// A Zone Management Receive.
     fn receive(entry: &[u8; 64]) -> Result<Command, Status>
-        ensures { result ≡ allowed (first_refused (field_checks Opcode.ZoneManagementReceive entry.now)) (command_of Opcode.ZoneManagementReceive entry.now) }
+        ensures { result ≡ unless_failed (first_failed (field_checks Opcode.ZoneManagementReceive entry.now)) (command_of Opcode.ZoneManagementReceive entry.now) }
     {
         let lba = Entry::lba(entry);
         let Some(dwords) = DwordCount::from_zero_based(dword(entry, 12)) else {
@@ -113,7 +113,7 @@ impl Entry {
 
     /// A Run.
     fn run(entry: &[u8; 64]) -> Result<Command, Status>
-        ensures { result ≡ allowed (first_refused (field_checks Opcode.Run entry.now)) (command_of Opcode.Run entry.now) }
+        ensures { result ≡ unless_failed (first_failed (field_checks Opcode.Run entry.now)) (command_of Opcode.Run entry.now) }
     {
         let Some(slot) = ProgramSlot::new(u32::from(entry[50])) else {
             return Err(Status::INVALID_FIELD_IN_COMMAND);
@@ -129,7 +129,7 @@ impl Entry {
 
     /// A Load.
     fn load(entry: &[u8; 64]) -> Result<Command, Status>
-        ensures { result ≡ allowed (first_refused (field_checks Opcode.Load entry.now)) (command_of Opcode.Load entry.now) }
+        ensures { result ≡ unless_failed (first_failed (field_checks Opcode.Load entry.now)) (command_of Opcode.Load entry.now) }
     {
         let bytes = dword(entry, 12);
         if bytes as usize > MOST_TRANSFER {
@@ -147,7 +147,7 @@ impl Entry {
 
     /// A Result.
     fn last_result(entry: &[u8; 64]) -> Result<Command, Status>
-        ensures { result ≡ allowed (first_refused (field_checks Opcode.Result entry.now)) (command_of Opcode.Result entry.now) }
+        ensures { result ≡ unless_failed (first_failed (field_checks Opcode.Result entry.now)) (command_of Opcode.Result entry.now) }
     {
         let Some(slot) = ProgramSlot::new(dword(entry, 10)) else {
             return Err(Status::INVALID_FIELD_IN_COMMAND);

@@ -1,7 +1,7 @@
 -- What a turn and what any event makes of a state, by cases.
 use Rattle.std.proofs.Common.{◌≡◌, ℕ, ◌≤◌, Bool, List, [], ◌∷◌, Option, Some, None, Result, Ok, Err, refl, sym, subst, inl, inr}
 use Rattle.zone_state.specs.declared.status.Status.{Status}
-use Rattle.nvme_entry.specs.Checks.{first_refused}
+use Rattle.zone_state.specs.Checks.{first_failed}
 use Rattle.nvme_entry.specs.Entry.{decoded}
 use Rattle.nvme_entry.specs.declared.command.Command.{Command}
 use Rattle.nvme_entry.specs.declared.command.Command.TheVariants as command
@@ -83,7 +83,7 @@ module _ {D : Type 0} (operations : Operations D) (P : State → Type 0) (s : St
     after_entry starved sub (Ok (command.Run order)) is are =
         after_start (why_not_run sub s order) (free_run s) sub order refl refl (decoded_has sub.entry (command.Run order) is)
     after_entry starved sub (Ok (command.Result slot)) is are =
-        after_result (program_at s slot) (first_refused (transfer_checks 0 0 sub.input)) sub
+        after_result (program_at s slot) (first_failed (transfer_checks 0 0 sub.input)) sub
 
   pub after_event : (starved : Bool) (e : Event) → HoldsAfter e → P (happens operations s starved e).state
   after_event starved (event.Submit queue entry input) holds =

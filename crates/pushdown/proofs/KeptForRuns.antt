@@ -7,7 +7,7 @@ use Rattle.std.proofs.lemmas.List.Folds.{list_any_at}
 use Rattle.zone_state.specs.declared.status.TheConstants.Status.{PROGRAM_IN_USE}
 use Rattle.zone_resources.specs.Holds.{is_source, names}
 use Rattle.zone_resources.specs.declared.holds.Holds.{Holds}
-use Rattle.nvme_entry.specs.Checks.{first_refused}
+use Rattle.zone_state.specs.Checks.{first_failed}
 use Rattle.nvme_entry.specs.declared.command.LoadCommand.{LoadCommand}
 use Rattle.word_domain.specs.Domain.{Operations}
 use Rattle.image_store.specs.Namespace.{zone_at}
@@ -68,7 +68,7 @@ unchanged place s = record { source = grows_by_none (zone_at s.namespace place.s
 
 -- a Load doesn't take the slot of an active run
 not_loaded : (s : State) (run : ℕ) (place : Place) (load : LoadCommand) (input : List ℕ) → place_at s run ≡ Some place
-    → first_refused (load_checks s load input) ≡ None → place.slot ≢ load.slot
+    → first_failed (load_checks s load input) ≡ None → place.slot ≢ load.slot
 not_loaded s run place load input at none same =
     let free = not_true (in_use s load.slot) (demanded (not (in_use s load.slot)) PROGRAM_IN_USE (passed (load_checks s load input) 3 none)) in
     let used : in_use s load.slot ≡ true = subst (λ (n : ℕ). list_any (uses n) s.places ≡ true) same (used_at s.places run place at) in

@@ -2,7 +2,7 @@
 use Rattle.std.proofs.Common.{◌≡◌, Bool, true, false, List, Option, Some, None, Result, Ok, Err, refl, inl, inr}
 use Rattle.std.specs.Prelude.{◌⊎◌}
 use Rattle.zone_state.specs.declared.status.Status.{Status}
-use Rattle.nvme_entry.specs.Checks.{first_refused}
+use Rattle.zone_state.specs.Checks.{first_failed}
 use Rattle.nvme_entry.specs.declared.command.LoadCommand.{LoadCommand}
 use Rattle.ebpf_decode.specs.Reading.{decoded_program as program_in_bytes}
 use Rattle.ebpf_decode.specs.declared.fault.Fault.{Fault}
@@ -27,7 +27,7 @@ module _ {D : Type 0} (operations : Operations D) (sub : Submission) (s : State)
   -- no check fails, and the program that the bytes spell is accepted
   pub record TakesSlot (t : State) : Type 0 where
     pub program : List (Option Insn)
-    pub passed : first_refused (load_checks s load sub.input) ≡ None
+    pub passed : first_failed (load_checks s load sub.input) ≡ None
     pub read : program_in_bytes sub.input ≡ Ok program
     pub accepted : refusal operations program (sizes_for s load) ≡ None
     pub taken : t ≡ with_slot s load.slot (Some (just_loaded program load.limit))
@@ -36,22 +36,22 @@ module _ {D : Type 0} (operations : Operations D) (sub : Submission) (s : State)
     pub answered : is_pending h.answer.reply ≡ false
     pub state : (h.state ≡ s) ⊎ TakesSlot h.state
 
-  judged_is : (program : List (Option Insn)) (why : Option Refusal) → first_refused (load_checks s load sub.input) ≡ None
+  judged_is : (program : List (Option Insn)) (why : Option Refusal) → first_failed (load_checks s load sub.input) ≡ None
       → program_in_bytes sub.input ≡ Ok program → refusal operations program (sizes_for s load) ≡ why → IsLoad (judged sub s load program why)
   judged_is program (Some why) passed read e = record { answered = refl; state = inl refl }
   judged_is program None passed read e =
       record { answered = refl; state = inr (record { program = program; passed = passed; read = read; accepted = e; taken = refl }) }
 
-  read_is : (read : Result (List (Option Insn)) Fault) → first_refused (load_checks s load sub.input) ≡ None
+  read_is : (read : Result (List (Option Insn)) Fault) → first_failed (load_checks s load sub.input) ≡ None
       → program_in_bytes sub.input ≡ read → IsLoad (read_program operations sub s load read)
   read_is (Err fault) passed e = record { answered = refl; state = inl refl }
   read_is (Ok program) passed e = judged_is program (refusal operations program (sizes_for s load)) passed e refl
 
-  unless_is : (why : Option Status) (starved : Bool) → first_refused (load_checks s load sub.input) ≡ why
+  unless_is : (why : Option Status) (starved : Bool) → first_failed (load_checks s load sub.input) ≡ why
       → IsLoad (load_unless operations why starved sub s load)
   unless_is (Some status) starved e = record { answered = refl; state = inl refl }
   unless_is None true e = record { answered = refl; state = inl refl }
   unless_is None false e = read_is (program_in_bytes sub.input) e refl
 
   pub loading_is : (starved : Bool) → IsLoad (loading operations starved sub s load)
-  loading_is starved = unless_is (first_refused (load_checks s load sub.input)) starved refl
+  loading_is starved = unless_is (first_failed (load_checks s load sub.input)) starved refl

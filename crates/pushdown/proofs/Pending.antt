@@ -1,7 +1,7 @@
 -- An entry that is answered Pending is a Run that is admitted.
 use Rattle.std.proofs.Common.{◌≡◌, ℕ, Bool, true, false, Option, Some, None, Result, Ok, Err, refl, ap}
 use Rattle.zone_state.specs.declared.status.Status.{Status}
-use Rattle.nvme_entry.specs.Checks.{first_refused}
+use Rattle.zone_state.specs.Checks.{first_failed}
 use Rattle.nvme_entry.specs.Entry.{decoded}
 use Rattle.nvme_entry.specs.declared.command.Command.{Command}
 use Rattle.nvme_entry.specs.declared.command.Command.TheVariants as command
@@ -55,7 +55,7 @@ module _ {D : Type 0} (operations : Operations D) where
       let both = start_pends (why_not_run sub s order) (free_run s) sub s order run is in
       (order, record { asked = e; passed = both.0; free = both.1 })
   pends starved sub s (Ok (command.Result slot)) run e is =
-      absurd (given_pends (program_at s slot) (first_refused (transfer_checks 0 0 sub.input)) sub s run is)
+      absurd (given_pends (program_at s slot) (first_failed (transfer_checks 0 0 sub.input)) sub s run is)
 
   pub pending_is_admitted : PendingIsAdmitted operations
   pending_is_admitted s starved queue entry input run is =

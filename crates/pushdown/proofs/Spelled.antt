@@ -3,7 +3,7 @@ use Rattle.std.proofs.Common.{◌≡◌, ℕ, zero, suc, ◌≤◌, List, [], �
 use Rattle.std.specs.Prelude.{All, unwrap_or, slice_index}
 use Rattle.zone_state.specs.declared.status.Status.{Status}
 use Rattle.zone_resources.specs.declared.holds.Holds.{Holds}
-use Rattle.nvme_entry.specs.Checks.{allowed, first_refused}
+use Rattle.zone_state.specs.Checks.{unless_failed, first_failed}
 use Rattle.nvme_entry.specs.Entry.{command_of, decoded, entry_checks, opcode_of}
 use Rattle.nvme_entry.specs.declared.command.Command.{Command}
 use Rattle.nvme_entry.specs.declared.command.Command.TheVariants as command
@@ -34,7 +34,7 @@ named opcode.ZoneManagementReceive entry = tt
 named opcode.Load entry = tt
 named opcode.Result entry = tt
 
-allowed_is : (refused : Option Status) (named other : Command) → allowed refused named ≡ Ok other → named ≡ other
+allowed_is : (refused : Option Status) (named other : Command) → unless_failed refused named ≡ Ok other → named ≡ other
 allowed_is None named other e = cc
 allowed_is (Some status) named other e = absurd cc
 
@@ -42,7 +42,7 @@ pub decoded_has : (entry : List ℕ) (c : Command) → decoded entry ≡ Ok c �
 decoded_has entry c e =
     let found = opcode_of (slice_index entry 0) in
     let o = unwrap_or found opcode.Read in
-    subst HasBlocks (allowed_is (first_refused (entry_checks found entry)) (command_of o entry) c e) (named o entry)
+    subst HasBlocks (allowed_is (first_failed (entry_checks found entry)) (command_of o entry) c e) (named o entry)
 
 pub spelled : (holds : Holds) (c : StandardCommand) (input : List ℕ) → HasBlocks (command.Standard c) → AreBytes input
     → IsSpelled (Commanded holds c input)

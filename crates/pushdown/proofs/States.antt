@@ -11,7 +11,7 @@ use Rattle.zone_state.specs.declared.status.TheConstants.Status.{INVALID_FIELD_I
 use Rattle.zone_resources.specs.Holds.{is_destination}
 use Rattle.zone_resources.specs.declared.holds.Holds.{Holds}
 use Rattle.zone_resources.specs.declared.holds.TheConstants.{RUNS}
-use Rattle.nvme_entry.specs.Checks.{first_refused}
+use Rattle.zone_state.specs.Checks.{first_failed}
 use Rattle.nvme_entry.specs.declared.command.LoadCommand.{LoadCommand}
 use Rattle.nvme_entry.specs.declared.command.RunCommand.{RunCommand}
 use Rattle.nvme_entry.specs.declared.program_slot.TheConstants.{PROGRAM_SLOTS}
@@ -147,7 +147,7 @@ module _ {D : Type 0} (operations : Operations D) (never : AcceptedNeverTraps op
 
   -- ---- Load
 
-  within : (s : State) (load : LoadCommand) (input : List ℕ) → IsFine s → first_refused (load_checks s load input) ≡ None → load.limit ≤ block
+  within : (s : State) (load : LoadCommand) (input : List ℕ) → IsFine s → first_failed (load_checks s load input) ≡ None → load.limit ≤ block
   within s load input h none =
       let test = demanded (nat_le load.limit s.namespace.block) INVALID_FIELD_IN_COMMAND (passed (load_checks s load input) 2 none) in
       subst (λ (n : ℕ). load.limit ≤ n) h.size (leb-true load.limit s.namespace.block test)

@@ -5,7 +5,7 @@ use Rattle.zone_state.specs.declared.status.Status.{Status}
 use Rattle.zone_state.specs.declared.status.TheConstants.Status.{ZONE_BOUNDARY_ERROR, ZONE_HELD, NO_SUCH_PROGRAM, NO_RUN_FREE, SOURCE_NOT_WRITTEN, DESTINATION_NOT_OPEN, DESTINATION_LACKS_ROOM, SOURCE_IS_DESTINATION}
 use Rattle.zone_resources.specs.Holds.{is_destination}
 use Rattle.zone_resources.specs.declared.holds.Holds.{Holds}
-use Rattle.nvme_entry.specs.Checks.{demand, first_refused}
+use Rattle.zone_state.specs.Checks.{demand, first_failed}
 use Rattle.nvme_entry.specs.declared.command.RunCommand.{RunCommand}
 use Rattle.instruction_set.specs.declared.insn.Insn.{Insn}
 use Rattle.program_interface.specs.RunSizes.{Sizes}
@@ -88,7 +88,7 @@ admission_checks ns holds place_free slot order input =
 
 -- the status of the first check that fails
 abbrev pub run_refusal : ZonedNamespace → Holds → Bool → Option Loaded → RunCommand → List ℕ → Option Status
-run_refusal ns holds place_free slot order input = first_refused (admission_checks ns holds place_free slot order input)
+run_refusal ns holds place_free slot order input = first_failed (admission_checks ns holds place_free slot order input)
 
 -- the blocks that a run reads, as they are when it is admitted
 abbrev pub source_blocks : ZonedNamespace → RunCommand → List (List ℕ)

@@ -4,7 +4,7 @@ use Rattle.zone_state.specs.declared.state.FaultState.{FaultState}
 use Rattle.zone_state.specs.declared.status.Status.{Status}
 use Rattle.zone_state.specs.declared.status.TheConstants.Status.{SUCCESS, INVALID_FIELD_IN_COMMAND, NO_SUCH_PROGRAM, PROGRAM_REFUSED, PROGRAM_IN_USE, WANT_OF_MEMORY}
 use Rattle.zone_state.specs.declared.zone.FaultRefused.{FaultRefused}
-use Rattle.nvme_entry.specs.Checks.{demand, first_refused}
+use Rattle.zone_state.specs.Checks.{demand, first_failed}
 use Rattle.nvme_entry.specs.Entry.{decoded, identifier_of}
 use Rattle.nvme_entry.specs.declared.command.Command.{Command}
 use Rattle.nvme_entry.specs.declared.command.Command.TheVariants as command
@@ -74,7 +74,7 @@ module _ {D : Type 0} (operations : Operations D) where
   load_unless None false sub s load = read_program sub s load (program_in_bytes sub.input)
 
   abbrev pub loading : Bool → Submission → State → LoadCommand → Happening
-  loading starved sub s load = load_unless (first_refused (load_checks s load sub.input)) starved sub s load
+  loading starved sub s load = load_unless (first_failed (load_checks s load sub.input)) starved sub s load
 
 -- ---- Result
 
@@ -84,7 +84,7 @@ result_by None None sub s = refused sub NO_SUCH_PROGRAM s
 result_by (Some loaded) None sub s = completed sub SUCCESS 0 0 loaded.result s
 
 abbrev pub giving_result : Submission → State → ℕ → Happening
-giving_result sub s slot = result_by (program_at s slot) (first_refused (transfer_checks 0 0 sub.input)) sub s
+giving_result sub s slot = result_by (program_at s slot) (first_failed (transfer_checks 0 0 sub.input)) sub s
 
 -- ---- Run
 

@@ -5,7 +5,7 @@ use Rattle.std.proofs.Math.ListN.{get_or-map}
 use Rattle.zone_state.specs.declared.status.Status.{Status}
 use Rattle.zone_state.specs.declared.status.TheConstants.Status.{INVALID_FIELD_IN_COMMAND, NO_SUCH_PROGRAM, NO_RUN_FREE}
 use Rattle.zone_resources.specs.declared.holds.Holds.{Holds}
-use Rattle.nvme_entry.specs.Checks.{demand, first_refused, or_else}
+use Rattle.zone_state.specs.Checks.{demand, first_failed, or_else}
 use Rattle.nvme_entry.specs.declared.command.RunCommand.{RunCommand}
 use Rattle.image_store.specs.Namespace.{ZonedNamespace}
 use Rattle.image_store.specs.declared.geometry.ZoneBlock.{ZoneBlock}
@@ -24,7 +24,7 @@ use Rattle.runner.specs.declared.loaded_program.LoadedProgram.{LoadedProgram}
 use Rattle.runner.proofs.Holding.{holds_are}
 use Rattle.runner.proofs.Numbers.{free_is}
 
-joined : (first rest : List (Option Status)) → first_refused (first ++ rest) ≡ or_else (first_refused first) (first_refused rest)
+joined : (first rest : List (Option Status)) → first_failed (first ++ rest) ≡ or_else (first_failed first) (first_failed rest)
 joined [] rest = refl
 joined (None ∷ first) rest = joined first rest
 joined (Some status ∷ first) rest = refl
@@ -35,29 +35,29 @@ passes first rest none = rw none refl
 -- where no check before those of the destination fails, they decide
 last_decides : (ns : ZonedNamespace) (holds : Holds) (place_free : Bool) (slot : Option Loaded) (order : RunCommand) (input : List ℕ)
     (source : ZoneBlock) (destination blocks : ℕ) → (length input == 0) ≡ true → is_some slot ≡ true → ArePlaces ns order source destination
-    → first_refused (address_checks ns order) ≡ None → place_free ≡ true → first_refused (source_checks ns source order.blocks) ≡ None
+    → first_failed (address_checks ns order) ≡ None → place_free ≡ true → first_failed (source_checks ns source order.blocks) ≡ None
     → blocks ≡ need order.blocks (sizes_in ns slot)
-    → first_refused (destination_checks ns holds destination blocks) ≡ run_refusal ns holds place_free slot order input
+    → first_failed (destination_checks ns holds destination blocks) ≡ run_refusal ns holds place_free slot order input
 last_decides ns holds place_free slot order input source destination blocks no_input loaded places addresses free sources enough =
-    let to = first_refused (destination_checks ns holds (destination_zone ns order) (need order.blocks (sizes_in ns slot))) in
-    let from = first_refused (source_checks ns (zone_block_in ns order.lba) order.blocks) in
+    let to = first_failed (destination_checks ns holds (destination_zone ns order) (need order.blocks (sizes_in ns slot))) in
+    let from = first_failed (source_checks ns (zone_block_in ns order.lba) order.blocks) in
     let parts : run_refusal ns holds place_free slot order input
     ≡ or_else (demand (length input == 0) INVALID_FIELD_IN_COMMAND)
     (or_else (demand (is_some slot) NO_SUCH_PROGRAM)
-    (or_else (first_refused (address_checks ns order)) (or_else (demand place_free NO_RUN_FREE) (or_else from to)))) =
+    (or_else (first_failed (address_checks ns order)) (or_else (demand place_free NO_RUN_FREE) (or_else from to)))) =
     ap (λ (rest : Option Status). or_else (demand (length input == 0) INVALID_FIELD_IN_COMMAND) (or_else (demand (is_some slot) NO_SUCH_PROGRAM) rest))
     (joined (address_checks ns order) (demand place_free NO_RUN_FREE ∷ source_checks ns (zone_block_in ns order.lba) order.blocks
     ++ destination_checks ns holds (destination_zone ns order) (need order.blocks (sizes_in ns slot)))
-    ∙ ap (λ (rest : Option Status). or_else (first_refused (address_checks ns order)) (or_else (demand place_free NO_RUN_FREE) rest))
+    ∙ ap (λ (rest : Option Status). or_else (first_failed (address_checks ns order)) (or_else (demand place_free NO_RUN_FREE) rest))
     (joined (source_checks ns (zone_block_in ns order.lba) order.blocks) (destination_checks ns holds (destination_zone ns order) (need order.blocks (sizes_in ns slot))))) in
-    let from_none : from ≡ None = ap (λ (p : ZoneBlock). first_refused (source_checks ns p order.blocks)) (sym places.source_is) ∙ sources in
-    ap (λ (z : ℕ). first_refused (destination_checks ns holds z blocks)) places.destination_is
-    ∙ ap (λ (n : ℕ). first_refused (destination_checks ns holds (destination_zone ns order) n)) enough
+    let from_none : from ≡ None = ap (λ (p : ZoneBlock). first_failed (source_checks ns p order.blocks)) (sym places.source_is) ∙ sources in
+    ap (λ (z : ℕ). first_failed (destination_checks ns holds z blocks)) places.destination_is
+    ∙ ap (λ (n : ℕ). first_failed (destination_checks ns holds (destination_zone ns order) n)) enough
     ∙ sym (parts
     ∙ ap (λ (b : Bool). or_else (demand b INVALID_FIELD_IN_COMMAND) (or_else (demand (is_some slot) NO_SUCH_PROGRAM)
-    (or_else (first_refused (address_checks ns order)) (or_else (demand place_free NO_RUN_FREE) (or_else from to))))) no_input
-    ∙ ap (λ (b : Bool). or_else (demand b NO_SUCH_PROGRAM) (or_else (first_refused (address_checks ns order)) (or_else (demand place_free NO_RUN_FREE) (or_else from to)))) loaded
-    ∙ passes (first_refused (address_checks ns order)) (or_else (demand place_free NO_RUN_FREE) (or_else from to)) addresses
+    (or_else (first_failed (address_checks ns order)) (or_else (demand place_free NO_RUN_FREE) (or_else from to))))) no_input
+    ∙ ap (λ (b : Bool). or_else (demand b NO_SUCH_PROGRAM) (or_else (first_failed (address_checks ns order)) (or_else (demand place_free NO_RUN_FREE) (or_else from to)))) loaded
+    ∙ passes (first_failed (address_checks ns order)) (or_else (demand place_free NO_RUN_FREE) (or_else from to)) addresses
     ∙ ap (λ (b : Bool). or_else (demand b NO_RUN_FREE) (or_else from to)) free
     ∙ passes from to from_none)
 
@@ -76,13 +76,13 @@ module _ (ns : ZonedNamespace) (slots : List (Option LoadedProgram)) (runs : Lis
   -- the same, by what a device tests before
   pub destination_decides : (order : RunCommand) (input : List ℕ) (p : LoadedProgram) (source : ZoneBlock) (destination run blocks : ℕ) (holds : Holds)
       → IsReady ns slots runs → true ≡ (length input == 0) → get_or slots order.slot None ≡ Some p
-      → ArePlaces ns order source destination → None ≡ first_refused (address_checks ns order)
-      → Some run ≡ position is_none runs → None ≡ first_refused (source_checks ns source order.blocks)
+      → ArePlaces ns order source destination → None ≡ first_failed (address_checks ns order)
+      → Some run ≡ position is_none runs → None ≡ first_failed (source_checks ns source order.blocks)
       → holds ≡ held_by runs → blocks ≡ need order.blocks (sizes_of p.prepared)
-      → first_refused (destination_checks ns holds destination blocks)
+      → first_failed (destination_checks ns holds destination blocks)
       ≡ run_refusal ns (held_by runs) (is_some (position is_none runs)) (loaded_slot (get_or slots order.slot None)) order input
   destination_decides order input p source destination run blocks holds ready no_input at places addresses free sources held enough =
-      ap (λ (h : Holds). first_refused (destination_checks ns h destination blocks)) held
+      ap (λ (h : Holds). first_failed (destination_checks ns h destination blocks)) held
       ∙ last_decides ns (held_by runs) (is_some (position is_none runs)) (loaded_slot (get_or slots order.slot None)) order input source destination blocks
       (sym no_input) (ap (λ (o : Option LoadedProgram). is_some (loaded_slot o)) at) places (sym addresses) (ap is_some (sym free)) (sym sources)
       (enough ∙ ap (need order.blocks) (granted order.slot p ready at))

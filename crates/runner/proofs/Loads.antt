@@ -6,7 +6,7 @@ use Rattle.std.proofs.lemmas.List.{map-set}
 use Rattle.std.proofs.lemmas.Bool.Decides.{eqb_tells}
 use Rattle.zone_state.specs.declared.status.Status.{Status}
 use Rattle.zone_state.specs.declared.status.TheConstants.Status.{PROGRAM_IN_USE, SUCCESS}
-use Rattle.nvme_entry.specs.Checks.{first_refused}
+use Rattle.zone_state.specs.Checks.{first_failed}
 use Rattle.nvme_entry.specs.declared.command.LoadCommand.{LoadCommand}
 use Rattle.program_interface.specs.RunSizes.{Sizes}
 use Rattle.interval_domain.specs.Intervals.{intervals}
@@ -134,7 +134,7 @@ module _ (ns : ZonedNamespace) (slots : List (Option LoadedProgram)) (runs : Lis
 
 -- ---- or it is refused
 
-pub refuses_checked : (load : LoadCommand) (input : List ℕ) (s : State) (status : Status) → Some status ≡ first_refused (load_checks s load input)
+pub refuses_checked : (load : LoadCommand) (input : List ℕ) (s : State) (status : Status) → Some status ≡ first_failed (load_checks s load input)
     → HasLoaded load input s s (refused_answer status)
 refuses_checked load input s status why = record {
   starved = false;
@@ -142,7 +142,7 @@ refuses_checked load input s status why = record {
       ap (λ (o : Option Status). load_unless intervals o false (record { queue = queue; entry = entry; input = input }) s load) (sym why);
 }
 
-pub refuses_read : (load : LoadCommand) (input : List ℕ) (s : State) (sizes : Sizes) (answer : Answer) → None ≡ first_refused (load_checks s load input)
+pub refuses_read : (load : LoadCommand) (input : List ℕ) (s : State) (sizes : Sizes) (answer : Answer) → None ≡ first_failed (load_checks s load input)
     → sizes ≡ sizes_for s load → IsNotAccepted input sizes answer → HasLoaded load input s s answer
 refuses_read load input s sizes answer why same refused = record {
   starved = refused.starved;

@@ -1,7 +1,7 @@
 -- Which slots are used, and what the bytes of a program come to.
 use Rattle.std.specs.Prelude.{ℕ, Bool, false, ◌≡◌, ◌==◌, List, [], Option, Some, None, Ok}
 use Rattle.zone_state.specs.declared.status.TheConstants.Status.{PROGRAM_REFUSED}
-use Rattle.nvme_entry.specs.Checks.{first_refused}
+use Rattle.zone_state.specs.Checks.{first_failed}
 use Rattle.nvme_entry.specs.declared.command.LoadCommand.{LoadCommand}
 use Rattle.ebpf_decode.specs.Reading.{decoded_program}
 use Rattle.instruction_set.specs.declared.insn.Insn.{Insn}
@@ -36,7 +36,7 @@ pub record IsNotAccepted (bytes : List ℕ) (sizes : Sizes) (answer : Answer) : 
 
 -- a Load that no check refuses, whose program is accepted for the sizes that it asks for
 pub record IsLoadable (load : LoadCommand) (input : List ℕ) (s : State) (program : List (Option Insn)) (kept : Sizes) : Type 0 where
-  pub checks : first_refused (load_checks s load input) ≡ None
+  pub checks : first_failed (load_checks s load input) ≡ None
   pub accepted : IsAccepted input (sizes_for s load) program kept
 
 -- the answer to a program that is refused

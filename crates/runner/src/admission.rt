@@ -1,7 +1,7 @@
 //! Whether a run is admitted.
 
 ghost use Rattle.std.specs.Prelude.{◌≡◌, ◌<◌, ◌+◌, ◌^◌, length, get_or, position, is_some, is_none, None, Option, IfOk, IfErr, OnOk, OnErr};
-ghost use Rattle.nvme_entry.specs.Checks.{first_refused};
+ghost use Rattle.zone_state.specs.Checks.{first_failed};
 ghost use Rattle.pushdown.specs.Admission.{address_checks, destination_checks, run_refusal, source_checks};
 ghost use Rattle.runner.specs.Admitting.{ArePlaces, AreWritten, IsAdmission};
 ghost use Rattle.runner.specs.Answered.{Refuses, Starts};
@@ -92,7 +92,7 @@ fn admit(
 
 /// Where a run reads and appends: its first source block, and its destination.
 fn places(namespace: &Namespace, order: &RunCommand) -> Result<(ZoneBlock, u32), Status>
-    ensures why { why_not result ≡ first_refused (address_checks namespace.now order.now) }
+    ensures why { why_not result ≡ first_failed (address_checks namespace.now order.now) }
     ensures places { IfOk result (λ found. ArePlaces namespace.now order.now found.0 found.1) }
 {
     let source = first_block(namespace, order.lba, order.blocks)?;
@@ -121,7 +121,7 @@ fn first_block(namespace: &Namespace, lba: u64, blocks: BlockCount) -> Result<Zo
 
 /// The zone whose lowest block this is.
 fn destination_zone(namespace: &Namespace, lba: u64) -> Result<u32, Status>
-    ensures why { why_not result ≡ first_refused (lowest_checks namespace.now lba) }
+    ensures why { why_not result ≡ first_failed (lowest_checks namespace.now lba) }
     ensures value { IfOk result (λ zone. zone ≡ zone_number namespace.now lba) }
     ensures inside { IfOk result (λ zone. zone < length namespace.now.zones) }
 {
@@ -137,7 +137,7 @@ fn destination_zone(namespace: &Namespace, lba: u64) -> Result<u32, Status>
 /// Tests the blocks that a run is to read: they lie in one zone, and are written.
 fn check_source(namespace: &Namespace, first: ZoneBlock, blocks: BlockCount) -> Result<(), Status>
     requires { first.zone < length namespace.now.zones }
-    ensures why { why_not result ≡ first_refused (source_checks namespace.now first blocks) }
+    ensures why { why_not result ≡ first_failed (source_checks namespace.now first blocks) }
     ensures written { OnOk result (AreWritten namespace.now first blocks) }
     ensures small { OnOk result (first.offset + blocks < 2 ^ 32) }
 {
@@ -163,7 +163,7 @@ fn check_destination(
     blocks: u32,
 ) -> Result<(), Status>
     requires { zone < length namespace.now.zones }
-    ensures { why_not result ≡ first_refused (destination_checks namespace.now holds.now zone blocks) }
+    ensures { why_not result ≡ first_failed (destination_checks namespace.now holds.now zone blocks) }
 {
     if holds.is_destination(zone) {
         return Err(Status::ZONE_HELD);

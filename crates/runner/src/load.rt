@@ -2,7 +2,7 @@
 
 ghost use Rattle.std.specs.Prelude.{◌≡◌, ◌<◌, List, Option, IfOk, IfErr};
 ghost use Rattle.std.specs.List.{list_any};
-ghost use Rattle.nvme_entry.specs.Checks.{first_refused};
+ghost use Rattle.zone_state.specs.Checks.{first_failed};
 ghost use Rattle.pushdown.specs.Machine.{load_checks};
 ghost use Rattle.runner.specs.Answered.{HasLoaded};
 ghost use Rattle.runner.specs.Held.{device_state};
@@ -71,7 +71,7 @@ fn check(
     command: &LoadCommand,
     input: &[u8],
 ) -> Result<RunSizes, Status>
-    ensures why { (slots : List (Option LoadedProgram)) → why_not result ≡ first_refused (load_checks (device_state namespace.now slots runs.now) command.now input.now) }
+    ensures why { (slots : List (Option LoadedProgram)) → why_not result ≡ first_failed (load_checks (device_state namespace.now slots runs.now) command.now input.now) }
     ensures sizes { IfOk result (λ sizes. sizes ≡ record { block = namespace.now.block; limit = command.now.limit }) }
 {
     let bytes = command.bytes as usize;

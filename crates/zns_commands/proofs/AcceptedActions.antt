@@ -8,7 +8,7 @@ use Rattle.zone_state.specs.declared.state.ZoneState.{ZoneState}
 use Rattle.zone_state.specs.declared.status.Status.{Status}
 use Rattle.zone_state.specs.declared.status.TheConstants.Status.{ZONE_HELD}
 use Rattle.zone_resources.specs.declared.holds.Holds.{Holds}
-use Rattle.nvme_entry.specs.Checks.{demand, allowed, first_refused}
+use Rattle.zone_state.specs.Checks.{demand, unless_failed, first_failed}
 use Rattle.image_store.specs.Namespace.{ZonedNamespace, zone_at, IsNamespace}
 use Rattle.zns_commands.specs.Address.{zone_number, block_total}
 use Rattle.zns_commands.specs.Resources.{room_for, why_not, closing_of, CanGiveWay}
@@ -22,9 +22,9 @@ use Rattle.zns_commands.proofs.PassedChecks.{roomed, zone_inside}
 -- the checks of an action on one zone, all passed, and what they give
 pub zone_checked : (address lowest : Option Status) (refused : Bool) (moves : Result ZoneState Status) (room : Result (Option ℕ) Status)
     (from : ZoneState) (z zone : ℕ) (to : ZoneState) (closing : Option ℕ)
-    → Ok zone ≡ allowed (first_refused (address ∷ lowest ∷ [])) z → refused ≡ false → Ok to ≡ moves → Ok closing ≡ room
+    → Ok zone ≡ unless_failed (first_failed (address ∷ lowest ∷ [])) z → refused ≡ false → Ok to ≡ moves → Ok closing ≡ room
     → Ok (let plan : ZonePlan = record { zone = zone; to = to; closing = closing } in plan)
-    ≡ allowed (first_refused (address ∷ lowest ∷ demand (not refused) ZONE_HELD ∷ why_not moves ∷ why_not room ∷ []))
+    ≡ unless_failed (first_failed (address ∷ lowest ∷ demand (not refused) ZONE_HELD ∷ why_not moves ∷ why_not room ∷ []))
     (let plan : ZonePlan = record { zone = z; to = led_to moves from; closing = closing_of room } in plan)
 zone_checked None None false (Ok s) (Ok gives) from z zone to closing is free moves room = cc
 zone_checked (Some status) lowest refused leads gives from z zone to closing is free moves room = cc
@@ -35,7 +35,7 @@ zone_checked None None false (Ok s) (Err status) from z zone to closing is free 
 
 -- what holds of a value where no check fails holds of what is given
 pub if_allowed : {X : Type 0} (P : X → Type 0) (refusal : Option Status) (x : X) (r : Result X Status)
-    → r ≡ allowed refusal x → (refusal ≡ None → P x) → IfOk r P
+    → r ≡ unless_failed refusal x → (refusal ≡ None → P x) → IfOk r P
 if_allowed P None x (Ok y) e holds =
     let same : x ≡ y = cc in subst P same (holds refl)
 if_allowed P (Some status) x (Ok y) e holds = absurd cc
@@ -52,7 +52,7 @@ room_given ns holds z action.Reset sound inside room = no_one_gives_way ns z sou
 room_given ns holds z action.Offline sound inside room = no_one_gives_way ns z sound
 
 pub can_move : (ns : ZonedNamespace) (holds : Holds) (lba : ℕ) (a : Action) → IsNamespace ns
-    → first_refused (zone_checks ns holds lba a) ≡ None → CanMove ns (zone_plan ns holds lba a)
+    → first_failed (zone_checks ns holds lba a) ≡ None → CanMove ns (zone_plan ns holds lba a)
 can_move ns holds lba a sound none =
     let checks = zone_checks ns holds lba a in
     let z = zone_number ns lba in

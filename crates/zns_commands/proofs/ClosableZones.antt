@@ -11,7 +11,7 @@ use Rattle.zone_resources.specs.declared.admission.Wanted.{Wanted}
 use Rattle.zone_resources.specs.declared.holds.Holds.{Holds}
 use Rattle.image_store.specs.Namespace.{ZonedNamespace, no_zone, zone_at, counted, records}
 use Rattle.zone_state.specs.declared.status.Status.{Status}
-use Rattle.nvme_entry.specs.Checks.{allowed}
+use Rattle.zone_state.specs.Checks.{unless_failed}
 
 -- a zone that may be closed is a zone, and implicitly opened
 pub closable_zone : (ns : ZonedNamespace) (holds : Holds) (z : ℕ) → IsClosable holds (records ns) z → z < length ns.zones
@@ -50,6 +50,6 @@ closed_fits Full w c is h = cc
 closed_fits Offline w c is h = cc
 
 -- where checks pass, the value is what was to be given
-pub allowed_ok : {X : Type 0} (refusal : Option Status) (x y : X) → Ok y ≡ allowed refusal x → y ≡ x
+pub allowed_ok : {X : Type 0} (refusal : Option Status) (x y : X) → Ok y ≡ unless_failed refusal x → y ≡ x
 allowed_ok None x y e = cc
 allowed_ok (Some status) x y e = cc

@@ -11,7 +11,7 @@ use Rattle.zone_state.specs.declared.state.ZoneState.TheVariants.{Empty, Offline
 use Rattle.zone_state.specs.declared.zone.FaultRefused.{FaultRefused}
 use Rattle.zone_resources.specs.Holds.{is_destination, is_source, is_held, refuses, forgets}
 use Rattle.zone_resources.specs.declared.holds.Holds.{Holds}
-use Rattle.nvme_entry.specs.Checks.{first_refused}
+use Rattle.zone_state.specs.Checks.{first_failed}
 use Rattle.nvme_entry.specs.declared.command.StandardCommand.{StandardCommand}
 use Rattle.nvme_entry.specs.declared.command.StandardCommand.TheVariants.{Write, Read, Send, Receive, Append}
 use Rattle.image_store.specs.Namespace.{ZoneBlocks, ZonedNamespace, no_zone, zone_at, with_zone}
@@ -84,7 +84,7 @@ module _ (ns : ZonedNamespace) (holds : Holds) (d : ℕ) (held : is_source holds
       (set_grows_at m.zones z d zone
       (λ same is. subst (λ (n : ℕ). Grows (zone_at m n).blocks zone.blocks) same (arrived_keeps to (zone_at m z) (keeps same))))
 
-  one_kept : (lba : ℕ) (a : Action) (input : List ℕ) → first_refused (send_checks ns holds lba a false input) ≡ None
+  one_kept : (lba : ℕ) (a : Action) (input : List ℕ) → first_failed (send_checks ns holds lba a false input) ≡ None
       → Kept (send_effect ns holds lba a false)
   one_kept lba a input none =
       let plan = zone_plan ns holds lba a in
@@ -97,19 +97,19 @@ module _ (ns : ZonedNamespace) (holds : Holds) (d : ℕ) (held : is_source holds
       (passed (send_checks ns holds lba a false input) 5 none))
 
   all_kept : (lba : ℕ) (a : Action) (input : List ℕ) (forgetting : Bool) → forgets a ≡ forgetting
-      → first_refused (send_checks ns holds lba a true input) ≡ None → Kept (send_effect ns holds lba a true)
+      → first_failed (send_checks ns holds lba a true input) ≡ None → Kept (send_effect ns holds lba a true)
   all_kept lba a input false is none = swept_keeps a ns.zones d is
   all_kept lba a input true is none =
       let refused = refuses_it (is_destination holds d) (forgets a) (is_source holds d) held is in
       let same = effect_left ns d holds (Send lba a true) input (not_taken ns holds lba a input d none refused) in
       subst (λ (zone : ZoneBlocks). Grows (zone_at ns d).blocks zone.blocks) (sym same) (grows_not (zone_at ns d).blocks)
 
-  sent_kept : (lba : ℕ) (a : Action) (select_all : Bool) (input : List ℕ) → first_refused (send_checks ns holds lba a select_all input) ≡ None
+  sent_kept : (lba : ℕ) (a : Action) (select_all : Bool) (input : List ℕ) → first_failed (send_checks ns holds lba a select_all input) ≡ None
       → Kept (send_effect ns holds lba a select_all)
   sent_kept lba a false input none = one_kept lba a input none
   sent_kept lba a true input none = all_kept lba a input (forgets a) refl none
 
-  effect_kept : (command : StandardCommand) (input : List ℕ) → first_refused (checks_of ns holds command input) ≡ None
+  effect_kept : (command : StandardCommand) (input : List ℕ) → first_failed (checks_of ns holds command input) ≡ None
       → Kept (effect_of ns holds command input).namespace
   effect_kept (Write lba blocks) input none = written_grows ns (write_plan ns holds (zone_number ns lba)) input d
   effect_kept (Append lba blocks) input none = written_grows ns (write_plan ns holds (zone_number ns lba)) input d

@@ -16,7 +16,7 @@ use Rattle.zone_resources.specs.Admission.{wanted_of, IsClosable}
 use Rattle.zone_resources.specs.Holds.{names, is_destination, is_source, is_held, refuses, forgets}
 use Rattle.zone_resources.specs.declared.admission.Wanted.{Wanted}
 use Rattle.zone_resources.specs.declared.holds.Holds.{Holds}
-use Rattle.nvme_entry.specs.Checks.{first_refused}
+use Rattle.zone_state.specs.Checks.{first_failed}
 use Rattle.nvme_entry.specs.declared.command.StandardCommand.{StandardCommand}
 use Rattle.nvme_entry.specs.declared.command.StandardCommand.TheVariants.{Write, Read, Send, Receive, Append}
 use Rattle.image_store.specs.Namespace.{ZoneBlocks, ZonedNamespace, no_zone, zone_at, counted, records}
@@ -83,7 +83,7 @@ not_taken_from holds a c n (suc at) (x ∷ xs) held none =
 
 -- Select All takes no zone that is held against it
 pub not_taken : (ns : ZonedNamespace) (holds : Holds) (lba : ℕ) (a : Action) (input : List ℕ) (z : ℕ)
-    → first_refused (send_checks ns holds lba a true input) ≡ None → refuses holds a z ≡ true → takes a (zone_at ns z).state ≡ false
+    → first_failed (send_checks ns holds lba a true input) ≡ None → refuses holds a z ≡ true → takes a (zone_at ns z).state ≡ false
 not_taken ns holds lba a input z none held =
     let same : z ≡ 0 + z = omega arith in
     not_taken_from holds a ns.capacity 0 z ns.zones (subst (λ (k : ℕ). refuses holds a k ≡ true) same held)
@@ -92,7 +92,7 @@ not_taken ns holds lba a input z none held =
 
 -- an action on one zone is on one that isn't held against it
 pub not_refused : (ns : ZonedNamespace) (holds : Holds) (lba : ℕ) (a : Action) (input : List ℕ)
-    → first_refused (send_checks ns holds lba a false input) ≡ None → refuses holds a (zone_number ns lba) ≡ false
+    → first_failed (send_checks ns holds lba a false input) ≡ None → refuses holds a (zone_number ns lba) ≡ false
 not_refused ns holds lba a input none =
     let z = zone_number ns lba in
     not_true (refuses holds a z) (demanded (not (refuses holds a z)) ZONE_HELD (passed (send_checks ns holds lba a false input) 4 none))
@@ -121,7 +121,7 @@ module _ (ns : ZonedNamespace) (holds : Holds) (d : ℕ) (held : is_destination 
   neither_is : (z : ℕ) (gives : Option ℕ) → is_destination holds z ≡ false → ForSome gives (IsClosable holds (records ns)) → is_either z gives d ≡ false
   neither_is z gives free closable = rw (other z free, other_gives gives closable) refl
 
-  free_of : (z : ℕ) (checks : List (Option Status)) → first_refused checks ≡ None
+  free_of : (z : ℕ) (checks : List (Option Status)) → first_failed checks ≡ None
       → (get_or checks 4 None ≡ None → not (is_destination holds z) ≡ true)
       → (get_or checks 6 None ≡ None → room_for ns holds (zone_at ns z).state ≡ Ok (closing_of (room_for ns holds (zone_at ns z).state)))
       → is_either z (closing_of (room_for ns holds (zone_at ns z).state)) d ≡ false
@@ -130,7 +130,7 @@ module _ (ns : ZonedNamespace) (holds : Holds) (d : ℕ) (held : is_destination 
       neither_is z (closing_of (room_for ns holds state)) (not_true (is_destination holds z) (is_free (passed checks 4 none)))
       (wanted_closable ns holds (wanted_of state) (closing_of (room_for ns holds state)) (has_room (passed checks 6 none)))
 
-  sent_free : (lba : ℕ) (a : Action) (select_all : Bool) (input : List ℕ) → first_refused (send_checks ns holds lba a select_all input) ≡ None
+  sent_free : (lba : ℕ) (a : Action) (select_all : Bool) (input : List ℕ) → first_failed (send_checks ns holds lba a select_all input) ≡ None
       → touches ns (Commanded holds (Send lba a select_all) input) d ≡ false
   sent_free lba a true input none =
       not_taken ns holds lba a input d none (ap (λ (b : Bool). b || (forgets a && is_source holds d)) held)
@@ -142,7 +142,7 @@ module _ (ns : ZonedNamespace) (holds : Holds) (d : ℕ) (held : is_destination 
       neither_is plan.zone plan.closing free.0
       (room_closable ns holds a state (roomed (room_of ns holds a state) (passed (send_checks ns holds lba a false input) 6 none)))
 
-  free : (command : StandardCommand) (input : List ℕ) → first_refused (checks_of ns holds command input) ≡ None
+  free : (command : StandardCommand) (input : List ℕ) → first_failed (checks_of ns holds command input) ≡ None
       → touches ns (Commanded holds command input) d ≡ false
   free (Write lba blocks) input none =
       let z = zone_number ns lba in

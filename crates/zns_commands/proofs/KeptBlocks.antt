@@ -10,7 +10,7 @@ use Rattle.zone_state.specs.declared.status.Status.{Status}
 use Rattle.zone_state.specs.declared.zone.FaultRefused.{FaultRefused}
 use Rattle.zone_resources.specs.declared.holds.Holds.{Holds}
 use Rattle.nvme_entry.specs.declared.command.StandardCommand.TheVariants.{Write, Read, Send, Receive, Append}
-use Rattle.nvme_entry.specs.Checks.{first_refused}
+use Rattle.zone_state.specs.Checks.{first_failed}
 use Rattle.image_store.specs.Blocks.{as_blocks}
 use Rattle.image_store.specs.Geometry.{Shape}
 use Rattle.image_store.specs.Namespace.{ZoneBlocks, ZonedNamespace, no_zone, zone_at, with_zone, grown, shape}
@@ -123,19 +123,19 @@ concluded_grows (Some status) ns effect z grows stays = grows_not (zone_at ns z)
 step_grows : (step : Step) (ns : ZonedNamespace) (z : ℕ)
     → is_cleared (zone_at (after step ns) z).state ≡ false → Grows (zone_at ns z).blocks (zone_at (after step ns) z).blocks
 step_grows (Commanded holds (Write lba blocks) input) ns z =
-    concluded_grows (first_refused (write_checks ns holds lba blocks input)) ns (write_effect ns holds lba input) z
+    concluded_grows (first_failed (write_checks ns holds lba blocks input)) ns (write_effect ns holds lba input) z
     (λ stays. written_grows ns (write_plan ns holds (zone_number ns lba)) input z)
 step_grows (Commanded holds (Append lba blocks) input) ns z =
-    concluded_grows (first_refused (append_checks ns holds lba blocks input)) ns (append_effect ns holds lba input) z
+    concluded_grows (first_failed (append_checks ns holds lba blocks input)) ns (append_effect ns holds lba input) z
     (λ stays. written_grows ns (write_plan ns holds (zone_number ns lba)) input z)
 step_grows (Commanded holds (Read lba blocks) input) ns z =
-    concluded_grows (first_refused (read_checks ns lba blocks input)) ns (read_effect ns lba blocks) z
+    concluded_grows (first_failed (read_checks ns lba blocks input)) ns (read_effect ns lba blocks) z
     (λ stays. grows_not (zone_at ns z).blocks)
 step_grows (Commanded holds (Receive lba dwords filter partial) input) ns z =
-    concluded_grows (first_refused (receive_checks ns lba dwords input)) ns (receive_effect ns lba dwords filter partial) z
+    concluded_grows (first_failed (receive_checks ns lba dwords input)) ns (receive_effect ns lba dwords filter partial) z
     (λ stays. grows_not (zone_at ns z).blocks)
 step_grows (Commanded holds (Send lba a select_all) input) ns z =
-    concluded_grows (first_refused (send_checks ns holds lba a select_all input)) ns
+    concluded_grows (first_failed (send_checks ns holds lba a select_all input)) ns
     (success_effect (send_effect ns holds lba a select_all) 0 []) z
     (send_grows ns holds lba a select_all z)
 step_grows (Failed holds y fault) ns z = faulted_grows (fault_answer ns holds y fault) ns y z fault
@@ -177,17 +177,17 @@ concluded_shape (Some status) ns effect same = refl
 
 pub step_shape : (step : Step) (ns : ZonedNamespace) → shape (after step ns) ≡ shape ns
 step_shape (Commanded holds (Write lba blocks) input) ns =
-    concluded_shape (first_refused (write_checks ns holds lba blocks input)) ns (write_effect ns holds lba input)
+    concluded_shape (first_failed (write_checks ns holds lba blocks input)) ns (write_effect ns holds lba input)
     (written_shape ns (write_plan ns holds (zone_number ns lba)) input)
 step_shape (Commanded holds (Append lba blocks) input) ns =
-    concluded_shape (first_refused (append_checks ns holds lba blocks input)) ns (append_effect ns holds lba input)
+    concluded_shape (first_failed (append_checks ns holds lba blocks input)) ns (append_effect ns holds lba input)
     (written_shape ns (write_plan ns holds (zone_number ns lba)) input)
 step_shape (Commanded holds (Read lba blocks) input) ns =
-    concluded_shape (first_refused (read_checks ns lba blocks input)) ns (read_effect ns lba blocks) refl
+    concluded_shape (first_failed (read_checks ns lba blocks input)) ns (read_effect ns lba blocks) refl
 step_shape (Commanded holds (Receive lba dwords filter partial) input) ns =
-    concluded_shape (first_refused (receive_checks ns lba dwords input)) ns (receive_effect ns lba dwords filter partial) refl
+    concluded_shape (first_failed (receive_checks ns lba dwords input)) ns (receive_effect ns lba dwords filter partial) refl
 step_shape (Commanded holds (Send lba a select_all) input) ns =
-    concluded_shape (first_refused (send_checks ns holds lba a select_all input)) ns
+    concluded_shape (first_failed (send_checks ns holds lba a select_all input)) ns
     (success_effect (send_effect ns holds lba a select_all) 0 []) (send_shape ns holds lba a select_all)
 step_shape (Failed holds z fault) ns = faulted_shape (fault_answer ns holds z fault) ns z fault
 

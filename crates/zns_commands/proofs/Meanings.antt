@@ -4,14 +4,14 @@ use Rattle.zone_state.specs.declared.status.Status.{Status}
 use Rattle.zone_resources.specs.declared.holds.Holds.{Holds}
 use Rattle.nvme_entry.specs.declared.command.StandardCommand.{StandardCommand}
 use Rattle.nvme_entry.specs.declared.command.StandardCommand.TheVariants.{Write, Read, Send, Receive, Append}
-use Rattle.nvme_entry.specs.Checks.{first_refused}
+use Rattle.zone_state.specs.Checks.{first_failed}
 use Rattle.image_store.specs.Namespace.{ZonedNamespace}
 use Rattle.zns_commands.specs.Answer.{Effect, concluded}
 use Rattle.zns_commands.specs.Meaning.{meaning}
 use Rattle.zns_commands.specs.Laws.{checks_of, effect_of}
 
 meaning_is : (ns : ZonedNamespace) (holds : Holds) (command : StandardCommand) (input : List ℕ)
-    → meaning ns holds command input ≡ concluded (first_refused (checks_of ns holds command input)) ns (effect_of ns holds command input)
+    → meaning ns holds command input ≡ concluded (first_failed (checks_of ns holds command input)) ns (effect_of ns holds command input)
 meaning_is ns holds (Write lba blocks) input = refl
 meaning_is ns holds (Read lba blocks) input = refl
 meaning_is ns holds (Send lba action select_all) input = refl
@@ -25,8 +25,8 @@ concluded_so P (Some status) ns effect before done = before
 
 -- what holds of the namespace before a command, and after its effect where no check fails
 pub after_command : (P : ZonedNamespace → Type 0) (ns : ZonedNamespace) (holds : Holds) (command : StandardCommand) (input : List ℕ)
-    → P ns → (first_refused (checks_of ns holds command input) ≡ None → P (effect_of ns holds command input).namespace)
+    → P ns → (first_failed (checks_of ns holds command input) ≡ None → P (effect_of ns holds command input).namespace)
     → P (meaning ns holds command input).namespace
 after_command P ns holds command input before done =
     subst (λ (done : Effect). P done.namespace) (sym (meaning_is ns holds command input))
-    (concluded_so P (first_refused (checks_of ns holds command input)) ns (effect_of ns holds command input) before done)
+    (concluded_so P (first_failed (checks_of ns holds command input)) ns (effect_of ns holds command input) before done)

@@ -16,7 +16,7 @@ use Rattle.zone_resources.specs.declared.admission.Wanted.TheVariants.{OpenOnly,
 use Rattle.zone_resources.specs.declared.holds.Holds.{Holds}
 use Rattle.nvme_entry.specs.declared.command.StandardCommand.TheVariants.{Write, Append}
 use Rattle.nvme_entry.specs.declared.command.TheConstants.{MOST_TRANSFER}
-use Rattle.nvme_entry.specs.Checks.{demand, or_else, first_refused}
+use Rattle.zone_state.specs.Checks.{demand, or_else, first_failed}
 use Rattle.image_store.specs.Namespace.{ZonedNamespace, zone_at, records, IsNamespace}
 use Rattle.zns_commands.specs.Address.{counted_zone_at, zone_number, block_total}
 use Rattle.zns_commands.specs.Answer.{Effect, concluded}
@@ -94,7 +94,7 @@ wanted_fails ns holds (Some OpenAndActive) =
     (open_fails (records ns) ns.limits holds) (err_fails TOO_MANY_ACTIVE_ZONES (omega arith))
 
 all_fail : (a b c d e : Bool) (s : Status) (f g : Option Status) → 1 ≤ s.code → Fails f → Fails g
-    → Fails (first_refused (demand a INVALID_FIELD_IN_COMMAND ∷ demand b INVALID_FIELD_IN_COMMAND ∷ demand c LBA_OUT_OF_RANGE
+    → Fails (first_failed (demand a INVALID_FIELD_IN_COMMAND ∷ demand b INVALID_FIELD_IN_COMMAND ∷ demand c LBA_OUT_OF_RANGE
     ∷ demand d s ∷ demand e ZONE_HELD ∷ f ∷ g ∷ []))
 all_fail a b c d e s f g some six seven =
     first_fails (demand a INVALID_FIELD_IN_COMMAND) _ (demand_fails a INVALID_FIELD_IN_COMMAND (omega arith))
@@ -114,11 +114,11 @@ none_failed (Some status) ns effect fails done =
     absurd (omega arith)
 
 pub append_passed : (ns : ZonedNamespace) (holds : Holds) (lba blocks : ℕ) (input : List ℕ)
-    → (meaning ns holds (Append lba blocks) input).status ≡ SUCCESS → first_refused (append_checks ns holds lba blocks input) ≡ None
+    → (meaning ns holds (Append lba blocks) input).status ≡ SUCCESS → first_failed (append_checks ns holds lba blocks input) ≡ None
 append_passed ns holds lba blocks input done =
     let z = zone_number ns lba in
     let zone = zone_at ns z in
-    none_failed (first_refused (append_checks ns holds lba blocks input)) ns (append_effect ns holds lba input)
+    none_failed (first_failed (append_checks ns holds lba blocks input)) ns (append_effect ns holds lba input)
     (all_fail (nat_le (blocks * ns.block) MOST_TRANSFER) (nat_eq (length input) (blocks * ns.block)) (nat_lt lba (block_total ns))
     (nat_eq (lba % ns.size) 0) (not (is_destination holds z)) INVALID_FIELD_IN_COMMAND
     (why_not (refusal (counted_zone_at ns z) (length zone.blocks) blocks)) (why_not (room_for ns holds zone.state))
@@ -128,11 +128,11 @@ append_passed ns holds lba blocks input done =
     done
 
 pub write_passed : (ns : ZonedNamespace) (holds : Holds) (lba blocks : ℕ) (input : List ℕ)
-    → (meaning ns holds (Write lba blocks) input).status ≡ SUCCESS → first_refused (write_checks ns holds lba blocks input) ≡ None
+    → (meaning ns holds (Write lba blocks) input).status ≡ SUCCESS → first_failed (write_checks ns holds lba blocks input) ≡ None
 write_passed ns holds lba blocks input done =
     let z = zone_number ns lba in
     let zone = zone_at ns z in
-    none_failed (first_refused (write_checks ns holds lba blocks input)) ns (write_effect ns holds lba input)
+    none_failed (first_failed (write_checks ns holds lba blocks input)) ns (write_effect ns holds lba input)
     (all_fail (nat_le (blocks * ns.block) MOST_TRANSFER) (nat_eq (length input) (blocks * ns.block)) (nat_le (lba + blocks) (block_total ns))
     (nat_le (lba % ns.size + blocks) ns.size) (not (is_destination holds z)) ZONE_BOUNDARY_ERROR
     (why_not (refusal (counted_zone_at ns z) (lba % ns.size) blocks)) (why_not (room_for ns holds zone.state))

@@ -12,7 +12,7 @@ use Rattle.zone_state.specs.declared.status.Status.{Status}
 use Rattle.zone_resources.specs.declared.holds.Holds.{Holds}
 use Rattle.nvme_entry.specs.declared.command.StandardCommand.TheVariants.{Write, Append}
 use Rattle.nvme_entry.specs.declared.command.TheConstants.{MOST_TRANSFER}
-use Rattle.nvme_entry.specs.Checks.{demand, first_refused}
+use Rattle.zone_state.specs.Checks.{demand, first_failed}
 use Rattle.image_store.specs.Blocks.{as_blocks, block_count, bytes_of}
 use Rattle.image_store.specs.Geometry.{Shape}
 use Rattle.image_store.specs.Namespace.{ZoneBlocks, ZonedNamespace, no_zone, zone_at, grown, IsNamespace}
@@ -51,7 +51,7 @@ readable false ExplicitlyOpened = refl
 readable false s = refl
 
 all_pass : (a b c : Bool) (r : Option Status) (s t u : Status) → a ≡ true → b ≡ true → c ≡ true → r ≡ None
-    → first_refused (demand a s ∷ None ∷ demand b t ∷ demand c u ∷ r ∷ []) ≡ None
+    → first_failed (demand a s ∷ None ∷ demand b t ∷ demand c u ∷ r ∷ []) ≡ None
 all_pass a b c r s t u ea eb ec er = rw (ea, eb, ec, er) refl
 
 pub read_back : LyingIsRead
@@ -65,7 +65,7 @@ read_back m z w blocks input h =
     let end : lba + blocks ≤ block_total m = omega (arith, suc-mul z size, h.room) in
     let one : lba % size + blocks ≤ size = omega (arith, h.room) in
     let open_zone : read_refusal (zone_at m (lba / size)).state ≡ None = subst (λ (k : ℕ). read_refusal (zone_at m k).state ≡ None) (sym number) h.readable in
-    let none : first_refused (read_checks m lba blocks []) ≡ None =
+    let none : first_failed (read_checks m lba blocks []) ≡ None =
     all_pass (nat_le (blocks * m.block) MOST_TRANSFER) (nat_le (lba + blocks) (block_total m)) (nat_le (lba % size + blocks) size)
     (read_refusal (zone_at m (lba / size)).state) _ _ _ h.transfer (le-leb _ _ end) (le-leb _ _ one) open_zone in
     let zeros : List (List ℕ) = replicate blocks (replicate m.block 0) in

@@ -4,7 +4,7 @@ use Rattle.std.specs.Prelude.{All}
 use Rattle.zone_state.specs.declared.status.Status.{Status}
 use Rattle.zone_state.specs.declared.status.TheConstants.Status.{SUCCESS}
 use Rattle.nvme_entry.specs.declared.command.StandardCommand.TheVariants.{Write, Read, Send, Receive, Append}
-use Rattle.nvme_entry.specs.Checks.{first_refused}
+use Rattle.zone_state.specs.Checks.{first_failed}
 use Rattle.image_store.specs.Namespace.{ZonedNamespace}
 use Rattle.zns_commands.specs.Answer.{Effect, success_effect, concluded}
 use Rattle.zns_commands.specs.Append.{append_checks, append_effect}
@@ -14,13 +14,13 @@ use Rattle.zns_commands.specs.Send.{send_checks, send_effect}
 use Rattle.zns_commands.specs.Write.{write_checks, write_effect}
 use Rattle.zns_commands.specs.Laws.{Passes, IsCase, TakesEffect, IsRefused, JustOneCase, ChangesNothing, RefusedChangesNothing}
 
-none_refused : (checks : List (Option Status)) → All Passes checks → first_refused checks ≡ None
+none_refused : (checks : List (Option Status)) → All Passes checks → first_failed checks ≡ None
 none_refused [] all = refl
 none_refused (None ∷ checks) all = none_refused checks (λ k other in_list. all (suc k) other (omega arith))
 none_refused (Some status ∷ checks) all =
     let first : Some status ≡ None = all 0 None (omega arith) in cc
 
-first_is : (passed rest : List (Option Status)) (status : Status) → All Passes passed → first_refused (passed ++ Some status ∷ rest) ≡ Some status
+first_is : (passed rest : List (Option Status)) (status : Status) → All Passes passed → first_failed (passed ++ Some status ∷ rest) ≡ Some status
 first_is [] rest status all = refl
 first_is (None ∷ passed) rest status all = first_is passed rest status (λ k other in_list. all (suc k) other (omega arith))
 first_is (Some other ∷ passed) rest status all =
@@ -37,18 +37,18 @@ behind_one ns checks effect done (TakesEffect all is) = TakesEffect (one_more ch
 behind_one ns checks effect done (IsRefused passed rest status split all is) =
     IsRefused (None ∷ passed) rest status (ap (λ (others : List (Option Status)). None ∷ others) split) (one_more passed all) is
 
-some_case : (ns : ZonedNamespace) (checks : List (Option Status)) (effect : Effect) → IsCase ns checks effect (concluded (first_refused checks) ns effect)
+some_case : (ns : ZonedNamespace) (checks : List (Option Status)) (effect : Effect) → IsCase ns checks effect (concluded (first_failed checks) ns effect)
 some_case ns [] effect = TakesEffect (λ k other in_list. absurd (omega arith)) refl
 some_case ns (Some status ∷ checks) effect = IsRefused [] checks status refl (λ k other in_list. absurd (omega arith)) refl
 some_case ns (None ∷ checks) effect =
-    behind_one ns checks effect (concluded (first_refused checks) ns effect) (some_case ns checks effect)
+    behind_one ns checks effect (concluded (first_failed checks) ns effect) (some_case ns checks effect)
 
 one_case : (ns : ZonedNamespace) (checks : List (Option Status)) (effect done : Effect)
-    → IsCase ns checks effect done → done ≡ concluded (first_refused checks) ns effect
+    → IsCase ns checks effect done → done ≡ concluded (first_failed checks) ns effect
 one_case ns checks effect done (TakesEffect all is) =
     is ∙ ap (λ (refusal : Option Status). concluded refusal ns effect) (sym (none_refused checks all))
 one_case ns checks effect done (IsRefused passed rest status split all is) =
-    is ∙ ap (λ (refusal : Option Status). concluded refusal ns effect) (sym (ap first_refused split ∙ first_is passed rest status all))
+    is ∙ ap (λ (refusal : Option Status). concluded refusal ns effect) (sym (ap first_failed split ∙ first_is passed rest status all))
 
 pub just_one_case : JustOneCase
 just_one_case ns holds (Write lba blocks) input =
@@ -80,13 +80,13 @@ refused_concluded (Some status) ns effect done not_success = record { namespace 
 
 pub refused_changes_nothing : RefusedChangesNothing
 refused_changes_nothing ns holds (Write lba blocks) input =
-    refused_concluded (first_refused (write_checks ns holds lba blocks input)) ns (write_effect ns holds lba input) refl
+    refused_concluded (first_failed (write_checks ns holds lba blocks input)) ns (write_effect ns holds lba input) refl
 refused_changes_nothing ns holds (Read lba blocks) input =
-    refused_concluded (first_refused (read_checks ns lba blocks input)) ns (read_effect ns lba blocks) refl
+    refused_concluded (first_failed (read_checks ns lba blocks input)) ns (read_effect ns lba blocks) refl
 refused_changes_nothing ns holds (Send lba action select_all) input =
-    refused_concluded (first_refused (send_checks ns holds lba action select_all input)) ns
+    refused_concluded (first_failed (send_checks ns holds lba action select_all input)) ns
     (success_effect (send_effect ns holds lba action select_all) 0 []) refl
 refused_changes_nothing ns holds (Receive lba dwords filter partial) input =
-    refused_concluded (first_refused (receive_checks ns lba dwords input)) ns (receive_effect ns lba dwords filter partial) refl
+    refused_concluded (first_failed (receive_checks ns lba dwords input)) ns (receive_effect ns lba dwords filter partial) refl
 refused_changes_nothing ns holds (Append lba blocks) input =
-    refused_concluded (first_refused (append_checks ns holds lba blocks input)) ns (append_effect ns holds lba input) refl
+    refused_concluded (first_failed (append_checks ns holds lba blocks input)) ns (append_effect ns holds lba input) refl

@@ -8,7 +8,7 @@ use Rattle.zone_state.specs.declared.status.Status.{Status}
 use Rattle.zone_state.specs.declared.status.TheConstants.Status.{SUCCESS, INVALID_FIELD_IN_COMMAND, LBA_OUT_OF_RANGE}
 use Rattle.nvme_entry.specs.declared.command.TheConstants.{MOST_TRANSFER}
 use Rattle.nvme_entry.specs.declared.filter.ZoneFilter.TheVariants as filter
-use Rattle.nvme_entry.specs.Checks.{demand, first_refused}
+use Rattle.zone_state.specs.Checks.{demand, first_failed}
 use Rattle.nvme_entry.specs.Laws.{number_in, descriptors_in}
 use Rattle.nvme_entry.specs.Report.{report, descriptor_at}
 use Rattle.image_store.specs.Namespace.{counted, records}
@@ -19,7 +19,7 @@ use Rattle.zns_commands.specs.Laws.{ReportsEveryZone}
 use Rattle.nvme_entry.proofs.Proved.{lists_every_zone}
 use Rattle.std.proofs.Math.Nat.{mul-le-mul_right, zero-div}
 
-both_pass : (a b : Bool) (s t : Status) → a ≡ true → b ≡ true → first_refused (demand a s ∷ None ∷ demand b t ∷ []) ≡ None
+both_pass : (a b : Bool) (s t : Status) → a ≡ true → b ≡ true → first_failed (demand a s ∷ None ∷ demand b t ∷ []) ≡ None
 both_pass a b s t ea eb = rw (ea, eb) refl
 
 pub reports_every_zone : ReportsEveryZone
@@ -30,11 +30,11 @@ reports_every_zone ns holds dwords partial sound room most =
     let count : length zones ≡ length ns.zones = length-map ns.zones (counted ns.capacity) in
     let product : 1 * size ≤ length ns.zones * size = mul-le-mul_right size shape.zones_some in
     let inside : 0 < block_total ns = omega (arith, shape.size_some) in
-    let none : first_refused (receive_checks ns 0 dwords []) ≡ None =
+    let none : first_failed (receive_checks ns 0 dwords []) ≡ None =
     both_pass (nat_le (4 * dwords) MOST_TRANSFER) (nat_lt 0 (block_total ns)) INVALID_FIELD_IN_COMMAND LBA_OUT_OF_RANGE
     (le-leb _ _ most) (lt-ltb _ _ inside) in
     let given = report (4 * dwords) zones 0 size filter.All partial in
-    let is : concluded (first_refused (receive_checks ns 0 dwords [])) ns (receive_effect ns 0 dwords filter.All partial) ≡ success_effect ns 0 given =
+    let is : concluded (first_failed (receive_checks ns 0 dwords [])) ns (receive_effect ns 0 dwords filter.All partial) ≡ success_effect ns 0 given =
     ap (λ (refusal : Option Status). concluded refusal ns (receive_effect ns 0 dwords filter.All partial)) none
     ∙ ap (λ (first : ℕ). success_effect ns 0 (report (4 * dwords) zones first size filter.All partial)) (zero-div size) in
     let lists = lists_every_zone (4 * dwords) zones size partial (omega (arith, count)) (omega (arith, count, shape.zones_most)) in

@@ -13,7 +13,7 @@ use Rattle.zone_state.specs.declared.status.Status.{Status}
 use Rattle.zone_resources.specs.Counts.{one_if}
 use Rattle.zone_resources.specs.declared.holds.Holds.{Holds}
 use Rattle.nvme_entry.specs.declared.command.StandardCommand.TheVariants.{Write, Read, Send, Receive, Append}
-use Rattle.nvme_entry.specs.Checks.{first_refused}
+use Rattle.zone_state.specs.Checks.{first_failed}
 use Rattle.image_store.specs.Blocks.{AreBytes}
 use Rattle.image_store.specs.Geometry.{IsShape}
 use Rattle.image_store.specs.Namespace.{ZoneBlocks, ZonedNamespace, no_zone, zone_at, counted, IsNamespace, all_empty}
@@ -39,7 +39,7 @@ concluded_sound None ns effect sound done = done refl
 concluded_sound (Some status) ns effect sound done = sound
 
 write_sound : (ns : ZonedNamespace) (holds : Holds) (lba blocks : ℕ) (input : List ℕ) → IsNamespace ns → (1 ≤ blocks) × AreBytes input
-    → first_refused (write_checks ns holds lba blocks input) ≡ None → IsNamespace (write_effect ns holds lba input).namespace
+    → first_failed (write_checks ns holds lba blocks input) ≡ None → IsNamespace (write_effect ns holds lba input).namespace
 write_sound ns holds lba blocks input sound spelled none =
     let checks = write_checks ns holds lba blocks input in
     let z = zone_number ns lba in
@@ -53,7 +53,7 @@ write_sound ns holds lba blocks input sound spelled none =
     (roomed room (passed checks 6 none))
 
 append_sound : (ns : ZonedNamespace) (holds : Holds) (lba blocks : ℕ) (input : List ℕ) → IsNamespace ns → (1 ≤ blocks) × AreBytes input
-    → first_refused (append_checks ns holds lba blocks input) ≡ None → IsNamespace (append_effect ns holds lba input).namespace
+    → first_failed (append_checks ns holds lba blocks input) ≡ None → IsNamespace (append_effect ns holds lba input).namespace
 append_sound ns holds lba blocks input sound spelled none =
     let checks = append_checks ns holds lba blocks input in
     let z = zone_number ns lba in
@@ -66,7 +66,7 @@ append_sound ns holds lba blocks input sound spelled none =
     (roomed room (passed checks 6 none))
 
 send_sound : (ns : ZonedNamespace) (holds : Holds) (lba : ℕ) (a : Action) (select_all : Bool) (input : List ℕ) → IsNamespace ns
-    → first_refused (send_checks ns holds lba a select_all input) ≡ None → IsNamespace (send_effect ns holds lba a select_all)
+    → first_failed (send_checks ns holds lba a select_all input) ≡ None → IsNamespace (send_effect ns holds lba a select_all)
 send_sound ns holds lba a true input sound none =
     all_sound ns a sound (demanded (all_fit ns a) _ (passed (send_checks ns holds lba a true input) 3 none))
 send_sound ns holds lba a false input sound none =
@@ -79,17 +79,17 @@ send_sound ns holds lba a false input sound none =
 -- one step
 step_sound : (step : Step) (ns : ZonedNamespace) → IsNamespace ns → IsSpelled step → IsNamespace (after step ns)
 step_sound (Commanded holds (Write lba blocks) input) ns sound some =
-    concluded_sound (first_refused (write_checks ns holds lba blocks input)) ns (write_effect ns holds lba input) sound
+    concluded_sound (first_failed (write_checks ns holds lba blocks input)) ns (write_effect ns holds lba input) sound
     (write_sound ns holds lba blocks input sound some)
 step_sound (Commanded holds (Append lba blocks) input) ns sound some =
-    concluded_sound (first_refused (append_checks ns holds lba blocks input)) ns (append_effect ns holds lba input) sound
+    concluded_sound (first_failed (append_checks ns holds lba blocks input)) ns (append_effect ns holds lba input) sound
     (append_sound ns holds lba blocks input sound some)
 step_sound (Commanded holds (Read lba blocks) input) ns sound some =
-    concluded_sound (first_refused (read_checks ns lba blocks input)) ns (read_effect ns lba blocks) sound (λ none. sound)
+    concluded_sound (first_failed (read_checks ns lba blocks input)) ns (read_effect ns lba blocks) sound (λ none. sound)
 step_sound (Commanded holds (Receive lba dwords filter partial) input) ns sound some =
-    concluded_sound (first_refused (receive_checks ns lba dwords input)) ns (receive_effect ns lba dwords filter partial) sound (λ none. sound)
+    concluded_sound (first_failed (receive_checks ns lba dwords input)) ns (receive_effect ns lba dwords filter partial) sound (λ none. sound)
 step_sound (Commanded holds (Send lba a select_all) input) ns sound some =
-    concluded_sound (first_refused (send_checks ns holds lba a select_all input)) ns
+    concluded_sound (first_failed (send_checks ns holds lba a select_all input)) ns
     (success_effect (send_effect ns holds lba a select_all) 0 []) sound
     (send_sound ns holds lba a select_all input sound)
 step_sound (Failed holds z fault) ns sound some = fault_sound ns holds z fault sound

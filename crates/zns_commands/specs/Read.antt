@@ -4,7 +4,7 @@ use Rattle.zone_state.specs.declared.state.ZoneState.{ZoneState}
 use Rattle.zone_state.specs.declared.state.ZoneState.TheVariants.{Offline}
 use Rattle.zone_state.specs.declared.status.Status.{Status}
 use Rattle.zone_state.specs.declared.status.TheConstants.Status.{ZONE_IS_OFFLINE}
-use Rattle.nvme_entry.specs.Checks.{first_refused}
+use Rattle.zone_state.specs.Checks.{first_failed}
 use Rattle.image_store.specs.Blocks.{bytes_of}
 use Rattle.image_store.specs.Namespace.{ZonedNamespace, zone_at}
 use Rattle.zns_commands.specs.Address.{zone_number, range_checks}
@@ -35,4 +35,4 @@ read_effect ns lba blocks =
 
 abbrev pub read_meaning : ZonedNamespace → ℕ → ℕ → List ℕ → Effect
 read_meaning ns lba blocks input =
-    concluded (first_refused (read_checks ns lba blocks input)) ns (read_effect ns lba blocks)
+    concluded (first_failed (read_checks ns lba blocks input)) ns (read_effect ns lba blocks)

@@ -2,7 +2,7 @@
 use Rattle.std.specs.Prelude.{ℕ, Bool, ◌*◌, ◌++◌, List, [], ◌∷◌, Option}
 use Rattle.zone_state.specs.declared.status.Status.{Status}
 use Rattle.nvme_entry.specs.declared.filter.ZoneFilter.{ZoneFilter}
-use Rattle.nvme_entry.specs.Checks.{first_refused}
+use Rattle.zone_state.specs.Checks.{first_failed}
 use Rattle.nvme_entry.specs.Report.{report}
 use Rattle.image_store.specs.Namespace.{ZonedNamespace, records}
 use Rattle.zns_commands.specs.Address.{address_check, zone_number}
@@ -23,4 +23,4 @@ receive_effect ns lba dwords filter partial =
 
 abbrev pub receive_meaning : ZonedNamespace → ℕ → ℕ → ZoneFilter → Bool → List ℕ → Effect
 receive_meaning ns lba dwords filter partial input =
-    concluded (first_refused (receive_checks ns lba dwords input)) ns (receive_effect ns lba dwords filter partial)
+    concluded (first_failed (receive_checks ns lba dwords input)) ns (receive_effect ns lba dwords filter partial)

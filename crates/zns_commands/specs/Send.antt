@@ -13,7 +13,7 @@ use Rattle.zone_state.specs.declared.status.TheConstants.Status.{TOO_MANY_OPEN_Z
 use Rattle.zone_resources.specs.Counts.{open_count}
 use Rattle.zone_resources.specs.Holds.{refuses}
 use Rattle.zone_resources.specs.declared.holds.Holds.{Holds}
-use Rattle.nvme_entry.specs.Checks.{demand, first_refused}
+use Rattle.zone_state.specs.Checks.{demand, first_failed}
 use Rattle.image_store.specs.Namespace.{ZoneBlocks, ZonedNamespace, zone_at, records, IsWithinLimits}
 use Rattle.zns_commands.specs.Address.{zone_number, lowest_checks}
 use Rattle.zns_commands.specs.Answer.{Effect, success_effect, concluded}
@@ -105,7 +105,7 @@ send_effect ns holds lba action select_all = if select_all then all_effect ns ac
 
 abbrev pub send_meaning : ZonedNamespace → Holds → ℕ → Action → Bool → List ℕ → Effect
 send_meaning ns holds lba action select_all input =
-    concluded (first_refused (send_checks ns holds lba action select_all input)) ns (success_effect (send_effect ns holds lba action select_all) 0 [])
+    concluded (first_failed (send_checks ns holds lba action select_all input)) ns (success_effect (send_effect ns holds lba action select_all) 0 [])
 
 -- the namespace once Select All has gone over its first zones
 abbrev pub swept_below : ZonedNamespace → Action → ℕ → ZonedNamespace

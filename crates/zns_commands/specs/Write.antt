@@ -5,7 +5,7 @@ use Rattle.zone_state.specs.declared.status.Status.{Status}
 use Rattle.zone_state.specs.declared.status.TheConstants.Status.{ZONE_HELD}
 use Rattle.zone_resources.specs.Holds.{is_destination}
 use Rattle.zone_resources.specs.declared.holds.Holds.{Holds}
-use Rattle.nvme_entry.specs.Checks.{demand, first_refused}
+use Rattle.zone_state.specs.Checks.{demand, first_failed}
 use Rattle.image_store.specs.Blocks.{block_count}
 use Rattle.image_store.specs.Namespace.{ZonedNamespace, zone_at, appended, IsWithinLimits}
 use Rattle.zns_commands.specs.declared.write.WritePlan.{WritePlan}
@@ -44,7 +44,7 @@ write_effect ns holds lba input = success_effect (written ns (write_plan ns hold
 
 abbrev pub write_meaning : ZonedNamespace → Holds → ℕ → ℕ → List ℕ → Effect
 write_meaning ns holds lba blocks input =
-    concluded (first_refused (write_checks ns holds lba blocks input)) ns (write_effect ns holds lba input)
+    concluded (first_failed (write_checks ns holds lba blocks input)) ns (write_effect ns holds lba input)
 
 -- what holds of a write to a zone that isn't refused
 pub record CanWrite (ns : ZonedNamespace) (at blocks : ℕ) (plan : WritePlan) : Type 0 where

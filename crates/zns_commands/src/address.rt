@@ -1,7 +1,7 @@
 //! Logical blocks and the zones that contain them.
 
 ghost use Rattle.std.specs.Prelude.{◌≡◌, IfOk};
-ghost use Rattle.nvme_entry.specs.Checks.{first_refused, allowed};
+ghost use Rattle.zone_state.specs.Checks.{first_failed, unless_failed};
 ghost use Rattle.zns_commands.specs.Address.{lowest_checks, range_checks, zone_number, zone_block_in, IsZoneBlock};
 
 use image_store::{Image, ZoneBlock};
@@ -9,7 +9,7 @@ use nvme_entry::{BlockCount, Status};
 
 /// The zone whose lowest block is `lba`.
 pub fn lowest(image: &Image, lba: u64) -> Result<u32, Status>
-    ensures value { result ≡ allowed (first_refused (lowest_checks image.now lba)) (zone_number image.now lba) }
+    ensures value { result ≡ unless_failed (first_failed (lowest_checks image.now lba)) (zone_number image.now lba) }
     ensures place { IfOk result (λ zone. IsZoneBlock image.now lba (record { zone = zone; offset = 0 })) }
 {
     let Some(place) = image.geometry().zone_block(lba) else {
@@ -23,7 +23,7 @@ pub fn lowest(image: &Image, lba: u64) -> Result<u32, Status>
 
 /// Where a range of blocks begins, which lies in one zone.
 pub fn range(image: &Image, lba: u64, blocks: BlockCount) -> Result<ZoneBlock, Status>
-    ensures value { result ≡ allowed (first_refused (range_checks image.now lba blocks)) (zone_block_in image.now lba) }
+    ensures value { result ≡ unless_failed (first_failed (range_checks image.now lba blocks)) (zone_block_in image.now lba) }
     ensures place { IfOk result (IsZoneBlock image.now lba) }
 {
     let geometry = image.geometry();

@@ -1,7 +1,7 @@
 //! Zone Append.
 
 ghost use Rattle.std.specs.Prelude.{◌≡◌, ◌≤◌, ◌<◌, ◌^◌, length, List, ℕ, OnOk, OnErr};
-ghost use Rattle.nvme_entry.specs.Checks.{first_refused, allowed};
+ghost use Rattle.zone_state.specs.Checks.{first_failed, unless_failed};
 ghost use Rattle.zns_commands.specs.Address.{IsZoneBlock, zone_number, write_pointer};
 ghost use Rattle.zns_commands.specs.Answer.{effect_of_answer};
 ghost use Rattle.zns_commands.specs.Append.{append_checks, append_meaning};
@@ -40,7 +40,7 @@ fn try_append(
     blocks: BlockCount,
     input: &[u8],
 ) -> Result<u64, Status>
-    ensures value { let z = zone_number image.old lba in result ≡ allowed (first_refused (append_checks image.old holds.now lba blocks input.now)) (write_pointer image.old z) }
+    ensures value { let z = zone_number image.old lba in result ≡ unless_failed (first_failed (append_checks image.old holds.now lba blocks input.now)) (write_pointer image.old z) }
     ensures ok { OnOk result (image.new ≡ written image.old (write_plan image.old holds.now (zone_number image.old lba)) input.now) }
     ensures err { OnErr result (image.new ≡ image.old) }
 {

@@ -3,7 +3,7 @@
 ghost use Rattle.std.specs.Prelude.{◌≡◌, ◌≤◌, ◌<◌, ◌*◌, ◌+◌, ◌-◌, ◌++◌, ◌^◌, length, take, drop, replicate, List, ℕ, IfOk, OnOk};
 ghost use Rattle.image_store.specs.Blocks.{bytes_of};
 ghost use Rattle.image_store.specs.Namespace.{ZonedNamespace, zone_at};
-ghost use Rattle.nvme_entry.specs.Checks.{first_refused, allowed};
+ghost use Rattle.zone_state.specs.Checks.{first_failed, unless_failed};
 ghost use Rattle.zns_commands.specs.Address.{zone_block_in};
 ghost use Rattle.zns_commands.specs.Answer.{effect_of_answer};
 ghost use Rattle.zns_commands.specs.Read.{read_checks, read_meaning, blocks_read};
@@ -17,7 +17,7 @@ use zone_state::ZoneState;
 
 /// The checks of a read: where it begins.
 fn check(image: &Image, lba: u64, blocks: BlockCount, input: &[u8]) -> Result<ZoneBlock, Status>
-    ensures value { result ≡ allowed (first_refused (read_checks image.now lba blocks input.now)) (zone_block_in image.now lba) }
+    ensures value { result ≡ unless_failed (first_failed (read_checks image.now lba blocks input.now)) (zone_block_in image.now lba) }
     ensures inside { IfOk result (λ place. place.zone < length image.now.zones) }
     ensures most { OnOk result (blocks * image.now.block ≤ MOST_TRANSFER) }
 {

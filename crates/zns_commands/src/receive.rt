@@ -1,7 +1,7 @@
 //! Zone Management Receive.
 
 ghost use Rattle.std.specs.Prelude.{◌≡◌, ◌≤◌, ◌*◌, ◌++◌, ◌^◌, length, take, drop};
-ghost use Rattle.nvme_entry.specs.Checks.{first_refused, allowed};
+ghost use Rattle.zone_state.specs.Checks.{first_failed, unless_failed};
 ghost use Rattle.nvme_entry.specs.Report.{report};
 ghost use Rattle.zns_commands.specs.Address.{zone_number};
 ghost use Rattle.image_store.specs.Namespace.{records};
@@ -15,7 +15,7 @@ use nvme_entry::{DwordCount, MOST_TRANSFER, Report, Status, ZoneFilter};
 
 /// The checks of a report: the zone that it begins at.
 fn check(image: &Image, lba: u64, dwords: DwordCount, input: &[u8]) -> Result<u32, Status>
-    ensures { result ≡ allowed (first_refused (receive_checks image.now lba dwords input.now)) (zone_number image.now lba) }
+    ensures { result ≡ unless_failed (first_failed (receive_checks image.now lba dwords input.now)) (zone_number image.now lba) }
 {
     transfer::check(dwords.bytes() as u64, 0, input)?;
     match image.geometry().zone_block(lba) {

@@ -1,7 +1,7 @@
 //! Zone Management Send.
 
 ghost use Rattle.std.specs.Prelude.{true, ◌≡◌, ◌<◌, ◌≤◌, ◌^◌, length, List, ℕ, IfOk, OnOk, OnErr};
-ghost use Rattle.nvme_entry.specs.Checks.{first_refused, allowed};
+ghost use Rattle.zone_state.specs.Checks.{first_failed, unless_failed};
 ghost use Rattle.image_store.specs.declared.geometry.TheConstants.{MOST_ZONES};
 ghost use Rattle.image_store.specs.Namespace.{zone_at, with_zone, records, IsWithinLimits};
 ghost use Rattle.zns_commands.specs.Answer.{effect_of_answer};
@@ -30,7 +30,7 @@ pub struct ZonePlan {
 
 /// The checks of an action on one zone.
 fn check_zone(image: &Image, holds: &Holds, lba: u64, action: Action) -> Result<ZonePlan, Status>
-    ensures value { result ≡ allowed (first_refused (zone_checks image.now holds.now lba action)) (zone_plan image.now holds.now lba action) }
+    ensures value { result ≡ unless_failed (first_failed (zone_checks image.now holds.now lba action)) (zone_plan image.now holds.now lba action) }
     ensures can { IfOk result (CanMove image.now) }
 {
     let zone = lowest(image, lba)?;
@@ -56,7 +56,7 @@ fn room_of(image: &Image, holds: &Holds, action: Action, zone: u32) -> Result<Op
 
 /// Takes an action on the zone whose lowest block is `lba`.
 fn send_to_zone(image: &mut Image, holds: &Holds, lba: u64, action: Action) -> Result<(), Status>
-    ensures value { result ≡ allowed (first_refused (zone_checks image.old holds.now lba action)) tt }
+    ensures value { result ≡ unless_failed (first_failed (zone_checks image.old holds.now lba action)) tt }
     ensures ok { OnOk result (image.new ≡ zone_effect image.old holds.now lba action) }
     ensures err { OnErr result (image.new ≡ image.old) }
 {
@@ -118,7 +118,7 @@ fn few_zones(image: &Image) -> &[Zone]
 
 /// The checks of Select All.
 fn check_all(image: &Image, holds: &Holds, action: Action) -> Result<(), Status>
-    ensures value { result ≡ allowed (first_refused (all_checks image.now holds.now action)) tt }
+    ensures value { result ≡ unless_failed (first_failed (all_checks image.now holds.now action)) tt }
     ensures fits { OnOk result (all_fit image.now action ≡ true) }
 {
     let zones = few_zones(image);
@@ -197,7 +197,7 @@ fn try_send(
     select_all: bool,
     input: &[u8],
 ) -> Result<(), Status>
-    ensures value { result ≡ allowed (first_refused (send_checks image.old holds.now lba action select_all input.now)) tt }
+    ensures value { result ≡ unless_failed (first_failed (send_checks image.old holds.now lba action select_all input.now)) tt }
     ensures ok { OnOk result (image.new ≡ send_effect image.old holds.now lba action select_all) }
     ensures err { OnErr result (image.new ≡ image.old) }
 {

@@ -1,14 +1,14 @@
 //! The checks of a command's data.
 
 ghost use Rattle.std.specs.Prelude.{◌≡◌, ◌≤◌, ◌*◌, ◌^◌, ◌<◌, length, OnOk};
-ghost use Rattle.nvme_entry.specs.Checks.{first_refused, allowed};
+ghost use Rattle.zone_state.specs.Checks.{first_failed, unless_failed};
 ghost use Rattle.zns_commands.specs.Transfer.{transfer_checks};
 
 use nvme_entry::{MOST_TRANSFER, Status};
 
 /// Tests a transfer of `bytes`, of which `beside` should stand beside the entry.
 pub fn check(bytes: u64, beside: u64, input: &[u8]) -> Result<(), Status>
-    ensures value { result ≡ allowed (first_refused (transfer_checks bytes beside input.now)) tt }
+    ensures value { result ≡ unless_failed (first_failed (transfer_checks bytes beside input.now)) tt }
     ensures whole { OnOk result (length input.now ≡ beside) }
     ensures most { OnOk result (bytes ≤ MOST_TRANSFER) }
 {

@@ -2,7 +2,7 @@
 
 ghost use Rattle.std.specs.Prelude.{◌≡◌, ◌≤◌, ◌<◌, ◌*◌, ◌^◌, length, List, ℕ, IfOk, OnOk, OnErr};
 ghost use Rattle.image_store.specs.Namespace.{zone_at};
-ghost use Rattle.nvme_entry.specs.Checks.{first_refused, allowed};
+ghost use Rattle.zone_state.specs.Checks.{first_failed, unless_failed};
 ghost use Rattle.zns_commands.specs.Address.{zone_number};
 ghost use Rattle.zns_commands.specs.Answer.{effect_of_answer};
 ghost use Rattle.zns_commands.specs.Transfer.{transfer_checks};
@@ -27,7 +27,7 @@ pub struct WritePlan {
 
 /// The checks of the data of a write: whole blocks, as many as the command says.
 pub fn check_data(image: &Image, blocks: BlockCount, input: &[u8]) -> Result<(), Status>
-    ensures value { let bytes = blocks * image.now.block in result ≡ allowed (first_refused (transfer_checks bytes bytes input.now)) tt }
+    ensures value { let bytes = blocks * image.now.block in result ≡ unless_failed (first_failed (transfer_checks bytes bytes input.now)) tt }
     ensures whole { OnOk result (IsWhole image.now blocks input.now) }
 {
     let bytes = u64::from(blocks.get()) * u64::from(image.geometry().block().bytes());
@@ -43,7 +43,7 @@ pub fn check_zone(
     blocks: BlockCount,
 ) -> Result<WritePlan, Status>
     requires { zone < length image.now.zones }
-    ensures value { result ≡ allowed (first_refused (zone_write_checks image.now holds.now zone at blocks)) (write_plan image.now holds.now zone) }
+    ensures value { result ≡ unless_failed (first_failed (zone_write_checks image.now holds.now zone at blocks)) (write_plan image.now holds.now zone) }
     ensures can { IfOk result (CanWrite image.now at blocks) }
 {
     if holds.is_destination(zone) {
@@ -64,7 +64,7 @@ pub fn check_end(
 ) -> Result<WritePlan, Status>
     requires { zone < length image.now.zones }
     ensures value { let at = length (zone_at image.now zone).blocks in
-        result ≡ allowed (first_refused (zone_write_checks image.now holds.now zone at blocks)) (write_plan image.now holds.now zone) }
+        result ≡ unless_failed (first_failed (zone_write_checks image.now holds.now zone at blocks)) (write_plan image.now holds.now zone) }
     ensures can { IfOk result (CanWrite image.now (length (zone_at image.now zone).blocks) blocks) }
 {
     let at = image.zone(zone).written();
@@ -101,7 +101,7 @@ fn try_write(
     blocks: BlockCount,
     input: &[u8],
 ) -> Result<(), Status>
-    ensures value { result ≡ allowed (first_refused (write_checks image.old holds.now lba blocks input.now)) tt }
+    ensures value { result ≡ unless_failed (first_failed (write_checks image.old holds.now lba blocks input.now)) tt }
     ensures ok { OnOk result (image.new ≡ written image.old (write_plan image.old holds.now (zone_number image.old lba)) input.now) }
     ensures err { OnErr result (image.new ≡ image.old) }
 {

@@ -3,7 +3,7 @@ use Rattle.zone_state.specs.Transition.{transition}
 use Rattle.zone_state.specs.Zone.{CountedZone}
 use Rattle.zone_state.specs.declared.state.ZoneState.{ZoneState}
 use Rattle.zone_resources.specs.Holds.{refuses}
-use Rattle.nvme_entry.specs.Checks.{first_refused}
+use Rattle.zone_state.specs.Checks.{first_failed}
 use Rattle.image_store.specs.Namespace.{zone_at}
 use Rattle.zns_commands.specs.Address.{zone_number, address_check, lowest_check, lowest_checks}
 use Rattle.zns_commands.specs.Send.{room_of, zone_checks, zone_plan, CanMove}
@@ -21,7 +21,7 @@ returns-clause-value c =
     let z = zone_number ns lba in
     let from = (zone_at ns z).state in
     let zone = c.in_ok-zone.zone in
-    let same : zone ≡ z = allowed_ok (first_refused (lowest_checks ns lba)) z zone c.in_ok-zone.ensures.value in
+    let same : zone ≡ z = allowed_ok (first_failed (lowest_checks ns lba)) z zone c.in_ok-zone.ensures.value in
     let free : refuses holds a z ≡ false = ap (λ (n : ℕ). refuses holds a n) (sym same) ∙ (sym c.refuses.ensures ∙ c.if-refuses.false) in
     let state : c.zone.result.state ≡ from = ap (λ (r : CountedZone). r.state) c.zone.ensures ∙ ap (λ (n : ℕ). (zone_at ns n).state) same in
     zone_checked (address_check ns lba) (lowest_check ns lba) (refuses holds a z) (transition a from) (room_of ns holds a from) from z
@@ -34,5 +34,5 @@ returns-clause-can c =
     let ns = c.args.image.now in
     let holds = c.args.holds.now in
     let plan : ZonePlan = record { zone = c.in_ok-zone.zone; to = c.in_ok-to.to; closing = c.in_ok-closing.closing } in
-    if_allowed (CanMove ns) (first_refused (zone_checks ns holds c.args.lba c.args.action)) (zone_plan ns holds c.args.lba c.args.action) (Ok plan)
+    if_allowed (CanMove ns) (first_failed (zone_checks ns holds c.args.lba c.args.action)) (zone_plan ns holds c.args.lba c.args.action) (Ok plan)
     (returns-clause-value c) (can_move ns holds c.args.lba c.args.action c.geometry.ensures.sound)

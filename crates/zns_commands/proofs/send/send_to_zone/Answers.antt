@@ -1,5 +1,5 @@
 use Rattle.std.proofs.Common.{ap, ◌∙◌}
-use Rattle.nvme_entry.specs.Checks.{first_refused}
+use Rattle.zone_state.specs.Checks.{first_failed}
 use Rattle.zns_commands.specs.Resources.{closed, moved_to}
 use Rattle.zns_commands.specs.Send.{zone_checks, zone_plan}
 use Rattle.zns_commands.specs.declared.send.ZonePlan.{ZonePlan}
@@ -10,5 +10,5 @@ pub returns-clause-ok : goal.returns-clause-ok
 returns-clause-ok c =
     let ns = c.args.image.now in
     let plan = zone_plan ns c.args.holds.now c.args.lba c.args.action in
-    let same = allowed_ok (first_refused (zone_checks ns c.args.holds.now c.args.lba c.args.action)) plan c.in_ok-plan.plan c.in_ok-plan.ensures.value in
+    let same = allowed_ok (first_failed (zone_checks ns c.args.holds.now c.args.lba c.args.action)) plan c.in_ok-plan.plan c.in_ok-plan.ensures.value in
     c.carry_out.ensures ∙ ap (λ (p : ZonePlan). moved_to (closed ns p.closing) p.zone p.to) same

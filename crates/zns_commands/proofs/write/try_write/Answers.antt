@@ -1,5 +1,5 @@
 use Rattle.std.proofs.Common.{ap, ◌∙◌}
-use Rattle.nvme_entry.specs.Checks.{first_refused}
+use Rattle.zone_state.specs.Checks.{first_failed}
 use Rattle.image_store.specs.declared.geometry.ZoneBlock.{ZoneBlock}
 use Rattle.zns_commands.specs.Address.{range_checks, zone_block_in}
 use Rattle.zns_commands.specs.Write.{zone_write_checks, write_plan, written}
@@ -10,7 +10,7 @@ use Rattle.zns_commands.proofs.write.try_write.Goals as goal
 pub returns-clause-ok : goal.returns-clause-ok
 returns-clause-ok c =
     let ns = c.args.image.now in
-    let place = allowed_ok (first_refused (range_checks ns c.args.lba c.args.blocks)) (zone_block_in ns c.args.lba) c.in_ok-place.place c.in_ok-place.ensures.value in
-    let plan = allowed_ok (first_refused (zone_write_checks ns c.args.holds.now c.in_ok-place.place.zone c.in_ok-place.place.offset c.args.blocks)) (write_plan ns c.args.holds.now c.in_ok-place.place.zone) c.in_ok-plan.plan c.in_ok-plan.ensures.value in
+    let place = allowed_ok (first_failed (range_checks ns c.args.lba c.args.blocks)) (zone_block_in ns c.args.lba) c.in_ok-place.place c.in_ok-place.ensures.value in
+    let plan = allowed_ok (first_failed (zone_write_checks ns c.args.holds.now c.in_ok-place.place.zone c.in_ok-place.place.offset c.args.blocks)) (write_plan ns c.args.holds.now c.in_ok-place.place.zone) c.in_ok-plan.plan c.in_ok-plan.ensures.value in
     c.put.ensures
     ∙ ap (λ (p : WritePlan). written ns p c.args.input.now) (plan ∙ ap (λ (p : ZoneBlock). write_plan ns c.args.holds.now p.zone) place)

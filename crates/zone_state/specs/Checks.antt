@@ -10,11 +10,11 @@ or_else None next = next
 or_else (Some fault) next = Some fault
 
 -- the fault of the first check that fails
-abbrev pub first_fault : {F : Type 0} → List (Option F) → Option F
-first_fault [] = None
-first_fault (check ∷ checks) = or_else check (first_fault checks)
+abbrev pub first_failed : {F : Type 0} → List (Option F) → Option F
+first_failed [] = None
+first_failed (check ∷ checks) = or_else check (first_failed checks)
 
 -- the value, where no check fails
-abbrev pub unless_fault : {X F : Type 0} → Option F → X → Result X F
-unless_fault None x = Ok x
-unless_fault (Some fault) x = Err fault
+abbrev pub unless_failed : {X F : Type 0} → Option F → X → Result X F
+unless_failed None x = Ok x
+unless_failed (Some fault) x = Err fault
