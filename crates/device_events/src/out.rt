@@ -8,7 +8,7 @@ use crate::reply::Reply;
 
 /// A reply wasn't taken.
 #[derive(Clone, Copy, Debug, PartialEq, Eq)]
-pub struct Refusal;
+pub struct NotTaken;
 
 /// Takes replies with their data, in order, and counts those that it refuses.
 pub trait Out {
@@ -19,7 +19,7 @@ pub trait Out {
     ghost refused: { Self → ℕ };
 
     /// Takes a reply with the bytes of its data, or refuses it.
-    fn take(&mut self, reply: Reply, bytes: &[u8]) -> Result<(), Refusal>
+    fn take(&mut self, reply: Reply, bytes: &[u8]) -> Result<(), NotTaken>
         requires { refused self.old + 1 < 2 ^ 64 }
         ensures ok { OnOk result (taken self.new ≡ and_then (taken self.old) (record { reply = reply; bytes = bytes.now } ∷ [])) }
         ensures err { OnErr result (taken self.new ≡ taken self.old) }

@@ -6,7 +6,7 @@ ghost use Rattle.std.specs.Io.KnownBytes.{Appends};
 ghost use Rattle.hex.specs.Hex.{encode_lower};
 ghost use Rattle.event_text.specs.Lines.{data_text, line_text, reply_text};
 
-use device_events::{Out, Refusal, Reply};
+use device_events::{Out, NotTaken, Reply};
 use std::alloc::{AllocError, Global};
 use std::io;
 use std::io::Write;
@@ -45,7 +45,7 @@ impl<W: Write> Out for Lines<'_, W> {
 
     ghost refused = { λ lines. lines.refusals };
 
-    fn take(&mut self, reply: Reply, bytes: &[u8]) -> Result<(), Refusal>
+    fn take(&mut self, reply: Reply, bytes: &[u8]) -> Result<(), NotTaken>
         requires { self.old.refusals + 1 < 2 ^ 64 }
         ensures printed { OnOk result (Appends (W.contents self.old.out.now) (W.contents self.new.out.now) (line_text reply bytes.now)) }
         ensures count { CountsRefusals self.old.refusals self.new.refusals result }
@@ -54,7 +54,7 @@ impl<W: Write> Out for Lines<'_, W> {
             Ok(()) => Ok(()),
             Err(_) => {
                 self.refusals += 1;
-                Err(Refusal)
+                Err(NotTaken)
             }
         }
     }

@@ -206,7 +206,7 @@ impl Out for Kept {
 
     ghost refused = { λ kept. kept.refusals };
 
-    fn take(&mut self, reply: Reply, bytes: &[u8]) -> Result<(), Refusal> {
+    fn take(&mut self, reply: Reply, bytes: &[u8]) -> Result<(), NotTaken> {
         if self.answers.len() < self.room {
             if let Ok(bytes) = Vec::from_slice(self.alloc, bytes) {
                 if self.answers.push((reply, bytes)).is_ok() {
@@ -215,7 +215,7 @@ impl Out for Kept {
             }
         }
         self.refusals += 1;
-        Err(Refusal)
+        Err(NotTaken)
     }
 
     fn refusals(&self) -> u64 {

@@ -1,5 +1,5 @@
-//! The verifier: says of a program that it never traps, over any domain of facts about registers
-//! and the stack.
+//! The verifier: says of a program that it never traps, over any domain of facts about
+//! words: those of the registers and of the stack.
 #![tactic(auto)]
 
 mod cells;

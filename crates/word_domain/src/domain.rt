@@ -11,7 +11,7 @@ use instruction_set::{Relation, SignedSize, Size, Width};
 use program_interface::{Area, BlockSize};
 use program_meaning::Arithmetic;
 
-/// A fact about a register: a set of words, to which the register's word belongs.
+/// A fact about a word, in a register or on the stack: a set of words to which it belongs.
 pub trait Domain: Copy {
     /// The values that are facts: all that the operations give. A type may have others.
     ghost is_fact: { Self → Type 0 };
@@ -22,7 +22,7 @@ pub trait Domain: Copy {
     /// What the operations give.
     ghost operations: { Operations Self };
 
-    /// A row of facts, one for each register, fits in memory, with room for what stands beside it: a
+    /// A row of facts, about registers or cells of the stack, fits in memory, with room for what stands beside it: a
     /// proof about rows of facts calls this, which has no code.
     fn row_fits()
         ensures size { type_size Self.row < 2 ^ 32 }

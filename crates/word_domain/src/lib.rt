@@ -1,4 +1,4 @@
-//! What a domain of facts about registers is, and the laws that a verifier needs of it.
+//! What a domain of facts about words is, and the laws that a verifier needs of it.
 #![tactic(auto)]
 
 mod bounds;
