@@ -5,8 +5,8 @@ ghost use Rattle.accepted_programs.specs.Facts.{fact, with_fact};
 
 use instruction_set::Register;
 use program_interface::REGISTERS;
-use word_domain::Domain;
 use std::alloc::AllocError;
+use word_domain::Domain;
 
 /// The cells of the stack: words of eight bytes, each of which can be known.
 pub const CELLS: usize = 64;

@@ -10,7 +10,7 @@ use command_failure::{Failure, printed};
 use command_files::arguments::{and_argument, option, required};
 use command_files::{Files, read};
 use device_events::Reply;
-use event_text::{ReplyWithData, ReplyFileError, parse, replies};
+use event_text::{ReplyFileError, ReplyWithData, parse, replies};
 use nvme_entry::Completion;
 use std::alloc::{AllocError, Global};
 use std::io::{self, Write};

@@ -3,7 +3,7 @@
 ghost use Rattle.std.specs.Prelude.{[], None};
 
 use crate::files::{FileError, Files};
-use image_store::{StreamFault, Sink, Source};
+use image_store::{Sink, Source, StreamFault};
 use std::fs::OpenFile;
 use std::io::{BufReader, BufWriter, Read, Write};
 use std::path::Path;

@@ -5,8 +5,8 @@ use accepted_programs::{Facts, Reason};
 use instruction_set::{Insn, Operation, Register, Source};
 use interval_domain::{Fact, Intervals};
 use program_interface::{Area, RunSizes};
-use word_domain::{Domain, Offsets};
 use std::io::{self, Write};
+use word_domain::{Domain, Offsets};
 
 /// An instruction that is refused, of a program of so many slots, and what is known at its slot.
 #[derive(Clone, Copy)]

@@ -6,9 +6,9 @@ use ebpf_asm::instruction_text;
 use instruction_set::{Insn, Register};
 use interp::Machine;
 use program_interface::{Area, REGISTERS};
-use word_domain::Offsets;
 use std::alloc::Global;
 use std::io::{self, Write};
+use word_domain::Offsets;
 
 /// What emit takes of a machine: it leaves 0 in these registers, so that they are read before the step.
 #[derive(Clone, Copy)]

@@ -6,5 +6,5 @@ mod out;
 mod reply;
 
 pub use event::Event;
-pub use out::{Out, NotTaken};
+pub use out::{NotTaken, Out};
 pub use reply::Reply;

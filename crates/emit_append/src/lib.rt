@@ -15,5 +15,5 @@ pub use blocks_needed::need;
 pub use fault::UnpackFault;
 pub use packer::{Full, Packer};
 pub use program_interface::{BlockSize, RunSizes};
-pub use unpacking::unpack;
 pub use refusal::FrameRefusal;
+pub use unpacking::unpack;

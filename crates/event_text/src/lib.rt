@@ -12,5 +12,5 @@ mod words;
 pub use command_file::{ParseError, parse};
 pub use fault::LineFault;
 pub use lines::Lines;
-pub use reply_file::{ReplyWithData, ReplyFileError, replies};
+pub use reply_file::{ReplyFileError, ReplyWithData, replies};
 pub use submission::submission_line;

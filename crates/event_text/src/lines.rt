@@ -6,7 +6,7 @@ ghost use Rattle.std.specs.Io.KnownBytes.{Appends};
 ghost use Rattle.hex.specs.Hex.{encode_lower};
 ghost use Rattle.event_text.specs.Lines.{data_text, line_text, reply_text};
 
-use device_events::{Out, NotTaken, Reply};
+use device_events::{NotTaken, Out, Reply};
 use std::alloc::{AllocError, Global};
 use std::io;
 use std::io::Write;

@@ -5,8 +5,8 @@ ghost use Rattle.image_store.specs.Fault.{load_number, save_number};
 ghost use Rattle.image_store.specs.declared.fault.LoadFault.TheVariants as load_fault;
 ghost use Rattle.image_store.specs.declared.fault.SaveFault.TheVariants as save_fault;
 
-use crate::streams::StreamFault;
 use crate::refusal::GeometryRefusal;
+use crate::streams::StreamFault;
 use crate::version::Version;
 use std::alloc::{AllocError, AllocFailed};
 use thiserror::Error;

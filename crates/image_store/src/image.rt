@@ -12,10 +12,10 @@ ghost use Rattle.image_store.specs.Text.{text};
 ghost use Rattle.image_store.specs.Namespace.{appended, in_zone_state, cleared, counted, records, zone_at, all_empty, shape, block_at, IsWithinLimits, IsWritten, IsNamespace};
 
 use crate::bytes::are_bytes;
-use crate::streams::{Sink, Source};
 use crate::fault::{LoadFault, SaveFault};
 use crate::geometry::Geometry;
-use crate::{load, save, image_fields};
+use crate::streams::{Sink, Source};
+use crate::{image_fields, load, save};
 use std::alloc::{AllocError, Global};
 use std::marker::Model;
 use zone_resources::Counts;

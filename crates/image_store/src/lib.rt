@@ -18,12 +18,12 @@ mod streams;
 mod tests;
 mod version;
 
-pub use streams::{StreamFault, Sink, Source};
 pub use fault::{HeaderFault, LoadFault, RecordFault, SaveFault};
 pub use geometry::{Geometry, GeometryFault, MOST_ZONES, ZoneBlock};
 pub use image::Image;
 pub use memory_streams::Buffer;
 pub use refusal::GeometryRefusal;
+pub use streams::{Sink, Source, StreamFault};
 pub use version::Version;
 pub use zone_resources::{Counts, Limits};
 pub use zone_state::{Status, Zone, ZoneState};

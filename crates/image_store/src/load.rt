@@ -6,10 +6,10 @@ ghost use Rattle.image_store.specs.Flat.{IsFlat, namespace_of, zones_of};
 ghost use Rattle.image_store.specs.Loading.{Gives, CountsLoad, AreZones, spliced_in};
 ghost use Rattle.image_store.specs.Reading.{bytes_in, header_in, records_in, total_kept, limits_kept, blocks_in, end_in, namespace_in};
 
-use crate::streams::Source;
 use crate::fault::LoadFault;
 use crate::geometry::Geometry;
 use crate::header::Header;
+use crate::streams::Source;
 use crate::{header, record};
 use std::alloc::Global;
 use zone_resources::{Counts, Limits};

@@ -2,7 +2,7 @@
 
 ghost use Rattle.std.specs.Prelude.{◌≡◌, ◌^◌, ◌<◌, ◌-◌, [], OnOk, length};
 
-use crate::streams::{StreamFault, Sink, Source};
+use crate::streams::{Sink, Source, StreamFault};
 use std::alloc::Global;
 use std::marker::Model;
 

@@ -5,10 +5,10 @@ ghost use Rattle.image_store.specs.Streams.{Takes, CountsFailure};
 ghost use Rattle.image_store.specs.Flat.{IsFlat, namespace_of};
 ghost use Rattle.image_store.specs.Text.{text, records_text, blocks_text};
 
-use crate::streams::Sink;
 use crate::fault::SaveFault;
 use crate::geometry::Geometry;
-use crate::{header, record, image_fields};
+use crate::streams::Sink;
+use crate::{header, image_fields, record};
 use zone_state::Zone;
 
 /// Hands the text of an image to a sink.

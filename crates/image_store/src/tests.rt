@@ -4,8 +4,8 @@
 ghost use Rattle.std.specs.Prelude.{◌≤◌};
 
 use crate::{
-    Buffer, StreamFault, Geometry, GeometryFault, GeometryRefusal, HeaderFault, Image, Limits,
-    LoadFault, RecordFault, Sink, Source, Version,
+    Buffer, Geometry, GeometryFault, GeometryRefusal, HeaderFault, Image, Limits, LoadFault,
+    RecordFault, Sink, Source, StreamFault, Version,
 };
 use std::alloc::{AllocError, Global};
 use std::process::Abort;

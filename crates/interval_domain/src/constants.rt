@@ -8,8 +8,8 @@ use interval_facts::{
 };
 use program_interface::{Area, BlockSize};
 use program_meaning::Arithmetic;
-use word_domain::{Bounds, Domain, Offsets};
 use std::marker::Model;
+use word_domain::{Bounds, Domain, Offsets};
 
 /// A word that is known, an address at a known distance from an area's, or any word.
 #[derive(Clone, Copy, Debug, PartialEq, Eq)]

@@ -8,8 +8,8 @@ use interval_facts::{
 };
 use program_interface::{Area, BlockSize};
 use program_meaning::Arithmetic;
-use word_domain::{Bounds, Domain, Offsets};
 use std::marker::Model;
+use word_domain::{Bounds, Domain, Offsets};
 
 /// The words between two bounds, or the addresses between two distances from an area's.
 #[derive(Clone, Copy, Debug, PartialEq, Eq)]

@@ -7,8 +7,8 @@ use crate::{Constants, Intervals};
 use instruction_set::{Operation, Size, Width};
 use program_interface::{Area, BlockSize};
 use program_meaning::Arithmetic;
-use word_domain::{Bounds, Domain, Offsets};
 use std::process::Abort;
+use word_domain::{Bounds, Domain, Offsets};
 
 fn between(low: u64, high: u64) -> Bounds {
     Bounds { low, high }

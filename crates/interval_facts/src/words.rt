@@ -1,8 +1,8 @@
 //! Facts in words.
 
 use crate::fact::Fact;
-use word_domain::{Bounds, Offsets};
 use std::fmt;
+use word_domain::{Bounds, Offsets};
 
 /// A fact in words: `any word`, `7`, `0 to 255`, or the offsets of a pointer.
 impl fmt::Display for Fact {

@@ -8,9 +8,9 @@ pub mod laws;
 mod trap_free;
 mod word;
 
+pub use area_offset::AreaOffset;
 pub use cause::Cause;
 pub use end::End;
-pub use area_offset::AreaOffset;
 pub use trap_free::TrapFree;
 pub use word::{Arithmetic, alu, extend, taken};
 

@@ -16,4 +16,4 @@ mod tests;
 mod turn;
 
 pub use device::{Device, Stopped};
-pub use device_events::{Event, Out, NotTaken, Reply};
+pub use device_events::{Event, NotTaken, Out, Reply};

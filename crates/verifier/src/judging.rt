@@ -6,13 +6,13 @@ ghost use Rattle.verifier.specs.Rows.{held, held_at};
 ghost use Rattle.accepted_programs.specs.Emitted.{group_in};
 ghost use Rattle.verifier.specs.Judged.{IsJudged};
 
-use crate::verifying::first_rows;
 use crate::rows::{Refused, Row, visit};
+use crate::verifying::first_rows;
 use accepted_programs::{Facts, Refusal};
 use instruction_set::Program;
 use program_interface::RunSizes;
-use word_domain::Domain;
 use std::alloc::{AllocError, Global};
+use word_domain::Domain;
 
 /// What a verifier says of a program, and what it knows.
 #[derive(Drop)]

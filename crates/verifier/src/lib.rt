@@ -12,7 +12,7 @@ mod rows;
 mod verified;
 mod verifying;
 
-pub use verifying::verify;
 pub use fault::VerifyFault;
 pub use judging::{Judgement, judge};
 pub use verified::Verified;
+pub use verifying::verify;

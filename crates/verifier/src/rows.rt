@@ -14,8 +14,8 @@ use crate::facts::join;
 use accepted_programs::{Facts, Refusal};
 use instruction_set::{Insn, Program, Register, Source};
 use program_interface::{BlockSize, MOST_SLOTS, RunSizes};
-use word_domain::Domain;
 use std::alloc::{AllocError, Global};
+use word_domain::Domain;
 
 /// What a slot was given so far.
 pub(crate) type Row<D> = Option<Box<Facts<D>>>;

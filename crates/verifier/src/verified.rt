@@ -9,8 +9,8 @@ ghost use Rattle.accepted_programs.specs.ShortOffsets.{HasShortOffsets};
 use instruction_set::Program;
 use program_interface::RunSizes;
 use program_meaning::TrapFree;
-use word_domain::Domain;
 use std::marker::PhantomData;
+use word_domain::Domain;
 
 /// A program that is accepted over a domain, for runs of some sizes.
 #[derive(Drop)]

@@ -14,8 +14,8 @@ use crate::verified::Verified;
 use accepted_programs::{Facts, Refusal};
 use instruction_set::Program;
 use program_interface::RunSizes;
-use word_domain::Domain;
 use std::alloc::{AllocError, Global};
+use word_domain::Domain;
 
 /// So many slots, of which nothing is known.
 #[tactic(auto, using(crate::proofs::Gifts::empty_more))]

@@ -6,10 +6,10 @@ use ebpf_decode::decode;
 use instruction_set::Program;
 use interval_domain::{Constants, Intervals};
 use program_interface::{BlockSize, RunSizes};
-use word_domain::Domain;
 use std::alloc::Global;
 use std::test::Fail;
 use verifier::{VerifyFault, verify};
+use word_domain::Domain;
 
 mod domains;
 mod runs;

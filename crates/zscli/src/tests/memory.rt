@@ -3,7 +3,7 @@
 ghost use Rattle.std.specs.Prelude.{◌≡◌, [], None};
 
 use command_files::{FileError, Files};
-use image_store::{StreamFault, Sink, Source};
+use image_store::{Sink, Source, StreamFault};
 use std::alloc::{AllocError, Global};
 
 #[derive(Drop)]
