@@ -2,6 +2,7 @@
 use Rattle.std.proofs.Common.{◌≡◌, FitsSigned, ℕ, ℤ, pos, ◌+◌, ◌*◌, ◌%◌, ◌/◌, ◌^◌, ◌<◌, Bool, true, false, not, ◌&&◌, ◌||◌, cond, eqb, ltb, List, [], ◌∷◌, Option, Some, None, Ok, is_none, find, option_map, refl, sym, ap, subst, ◌∙◌, arith}
 use Rattle.std.specs.Ordering.{int_eq}
 use Rattle.std.specs.Int.{w16, w32, cast_signed, cast_unsigned}
+use Rattle.std.specs.Option.{option_or}
 use Rattle.std.proofs.lemmas.Bool.{agree_below_at, and_parts, eqb-true, ltb-false, not-false, or_parts}
 use Rattle.std.proofs.lemmas.Bool.Decides.{Decides-int_eq}
 use Rattle.std.proofs.lemmas.Int.{ints, to_z-of_z}
@@ -22,7 +23,7 @@ use Rattle.instruction_set.specs.declared.operation.SwapSize.TheVariants as kept
 use Rattle.instruction_set.specs.declared.operation.Width.{Width}
 use Rattle.instruction_set.specs.declared.operation.Width.TheVariants as widths
 use Rattle.instruction_set.specs.Codes.{extension_with, plain_operations, swap_size_with, variant_with, width_eq}
-use Rattle.ebpf_decode.specs.Opcodes.{opcode_named, or_else, uses}
+use Rattle.ebpf_decode.specs.Opcodes.{opcode_named, uses}
 use Rattle.instruction_set.specs.Program.{is_wide}
 use Rattle.ebpf_decode.specs.Reading.{first_fault, has_more, has_no_register, has_unused, instruction, is_left_out, is_load_immediate, read, read_named, signed_move, source_of, unless}
 use Rattle.instruction_set.specs.Spelling.{CALL, EXIT, Fits, HasValue, IMM, JA, LD, LDX, MEM, MEMSX, MOV, NEG, ST, STX, access_opcode, arithmetic_class, extension_offset, extension_width, first_slot, jump_class, kept_bits, operation_code, operation_offset, operation_opcode, relation_code, second_slot, signed_size_code, size_code, slot, swap_opcode}
@@ -201,7 +202,7 @@ module _ (width : Width) (operation : Operation) (f : Fields) (next : Option Fie
 
   with-arithmetic : (operand : Operand) (m : Option Operation) → variant_with operation f.offset ≡ m → eqb (opcode_of (Arithmetic width operation operand)) f.opcode ≡ true
       → IsUsed (uses (Arithmetic width operation operand)) f
-      → or_else (option_map (λ v. insns.Arithmetic width v f.dst (source_of operand f)) m) (signed_move width operation operand f) ≡ Some i
+      → option_or (option_map (λ v. insns.Arithmetic width v f.dst (source_of operand f)) m) (signed_move width operation operand f) ≡ Some i
       → IsSpelled f next i
   with-arithmetic operand None is named used e = with-extension operand named used e
   with-arithmetic operand (Some v) is named used e = with-variant operand v named used is e

@@ -1,6 +1,7 @@
 -- What an opcode names, and which fields it uses.
 use Rattle.std.specs.Prelude.{ℕ, ◌==◌, ◌/◌, ◌%◌, Bool, true, false, [], ◌∷◌, Option, Some, None, option_map, if◌then◌else◌}
 use Rattle.std.specs.List.{list_any}
+use Rattle.std.specs.Option.{option_or}
 use Rattle.ebpf_decode.specs.declared.opcode.Opcode.{Opcode}
 use Rattle.ebpf_decode.specs.declared.opcode.Opcode.TheVariants as opcodes
 use Rattle.ebpf_decode.specs.declared.opcode.Operand.{Operand}
@@ -10,10 +11,6 @@ use Rattle.instruction_set.specs.declared.operation.Width.{Width}
 use Rattle.instruction_set.specs.declared.operation.Width.TheVariants as widths
 use Rattle.instruction_set.specs.Spelling.{LD, LDX, ST, STX, MEM, MEMSX, NEG, JA, CALL, EXIT, operation_opcode, arithmetic_class, jump_class}
 use Rattle.instruction_set.specs.Codes.{size_with, signed_size_with, operation_with, swap_with, relation_with, has_variants}
-
-abbrev pub or_else : {X : Type 0} → Option X → Option X → Option X
-or_else (Some x) o = Some x
-or_else None o = o
 
 abbrev pub operand_of : ℕ → Operand
 operand_of opcode = if opcode / 8 % 2 == 0 then operands.Immediate else operands.Register
@@ -48,7 +45,7 @@ store_register_opcode opcode =
 abbrev pub arithmetic_opcode : Width → ℕ → Option Opcode
 arithmetic_opcode width opcode =
     if opcode == operation_opcode NEG 0 (arithmetic_class width) then Some (opcodes.Negate width)
-    else or_else (option_map opcodes.SwapBytes (swap_with opcode))
+    else option_or (option_map opcodes.SwapBytes (swap_with opcode))
     (option_map (λ operation. opcodes.Arithmetic width operation (operand_of opcode)) (operation_with (opcode / 16)))
 
 -- conditional jumps by their code (RFC 9669, 4.3)

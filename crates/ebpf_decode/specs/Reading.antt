@@ -2,6 +2,7 @@
 use Rattle.std.specs.Prelude.{◌≡◌, ℕ, zero, suc, pos, ◌+◌, ◌*◌, ◌/◌, ◌%◌, ◌^◌, ◌==◌, nat_lt, Bool, true, false, not, ◌&&◌, ◌||◌, List, [], ◌∷◌, ◌++◌, length, drop, slice_get, slice_index, find, Option, Some, None, is_none, option_map, Result, Ok, Err, ok_or}
 use Rattle.std.specs.Ordering.{int_eq}
 use Rattle.std.specs.Int.{w16, w32, cast_signed, cast_unsigned}
+use Rattle.std.specs.Option.{option_or}
 use Rattle.byteorder.specs.Endian.{little_number}
 use Rattle.ebpf_decode.specs.declared.fault.DecodeFault.{DecodeFault}
 use Rattle.ebpf_decode.specs.declared.fault.DecodeFault.TheVariants as errors
@@ -21,7 +22,7 @@ use Rattle.ebpf_decode.specs.declared.opcode.Uses.{Uses}
 use Rattle.instruction_set.specs.declared.operation.Width.{Width}
 use Rattle.instruction_set.specs.declared.operation.Operation.{Operation}
 use Rattle.instruction_set.specs.Codes.{extension_with, variant_with, swap_size_with}
-use Rattle.ebpf_decode.specs.Opcodes.{opcode_named, uses, or_else}
+use Rattle.ebpf_decode.specs.Opcodes.{opcode_named, uses}
 use Rattle.instruction_set.specs.Program.{is_wide}
 use Rattle.program_interface.specs.declared.TheConstants.{MOST_SLOTS}
 
@@ -94,24 +95,32 @@ signed_move width operation operands.Immediate f = None
 signed_move width operation operands.Register f =
     option_map (λ extension. insns.MoveSigned extension f.dst f.src) (extension_with width operation f.offset)
 
+-- loads and stores of memory (RFC 9669, 5.1 and 5.2)
+abbrev pub load_or_store : Opcode → Fields → Option Insn
+load_or_store (Load size) f = Some (insns.Load size f.dst f.src f.offset)
+load_or_store (LoadSigned size) f = Some (insns.LoadSigned size f.dst f.src f.offset)
+load_or_store (StoreImmediate size) f = Some (insns.StoreImmediate size f.dst f.offset f.immediate)
+load_or_store (StoreRegister size) f = Some (insns.StoreRegister size f.dst f.src f.offset)
+load_or_store _ f = None
+
+-- jumps, calls and the exit (RFC 9669, 4.3)
+abbrev pub jump : Opcode → Fields → Option Insn
+jump Jump f = Some (insns.Jump f.offset)
+jump JumpLong f = Some (insns.JumpLong f.immediate)
+jump (Branch width relation operand) f = Some (insns.Branch width relation f.dst (source_of operand f) f.offset)
+jump Call f = Some (insns.Call f.immediate)
+jump Exit f = Some insns.Exit
+jump _ f = None
+
 -- the instruction; none where a field that it uses has a value that no instruction has
 abbrev pub instruction : Opcode → Fields → Option Fields → Option Insn
 instruction LoadImmediate f next = Some (insns.LoadImmediate f.dst (cast_unsigned w32 f.immediate + 2 ^ 32 * immediate_of next))
-instruction (Load size) f next = Some (insns.Load size f.dst f.src f.offset)
-instruction (LoadSigned size) f next = Some (insns.LoadSigned size f.dst f.src f.offset)
-instruction (StoreImmediate size) f next = Some (insns.StoreImmediate size f.dst f.offset f.immediate)
-instruction (StoreRegister size) f next = Some (insns.StoreRegister size f.dst f.src f.offset)
 instruction (Arithmetic width operation operand) f next =
-    or_else (option_map (λ variant. insns.Arithmetic width variant f.dst (source_of operand f)) (variant_with operation f.offset))
+    option_or (option_map (λ variant. insns.Arithmetic width variant f.dst (source_of operand f)) (variant_with operation f.offset))
     (signed_move width operation operand f)
 instruction (Negate width) f next = Some (insns.Negate width f.dst)
 instruction (SwapBytes swap) f next = option_map (λ size. insns.SwapBytes swap size f.dst) (swap_size_with f.immediate)
-instruction Jump f next = Some (insns.Jump f.offset)
-instruction JumpLong f next = Some (insns.JumpLong f.immediate)
-instruction (Branch width relation operand) f next = Some (insns.Branch width relation f.dst (source_of operand f) f.offset)
-instruction Call f next = Some (insns.Call f.immediate)
-instruction Exit f next = Some insns.Exit
-instruction LeftOut f next = None
+instruction opcode f next = option_or (load_or_store opcode f) (jump opcode f)
 
 -- ---- a slot, and all of them
 

@@ -3,7 +3,7 @@
 ghost use Rattle.std.specs.Prelude.{◌≡◌, ◌<◌, ◌≤◌, ◌+◌, ◌*◌, ◌/◌, ◌^◌, drop, length, slice_get, false, None, IfOk};
 ghost use Rattle.std.specs.Int.{w32, cast_unsigned};
 ghost use Rattle.instruction_set.specs.Spelling.{program_bytes};
-ghost use Rattle.ebpf_decode.specs.Reading.{Gives, begins_wide, decoded_program, entry, fields_at, first_fault, has_more, has_no_register, has_unused, immediate_of, instruction, is_left_out, length_fault, read, read_slots, slots_at, source_of, signed_move};
+ghost use Rattle.ebpf_decode.specs.Reading.{Gives, begins_wide, decoded_program, entry, fields_at, first_fault, has_more, has_no_register, has_unused, immediate_of, instruction, is_left_out, jump, length_fault, load_or_store, read, read_slots, slots_at, source_of, signed_move};
 
 use crate::fault::{DecodeFault, Fault, FaultKind};
 use crate::fields::from_bytes;
@@ -14,6 +14,7 @@ use instruction_set::{
 use program_interface::MOST_SLOTS;
 use std::alloc::Global;
 
+/// Is the instruction one that this profile leaves out?
 fn is_left_out(opcode: Opcode, fields: &Fields) -> bool
     ensures { result ≡ is_left_out opcode fields.now }
 {
@@ -24,12 +25,14 @@ fn is_left_out(opcode: Opcode, fields: &Fields) -> bool
     }
 }
 
+/// Does a field that the instruction uses name a register that isn't there?
 fn has_no_register(used: Uses, fields: &Fields) -> bool
     ensures { result ≡ has_no_register used fields.now }
 {
     (used.dst && fields.dst > 10) || (used.src && fields.src > 10)
 }
 
+/// Is a field that the instruction doesn't use other than 0?
 fn has_unused(used: Uses, fields: &Fields) -> bool
     ensures { result ≡ has_unused used fields.now }
 {
@@ -39,6 +42,7 @@ fn has_unused(used: Uses, fields: &Fields) -> bool
         || (!used.immediate && fields.immediate != 0)
 }
 
+/// Is anything but the immediate of a wide instruction's second slot other than 0?
 fn has_more(second: Option<Fields>) -> bool
     ensures { result ≡ has_more second }
 {
@@ -48,6 +52,7 @@ fn has_more(second: Option<Fields>) -> bool
     }
 }
 
+/// The first fault of an instruction whose opcode is known, but for values that its fields can't have.
 fn first_fault(opcode: Opcode, fields: &Fields, next: Option<Fields>) -> Option<FaultKind>
     ensures { result ≡ first_fault opcode fields.now next }
 {
@@ -68,6 +73,7 @@ fn first_fault(opcode: Opcode, fields: &Fields, next: Option<Fields>) -> Option<
     None
 }
 
+/// The second operand.
 fn source(operand: Operand, fields: &Fields) -> Source
     requires { fields.now.src < 11 }
     ensures { result ≡ source_of operand fields.now }
@@ -117,6 +123,7 @@ fn signed_move(
     })
 }
 
+/// The 64-bit immediate: its lower half stands in the first slot, the upper one in the next (RFC 9669, 5.4).
 fn wide_value(fields: &Fields, next: Option<Fields>) -> u64
     ensures { result ≡ cast_unsigned w32 fields.now.immediate + 2 ^ 32 * immediate_of next }
 {
@@ -127,26 +134,16 @@ fn wide_value(fields: &Fields, next: Option<Fields>) -> u64
     }
 }
 
-/// The instruction of a slot without the faults of [`first_fault`].
-fn instruction(opcode: Opcode, fields: &Fields, next: Option<Fields>) -> Option<Insn>
+/// A load or a store of memory (RFC 9669, 5.1 and 5.2), if the opcode names one.
+fn load_or_store(opcode: Opcode, fields: &Fields) -> Option<Insn>
     requires dst { fields.now.dst < 11 }
     requires src { fields.now.src < 11 }
-    ensures { result ≡ instruction opcode fields.now next }
+    ensures { result ≡ load_or_store opcode fields.now }
 {
     let dst = Register::from_number(fields.dst);
     let src = Register::from_number(fields.src);
-    let Fields {
-        offset,
-        immediate,
-        ..
-    } = *fields;
+    let offset = fields.offset;
     match opcode {
-        Opcode::LoadImmediate => {
-            Some(Insn::LoadImmediate {
-                dst,
-                value: wide_value(fields, next),
-            })
-        }
         Opcode::Load(size) => Some(Insn::Load {
             size,
             dst,
@@ -164,7 +161,7 @@ fn instruction(opcode: Opcode, fields: &Fields, next: Option<Fields>) -> Option<
                 size,
                 dst,
                 offset,
-                value: immediate,
+                value: fields.immediate,
             })
         }
         Opcode::StoreRegister(size) => Some(Insn::StoreRegister {
@@ -173,30 +170,70 @@ fn instruction(opcode: Opcode, fields: &Fields, next: Option<Fields>) -> Option<
             src,
             offset,
         }),
+        _ => None,
+    }
+}
+
+/// A jump, a call or the exit (RFC 9669, 4.3), if the opcode names one.
+fn jump(opcode: Opcode, fields: &Fields) -> Option<Insn>
+    requires dst { fields.now.dst < 11 }
+    requires src { fields.now.src < 11 }
+    ensures { result ≡ jump opcode fields.now }
+{
+    match opcode {
+        Opcode::Jump => Some(Insn::Jump {
+            distance: fields.offset,
+        }),
+        Opcode::JumpLong => Some(Insn::JumpLong {
+            distance: fields.immediate,
+        }),
+        Opcode::Branch(width, relation, operand) => {
+            Some(Insn::Branch {
+                width,
+                relation,
+                dst: Register::from_number(fields.dst),
+                source: source(operand, fields),
+                distance: fields.offset,
+            })
+        }
+        Opcode::Call => Some(Insn::Call {
+            helper: fields.immediate,
+        }),
+        Opcode::Exit => Some(Insn::Exit),
+        _ => None,
+    }
+}
+
+/// The instruction of a slot without the faults of [`first_fault`]; none where a field that it uses has a
+/// value that no instruction has.
+fn instruction(opcode: Opcode, fields: &Fields, next: Option<Fields>) -> Option<Insn>
+    requires dst { fields.now.dst < 11 }
+    requires src { fields.now.src < 11 }
+    ensures { result ≡ instruction opcode fields.now next }
+{
+    let dst = Register::from_number(fields.dst);
+    match opcode {
+        Opcode::LoadImmediate => {
+            Some(Insn::LoadImmediate {
+                dst,
+                value: wide_value(fields, next),
+            })
+        }
         Opcode::Arithmetic(width, operation, operand) => {
             arithmetic(width, operation, operand, fields)
         }
         Opcode::Negate(width) => Some(Insn::Negate { width, dst }),
         Opcode::SwapBytes(swap) => {
-            let size = SwapSize::with_bits(immediate)?;
+            let size = SwapSize::with_bits(fields.immediate)?;
             Some(Insn::SwapBytes { swap, size, dst })
         }
-        Opcode::Jump => Some(Insn::Jump { distance: offset }),
-        Opcode::JumpLong => Some(Insn::JumpLong {
-            distance: immediate,
-        }),
-        Opcode::Branch(width, relation, operand) => {
-            let source = source(operand, fields);
-            Some(Insn::Branch {
-                width,
-                relation,
-                dst,
-                source,
-                distance: offset,
-            })
-        }
-        Opcode::Call => Some(Insn::Call { helper: immediate }),
-        Opcode::Exit => Some(Insn::Exit),
+        Opcode::Load(_)
+        | Opcode::LoadSigned(_)
+        | Opcode::StoreImmediate(_)
+        | Opcode::StoreRegister(_) => load_or_store(opcode, fields),
+        Opcode::Jump | Opcode::JumpLong | Opcode::Branch(..) | Opcode::Call | Opcode::Exit => jump(
+            opcode, fields,
+        ),
         Opcode::LeftOut => None,
     }
 }
@@ -241,12 +278,14 @@ fn entry_at(bytes: &[u8], slot: usize, second: bool) -> Result<Option<Insn>, Fau
     Ok(Some(instruction))
 }
 
+/// Is the slot behind a wide instruction's second?
 fn begins_wide(entry: &Option<Insn>) -> bool
     ensures { result ≡ begins_wide entry.now }
 {
     matches!(entry, Some(Insn::LoadImmediate { .. }))
 }
 
+/// What begins at each slot, or the lowest slot with a fault.
 fn decode_slots(alloc: Global, bytes: &[u8]) -> Result<Vec<Option<Insn>>, DecodeFault>
     requires { length bytes.now / 8 ≤ MOST_SLOTS }
     ensures { Gives (λ slots. slots.items) result (read_slots false 0 (slots_at (length bytes.now / 8) bytes.now)) }
@@ -266,6 +305,7 @@ fn decode_slots(alloc: Global, bytes: &[u8]) -> Result<Vec<Option<Insn>>, Decode
     Ok(slots)
 }
 
+/// What is wrong with the length, in bytes.
 fn length_fault(len: usize) -> Option<FaultKind>
     ensures { result ≡ length_fault len }
 {
