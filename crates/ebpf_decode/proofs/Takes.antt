@@ -49,11 +49,11 @@ opcode_of JumpLong = operation_opcode JA 0 (jump_class widths.Bits32)
 opcode_of (Branch width relation operand) = operation_opcode (relation_code relation) (operand_bit operand) (jump_class width)
 opcode_of Call = operation_opcode CALL 0 (jump_class widths.Bits64)
 opcode_of Exit = operation_opcode EXIT 0 (jump_class widths.Bits64)
-opcode_of LeftOut = 0
+opcode_of (LeftOut which) = 0
 
 abbrev is_of : Option Opcode → ℕ → Bool
 is_of None opcode = true
-is_of (Some LeftOut) opcode = true
+is_of (Some (LeftOut which)) opcode = true
 is_of (Some named) opcode = eqb (opcode_of named) opcode
 
 -- an opcode is that of what it names
@@ -265,7 +265,7 @@ row Call f next i named used here more fits others e =
 row Exit f next i named used here more fits others e =
     moved f next insns.Exit i e
     (slot-is f _ _ _ _ _ (eqb-true _ _ named) (sym (used.dst refl)) (sym (used.src refl)) (sym (used.offset refl)) (sym (used.immediate refl)), refl, tt)
-row LeftOut f next i named used here more fits others e = absurd cc
+row (LeftOut which) f next i named used here more fits others e = absurd cc
 
 abbrev pub IsTaken : Fields → Option Fields → Insn → Type 0
 IsTaken f next i = IsSpelled f next i × Fits i

@@ -2,6 +2,7 @@
 use Rattle.std.specs.Prelude.{ℕ, ◌==◌, ◌/◌, ◌%◌, Bool, true, false, [], ◌∷◌, Option, Some, None, option_map, if◌then◌else◌}
 use Rattle.std.specs.List.{list_any}
 use Rattle.std.specs.Option.{option_or}
+use Rattle.ebpf_decode.specs.declared.opcode.LeftOut.TheVariants.{Atomic, Packet}
 use Rattle.ebpf_decode.specs.declared.opcode.Opcode.{Opcode}
 use Rattle.ebpf_decode.specs.declared.opcode.Opcode.TheVariants as opcodes
 use Rattle.ebpf_decode.specs.declared.opcode.Operand.{Operand}
@@ -19,7 +20,7 @@ operand_of opcode = if opcode / 8 % 2 == 0 then operands.Immediate else operands
 abbrev pub load_immediate_opcode : ℕ → Option Opcode
 load_immediate_opcode opcode =
     if opcode == 0x18 then Some opcodes.LoadImmediate
-    else if list_any (λ left_out. left_out == opcode) (0x20 ∷ 0x28 ∷ 0x30 ∷ 0x40 ∷ 0x48 ∷ 0x50 ∷ []) then Some opcodes.LeftOut
+    else if list_any (λ left_out. left_out == opcode) (0x20 ∷ 0x28 ∷ 0x30 ∷ 0x40 ∷ 0x48 ∷ 0x50 ∷ []) then Some (opcodes.LeftOut Packet)
     else None
 
 -- class LDX: loads by their mode and size (RFC 9669, 5.1 and 5.2)
@@ -38,7 +39,7 @@ store_immediate_opcode opcode =
 abbrev pub store_register_opcode : ℕ → Option Opcode
 store_register_opcode opcode =
     if opcode / 32 == MEM then option_map opcodes.StoreRegister (size_with (opcode / 8 % 4))
-    else if list_any (λ left_out. left_out == opcode) (0xc3 ∷ 0xdb ∷ []) then Some opcodes.LeftOut
+    else if list_any (λ left_out. left_out == opcode) (0xc3 ∷ 0xdb ∷ []) then Some (opcodes.LeftOut Atomic)
     else None
 
 -- classes ALU and ALU64: negation, byte swaps, and the other operations by their code (RFC 9669, 4.1 and 4.2)
@@ -104,4 +105,4 @@ uses opcodes.JumpLong = fields_used false false false true
 uses (opcodes.Branch width relation operand) = fields_used true (is_register operand) true (is_immediate operand)
 uses opcodes.Call = fields_used false false false true
 uses opcodes.Exit = fields_used false false false false
-uses opcodes.LeftOut = fields_used false false false false
+uses (opcodes.LeftOut which) = fields_used false false false false

@@ -44,7 +44,7 @@ slots_at (suc count) bytes = fields_at bytes ∷ slots_at count (drop 8 bytes)
 -- ---- the first fault of an instruction
 
 abbrev pub is_left_out : Opcode → Fields → Bool
-is_left_out LeftOut f = true
+is_left_out (LeftOut which) f = true
 is_left_out LoadImmediate f = not (f.src == 0)
 is_left_out Call f = not (f.src == 0)
 is_left_out _ f = false

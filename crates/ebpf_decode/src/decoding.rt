@@ -19,7 +19,7 @@ fn is_left_out(opcode: Opcode, fields: &Fields) -> bool
     ensures { result ≡ is_left_out opcode fields.now }
 {
     match opcode {
-        Opcode::LeftOut => true,
+        Opcode::LeftOut(_) => true,
         Opcode::LoadImmediate | Opcode::Call => fields.src != 0,
         _ => false,
     }
@@ -234,7 +234,7 @@ fn instruction(opcode: Opcode, fields: &Fields, next: Option<Fields>) -> Option<
         Opcode::Jump | Opcode::JumpLong | Opcode::Branch(..) | Opcode::Call | Opcode::Exit => jump(
             opcode, fields,
         ),
-        Opcode::LeftOut => None,
+        Opcode::LeftOut(_) => None,
     }
 }
 

@@ -29,8 +29,17 @@ pub enum Opcode {
     Branch(Width, Relation, Operand),
     Call,
     Exit,
-    /// An atomic operation or a packet load (RFC 9669, 5.3 and 5.5), which this profile leaves out.
-    LeftOut,
+    /// An instruction that this profile leaves out.
+    LeftOut(LeftOut),
+}
+
+/// What an opcode names that this profile leaves out.
+#[derive(Clone, Copy, Debug, PartialEq, Eq)]
+pub enum LeftOut {
+    /// An atomic operation (RFC 9669, 5.3).
+    Atomic,
+    /// A packet load (RFC 9669, 5.5).
+    Packet,
 }
 
 /// Which fields an instruction uses; the others are 0.
@@ -80,7 +89,7 @@ impl Opcode {
                 let is_register = operand == Operand::Register;
                 (true, is_register, true, !is_register)
             }
-            Opcode::Exit | Opcode::LeftOut => (false, false, false, false),
+            Opcode::Exit | Opcode::LeftOut(_) => (false, false, false, false),
         };
         Uses {
             dst,
@@ -106,7 +115,7 @@ fn load_immediate(opcode: u8) -> Option<Opcode>
 {
     match opcode {
         0x18 => Some(Opcode::LoadImmediate),
-        0x20 | 0x28 | 0x30 | 0x40 | 0x48 | 0x50 => Some(Opcode::LeftOut),
+        0x20 | 0x28 | 0x30 | 0x40 | 0x48 | 0x50 => Some(Opcode::LeftOut(LeftOut::Packet)),
         _ => None,
     }
 }
@@ -134,7 +143,7 @@ fn store_register(opcode: u8) -> Option<Opcode>
     ensures { result ≡ store_register_opcode opcode }
 {
     match opcode {
-        0xc3 | 0xdb => Some(Opcode::LeftOut),
+        0xc3 | 0xdb => Some(Opcode::LeftOut(LeftOut::Atomic)),
         0x60..0x80 => Some(Opcode::StoreRegister(Size::with_code(opcode / 8 % 4)?)),
         _ => None,
     }

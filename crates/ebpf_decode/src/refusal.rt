@@ -5,6 +5,7 @@ ghost use Rattle.ebpf_decode.specs.Refusal.{refusal_of};
 
 use crate::decoding::slot_at;
 use crate::fault::{Fault, FaultKind};
+use crate::opcode::{LeftOut, Opcode};
 use instruction_set::Fields;
 use program_interface::MOST_SLOTS;
 use std::fmt;
@@ -85,10 +86,13 @@ fn show_instruction<W: fmt::Write>(
 
 /// The instruction that is left out and has this opcode (RFC 9669, 4.3, 5.3, 5.4 and 5.5).
 fn left_out(opcode: u8) -> &'static str {
-    match opcode {
-        0x18 => "a wide instruction that loads something else than a number",
-        0x85 => "a call of something else than a helper by its number",
-        0xc3 | 0xdb => "an atomic operation",
-        _ => "a packet load",
+    match Opcode::named(opcode) {
+        Some(Opcode::LoadImmediate) => {
+            "a wide instruction that loads something else than a number"
+        }
+        Some(Opcode::Call) => "a call of something else than a helper by its number",
+        Some(Opcode::LeftOut(LeftOut::Atomic)) => "an atomic operation",
+        Some(Opcode::LeftOut(LeftOut::Packet)) => "a packet load",
+        _ => "an instruction",
     }
 }
