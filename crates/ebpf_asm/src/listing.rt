@@ -1,13 +1,26 @@
 //! Listings: a program as text.
 
-ghost use Rattle.std.specs.Prelude.{◌≡◌, ◌++◌, ◌∷◌, [], IfOk, OnOk, OnErr, take, codes};
+ghost use Rattle.std.specs.Prelude.{◌≡◌, ◌++◌, ◌∷◌, [], IfOk, OnOk, OnErr, take, drop, slice_get, option_map, option_to_list, codes};
 ghost use Rattle.std.specs.String.{string_bytes};
 ghost use Rattle.std.specs.Fmt.{signed_decimal};
-ghost use Rattle.ebpf_asm.specs.Listing.{register_text, signed_text, memory_text, wide_text, source_text, mnemonic_of, operand_texts, operands_text, insn_text, line_text, slot_text, line_with_slot, listing, listing_with_slots};
+ghost use Rattle.ebpf_asm.specs.Listing.{register_text, signed_text, memory_text, wide_text, source_text, mnemonic_of, operand_text, operand_texts, operands_text, text_behind, insn_text, line_text, slot_text, line_with_slot, listing, listing_with_slots};
 
 use crate::mnemonic::Mnemonic;
 use instruction_set::{Insn, Program, Register, Source};
 use std::alloc::{AllocError, Global};
+
+/// What stands in a listing behind a mnemonic.
+#[derive(Clone, Copy)]
+enum Operand {
+    /// A register or a 32-bit immediate.
+    Source(Source),
+    /// A 64-bit immediate.
+    Wide(u64),
+    /// The address in a register, and an offset from it in bytes.
+    Memory(Register, i16),
+    /// How many slots a jump goes, from the slot behind it.
+    Distance(i32),
+}
 
 /// Adds the listing of a program at the end of a text: each instruction on a line, its mnemonic, a
 /// space, and its operands with `, ` between them. Immediates are signed decimal numbers, offsets
@@ -111,97 +124,85 @@ fn mnemonic(insn: &Insn) -> Mnemonic
     }
 }
 
+/// The operands, a space before the first and `, ` before each other.
 fn push_operands(out: &mut String, insn: &Insn) -> Result<(), AllocError>
     ensures { OnOk result (string_bytes out.new ≡ string_bytes out.old ++ operands_text (operand_texts insn.now)) }
 {
+    push_operand(out, " ", first_operand(insn))?;
+    push_operand(out, ", ", second_operand(insn))?;
+    push_operand(out, ", ", third_operand(insn))
+}
+
+fn first_operand(insn: &Insn) -> Option<Operand>
+    ensures { option_map operand_text result ≡ slice_get (operand_texts insn.now) 0 }
+{
     match *insn {
-        Insn::LoadImmediate { dst, value } => {
-            push_first(out, dst)?;
-            out.push_str(", ")?;
-            push_wide(out, value)
+        Insn::StoreImmediate { dst, offset, .. } | Insn::StoreRegister { dst, offset, .. } => {
+            Some(Operand::Memory(dst, offset))
         }
-        Insn::Load {
-            dst,
-            src,
-            offset,
-            ..
-        }
-        | Insn::LoadSigned {
-            dst,
-            src,
-            offset,
-            ..
-        } => {
-            push_first(out, dst)?;
-            out.push_str(", ")?;
-            push_memory(out, src, offset)
-        }
-        Insn::StoreImmediate {
-            dst,
-            offset,
-            value,
-            ..
-        } => {
-            out.push_str(" ")?;
-            push_memory(out, dst, offset)?;
-            out.push_str(", ")?;
-            push_source(out, Source::Immediate(value))
-        }
-        Insn::StoreRegister {
-            dst,
-            src,
-            offset,
-            ..
-        } => {
-            out.push_str(" ")?;
-            push_memory(out, dst, offset)?;
-            out.push_str(", ")?;
-            push_register(out, src)
-        }
-        Insn::Arithmetic { dst, source, .. } => push_pair(out, dst, source),
-        Insn::MoveSigned { dst, src, .. } => push_pair(out, dst, Source::Register(src)),
-        Insn::Negate { dst, .. } | Insn::SwapBytes { dst, .. } => push_first(out, dst),
-        Insn::Jump { distance } => {
-            out.push_str(" ")?;
-            push_signed(out, i32::from(distance))
-        }
-        Insn::JumpLong { distance } => {
-            out.push_str(" ")?;
-            push_signed(out, distance)
-        }
-        Insn::Branch {
-            dst,
-            source,
-            distance,
-            ..
-        } => {
-            push_pair(out, dst, source)?;
-            out.push_str(", ")?;
-            push_signed(out, i32::from(distance))
-        }
-        Insn::Call { helper } => {
-            out.push_str(" ")?;
-            push_source(out, Source::Immediate(helper))
-        }
-        Insn::Exit => Ok(()),
+        Insn::LoadImmediate { dst, .. }
+        | Insn::Load { dst, .. }
+        | Insn::LoadSigned { dst, .. }
+        | Insn::Arithmetic { dst, .. }
+        | Insn::Negate { dst, .. }
+        | Insn::MoveSigned { dst, .. }
+        | Insn::SwapBytes { dst, .. }
+        | Insn::Branch { dst, .. } => Some(Operand::Source(Source::Register(dst))),
+        Insn::Jump { distance } => Some(Operand::Distance(i32::from(distance))),
+        Insn::JumpLong { distance } => Some(Operand::Distance(distance)),
+        Insn::Call { helper } => Some(Operand::Source(Source::Immediate(helper))),
+        Insn::Exit => None,
     }
 }
 
-/// A space and a register.
-fn push_first(out: &mut String, register: Register) -> Result<(), AllocError>
-    ensures { OnOk result (string_bytes out.new ≡ string_bytes out.old ++ (codes " " ++ register_text register)) }
+fn second_operand(insn: &Insn) -> Option<Operand>
+    ensures { option_map operand_text result ≡ slice_get (operand_texts insn.now) 1 }
 {
-    out.push_str(" ")?;
-    push_register(out, register)
+    match *insn {
+        Insn::LoadImmediate { value, .. } => Some(Operand::Wide(value)),
+        Insn::Load { src, offset, .. } | Insn::LoadSigned { src, offset, .. } => {
+            Some(Operand::Memory(src, offset))
+        }
+        Insn::StoreImmediate { value, .. } => Some(Operand::Source(Source::Immediate(value))),
+        Insn::StoreRegister { src, .. } | Insn::MoveSigned { src, .. } => {
+            Some(Operand::Source(Source::Register(src)))
+        }
+        Insn::Arithmetic { source, .. } | Insn::Branch { source, .. } => {
+            Some(Operand::Source(source))
+        }
+        Insn::Negate { .. }
+        | Insn::SwapBytes { .. }
+        | Insn::Jump { .. }
+        | Insn::JumpLong { .. }
+        | Insn::Call { .. }
+        | Insn::Exit => None,
+    }
 }
 
-/// A space, a register and behind a comma a source.
-fn push_pair(out: &mut String, dst: Register, source: Source) -> Result<(), AllocError>
-    ensures { OnOk result (string_bytes out.new ≡ string_bytes out.old ++ (codes " " ++ register_text dst) ++ (codes ", " ++ source_text source)) }
+/// The third operand, behind which there is none.
+fn third_operand(insn: &Insn) -> Option<Operand>
+    ensures { option_to_list (option_map operand_text result) ≡ drop 2 (operand_texts insn.now) }
 {
-    push_first(out, dst)?;
-    out.push_str(", ")?;
-    push_source(out, source)
+    match *insn {
+        Insn::Branch { distance, .. } => Some(Operand::Distance(i32::from(distance))),
+        _ => None,
+    }
+}
+
+/// An operand, where there is one, behind what stands before it.
+fn push_operand(out: &mut String, before: &str, operand: Option<Operand>) -> Result<(), AllocError>
+    ensures { OnOk result (string_bytes out.new ≡ string_bytes out.old ++ text_behind before.now (option_map operand_text operand)) }
+{
+    let Some(operand) = operand else {
+        return Ok(());
+    };
+    out.push_str(before)?;
+    match operand {
+        Operand::Source(source) => push_source(out, source),
+        Operand::Wide(value) => push_wide(out, value),
+        Operand::Memory(base, offset) => push_memory(out, base, offset),
+        Operand::Distance(distance) => push_signed(out, distance),
+    }
 }
 
 fn push_register(out: &mut String, register: Register) -> Result<(), AllocError>
