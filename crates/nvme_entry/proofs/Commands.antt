@@ -8,7 +8,8 @@ use Rattle.zone_state.specs.declared.action.Action.TheVariants as action
 use Rattle.zone_state.specs.declared.status.TheConstants.Status.{INVALID_FIELD_IN_COMMAND}
 use Rattle.zone_state.specs.Checks.{unless_failed, demand, first_failed, or_else}
 use Rattle.nvme_entry.specs.Encoding.{HasFields}
-use Rattle.nvme_entry.specs.Entry.{action_of, asked_blocks, decoded, destination_lba, dword, dwords_of, is_partial, receive_action, run_slot, selects_all, slot_number, starting_lba}
+use Rattle.nvme_entry.specs.Entry.{action_of, asked_blocks, decoded, destination_lba, dwords_of, is_partial, receive_action, run_slot, selects_all, slot_number, starting_lba}
+use Rattle.nvme_entry.specs.Fields.{dword}
 use Rattle.nvme_entry.specs.Filter.{filter_of}
 use Rattle.nvme_entry.specs.ProgramSlot.{program_slot_of}
 use Rattle.nvme_entry.specs.declared.command.Command.TheVariants as command

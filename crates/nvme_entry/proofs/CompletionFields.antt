@@ -8,7 +8,8 @@ use Rattle.zone_state.specs.declared.status.StatusType.TheVariants.{Generic, Com
 use Rattle.zone_state.specs.Status.{type_number, type_of}
 use Rattle.nvme_entry.specs.declared.completion.Completion.{Completion}
 use Rattle.nvme_entry.specs.Completion.{completion_bytes, status_dword}
-use Rattle.nvme_entry.specs.CompletionFields.{CompletionsTell, AreFields, completion_in, dword_in}
+use Rattle.nvme_entry.specs.Fields.{dword}
+use Rattle.nvme_entry.specs.CompletionFields.{CompletionsTell, AreFields, completion_in}
 
 again : (n : ℕ) (rest : List ℕ) → n < 2 ^ 32 → little_number 4 (little_bytes 4 n ++ rest) ≡ n
 again n rest h = little_number-reads_back 4 n rest (omega arith)
@@ -23,8 +24,8 @@ completions_tell c fields =
     let bytes = completion_bytes c in
     let kind = three_bits c.status.kind in
     let small : status_dword c.cid c.status < 2 ^ 32 = omega (arith, fields.cid, fields.code, kind) in
-    let second : dword_in bytes 2 ≡ c.queue * 2 ^ 16 = again (c.queue * 2 ^ 16) (drop 12 bytes) (omega (arith, fields.queue)) in
-    let third : dword_in bytes 3 ≡ status_dword c.cid c.status = again (status_dword c.cid c.status) (drop 16 bytes) small in
+    let second : dword bytes 2 ≡ c.queue * 2 ^ 16 = again (c.queue * 2 ^ 16) (drop 12 bytes) (omega (arith, fields.queue)) in
+    let third : dword bytes 3 ≡ status_dword c.cid c.status = again (status_dword c.cid c.status) (drop 16 bytes) small in
     record {
       size = refl;
       dw0 = again c.dw0 (drop 4 bytes) fields.dw0;
@@ -47,7 +48,7 @@ type_told VendorSpecific = refl
 pub completions_read_back : (c : Completion) → AreFields c → completion_in (completion_bytes c) ≡ Some c
 completions_read_back c fields =
     let told = completions_tell c fields in
-    let kind : type_of (dword_in (completion_bytes c) 3 / 2 ^ 25 % 2 ^ 3) ≡ Some c.status.kind = ap type_of told.kind ∙ type_told c.status.kind in
+    let kind : type_of (dword (completion_bytes c) 3 / 2 ^ 25 % 2 ^ 3) ≡ Some c.status.kind = ap type_of told.kind ∙ type_told c.status.kind in
     rw (kind, told.dw0, told.dw1, told.queue, told.cid, told.code) refl
 
 pub some_is_one : {A : Type 0} (a b : A) → Some a ≡ Some b → a ≡ b

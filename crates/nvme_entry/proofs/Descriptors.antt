@@ -1,33 +1,19 @@
 -- The bytes of a zone's descriptor tell its fields.
-use Rattle.std.proofs.Common.{◌≡◌, ℕ, ◌+◌, ◌*◌, ◌/◌, ◌%◌, ◌^◌, ◌<◌, List, ◌∷◌, ◌++◌, drop, replicate, refl, sym, ap, ◌∙◌, arith, Bool, true, false, cond, nat_eq, Option, Some, None}
+use Rattle.std.proofs.Common.{◌≡◌, ℕ, ◌+◌, ◌/◌, ◌%◌, ◌^◌, ◌<◌, List, ◌++◌, drop, refl, sym, ap, ◌∙◌, arith, Bool, true, false, cond, nat_eq, Option, Some, None}
 use lib.Pointwise.{pointwise, bytes_decides}
 use Rattle.byteorder.specs.Endian.{little_bytes, little_number}
 use Rattle.byteorder.specs.Numbers.{little_number-reads_back}
-use Rattle.zone_state.specs.State.{code_of, state_of}
+use Rattle.zone_state.specs.State.{state_of}
 use Rattle.zone_state.specs.Zone.{CountedZone}
 use Rattle.zone_state.specs.declared.state.ZoneState.{ZoneState}
 use Rattle.zone_state.specs.declared.state.ZoneState.TheVariants.{Empty, ImplicitlyOpened, ExplicitlyOpened, Closed, ReadOnly, Full, Offline}
-use Rattle.nvme_entry.specs.Report.{descriptor, has_write_pointer}
+use Rattle.nvme_entry.specs.Report.{descriptor}
 use Rattle.nvme_entry.specs.declared.descriptor.ZoneDescriptor.{ZoneDescriptor}
-use Rattle.nvme_entry.specs.Descriptor.{described, descriptor_bytes, descriptor_in, first_word, word_in}
+use Rattle.nvme_entry.specs.Descriptor.{has_write_pointer, described, descriptor_bytes, descriptor_in, first_word, word_in}
 use Rattle.nvme_entry.proofs.CompletionFields.{false_is_not_true, some_is_one}
 
 again : (n : ℕ) (rest : List ℕ) → n < 2 ^ 64 → little_number 8 (little_bytes 8 n ++ rest) ≡ n
 again n rest h = little_number-reads_back 8 n rest (omega arith)
-
-front-is : (state : ZoneState) → little_bytes 8 (first_word state) ≡ 0x02 ∷ (code_of state * 2 ^ 4) ∷ replicate 6 0
-front-is Empty = refl
-front-is ImplicitlyOpened = refl
-front-is ExplicitlyOpened = refl
-front-is Closed = refl
-front-is ReadOnly = refl
-front-is Full = refl
-front-is Offline = refl
-
--- a zone's descriptor, by its words
-descriptor-is_words : (zone : CountedZone) (lowest : ℕ) → descriptor zone lowest ≡ descriptor_bytes (described zone lowest)
-unfolding descriptor
-descriptor-is_words zone lowest = ap (λ (front : List ℕ). front ++ drop 8 (descriptor_bytes (described zone lowest))) (sym (front-is zone.state))
 
 state_told : (state : ZoneState) → state_of (first_word state / 2 ^ 12 % 2 ^ 4) ≡ Some state
 state_told Empty = refl
@@ -64,9 +50,9 @@ pointer_if false n h = omega arith
 
 -- the fields read from the bytes of a zone's descriptor are the zone's
 zone_read_back : (zone : CountedZone) (lowest : ℕ) → zone.capacity < 2 ^ 64 → lowest + zone.written < 2 ^ 64 → descriptor_in (descriptor zone lowest) ≡ Some (described zone lowest)
+unfolding descriptor
 zone_read_back zone lowest capacity written =
-    ap descriptor_in (descriptor-is_words zone lowest)
-    ∙ read_back (described zone lowest) capacity (omega (arith, written)) (pointer_if (has_write_pointer zone.state) (lowest + zone.written) written)
+    read_back (described zone lowest) capacity (omega (arith, written)) (pointer_if (has_write_pointer zone.state) (lowest + zone.written) written)
 
 pub is_read_back : (bytes : List ℕ) (found : Option ZoneDescriptor) → found ≡ descriptor_in bytes → (zone : CountedZone) (lowest : ℕ) → zone.capacity < 2 ^ 64 → lowest + zone.written < 2 ^ 64
     → bytes ≡ descriptor zone lowest → found ≡ Some (described zone lowest)
@@ -75,7 +61,8 @@ is_read_back bytes found read zone lowest capacity written is = read ∙ ap desc
 -- where the descriptor with the fields that bytes tell has other bytes, no zone's descriptor has these
 pub no_other_is_read : (bytes again : List ℕ) (read : ZoneDescriptor) → Some read ≡ descriptor_in bytes → again ≡ descriptor_bytes read → pointwise nat_eq again bytes ≡ false
     → (zone : CountedZone) (lowest : ℕ) → zone.capacity < 2 ^ 64 → lowest + zone.written < 2 ^ 64 → bytes ≡ descriptor zone lowest → None ≡ Some (described zone lowest)
+unfolding descriptor
 no_other_is_read bytes again read told spelled differ zone lowest capacity written is =
     let one : read ≡ described zone lowest = some_is_one read (described zone lowest) (is_read_back bytes (Some read) told zone lowest capacity written is) in
-    let equal : again ≡ bytes = spelled ∙ ap descriptor_bytes one ∙ sym (descriptor-is_words zone lowest) ∙ sym is in
+    let equal : again ≡ bytes = spelled ∙ ap descriptor_bytes one ∙ sym is in
     absurd (false_is_not_true (sym differ ∙ (bytes_decides again bytes).1 equal))

@@ -1,27 +1,23 @@
 -- What the bytes of a completion queue entry tell a host.
-use Rattle.std.specs.Prelude.{ℕ, ◌≡◌, ◌<◌, ◌*◌, ◌/◌, ◌%◌, ◌^◌, List, length, drop, Option}
+use Rattle.std.specs.Prelude.{ℕ, ◌≡◌, ◌<◌, ◌/◌, ◌%◌, ◌^◌, List, length, Option}
 use Rattle.std.specs.Option.{option_map}
-use Rattle.byteorder.specs.Endian.{little_number}
 use Rattle.zone_state.specs.Status.{type_number, type_of}
 use Rattle.zone_state.specs.declared.status.StatusType.{StatusType}
 use Rattle.nvme_entry.specs.Completion.{completion_bytes}
+use Rattle.nvme_entry.specs.Fields.{dword}
 use Rattle.nvme_entry.specs.declared.completion.Completion.{Completion}
-
--- the dword with this number
-abbrev pub dword_in : List ℕ → ℕ → ℕ
-dword_in bytes number = little_number 4 (drop (4 * number) bytes)
 
 -- bytes tell the fields of a completion: in Dword 2 the queue identifier stands in bits 31:16; in Dword 3 the
 -- command identifier in bits 15:0, the status code in bits 24:17 and its type in bits 27:25 (NVMe Base 2.0,
 -- figures 90 to 92)
 pub record TellCompletion (bytes : List ℕ) (c : Completion) : Type 0 where
   pub size : length bytes ≡ 16
-  pub dw0 : dword_in bytes 0 ≡ c.dw0
-  pub dw1 : dword_in bytes 1 ≡ c.dw1
-  pub queue : dword_in bytes 2 / 2 ^ 16 ≡ c.queue
-  pub cid : dword_in bytes 3 % 2 ^ 16 ≡ c.cid
-  pub code : dword_in bytes 3 / 2 ^ 17 % 2 ^ 8 ≡ c.status.code
-  pub kind : dword_in bytes 3 / 2 ^ 25 % 2 ^ 3 ≡ type_number c.status.kind
+  pub dw0 : dword bytes 0 ≡ c.dw0
+  pub dw1 : dword bytes 1 ≡ c.dw1
+  pub queue : dword bytes 2 / 2 ^ 16 ≡ c.queue
+  pub cid : dword bytes 3 % 2 ^ 16 ≡ c.cid
+  pub code : dword bytes 3 / 2 ^ 17 % 2 ^ 8 ≡ c.status.code
+  pub kind : dword bytes 3 / 2 ^ 25 % 2 ^ 3 ≡ type_number c.status.kind
 
 -- the fields have the numbers of their types
 pub record AreFields (c : Completion) : Type 0 where
@@ -39,10 +35,10 @@ CompletionsTell = (c : Completion) → AreFields c → TellCompletion (completio
 abbrev pub completion_in : List ℕ → Option Completion
 completion_in bytes = option_map
     (λ (kind : StatusType). record {
-      dw0 = dword_in bytes 0;
-      dw1 = dword_in bytes 1;
-      queue = dword_in bytes 2 / 2 ^ 16;
-      cid = dword_in bytes 3 % 2 ^ 16;
-      status = record { kind = kind; code = dword_in bytes 3 / 2 ^ 17 % 2 ^ 8 };
+      dw0 = dword bytes 0;
+      dw1 = dword bytes 1;
+      queue = dword bytes 2 / 2 ^ 16;
+      cid = dword bytes 3 % 2 ^ 16;
+      status = record { kind = kind; code = dword bytes 3 / 2 ^ 17 % 2 ^ 8 };
     })
-    (type_of (dword_in bytes 3 / 2 ^ 25 % 2 ^ 3))
+    (type_of (dword bytes 3 / 2 ^ 25 % 2 ^ 3))

@@ -1,16 +1,32 @@
--- Zone descriptors (ZNS 1.1, 3.4.2), as a host reads them.
-use Rattle.std.specs.Prelude.{ℕ, ◌+◌, ◌*◌, ◌/◌, ◌%◌, ◌^◌, List, [], ◌∷◌, drop, Option}
+-- Zone descriptors (ZNS 1.1, 3.4.2): what they tell of a zone, and their bytes.
+use Rattle.std.specs.Prelude.{ℕ, Bool, true, false, ◌+◌, ◌*◌, ◌/◌, ◌%◌, ◌^◌, List, [], ◌∷◌, Option, if◌then◌else◌}
 use Rattle.std.specs.Option.{option_map}
 use Rattle.std.specs.List.{flat_map}
-use Rattle.byteorder.specs.Endian.{little_bytes, little_number}
+use Rattle.byteorder.specs.Endian.{little_bytes}
 use Rattle.zone_state.specs.State.{code_of, state_of}
 use Rattle.zone_state.specs.Zone.{CountedZone}
 use Rattle.zone_state.specs.declared.state.ZoneState.{ZoneState}
-use Rattle.nvme_entry.specs.Report.{pointer_told}
+use Rattle.zone_state.specs.declared.state.ZoneState.TheVariants.{ReadOnly, Full, Offline}
+use Rattle.nvme_entry.specs.Fields.{field}
 use Rattle.nvme_entry.specs.declared.descriptor.ZoneDescriptor.{ZoneDescriptor}
 
+-- can the zones of the state be written at a write pointer?
+abbrev pub has_write_pointer : ZoneState → Bool
+has_write_pointer ReadOnly = false
+has_write_pointer Full = false
+has_write_pointer Offline = false
+has_write_pointer _ = true
+
+-- the write pointer of a zone with this lowest address; all bits are set where it has none (profile)
+abbrev pub pointer_told : CountedZone → ℕ → ℕ
+pointer_told zone lowest = if has_write_pointer zone.state then lowest + zone.written else 0xFFFF_FFFF_FFFF_FFFF
+
+-- what is told of a zone with this lowest address
+abbrev pub described : CountedZone → ℕ → ZoneDescriptor
+described zone lowest = record { state = zone.state; capacity = zone.capacity; lowest = lowest; write_pointer = pointer_told zone lowest }
+
 -- the first 8 bytes as a number: the zone type Sequential Write Required in byte 0, the state in bits 7:4 of byte 1;
--- the attributes and the information on them are 0 (profile)
+-- the attributes and the information on them are 0 (profile), and the 4 bytes behind them reserved
 abbrev pub first_word : ZoneState → ℕ
 first_word state = 0x02 + code_of state * 2 ^ 12
 
@@ -18,13 +34,9 @@ first_word state = 0x02 + code_of state * 2 ^ 12
 abbrev pub descriptor_bytes : ZoneDescriptor → List ℕ
 descriptor_bytes d = flat_map (little_bytes 8) (first_word d.state ∷ d.capacity ∷ d.lowest ∷ d.write_pointer ∷ 0 ∷ 0 ∷ 0 ∷ 0 ∷ [])
 
--- what a report tells of a zone with this lowest address
-abbrev pub described : CountedZone → ℕ → ZoneDescriptor
-described zone lowest = record { state = zone.state; capacity = zone.capacity; lowest = lowest; write_pointer = pointer_told zone lowest }
-
 -- the 8 bytes with this number, as a number
 abbrev pub word_in : List ℕ → ℕ → ℕ
-word_in bytes number = little_number 8 (drop (8 * number) bytes)
+word_in bytes number = field bytes (8 * number) 8
 
 -- the descriptor with the fields that bytes tell, where they tell a state that there is
 abbrev pub descriptor_in : List ℕ → Option ZoneDescriptor

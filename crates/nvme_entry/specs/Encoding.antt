@@ -1,7 +1,8 @@
 -- What an entry made of a command has.
 use Rattle.std.specs.Prelude.{◌≡◌, ℕ, ◌/◌, ◌%◌, ◌^◌, List, slice_index}
 use Rattle.zone_state.specs.Checks.{unless_failed, first_failed}
-use Rattle.nvme_entry.specs.Entry.{command_of, decoded, dword, field, field_checks, identifier_of}
+use Rattle.nvme_entry.specs.Entry.{command_of, decoded, field_checks, identifier_of}
+use Rattle.nvme_entry.specs.Fields.{dword, field}
 use Rattle.nvme_entry.specs.declared.command.Opcode.{Opcode}
 use Rattle.nvme_entry.specs.declared.command.Command.{Command}
 use Rattle.nvme_entry.specs.declared.command.Command.TheVariants as command

@@ -1,6 +1,5 @@
 -- The fields of a submission queue entry and the command that they name.
-use Rattle.std.specs.Prelude.{ℕ, Bool, ◌+◌, ◌*◌, ◌%◌, ◌^◌, ◌==◌, nat_le, List, [], ◌∷◌, Option, Some, None, Result, if◌then◌else◌, is_some, unwrap_or, drop, slice_index}
-use Rattle.byteorder.specs.Endian.{little_number}
+use Rattle.std.specs.Prelude.{ℕ, Bool, ◌+◌, ◌*◌, ◌%◌, ◌^◌, ◌==◌, nat_le, List, [], ◌∷◌, Option, Some, None, Result, if◌then◌else◌, is_some, unwrap_or, slice_index}
 use Rattle.zone_state.specs.declared.action.Action.{Action}
 use Rattle.zone_state.specs.declared.action.Action.TheVariants as action
 use Rattle.zone_state.specs.declared.status.Status.{Status}
@@ -15,16 +14,9 @@ use Rattle.nvme_entry.specs.declared.command.RunCommand.{RunCommand}
 use Rattle.nvme_entry.specs.declared.command.StandardCommand.TheVariants.{Write, Read, Send, Receive, Append}
 use Rattle.nvme_entry.specs.declared.command.TheConstants.{MOST_TRANSFER}
 use Rattle.nvme_entry.specs.declared.filter.ZoneFilter.TheVariants as filter
+use Rattle.nvme_entry.specs.Fields.{field, dword}
 use Rattle.nvme_entry.specs.Filter.{filter_of}
 use Rattle.nvme_entry.specs.ProgramSlot.{program_slot_of}
-
--- the number that so many bytes from a byte on spell, the lowest first (NVMe Base 2.0, 1.8.2)
-abbrev pub field : List ℕ → ℕ → ℕ → ℕ
-field entry at bytes = little_number bytes (drop at entry)
-
--- one of the sixteen dwords of an entry, by its number (NVMe Base 2.0, 3.3.3.1)
-abbrev pub dword : List ℕ → ℕ → ℕ
-dword entry number = field entry (4 * number) 4
 
 -- Command Dword 0, bits 9:8: is the command part of a fused one? (NVMe Base 2.0, figure 86)
 abbrev pub fuse_of : List ℕ → ℕ

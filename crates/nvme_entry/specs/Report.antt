@@ -1,35 +1,15 @@
 -- The report of zones that Zone Management Receive gives (ZNS 1.1, 3.4.2).
-use Rattle.std.specs.Prelude.{ℕ, Bool, true, false, ◌+◌, ◌-◌, ◌*◌, ◌/◌, ◌^◌, List, ◌∷◌, ◌++◌, length, take, drop, filter, replicate, if◌then◌else◌}
+use Rattle.std.specs.Prelude.{ℕ, Bool, ◌-◌, ◌*◌, ◌/◌, List, ◌++◌, length, take, drop, filter, replicate, if◌then◌else◌}
 use Rattle.std.specs.List.{enumerate_from, flat_map}
 use Rattle.byteorder.specs.Endian.{little_bytes}
-use Rattle.zone_state.specs.State.{code_of}
 use Rattle.zone_state.specs.Zone.{CountedZone}
-use Rattle.zone_state.specs.declared.state.ZoneState.{ZoneState}
-use Rattle.zone_state.specs.declared.state.ZoneState.TheVariants.{ReadOnly, Full, Offline}
+use Rattle.nvme_entry.specs.Descriptor.{described, descriptor_bytes}
 use Rattle.nvme_entry.specs.Filter.{takes}
 use Rattle.nvme_entry.specs.declared.filter.ZoneFilter.{ZoneFilter}
 
--- can the zones of the state be written at a write pointer?
-abbrev pub has_write_pointer : ZoneState → Bool
-has_write_pointer ReadOnly = false
-has_write_pointer Full = false
-has_write_pointer Offline = false
-has_write_pointer _ = true
-
--- the write pointer of a zone with this lowest address; all bits are set where it has none (profile)
-abbrev pub pointer_told : CountedZone → ℕ → ℕ
-pointer_told zone lowest = if has_write_pointer zone.state then lowest + zone.written else 0xFFFF_FFFF_FFFF_FFFF
-
--- a Zone Descriptor, of 64 bytes: the zone type, which is Sequential Write Required; the zone state in
--- bits 7:4; the attributes and the information on them (both 0: profile), and 4 reserved bytes; the
--- capacity; the lowest address; the write pointer; 32 reserved bytes
+-- the Zone Descriptor of a zone with this lowest address, of 64 bytes
 unfoldable pub descriptor : CountedZone → ℕ → List ℕ
-descriptor zone lowest =
-    (0x02 ∷ (code_of zone.state * 2 ^ 4) ∷ replicate 6 0)
-    ++ little_bytes 8 zone.capacity
-    ++ little_bytes 8 lowest
-    ++ little_bytes 8 (pointer_told zone lowest)
-    ++ replicate 32 0
+descriptor zone lowest = descriptor_bytes (described zone lowest)
 
 -- the descriptor of a zone with its number, where each zone has so many addresses
 abbrev pub descriptor_at : ℕ → ℕ × CountedZone → List ℕ

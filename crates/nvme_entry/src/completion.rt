@@ -1,9 +1,10 @@
 //! Completion queue entries.
 
-ghost use Rattle.std.specs.Prelude.{◌≡◌, ◌<◌, ◌/◌, ◌%◌, ◌^◌, IfSome};
+ghost use Rattle.std.specs.Prelude.{◌≡◌, ◌/◌, ◌%◌, ◌^◌, IfSome};
 ghost use Rattle.nvme_entry.specs.Completion.{completion_bytes, status_dword};
-ghost use Rattle.nvme_entry.specs.CompletionFields.{AreFields, completion_in, dword_in};
+ghost use Rattle.nvme_entry.specs.CompletionFields.{AreFields, completion_in};
 
+use crate::dwords::dword;
 use byteorder::{ByteOrder, LittleEndian};
 use zone_state::{Status, StatusType};
 
@@ -66,14 +67,6 @@ fn fields(bytes: &[u8; 16]) -> Option<Completion>
             code: code_of(status),
         },
     })
-}
-
-/// The dword with this number.
-fn dword(bytes: &[u8; 16], number: usize) -> u32
-    requires { number < 4 }
-    ensures { result ≡ dword_in bytes.now number }
-{
-    LittleEndian::read_u32(&bytes[4 * number..])
 }
 
 fn high_half(dword: u32) -> u16

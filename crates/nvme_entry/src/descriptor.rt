@@ -1,13 +1,13 @@
-//! Reports of zones, as a host reads them.
+//! Zone descriptors, as a report has them and a host reads them.
 
-ghost use Rattle.std.specs.Prelude.{◌≡◌, ◌<◌, ◌+◌, ◌/◌, ◌%◌, ◌^◌, ℕ, IfSome};
+ghost use Rattle.std.specs.Prelude.{◌≡◌, ◌<◌, ◌≤◌, ◌+◌, ◌*◌, ◌/◌, ◌%◌, ◌^◌, ℕ, length, IfSome};
 ghost use Rattle.zone_state.specs.Zone.{CountedZone};
 ghost use Rattle.nvme_entry.specs.Report.{descriptor};
 ghost use Rattle.nvme_entry.specs.Laws.{number_in};
-ghost use Rattle.nvme_entry.specs.Descriptor.{first_word, descriptor_bytes, described, word_in, descriptor_in};
+ghost use Rattle.nvme_entry.specs.Descriptor.{first_word, pointer_told, descriptor_bytes, described, word_in, descriptor_in};
 
 use byteorder::{ByteOrder, LittleEndian};
-use zone_state::ZoneState;
+use zone_state::{Zone, ZoneState};
 
 /// The zone descriptor of a report (ZNS 1.1, 3.4.2), of the zone type Sequential Write Required and without attributes.
 #[derive(Clone, Copy, Debug, PartialEq, Eq)]
@@ -23,6 +23,19 @@ pub struct ZoneDescriptor {
 }
 
 impl ZoneDescriptor {
+    /// What a report tells of a zone with this lowest logical block address.
+    pub fn of(zone: Zone, lowest: u64) -> ZoneDescriptor
+        requires { lowest + 2 ^ 32 ≤ 2 ^ 64 }
+        ensures { result ≡ described zone lowest }
+    {
+        ZoneDescriptor {
+            state: zone.state(),
+            capacity: u64::from(zone.capacity()),
+            lowest,
+            write_pointer: write_pointer(zone, lowest),
+        }
+    }
+
     /// The descriptor that 64 bytes spell. `None` where no zone's descriptor has them.
     pub fn decode(bytes: &[u8; 64]) -> Option<ZoneDescriptor>
         ensures spelled { IfSome result (λ found. bytes.now ≡ descriptor_bytes found) }
@@ -37,7 +50,7 @@ impl ZoneDescriptor {
     }
 
     /// The 64 bytes of the descriptor.
-    fn encode(&self) -> [u8; 64]
+    pub fn encode(&self) -> [u8; 64]
         ensures { result ≡ descriptor_bytes self.now }
     {
         let mut bytes = [0; 64];
@@ -64,6 +77,17 @@ pub fn zones_told(header: &[u8; 64]) -> u64
     ensures { result ≡ number_in header.now }
 {
     LittleEndian::read_u64(header)
+}
+
+/// The write pointer of a zone with this lowest address, where it has one.
+fn write_pointer(zone: Zone, lowest: u64) -> u64
+    requires { lowest + 2 ^ 32 ≤ 2 ^ 64 }
+    ensures { result ≡ pointer_told zone lowest }
+{
+    match zone.state() {
+        ZoneState::ReadOnly | ZoneState::Full | ZoneState::Offline => u64::MAX,
+        _ => lowest + u64::from(zone.written()),
+    }
 }
 
 /// The first 8 bytes of the descriptor of a zone in this state.

@@ -2,12 +2,13 @@
 
 ghost use Rattle.std.specs.Prelude.{◌≡◌, ◌+◌, ◌*◌, ◌^◌, ◌<◌};
 ghost use Rattle.zone_state.specs.Checks.{unless_failed, first_failed};
-ghost use Rattle.nvme_entry.specs.Entry.{decoded, command_of, field_checks, action_of, identifier_of, starting_lba, asked_blocks, dword, fuse_of, namespace_of};
+ghost use Rattle.nvme_entry.specs.Entry.{decoded, command_of, field_checks, action_of, identifier_of, starting_lba, asked_blocks, fuse_of, namespace_of};
 
 use crate::command::{
     BlockCount, Command, DwordCount, LoadCommand, MOST_TRANSFER, Opcode, RunCommand,
     StandardCommand,
 };
+use crate::dwords::dword;
 use crate::filter::ZoneFilter;
 use crate::program_slot::ProgramSlot;
 use byteorder::{ByteOrder, LittleEndian};
@@ -192,14 +193,6 @@ fn action(code: u8) -> Option<Action>
         0x05 => Some(Action::Offline),
         _ => None,
     }
-}
-
-/// The dword with this number.
-fn dword(entry: &[u8; 64], number: usize) -> u32
-    requires { number < 16 }
-    ensures { result ≡ dword entry.now number }
-{
-    LittleEndian::read_u32(&entry[4 * number..])
 }
 
 /// The number of two dwords.

@@ -5,6 +5,7 @@
 mod command;
 mod completion;
 mod descriptor;
+mod dwords;
 mod encoding;
 mod entry;
 mod filter;

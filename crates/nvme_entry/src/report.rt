@@ -1,23 +1,19 @@
 //! The report of zones that Zone Management Receive gives.
 
 ghost use Rattle.std.specs.Prelude.{◌≡◌, ◌≤◌, ◌<◌, ◌+◌, ◌-◌, ◌*◌, ◌^◌, ◌++◌, length, take, drop, min, if◌then◌else◌};
-ghost use Rattle.std.specs.List.{enumerate_from, flat_map};
-ghost use Rattle.byteorder.specs.Endian.{little_bytes};
-ghost use Rattle.zone_state.specs.State.{code_of};
-ghost use Rattle.nvme_entry.specs.Report.{report, listed, taken, report_header, descriptor, pointer_told};
+ghost use Rattle.std.specs.List.{enumerate_from};
+ghost use Rattle.nvme_entry.specs.Report.{report, listed, taken, report_header, descriptor};
 
+use crate::descriptor::ZoneDescriptor;
 use crate::filter::ZoneFilter;
 use byteorder::{ByteOrder, LittleEndian};
-use zone_state::{Zone, ZoneState};
+use zone_state::Zone;
 
 /// The bytes of the header (ZNS 1.1, 3.4.2).
 const HEADER_BYTES: usize = 64;
 
 /// The bytes of a zone descriptor (ZNS 1.1, 3.4.2).
 const DESCRIPTOR_BYTES: usize = 64;
-
-/// The zone type Sequential Write Required (ZNS 1.1, 3.4.2).
-const SEQUENTIAL_WRITE_REQUIRED: u8 = 0x02;
 
 /// A report of zones (ZNS 1.1, 3.4.2), to be written where it is wanted.
 #[derive(Clone, Copy, Debug)]
@@ -155,40 +151,5 @@ fn write_descriptor(output: &mut [u8], zone: Zone, lowest: u64)
     requires lowest { lowest + 2 ^ 32 ≤ 2 ^ 64 }
     ensures { output.new ≡ descriptor zone lowest ++ drop 64 output.old }
 {
-    let pointer = write_pointer(zone, lowest);
-    let state = state_byte(zone.state());
-    put_front(
-        output,
-        &[SEQUENTIAL_WRITE_REQUIRED, state, 0, 0, 0, 0, 0, 0],
-    );
-    write_words(
-        &mut output[8..],
-        &[u64::from(zone.capacity()), lowest, pointer, 0, 0, 0, 0],
-    );
-}
-
-/// The byte of a descriptor with the zone's state.
-fn state_byte(state: ZoneState) -> u8
-    ensures { result ≡ code_of state * 2 ^ 4 }
-{
-    16 * state.code()
-}
-
-/// The write pointer of a zone with this lowest address, where it has one.
-fn write_pointer(zone: Zone, lowest: u64) -> u64
-    requires { lowest + 2 ^ 32 ≤ 2 ^ 64 }
-    ensures { result ≡ pointer_told zone lowest }
-{
-    match zone.state() {
-        ZoneState::ReadOnly | ZoneState::Full | ZoneState::Offline => u64::MAX,
-        _ => lowest + u64::from(zone.written()),
-    }
-}
-
-/// Puts seven words at the front.
-fn write_words(output: &mut [u8], words: &[u64; 7])
-    requires { 56 ≤ length output.old }
-    ensures { output.new ≡ flat_map (little_bytes 8) words.now ++ drop 56 output.old }
-{
-    LittleEndian::write_u64_into(words, &mut output[..56]);
+    put_front(output, &ZoneDescriptor::of(zone, lowest).encode());
 }

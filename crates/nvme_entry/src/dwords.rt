@@ -1,0 +1,14 @@
+//! Dwords of entries.
+
+ghost use Rattle.std.specs.Prelude.{◌≡◌, ◌≤◌, ◌+◌, ◌*◌, length};
+ghost use Rattle.nvme_entry.specs.Fields.{dword};
+
+use byteorder::{ByteOrder, LittleEndian};
+
+/// The dword with this number (NVMe Base 2.0, 3.3.3.1).
+pub(crate) fn dword(entry: &[u8], number: usize) -> u32
+    requires { 4 * number + 4 ≤ length entry.now }
+    ensures { result ≡ dword entry.now number }
+{
+    LittleEndian::read_u32(&entry[4 * number..])
+}
