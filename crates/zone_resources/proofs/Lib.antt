@@ -1,4 +1,5 @@
 mod AdmissionLemmas
 mod CountLemmas
+mod HoldLemmas
 mod LimitLemmas
 pub mod Proved

@@ -1,8 +1,10 @@
 -- The laws of this crate, proved: all that the proofs of other crates cite of it.
 use Rattle.zone_resources.specs.Admission.{AdmissionKeepsLimits, ClosesTheLowest, IdleHoldsNoMore, ReleaseKeepsLimits}
 use Rattle.zone_resources.specs.Counts.{CountsAreFew, CountsFollowOne}
+use Rattle.zone_resources.specs.Holds.{HoldsRefuse}
 use Rattle.zone_resources.proofs.AdmissionLemmas as admitted
 use Rattle.zone_resources.proofs.CountLemmas as counted
+use Rattle.zone_resources.proofs.HoldLemmas as held
 use Rattle.zone_resources.proofs.LimitLemmas as limited
 
 pub counts_follow_one : CountsFollowOne
@@ -22,3 +24,6 @@ release_keeps_limits = limited.release_keeps_limits
 
 pub idle_holds_no_more : IdleHoldsNoMore
 idle_holds_no_more = limited.idle_holds_no_more
+
+pub holds_refuse : HoldsRefuse
+holds_refuse = held.holds_refuse

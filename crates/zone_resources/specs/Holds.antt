@@ -1,5 +1,5 @@
 -- The zones that active runs use, and what is refused there (profile).
-use Rattle.std.specs.Prelude.{ℕ, Bool, true, false, Option, Some, None, ◌==◌, ◌||◌, ◌&&◌, replicate}
+use Rattle.std.specs.Prelude.{ℕ, Bool, true, false, Option, Some, None, ◌≡◌, ◌==◌, ◌||◌, ◌&&◌, replicate}
 use Rattle.std.specs.List.{list_any}
 use Rattle.zone_resources.specs.declared.holds.Holds.{Holds}
 use Rattle.zone_resources.specs.declared.holds.TheConstants.{RUNS}
@@ -33,3 +33,12 @@ refuses holds action zone = is_destination holds zone || (forgets action && is_s
 -- the holds of no run
 abbrev pub no_holds : Holds
 no_holds = record { sources = replicate RUNS None; destinations = replicate RUNS None }
+
+-- a zone that a run appends to is held against every action, one that a run reads from against those that
+-- forget its blocks, and one that no run uses against none
+pub record HoldsRefuse : Type 0 where
+  pub destination : (holds : Holds) (a : Action) (zone : ℕ) → is_destination holds zone ≡ true → refuses holds a zone ≡ true
+  pub source : (holds : Holds) (zone : ℕ) → is_source holds zone ≡ true
+      → (refuses holds action.Reset zone ≡ true) × (refuses holds action.Offline zone ≡ true)
+  pub free : (holds : Holds) (a : Action) (zone : ℕ) → is_held holds zone ≡ false → refuses holds a zone ≡ false
+  pub none : (zone : ℕ) → is_held no_holds zone ≡ false

@@ -3,6 +3,7 @@
 
 ghost use Rattle.zone_resources.specs.Admission.{AdmissionKeepsLimits, ClosesTheLowest, IdleHoldsNoMore, ReleaseKeepsLimits};
 ghost use Rattle.zone_resources.specs.Counts.{CountsAreFew, CountsFollowOne};
+ghost use Rattle.zone_resources.specs.Holds.{HoldsRefuse};
 
 /// Where one zone changes, the counts lose what it was and gain what it is.
 pub fn counts_follow_one()
@@ -29,4 +30,9 @@ pub fn admission_keeps_limits()
 pub fn release_keeps_limits()
     ensures limits { ReleaseKeepsLimits }
     ensures idle { IdleHoldsNoMore }
+{}
+
+/// A destination of a run refuses every action, a source Reset and Offline, and a zone that no run uses none.
+pub fn holds_refuse()
+    ensures { HoldsRefuse }
 {}
