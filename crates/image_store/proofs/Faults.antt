@@ -4,7 +4,7 @@ use Rattle.std.specs.Option.{ok_or, option_map}
 use Rattle.std.specs.Prelude.{◌==◌, ◌&&◌, nat_le}
 use Rattle.zone_state.specs.declared.state.ZoneState.{ZoneState}
 use Rattle.zone_state.specs.State.{state_of}
-use Rattle.zone_state.specs.Zone.{CountedZone}
+use Rattle.zone_state.specs.Zone.{CountedZone, fits_state}
 use Rattle.zone_resources.specs.declared.admission.Limits.{Limits}
 use Rattle.zone_resources.specs.Counts.{open_count, active_count}
 use Rattle.image_store.specs.declared.fault.LoadFault.{LoadFault}
@@ -19,7 +19,7 @@ use Rattle.image_store.specs.declared.version.Version.{Version}
 use Rattle.zone_state.specs.Checks.{demand, first_failed, unless_failed}
 use Rattle.image_store.specs.Geometry.{Shape, shape_checks}
 use Rattle.image_store.specs.Loading.{Fails, CountsFault, CountsLoad, IsNoStream, NoStreamFails}
-use Rattle.image_store.specs.Reading.{◌>>=◌, are_zeros, number_at, numbers_fault, numbers_in, shape_told, version_in, version_kept, zeros_kept, total_told, header_of, header_told, allows, zone_told, zone_in, total_kept, limits_kept}
+use Rattle.image_store.specs.Reading.{◌>>=◌, are_zeros, number_at, numbers_fault, numbers_in, shape_told, version_in, version_kept, zeros_kept, total_told, header_of, header_told, zone_told, zone_in, total_kept, limits_kept}
 use Rattle.image_store.specs.Text.{written_blocks}
 use Rattle.image_store.specs.Version.{has_block, numbers}
 use Rattle.image_store.proofs.ReadingCalls.{bind_err}
@@ -111,7 +111,7 @@ allowed_fault false zone first z fault e = subst IsOfText (is_this {X = CountedZ
 told_fault : (zone code : ℕ) (told : Option ZoneState) (written capacity : ℕ) (fault : LoadFault) → zone_told zone code told written capacity ≡ Err fault → IsOfText fault
 told_fault zone code None written capacity fault e = subst IsOfText (is_this {X = CountedZone} (BadZone zone (State code)) fault e) tt
 told_fault zone code (Some state) written capacity fault e =
-    allowed_fault (allows state written capacity) zone (Blocks state written capacity) (record { state = state; written = written; capacity = capacity }) fault e
+    allowed_fault (fits_state state written capacity) zone (Blocks state written capacity) (record { state = state; written = written; capacity = capacity }) fault e
 
 padding_fault : (test : Bool) (zone code : ℕ) (told : Option ZoneState) (written capacity : ℕ) (fault : LoadFault)
     → cond test (zone_told zone code told written capacity) (Err (BadZone zone Reserved)) ≡ Err fault → IsOfText fault

@@ -15,13 +15,13 @@ use Rattle.image_store.proofs.ZonesInSlots.{HasRoom, length-zones, zone-at, zone
 
 -- a zone's written blocks fit its capacity
 pub within_capacity : (state : ZoneState) (written capacity : ℕ) → IsZone state written capacity → written ≤ capacity
-within_capacity Empty written capacity h = omega arith
-within_capacity ImplicitlyOpened written capacity h = omega arith
-within_capacity ExplicitlyOpened written capacity h = omega arith
-within_capacity Closed written capacity h = omega arith
-within_capacity ReadOnly written capacity h = omega arith
-within_capacity Full written capacity h = omega arith
-within_capacity Offline written capacity h = omega arith
+within_capacity Empty written capacity h = grind (arith, nat_tests)
+within_capacity ImplicitlyOpened written capacity h = grind (arith, nat_tests)
+within_capacity ExplicitlyOpened written capacity h = grind (arith, nat_tests)
+within_capacity Closed written capacity h = grind (arith, nat_tests)
+within_capacity ReadOnly written capacity h = grind (arith, nat_tests)
+within_capacity Full written capacity h = grind (arith, nat_tests)
+within_capacity Offline written capacity h = grind (arith, nat_tests)
 
 pub within : (s : Shape) (zs : List CountedZone) (xs : List ℕ) (z : ℕ) → IsFlat s zs xs → z < length zs → (get_or zs z no_counted_zone).written ≤ s.capacity
 within s zs xs z flat inside = within_capacity (get_or zs z no_counted_zone).state (get_or zs z no_counted_zone).written s.capacity (flat.fits z inside)

@@ -1,12 +1,9 @@
 -- The limits, of an image's zones and of the namespace that it stands for.
-use Rattle.std.proofs.Common.{◌≡◌, ℕ, ◌<◌, false, List, length, get_or, set, sym, subst}
-use Rattle.std.proofs.lemmas.Option.{slice_get-get_or}
-use Rattle.zone_state.specs.State.{is_active}
+use Rattle.std.proofs.Common.{◌≡◌, ℕ, List, sym, subst}
 use Rattle.zone_state.specs.Zone.{CountedZone}
 use Rattle.zone_resources.specs.Admission.{IsWithin}
 use Rattle.zone_resources.specs.declared.admission.Limits.{Limits}
-use Rattle.zone_resources.proofs.Proved.{release_keeps_limits, idle_holds_no_more}
-use Rattle.image_store.specs.Flat.{no_counted_zone, namespace_of, IsFlat}
+use Rattle.image_store.specs.Flat.{namespace_of, IsFlat}
 use Rattle.image_store.specs.Geometry.{Shape}
 use Rattle.image_store.specs.Namespace.{ZonedNamespace, IsWithinLimits}
 use Rattle.image_store.proofs.ImageFields.{counted_zones}
@@ -20,10 +17,3 @@ pub limits_seen : (s : Shape) (zs : List CountedZone) (xs : List ℕ) (ns : Zone
 limits_seen s zs xs ns flat seen within =
     subst (λ (all : List CountedZone). IsWithin all s.limits) (counted_zones s.block s.capacity zs xs flat.capacities)
     (subst IsWithinLimits (sym seen) within)
-
--- one zone that comes into a state without resources
-pub idle_within : (zs : List CountedZone) (limits : Limits) (z : ℕ) (is : CountedZone)
-    → IsWithin zs limits → z < length zs → is_active is.state ≡ false → IsWithin (set zs z is) limits
-idle_within zs limits z is within inside idle =
-    let was = get_or zs z no_counted_zone in
-    release_keeps_limits zs limits z was is within (slice_get-get_or zs z no_counted_zone inside) (idle_holds_no_more is.state was.state idle)

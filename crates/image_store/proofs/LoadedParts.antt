@@ -6,7 +6,7 @@ use Rattle.std.proofs.lemmas.Bool.{leb-true, ltb-true, eqb-true, and_parts}
 use Rattle.zone_state.specs.declared.state.ZoneState.{ZoneState}
 use Rattle.zone_state.specs.declared.state.ZoneState.TheVariants.{Empty, ImplicitlyOpened, ExplicitlyOpened, Closed, ReadOnly, Full, Offline}
 use Rattle.zone_state.specs.State.{state_of}
-use Rattle.zone_state.specs.Zone.{CountedZone, IsZone}
+use Rattle.zone_state.specs.Zone.{CountedZone, IsZone, fits_state}
 use Rattle.image_store.specs.declared.fault.LoadFault.{LoadFault}
 use Rattle.image_store.specs.declared.fault.LoadFault.TheVariants as fault
 use Rattle.image_store.specs.declared.fault.RecordFault.TheVariants as record_fault
@@ -15,7 +15,7 @@ use Rattle.image_store.specs.Flat.{no_counted_zone}
 use Rattle.image_store.specs.Geometry.{Shape, IsShape}
 use Rattle.image_store.specs.Loading.{Fails, Gives, NoStreamFails, AreZones}
 use Rattle.image_store.specs.Namespace.{ZoneBlocks, ZonedNamespace}
-use Rattle.image_store.specs.Reading.{◌>>=◌, are_zeros, number_at, allows, bytes_in, header_told, header_in, zone_told, zone_in, zones_in, records_in, total_kept, limits_kept, blocks_in, end_in, namespace_with, namespace_in}
+use Rattle.image_store.specs.Reading.{◌>>=◌, are_zeros, number_at, bytes_in, header_told, header_in, zone_told, zone_in, zones_in, records_in, total_kept, limits_kept, blocks_in, end_in, namespace_with, namespace_in}
 use Rattle.image_store.proofs.ReadingCalls.{bind_ok, ok_is, chosen, passed, fails_then}
 use Rattle.image_store.proofs.Faults.{no_stream, fails_text, header_text_fault}
 use Rattle.image_store.proofs.FilledBuffers.{Split}
@@ -36,25 +36,13 @@ pub header_no_stream : (result : Result Header LoadFault) (front : List ℕ) →
 header_no_stream (Ok h) front e = tt
 header_no_stream (Err first) front e = no_stream first (header_text_fault front first (sym e))
 
--- the test of the state table says what the table does
-allows_zone : (state : ZoneState) (written capacity : ℕ) → 1 ≤ capacity → allows state written capacity ≡ true → IsZone state written capacity
-allows_zone Empty written capacity some h = (some, eqb-true written 0 h)
-allows_zone ImplicitlyOpened written capacity some h =
-    let p = and_parts (nat_le 1 written) (nat_lt written capacity) h in
-    (some, (leb-true 1 written p.0, ltb-true written capacity p.1))
-allows_zone ExplicitlyOpened written capacity some h = (some, ltb-true written capacity h)
-allows_zone Closed written capacity some h = (some, ltb-true written capacity h)
-allows_zone ReadOnly written capacity some h = (some, leb-true written capacity h)
-allows_zone Full written capacity some h = (some, leb-true written capacity h)
-allows_zone Offline written capacity some h = (some, eqb-true written 0 h)
-
 with_fits : (zone code : ℕ) (told : Option ZoneState) (written capacity : ℕ) (z : CountedZone) → 1 ≤ capacity → zone_told zone code told written capacity ≡ Ok z
     → (z.capacity ≡ capacity) × IsZone z.state z.written capacity
 with_fits zone code None written capacity z some e = absurd cc
 with_fits zone code (Some state) written capacity z some e =
     let made : CountedZone = record { state = state; written = written; capacity = capacity } in
-    let p = chosen (allows state written capacity) made z (fault.BadZone zone (record_fault.Blocks state written capacity)) e in
-    (sym (ap (λ (x : CountedZone). x.capacity) p.1), subst (λ (x : CountedZone). IsZone x.state x.written capacity) p.1 (allows_zone state written capacity some p.0))
+    let p = chosen (fits_state state written capacity) made z (fault.BadZone zone (record_fault.Blocks state written capacity)) e in
+    (sym (ap (λ (x : CountedZone). x.capacity) p.1), subst (λ (x : CountedZone). IsZone x.state x.written capacity) p.1 (some, p.0))
 
 zone_fits : (zone capacity : ℕ) (bytes : List ℕ) (z : CountedZone) → 1 ≤ capacity → zone_in zone capacity bytes ≡ Ok z → (z.capacity ≡ capacity) × IsZone z.state z.written capacity
 zone_fits zone capacity bytes z some e =

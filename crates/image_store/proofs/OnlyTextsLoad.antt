@@ -7,7 +7,7 @@ use Rattle.std.specs.List.{find}
 use Rattle.std.specs.Prelude.{◌==◌}
 use Rattle.zone_state.specs.declared.state.ZoneState.{ZoneState}
 use Rattle.zone_state.specs.State.{code_of, state_of, states}
-use Rattle.zone_state.specs.Zone.{CountedZone}
+use Rattle.zone_state.specs.Zone.{CountedZone, fits_state}
 use Rattle.byteorder.specs.Endian.{little_number}
 use Rattle.image_store.specs.declared.fault.LoadFault.TheVariants as fault
 use Rattle.image_store.specs.declared.fault.RecordFault.TheVariants as record_fault
@@ -18,7 +18,7 @@ use Rattle.image_store.specs.declared.version.Version.{Version}
 use Rattle.image_store.specs.declared.version.Version.TheVariants.{One, Two}
 use Rattle.image_store.specs.Geometry.{Shape, IsShape}
 use Rattle.image_store.specs.Namespace.{ZoneBlocks, ZonedNamespace, counted, shape}
-use Rattle.image_store.specs.Reading.{◌>>=◌, are_zeros, total_told, header_told, header_in, total_kept, allows, zone_told, zone_in, zones_in, records_in, limits_kept, blocks_in, end_in, namespace_with, namespace_in, bytes_in}
+use Rattle.image_store.specs.Reading.{◌>>=◌, are_zeros, total_told, header_told, header_in, total_kept, zone_told, zone_in, zones_in, records_in, limits_kept, blocks_in, end_in, namespace_with, namespace_in, bytes_in}
 use Rattle.image_store.specs.Text.{word, header, written_blocks, record_text, records_text, blocks_text, text_of}
 use Rattle.image_store.specs.Version.{Has}
 use Rattle.image_store.proofs.ReadingCalls.{bind_ok, ok_is, chosen, passed}
@@ -86,7 +86,7 @@ zone_told_only : (zone code : ℕ) (told : Option ZoneState) (written capacity :
 zone_told_only zone code None written capacity z e = absurd cc
 zone_told_only zone code (Some state) written capacity z e =
     let made : CountedZone = record { state = state; written = written; capacity = capacity } in
-    let same = (chosen (allows state written capacity) made z (fault.BadZone zone (record_fault.Blocks state written capacity)) e).1 in
+    let same = (chosen (fits_state state written capacity) made z (fault.BadZone zone (record_fault.Blocks state written capacity)) e).1 in
     (ap (λ (x : CountedZone). Some x.state) same, sym (ap (λ (x : CountedZone). x.written) same), sym (ap (λ (x : CountedZone). x.capacity) same))
 
 -- a record that is read is spelled so

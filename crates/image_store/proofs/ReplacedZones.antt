@@ -1,14 +1,16 @@
 -- One zone's record replaced.
 use Rattle.std.proofs.Common.{◌≡◌, ℕ, ◌+◌, ◌*◌, ◌<◌, ◌≤◌, zero, suc, Bool, true, false, nat_eq, if◌then◌else◌, List, [], ◌∷◌, length, get_or, set, drop, refl, ap, sym, subst, ◌∙◌, arith, Ok}
-use Rattle.std.proofs.lemmas.Bool.{eqb-false}
+use Rattle.std.proofs.lemmas.Bool.{eqb-false, le-leb}
+use Rattle.std.proofs.lemmas.Bool.Decides.{nat_tests}
 use Rattle.std.proofs.lemmas.List.{length-set}
 use Rattle.zone_state.specs.declared.state.ZoneState.{ZoneState}
 use Rattle.zone_state.specs.declared.state.ZoneState.TheVariants.{Empty, ImplicitlyOpened, ExplicitlyOpened, Closed, ReadOnly, Full, Offline}
-use Rattle.zone_state.specs.Zone.{CountedZone, IsZone, refusal, after_write, written_state}
-use Rattle.image_store.specs.Blocks.{block_count}
+use Rattle.zone_state.specs.State.{is_cleared}
+use Rattle.zone_state.specs.Zone.{CountedZone, IsZone, kept, refusal, after_write, written_state}
+use Rattle.image_store.specs.Blocks.{block_count, blocks_of}
 use Rattle.image_store.specs.Flat.{zone_seen, no_counted_zone, namespace_of, spliced, IsFlat}
 use Rattle.image_store.specs.Geometry.{Shape}
-use Rattle.image_store.specs.Namespace.{ZoneBlocks, ZonedNamespace, zone_at, with_zone, in_zone_state, cleared}
+use Rattle.image_store.specs.Namespace.{ZoneBlocks, ZonedNamespace, zone_at, with_zone, arrived, with_state}
 use Rattle.image_store.proofs.BlocksOfBytes.{length-blocks, length-spliced}
 use Rattle.image_store.proofs.ZonesInSlots.{zone-at, zones-set}
 use Rattle.image_store.proofs.ImageFields.{allowed_fits, write_fits}
@@ -19,30 +21,34 @@ zone_set s zs xs z r =
     ap (λ (all : List ZoneBlocks). let ns : ZonedNamespace = record { block = s.block; size = s.size; capacity = s.capacity; limits = s.limits; zones = all } in ns)
     (zones-set s.block s.capacity zs xs z r)
 
--- a record with another state alone changes the zone's state alone
-pub state_set : (s : Shape) (zs : List CountedZone) (xs : List ℕ) (z : ℕ) (to : ZoneState) → z < length zs
-    → namespace_of s (set zs z (record { state = to; written = (get_or zs z no_counted_zone).written; capacity = s.capacity })) xs ≡ in_zone_state (namespace_of s zs xs) z to
-state_set s zs xs z to inside =
-    zone_set s zs xs z (record { state = to; written = (get_or zs z no_counted_zone).written; capacity = s.capacity })
-    ∙ ap (λ (zone : ZoneBlocks). let other : ZoneBlocks = record { state = to; blocks = zone.blocks } in with_zone (namespace_of s zs xs) z other)
-    (sym (zone-at s.block s.capacity zs xs z inside))
+-- the blocks that a record counts which keeps all or none
+kept_seen : (cleared : Bool) (block written : ℕ) (bytes : List ℕ)
+    → blocks_of block (if cleared then 0 else written) bytes ≡ (if cleared then [] else blocks_of block written bytes)
+kept_seen true block written bytes = refl
+kept_seen false block written bytes = refl
 
--- a record that counts no blocks forgets them
-pub cleared_set : (s : Shape) (zs : List CountedZone) (xs : List ℕ) (z : ℕ) (to : ZoneState)
-    → namespace_of s (set zs z (record { state = to; written = 0; capacity = s.capacity })) xs ≡ cleared (namespace_of s zs xs) z to
-cleared_set s zs xs z to = zone_set s zs xs z (record { state = to; written = 0; capacity = s.capacity })
+-- a record of a state with the blocks that are kept there brings the zone into that state
+pub state_set : (s : Shape) (zs : List CountedZone) (xs : List ℕ) (z : ℕ) (to : ZoneState) → z < length zs
+    → namespace_of s (set zs z (record { state = to; written = kept to (get_or zs z no_counted_zone).written; capacity = s.capacity })) xs ≡ with_state (namespace_of s zs xs) z to
+state_set s zs xs z to inside =
+    let written = (get_or zs z no_counted_zone).written in
+    zone_set s zs xs z (record { state = to; written = kept to written; capacity = s.capacity })
+    ∙ ap (λ (blocks : List (List ℕ)). let zone : ZoneBlocks = record { state = to; blocks = blocks } in with_zone (namespace_of s zs xs) z zone)
+    (kept_seen (is_cleared to) s.block written (drop (z * (s.capacity * s.block)) xs))
+    ∙ ap (λ (zone : ZoneBlocks). with_zone (namespace_of s zs xs) z (arrived to zone))
+    (sym (zone-at s.block s.capacity zs xs z inside))
 
 -- a state after a write allows the blocks that are then written
 written_zone : (from : ZoneState) (written capacity : ℕ) (is_full : Bool) → 1 ≤ written → written ≤ capacity → nat_eq written capacity ≡ is_full
     → IsZone (if is_full then Full else written_state from) written capacity
-written_zone from written capacity true some fits same = (omega arith, fits)
-written_zone Empty written capacity false some fits other = let apart = eqb-false written capacity other in (omega arith, (some, omega arith))
-written_zone ImplicitlyOpened written capacity false some fits other = let apart = eqb-false written capacity other in (omega arith, (some, omega arith))
-written_zone ExplicitlyOpened written capacity false some fits other = let apart = eqb-false written capacity other in (omega arith, omega arith)
-written_zone Closed written capacity false some fits other = let apart = eqb-false written capacity other in (omega arith, (some, omega arith))
-written_zone ReadOnly written capacity false some fits other = let apart = eqb-false written capacity other in (omega arith, (some, omega arith))
-written_zone Full written capacity false some fits other = let apart = eqb-false written capacity other in (omega arith, (some, omega arith))
-written_zone Offline written capacity false some fits other = let apart = eqb-false written capacity other in (omega arith, (some, omega arith))
+written_zone from written capacity true some fits same = (omega arith, le-leb written capacity fits)
+written_zone Empty written capacity false some fits other = let apart = eqb-false written capacity other in (omega arith, grind (arith, nat_tests))
+written_zone ImplicitlyOpened written capacity false some fits other = let apart = eqb-false written capacity other in (omega arith, grind (arith, nat_tests))
+written_zone ExplicitlyOpened written capacity false some fits other = let apart = eqb-false written capacity other in (omega arith, grind (arith, nat_tests))
+written_zone Closed written capacity false some fits other = let apart = eqb-false written capacity other in (omega arith, grind (arith, nat_tests))
+written_zone ReadOnly written capacity false some fits other = let apart = eqb-false written capacity other in (omega arith, grind (arith, nat_tests))
+written_zone Full written capacity false some fits other = let apart = eqb-false written capacity other in (omega arith, grind (arith, nat_tests))
+written_zone Offline written capacity false some fits other = let apart = eqb-false written capacity other in (omega arith, grind (arith, nat_tests))
 
 pub after_write_zone : (z : CountedZone) (n : ℕ) → 1 ≤ n → refusal z z.written n ≡ Ok tt → IsZone (after_write z n).state (after_write z n).written z.capacity
 after_write_zone z n some allowed =
@@ -82,11 +88,11 @@ flat_append s zs xs z new flat inside some whole allowed =
     same
     (subst (λ (n : ℕ). IsZone is.state is.written n) same fits)
 
--- a state that allows the blocks of the namespace's zone allows those that the image counts
+-- a state that allows the blocks which the namespace's zone keeps there allows those that the image counts
 pub fits_seen : (s : Shape) (zs : List CountedZone) (xs : List ℕ) (z : ℕ) (ns : ZonedNamespace) (to : ZoneState) → namespace_of s zs xs ≡ ns → z < length zs
-    → IsZone to (length (zone_at ns z).blocks) ns.capacity → IsZone to (get_or zs z no_counted_zone).written s.capacity
+    → IsZone to (kept to (length (zone_at ns z).blocks)) ns.capacity → IsZone to (kept to (get_or zs z no_counted_zone).written) s.capacity
 fits_seen s zs xs z ns to seen inside h =
     let count = ap (λ (zone : ZoneBlocks). length zone.blocks) (zone-at s.block s.capacity zs xs z inside)
     ∙ length-blocks s.block (get_or zs z no_counted_zone).written (drop (z * (s.capacity * s.block)) xs) in
-    subst (λ (n : ℕ). IsZone to n s.capacity) count
-    (subst (λ (m : ZonedNamespace). IsZone to (length (zone_at m z).blocks) m.capacity) (sym seen) h)
+    subst (λ (n : ℕ). IsZone to (kept to n) s.capacity) count
+    (subst (λ (m : ZonedNamespace). IsZone to (kept to (length (zone_at m z).blocks)) m.capacity) (sym seen) h)

@@ -9,7 +9,7 @@ use Rattle.std.proofs.Math.Nat.{mul-le-mul, suc-mul}
 use Rattle.zone_state.specs.declared.state.ZoneState.{ZoneState}
 use Rattle.zone_state.specs.declared.state.ZoneState.TheVariants.{Empty, ImplicitlyOpened, ExplicitlyOpened, Closed, ReadOnly, Full, Offline}
 use Rattle.zone_state.specs.State.{code_of, state_of}
-use Rattle.zone_state.specs.Zone.{CountedZone, IsZone}
+use Rattle.zone_state.specs.Zone.{CountedZone, IsZone, fits_state}
 use Rattle.zone_resources.specs.Admission.{IsWithin}
 use Rattle.zone_resources.specs.Counts.{open_count, active_count}
 use Rattle.zone_resources.specs.declared.admission.Limits.{Limits}
@@ -24,23 +24,13 @@ use Rattle.image_store.specs.declared.version.Version.{Version}
 use Rattle.image_store.specs.declared.version.Version.TheVariants.{One, Two}
 use Rattle.image_store.specs.Geometry.{Shape, IsShape}
 use Rattle.image_store.specs.Namespace.{ZoneBlocks, ZonedNamespace, no_zone, counted, records, shape, IsNamespace}
-use Rattle.image_store.specs.Reading.{◌>>=◌, allows, zone_told, zone_in, zones_in, records_in, total_kept, limits_kept, blocks_in, namespace_in}
+use Rattle.image_store.specs.Reading.{◌>>=◌, zone_told, zone_in, zones_in, records_in, total_kept, limits_kept, blocks_in, namespace_in}
 use Rattle.image_store.specs.Text.{header, written_blocks, record_text, records_text, blocks_text, text, text_of}
 use Rattle.image_store.specs.Version.{Has}
 use Rattle.image_store.proofs.FilledBuffers.{Split, bytes_whole}
 use Rattle.image_store.proofs.Headers.{word_again, header_read, header_seen, total_in}
 use Rattle.image_store.proofs.ImageFields.{within_capacity}
 use Rattle.image_store.proofs.LoadedParts.{after_limits, past_header, past_records, past_total, past_limits, past_blocks, past_end}
-
--- the table of states as a test
-pub allows_true : (state : ZoneState) (written capacity : ℕ) → IsZone state written capacity → allows state written capacity ≡ true
-allows_true Empty written capacity h = rw h.1 refl
-allows_true ImplicitlyOpened written capacity h = rw (le-leb 1 written h.1.0, lt-ltb written capacity h.1.1) refl
-allows_true ExplicitlyOpened written capacity h = lt-ltb written capacity h.1
-allows_true Closed written capacity h = lt-ltb written capacity h.1
-allows_true ReadOnly written capacity h = le-leb written capacity h.1
-allows_true Full written capacity h = le-leb written capacity h.1
-allows_true Offline written capacity h = rw h.1 refl
 
 code_again : (state : ZoneState) → state_of (code_of state) ≡ Some state
 code_again Empty = refl
@@ -64,7 +54,7 @@ record_again zone capacity z can =
     let number = word_again z.written [] (omega arith) in
     ap (λ (n : ℕ). zone_told zone (code_of z.state) (state_of (code_of z.state)) n capacity) number
     ∙ (ap (λ state. zone_told zone (code_of z.state) state z.written capacity) (code_again z.state)
-    ∙ (ap (λ (test : Bool). let r : Result CountedZone LoadFault = cond test (Ok (record { state = z.state; written = z.written; capacity = capacity })) (Err (fault.BadZone zone (record_fault.Blocks z.state z.written capacity))) in r) (allows_true z.state z.written capacity can.fits)
+    ∙ (ap (λ (test : Bool). let r : Result CountedZone LoadFault = cond test (Ok (record { state = z.state; written = z.written; capacity = capacity })) (Err (fault.BadZone zone (record_fault.Blocks z.state z.written capacity))) in r) can.fits.1
     ∙ ap (λ (n : ℕ). let same : CountedZone = record { state = z.state; written = z.written; capacity = n } in let r : Result CountedZone LoadFault = Ok same in r) (sym can.same)))
 
 records_again : (zone capacity : ℕ) (zs : List CountedZone) → ((k : ℕ) → k < length zs → CanSpell capacity (get_or zs k no_counted_zone)) → zones_in zone capacity (length zs) (records_text zs) ≡ Ok zs

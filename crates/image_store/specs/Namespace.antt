@@ -1,9 +1,10 @@
 -- A zoned namespace: its zones, each with the blocks that are written in it.
-use Rattle.std.specs.Prelude.{ℕ, ◌≡◌, ◌<◌, ◌/◌, ◌%◌, ◌++◌, List, [], length, get_or, map, set, replicate}
+use Rattle.std.specs.Prelude.{ℕ, ◌≡◌, ◌<◌, ◌/◌, ◌%◌, ◌++◌, List, [], length, get_or, map, set, replicate, if◌then◌else◌}
 use Rattle.zone_resources.specs.Admission.{IsWithin}
 use Rattle.zone_resources.specs.declared.admission.Limits.{Limits}
 use Rattle.zone_state.specs.declared.state.ZoneState.{ZoneState}
 use Rattle.zone_state.specs.declared.state.ZoneState.TheVariants.{Empty, Offline}
+use Rattle.zone_state.specs.State.{is_cleared}
 use Rattle.zone_state.specs.Zone.{CountedZone, after_write, IsZone}
 use Rattle.image_store.specs.Blocks.{AreBytes, as_blocks}
 use Rattle.image_store.specs.Geometry.{Shape, IsShape}
@@ -56,13 +57,13 @@ grown capacity zone more = record {
 abbrev pub appended : ZonedNamespace → ℕ → List ℕ → ZonedNamespace
 appended ns z bytes = with_zone ns z (grown ns.capacity (zone_at ns z) (as_blocks ns.block bytes))
 
--- the namespace with a zone in another state, its blocks as they were
-abbrev pub in_zone_state : ZonedNamespace → ℕ → ZoneState → ZonedNamespace
-in_zone_state ns z to = with_zone ns z (record { state = to; blocks = (zone_at ns z).blocks })
+-- a zone that comes into a state, with the blocks that it keeps there
+abbrev pub arrived : ZoneState → ZoneBlocks → ZoneBlocks
+arrived to zone = record { state = to; blocks = if is_cleared to then [] else zone.blocks }
 
--- the namespace with a zone in another state, its blocks forgotten
-abbrev pub cleared : ZonedNamespace → ℕ → ZoneState → ZonedNamespace
-cleared ns z to = with_zone ns z (record { state = to; blocks = [] })
+-- the namespace with a zone come into a state
+abbrev pub with_state : ZonedNamespace → ℕ → ZoneState → ZonedNamespace
+with_state ns z to = with_zone ns z (arrived to (zone_at ns z))
 
 -- a namespace of which nothing is written
 abbrev pub all_empty : Shape → ZonedNamespace

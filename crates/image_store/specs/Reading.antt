@@ -1,13 +1,12 @@
 -- Reading the text of an image, of either version (profile): the namespace that it stands for, or its
 -- first fault from the left.
-use Rattle.std.specs.Prelude.{ℕ, zero, suc, Bool, ◌+◌, ◌*◌, ◌==◌, ◌&&◌, nat_le, nat_lt, List, [], ◌∷◌, length, get_or, take, drop, Option, Some, None, Result, Ok, Err, if◌then◌else◌}
+use Rattle.std.specs.Prelude.{ℕ, zero, suc, Bool, ◌+◌, ◌*◌, ◌==◌, ◌&&◌, nat_le, List, [], ◌∷◌, length, get_or, take, drop, Option, Some, None, Result, Ok, Err, if◌then◌else◌}
 use Rattle.std.specs.List.{find, list_all, starts_with}
 use Rattle.std.specs.Option.{ok_or, option_map}
 use Rattle.byteorder.specs.Endian.{little_number}
 use Rattle.zone_state.specs.declared.state.ZoneState.{ZoneState}
-use Rattle.zone_state.specs.declared.state.ZoneState.TheVariants.{Empty, ImplicitlyOpened, ExplicitlyOpened, Closed, ReadOnly, Full, Offline}
 use Rattle.zone_state.specs.State.{state_of}
-use Rattle.zone_state.specs.Zone.{CountedZone}
+use Rattle.zone_state.specs.Zone.{CountedZone, fits_state}
 use Rattle.zone_resources.specs.declared.admission.Limits.{Limits}
 use Rattle.zone_resources.specs.Counts.{open_count, active_count}
 use Rattle.image_store.specs.declared.fault.LoadFault.{LoadFault}
@@ -99,21 +98,10 @@ header_told bytes = ok_or (version_in bytes) fault.Magic >>= header_of bytes
 abbrev pub header_in : List ℕ → Result (Header × List ℕ) LoadFault
 header_in bytes = bytes_in 64 bytes >>= λ front. header_told front.0 >>= λ header. Ok (header, front.1)
 
--- may so many blocks be written in a zone of the state? (ZNS 1.1, Zone State Machine; that an
--- implicitly opened zone has some and an offline one none: profile)
-abbrev pub allows : ZoneState → ℕ → ℕ → Bool
-allows Empty written capacity = written == 0
-allows ImplicitlyOpened written capacity = nat_le 1 written && nat_lt written capacity
-allows ExplicitlyOpened written capacity = nat_lt written capacity
-allows Closed written capacity = nat_lt written capacity
-allows ReadOnly written capacity = nat_le written capacity
-allows Full written capacity = nat_le written capacity
-allows Offline written capacity = written == 0
-
 -- the zone of a number in a state, with so many blocks written
 abbrev pub zone_with : ℕ → ZoneState → ℕ → ℕ → Result CountedZone LoadFault
 zone_with zone state written capacity =
-    if allows state written capacity
+    if fits_state state written capacity
     then Ok (record { state = state; written = written; capacity = capacity })
     else Err (fault.BadZone zone (record_fault.Blocks state written capacity))
 

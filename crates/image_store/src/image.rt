@@ -2,14 +2,14 @@
 
 ghost use Rattle.std.specs.Prelude.{◌≡◌, ◌≤◌, ◌<◌, ◌+◌, ◌-◌, ◌*◌, ◌^◌, length, replicate, IfOk, IsOk, take, drop, Ok};
 ghost use Rattle.zone_resources.specs.Counts.{counts_of};
-ghost use Rattle.zone_state.specs.Zone.{refusal, IsZone};
+ghost use Rattle.zone_state.specs.Zone.{refusal, IsZone, kept};
 ghost use Rattle.image_store.specs.Geometry.{IsShape};
 ghost use Rattle.image_store.specs.Blocks.{block_count, bytes_of};
 ghost use Rattle.image_store.specs.Streams.{Takes, CountsFailure};
 ghost use Rattle.image_store.specs.Loading.{Gives, CountsLoad};
 ghost use Rattle.image_store.specs.Reading.{header_in, namespace_in};
 ghost use Rattle.image_store.specs.Text.{text};
-ghost use Rattle.image_store.specs.Namespace.{appended, in_zone_state, cleared, counted, records, zone_at, all_empty, shape, block_at, IsWithinLimits, IsWritten, IsNamespace};
+ghost use Rattle.image_store.specs.Namespace.{appended, with_state, counted, records, zone_at, all_empty, shape, block_at, IsWithinLimits, IsWritten, IsNamespace};
 
 use crate::bytes::are_bytes;
 use crate::fault::{LoadFault, SaveFault};
@@ -154,13 +154,14 @@ impl Image {
         self.blocks(place.zone, place.offset, 1)
     }
 
-    /// Puts a zone in another state, one that allows the zone's written blocks and with which the open
-    /// and active zones are within the limits. The blocks stay.
+    /// Puts a zone in another state, with the written blocks that it keeps there: none where it comes to be
+    /// Empty or Offline, and else all, which the state has to allow. With that state the open and active
+    /// zones have to be within the limits.
     pub fn set_state(&mut self, zone: u32, to: ZoneState)
         requires inside { zone < length self.old.zones }
-        requires fits { IsZone to (length (zone_at self.old zone).blocks) self.old.capacity }
-        requires allowed { IsWithinLimits (in_zone_state self.old zone to) }
-        ensures { self.new ≡ in_zone_state self.old zone to }
+        requires fits { IsZone to (kept to (length (zone_at self.old zone).blocks)) self.old.capacity }
+        requires allowed { IsWithinLimits (with_state self.old zone to) }
+        ensures { self.new ≡ with_state self.old zone to }
     {
         image_fields::set_state(
             self.geometry,
@@ -169,36 +170,6 @@ impl Image {
             &self.blocks,
             zone as usize,
             to,
-        );
-    }
-
-    /// Forgets the blocks of a zone, which is then Empty.
-    pub fn reset(&mut self, zone: u32)
-        requires { zone < length self.old.zones }
-        ensures { self.new ≡ cleared self.old zone ZoneState.Empty }
-    {
-        image_fields::clear(
-            self.geometry,
-            &mut self.zones,
-            &mut self.counts,
-            &self.blocks,
-            zone as usize,
-            ZoneState::Empty,
-        );
-    }
-
-    /// Forgets the blocks of a zone, which is then Offline.
-    pub fn forget(&mut self, zone: u32)
-        requires { zone < length self.old.zones }
-        ensures { self.new ≡ cleared self.old zone ZoneState.Offline }
-    {
-        image_fields::clear(
-            self.geometry,
-            &mut self.zones,
-            &mut self.counts,
-            &self.blocks,
-            zone as usize,
-            ZoneState::Offline,
         );
     }
 

@@ -1,12 +1,11 @@
 //! The work on the fields of an image, over slices: its methods only call these.
 
-ghost use Rattle.std.specs.Prelude.{◌≡◌, ◌≤◌, ◌<◌, ◌+◌, ◌*◌, ◌^◌, length, get_or, set, take, drop, Ok, false};
+ghost use Rattle.std.specs.Prelude.{◌≡◌, ◌≤◌, ◌<◌, ◌+◌, ◌*◌, ◌^◌, length, get_or, set, take, drop, Ok};
 ghost use Rattle.zone_resources.specs.Counts.{counts_of};
-ghost use Rattle.zone_state.specs.State.{is_active};
-ghost use Rattle.zone_state.specs.Zone.{refusal, IsZone};
+ghost use Rattle.zone_state.specs.Zone.{refusal, IsZone, kept};
 ghost use Rattle.image_store.specs.Blocks.{block_count, bytes_of};
 ghost use Rattle.image_store.specs.Flat.{IsFlat, IsImage, namespace_of, spliced, empty_counted_zone, no_counted_zone};
-ghost use Rattle.image_store.specs.Namespace.{appended, in_zone_state, cleared, zone_at, IsWithinLimits};
+ghost use Rattle.image_store.specs.Namespace.{appended, with_state, zone_at, IsWithinLimits};
 
 use crate::geometry::Geometry;
 use zone_resources::Counts;
@@ -48,7 +47,14 @@ fn replace(zones: &mut [Zone], counts: &mut Counts, zone: usize, is: Zone)
     zones[zone] = is;
 }
 
-/// Puts a zone in another state, its written blocks as they were.
+/// How many written blocks a zone keeps that comes into a state.
+fn kept(to: ZoneState, written: u32) -> u32
+    ensures { result ≡ kept to written }
+{
+    if to.is_cleared() { 0 } else { written }
+}
+
+/// Puts a zone in another state, with the written blocks that it keeps there.
 pub fn set_state(
     geometry: Geometry,
     zones: &mut [Zone],
@@ -59,33 +65,13 @@ pub fn set_state(
 )
     requires image { IsImage geometry zones.old counts.old blocks.now }
     requires inside { zone < length zones.old }
-    requires fits { IsZone to (get_or zones.old zone no_counted_zone).written geometry.capacity }
-    requires allowed { IsWithinLimits (in_zone_state (namespace_of geometry zones.old blocks.now) zone to) }
-    ensures state { namespace_of geometry zones.new blocks.now ≡ in_zone_state (namespace_of geometry zones.old blocks.now) zone to }
+    requires fits { IsZone to (kept to (get_or zones.old zone no_counted_zone).written) geometry.capacity }
+    requires allowed { IsWithinLimits (with_state (namespace_of geometry zones.old blocks.now) zone to) }
+    ensures state { namespace_of geometry zones.new blocks.now ≡ with_state (namespace_of geometry zones.old blocks.now) zone to }
     ensures image { IsImage geometry zones.new counts.new blocks.now }
 {
-    let written = zones[zone].written();
+    let written = kept(to, zones[zone].written());
     let is = Zone::new(to, written, geometry.capacity()).unwrap();
-    replace(zones, counts, zone, is);
-}
-
-/// Puts a zone in another state, one without resources, its written blocks forgotten.
-pub fn clear(
-    geometry: Geometry,
-    zones: &mut [Zone],
-    counts: &mut Counts,
-    blocks: &[u8],
-    zone: usize,
-    to: ZoneState,
-)
-    requires image { IsImage geometry zones.old counts.old blocks.now }
-    requires inside { zone < length zones.old }
-    requires fits { IsZone to 0 geometry.capacity }
-    requires idle { is_active to ≡ false }
-    ensures state { namespace_of geometry zones.new blocks.now ≡ cleared (namespace_of geometry zones.old blocks.now) zone to }
-    ensures image { IsImage geometry zones.new counts.new blocks.now }
-{
-    let is = Zone::new(to, 0, geometry.capacity()).unwrap();
     replace(zones, counts, zone, is);
 }
 

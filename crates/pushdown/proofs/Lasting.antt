@@ -2,7 +2,8 @@
 use Rattle.std.proofs.Common.{◌≡◌, ℕ, Bool, false, List, [], ◌∷◌, refl, ◌∙◌}
 use Rattle.word_domain.specs.Domain.{Operations}
 use Rattle.image_store.specs.Namespace.{ZonedNamespace, shape, zone_at}
-use Rattle.zns_commands.specs.Laws.{Step, after, is_cleared}
+use Rattle.zone_state.specs.State.{is_cleared}
+use Rattle.zns_commands.specs.Laws.{Step, after}
 use Rattle.zns_commands.proofs.Proved.{grows_on, steps_keep_shapes, steps_keep_zones, uncleared_is_readable}
 use Rattle.zns_commands.specs.Lasting.{Keeps}
 use Rattle.pushdown.specs.Events.{Occurrence, state_after}

@@ -1,6 +1,7 @@
 -- What was written is read back, whatever events happen in between.
 use Rattle.std.proofs.Common.{◌≡◌, ℕ, zero, suc, ◌+◌, ◌*◌, ◌^◌, ◌<◌, ◌≤◌, Bool, List, [], ◌∷◌, ◌++◌, length, get_or, take, drop, None, Result, refl, ap, sym, subst, ◌∙◌, arith, append_assoc, length-append}
 use Rattle.std.proofs.lemmas.Bool.{le-leb}
+use Rattle.std.proofs.lemmas.Bool.Decides.{nat_tests}
 use Rattle.std.proofs.lemmas.List.{append-nil, length-drop, length-take-le, take-append-drop}
 use Rattle.zone_state.specs.Zone.{IsZone}
 use Rattle.zone_state.specs.declared.state.ZoneState.{ZoneState}
@@ -14,6 +15,7 @@ use Rattle.nvme_entry.specs.declared.command.TheConstants.{MOST_TRANSFER}
 use Rattle.word_domain.specs.Domain.{Operations}
 use Rattle.image_store.specs.Blocks.{bytes_of}
 use Rattle.image_store.specs.Namespace.{ZoneBlocks, ZonedNamespace, no_zone, zone_at, IsNamespace}
+use Rattle.image_store.proofs.Proved.{written_is_within}
 use Rattle.zns_commands.specs.Address.{zone_number}
 use Rattle.zns_commands.specs.Answer.{Effect, success_effect}
 use Rattle.zns_commands.specs.Meaning.{meaning}
@@ -44,13 +46,13 @@ record HasSome (state : ZoneState) (written capacity : ℕ) : Type 0 where
   most : written ≤ capacity
 
 has_some : (state : ZoneState) (written capacity : ℕ) → IsZone state written capacity → 1 ≤ written → HasSome state written capacity
-has_some Empty written capacity is some = absurd (omega (arith, is.1, some))
-has_some ImplicitlyOpened written capacity is some = record { readable = refl; most = omega (arith, is.1.1) }
-has_some ExplicitlyOpened written capacity is some = record { readable = refl; most = omega (arith, is.1) }
-has_some Closed written capacity is some = record { readable = refl; most = omega (arith, is.1) }
-has_some ReadOnly written capacity is some = record { readable = refl; most = is.1 }
-has_some Full written capacity is some = record { readable = refl; most = is.1 }
-has_some Offline written capacity is some = absurd (omega (arith, is.1, some))
+has_some Empty written capacity is some = absurd (grind (arith, nat_tests, is.1, some))
+has_some ImplicitlyOpened written capacity is some = record { readable = refl; most = written_is_within ImplicitlyOpened written capacity is }
+has_some ExplicitlyOpened written capacity is some = record { readable = refl; most = written_is_within ExplicitlyOpened written capacity is }
+has_some Closed written capacity is some = record { readable = refl; most = written_is_within Closed written capacity is }
+has_some ReadOnly written capacity is some = record { readable = refl; most = written_is_within ReadOnly written capacity is }
+has_some Full written capacity is some = record { readable = refl; most = written_is_within Full written capacity is }
+has_some Offline written capacity is some = absurd (grind (arith, nat_tests, is.1, some))
 
 three : (front more behind : List (List ℕ)) → length (front ++ (more ++ behind)) ≡ length front + (length more + length behind)
 three front more behind = simp length-append

@@ -13,10 +13,10 @@ use Rattle.word_domain.specs.Domain.{Operations}
 use Rattle.emit_append.specs.Frames.{unpacked}
 use Rattle.image_store.specs.Blocks.{bytes_of}
 use Rattle.image_store.specs.Namespace.{ZonedNamespace, zone_at, shape, IsNamespace}
+use Rattle.zone_state.specs.State.{is_cleared}
 use Rattle.zns_commands.specs.Address.{write_pointer, zone_number}
 use Rattle.zns_commands.specs.Answer.{Effect, success_effect}
 use Rattle.zns_commands.specs.Left.{Grows}
-use Rattle.zns_commands.specs.Laws.{is_cleared}
 use Rattle.zns_commands.specs.Meaning.{meaning}
 use Rattle.pushdown.specs.Admission.{source_blocks, task_of}
 use Rattle.pushdown.specs.Answers.{Happening}

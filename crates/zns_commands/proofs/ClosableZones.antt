@@ -1,6 +1,7 @@
 -- Zones that may give way.
 use Rattle.std.proofs.Common.{◌≡◌, ℕ, ◌<◌, length, Option, Some, None, Ok, ap, sym, subst, ◌∙◌, arith}
 use Rattle.std.specs.Prelude.{◌≢◌}
+use Rattle.std.proofs.lemmas.Bool.Decides.{nat_tests}
 use Rattle.std.proofs.lemmas.List.{length-map, get_or-map}
 use Rattle.std.proofs.lemmas.Option.{slice_get_within, get_or_from_slice_get}
 use Rattle.zone_state.specs.Zone.{CountedZone, IsZone}
@@ -41,7 +42,7 @@ other_zone ns holds zone wanted z wants closable = λ (same : z ≡ zone).
     wants_none (zone_at ns zone).state wanted wants (subst (λ (k : ℕ). (zone_at ns k).state ≡ ImplicitlyOpened) same (closable_state ns holds z closable))
 
 pub closed_fits : (state : ZoneState) (w c : ℕ) → state ≡ ImplicitlyOpened → IsZone state w c → IsZone Closed w c
-closed_fits ImplicitlyOpened w c is h = (h.0, h.1.1)
+closed_fits ImplicitlyOpened w c is h = (h.0, grind (arith, nat_tests, h.1))
 closed_fits Empty w c is h = cc
 closed_fits ExplicitlyOpened w c is h = cc
 closed_fits Closed w c is h = cc

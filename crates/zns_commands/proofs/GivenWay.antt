@@ -15,9 +15,9 @@ use Rattle.zone_resources.specs.declared.admission.Wanted.TheVariants.{OpenOnly,
 use Rattle.zone_resources.specs.declared.holds.Holds.{Holds}
 use Rattle.zone_resources.proofs.Proved.{closes_the_lowest, admission_keeps_limits}
 use Rattle.image_store.specs.Blocks.{as_blocks}
-use Rattle.image_store.specs.Namespace.{ZoneBlocks, ZonedNamespace, no_zone, zone_at, with_zone, counted, grown, records, IsNamespace, IsWithinLimits}
+use Rattle.image_store.specs.Namespace.{ZoneBlocks, ZonedNamespace, no_zone, zone_at, with_zone, counted, grown, records, IsNamespace, IsWithinLimits, arrived, with_state}
 use Rattle.zns_commands.specs.Address.{counted_zone_at}
-use Rattle.zns_commands.specs.Resources.{room_by, room_for, closed, arrived, moved_to, CanGiveWay}
+use Rattle.zns_commands.specs.Resources.{room_by, room_for, closed, CanGiveWay}
 use Rattle.zns_commands.specs.Write.{written}
 use Rattle.zns_commands.proofs.ClosableZones.{closable_zone, closable_state, other_zone, closed_fits}
 use Rattle.zns_commands.proofs.FittingZones.{FitsIn, set_namespace, record_there, records_with, one_within}
@@ -165,5 +165,5 @@ written_is ns z (Some k) input other =
     ap (λ (zone : ZoneBlocks). with_zone (closed ns (Some k)) z (grown ns.capacity zone (as_blocks ns.block input))) (closed_zone ns z (Some k) other)
 
 pub moved_is : (ns : ZonedNamespace) (z : ℕ) (gives : Option ℕ) (to : ZoneState) → gives ≢ Some z
-    → moved_to (closed ns gives) z to ≡ with_zone (closed ns gives) z (arrived to (zone_at ns z))
+    → with_state (closed ns gives) z to ≡ with_zone (closed ns gives) z (arrived to (zone_at ns z))
 moved_is ns z gives to other = ap (λ (zone : ZoneBlocks). with_zone (closed ns gives) z (arrived to zone)) (closed_zone ns z gives other)

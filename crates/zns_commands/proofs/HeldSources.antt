@@ -14,12 +14,13 @@ use Rattle.zone_resources.specs.declared.holds.Holds.{Holds}
 use Rattle.zone_state.specs.Checks.{first_failed}
 use Rattle.nvme_entry.specs.declared.command.StandardCommand.{StandardCommand}
 use Rattle.nvme_entry.specs.declared.command.StandardCommand.TheVariants.{Write, Read, Send, Receive, Append}
-use Rattle.image_store.specs.Namespace.{ZoneBlocks, ZonedNamespace, no_zone, zone_at, with_zone}
+use Rattle.image_store.specs.Namespace.{ZoneBlocks, ZonedNamespace, no_zone, zone_at, with_zone, arrived, with_state}
+use Rattle.zone_state.specs.State.{is_cleared}
 use Rattle.zns_commands.specs.Address.{zone_number}
 use Rattle.zns_commands.specs.Fault.{fault_answer, faulted_by}
 use Rattle.zns_commands.specs.Left.{Grows, SourcesKeepBlocks}
-use Rattle.zns_commands.specs.Laws.{Commanded, Failed, is_cleared, checks_of, effect_of}
-use Rattle.zns_commands.specs.Resources.{why_not, closed, arrived, moved_to}
+use Rattle.zns_commands.specs.Laws.{Commanded, Failed, checks_of, effect_of}
+use Rattle.zns_commands.specs.Resources.{why_not, closed}
 use Rattle.zns_commands.specs.Send.{send_checks, send_effect, zone_plan, takes, swept}
 use Rattle.zns_commands.specs.Write.{write_plan}
 use Rattle.zns_commands.proofs.HeldZones.{not_taken, not_refused, not_held}
@@ -76,7 +77,7 @@ module _ (ns : ZonedNamespace) (holds : Holds) (d : ℕ) (held : is_source holds
   abbrev Kept : ZonedNamespace → Type 0
   Kept m = Grows (zone_at ns d).blocks (zone_at m d).blocks
 
-  moved_kept : (gives : Option ℕ) (z : ℕ) (to : ZoneState) → (z ≡ d → is_cleared to ≡ false) → Kept (moved_to (closed ns gives) z to)
+  moved_kept : (gives : Option ℕ) (z : ℕ) (to : ZoneState) → (z ≡ d → is_cleared to ≡ false) → Kept (with_state (closed ns gives) z to)
   moved_kept gives z to keeps =
       let m = closed ns gives in
       let zone = arrived to (zone_at m z) in

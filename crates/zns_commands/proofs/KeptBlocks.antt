@@ -13,20 +13,21 @@ use Rattle.nvme_entry.specs.declared.command.StandardCommand.TheVariants.{Write,
 use Rattle.zone_state.specs.Checks.{first_failed}
 use Rattle.image_store.specs.Blocks.{as_blocks}
 use Rattle.image_store.specs.Geometry.{Shape}
-use Rattle.image_store.specs.Namespace.{ZoneBlocks, ZonedNamespace, no_zone, zone_at, with_zone, grown, shape}
+use Rattle.image_store.specs.Namespace.{ZoneBlocks, ZonedNamespace, no_zone, zone_at, with_zone, grown, shape, arrived, with_state}
+use Rattle.zone_state.specs.State.{is_cleared}
 use Rattle.zns_commands.specs.declared.write.WritePlan.{WritePlan}
 use Rattle.zns_commands.specs.Address.{zone_number}
 use Rattle.zns_commands.specs.Answer.{Effect, success_effect, concluded}
 use Rattle.zns_commands.specs.Append.{append_checks, append_effect}
 use Rattle.zns_commands.specs.Fault.{fault_answer, faulted_by}
 use Rattle.zns_commands.specs.Read.{read_checks, read_effect}
-use Rattle.zns_commands.specs.Resources.{closed, arrived, moved_to}
+use Rattle.zns_commands.specs.Resources.{closed}
 use Rattle.zns_commands.specs.Receive.{receive_checks, receive_effect}
 use Rattle.zns_commands.specs.Send.{send_checks, send_effect, zone_plan, takes, swept}
 use Rattle.zns_commands.specs.Write.{write_checks, write_effect, write_plan, written}
 use Rattle.zns_commands.specs.Left.{Grows}
 use Rattle.zns_commands.specs.Lasting.{GrowsByNone, GrowsOn, ReplacedGrows, UnclearedIsReadable, StepsKeepZones}
-use Rattle.zns_commands.specs.Laws.{Step, Commanded, Failed, after, after_all, is_cleared}
+use Rattle.zns_commands.specs.Laws.{Step, Commanded, Failed, after, after_all}
 use Rattle.zns_commands.proofs.MovedZones.{after_action}
 
 pub grows_not : GrowsByNone
@@ -79,8 +80,8 @@ arrived_grows Offline zone stays = cc
 arrived_grows to zone stays = grows_not zone.blocks
 
 moved_grows : (ns : ZonedNamespace) (gives : Option ℕ) (y z : ℕ) (to : ZoneState)
-    → is_cleared (zone_at (moved_to (closed ns gives) y to) z).state ≡ false
-    → Grows (zone_at ns z).blocks (zone_at (moved_to (closed ns gives) y to) z).blocks
+    → is_cleared (zone_at (with_state (closed ns gives) y to) z).state ≡ false
+    → Grows (zone_at ns z).blocks (zone_at (with_state (closed ns gives) y to) z).blocks
 moved_grows ns gives y z to stays =
     let m = closed ns gives in
     let zone = arrived to (zone_at m y) in
@@ -156,7 +157,7 @@ written_shape ns plan input =
     let m = closed ns plan.closing in
     with_zone_shape m plan.zone (grown m.capacity (zone_at m plan.zone) (as_blocks m.block input)) ∙ closed_shape ns plan.closing
 
-moved_shape : (ns : ZonedNamespace) (gives : Option ℕ) (z : ℕ) (to : ZoneState) → shape (moved_to (closed ns gives) z to) ≡ shape ns
+moved_shape : (ns : ZonedNamespace) (gives : Option ℕ) (z : ℕ) (to : ZoneState) → shape (with_state (closed ns gives) z to) ≡ shape ns
 moved_shape ns gives z to =
     let m = closed ns gives in with_zone_shape m z (arrived to (zone_at m z)) ∙ closed_shape ns gives
 

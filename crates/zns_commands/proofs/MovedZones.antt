@@ -1,7 +1,8 @@
 -- That actions on one zone and faults keep a namespace sound.
 use Rattle.std.proofs.Common.{◌≡◌, ℕ, ◌<◌, Bool, true, false, cond, length, Option, None, Result, Ok, Err, refl, sym, subst, arith}
 use Rattle.std.specs.Prelude.{nat_lt, ◌&&◌, not}
-use Rattle.std.proofs.lemmas.Bool.{ltb-true}
+use Rattle.std.proofs.lemmas.Bool.{ltb-true, le-leb}
+use Rattle.std.proofs.lemmas.Bool.Decides.{nat_tests}
 use Rattle.zone_state.specs.Transition.{transition}
 use Rattle.zone_state.specs.Zone.{IsZone, kept, state_of_fault, fault_refusal}
 use Rattle.zone_state.specs.declared.action.Action.{Action}
@@ -14,41 +15,33 @@ use Rattle.zone_state.specs.declared.zone.FaultRefused.{FaultRefused}
 use Rattle.zone_resources.specs.Admission.{wanted_of, HoldsNoMore}
 use Rattle.zone_resources.specs.Holds.{is_held}
 use Rattle.zone_resources.specs.declared.holds.Holds.{Holds}
-use Rattle.image_store.specs.Namespace.{ZoneBlocks, ZonedNamespace, zone_at, IsNamespace}
+use Rattle.image_store.specs.Namespace.{ZoneBlocks, ZonedNamespace, zone_at, IsNamespace, arrived, with_state}
 use Rattle.image_store.proofs.Proved.{written_is_within}
 use Rattle.zns_commands.specs.Fault.{fault_answer, faulted_by, faulted}
-use Rattle.zns_commands.specs.Resources.{room_by, closed, arrived, moved_to}
+use Rattle.zns_commands.specs.Resources.{room_by, closed}
 use Rattle.zns_commands.specs.Send.{room_of, led_to}
 use Rattle.zns_commands.proofs.FittingZones.{FitsIn, no_bytes, zone_fits, one_sound}
 use Rattle.zns_commands.proofs.GivenWay.{has_room, room_sound, moved_is}
 
 -- a zone that comes into a state
-pub arrived_state : (to : ZoneState) (zone : ZoneBlocks) → (arrived to zone).state ≡ to
-arrived_state Empty zone = refl
-arrived_state Offline zone = refl
-arrived_state to zone = refl
-
 pub arrived_fits : (b c : ℕ) (to : ZoneState) (zone : ZoneBlocks)
     → FitsIn b c zone → IsZone to (kept to (length zone.blocks)) c → FitsIn b c (arrived to zone)
 arrived_fits b c Empty zone fits is = record { state = is; whole = λ i h. absurd (omega arith); bytes = λ i. no_bytes }
 arrived_fits b c Offline zone fits is = record { state = is; whole = λ i h. absurd (omega arith); bytes = λ i. no_bytes }
 arrived_fits b c to zone fits is = record { state = is; whole = fits.whole; bytes = fits.bytes }
 
-holds_arrived : (to was : ZoneState) (zone : ZoneBlocks) → HoldsNoMore to was → HoldsNoMore (arrived to zone).state was
-holds_arrived to was zone less = subst (λ (s : ZoneState). HoldsNoMore s was) (sym (arrived_state to zone)) less
-
 -- the state to which an action leads, or the same one
 abbrev pub after_action : Action → ZoneState → ZoneState
 after_action a s = led_to (transition a s) s
 
 pub action_fits : (a : Action) (s : ZoneState) (w c : ℕ) → IsZone s w c → IsZone (after_action a s) (kept (after_action a s) w) c
-action_fits action.Close ImplicitlyOpened w c h = (h.0, h.1.1)
-action_fits action.Finish Empty w c h = (h.0, omega arith)
-action_fits action.Finish ImplicitlyOpened w c h = (h.0, omega arith)
-action_fits action.Finish ExplicitlyOpened w c h = (h.0, omega arith)
-action_fits action.Finish Closed w c h = (h.0, omega arith)
-action_fits action.Open Empty w c h = (h.0, omega arith)
-action_fits action.Open ImplicitlyOpened w c h = (h.0, h.1.1)
+action_fits action.Close ImplicitlyOpened w c h = (h.0, grind (arith, nat_tests, h.1))
+action_fits action.Finish Empty w c h = (h.0, grind (arith, nat_tests, h.1))
+action_fits action.Finish ImplicitlyOpened w c h = (h.0, grind (arith, nat_tests, h.1))
+action_fits action.Finish ExplicitlyOpened w c h = (h.0, grind (arith, nat_tests, h.1))
+action_fits action.Finish Closed w c h = (h.0, grind (arith, nat_tests, h.1))
+action_fits action.Open Empty w c h = (h.0, grind (arith, nat_tests, h.0, h.1))
+action_fits action.Open ImplicitlyOpened w c h = (h.0, grind (arith, nat_tests, h.1))
 action_fits action.Reset ImplicitlyOpened w c h = (h.0, refl)
 action_fits action.Reset ExplicitlyOpened w c h = (h.0, refl)
 action_fits action.Reset Closed w c h = (h.0, refl)
@@ -88,23 +81,23 @@ takes_none action.Offline Empty none = record { opened = omega arith; active = o
 takes_none a s none = record { opened = omega arith; active = omega arith }
 
 no_room_sound : (ns : ZonedNamespace) (holds : Holds) (z : ℕ) (a : Action) (gives : Option ℕ) → IsNamespace ns → z < length ns.zones
-    → takes_resources a ≡ false → room_by ns holds None ≡ Ok gives → IsNamespace (moved_to (closed ns gives) z (after_action a (zone_at ns z).state))
+    → takes_resources a ≡ false → room_by ns holds None ≡ Ok gives → IsNamespace (with_state (closed ns gives) z (after_action a (zone_at ns z).state))
 no_room_sound ns holds z a gives sound inside none room =
     let zone = zone_at ns z in
     let same : None ≡ gives = cc in
-    subst (λ (g : Option ℕ). IsNamespace (moved_to (closed ns g) z (after_action a zone.state))) same
+    subst (λ (g : Option ℕ). IsNamespace (with_state (closed ns g) z (after_action a zone.state))) same
     (one_sound ns z (arrived (after_action a zone.state) zone) sound inside (action_zone_fits ns z a sound inside)
-    (holds_arrived (after_action a zone.state) zone.state zone (takes_none a zone.state none)))
+    (takes_none a zone.state none))
 
 pub moved_sound : (ns : ZonedNamespace) (holds : Holds) (z : ℕ) (a : Action) (gives : Option ℕ) → IsNamespace ns → z < length ns.zones
-    → room_of ns holds a (zone_at ns z).state ≡ Ok gives → IsNamespace (moved_to (closed ns gives) z (after_action a (zone_at ns z).state))
+    → room_of ns holds a (zone_at ns z).state ≡ Ok gives → IsNamespace (with_state (closed ns gives) z (after_action a (zone_at ns z).state))
 moved_sound ns holds z action.Open gives sound inside room =
     let zone = zone_at ns z in
     let to = after_action action.Open zone.state in
     let has = has_room ns holds z gives sound inside room in
     subst IsNamespace (sym (moved_is ns z gives to has.give.other))
     (room_sound ns z gives (arrived to zone) sound has (action_zone_fits ns z action.Open sound inside)
-    (λ none. holds_arrived to zone.state zone (open_takes_none zone.state none)))
+    (λ none. open_takes_none zone.state none))
 moved_sound ns holds z action.Close gives sound inside room = no_room_sound ns holds z action.Close gives sound inside refl room
 moved_sound ns holds z action.Finish gives sound inside room = no_room_sound ns holds z action.Finish gives sound inside refl room
 moved_sound ns holds z action.Reset gives sound inside room = no_room_sound ns holds z action.Reset gives sound inside refl room
@@ -117,21 +110,21 @@ answer_passed true held answer done e = refl
 answer_passed false held answer done e = cc
 
 fault_fits : (fault : FaultState) (s : ZoneState) (w c : ℕ) → IsZone s w c → IsZone (state_of_fault fault) (kept (state_of_fault fault) w) c
-fault_fits fault.ReadOnly s w c h = (h.0, written_is_within s w c h)
+fault_fits fault.ReadOnly s w c h = (h.0, le-leb w c (written_is_within s w c h))
 fault_fits fault.Offline s w c h = (h.0, refl)
 
 fault_holds : (fault : FaultState) (s : ZoneState) → HoldsNoMore (state_of_fault fault) s
 fault_holds fault.ReadOnly s = record { opened = omega arith; active = omega arith }
 fault_holds fault.Offline s = record { opened = omega arith; active = omega arith }
 
-pub lost_sound : (ns : ZonedNamespace) (z : ℕ) (fault : FaultState) → IsNamespace ns → z < length ns.zones → IsNamespace (moved_to ns z (state_of_fault fault))
+pub lost_sound : (ns : ZonedNamespace) (z : ℕ) (fault : FaultState) → IsNamespace ns → z < length ns.zones → IsNamespace (with_state ns z (state_of_fault fault))
 lost_sound ns z fault sound inside =
     let zone = zone_at ns z in
     let to = state_of_fault fault in
     one_sound ns z (arrived to zone) sound inside
     (arrived_fits ns.block ns.capacity to zone (zone_fits ns z sound inside)
     (fault_fits fault zone.state (length zone.blocks) ns.capacity (sound.fits z inside)))
-    (holds_arrived to zone.state zone (fault_holds fault zone.state))
+    (fault_holds fault zone.state)
 
 faulted_by_sound : (ns : ZonedNamespace) (z : ℕ) (fault : FaultState) (answer : Result Unit FaultRefused)
     → IsNamespace ns → ((done : Unit {0}) → answer ≡ Ok done → z < length ns.zones) → IsNamespace (faulted_by answer ns z fault)

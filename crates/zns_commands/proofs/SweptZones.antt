@@ -12,19 +12,18 @@ use Rattle.zone_state.specs.declared.state.ZoneState.{ZoneState}
 use Rattle.zone_state.specs.declared.state.ZoneState.TheVariants.{Empty}
 use Rattle.zone_resources.specs.Admission.{IsWithin}
 use Rattle.zone_resources.specs.Counts.{open_count, one_if}
-use Rattle.image_store.specs.Namespace.{ZoneBlocks, ZonedNamespace, no_zone, zone_at, counted, records, IsNamespace, IsWithinLimits}
-use Rattle.zns_commands.specs.Resources.{arrived}
+use Rattle.image_store.specs.Namespace.{ZoneBlocks, ZonedNamespace, no_zone, zone_at, counted, records, IsNamespace, IsWithinLimits, arrived}
 use Rattle.zns_commands.specs.Send.{all_effect, all_fit, takes, taken_among, swept, swept_below}
 use Rattle.zns_commands.proofs.FittingZones.{FitsIn, zone_fits, namespace_of_zones}
 use Rattle.zns_commands.proofs.Sweeps.{mapped, mapped-all}
-use Rattle.zns_commands.proofs.MovedZones.{arrived_state, arrived_fits, after_action, action_fits}
+use Rattle.zns_commands.proofs.MovedZones.{arrived_fits, after_action, action_fits}
 
 -- the state of a zone that Select All has gone over
 abbrev after_sweep : Action → ZoneState → ZoneState
 after_sweep a s = cond (takes a s) (after_action a s) s
 
 swept_by : (taken : Bool) (to : ZoneState) (zone : ZoneBlocks) → (cond taken (arrived to zone) zone).state ≡ cond taken to zone.state
-swept_by true to zone = arrived_state to zone
+swept_by true to zone = refl
 swept_by false to zone = refl
 
 swept_state : (a : Action) (zone : ZoneBlocks) → (swept a zone).state ≡ after_sweep a zone.state

@@ -14,12 +14,12 @@ use Rattle.zone_resources.specs.declared.holds.Holds.{Holds}
 use Rattle.nvme_entry.specs.declared.command.StandardCommand.{StandardCommand}
 use Rattle.nvme_entry.specs.declared.command.StandardCommand.TheVariants.{Write, Read, Send, Receive, Append}
 use Rattle.image_store.specs.Blocks.{as_blocks}
-use Rattle.image_store.specs.Namespace.{ZoneBlocks, ZonedNamespace, no_zone, zone_at, with_zone, grown}
+use Rattle.image_store.specs.Namespace.{ZoneBlocks, ZonedNamespace, no_zone, zone_at, with_zone, grown, arrived, with_state}
 use Rattle.zns_commands.specs.Address.{zone_number}
 use Rattle.zns_commands.specs.Fault.{fault_answer, faulted_by}
 use Rattle.zns_commands.specs.Left.{is_either, touches, OthersAreLeft}
 use Rattle.zns_commands.specs.Laws.{Commanded, Failed, effect_of}
-use Rattle.zns_commands.specs.Resources.{closed, arrived, moved_to}
+use Rattle.zns_commands.specs.Resources.{closed}
 use Rattle.zns_commands.specs.Send.{send_effect, zone_plan, takes, swept, led_to}
 use Rattle.zns_commands.specs.Write.{write_plan, written}
 use Rattle.zns_commands.specs.declared.write.WritePlan.{WritePlan}
@@ -60,7 +60,7 @@ module _ (ns : ZonedNamespace) (d : ℕ) where
       let none = neither (nat_eq plan.zone d) (names d plan.closing) other in
       set_left m plan.zone (grown m.capacity (zone_at m plan.zone) (as_blocks m.block input)) none.0 (closed_left plan.closing none.1)
 
-  moved_left : (gives : Option ℕ) (z : ℕ) (to : ZoneState) → is_either z gives d ≡ false → Left (moved_to (closed ns gives) z to)
+  moved_left : (gives : Option ℕ) (z : ℕ) (to : ZoneState) → is_either z gives d ≡ false → Left (with_state (closed ns gives) z to)
   moved_left gives z to other =
       let m = closed ns gives in
       let none = neither (nat_eq z d) (names d gives) other in

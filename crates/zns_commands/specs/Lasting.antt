@@ -1,6 +1,6 @@
 -- What lasts of zones and their blocks, and what a Read gives of it.
 use Rattle.std.specs.Prelude.{ℕ, ◌≡◌, ◌≤◌, ◌<◌, ◌+◌, ◌*◌, ◌^◌, ◌++◌, true, false, List, [], length, get_or, set, nat_le, None}
-use Rattle.zone_state.specs.State.{is_open}
+use Rattle.zone_state.specs.State.{is_open, is_cleared}
 use Rattle.zone_state.specs.declared.state.ZoneState.{ZoneState}
 use Rattle.zone_state.specs.declared.status.TheConstants.Status.{SUCCESS}
 use Rattle.zone_resources.specs.declared.holds.Holds.{Holds}
@@ -11,7 +11,7 @@ use Rattle.image_store.specs.Namespace.{ZoneBlocks, ZonedNamespace, no_zone, zon
 use Rattle.zns_commands.specs.Address.{zone_number}
 use Rattle.zns_commands.specs.Answer.{Effect, success_effect}
 use Rattle.zns_commands.specs.Left.{Grows}
-use Rattle.zns_commands.specs.Laws.{Step, after_all, is_cleared, NoneClears, AreRead}
+use Rattle.zns_commands.specs.Laws.{Step, after_all, NoneClears, AreRead}
 use Rattle.zns_commands.specs.Meaning.{meaning}
 use Rattle.zns_commands.specs.Read.{read_meaning, read_refusal}
 

@@ -2,8 +2,6 @@
 use Rattle.std.specs.Prelude.{ℕ, ◌≡◌, ◌≢◌, ◌≤◌, ◌+◌, ◌*◌, ◌^◌, Bool, true, false, List, [], ◌∷◌, ◌++◌, length, map, Option, Some, None, All}
 use Rattle.std.specs.List.{enumerate_from}
 use Rattle.zone_state.specs.declared.state.FaultState.{FaultState}
-use Rattle.zone_state.specs.declared.state.ZoneState.{ZoneState}
-use Rattle.zone_state.specs.declared.state.ZoneState.TheVariants.{Empty, Offline}
 use Rattle.zone_state.specs.declared.status.Status.{Status}
 use Rattle.zone_state.specs.declared.status.TheConstants.Status.{SUCCESS}
 use Rattle.zone_resources.specs.Holds.{no_holds}
@@ -17,6 +15,7 @@ use Rattle.nvme_entry.specs.Report.{descriptor_at}
 use Rattle.image_store.specs.Blocks.{AreBytes}
 use Rattle.image_store.specs.Geometry.{Shape, IsShape}
 use Rattle.image_store.specs.Namespace.{ZonedNamespace, zone_at, appended, IsNamespace, all_empty, records}
+use Rattle.zone_state.specs.State.{is_cleared}
 use Rattle.zns_commands.specs.Address.{zone_number}
 use Rattle.zns_commands.specs.Answer.{Effect, success_effect, refused_effect}
 use Rattle.zns_commands.specs.Append.{TakesBlocks, append_checks, append_effect}
@@ -118,12 +117,6 @@ RefusedChangesNothing =
     (ns : ZonedNamespace) (holds : Holds) (command : StandardCommand) (input : List ℕ)
     → (meaning ns holds command input).status ≢ SUCCESS
     → ChangesNothing ns (meaning ns holds command input)
-
--- is the zone reset or lost, so that nothing of what was written is left?
-abbrev pub is_cleared : ZoneState → Bool
-is_cleared Empty = true
-is_cleared Offline = true
-is_cleared _ = false
 
 -- after none of the steps is the zone cleared
 abbrev pub NoneClears : ℕ → List Step → ZonedNamespace → Type 0

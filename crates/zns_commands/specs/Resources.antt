@@ -1,14 +1,14 @@
 -- The open and active resources that a command takes.
-use Rattle.std.specs.Prelude.{ℕ, ◌≢◌, ◌<◌, [], length, Option, Some, None, Result, Ok, Err}
+use Rattle.std.specs.Prelude.{ℕ, ◌≢◌, ◌<◌, length, Option, Some, None, Result, Ok, Err}
 use Rattle.zone_state.specs.declared.state.ZoneState.{ZoneState}
 use Rattle.std.specs.Option.{ForSome}
-use Rattle.zone_state.specs.declared.state.ZoneState.TheVariants.{Empty, Closed, Offline}
+use Rattle.zone_state.specs.declared.state.ZoneState.TheVariants.{Closed}
 use Rattle.zone_state.specs.Zone.{IsZone}
 use Rattle.zone_state.specs.declared.status.Status.{Status}
 use Rattle.zone_resources.specs.Admission.{admission, wanted_of}
 use Rattle.zone_resources.specs.declared.admission.Wanted.{Wanted}
 use Rattle.zone_resources.specs.declared.holds.Holds.{Holds}
-use Rattle.image_store.specs.Namespace.{ZoneBlocks, ZonedNamespace, zone_at, with_zone, in_zone_state, records, IsWithinLimits}
+use Rattle.image_store.specs.Namespace.{ZonedNamespace, zone_at, with_state, records, IsWithinLimits}
 
 abbrev pub room_by : ZonedNamespace → Holds → Option Wanted → Result (Option ℕ) Status
 room_by ns holds None = Ok None
@@ -29,7 +29,7 @@ closing_of (Err status) = None
 -- the namespace once the zone that gives way, if one does, is closed
 abbrev pub closed : ZonedNamespace → Option ℕ → ZonedNamespace
 closed ns None = ns
-closed ns (Some z) = in_zone_state ns z Closed
+closed ns (Some z) = with_state ns z Closed
 
 -- what holds of the zone that gives way, if one does: it is another than the one that wants room, and
 -- can be Closed, which the limits allow
@@ -38,13 +38,3 @@ pub record CanGiveWay (ns : ZonedNamespace) (zone : ℕ) (closing : Option ℕ) 
   pub fits : ForSome closing (λ z. IsZone Closed (length (zone_at ns z).blocks) ns.capacity)
   pub other : closing ≢ Some zone
   pub limits : IsWithinLimits (closed ns closing)
-
--- a zone that comes into a state: Empty and Offline keep no blocks (ZNS 1.1, 2.1.1.3)
-abbrev pub arrived : ZoneState → ZoneBlocks → ZoneBlocks
-arrived Empty zone = record { state = Empty; blocks = [] }
-arrived Offline zone = record { state = Offline; blocks = [] }
-arrived to zone = record { state = to; blocks = zone.blocks }
-
--- the namespace with a zone come into a state
-abbrev pub moved_to : ZonedNamespace → ℕ → ZoneState → ZonedNamespace
-moved_to ns z to = with_zone ns z (arrived to (zone_at ns z))

@@ -14,10 +14,10 @@ use Rattle.zone_resources.specs.Counts.{open_count}
 use Rattle.zone_resources.specs.Holds.{refuses}
 use Rattle.zone_resources.specs.declared.holds.Holds.{Holds}
 use Rattle.zone_state.specs.Checks.{demand, first_failed}
-use Rattle.image_store.specs.Namespace.{ZoneBlocks, ZonedNamespace, zone_at, records, IsWithinLimits}
+use Rattle.image_store.specs.Namespace.{ZoneBlocks, ZonedNamespace, zone_at, records, IsWithinLimits, arrived, with_state}
 use Rattle.zns_commands.specs.Address.{zone_number, lowest_checks}
 use Rattle.zns_commands.specs.Answer.{Effect, success_effect, concluded}
-use Rattle.zns_commands.specs.Resources.{room_for, why_not, closing_of, closed, arrived, moved_to, CanGiveWay}
+use Rattle.zns_commands.specs.Resources.{room_for, why_not, closing_of, closed, CanGiveWay}
 use Rattle.zns_commands.specs.declared.send.ZonePlan.{ZonePlan}
 use Rattle.zns_commands.specs.Transfer.{transfer_checks}
 
@@ -50,7 +50,7 @@ zone_plan ns holds lba action =
 
 abbrev pub zone_effect : ZonedNamespace → Holds → ℕ → Action → ZonedNamespace
 zone_effect ns holds lba action =
-    let plan = zone_plan ns holds lba action in moved_to (closed ns plan.closing) plan.zone plan.to
+    let plan = zone_plan ns holds lba action in with_state (closed ns plan.closing) plan.zone plan.to
 
 -- does Select All take a zone of this state? (ZNS 1.1, figure 46)
 abbrev pub takes : Action → ZoneState → Bool
@@ -122,4 +122,4 @@ pub record CanMove (ns : ZonedNamespace) (plan : ZonePlan) : Type 0 where
   pub inside : plan.zone < length ns.zones
   pub fits : IsZone plan.to (kept plan.to (length (zone_at ns plan.zone).blocks)) ns.capacity
   pub gives : CanGiveWay ns plan.zone plan.closing
-  pub limits : IsWithinLimits (moved_to (closed ns plan.closing) plan.zone plan.to)
+  pub limits : IsWithinLimits (with_state (closed ns plan.closing) plan.zone plan.to)

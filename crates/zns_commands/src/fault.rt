@@ -3,7 +3,6 @@
 ghost use Rattle.std.specs.Prelude.{◌≡◌};
 ghost use Rattle.zns_commands.specs.Fault.{fault_answer, faulted};
 
-use crate::resources::move_to;
 use image_store::Image;
 use zone_resources::Holds;
 use zone_state::{FaultRefused, FaultState};
@@ -27,6 +26,6 @@ pub fn fault(
     }
     let mut copy = image.zone(zone);
     copy.fault(state)?;
-    move_to(image, zone, copy.state());
+    image.set_state(zone, copy.state());
     Ok(())
 }

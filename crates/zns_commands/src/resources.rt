@@ -1,9 +1,8 @@
 //! The open and active resources that a command takes.
 
 ghost use Rattle.std.specs.Prelude.{◌≡◌, ◌<◌, length};
-ghost use Rattle.zone_state.specs.Zone.{IsZone, kept};
-ghost use Rattle.image_store.specs.Namespace.{zone_at, IsWithinLimits};
-ghost use Rattle.zns_commands.specs.Resources.{room_for, closed, moved_to, CanGiveWay};
+ghost use Rattle.image_store.specs.Namespace.{zone_at};
+ghost use Rattle.zns_commands.specs.Resources.{room_for, closed, CanGiveWay};
 
 use image_store::Image;
 use nvme_entry::Status;
@@ -31,19 +30,5 @@ pub fn give_way(image: &mut Image, zone: u32, closing: Option<u32>)
 {
     if let Some(other) = closing {
         image.set_state(other, ZoneState::Closed);
-    }
-}
-
-/// Brings a zone into a state that allows the blocks that it keeps there, and that the limits allow.
-pub fn move_to(image: &mut Image, zone: u32, to: ZoneState)
-    requires inside { zone < length image.old.zones }
-    requires fits { IsZone to (kept to (length (zone_at image.old zone).blocks)) image.old.capacity }
-    requires limits { IsWithinLimits (moved_to image.old zone to) }
-    ensures { image.new ≡ moved_to image.old zone to }
-{
-    match to {
-        ZoneState::Empty => image.reset(zone),
-        ZoneState::Offline => image.forget(zone),
-        _ => image.set_state(zone, to),
     }
 }

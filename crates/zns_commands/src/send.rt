@@ -3,14 +3,14 @@
 ghost use Rattle.std.specs.Prelude.{true, ◌≡◌, ◌<◌, ◌≤◌, ◌^◌, length, List, ℕ, IfOk, OnOk, OnErr};
 ghost use Rattle.zone_state.specs.Checks.{first_failed, unless_failed};
 ghost use Rattle.image_store.specs.declared.geometry.TheConstants.{MOST_ZONES};
-ghost use Rattle.image_store.specs.Namespace.{zone_at, with_zone, records, IsWithinLimits};
+ghost use Rattle.image_store.specs.Namespace.{zone_at, with_zone, records, IsWithinLimits, with_state};
 ghost use Rattle.zns_commands.specs.Answer.{effect_of_answer};
-ghost use Rattle.zns_commands.specs.Resources.{closed, moved_to};
+ghost use Rattle.zns_commands.specs.Resources.{closed};
 ghost use Rattle.zns_commands.specs.Send.{send_meaning, send_checks, send_effect, room_of, zone_checks, zone_plan, zone_effect, all_checks, all_effect, all_fit, swept, takes, held_among, taken_among, CanMove};
 
 use crate::address::lowest;
 use crate::answer::Answer;
-use crate::resources::{give_way, move_to, room_for};
+use crate::resources::{give_way, room_for};
 use crate::transfer;
 use image_store::{Image, Zone};
 use nvme_entry::Status;
@@ -68,10 +68,10 @@ fn send_to_zone(image: &mut Image, holds: &Holds, lba: u64, action: Action) -> R
 /// Does what a plan says.
 fn carry_out(image: &mut Image, plan: ZonePlan)
     requires { CanMove image.old plan }
-    ensures { image.new ≡ moved_to (closed image.old plan.closing) plan.zone plan.to }
+    ensures { image.new ≡ with_state (closed image.old plan.closing) plan.zone plan.to }
 {
     give_way(image, plan.zone, plan.closing);
-    move_to(image, plan.zone, plan.to);
+    image.set_state(plan.zone, plan.to);
 }
 
 /// Does Select All take a zone of this state?
@@ -153,7 +153,7 @@ fn sweep_zone(image: &mut Image, zone: u32, action: Action)
     let mut copy = image.zone(zone);
     if takes(action, copy.state()) {
         if let Ok(to) = copy.manage(action) {
-            move_to(image, zone, to);
+            image.set_state(zone, to);
         }
     }
 }

@@ -140,7 +140,7 @@ impl Zone {
         ensures err { OnErr result (self.new ≡ self.old) }
     {
         let to = action.transition(self.state)?;
-        if to == ZoneState::Empty || to == ZoneState::Offline {
+        if to.is_cleared() {
             self.written = 0;
         }
         self.state = to;

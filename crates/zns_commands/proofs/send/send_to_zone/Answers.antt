@@ -1,6 +1,7 @@
 use Rattle.std.proofs.Common.{ap, ◌∙◌}
+use Rattle.image_store.specs.Namespace.{with_state}
 use Rattle.zone_state.specs.Checks.{first_failed}
-use Rattle.zns_commands.specs.Resources.{closed, moved_to}
+use Rattle.zns_commands.specs.Resources.{closed}
 use Rattle.zns_commands.specs.Send.{zone_checks, zone_plan}
 use Rattle.zns_commands.specs.declared.send.ZonePlan.{ZonePlan}
 use Rattle.zns_commands.proofs.ClosableZones.{allowed_ok}
@@ -11,4 +12,4 @@ returns-clause-ok c =
     let ns = c.args.image.now in
     let plan = zone_plan ns c.args.holds.now c.args.lba c.args.action in
     let same = allowed_ok (first_failed (zone_checks ns c.args.holds.now c.args.lba c.args.action)) plan c.in_ok-plan.plan c.in_ok-plan.ensures.value in
-    c.carry_out.ensures ∙ ap (λ (p : ZonePlan). moved_to (closed ns p.closing) p.zone p.to) same
+    c.carry_out.ensures ∙ ap (λ (p : ZonePlan). with_state (closed ns p.closing) p.zone p.to) same
