@@ -10,19 +10,19 @@ ghost use Rattle.zns_commands.specs.Read.{read_checks, read_meaning, blocks_read
 
 use crate::address::range;
 use crate::answer::Answer;
-use crate::transfer;
+use crate::transfer::check_transfer;
 use image_store::{Image, ZoneBlock};
 use nvme_entry::{BlockCount, MOST_TRANSFER, Status, put_front};
 use zone_state::ZoneState;
 
 /// The checks of a read: where it begins.
-fn check(image: &Image, lba: u64, blocks: BlockCount, input: &[u8]) -> Result<ZoneBlock, Status>
+fn check_read(image: &Image, lba: u64, blocks: BlockCount, input: &[u8]) -> Result<ZoneBlock, Status>
     ensures value { result ≡ unless_failed (first_failed (read_checks image.now lba blocks input.now)) (zone_block_in image.now lba) }
     ensures inside { IfOk result (λ place. place.zone < length image.now.zones) }
     ensures most { OnOk result (blocks * image.now.block ≤ MOST_TRANSFER) }
 {
     let bytes = u64::from(blocks.get()) * u64::from(image.geometry().block().bytes());
-    transfer::check(bytes, 0, input)?;
+    check_transfer(bytes, 0, input)?;
     let place = range(image, lba, blocks)?;
     if image.zone(place.zone).state() == ZoneState::Offline {
         return Err(Status::ZONE_IS_OFFLINE);
@@ -75,7 +75,7 @@ pub fn read(image: &Image, lba: u64, blocks: BlockCount, input: &[u8], output: &
     ensures most { result.length ≤ MOST_TRANSFER }
     ensures rest { drop result.length output.new ≡ drop result.length output.old }
 {
-    match check(image, lba, blocks, input) {
+    match check_read(image, lba, blocks, input) {
         Ok(place) => Answer::success(0, give_blocks(image, place, blocks, output)),
         Err(status) => Answer::refused(status),
     }

@@ -9,15 +9,15 @@ ghost use Rattle.zns_commands.specs.Answer.{effect_of_answer};
 ghost use Rattle.zns_commands.specs.Receive.{receive_checks, receive_meaning};
 
 use crate::answer::Answer;
-use crate::transfer;
+use crate::transfer::check_transfer;
 use image_store::Image;
 use nvme_entry::{DwordCount, MOST_TRANSFER, Report, Status, ZoneFilter};
 
 /// The checks of a report: the zone that it begins at.
-fn check(image: &Image, lba: u64, dwords: DwordCount, input: &[u8]) -> Result<u32, Status>
+fn check_report(image: &Image, lba: u64, dwords: DwordCount, input: &[u8]) -> Result<u32, Status>
     ensures { result ≡ unless_failed (first_failed (receive_checks image.now lba dwords input.now)) (zone_number image.now lba) }
 {
-    transfer::check(dwords.bytes() as u64, 0, input)?;
+    check_transfer(dwords.bytes() as u64, 0, input)?;
     match image.geometry().zone_block(lba) {
         Some(place) => Ok(place.zone),
         None => Err(Status::LBA_OUT_OF_RANGE),
@@ -74,7 +74,7 @@ pub fn receive(
     ensures most { result.length ≤ MOST_TRANSFER }
     ensures rest { drop result.length output.new ≡ drop result.length output.old }
 {
-    match check(image, lba, dwords, input) {
+    match check_report(image, lba, dwords, input) {
         Ok(first) => {
             let length = give_report(image, first, dwords, filter, partial, output);
             Answer::success(0, length)

@@ -11,7 +11,7 @@ ghost use Rattle.zns_commands.specs.Send.{send_meaning, send_checks, send_effect
 use crate::address::lowest;
 use crate::answer::Answer;
 use crate::resources::{give_way, room_for};
-use crate::transfer;
+use crate::transfer::check_transfer;
 use image_store::{Image, Zone};
 use nvme_entry::Status;
 use zone_resources::Holds;
@@ -29,7 +29,7 @@ pub struct ZonePlan {
 }
 
 /// The checks of an action on one zone.
-fn check_zone(image: &Image, holds: &Holds, lba: u64, action: Action) -> Result<ZonePlan, Status>
+fn check_action(image: &Image, holds: &Holds, lba: u64, action: Action) -> Result<ZonePlan, Status>
     ensures value { result ≡ unless_failed (first_failed (zone_checks image.now holds.now lba action)) (zone_plan image.now holds.now lba action) }
     ensures can { IfOk result (CanMove image.now) }
 {
@@ -60,7 +60,7 @@ fn send_to_zone(image: &mut Image, holds: &Holds, lba: u64, action: Action) -> R
     ensures ok { OnOk result (image.new ≡ zone_effect image.old holds.now lba action) }
     ensures err { OnErr result (image.new ≡ image.old) }
 {
-    let plan = check_zone(image, holds, lba, action)?;
+    let plan = check_action(image, holds, lba, action)?;
     carry_out(image, plan);
     Ok(())
 }
@@ -201,7 +201,7 @@ fn try_send(
     ensures ok { OnOk result (image.new ≡ send_effect image.old holds.now lba action select_all) }
     ensures err { OnErr result (image.new ≡ image.old) }
 {
-    transfer::check(0, 0, input)?;
+    check_transfer(0, 0, input)?;
     if !select_all {
         return send_to_zone(image, holds, lba, action);
     }

@@ -11,7 +11,7 @@ ghost use Rattle.zns_commands.specs.Write.{zone_write_checks, write_checks, writ
 use crate::address::range;
 use crate::answer::Answer;
 use crate::resources::{give_way, room_for};
-use crate::transfer;
+use crate::transfer::check_transfer;
 use image_store::Image;
 use nvme_entry::{BlockCount, Status};
 use zone_resources::Holds;
@@ -31,11 +31,11 @@ pub fn check_data(image: &Image, blocks: BlockCount, input: &[u8]) -> Result<(),
     ensures whole { OnOk result (IsWhole image.now blocks input.now) }
 {
     let bytes = u64::from(blocks.get()) * u64::from(image.geometry().block().bytes());
-    transfer::check(bytes, bytes, input)
+    check_transfer(bytes, bytes, input)
 }
 
 /// The checks of a write to a zone, from its block `at` on.
-pub fn check_zone(
+pub fn check_write(
     image: &Image,
     holds: &Holds,
     zone: u32,
@@ -68,7 +68,7 @@ pub fn check_end(
     ensures can { IfOk result (CanWrite image.now (length (zone_at image.now zone).blocks) blocks) }
 {
     let at = image.zone(zone).written();
-    check_zone(image, holds, zone, at, blocks)
+    check_write(image, holds, zone, at, blocks)
 }
 
 /// Writes the data at the write pointer of the zone of a plan.
@@ -107,7 +107,7 @@ fn try_write(
 {
     check_data(image, blocks, input)?;
     let place = range(image, lba, blocks)?;
-    let plan = check_zone(image, holds, place.zone, place.offset, blocks)?;
+    let plan = check_write(image, holds, place.zone, place.offset, blocks)?;
     put(image, plan, blocks, input);
     Ok(())
 }

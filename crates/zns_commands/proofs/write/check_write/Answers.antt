@@ -3,7 +3,7 @@ use Rattle.zone_state.specs.Zone.{refusal}
 use Rattle.zns_commands.specs.Address.{counted_zone_at}
 use Rattle.zns_commands.proofs.GivenWay.{has_room}
 use Rattle.zns_commands.proofs.WrittenZones.{written_within}
-use Rattle.zns_commands.proofs.write.check_zone.Goals as goal
+use Rattle.zns_commands.proofs.write.check_write.Goals as goal
 
 pub returns-clause-can : goal.returns-clause-can
 returns-clause-can c =
