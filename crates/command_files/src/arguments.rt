@@ -1,5 +1,8 @@
 //! The words that follow a command's name.
 
+ghost use Rattle.std.specs.Prelude.{◌≡◌};
+ghost use Rattle.command_files.specs.Arguments.{value_of};
+
 use clap::error::ErrorKind;
 use clap::{Arg, ArgAction, ArgMatches, Command};
 use command_failure::Failure;
@@ -47,8 +50,13 @@ pub fn no_command<'a>(line: &mut Command<'a>) -> Failure<'a> {
 }
 
 /// The value of a required argument. A command line without it is refused before this.
-pub fn required<'a>(matches: &ArgMatches<'a>, id: &str) -> &'a str {
-    matches.get_str(id).unwrap_or("")
+pub fn required<'a>(matches: &ArgMatches<'a>, id: &str) -> &'a str
+    ensures { result.now ≡ value_of matches.now id.now }
+{
+    match matches.get_str(id) {
+        Some(value) => value,
+        None => "",
+    }
 }
 
 /// The number that an argument spells, which is required or has a default: decimal digits alone.
