@@ -4,7 +4,7 @@ use Rattle.std.proofs.lemmas.List.{append-nil, get_or-drop}
 use Rattle.std.specs.Prelude.{if◌then◌else◌}
 use Rattle.byteorder.specs.Endian.{little_bytes, little_from, little_number}
 use Rattle.byteorder.specs.Numbers.{length-bytes_low_first, little_from-lt, little_number-reads_back}
-use Rattle.program_meaning.proofs.MemoryLemmas.{get_or-written, get_or-written_below, get_or-written_past}
+use Rattle.program_meaning.proofs.Proved.{writes_read_back}
 use Rattle.program_meaning.specs.Memory.{written}
 use Rattle.accepted_programs.specs.Cells.{forgotten, has_byte, join_cell, join_cells}
 use Rattle.accepted_programs.specs.Meets.{word_in}
@@ -103,8 +103,8 @@ word_kept stack bytes at j fits apart =
     same_number 8 0 (drop (8 * j) (written stack at bytes)) (drop (8 * j) stack)
     (λ k below. get_or-drop (8 * j) (written stack at bytes) k 0
     ∙ (elim apart [
-      | inl before ↦ get_or-written_below stack bytes at fits (8 * j + k) (omega (arith, before, below))
-      | inr behind ↦ get_or-written_past stack bytes at fits (8 * j + k) (omega (arith, behind))
+      | inl before ↦ (writes_read_back stack bytes at fits).before (8 * j + k) (omega (arith, before, below))
+      | inr behind ↦ (writes_read_back stack bytes at fits).behind (8 * j + k) (omega (arith, behind))
     ] ∙ sym (get_or-drop (8 * j) stack k 0)))
 
 number_of_bytes : (word : ℕ) → word < 2 ^ 64 → little_number 8 (little_bytes 8 word) ≡ word
@@ -121,5 +121,5 @@ word_written stack j word fits small =
     let long : length bytes ≡ 8 = length-bytes_low_first 0 8 word in
     same_number 8 0 (drop (8 * j) (written stack (8 * j) bytes)) bytes
     (λ k below. get_or-drop (8 * j) (written stack (8 * j) bytes) k 0
-    ∙ get_or-written stack bytes (8 * j) (omega (arith, fits, long)) k (omega (arith, below, long)))
+    ∙ (writes_read_back stack bytes (8 * j) (omega (arith, fits, long))).there k (omega (arith, below, long)))
     ∙ number_of_bytes word small

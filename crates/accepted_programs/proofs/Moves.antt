@@ -15,7 +15,7 @@ use Rattle.instruction_set.specs.declared.operation.Relation.{Relation}
 use Rattle.instruction_set.specs.declared.operation.Size.{Size}
 use Rattle.instruction_set.specs.declared.operation.Size.TheVariants.{Byte, HalfWord, Word, DoubleWord}
 use Rattle.instruction_set.specs.declared.operation.Width.{Width}
-use Rattle.program_meaning.proofs.MemoryLemmas.{loaded_fits}
+use Rattle.program_meaning.proofs.Proved.{loads_fit}
 use Rattle.program_meaning.specs.Cause.{is_exit, next_slot}
 use Rattle.program_meaning.specs.Effect.{address_from, bytes_at, emitted, operand, put, register}
 use Rattle.program_meaning.specs.Memory.{Memory, bytes_from, lies_in, loaded, area_offset_of, stored}
@@ -157,7 +157,7 @@ module _ {D : Type 0} {IsFact : D → Type 0} {contains : D → ℕ → Type 0} 
         → contains (operations.loaded size) (loaded s.memory (address_from s.registers src offset) (size_of size))
     any_loaded size src offset =
         let address = address_from s.registers src offset in
-        sound.loaded size (loaded s.memory address (size_of size)) (loaded_fits s.memory address (size_of size) is.memory)
+        sound.loaded size (loaded s.memory address (size_of size)) (loads_fit s.memory address (size_of size) is.memory)
 
     module _ (src : ℕ) (offset : ℤ) (near : FitsSigned w16 offset) where
       abbrev eight : ℕ
@@ -278,7 +278,7 @@ module _ {D : Type 0} {IsFact : D → Type 0} {contains : D → ℕ → Type 0} 
         behind (LoadSigned size dst src offset) refl
         (put_meets dst _ _ _
         (sound.loaded_signed size (loaded s.memory (address_from s.registers src offset) (signed_size_of size))
-        (loaded_fits s.memory (address_from s.registers src offset) (signed_size_of size) is.memory)))
+        (loads_fit s.memory (address_from s.registers src offset) (signed_size_of size) is.memory)))
     moves (StoreImmediate size dst offset value) near goes forth inside =
         behind (StoreImmediate size dst offset value) refl
         (store_meets size dst offset near (immediate_word value) _ (immediate_fits value) None (λ d e. cc) inside)

@@ -4,8 +4,7 @@ use Rattle.std.proofs.Common.{arith, inl, inr, lit<, refl, ap, subst, ◌∙◌}
 use Rattle.std.proofs.lemmas.Bool.{cases_lt}
 use Rattle.instruction_set.specs.Program.{instruction_at, instruction_count}
 use Rattle.instruction_set.specs.declared.insn.Insn.{Insn}
-use Rattle.program_meaning.proofs.Entry.{begins}
-use Rattle.program_meaning.proofs.StateLemmas.{kept, leads, within_limit}
+use Rattle.program_meaning.proofs.Proved.{begins_at_instruction, keeps_group_limit, keeps_read_only, keeps_state, leads_to_instruction}
 use Rattle.program_meaning.specs.Cause.{is_exit, least_cause}
 use Rattle.program_meaning.specs.Effect.{register}
 use Rattle.program_meaning.specs.Run.{Run, continued, run_of}
@@ -26,7 +25,7 @@ use Rattle.accepted_programs.proofs.KnownFacts.{known_facts}
 use Rattle.accepted_programs.specs.Laws.{AcceptedEmitsNoMore, AcceptedNeverTraps, AcceptedSlotsNeverTrap}
 use Rattle.accepted_programs.specs.Meets.{Meets, MeetsSome, Moved}
 use Rattle.accepted_programs.proofs.Moves.{moved}
-use Rattle.accepted_programs.proofs.Progress.{begins_within, block_kept, fewer, some_left}
+use Rattle.accepted_programs.proofs.Progress.{begins_within, fewer, some_left}
 use Rattle.program_meaning.specs.TrapFree.{Exits}
 use Rattle.accepted_programs.proofs.Unhindered.{unhindered}
 use Rattle.accepted_programs.specs.declared.facts.Facts.{Facts}
@@ -119,13 +118,13 @@ module _ {D : Type 0} {IsFact : D → Type 0} {contains : D → ℕ → Type 0} 
         → instruction_at program s.slot ≡ Some i → known_at s.slot ≡ Some facts
         → Moved contains operations sizes.block i facts s (after s i) → Holds (after s i)
     next i facts s holds goes begins known there =
-        let stays = kept program sizes.limit s (after s i) i holds.is goes in
+        let stays = keeps_state program sizes.limit s (after s i) i holds.is goes in
         record {
           is = stays;
-          block_long = block_kept s i holds.is ∙ holds.block_long;
-          here = leads program sizes.limit s (after s i) i goes;
+          block_long = ap length (keeps_read_only program sizes.limit s (after s i) i goes Block refl) ∙ holds.block_long;
+          here = leads_to_instruction program sizes.limit s (after s i) i goes;
           known = arrives sound (after s i) stays sizes.block program i facts s begins known there;
-          group = within_limit program sizes.limit s (after s i) i holds.group goes;
+          group = keeps_group_limit program sizes.limit s (after s i) i holds.group goes;
         }
 
     -- a bound on the group, wherever a run is
@@ -211,7 +210,7 @@ module _ {D : Type 0} {IsFact : D → Type 0} {contains : D → ℕ → Type 0} 
 
   pub accepted_never_traps : AcceptedNeverTraps operations
   accepted_never_traps program is sizes are_sizes accepted =
-      never_traps program sizes (begins program is) (short_offsets program is) are_sizes accepted
+      never_traps program sizes (begins_at_instruction program is) (short_offsets program is) are_sizes accepted
 
   pub accepted_emits_no_more : AcceptedEmitsNoMore operations
   accepted_emits_no_more program is sizes are_sizes accepted bytes context scratch long starting =
@@ -222,5 +221,5 @@ module _ {D : Type 0} {IsFact : D → Type 0} {contains : D → ℕ → Type 0} 
       let inside = begins_within program s.slot holds.here in
       let above = most_at program short sizes are_sizes accepted (length program) s.slot facts inside known in
       omega (arith, above, meets.group))
-      (begins program is) bytes context scratch long starting in
+      (begins_at_instruction program is) bytes context scratch long starting in
       run.group

@@ -16,7 +16,7 @@ use Rattle.program_interface.specs.declared.area.Area.{Area}
 use Rattle.program_interface.specs.declared.area.Area.TheVariants.{Context, Block, Stack, Scratch}
 use Rattle.program_interface.specs.declared.area.TheConstants.{STACK_BYTES}
 use Rattle.program_meaning.specs.Memory.{IsMemory, Memory, lies_in, loaded, stored, truncated, written}
-use Rattle.program_meaning.specs.PlaceLaws.{placed}
+use Rattle.program_meaning.proofs.Proved.{areas_are_apart}
 use Rattle.word_domain.specs.Domain.{IsAtOffset}
 use Rattle.word_domain.specs.declared.offsets.Offsets.{Offsets}
 use Rattle.accepted_programs.specs.Cells.{cell_from, cell_of, filled, has_byte, is_stack, no_cells, overwritten}
@@ -129,14 +129,14 @@ module _ (m : Memory) (is : IsMemory m) (address : ℕ) (size : Size) (word : �
   -- a store into another area leaves the stack
   pub stack_stays : (area : Area) → is_stack area ≡ false → lies_in (length m.block) area address (size_of size) ≡ true
       → (stored m address size word).stack ≡ m.stack
-  stack_stays Context other lies = rw (placed (length m.block) Context address (size_of size) is.block_fits lies) refl
-  stack_stays Block other lies = rw (placed (length m.block) Block address (size_of size) is.block_fits lies) refl
+  stack_stays Context other lies = rw (areas_are_apart (length m.block) Context address (size_of size) is.block_fits lies) refl
+  stack_stays Block other lies = rw (areas_are_apart (length m.block) Block address (size_of size) is.block_fits lies) refl
   stack_stays Stack other lies = cc
-  stack_stays Scratch other lies = rw (placed (length m.block) Scratch address (size_of size) is.block_fits lies) refl
+  stack_stays Scratch other lies = rw (areas_are_apart (length m.block) Scratch address (size_of size) is.block_fits lies) refl
 
   pub stack_written : lies_in (length m.block) Stack address (size_of size) ≡ true
       → (stored m address size word).stack ≡ written m.stack (address - address_of Stack) bytes
-  stack_written lies = rw (placed (length m.block) Stack address (size_of size) is.block_fits lies) refl
+  stack_written lies = rw (areas_are_apart (length m.block) Stack address (size_of size) is.block_fits lies) refl
 
 -- a load of a cell's bytes gives the cell's word
 pub cell_loaded : (m : Memory) → IsMemory m → (told : Option Offsets) (offset : ℤ) (j w : ℕ) → w < 2 ^ 64
@@ -151,7 +151,7 @@ cell_loaded m is told offset j w small near known e =
     (subst (λ area. (cell.offsets.low ≤ℤ (pos w -ℤ pos (address_of area))) × ((pos w -ℤ pos (address_of area)) ≤ℤ cell.offsets.high)) cell.stack far) in
     let inside : lies_in (length m.block) Stack (address_of Stack + 8 * j) 8 ≡ true = grind (arith, nat_tests, cell.within) in
     let at : address_of Stack + 8 * j - address_of Stack ≡ 8 * j = omega arith in
-    rw (there, placed (length m.block) Stack (address_of Stack + 8 * j) 8 is.block_fits inside, at) refl
+    rw (there, areas_are_apart (length m.block) Stack (address_of Stack + 8 * j) 8 is.block_fits inside, at) refl
 
 -- ---- cells after a store into the stack
 module _ {D : Type 0} (contains : D → ℕ → Type 0) (stack bytes : List ℕ) (at : ℕ) (whole : length stack ≡ STACK_BYTES)

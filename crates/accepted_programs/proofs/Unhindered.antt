@@ -26,8 +26,7 @@ use Rattle.program_meaning.specs.declared.cause.Cause.TheVariants as cause
 use Rattle.program_interface.specs.declared.area.Area.{Area}
 use Rattle.program_interface.specs.RunSizes.{AreSizes, Sizes}
 use Rattle.word_domain.specs.Domain.{Belongs, IsSound, Operations}
-use Rattle.program_meaning.specs.PlaceLaws.{placed}
-use Rattle.program_meaning.specs.PlaceLaws.{block_small}
+use Rattle.program_meaning.proofs.Proved.{areas_are_apart, blocks_are_short}
 use Rattle.accepted_programs.specs.Accepted.{all_reasons, begins_at, fails, is_unwritable, leads_nowhere, least_emitted, loads_outside, most_emitted, reason_of, stores_outside, turns_away}
 use Rattle.accepted_programs.specs.Facts.{area_of, fact, slot_behind}
 use Rattle.accepted_programs.proofs.KnownFacts.{AreFacts}
@@ -137,7 +136,7 @@ module _ {D : Type 0} {IsFact : D → Type 0} {contains : D → ℕ → Type 0} 
     block = sizes.block
 
     fits : block < 2 ^ 32
-    fits = block_small block are_sizes.block_size
+    fits = blocks_are_short block are_sizes.block_size
 
     word_of : (r : ℕ) → Belongs IsFact contains (fact operations facts r) (register s r)
     word_of r = belongs sound facts s.registers are is.words meets.registers r
@@ -151,7 +150,7 @@ module _ {D : Type 0} {IsFact : D → Type 0} {contains : D → ℕ → Type 0} 
         (record { beside = are_sizes.block_size; near = near; counted = counted }) told (word_of r)
 
     somewhere : (area : Area) (address n : ℕ) → lies_in block area address n ≡ true → is_nowhere s address n ≡ false
-    somewhere area address n inside = rw (long, placed block area address n fits inside) refl
+    somewhere area address n inside = rw (long, areas_are_apart block area address n fits inside) refl
 
     -- the area that is told for an access is where its bytes are
     found : (o : Option Area) (r : ℕ) (offset : ℤ) (size : ℕ) → FitsSigned w16 offset → size < 2 ^ 64
@@ -167,7 +166,7 @@ module _ {D : Type 0} {IsFact : D → Type 0} {contains : D → ℕ → Type 0} 
     writable None r offset size near counted told some = cc
     writable (Some area) r offset size near counted told some =
         let inside = lies area r offset size near counted told in
-        rw (long, placed block area (address_from s.registers r offset) size fits inside) some
+        rw (long, areas_are_apart block area (address_from s.registers r offset) size fits inside) some
 
     accesses : (i : Insn) → FitsSigned w16 (first_slot i).offset → loads_outside operations block facts i ≡ false
         → stores_outside operations block facts i ≡ false

@@ -16,7 +16,7 @@ use Rattle.instruction_set.specs.declared.operation.SwapSize.{SwapSize}
 use Rattle.instruction_set.specs.declared.operation.SwapSize.TheVariants as kept
 use Rattle.instruction_set.specs.declared.operation.Width.{Width}
 use Rattle.instruction_set.specs.declared.operation.Width.TheVariants.{Bits32, Bits64}
-use Rattle.program_meaning.proofs.WordLemmas.{computed_fits}
+use Rattle.program_meaning.proofs.Proved.{words_are_computed}
 use Rattle.program_meaning.specs.Word.{bits, computed, extended, low_bits, reordered, reversed}
 use Rattle.program_meaning.specs.declared.word.Arithmetic.{Arithmetic}
 use Rattle.program_meaning.specs.declared.word.Arithmetic.TheVariants.{Binary, Negate, MoveSigned, SwapBytes}
@@ -58,7 +58,7 @@ general_law : (w : Width) (operation : Operation) (d s : Fact) (x y : ℕ) → C
 general_law w operation d s x y hd hs = (
   combined_law w operation (operand_of w d) (operand_of w s) (low_bits w x) (low_bits w y) (operand_law w d x hd) (operand_law w s y hs)
       (low_fits w x (is_word d x hd)) (low_fits w y (is_word s y hs)),
-  computed_fits (Binary w operation) x y (is_word d x hd) (is_word s y hs),
+  words_are_computed (Binary w operation) x y (is_word d x hd) (is_word s y hs),
 )
 
 added_law : (d s : Fact) (x y : ℕ) → ContainsWord d x → ContainsWord s y → ContainsWord (added d s) (computed (Binary Bits64 Add) x y)
@@ -122,9 +122,9 @@ extended_is Bits32To64 y h = rw (to_z_pos w32 (y % 2 ^ 32) (omega arith)) (omega
 extended_below : (extension : SignExtension) (y : ℕ) → y < 2 ^ 64 → extended extension y < limit (width_of extension)
 extended_below Bits8To32 y h = grind arith
 extended_below Bits16To32 y h = grind arith
-extended_below Bits8To64 y h = computed_fits (MoveSigned Bits8To64) 0 y (omega arith) h
-extended_below Bits16To64 y h = computed_fits (MoveSigned Bits16To64) 0 y (omega arith) h
-extended_below Bits32To64 y h = computed_fits (MoveSigned Bits32To64) 0 y (omega arith) h
+extended_below Bits8To64 y h = words_are_computed (MoveSigned Bits8To64) 0 y (omega arith) h
+extended_below Bits16To64 y h = words_are_computed (MoveSigned Bits16To64) 0 y (omega arith) h
+extended_below Bits32To64 y h = words_are_computed (MoveSigned Bits32To64) 0 y (omega arith) h
 
 extended_of_law : (extension : SignExtension) (s : Bounds) (y : ℕ) → y < 2 ^ 64
     → IsWithin s (low_bits (width_of extension) y) → IsWithin (extended_of extension s) (extended extension y)
@@ -152,13 +152,13 @@ swapped_law Reverse size x h = reversed_law size x h
 estimated_law : (a : Arithmetic) (d s : Fact) (x y : ℕ) → ContainsWord d x → ContainsWord s y
     → ContainsWord (estimated a d s) (computed a x y)
 estimated_law (Binary w operation) d s x y hd hs = combined_of_law w operation d s x y hd hs
-estimated_law (Negate w) d s x y hd hs = (negated_law w x, computed_fits (Negate w) x y (is_word d x hd) (is_word s y hs))
+estimated_law (Negate w) d s x y hd hs = (negated_law w x, words_are_computed (Negate w) x y (is_word d x hd) (is_word s y hs))
 estimated_law (MoveSigned extension) d s x y hd hs = (
   extended_of_law extension (operand_of (width_of extension) s) y (is_word s y hs) (operand_law (width_of extension) s y hs),
-  computed_fits (MoveSigned extension) x y (is_word d x hd) (is_word s y hs),
+  words_are_computed (MoveSigned extension) x y (is_word d x hd) (is_word s y hs),
 )
 estimated_law (SwapBytes swap size) d s x y hd hs =
-    (swapped_law swap size x (is_word d x hd), computed_fits (SwapBytes swap size) x y (is_word d x hd) (is_word s y hs))
+    (swapped_law swap size x (is_word d x hd), words_are_computed (SwapBytes swap size) x y (is_word d x hd) (is_word s y hs))
 
 is_known_word : (f : Fact) (x : ℕ) → ContainsWord f x → is_known f ≡ true → x ≡ (bounds_of f).low
 is_known_word f x is one = known (bounds_of f) x (bounds_law f x is) one
@@ -196,6 +196,6 @@ alu_law a d s x y hd hs =
     either_fact (are_known a d s) _ _ (computed a x y)
     (λ are.
     let is = known_law a d s x y hd hs are in
-    let fits = computed_fits a x y (is_word d x hd) (is_word s y hs) in
+    let fits = words_are_computed a x y (is_word d x hd) (is_word s y hs) in
     subst (λ n. ContainsWord (Words (single n)) (computed a x y)) is (constant_law (computed a x y) fits))
     (λ _. estimated_law a d s x y hd hs)

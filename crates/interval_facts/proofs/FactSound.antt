@@ -11,7 +11,7 @@ use Rattle.instruction_set.specs.declared.operation.SignedSize.TheVariants as si
 use Rattle.instruction_set.specs.declared.operation.SignExtension.TheVariants.{Bits8To64, Bits16To64, Bits32To64}
 use Rattle.instruction_set.specs.declared.operation.Size.{Size}
 use Rattle.instruction_set.specs.declared.operation.Size.TheVariants.{Byte, HalfWord, Word, DoubleWord}
-use Rattle.program_meaning.proofs.WordLemmas.{extended_fits}
+use Rattle.program_meaning.proofs.Proved.{extensions_are_words}
 use Rattle.program_meaning.specs.Effect.{sign_extended}
 use Rattle.program_interface.specs.Area.{address_of}
 use Rattle.interval_facts.specs.Fact.{ContainsWord, IsWithin, bounds_of, full, is_single, join_of, loaded_of, loaded_signed_of, single, widened}
@@ -44,9 +44,9 @@ loaded_law Word n h = ((omega arith, omega arith), omega arith)
 loaded_law DoubleWord n h = ((omega arith, omega arith), omega arith)
 
 pub loaded_signed_law : (size : SignedSize) (n : ℕ) → ContainsWord (loaded_signed_of size) (sign_extended size n)
-loaded_signed_law signed.Byte n = any_law (sign_extended signed.Byte n) (extended_fits Bits8To64 n)
-loaded_signed_law signed.HalfWord n = any_law (sign_extended signed.HalfWord n) (extended_fits Bits16To64 n)
-loaded_signed_law signed.Word n = any_law (sign_extended signed.Word n) (extended_fits Bits32To64 n)
+loaded_signed_law signed.Byte n = any_law (sign_extended signed.Byte n) (extensions_are_words Bits8To64 n)
+loaded_signed_law signed.HalfWord n = any_law (sign_extended signed.HalfWord n) (extensions_are_words Bits16To64 n)
+loaded_signed_law signed.Word n = any_law (sign_extended signed.Word n) (extensions_are_words Bits32To64 n)
 
 pub widened_law : (f : Fact) (w : ℕ) → ContainsWord f w → ContainsWord (widened f) w
 widened_law (Words b) w is = either_fact (is_single b) _ _ w (λ _. is) (λ _. any_law w is.1)

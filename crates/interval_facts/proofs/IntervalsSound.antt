@@ -1,6 +1,6 @@
 -- The domain of intervals is sound.
 use Rattle.std.specs.Prelude.{Option, Some, None, IfSome}
-use Rattle.program_meaning.specs.PlaceLaws.{block_small}
+use Rattle.program_meaning.proofs.Proved.{blocks_are_short}
 use Rattle.word_domain.specs.Domain.{GiveFacts, IsSound, Operations}
 use Rattle.interval_facts.proofs.ArithmeticSound.{alu_law}
 use Rattle.interval_facts.proofs.EdgeSound.{refine_law}
@@ -38,7 +38,7 @@ intervals_sound = record {
   join_second = λ d e w _ is. join_second d e w is.within;
   alu = λ arithmetic d e x y hd he. alu_law arithmetic d e x y hd.within he.within;
   refine = λ width relation taken d e same x y hd he _ is. refine_law width relation taken d e same x y hd.within he.within is;
-  access = λ block d offset size area w is told belongs. access_law block d offset size area w (block_small block is.beside) told belongs.within;
+  access = λ block d offset size area w is told belongs. access_law block d offset size area w (blocks_are_short block is.beside) told belongs.within;
   bounds = λ d w is. bounds_law d w is.within;
   offsets = λ d told w are_told is. offsets_law d told w are_told is.within;
 }

@@ -8,7 +8,7 @@ use Rattle.program_meaning.specs.Memory.{lies_in}
 use Rattle.program_interface.specs.Area.{address_of, length_of}
 use Rattle.program_interface.specs.declared.area.Area.{Area}
 use Rattle.program_interface.specs.declared.area.Area.TheVariants.{Context, Block, Stack, Scratch}
-use Rattle.program_meaning.specs.PlaceLaws.{length_fits}
+use Rattle.program_meaning.proofs.Proved.{areas_are_short}
 use Rattle.interval_facts.proofs.FactSound.{any_law, either_fact}
 use Rattle.interval_facts.specs.Arithmetic.{moved_back, moved_on, signed_bounds}
 use Rattle.interval_facts.specs.Fact.{ContainsWord, access_of, farthest, offsets_of, pointer_to}
@@ -151,7 +151,7 @@ access_law block (Words b) offset size area w fits told is = cc
 access_law block (Pointer area' low high) offset size area w fits told is =
     let named = some_area {test = int_le (pos 0) (low +ℤ offset) && int_le ((high +ℤ offset) +ℤ pos size) (pos (length_of block area'))} {area = area'} told in
     let both = and_parts (int_le (pos 0) (low +ℤ offset)) (int_le ((high +ℤ offset) +ℤ pos size) (pos (length_of block area'))) named.0 in
-    let inside = reached (address_of area') (length_of block area') size w low high offset (far_in area') (length_fits block area' fits)
+    let inside = reached (address_of area') (length_of block area') size w low high offset (far_in area') (areas_are_short block area' fits)
     is.2 is.0 is.1 (int_le-true _ _ both.0) (int_le-true _ _ both.1) in
     let address = (w + cast_unsigned w64 offset) % 2 ^ 64 in
     subst (λ a. lies_in block a address size ≡ true) named.1

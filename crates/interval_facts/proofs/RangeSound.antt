@@ -12,7 +12,7 @@ use Rattle.instruction_set.specs.declared.operation.Operation.TheVariants.{Add, 
 use Rattle.instruction_set.specs.declared.operation.Width.{Width}
 use Rattle.instruction_set.specs.declared.operation.Width.TheVariants.{Bits32, Bits64}
 use Rattle.program_meaning.specs.Word.{bits, count, result_of, signed}
-use Rattle.program_meaning.proofs.WordLemmas.{result_fits}
+use Rattle.program_meaning.proofs.Proved.{operations_keep_width}
 use Rattle.interval_facts.proofs.Numbers.{mod_below_is, quotient_grows, wraps_once}
 use Rattle.interval_facts.specs.Fact.{IsWithin, is_single, range, single}
 use Rattle.interval_facts.specs.Range.{limit, half, top, sum, difference, product, quotient, remainder, if_positive, conjunction, shifted_left, shifted_left_by, shifted_right, shifted_right_by, combined}
@@ -128,7 +128,7 @@ signed_quotient_law w d s x y hd hs fx fy =
     (λ positive.
     let are = both_signed w d s x y hd hs positive in
     rw (are.0, are.1) (quotient_law d s x y hd hs))
-    (λ _. top_law w (result_of w SignedDivide x y) (result_fits w SignedDivide x y fx fy))
+    (λ _. top_law w (result_of w SignedDivide x y) (operations_keep_width w SignedDivide x y fx fy))
 
 signed_remainder_law : (w : Width) (d s : Bounds) (x y : ℕ) → IsWithin d x → IsWithin s y → x < limit w → y < limit w
     → IsWithin (if_positive w d s (remainder d s)) (result_of w SignedModulo x y)
@@ -137,7 +137,7 @@ signed_remainder_law w d s x y hd hs fx fy =
     (λ positive.
     let are = both_signed w d s x y hd hs positive in
     rw (are.0, are.1) (remainder_law d s x y hd hs))
-    (λ _. top_law w (result_of w SignedModulo x y) (result_fits w SignedModulo x y fx fy))
+    (λ _. top_law w (result_of w SignedModulo x y) (operations_keep_width w SignedModulo x y fx fy))
 
 conjunction_law : (d s : Bounds) (x y : ℕ) → IsWithin d x → IsWithin s y → IsWithin (conjunction d s) (bit_and x y)
 conjunction_law d s x y hd hs =
@@ -183,7 +183,7 @@ arithmetic_shift_law w d s x y hd hs fx fy =
     (λ positive.
     let below = ltb-true d.high (half w) positive in
     rw (signed_is w x (omega arith)) (shifted_right_law w d s x y hd hs))
-    (λ _. top_law w (result_of w ArithmeticShift x y) (result_fits w ArithmeticShift x y fx fy))
+    (λ _. top_law w (result_of w ArithmeticShift x y) (operations_keep_width w ArithmeticShift x y fx fy))
 
 pub combined_law : (w : Width) (operation : Operation) (d s : Bounds) (x y : ℕ) → IsWithin d x → IsWithin s y
     → x < limit w → y < limit w → IsWithin (combined w operation d s) (result_of w operation x y)
@@ -192,12 +192,12 @@ combined_law w Subtract d s x y hd hs fx fy = difference_law w d s x y hd hs fx 
 combined_law w Multiply d s x y hd hs fx fy = product_law w d s x y hd hs
 combined_law w Divide d s x y hd hs fx fy = quotient_law d s x y hd hs
 combined_law w SignedDivide d s x y hd hs fx fy = signed_quotient_law w d s x y hd hs fx fy
-combined_law w Or d s x y hd hs fx fy = top_law w (bit_or x y) (result_fits w Or x y fx fy)
+combined_law w Or d s x y hd hs fx fy = top_law w (bit_or x y) (operations_keep_width w Or x y fx fy)
 combined_law w And d s x y hd hs fx fy = conjunction_law d s x y hd hs
 combined_law w LeftShift d s x y hd hs fx fy = shifted_left_law w d s x y hd hs
 combined_law w RightShift d s x y hd hs fx fy = shifted_right_law w d s x y hd hs
 combined_law w Modulo d s x y hd hs fx fy = remainder_law d s x y hd hs
 combined_law w SignedModulo d s x y hd hs fx fy = signed_remainder_law w d s x y hd hs fx fy
-combined_law w Xor d s x y hd hs fx fy = top_law w (bit_xor x y) (result_fits w Xor x y fx fy)
+combined_law w Xor d s x y hd hs fx fy = top_law w (bit_xor x y) (operations_keep_width w Xor x y fx fy)
 combined_law w Move d s x y hd hs fx fy = hs
 combined_law w ArithmeticShift d s x y hd hs fx fy = arithmetic_shift_law w d s x y hd hs fx fy

@@ -1,8 +1,10 @@
-pub mod CauseLemmas
-pub mod Entry
-pub mod Groups
-pub mod MapLemmas
-pub mod MemoryLemmas
-pub mod Running
-pub mod StateLemmas
-pub mod WordLemmas
+mod CauseLemmas
+mod Entry
+mod Groups
+mod MapLemmas
+mod MemoryLemmas
+mod Placed
+mod Running
+mod StateLemmas
+mod WordLemmas
+pub mod Proved

@@ -2,7 +2,6 @@ pub mod Cause
 pub mod Effect
 pub mod Laws
 pub mod Memory
-pub mod PlaceLaws
 pub mod Run
 pub mod State
 pub mod Step

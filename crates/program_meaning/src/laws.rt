@@ -1,6 +1,46 @@
 //! Laws of the definitions: each function's contract is one, and its body is empty.
 
-ghost use Rattle.program_meaning.specs.Laws.{AccessIsMapped, BeginsAtInstruction, ChangesOnly, EmitsFromMap, EndsInRun, EndsWithMoreFuel, EntryIsInRun, EntryIsState, KeepsGroupLimit, KeepsState, LeadsToInstruction, LoadsFromMap, StoresIntoMap, StuckByLeast};
+ghost use Rattle.program_meaning.specs.Laws.{AccessIsMapped, AreasAreApart, AreasAreShort, BeginsAtInstruction, BlocksAreShort, ChangesOnly, EmitsFromMap, EndsInRun, EndsWithMoreFuel, EntryIsInRun, EntryIsState, ExtensionsAreWords, KeepsGroupLimit, KeepsReadOnly, KeepsState, LeadsToInstruction, LoadsFit, LoadsFromMap, OperationsKeepWidth, RunsByOutcome, StoresIntoMap, StuckByLeast, WordsAreComputed, WritesReadBack};
+
+/// An operation on numbers of so many bits gives one of as many.
+pub fn operations_keep_width()
+    ensures { OperationsKeepWidth }
+{}
+
+/// A sign-extending move gives a word.
+pub fn extensions_are_words()
+    ensures { ExtensionsAreWords }
+{}
+
+/// Arithmetic on words gives a word.
+pub fn words_are_computed()
+    ensures { WordsAreComputed }
+{}
+
+/// A block of a size that a device may have fits into the addresses of its area.
+pub fn blocks_are_short()
+    ensures { BlocksAreShort }
+{}
+
+/// Each area fits into its addresses.
+pub fn areas_are_short()
+    ensures { AreasAreShort }
+{}
+
+/// Bytes that all lie in an area have their place there: the areas are apart.
+pub fn areas_are_apart()
+    ensures { AreasAreApart }
+{}
+
+/// Bytes that are written into a list stand where they were written, and the others are as before.
+pub fn writes_read_back()
+    ensures { WritesReadBack }
+{}
+
+/// A load gives a number of as many bytes as it takes.
+pub fn loads_fit()
+    ensures { LoadsFit }
+{}
 
 /// Bytes lie in one area exactly where each of them is in the map from addresses to bytes.
 pub fn access_is_mapped()
@@ -28,6 +68,12 @@ pub fn stuck_by_least()
     ensures { StuckByLeast }
 {}
 
+/// A run without fuel is out of it at once; with fuel it comes to what its first step comes to, and goes on
+/// with one less.
+pub fn runs_by_outcome()
+    ensures { RunsByOutcome }
+{}
+
 /// A run that has ended ends the same with more fuel.
 pub fn ends_with_more_fuel()
     ensures { EndsWithMoreFuel }
@@ -47,6 +93,11 @@ pub fn entry_is_state()
 /// memory.
 pub fn keeps_state()
     ensures { KeepsState }
+{}
+
+/// A step writes neither the context nor the block.
+pub fn keeps_read_only()
+    ensures { KeepsReadOnly }
 {}
 
 /// A step that goes on leads to an instruction.

@@ -2,4 +2,4 @@ use Rattle.program_meaning.proofs.Running.{more_fuel}
 use Rattle.program_meaning.proofs.laws.ends_with_more_fuel.Goals as goal
 
 pub returns : goal.returns
-returns c program limit fuel more n s ended = more_fuel program limit more fuel n s ended
+returns c = more_fuel

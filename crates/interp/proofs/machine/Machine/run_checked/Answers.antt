@@ -1,6 +1,5 @@
 use Rattle.std.proofs.Common.{rules, arith, ◌∙◌}
-use Rattle.interp.proofs.Running.{drop_later}
-use Rattle.program_meaning.proofs.Running.{ends, goes_on, runs_out, sticks}
+use Rattle.interp.proofs.Running.{drop_later, ends, goes_on, runs_out, sticks}
 use Rattle.interp.proofs.machine.Machine.run_checked.Goals as goal
 
 pub steps-preserved : goal.steps-preserved
