@@ -9,7 +9,7 @@ use Rattle.pushdown.specs.Events.{HasServed}
 use Rattle.pushdown.specs.Parts.{HasFinished}
 use Rattle.pushdown.specs.State.{State, new_state}
 use Rattle.device_events.specs.declared.event.Event.{Event}
-use Rattle.pushdown.proofs.Parts.{served_and_drained}
+use Rattle.pushdown.proofs.Proved.{served_and_drained}
 use Rattle.runner.specs.declared.device.Stopped.{Stopped}
 use Rattle.command_files.specs.Made.{Made, then_made}
 use Rattle.command_exec.specs.Saved.{HasBegun, InTurns, SavesAll, SavesFirst}

@@ -13,6 +13,7 @@ use Rattle.image_store.specs.Geometry.{Shape}
 use Rattle.image_store.specs.Namespace.{ZoneBlocks, ZonedNamespace, appended, grown, no_zone, shape, with_zone, zone_at}
 use Rattle.zns_commands.specs.Left.{Grows}
 use Rattle.zns_commands.proofs.Proved.{grows_by_none, replaced_grows}
+use Rattle.pushdown.specs.Laws.{BlocksLeaveOthers}
 use Rattle.pushdown.specs.Machine.{added}
 use Rattle.pushdown.proofs.Bytes.{AreBlocks, all_append, by_index, from_index}
 
@@ -108,3 +109,6 @@ pub added_bytes : (ns : ZonedNamespace) (z : ℕ) (blocks : List (List ℕ)) →
 added_bytes ns z [] some one h = absurd (some refl)
 added_bytes ns z (b ∷ bs) some one h =
     ap (λ (more : List (List ℕ)). with_zone ns z (grown ns.capacity (zone_at ns z) more)) (sym (bytes_cut ns.block (b ∷ bs) one h))
+
+pub blocks_leave_others : BlocksLeaveOthers
+blocks_leave_others ns z blocks = record { same_shape = added_shape ns z blocks; others = λ other differs. added_leaves ns z other blocks differs }

@@ -7,7 +7,7 @@ use Rattle.accepted_programs.specs.Laws.{AcceptedNeverTraps}
 use Rattle.pushdown.specs.Answers.{Happening}
 use Rattle.pushdown.specs.Draining.{Drains, lowest_run, turns_left, turns_left_at}
 use Rattle.pushdown.specs.Events.{state_after}
-use Rattle.pushdown.specs.Laws.{DrainingEnds}
+use Rattle.pushdown.specs.Laws.{DrainingEnds, TurnsLeaveFewer}
 use Rattle.pushdown.specs.Machine.{place_left, turned}
 use Rattle.pushdown.specs.Outcome.{Ending, Turn}
 use Rattle.pushdown.specs.State.{Place, State, new_state, place_at}
@@ -68,3 +68,8 @@ pub draining_ends : {D : Type 0} (operations : Operations D) → AcceptedNeverTr
 draining_ends operations never ns events is are =
     let s = state_after operations events (new_state ns) in
     drains operations never ns.block (turns_left s.places) s (reached operations never ns events is are) (omega arith)
+
+pub turns_leave_fewer : {D : Type 0} (operations : Operations D) → AcceptedNeverTraps operations → TurnsLeaveFewer operations
+turns_leave_fewer operations never ns events run is are some =
+    let s = state_after operations events (new_state ns) in
+    found_less operations never ns.block s run (place_at s run) (reached operations never ns events is are) refl some

@@ -13,6 +13,7 @@ use Rattle.word_domain.specs.Domain.{Operations}
 use Rattle.image_store.specs.Namespace.{zone_at}
 use Rattle.zns_commands.proofs.Proved.{grows_by_none, sources_keep_blocks, steps_keep_shapes}
 use Rattle.nvme_entry.proofs.Proved.{demanded, passed}
+use Rattle.zone_resources.proofs.Proved.{users_name_zones}
 use Rattle.pushdown.specs.Admission.{Loaded, SameProgram}
 use Rattle.pushdown.specs.Laws.{EventsKeepForRuns, KeepsFor}
 use Rattle.pushdown.specs.Machine.{happens, just_loaded, keeping, load_checks, slots_left}
@@ -22,7 +23,7 @@ use Rattle.device_events.specs.declared.event.Event.{Event}
 use Rattle.pushdown.proofs.Added.{added_grows, added_shape}
 use Rattle.pushdown.proofs.Changes.{after_event}
 use Rattle.pushdown.proofs.OthersEvents.{there}
-use Rattle.pushdown.proofs.Places.{named_at, not_true}
+use Rattle.pushdown.proofs.Places.{not_true}
 
 -- ---- programs
 
@@ -54,7 +55,7 @@ left_program s p (Some ending) slot =
 
 source_at : (places : List (Option Place)) (run : ℕ) (place : Place) → get_or places run None ≡ Some place
     → list_any (names place.source) (map source_of places) ≡ true
-source_at places run place at = named_at source_of place.source places run place at refl
+source_at places run place at = users_name_zones source_of place.source places run place at refl
 
 used_at : (places : List (Option Place)) (run : ℕ) (place : Place) → get_or places run None ≡ Some place
     → list_any (uses place.slot) places ≡ true

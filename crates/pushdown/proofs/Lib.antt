@@ -1,32 +1,33 @@
-pub mod Added
-pub mod AnyOrder
-pub mod BlockRuns
-pub mod Bytes
-pub mod Changes
-pub mod Commuting
-pub mod TurnsDone
-pub mod Drained
-pub mod Emitted
-pub mod ExampleEvents
-pub mod ExampleLoads
-pub mod ExampleRuns
-pub mod Examples
-pub mod OthersEvents
-pub mod Headline
-pub mod Lasting
-pub mod Loads
-pub mod Memory
-pub mod KeptForRuns
-pub mod Outcomes
-pub mod Parts
-pub mod Pending
-pub mod Places
-pub mod ReadBack
-pub mod Rests
-pub mod TurnsFit
-pub mod RunsFit
-pub mod RunsRead
-pub mod SameTurns
-pub mod Spelled
-pub mod States
-pub mod Views
+mod Added
+mod AnyOrder
+mod BlockRuns
+mod Bytes
+mod Changes
+mod Commuting
+mod Drained
+mod Emitted
+mod ExampleEvents
+mod ExampleLoads
+mod ExampleRuns
+mod Examples
+mod Headline
+mod KeptForRuns
+mod Lasting
+mod Loads
+mod Memory
+mod OthersEvents
+mod Outcomes
+mod Parts
+mod Pending
+mod Places
+pub mod Proved
+mod ReadBack
+mod Rests
+mod RunsFit
+mod RunsRead
+mod SameTurns
+mod Spelled
+mod States
+mod TurnsDone
+mod TurnsFit
+mod Views

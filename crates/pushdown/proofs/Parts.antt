@@ -1,18 +1,20 @@
 -- Lists of events, in parts, and turns as events.
-use Rattle.std.proofs.Common.{suc, ◌≡◌, ℕ, List, [], ◌∷◌, ◌++◌, map, Option, Some, None, refl, ap, sym, subst, ◌∙◌, append_assoc}
+use Rattle.std.proofs.Common.{suc, ◌≡◌, ℕ, List, [], ◌∷◌, ◌++◌, map, Option, refl, ap, sym, subst, ◌∙◌, append_assoc}
 use Rattle.std.proofs.lemmas.List.{map-append}
 use Rattle.word_domain.specs.Domain.{Operations}
 use Rattle.device_events.specs.Replies.{ReplyWithData, and_then}
+use Rattle.device_events.proofs.Proved.{taken_in_parts}
 use Rattle.pushdown.specs.Draining.{AreLowest, Drains, answers_to_turns, lowest_run, state_after_turns}
 use Rattle.pushdown.specs.Events.{Occurrence, answers_to, state_after}
 use Rattle.pushdown.specs.Machine.{happens, turned}
-use Rattle.pushdown.specs.Parts.{DrainedByTurns, DrainedInOneWay, InParts, OneAnswerEach, ServedAndDrained, ServedInParts, turn_events}
+use Rattle.pushdown.specs.Parts.{DrainedByTurns, DrainedInOneWay, EventsJoin, InParts, OneAnswerEach, ServedAndDrained, ServedInParts, turn_events}
+use Rattle.pushdown.specs.Pushdown.{HasBytes}
 use Rattle.pushdown.specs.State.{State}
 use Rattle.device_events.specs.declared.event.Event.{Event}
+use Rattle.pushdown.proofs.Bytes.{all_append}
 
-pub and_then-and_then : (before : Option (List ReplyWithData)) (first later : List ReplyWithData) → and_then (and_then before first) later ≡ and_then before (first ++ later)
-and_then-and_then None first later = refl
-and_then-and_then (Some xs) first later = ap Some (append_assoc xs first later)
+pub events_join : EventsJoin
+events_join first later are more = all_append (λ (o : Occurrence). HasBytes o.event) first later are more
 
 module _ {D : Type 0} (operations : Operations D) where
   abbrev next : Occurrence → State → State
@@ -46,7 +48,7 @@ module _ {D : Type 0} (operations : Operations D) where
       let done = answers_to operations first old in
       late
       ∙ ap (λ (b : Option (List ReplyWithData)). and_then b (answers_to operations later between)) early
-      ∙ and_then-and_then before done (answers_to operations later between)
+      ∙ taken_in_parts before done (answers_to operations later between)
       ∙ ap (λ (s : State). and_then before (done ++ answers_to operations later s)) state
       ∙ ap (and_then before) (sym (answers_to-append first later old))
 

@@ -2,10 +2,7 @@
 use Rattle.std.proofs.Common.{◌≡◌, ◌≢◌, ℕ, zero, suc, ◌<◌, Bool, true, false, List, length, set, map, get_or, replicate, Option, Some, None, refl, ap, sym, subst, ◌∙◌, arith, inl, inr, get_or-set_other, get_or-set_same}
 use Rattle.std.specs.Prelude.{not, is_some}
 use Rattle.std.specs.List.{list_any}
-use Rattle.std.proofs.lemmas.Bool.{eq-eqb}
 use Rattle.std.proofs.lemmas.Bool.Decides.{eqb_tells}
-use Rattle.std.proofs.lemmas.List.{length-map, get_or-map}
-use Rattle.std.proofs.lemmas.List.Folds.{list_any_at}
 use Rattle.zone_state.specs.declared.status.TheConstants.Status.{ZONE_HELD}
 use Rattle.zone_resources.specs.Holds.{is_destination, names}
 use Rattle.zone_resources.specs.declared.holds.TheConstants.{RUNS}
@@ -13,6 +10,7 @@ use Rattle.nvme_entry.specs.declared.command.RunCommand.{RunCommand}
 use Rattle.word_domain.specs.Domain.{Operations}
 use Rattle.image_store.specs.Namespace.{ZonedNamespace}
 use Rattle.nvme_entry.proofs.Proved.{passed, demanded}
+use Rattle.zone_resources.proofs.Proved.{users_name_zones}
 use Rattle.pushdown.specs.Admission.{admission_checks, destination_zone}
 use Rattle.pushdown.specs.Answers.{Submission}
 use Rattle.pushdown.specs.Machine.{admitted_place, happens, place_left, turned, why_not_run}
@@ -42,17 +40,9 @@ new_apart ns = record { apart = λ j k p q at_j at_k same. let none = none_place
 
 -- ---- the zone that an active run appends to is held
 
--- what an active run has of a zone names that zone
-pub named_at : {A : Type 0} (of : Option A → Option ℕ) (z : ℕ) (places : List (Option A)) (run : ℕ) (place : A) → get_or places run None ≡ Some place
-    → of (Some place) ≡ Some z → list_any (names z) (map of places) ≡ true
-named_at of z places run place at is =
-    let inside = there places run place at in
-    list_any_at (names z) (map of places) run (of None) (omega (arith, inside, length-map places of))
-    (ap (names z) (get_or-map of places run None (of None) inside ∙ ap of at ∙ is) ∙ eq-eqb z z refl)
-
 pub held_at : (places : List (Option Place)) (run : ℕ) (place : Place) → get_or places run None ≡ Some place
     → list_any (names place.destination) (map destination_of places) ≡ true
-held_at places run place at = named_at destination_of place.destination places run place at refl
+held_at places run place at = users_name_zones destination_of place.destination places run place at refl
 
 -- ---- places of which each is empty, or has the slot and the destination that it had
 

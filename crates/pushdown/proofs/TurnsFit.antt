@@ -10,14 +10,13 @@ use Rattle.image_store.specs.Blocks.{bytes_of}
 use Rattle.image_store.specs.Namespace.{ZoneBlocks, ZonedNamespace, IsNamespace, appended, grown, no_zone, zone_at}
 use Rattle.zns_commands.specs.Append.{TakesBlocks}
 use Rattle.zns_commands.proofs.Proved.{blocks_are_appended, blocks_keep_namespaces}
-use Rattle.pushdown.specs.Laws.{IsAppended, RoomIn}
+use Rattle.pushdown.specs.Laws.{IsAppended, RoomIn, RoomIsOpen, RoomStays}
 use Rattle.pushdown.specs.Machine.{added}
 use Rattle.pushdown.specs.Outcome.{Ending, Turn, appended_by}
 use Rattle.pushdown.proofs.Added.{added_bytes, bytes_are, bytes_count, bytes_long, inside, open_on}
 use Rattle.pushdown.proofs.Bytes.{AreBlocks}
 
-pub still_open : (capacity : ℕ) (zone : ZoneBlocks) (b : List ℕ) (bs : List (List ℕ)) (ending : Option Ending) (later : List Turn)
-    → RoomIn capacity zone (record { blocks = b ∷ bs; ending = ending } ∷ later) → is_open zone.state ≡ true
+pub still_open : RoomIsOpen
 still_open capacity zone b bs ending later h = elim h.opened [
   | inl is ↦ is
   | inr filled ↦ absurd (omega (arith, h.room, filled))
@@ -89,8 +88,7 @@ turn_appended ns z (b ∷ bs) ending turns sound new h some =
     more_appended ns z b bs (still_open ns.capacity (zone_at ns z) b bs ending turns h)
     (omega (arith, h.room, length-append (b ∷ bs) (appended_by turns))) sound new
 
-pub turn_room : (ns : ZonedNamespace) (z : ℕ) (blocks : List (List ℕ)) (ending : Option Ending) (turns : List Turn)
-    → HasRoom ns z blocks ending turns → RoomIn ns.capacity (zone_at (added ns z blocks) z) turns
+pub turn_room : RoomStays
 turn_room ns z [] ending turns h = record { room = h.room; opened = h.opened }
 turn_room ns z (b ∷ bs) ending turns h =
     let is = still_open ns.capacity (zone_at ns z) b bs ending turns h in

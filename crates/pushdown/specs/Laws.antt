@@ -1,5 +1,5 @@
 -- Laws of the definitions.
-use Rattle.std.specs.Prelude.{◌≤◌, ◌*◌, ℕ, Bool, true, false, ◌≡◌, ◌≢◌, ◌+◌, List, [], ◌∷◌, length, map, Vec, Some, None, Ok, ◌⊎◌}
+use Rattle.std.specs.Prelude.{◌≤◌, ◌*◌, ℕ, Bool, true, false, ◌≡◌, ◌≢◌, ◌+◌, List, [], ◌∷◌, length, map, Vec, Option, Some, None, Ok, ◌⊎◌, is_some}
 use Rattle.std.specs.List.{AllByRecursion, concat, flat_map}
 use Rattle.std.specs.declared.alloc.Global.{Global}
 use Rattle.zone_state.specs.State.{is_open}
@@ -18,10 +18,10 @@ use Rattle.zns_commands.specs.Left.{Grows}
 use Rattle.pushdown.specs.Admission.{SameProgram, source_blocks, task_of}
 use Rattle.pushdown.specs.Answers.{Happening, Submission, plain}
 use Rattle.pushdown.specs.BlockRuns.{Task, block_run, frames_of, goes_on, groups_of, runs_of, scratch_after}
-use Rattle.pushdown.specs.Draining.{Drains}
+use Rattle.pushdown.specs.Draining.{Drains, turns_left}
 use Rattle.pushdown.specs.Events.{Occurrence, state_after}
 use Rattle.pushdown.specs.Machine.{added, admitted_place, happens, turned}
-use Rattle.pushdown.specs.Outcome.{Progress, Turn, appended_by, at_admission, ending_of, last_turn, outcome, output_of, rest}
+use Rattle.pushdown.specs.Outcome.{Ending, Progress, Turn, appended_by, at_admission, ending_of, last_turn, outcome, output_of, rest}
 use Rattle.pushdown.specs.Pushdown.{AreEvents, IsAdmitted, is_turn_of, success_of}
 use Rattle.pushdown.specs.State.{Place, State, new_state, place_at, program_at}
 use Rattle.device_events.specs.declared.event.Event.TheVariants as event
@@ -163,6 +163,36 @@ abbrev pub DrainingEnds : {D : Type 0} → Operations D → Type 0
 DrainingEnds operations =
     (ns : ZonedNamespace) (events : List Occurrence) → IsNamespace ns → AreEvents events
     → (runs : List ℕ) × Drains (state_after operations events (new_state ns)) runs
+
+-- ---- what the blocks of a turn leave
+
+-- blocks that are added to a zone leave the shape of the namespace, and each other zone
+pub record OthersStay (ns : ZonedNamespace) (z : ℕ) (blocks : List (List ℕ)) : Type 0 where
+  pub same_shape : shape (added ns z blocks) ≡ shape ns
+  pub others : (other : ℕ) → other ≢ z → zone_at (added ns z blocks) other ≡ zone_at ns other
+
+abbrev pub BlocksLeaveOthers : Type 0
+BlocksLeaveOthers = (ns : ZonedNamespace) (z : ℕ) (blocks : List (List ℕ)) → OthersStay ns z blocks
+
+-- a zone with room for turns, of which the first appends a block, is open
+abbrev pub RoomIsOpen : Type 0
+RoomIsOpen =
+    (capacity : ℕ) (zone : ZoneBlocks) (b : List ℕ) (bs : List (List ℕ)) (ending : Option Ending) (later : List Turn)
+    → RoomIn capacity zone (record { blocks = b ∷ bs; ending = ending } ∷ later) → is_open zone.state ≡ true
+
+-- and when the first has appended, it has room for the later ones
+abbrev pub RoomStays : Type 0
+RoomStays =
+    (ns : ZonedNamespace) (z : ℕ) (blocks : List (List ℕ)) (ending : Option Ending) (later : List Turn)
+    → RoomIn ns.capacity (zone_at ns z) (record { blocks = blocks; ending = ending } ∷ later)
+    → RoomIn ns.capacity (zone_at (added ns z blocks) z) later
+
+-- in each state that events leave, a turn of an active run leaves fewer turns
+abbrev pub TurnsLeaveFewer : {D : Type 0} → Operations D → Type 0
+TurnsLeaveFewer operations =
+    (ns : ZonedNamespace) (events : List Occurrence) (run : ℕ) → IsNamespace ns → AreEvents events
+    → let s = state_after operations events (new_state ns) in
+    is_some (place_at s run) ≡ true → turns_left (turned s run).state.places + 1 ≤ turns_left s.places
 
 -- ---- in a user's words
 

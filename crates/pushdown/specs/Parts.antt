@@ -4,6 +4,7 @@ use Rattle.word_domain.specs.Domain.{Operations}
 use Rattle.device_events.specs.Replies.{ReplyWithData, and_then}
 use Rattle.pushdown.specs.Draining.{Drains, HasDrained, answers_to_turns, lowest_run, state_after_turns}
 use Rattle.pushdown.specs.Events.{AreOf, HasServed, Occurrence, answers_to, state_after}
+use Rattle.pushdown.specs.Pushdown.{AreEvents}
 use Rattle.pushdown.specs.State.{State}
 use Rattle.device_events.specs.declared.event.Event.{Event}
 use Rattle.device_events.specs.declared.event.Event.TheVariants as event
@@ -38,6 +39,10 @@ module _ {D : Type 0} (operations : Operations D) where
     pub state : new ≡ state_after operations (occurrences ++ turn_events runs) old
     pub answers : taken ≡ and_then before (answers_to operations (occurrences ++ turn_events runs) old)
     pub none_left : lowest_run new ≡ None
+
+-- the events of two lists that bytes can spell are so together
+abbrev pub EventsJoin : Type 0
+EventsJoin = (first later : List Occurrence) → AreEvents first → AreEvents later → AreEvents (first ++ later)
 
 -- events can be served in parts
 abbrev pub InParts : {D : Type 0} → Operations D → Type 0

@@ -1,9 +1,9 @@
 //! Laws of the definitions. Each function does nothing: what it ensures is the law.
 
 ghost use Rattle.pushdown.specs.AnyOrder.{TurnsInAnyOrder};
-ghost use Rattle.pushdown.specs.Laws.{AdmittedStarts, DrainingEnds, EmittedReadsBack, EventsKeepForRuns, ForeignLeavesTurns, OutcomeIsPacked, PendingIsAdmitted, RestAtAdmission, RestEnds, RestGoesOn, RestIsFew, StatesAreSound, TurnTakesFirst};
+ghost use Rattle.pushdown.specs.Laws.{AdmittedStarts, BlocksLeaveOthers, DrainingEnds, EmittedReadsBack, EventsKeepForRuns, ForeignLeavesTurns, OutcomeIsPacked, PendingIsAdmitted, RestAtAdmission, RestEnds, RestGoesOn, RestIsFew, RoomIsOpen, RoomStays, StatesAreSound, TurnTakesFirst, TurnsLeaveFewer};
 ghost use Rattle.pushdown.specs.Memory.{OnlyLoadsWantMemory};
-ghost use Rattle.pushdown.specs.Parts.{DrainedByTurns, DrainedInOneWay, InParts, OneAnswerEach, ServedAndDrained, ServedInParts};
+ghost use Rattle.pushdown.specs.Parts.{DrainedByTurns, DrainedInOneWay, EventsJoin, InParts, OneAnswerEach, ServedAndDrained, ServedInParts};
 ghost use Rattle.pushdown.specs.Pushdown.{Pushdown};
 ghost use Rattle.pushdown.specs.ReadBack.{AppendedReadsBack, RunsReadBack, ShapesAreKept, UnclearedKeepBlocks, WrittenIsRead, WrittenReadsBack};
 ghost use Rattle.pushdown.specs.View.{SeenAtAdmission, SeenStays};
@@ -51,6 +51,14 @@ pub fn appends_fit<D: Domain>()
     ensures { StatesAreSound D.operations }
 {}
 
+/// The blocks of a turn leave each other zone and the namespace's shape. A zone with room for turns that append
+/// is open, and after the first of them it has room for the others.
+pub fn room_lasts()
+    ensures others { BlocksLeaveOthers }
+    ensures open { RoomIsOpen }
+    ensures stays { RoomStays }
+{}
+
 /// Only a Load asks for memory: that it is refused changes nothing of what any other event comes to.
 pub fn only_loads_want_memory<D: Domain>()
     ensures { OnlyLoadsWantMemory D.operations }
@@ -63,6 +71,7 @@ pub fn one_answer_each<D: Domain>()
 
 /// Events can be served in parts: the later ones happen to what the earlier ones leave.
 pub fn served_in_parts<D: Domain>()
+    ensures joined { EventsJoin }
     ensures parts { InParts D.operations }
     ensures served { ServedInParts D.operations }
 {}
@@ -76,9 +85,10 @@ pub fn served_and_drained<D: Domain>()
 {}
 
 /// In each state that events leave, turns of the lowest active run come to an end: no run is left, after at
-/// most as many turns as are left of all.
+/// most as many turns as are left of all, since each of them leaves fewer.
 pub fn draining_ends<D: Domain>()
-    ensures { DrainingEnds D.operations }
+    ensures fewer { TurnsLeaveFewer D.operations }
+    ensures ends { DrainingEnds D.operations }
 {}
 
 /// What a run appends to its destination, unpacked, is the records that its program emitted, in order.

@@ -12,11 +12,8 @@ use Rattle.pushdown.specs.Draining.{AreLowest, HasDrained, StopsDraining, answer
 use Rattle.pushdown.specs.Machine.{turned}
 use Rattle.pushdown.specs.State.{State, place_at}
 use Rattle.pushdown.specs.View.{seen, to_come}
-use Rattle.pushdown.proofs.Drained.{found_less}
-use Rattle.pushdown.proofs.Parts.{and_then-and_then}
-use Rattle.pushdown.proofs.Rests.{rest_is_few}
-use Rattle.pushdown.proofs.States.{IsFine}
-use Rattle.pushdown.proofs.States.{reached as are_fine}
+use Rattle.device_events.proofs.Proved.{taken_in_parts}
+use Rattle.pushdown.proofs.Proved.{rest_is_few, turns_leave_fewer}
 use Rattle.runner.specs.Held.{active_of, loaded_slot, device_state}
 use Rattle.runner.specs.Ready.{Fits, IsReached}
 use Rattle.runner.specs.declared.active_run.Active.{Active as Held}
@@ -27,9 +24,8 @@ use Rattle.runner.proofs.Reached.{never}
 
 pub turn_less : (s : State) (run : ℕ) → IsReached s → lowest_run s ≡ Some run → turns_left (turned s run).state.places + 1 ≤ turns_left s.places
 turn_less s run reached low =
-    let block = reached.first.block in
-    let fine = subst (IsFine intervals never block) (sym reached.leaves) (are_fine intervals never reached.first reached.events reached.namespace reached.bytes) in
-    found_less intervals never block s run (place_at s run) fine refl ((position-Some is_some s.places run None low).1)
+    subst (λ (t : State). is_some (place_at t run) ≡ true → turns_left (turned t run).state.places + 1 ≤ turns_left t.places) (sym reached.leaves)
+    (turns_leave_fewer intervals never reached.first reached.events run reached.namespace reached.bytes) ((position-Some is_some s.places run None low).1)
 
 -- a run has at most as many turns left as it has source blocks
 few_of : (ns : ZonedNamespace) (slots : List (Option LoadedProgram)) (a : Held) → Fits ns a
@@ -98,7 +94,7 @@ module _ (old now new : State) (first then after : Option (List ReplyWithData)) 
       count = more_count d;
       state = more_state d step;
       answers = added ∙ ap (λ (x : Option (List ReplyWithData)). and_then x (answer ∷ [])) d.answers
-          ∙ and_then-and_then first (answers_to_turns d.runs old) (answer ∷ [])
+          ∙ taken_in_parts first (answers_to_turns d.runs old) (answer ∷ [])
           ∙ ap (λ (x : ReplyWithData). and_then first (answers_to_turns d.runs old ++ x ∷ [])) (answered ∙ ap (λ (s : State). (turned s run).answer) d.state)
           ∙ ap (and_then first) (sym (turns_answers-append d.runs (run ∷ []) old));
       few = more_few;

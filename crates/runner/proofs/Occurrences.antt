@@ -12,8 +12,7 @@ use Rattle.pushdown.specs.Pushdown.{HasBytes}
 use Rattle.pushdown.specs.State.{State, new_state}
 use Rattle.device_events.specs.declared.event.Event.{Event}
 use Rattle.device_events.specs.declared.event.Event.TheVariants as event
-use Rattle.pushdown.proofs.Bytes.{all_append}
-use Rattle.pushdown.proofs.Parts.{state_after-append}
+use Rattle.pushdown.proofs.Proved.{events_join, in_parts}
 use Rattle.runner.specs.Answered.{HasSubmitted}
 use Rattle.runner.specs.Ready.{IsReached}
 
@@ -23,10 +22,10 @@ reached_more s t o reached has step = record {
   first = reached.first;
   events = reached.events ++ o ∷ [];
   namespace = reached.namespace;
-  bytes = all_append (λ (x : Occurrence). HasBytes x.event) reached.events (o ∷ []) reached.bytes (has, tt);
+  bytes = events_join reached.events (o ∷ []) reached.bytes (has, tt);
   leaves =
       step ∙ ap (λ (x : State). (happens intervals x o.starved o.event).state) reached.leaves
-      ∙ sym (state_after-append intervals reached.events (o ∷ []) (new_state reached.first));
+      ∙ sym ((in_parts intervals reached.events (o ∷ []) (new_state reached.first)).state);
 }
 
 -- ---- one event

@@ -15,14 +15,7 @@ use Rattle.pushdown.specs.Parts.{turn_events}
 use Rattle.pushdown.specs.Pushdown.{AreEvents, HasBytes, IsAdmitted, IsPushedDown}
 use Rattle.pushdown.specs.ReadBack.{RunReadsBack}
 use Rattle.pushdown.specs.State.{State, new_state}
-use Rattle.pushdown.proofs.Bytes.{all_append}
-use Rattle.pushdown.proofs.AnyOrder.{turns_in_any_order}
-use Rattle.pushdown.proofs.Drained.{draining_ends}
-use Rattle.pushdown.proofs.Headline.{pushdown}
-use Rattle.pushdown.proofs.Parts.{state_after-append, turns_state}
-use Rattle.pushdown.proofs.ReadBack.{appended_reads_back, written_reads_back}
-use Rattle.pushdown.proofs.RunsRead.{runs_read_back}
-use Rattle.pushdown.proofs.States.{states_are_sound}
+use Rattle.pushdown.proofs.Proved.{appended_reads_back, drained_by_turns, draining_ends, events_join, in_parts, pushdown, runs_read_back, states_are_sound, turns_in_any_order, written_reads_back}
 use Rattle.runner.specs.Laws.{EmptyIsReached, EventsKeepReached, LoadedIsReached, ReachedDrains, ReachedIsSound, SavedStatesLoad, TurnsKeepReached}
 use Rattle.runner.specs.ReadBack.{AppendedReadsBack, EmittedReadsBack, WrittenReadsBack}
 use Rattle.runner.specs.Ready.{IsReached}
@@ -46,10 +39,10 @@ events_keep_reached s events reached are = record {
   first = reached.first;
   events = reached.events ++ events;
   namespace = reached.namespace;
-  bytes = all_append (λ (o : Occurrence). HasBytes o.event) reached.events events reached.bytes are;
+  bytes = events_join reached.events events reached.bytes are;
   leaves =
       ap (state_after intervals events) reached.leaves
-      ∙ sym (state_after-append intervals reached.events events (new_state reached.first));
+      ∙ sym ((in_parts intervals reached.events events (new_state reached.first)).state);
 }
 
 turns_are : (runs : List ℕ) → AreEvents (turn_events runs)
@@ -58,7 +51,7 @@ turns_are (run ∷ runs) = (tt, turns_are runs)
 
 pub turns_keep_reached : TurnsKeepReached
 turns_keep_reached s runs reached =
-    subst IsReached (sym (turns_state intervals runs s)) (events_keep_reached s (turn_events runs) reached (turns_are runs))
+    subst IsReached (sym ((drained_by_turns intervals runs s).state)) (events_keep_reached s (turn_events runs) reached (turns_are runs))
 
 pub reached_is_sound : ReachedIsSound
 reached_is_sound s reached =

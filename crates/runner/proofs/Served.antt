@@ -8,7 +8,8 @@ use Rattle.pushdown.specs.Machine.{happens}
 use Rattle.pushdown.specs.State.{State}
 use Rattle.device_events.specs.declared.event.Event.{Event}
 use Rattle.device_events.specs.declared.reply.Reply.{Reply}
-use Rattle.pushdown.proofs.Parts.{and_then-and_then, answers_to-append, state_after-append}
+use Rattle.device_events.proofs.Proved.{taken_in_parts}
+use Rattle.pushdown.proofs.Proved.{in_parts}
 
 -- a reply with the bytes that go with it
 pub with_data : (r : Reply) (n : ℕ) (xs : List ℕ) → n ≡ data_length r
@@ -30,17 +31,17 @@ module _ (es : List Event) (i : ℕ) (e : Event) (old now new : State) (answer :
   state_more : (os : List Occurrence) (o : Occurrence) → now ≡ state_after intervals os old → new ≡ (happens intervals now o.starved o.event).state
       → new ≡ state_after intervals (os ++ o ∷ []) old
   state_more os o before step =
-      step ∙ ap (λ (s : State). (happens intervals s o.starved o.event).state) before ∙ sym (state_after-append intervals os (o ∷ []) old)
+      step ∙ ap (λ (s : State). (happens intervals s o.starved o.event).state) before ∙ sym ((in_parts intervals os (o ∷ []) old).state)
 
   answers_more : (first then after : Option (List ReplyWithData)) (os : List Occurrence) (o : Occurrence) → now ≡ state_after intervals os old
       → answer ≡ (happens intervals now o.starved o.event).answer → then ≡ and_then first (answers_to intervals os old)
       → after ≡ and_then then (answer ∷ []) → after ≡ and_then first (answers_to intervals (os ++ o ∷ []) old)
   answers_more first then after os o before step taken added =
       added ∙ ap (λ (x : Option (List ReplyWithData)). and_then x (answer ∷ [])) taken
-      ∙ and_then-and_then first (answers_to intervals os old) (answer ∷ [])
+      ∙ taken_in_parts first (answers_to intervals os old) (answer ∷ [])
       ∙ ap (λ (x : ReplyWithData). and_then first (answers_to intervals os old ++ x ∷ []))
       (step ∙ ap (λ (s : State). (happens intervals s o.starved o.event).answer) before)
-      ∙ ap (and_then first) (sym (answers_to-append intervals os (o ∷ []) old))
+      ∙ ap (and_then first) (sym ((in_parts intervals os (o ∷ []) old).answers))
 
   module _ (first then after : Option (List ReplyWithData)) (within : i < length es) (item : e ≡ get_or es i e)
       (served : HasServed intervals (take i es) old now first then) (happened : HasHappened intervals e now new answer) where

@@ -8,7 +8,7 @@ use Rattle.zns_commands.specs.Left.{Grows}
 use Rattle.pushdown.specs.Admission.{SameProgram}
 use Rattle.pushdown.specs.State.{Place, place_at}
 use Rattle.pushdown.specs.View.{KeepsSource, place_of, seen}
-use Rattle.pushdown.proofs.Views.{seen_stays}
+use Rattle.pushdown.proofs.Proved.{seen_stays}
 use Rattle.runner.specs.Held.{active_of, loaded_slot, running, device_state}
 use Rattle.runner.specs.Ready.{Fits}
 use Rattle.runner.specs.declared.active_run.Active.{Active as Held}

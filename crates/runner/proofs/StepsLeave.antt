@@ -18,8 +18,7 @@ use Rattle.pushdown.specs.Answers.{Submission}
 use Rattle.pushdown.specs.Machine.{commanded, failed}
 use Rattle.pushdown.specs.State.{Place, with_namespace}
 use Rattle.pushdown.specs.State.{holds_of as places_hold}
-use Rattle.pushdown.proofs.KeptForRuns.{same_program}
-use Rattle.pushdown.proofs.Places.{named_at}
+use Rattle.zone_resources.proofs.Proved.{users_name_zones}
 use Rattle.runner.specs.Answered.{answered}
 use Rattle.runner.specs.Held.{loaded_slot, held_by, source_held, device_state}
 use Rattle.runner.specs.Ready.{IsReady}
@@ -57,14 +56,14 @@ is_left ns later slots runs ready same grow =
           (places_stay ns later slots slots runs
           (λ k a at. record {
             source = keeps_source ns later a (ready.running k a at).fits same (grow k a at);
-            program = same_program (get_or (map loaded_slot slots) a.order.slot None);
+            program = record { loaded = refl; program = refl; limit = refl };
           }));
     }
 
 -- the zone that an active run reads from is held
 source_there : (runs : List (Option Held)) (k : ℕ) (a : Held) → get_or runs k None ≡ Some a
     → list_any (names a.source.zone) (map source_held runs) ≡ true
-source_there runs k a at = named_at source_held a.source.zone runs k a at refl
+source_there runs k a at = users_name_zones source_held a.source.zone runs k a at refl
 
 -- where a step heeds what the active runs hold
 step_leaves : (ns : ZonedNamespace) (slots : List (Option LoadedProgram)) (runs : List (Option Held)) (step : Step) → IsReady ns slots runs

@@ -11,6 +11,7 @@ use Rattle.program_meaning.specs.declared.end.End.TheVariants as end
 use Rattle.emit_append.specs.Packer.{after_put, given_by_finish, given_by_put, new_packer}
 use Rattle.emit_append.specs.Packing.{packed, pending_of, released}
 use Rattle.emit_append.proofs.Proved.{one_group_is_pending, packing_goes_on}
+use Rattle.image_store.specs.Geometry.{Shape}
 use Rattle.image_store.specs.Namespace.{ZoneBlocks, ZonedNamespace, zone_at}
 use Rattle.image_store.specs.declared.geometry.ZoneBlock.{ZoneBlock}
 use Rattle.zns_commands.specs.Address.{zone_number}
@@ -21,9 +22,7 @@ use Rattle.pushdown.specs.Laws.{Ends, RoomIn, further, next_turn}
 use Rattle.pushdown.specs.Machine.{added}
 use Rattle.pushdown.specs.Outcome.{Ending, Progress, Turn, appended_by, behind, last_turn, last_turn_by, output_of, rest}
 use Rattle.pushdown.specs.View.{Active, to_come, turns_of}
-use Rattle.pushdown.proofs.Added.{added_block, added_capacity, added_leaves}
-use Rattle.pushdown.proofs.Rests.{rest_ends, rest_goes_on}
-use Rattle.pushdown.proofs.TurnsFit.{still_open, turn_room}
+use Rattle.pushdown.proofs.Proved.{blocks_leave_others, rest_ends, rest_goes_on, room_is_open, room_stays}
 use Rattle.runner.specs.Held.{active_of}
 use Rattle.runner.specs.Ran.{HasRun}
 use Rattle.runner.specs.Turning.{FitsOn, GoesOn, HasEnded, HasRoom, next_block, next_run, with_packer, with_scratch}
@@ -129,7 +128,7 @@ added_leaves_turns : (ns : ZonedNamespace) (z : ℕ) (bs : List (List ℕ)) (pro
 added_leaves_turns ns z [] program limit a other = refl
 added_leaves_turns ns z (b ∷ bs) program limit a other =
     ap (λ (zone : ZoneBlocks). rest (task_by ns program limit a.order) a.so_far (take (a.order.blocks - a.so_far.index) (drop (a.order.lba % ns.size + a.so_far.index) zone.blocks)))
-    (added_leaves ns z (zone_number ns a.order.lba) (b ∷ bs) other)
+    ((blocks_leave_others ns z (b ∷ bs)).others (zone_number ns a.order.lba) other)
 
 module _ (ns : ZonedNamespace) (z : ℕ) (ending : Option Ending) (turns : List Turn) (some : 1 ≤ ns.block) where
   abbrev Room : List (List ℕ) → Type 0
@@ -139,7 +138,7 @@ module _ (ns : ZonedNamespace) (z : ℕ) (ending : Option Ending) (turns : List 
   room_first [] more h = tt
   room_first (b ∷ bs) more h = record {
     some = some;
-    opened = still_open ns.capacity (zone_at ns z) b (bs ++ more) ending turns h;
+    opened = room_is_open ns.capacity (zone_at ns z) b (bs ++ more) ending turns h;
     room = omega (arith, h.room, length-append ((b ∷ bs) ++ more) (appended_by turns), length-append (b ∷ bs) more);
   }
 
@@ -147,17 +146,19 @@ module _ (ns : ZonedNamespace) (z : ℕ) (ending : Option Ending) (turns : List 
   added_twice [] more h = refl
   added_twice (b ∷ bs) [] h = ap (added ns z) (sym (append-nil (b ∷ bs)))
   added_twice (b ∷ bs) (c ∷ cs) h =
-      let opened = still_open ns.capacity (zone_at ns z) b (bs ++ (c ∷ cs)) ending turns h in
+      let opened = room_is_open ns.capacity (zone_at ns z) b (bs ++ (c ∷ cs)) ending turns h in
       added_both ns z b c bs cs opened (open_is_there ns.zones z opened) (omega (arith, h.room, length-append ((b ∷ bs) ++ (c ∷ cs)) (appended_by turns)))
 
 module _ (ns : ZonedNamespace) (z : ℕ) (ending : Option Ending) (turns : List Turn) (some : 1 ≤ ns.block) where
   room_second : (bs more : List (List ℕ)) → Room ns z ending turns some (bs ++ more) → HasRoom (added ns z bs) z more
   room_second bs more h =
       let rest : RoomIn ns.capacity (zone_at (added ns z bs) z) (record { blocks = more; ending = None } ∷ turns) =
-      turn_room ns z bs None (record { blocks = more; ending = None } ∷ turns)
+      room_stays ns z bs None (record { blocks = more; ending = None } ∷ turns)
       (record { room = subst (λ (n : ℕ). length (zone_at ns z).blocks + n ≤ ns.capacity) (ap length (append_assoc bs more (appended_by turns))) h.room; opened = h.opened }) in
-      room_first (added ns z bs) z None turns (rw (added_block ns z bs) some) more []
-      (rw (added_capacity ns z bs, append-nil more) rest)
+      let same = (blocks_leave_others ns z bs).same_shape in
+      let block : (added ns z bs).block ≡ ns.block = ap (λ (s : Shape). s.block) same in
+      let capacity : (added ns z bs).capacity ≡ ns.capacity = ap (λ (s : Shape). s.capacity) same in
+      room_first (added ns z bs) z None turns (rw block some) more [] (rw (capacity, append-nil more) rest)
 
 -- ---- a turn
 

@@ -3,3 +3,4 @@ mod CountLemmas
 mod HoldLemmas
 mod LimitLemmas
 pub mod Proved
+mod Users

@@ -1,0 +1,86 @@
+-- The laws of this crate, proved: what the proofs of other crates cite of it.
+use Rattle.word_domain.specs.Domain.{Operations}
+use Rattle.accepted_programs.specs.Laws.{AcceptedNeverTraps}
+use Rattle.pushdown.specs.AnyOrder.{TurnsInAnyOrder}
+use Rattle.pushdown.specs.Laws.{BlocksLeaveOthers, DrainingEnds, EventsKeepForRuns, RestEnds, RestGoesOn, RestIsFew, RoomIsOpen, RoomStays, StatesAreSound, TurnsLeaveFewer}
+use Rattle.pushdown.specs.Parts.{DrainedByTurns, EventsJoin, InParts, ServedAndDrained}
+use Rattle.pushdown.specs.Pushdown.{Pushdown}
+use Rattle.pushdown.specs.ReadBack.{AppendedReadsBack, RunsReadBack, WrittenReadsBack}
+use Rattle.pushdown.specs.View.{SeenAtAdmission, SeenStays}
+use Rattle.pushdown.proofs.Added as added
+use Rattle.pushdown.proofs.AnyOrder as any_order
+use Rattle.pushdown.proofs.Drained as drained
+use Rattle.pushdown.proofs.Headline as headline
+use Rattle.pushdown.proofs.KeptForRuns as kept
+use Rattle.pushdown.proofs.Parts as parts
+use Rattle.pushdown.proofs.ReadBack as read_back
+use Rattle.pushdown.proofs.Rests as rests
+use Rattle.pushdown.proofs.RunsRead as runs_read
+use Rattle.pushdown.proofs.States as states
+use Rattle.pushdown.proofs.TurnsFit as fitting
+use Rattle.pushdown.proofs.Views as views
+
+pub rest_goes_on : RestGoesOn
+rest_goes_on = rests.rest_goes_on
+
+pub rest_ends : RestEnds
+rest_ends = rests.rest_ends
+
+pub rest_is_few : RestIsFew
+rest_is_few = rests.rest_is_few
+
+pub seen_at_admission : SeenAtAdmission
+seen_at_admission = views.seen_at_admission
+
+pub seen_stays : SeenStays
+seen_stays = views.seen_stays
+
+pub blocks_leave_others : BlocksLeaveOthers
+blocks_leave_others = added.blocks_leave_others
+
+pub room_is_open : RoomIsOpen
+room_is_open = fitting.still_open
+
+pub room_stays : RoomStays
+room_stays = fitting.turn_room
+
+pub events_join : EventsJoin
+events_join = parts.events_join
+
+module _ {D : Type 0} (operations : Operations D) where
+  pub in_parts : InParts operations
+  in_parts = parts.in_parts operations
+
+  pub drained_by_turns : DrainedByTurns operations
+  drained_by_turns = parts.drained_by_turns operations
+
+  pub served_and_drained : ServedAndDrained operations
+  served_and_drained = parts.served_and_drained operations
+
+  pub events_keep_for_runs : EventsKeepForRuns operations
+  events_keep_for_runs = kept.events_keep_for_runs operations
+
+  pub appended_reads_back : AppendedReadsBack operations
+  appended_reads_back = read_back.appended_reads_back operations
+
+  pub written_reads_back : WrittenReadsBack operations
+  written_reads_back = read_back.written_reads_back operations
+
+  module _ (never : AcceptedNeverTraps operations) where
+    pub states_are_sound : StatesAreSound operations
+    states_are_sound = states.states_are_sound operations never
+
+    pub turns_leave_fewer : TurnsLeaveFewer operations
+    turns_leave_fewer = drained.turns_leave_fewer operations never
+
+    pub draining_ends : DrainingEnds operations
+    draining_ends = drained.draining_ends operations never
+
+    pub turns_in_any_order : TurnsInAnyOrder operations
+    turns_in_any_order = any_order.turns_in_any_order operations never
+
+    pub runs_read_back : RunsReadBack operations
+    runs_read_back = runs_read.runs_read_back operations never
+
+    pub pushdown : Pushdown operations
+    pushdown = headline.pushdown operations never
