@@ -1,9 +1,7 @@
 -- What holds refuse.
-use Rattle.std.proofs.Common.{◌≡◌, ℕ, Bool, true, false, refl}
+use Rattle.std.proofs.Common.{◌≡◌, Bool, true, false, refl}
 use Rattle.std.specs.Prelude.{◌||◌, ◌&&◌}
-use Rattle.zone_state.specs.declared.action.Action.{Action}
-use Rattle.zone_resources.specs.Holds.{is_source, is_destination, forgets, refuses, HoldsRefuse}
-use Rattle.zone_resources.specs.declared.holds.Holds.{Holds}
+use Rattle.zone_resources.specs.Holds.{is_source, is_destination, forgets, HoldsRefuse}
 
 either_left : (a b : Bool) → a ≡ true → (a || b) ≡ true
 either_left true b e = refl
