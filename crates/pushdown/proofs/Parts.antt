@@ -1,5 +1,5 @@
 -- Lists of events, in parts, and turns as events.
-use Rattle.std.proofs.Common.{suc, ◌≡◌, ℕ, List, [], ◌∷◌, ◌++◌, map, Option, refl, ap, sym, subst, ◌∙◌, append_assoc}
+use Rattle.std.proofs.Common.{suc, ◌≡◌, ℕ, List, [], ◌∷◌, ◌++◌, map, Option, None, refl, ap, sym, subst, ◌∙◌}
 use Rattle.std.proofs.lemmas.List.{map-append}
 use Rattle.word_domain.specs.Domain.{Operations}
 use Rattle.device_events.specs.Replies.{ReplyWithData, and_then}
@@ -40,11 +40,11 @@ module _ {D : Type 0} (operations : Operations D) where
   in_parts first later s = record { answers = answers_to-append first later s; state = state_after-append first later s }
 
   -- the answers that were taken, with those of later events behind them
-  taken_in_parts : (first later : List Occurrence) (old between : State) (before then taken : Option (List ReplyWithData))
+  answers_in_parts : (first later : List Occurrence) (old between : State) (before then taken : Option (List ReplyWithData))
       → between ≡ state_after operations first old → then ≡ and_then before (answers_to operations first old)
       → taken ≡ and_then then (answers_to operations later between)
       → taken ≡ and_then before (answers_to operations (first ++ later) old)
-  taken_in_parts first later old between before then taken state early late =
+  answers_in_parts first later old between before then taken state early late =
       let done = answers_to operations first old in
       late
       ∙ ap (λ (b : Option (List ReplyWithData)). and_then b (answers_to operations later between)) early
@@ -66,7 +66,7 @@ module _ {D : Type 0} (operations : Operations D) where
         ∙ ap (λ (events : List Event). events ++ map (λ (o : Occurrence). o.event) b.occurrences) a.are
         ∙ ap (λ (events : List Event). first ++ events) b.are;
     state = state_in_parts a.occurrences b.occurrences old between new a.state b.state;
-    answers = taken_in_parts a.occurrences b.occurrences old between before then taken a.state a.answers b.answers;
+    answers = answers_in_parts a.occurrences b.occurrences old between before then taken a.state a.answers b.answers;
   }
 
   -- ---- turns as events
@@ -93,7 +93,7 @@ module _ {D : Type 0} (operations : Operations D) where
         runs = runs;
         drains = subst (λ (s : State). Drains s runs) served.state drained.drains;
         state = state_in_parts served.occurrences turns old between new served.state (drained.state ∙ turns_state runs between);
-        answers = taken_in_parts served.occurrences turns old between before then taken served.state served.answers
+        answers = answers_in_parts served.occurrences turns old between before then taken served.state served.answers
             (drained.answers ∙ ap (and_then then) (turns_answers runs between));
         none_left = ap lowest_run drained.state ∙ drained.drains.none_left;
       }
