@@ -1,10 +1,11 @@
 -- What is known at each slot of a program, by the operations of a domain (profile).
 use Rattle.std.specs.Prelude.{ℕ, ℤ, zero, suc, Bool, true, false, ◌+◌, ◌%◌, ◌^◌, ◌==◌, ◌&&◌, ◌++◌, nat_le, List, [], ◌∷◌, drop, replicate, get_or, set, max, Option, Some, None, unwrap_or, if◌then◌else◌, pos}
+use Rattle.std.specs.Option.{option_or}
 use Rattle.std.specs.Ordering.{int_eq}
 use Rattle.instruction_set.specs.Instruction.{distance_of, immediate_word, size_of, target}
 use Rattle.instruction_set.specs.Program.{instruction_at}
 use Rattle.instruction_set.specs.declared.insn.Insn.{Insn}
-use Rattle.instruction_set.specs.declared.insn.Insn.TheVariants.{LoadImmediate, Load, LoadSigned, StoreImmediate, StoreRegister, Arithmetic, Negate, MoveSigned, SwapBytes, Jump, JumpLong, Branch, Call, Exit}
+use Rattle.instruction_set.specs.declared.insn.Insn.TheVariants.{LoadImmediate, Load, LoadSigned, StoreImmediate, StoreRegister, Arithmetic, Negate, MoveSigned, SwapBytes, Jump, JumpLong, Branch, Call}
 use Rattle.instruction_set.specs.declared.insn.Source.{Source}
 use Rattle.instruction_set.specs.declared.insn.Source.TheVariants.{Immediate, Register}
 use Rattle.instruction_set.specs.declared.operation.Relation.{Relation}
@@ -122,6 +123,32 @@ module _ {D : Type 0} (operations : Operations D) where
       unwrap_or (known_in facts.cells (cell_at facts src offset)) (operations.loaded DoubleWord)
   loaded_fact facts size src offset = operations.loaded size
 
+  -- ---- words that instructions leave
+
+  -- the destination of a load, and what is known of the word there; none of another instruction
+  abbrev pub loaded_word : Insn → Facts D → Option (ℕ × D)
+  loaded_word (LoadImmediate dst value) facts = Some (dst, operations.constant (value % 2 ^ 64))
+  loaded_word (Load size dst src offset) facts = Some (dst, loaded_fact facts size src offset)
+  loaded_word (LoadSigned size dst src offset) facts = Some (dst, operations.loaded_signed size)
+  loaded_word _ facts = None
+
+  -- the same of an instruction that computes
+  abbrev pub computed_word : Insn → Facts D → Option (ℕ × D)
+  computed_word (Arithmetic width operation dst source) facts =
+      Some (dst, operations.alu (word.Binary width operation) (fact facts dst) (source_fact facts source))
+  computed_word (Negate width dst) facts =
+      Some (dst, operations.alu (word.Negate width) (fact facts dst) (operations.constant 0))
+  computed_word (MoveSigned extension dst src) facts =
+      Some (dst, operations.alu (word.MoveSigned extension) (operations.constant 0) (fact facts src))
+  computed_word (SwapBytes swap size dst) facts =
+      Some (dst, operations.alu (word.SwapBytes swap size) (fact facts dst) (operations.constant 0))
+  computed_word _ facts = None
+
+  -- after a word is left in its register
+  abbrev pub with_word : Facts D → Option (ℕ × D) → Option (Facts D)
+  with_word facts None = None
+  with_word facts (Some word) = Some (with_fact facts word.0 word.1)
+
   -- ---- joins
 
   abbrev pub join_registers : List D → List D → List D
@@ -145,25 +172,12 @@ module _ {D : Type 0} (operations : Operations D) where
   module _ (block : ℕ) where
     -- at the slot behind an instruction; none where it doesn't go on there
     abbrev pub facts_behind : Insn → Facts D → Option (Facts D)
-    facts_behind (LoadImmediate dst value) facts = Some (with_fact facts dst (operations.constant (value % 2 ^ 64)))
-    facts_behind (Load size dst src offset) facts = Some (with_fact facts dst (loaded_fact facts size src offset))
-    facts_behind (LoadSigned size dst src offset) facts = Some (with_fact facts dst (operations.loaded_signed size))
     facts_behind (StoreImmediate size dst offset value) facts = Some (after_store block facts size dst offset None)
     facts_behind (StoreRegister size dst src offset) facts =
         Some (after_store block facts size dst offset (kept facts size src))
-    facts_behind (Arithmetic width operation dst source) facts =
-        Some (with_fact facts dst (operations.alu (word.Binary width operation) (fact facts dst) (source_fact facts source)))
-    facts_behind (Negate width dst) facts =
-        Some (with_fact facts dst (operations.alu (word.Negate width) (fact facts dst) (operations.constant 0)))
-    facts_behind (MoveSigned extension dst src) facts =
-        Some (with_fact facts dst (operations.alu (word.MoveSigned extension) (operations.constant 0) (fact facts src)))
-    facts_behind (SwapBytes swap size dst) facts =
-        Some (with_fact facts dst (operations.alu (word.SwapBytes swap size) (fact facts dst) (operations.constant 0)))
-    facts_behind (Jump distance) facts = None
-    facts_behind (JumpLong distance) facts = None
     facts_behind (Branch width relation dst source distance) facts = along false width relation dst source facts
     facts_behind (Call helper) facts = Some (after_emit facts)
-    facts_behind Exit facts = None
+    facts_behind i facts = with_word facts (option_or (loaded_word i facts) (computed_word i facts))
 
     -- at the target of a jump that is taken; none where there is no such edge
     abbrev pub facts_at_target : Insn → Facts D → Option (Facts D)

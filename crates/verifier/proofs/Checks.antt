@@ -12,7 +12,7 @@ use Rattle.program_interface.specs.declared.block_size.TheConstants.{LARGEST_BLO
 use Rattle.program_interface.specs.RunSizes.{Sizes}
 use Rattle.word_domain.specs.Domain.{Operations}
 use Rattle.accepted_programs.specs.Accepted.{begins_at, fails, leads_nowhere, most_emitted, reason_of, turns_away}
-use Rattle.verifier.specs.Answer.{HasRoom, StaysInside}
+use Rattle.verifier.specs.steps.Instructions.{HasRoom, StaysInside}
 use Rattle.accepted_programs.specs.Facts.{facts_behind, slot_behind}
 use Rattle.accepted_programs.proofs.Proved.{no_reason_holds}
 use Rattle.accepted_programs.specs.declared.facts.Facts.{Facts}

@@ -11,7 +11,7 @@ use Rattle.instruction_set.specs.declared.insn.Source.{Source}
 use Rattle.instruction_set.specs.declared.insn.Source.TheVariants.{Immediate, Register}
 use Rattle.word_domain.specs.Domain.{Operations}
 use Rattle.accepted_programs.specs.Facts.{facts_at_target, facts_behind, gives, leads, merge, slot_behind, with_fact, with_source}
-use Rattle.verifier.specs.Rows.{held, held_at}
+use Rattle.verifier.specs.steps.Rows.{held, held_at}
 use Rattle.accepted_programs.specs.declared.facts.Facts.{Facts}
 
 -- one row more, of which nothing is known

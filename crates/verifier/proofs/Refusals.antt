@@ -7,7 +7,7 @@ use Rattle.program_interface.specs.RunSizes.{Sizes}
 use Rattle.word_domain.specs.Domain.{Operations}
 use Rattle.accepted_programs.specs.Accepted.{or_else, refusal_at, refusal_below}
 use Rattle.accepted_programs.specs.Facts.{facts_at, given_below, gives}
-use Rattle.verifier.specs.Rows.{held_at}
+use Rattle.verifier.specs.steps.Rows.{held_at}
 use Rattle.accepted_programs.specs.declared.facts.Facts.{Facts}
 use Rattle.accepted_programs.specs.declared.reason.Refusal.{Refusal}
 

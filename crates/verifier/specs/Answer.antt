@@ -1,12 +1,5 @@
 -- What `verify` answers with.
-use Rattle.std.specs.Prelude.{ℕ, ◌≡◌, ◌<◌, ◌+◌, ◌^◌, ◌≤ℤ◌, ◌<ℤ◌, pos, false, Option, Some, IfSome}
-use Rattle.instruction_set.specs.Instruction.{distance_of, target}
-use Rattle.instruction_set.specs.declared.insn.Insn.{Insn}
-use Rattle.instruction_set.specs.declared.insn.Insn.TheVariants.{Call}
-use Rattle.word_domain.specs.Domain.{Operations}
-use Rattle.accepted_programs.specs.Accepted.{most_emitted, turns_away}
-use Rattle.accepted_programs.specs.Facts.{slot_behind}
-use Rattle.accepted_programs.specs.declared.facts.Facts.{Facts}
+use Rattle.std.specs.Prelude.{◌≡◌, Option, Some}
 use Rattle.accepted_programs.specs.declared.reason.Refusal.{Refusal}
 use Rattle.verifier.specs.declared.fault.VerifyFault.{VerifyFault}
 use Rattle.verifier.specs.declared.fault.VerifyFault.TheVariants.{Memory, Refused}
@@ -15,14 +8,3 @@ use Rattle.verifier.specs.declared.fault.VerifyFault.TheVariants.{Memory, Refuse
 abbrev pub IsFaultOf : Option Refusal → VerifyFault → Type 0
 IsFaultOf found Memory = Unit {0}
 IsFaultOf found (Refused refusal) = found ≡ Some refusal
-
--- a call leaves the bound on the emitted bytes a number that can be counted
-abbrev pub HasRoom : {D : Type 0} → Operations D → Insn → Facts D → Type 0
-HasRoom operations (Call helper) facts = facts.emitted + 2 + most_emitted operations facts < 2 ^ 64
-HasRoom operations _ facts = Unit {0}
-
--- an instruction leads to slots of a program of this many, and to no others
-pub record StaysInside (slots slot : ℕ) (i : Insn) : Type 0 where
-  pub behind : turns_away i ≡ false → slot_behind slot i < slots
-  pub first : IfSome (distance_of i) (λ distance. pos 0 ≤ℤ target slot distance)
-  pub last : IfSome (distance_of i) (λ distance. target slot distance <ℤ pos slots)

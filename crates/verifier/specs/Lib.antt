@@ -1,4 +1,4 @@
 pub mod Answer
 pub mod Verified
-pub mod Rows
 pub mod Judged
+pub mod steps

@@ -2,10 +2,10 @@
 
 ghost use Rattle.std.specs.Prelude.{◌≡◌, ◌+◌, ◌<◌, ◌^◌, None};
 ghost use Rattle.instruction_set.specs.Instruction.{distance_of};
-ghost use Rattle.accepted_programs.specs.Facts.{source_fact, compared_fact, after_emit, after_store, enters_stack as area_is_stack, fact, facts_behind, is_register as source_is, kept as kept_fact, loaded_fact, with_fact, with_source};
+ghost use Rattle.accepted_programs.specs.Facts.{source_fact, compared_fact, after_emit, after_store, computed_word, enters_stack as area_is_stack, fact, facts_behind, is_register as source_is, kept as kept_fact, loaded_fact, loaded_word, with_fact, with_source};
 ghost use Rattle.accepted_programs.specs.Accepted.{most_emitted};
-ghost use Rattle.verifier.specs.Answer.{HasRoom};
-ghost use Rattle.verifier.specs.Rows.{where_it_goes_on};
+ghost use Rattle.verifier.specs.steps.Instructions.{HasRoom};
+ghost use Rattle.verifier.specs.steps.Rows.{where_it_goes_on};
 
 use crate::cells::{cell_of, is_stack, known, store_into};
 use accepted_programs::Facts;
@@ -143,30 +143,71 @@ fn load<D: Domain>(facts: &Facts<D>, size: Size, src: Register, offset: i16) -> 
     }
 }
 
+/// The destination of a load, and what is known of the word there.
+fn loaded<D: Domain>(insn: &Insn, facts: &Facts<D>) -> Option<(Register, D)>
+    ensures { result ≡ loaded_word D.operations insn.now facts.now }
+{
+    match *insn {
+        Insn::LoadImmediate { dst, value } => Some((dst, D::constant(value))),
+        Insn::Load {
+            size,
+            dst,
+            src,
+            offset,
+        } => Some((dst, load(facts, size, src, offset))),
+        Insn::LoadSigned { size, dst, .. } => Some((dst, D::loaded_signed(size))),
+        _ => None,
+    }
+}
+
+/// The destination of an instruction that computes, and what is known of the word there.
+fn computed<D: Domain>(insn: &Insn, facts: &Facts<D>) -> Option<(Register, D)>
+    ensures { result ≡ computed_word D.operations insn.now facts.now }
+{
+    let (dst, arithmetic, first, second) = match *insn {
+        Insn::Arithmetic {
+            width,
+            operation,
+            dst,
+            source,
+        } => {
+            let arithmetic = Arithmetic::Binary { width, operation };
+            (dst, arithmetic, facts.get(dst), source_of(facts, source))
+        }
+        Insn::Negate { width, dst } => {
+            let arithmetic = Arithmetic::Negate { width };
+            (dst, arithmetic, facts.get(dst), D::constant(0))
+        }
+        Insn::MoveSigned {
+            extension,
+            dst,
+            src,
+        } => {
+            let arithmetic = Arithmetic::MoveSigned { extension };
+            (dst, arithmetic, D::constant(0), facts.get(src))
+        }
+        Insn::SwapBytes { swap, size, dst } => {
+            let arithmetic = Arithmetic::SwapBytes { swap, size };
+            (dst, arithmetic, facts.get(dst), D::constant(0))
+        }
+        _ => return None,
+    };
+    Some((dst, D::alu(arithmetic, first, second)))
+}
+
 /// Changes the facts to those at the slot behind an instruction that doesn't jump; false where the program ends.
 pub fn step<D: Domain>(insn: &Insn, block: BlockSize, facts: &mut Facts<D>) -> bool
     requires straight { distance_of insn.now ≡ None }
     requires room { HasRoom D.operations insn.now facts.old }
     ensures { where_it_goes_on result facts.new ≡ facts_behind D.operations block insn.now facts.old }
 {
-    let (dst, fact) = match *insn {
-        Insn::LoadImmediate { dst, value } => (dst, D::constant(value)),
-        Insn::Load {
-            size,
-            dst,
-            src,
-            offset,
-        } => (dst, load(facts, size, src, offset)),
-        Insn::LoadSigned { size, dst, .. } => (dst, D::loaded_signed(size)),
+    match *insn {
         Insn::StoreImmediate {
             size,
             dst,
             offset,
             ..
-        } => {
-            store(block, facts, size, dst, offset, None);
-            return true;
-        }
+        } => store(block, facts, size, dst, offset, None),
         Insn::StoreRegister {
             size,
             dst,
@@ -175,51 +216,12 @@ pub fn step<D: Domain>(insn: &Insn, block: BlockSize, facts: &mut Facts<D>) -> b
         } => {
             let word = kept(facts, size, src);
             store(block, facts, size, dst, offset, word);
-            return true;
         }
-        Insn::Arithmetic {
-            width,
-            operation,
-            dst,
-            source,
-        } => (
-            dst,
-            D::alu(
-                Arithmetic::Binary { width, operation },
-                facts.get(dst),
-                source_of(facts, source),
-            ),
-        ),
-        Insn::Negate { width, dst } => (
-            dst,
-            D::alu(Arithmetic::Negate { width }, facts.get(dst), D::constant(0)),
-        ),
-        Insn::MoveSigned {
-            extension,
-            dst,
-            src,
-        } => (
-            dst,
-            D::alu(
-                Arithmetic::MoveSigned { extension },
-                D::constant(0),
-                facts.get(src),
-            ),
-        ),
-        Insn::SwapBytes { swap, size, dst } => (
-            dst,
-            D::alu(
-                Arithmetic::SwapBytes { swap, size },
-                facts.get(dst),
-                D::constant(0),
-            ),
-        ),
-        Insn::Call { .. } => {
-            emit(facts);
-            return true;
-        }
-        _ => return false,
-    };
-    facts.set(dst, fact);
+        Insn::Call { .. } => emit(facts),
+        _ => match loaded(insn, facts).or(computed(insn, facts)) {
+            Some((dst, fact)) => facts.set(dst, fact),
+            None => return false,
+        },
+    }
     true
 }

@@ -2,7 +2,7 @@
 
 ghost use Rattle.std.specs.Prelude.{◌≡◌, ◌<◌, ℕ, length, IfOk};
 ghost use Rattle.accepted_programs.specs.Facts.{given_below};
-ghost use Rattle.verifier.specs.Rows.{held, held_at};
+ghost use Rattle.verifier.specs.steps.Rows.{held, held_at};
 ghost use Rattle.accepted_programs.specs.Emitted.{group_in};
 ghost use Rattle.verifier.specs.Judged.{IsJudged};
 

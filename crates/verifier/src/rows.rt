@@ -5,8 +5,8 @@ ghost use Rattle.instruction_set.specs.Instruction.{distance_of};
 ghost use Rattle.instruction_set.specs.Program.{instruction_at};
 ghost use Rattle.accepted_programs.specs.Accepted.{refusal_at, turns_away};
 ghost use Rattle.accepted_programs.specs.Facts.{facts_at_target, facts_behind, gives, merge, with_both};
-ghost use Rattle.verifier.specs.Answer.{HasRoom, StaysInside};
-ghost use Rattle.verifier.specs.Rows.{held, held_at, refusal_in};
+ghost use Rattle.verifier.specs.steps.Instructions.{HasRoom, StaysInside};
+ghost use Rattle.verifier.specs.steps.Rows.{held, held_at, refusal_in};
 
 use crate::check::{find_reason, slot_behind};
 use crate::edges::{refined, set_both, step};

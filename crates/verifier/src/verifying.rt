@@ -4,7 +4,7 @@ ghost use Rattle.std.specs.Prelude.{◌≡◌, ◌<◌, ◌≤◌, ◌==◌, if�
 ghost use Rattle.accepted_programs.specs.Accepted.{refusal};
 ghost use Rattle.verifier.specs.Answer.{IsFaultOf};
 ghost use Rattle.accepted_programs.specs.Facts.{entry_facts, given_below};
-ghost use Rattle.verifier.specs.Rows.{held_at};
+ghost use Rattle.verifier.specs.steps.Rows.{held_at};
 ghost use Rattle.verifier.specs.Verified.{program_of, sizes_of};
 
 use crate::facts::entry;

@@ -2,7 +2,7 @@ use Rattle.std.proofs.Common.{sym, ap, ◌∙◌, ◌≡◌, None, Some, is_some
 use Rattle.std.proofs.lemmas.List.{get_or_default, length-set}
 use Rattle.accepted_programs.specs.Facts.{merge, with_fact, with_source}
 use Rattle.accepted_programs.specs.declared.facts.Facts.{Facts}
-use Rattle.verifier.specs.Rows.{held, held_at}
+use Rattle.verifier.specs.steps.Rows.{held, held_at}
 use Rattle.verifier.proofs.Gifts.{edge_replaced, given_to_both}
 use Rattle.verifier.proofs.rows.give_both.Goals as goal
 

@@ -1,7 +1,7 @@
 use Rattle.std.proofs.Common.{◌≡◌, ap, arith, None, option_copied, rules, Some, sym, ◌∙◌}
 use Rattle.std.proofs.lemmas.List.{get_or_default, get_or-set_other, length-set}
 use Rattle.instruction_set.specs.Program.{instruction_at}
-use Rattle.verifier.specs.Rows.{held, held_at}
+use Rattle.verifier.specs.steps.Rows.{held, held_at}
 use Rattle.accepted_programs.specs.Accepted.{reason_of}
 use Rattle.verifier.proofs.Checks.{room_left, stays_inside}
 use Rattle.verifier.proofs.Sizes.{facts_fit}

@@ -1,7 +1,7 @@
 use Rattle.std.proofs.Common.{arith, sym, ap, ◌∙◌, ◌<◌, length}
 use Rattle.instruction_set.specs.Program.{instruction_at}
 use Rattle.accepted_programs.specs.Accepted.{refusal_at}
-use Rattle.verifier.specs.Rows.{refusal_in}
+use Rattle.verifier.specs.steps.Rows.{refusal_in}
 use Rattle.verifier.proofs.Refusals.{first_found, none_more, rows_more}
 use Rattle.verifier.proofs.verifying.first_refusal.Goals as goal
 

@@ -1,7 +1,7 @@
 use Rattle.std.proofs.Common.{◌≡◌, ◌<◌, ◌≤◌, ℕ, length, None}
 use Rattle.accepted_programs.specs.Accepted.{refusal_below}
 use Rattle.accepted_programs.specs.Facts.{given_below}
-use Rattle.verifier.specs.Rows.{held_at}
+use Rattle.verifier.specs.steps.Rows.{held_at}
 use Rattle.verifier.proofs.verifying.first_refusal.Given as goal
 
 -- the rows of the slots that are left hold what those before give to them
