@@ -2,7 +2,7 @@
 
 ghost use Rattle.std.specs.Prelude.{◌≡◌, ◌≤◌, ◌<◌, ◌++◌, length, drop};
 
-use emit_append::{BlockSize, Full, Packer};
+use emit_append::{BlockSize, Packer};
 
 /// The bytes of a block.
 pub(crate) const BLOCK: u32 = 4096;
@@ -21,13 +21,13 @@ pub(crate) fn pack_groups(bytes: &[u8], length: usize, target: &mut [u8]) -> usi
         filled = pack(&mut packer, group, target, filled);
         rest = after;
     }
-    match packer.finish() {
-        Some(full) => keep(&full, target, filled),
-        None => filled,
+    if !packer.is_empty() {
+        filled = keep(packer.padded(), target, filled);
     }
+    filled
 }
 
-/// Packs one group, and puts the block that this may release into the target.
+/// Packs one group. Where it doesn't fit into the pending block, that one is put into the target first.
 fn pack(packer: &mut Packer, group: &[u8], target: &mut [u8], filled: usize) -> usize
     requires fits { length group.now ≤ packer.old.block }
     requires inside { filled ≤ length target.old }
@@ -35,24 +35,26 @@ fn pack(packer: &mut Packer, group: &[u8], target: &mut [u8], filled: usize) -> 
     ensures size { length target.new ≡ length target.old }
     ensures inside { result ≤ length target.new }
 {
-    if packer.has_room(group.len()) {
-        packer.add(group);
-        return filled;
+    let mut filled = filled;
+    if !packer.has_room(group.len()) {
+        filled = keep(packer.padded(), target, filled);
+        packer.clear();
     }
-    keep(&packer.release(group), target, filled)
+    packer.add(group);
+    filled
 }
 
 /// Puts a block behind what is filled of the target, where there is room for it.
-fn keep(full: &Full, target: &mut [u8], filled: usize) -> usize
+fn keep(block: &[u8], target: &mut [u8], filled: usize) -> usize
     requires { filled ≤ length target.old }
     ensures size { length target.new ≡ length target.old }
     ensures inside { result ≤ length target.new }
 {
-    if full.len() > target.len() - filled {
+    if block.len() > target.len() - filled {
         return filled;
     }
-    target[filled..filled + full.len()].copy_from_slice(full.as_slice());
-    filled + full.len()
+    target[filled..filled + block.len()].copy_from_slice(block);
+    filled + block.len()
 }
 
 /// Copies the same groups, one after another, and answers how many bytes they are.

@@ -1,6 +1,5 @@
--- What a packer is seen as, and what its calls give, in the words of the packing.
-use Rattle.std.specs.Prelude.{◌≡◌, ℕ, ◌+◌, ◌<◌, ◌≤◌, List, [], ◌∷◌, ◌++◌, length, Option, None, Some}
-use Rattle.arrayvec.specs.ArrayVec.{ArrayVec}
+-- What a packer is seen as, and what putting a group into it gives, in the words of the packing.
+use Rattle.std.specs.Prelude.{◌≡◌, ℕ, ◌+◌, ◌<◌, ◌≤◌, List, [], ◌∷◌, ◌++◌, length}
 use Rattle.program_interface.specs.declared.block_size.TheConstants.{LARGEST_BLOCK}
 use Rattle.program_interface.specs.BlockSize.{IsBlockSize}
 use Rattle.emit_append.specs.Packing.{packed, padded, pending_of, released}
@@ -19,7 +18,7 @@ pub record IsPacker (block pending : ℕ) (bytes : List ℕ) : Type 0 where
 abbrev pub new_packer : ℕ → PackerState
 new_packer block = record { block = block; pending = [] }
 
--- The pending bytes count as one group, and what a call gives is the packing of that group and the next.
+-- The pending bytes count as one group: what putting the next one gives is what the packing of both releases, and in the end the packing of the first.
 abbrev pub given_by_put : PackerState → List ℕ → List (List ℕ)
 given_by_put packer group = released packer.block (packer.pending ∷ group ∷ [])
 
@@ -32,12 +31,7 @@ after_put packer group = record {
 abbrev pub given_by_finish : PackerState → List (List ℕ)
 given_by_finish packer = packed packer.block (packer.pending ∷ [])
 
--- the blocks that a call gave: one or none
-abbrev pub blocks_of : Option (ArrayVec ℕ) → List (List ℕ)
-blocks_of None = []
-blocks_of (Some full) = full.items ∷ []
-
--- groups put one after another: the blocks that the calls give, and what the packer is then
+-- groups put one after another: the blocks that they give, and what the packer is then
 abbrev pub given_by_puts : PackerState → List (List ℕ) → List (List ℕ)
 given_by_puts packer [] = []
 given_by_puts packer (group ∷ groups) = given_by_put packer group ++ given_by_puts (after_put packer group) groups
@@ -46,7 +40,7 @@ abbrev pub after_puts : PackerState → List (List ℕ) → PackerState
 after_puts packer [] = packer
 after_puts packer (group ∷ groups) = after_puts (after_put packer group) groups
 
--- a new packer's calls, for some groups put in order
+-- some groups put into a new packer, in order
 pub record ArePutsOf (block : ℕ) (groups : List (List ℕ)) : Type 0 where
   -- they give all blocks of the groups but the last,
   pub blocks : given_by_puts (new_packer block) groups ≡ released block groups

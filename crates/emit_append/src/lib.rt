@@ -13,7 +13,7 @@ mod unpacking;
 
 pub use blocks_needed::need;
 pub use fault::UnpackFault;
-pub use packer::{Full, Packer};
+pub use packer::Packer;
 pub use program_interface::{BlockSize, RunSizes};
 pub use refusal::FrameRefusal;
 pub use unpacking::unpack;

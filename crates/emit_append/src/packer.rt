@@ -1,29 +1,26 @@
 //! The packer, which keeps one output block.
 
-ghost use Rattle.std.specs.Prelude.{◌≡◌, ◌<◌, ◌≤◌, ◌+◌, ◌==◌, [], ◌∷◌, ◌++◌, length, nat_le, take, IfSome};
-ghost use Rattle.arrayvec.specs.ArrayVec.{array_vec_len};
-ghost use Rattle.emit_append.specs.Packer.{after_put, blocks_of, given_by_finish, given_by_put, new_packer};
+ghost use Rattle.std.specs.Prelude.{◌≡◌, ◌≤◌, ◌+◌, ◌==◌, [], ◌++◌, length, nat_le, take};
+ghost use Rattle.emit_append.specs.Packer.{after_put, given_by_put, new_packer};
 ghost use Rattle.emit_append.specs.Packing.{padded};
 
-use arrayvec::ArrayVec;
 use program_interface::{BlockSize, LARGEST_BLOCK};
 use std::marker::Model;
-
-/// An output block that no later group can change: as many bytes as the packer's block size.
-pub type Full = ArrayVec<u8, LARGEST_BLOCK>;
 
 static ZEROS: [u8; LARGEST_BLOCK] = [0; LARGEST_BLOCK];
 
 /// Packs groups into output blocks. It keeps the block that was begun last, since the next group
-/// may still go into it. A clause sees the size of its blocks and the bytes that are pending.
+/// may still go into it. Where there is no room for a group, the caller takes that block by
+/// [`Packer::padded`], begins an empty one by [`Packer::clear`], and adds the group to it; in the end
+/// it takes the block if anything is pending. A clause sees the size of the packer's blocks and the
+/// bytes that are pending.
 #[derive(Drop)]
 pub struct Packer {
     // bytes of an output block
     block: usize,
     // how many bytes at the front of the array are pending
     pending: usize,
-    // an array, and what is released a copy of it: an `ArrayVec` that is taken out of its place leaves
-    // zeros there, which would be one more block to write
+    // what stands behind the pending bytes is of earlier groups, until zeros are written there
     bytes: [u8; LARGEST_BLOCK],
 }
 
@@ -88,8 +85,8 @@ impl Packer {
         self.pending = 0;
     }
 
-    /// Packs one more group into the pending block, which has room for it. A loop over small groups
-    /// is several times faster by this than by [`Packer::put`], whose answer is as large as a block.
+    /// Packs one more group into the pending block, which has room for it. A group of no bytes
+    /// changes nothing.
     #[inline]
     pub fn add(&mut self, group: &[u8])
         requires { length self.old.pending + length group.now ≤ self.old.block }
@@ -100,54 +97,6 @@ impl Packer {
         let pending = self.pending;
         append(&mut self.bytes, pending, group);
         self.pending = pending + group.len();
-    }
-
-    /// Releases the pending block, which has no room for a group, and begins the next one with that
-    /// group.
-    pub fn release(&mut self, group: &[u8]) -> Full
-        requires whole { length group.now ≤ self.old.block }
-        requires passes { self.old.block < length self.old.pending + length group.now }
-        ensures block { result.items ∷ [] ≡ given_by_put self.old group.now }
-        ensures state { self.new ≡ after_put self.old group.now }
-        ensures whole { array_vec_len result ≡ self.old.block }
-        ensures fits { length self.new.pending ≤ self.new.block }
-    {
-        let full = copy(&mut self.bytes, self.pending, self.block);
-        self.clear();
-        self.add(group);
-        full
-    }
-
-    /// Packs one more group, after what is pending. Where the group doesn't fit into the rest of
-    /// the pending block, that block is released and the group begins the next one. A group of no
-    /// bytes changes nothing.
-    #[inline]
-    pub fn put(&mut self, group: &[u8]) -> Option<Full>
-        requires { length group.now ≤ self.old.block }
-        ensures blocks { blocks_of result ≡ given_by_put self.old group.now }
-        ensures state { self.new ≡ after_put self.old group.now }
-        ensures whole { IfSome result (λ full. array_vec_len full ≡ self.old.block) }
-        ensures fits { length self.new.pending ≤ self.new.block }
-    {
-        if self.has_room(group.len()) {
-            self.add(group);
-            return None;
-        }
-        Some(self.release(group))
-    }
-
-    /// Releases the pending block, where it holds a group.
-    pub fn finish(&mut self) -> Option<Full>
-        ensures blocks { blocks_of result ≡ given_by_finish self.old }
-        ensures state { self.new ≡ new_packer self.old.block }
-        ensures whole { IfSome result (λ full. array_vec_len full ≡ self.old.block) }
-    {
-        if self.is_empty() {
-            return None;
-        }
-        let rest = copy(&mut self.bytes, self.pending, self.block);
-        self.clear();
-        Some(rest)
     }
 }
 
@@ -171,18 +120,4 @@ fn pad(bytes: &mut [u8; LARGEST_BLOCK], pending: usize, block: usize)
     ensures size { length bytes.new ≡ LARGEST_BLOCK }
 {
     bytes[pending..block].fill(0);
-}
-
-/// The pending bytes as a block, the rest of it zeros.
-fn copy(bytes: &mut [u8; LARGEST_BLOCK], pending: usize, block: usize) -> Full
-    requires fits { pending ≤ block }
-    requires small { block ≤ LARGEST_BLOCK }
-    ensures block { result.items ≡ padded block (take pending bytes.old) }
-    ensures whole { array_vec_len result ≡ block }
-    ensures size { length bytes.new ≡ LARGEST_BLOCK }
-{
-    pad(bytes, pending, block);
-    let mut full = Full::from(*bytes);
-    full.truncate(block);
-    full
 }

@@ -2,7 +2,7 @@
 
 ghost use Rattle.std.specs.Prelude.{◌≡◌, ◌≤◌, ◌++◌, length, OnOk};
 ghost use Rattle.std.specs.List.{concat};
-ghost use Rattle.emit_append.specs.Packer.{after_put, given_by_put};
+ghost use Rattle.emit_append.specs.Packer.{after_put, given_by_finish, given_by_put, new_packer};
 
 use crate::{BlockSize, Packer, RunSizes, UnpackFault, need, unpack};
 use std::alloc::{AllocError, Global};
@@ -40,62 +40,12 @@ fn bounds_the_blocks(rt: HostRuntime) {
     }
 }
 
-#[test]
-fn releases_a_block_that_the_next_group_passes(rt: HostRuntime) -> Result<(), Fail> {
-    let mut packer = Packer::new(BlockSize::new(512).unwrap());
-    assert!(rt; packer.put(&[6; 300]).is_none());
-    assert!(rt; packer.put(&[]).is_none());
-    assert!(rt; packer.put(&[7; 212]).is_none());
-    let full = packer.put(&[8; 3]).expect(&rt, "a full block");
-    let mut expected = Vec::from_slice(rt.alloc(), &[6; 300])?;
-    expected.extend_from_slice(&[7; 212])?;
-    assert_eq!(rt; full.as_slice(), expected.as_slice());
-    let rest = packer.finish().expect(&rt, "the pending block");
-    let expected = block_with(rt.alloc(), &[8; 3], 512, 0)?;
-    assert_eq!(rt; rest.as_slice(), expected.as_slice());
-    assert!(rt; packer.finish().is_none());
-    Ok(())
-}
-
-#[test]
-fn packs_as_many_frames_as_fit(rt: HostRuntime) -> Result<(), Fail> {
-    let mut packer = Packer::new(BlockSize::new(512).unwrap());
-    let mut expected = Vec::new(rt.alloc());
-    for frame in 0..51u8 {
-        let group = [8, 0, 7, frame, 0, 0, 0, 0, 0, 0];
-        assert!(rt; packer.put(&group).is_none());
-        expected.extend_from_slice(&group)?;
-    }
-    expected.resize(512, 0)?;
-    let last = [8, 0, 7, 51, 0, 0, 0, 0, 0, 0];
-    let full = packer.put(&last).expect(&rt, "a full block");
-    assert_eq!(rt; full.as_slice(), expected.as_slice());
-    let rest = packer.finish().expect(&rt, "the pending block");
-    let expected = block_with(rt.alloc(), &last, 512, 0)?;
-    assert_eq!(rt; rest.as_slice(), expected.as_slice());
-    Ok(())
-}
-
-#[test]
-fn packs_where_room_is_asked_for_first(rt: HostRuntime) -> Result<(), Fail> {
-    let mut packer = Packer::new(BlockSize::new(512).unwrap());
-    assert!(rt; packer.has_room(512));
-    packer.add(&[6; 300]);
-    assert!(rt; packer.has_room(212));
-    assert!(rt; !packer.has_room(213));
-    let full = packer.release(&[7; 213]);
-    let mut expected = Vec::from_slice(rt.alloc(), &[6; 300])?;
-    expected.resize(512, 0)?;
-    assert_eq!(rt; full.as_slice(), expected.as_slice());
-    assert!(rt; packer.has_room(299));
-    assert!(rt; !packer.has_room(300));
-    Ok(())
-}
-
-/// Puts a group behind the blocks, by lending the pending one where the group doesn't fit.
+/// Puts a group behind the blocks, of which the pending one comes first where it has no room for it.
 fn put(packer: &mut Packer, group: &[u8], blocks: &mut Vec<u8>) -> Result<(), AllocError>
     requires fits { length packer.old.pending ≤ packer.old.block }
     requires whole { length group.now ≤ packer.old.block }
+    ensures block { packer.new.block ≡ packer.old.block }
+    ensures fits { length packer.new.pending ≤ packer.new.block }
     ensures state { OnOk result (packer.new ≡ after_put packer.old group.now) }
     ensures blocks { OnOk result (blocks.new.items ≡ blocks.old.items ++ concat (given_by_put packer.old group.now)) }
 {
@@ -107,23 +57,84 @@ fn put(packer: &mut Packer, group: &[u8], blocks: &mut Vec<u8>) -> Result<(), Al
     Ok(())
 }
 
+/// Puts the pending block behind the blocks, where something is pending.
+fn finish(packer: &mut Packer, blocks: &mut Vec<u8>) -> Result<(), AllocError>
+    ensures block { packer.new.block ≡ packer.old.block }
+    ensures state { OnOk result (packer.new ≡ new_packer packer.old.block) }
+    ensures blocks { OnOk result (blocks.new.items ≡ blocks.old.items ++ concat (given_by_finish packer.old)) }
+{
+    if !packer.is_empty() {
+        blocks.extend_from_slice(packer.padded())?;
+        packer.clear();
+    }
+    Ok(())
+}
+
+#[test]
+fn gives_a_block_that_the_next_group_passes(rt: HostRuntime) -> Result<(), Fail> {
+    let mut packer = Packer::new(BlockSize::new(512).unwrap());
+    let mut blocks = Vec::new(rt.alloc());
+    put(&mut packer, &[6; 300], &mut blocks)?;
+    put(&mut packer, &[], &mut blocks)?;
+    put(&mut packer, &[7; 212], &mut blocks)?;
+    assert!(rt; blocks.is_empty());
+    put(&mut packer, &[8; 3], &mut blocks)?;
+    let mut expected = Vec::from_slice(rt.alloc(), &[6; 300])?;
+    expected.extend_from_slice(&[7; 212])?;
+    assert_eq!(rt; blocks.as_slice(), expected.as_slice());
+    finish(&mut packer, &mut blocks)?;
+    expected.extend_from_slice(block_with(rt.alloc(), &[8; 3], 512, 0)?.as_slice())?;
+    assert_eq!(rt; blocks.as_slice(), expected.as_slice());
+    finish(&mut packer, &mut blocks)?;
+    assert_eq!(rt; blocks.len(), 1024);
+    Ok(())
+}
+
+#[test]
+fn packs_as_many_frames_as_fit(rt: HostRuntime) -> Result<(), Fail> {
+    let mut packer = Packer::new(BlockSize::new(512).unwrap());
+    let mut blocks = Vec::new(rt.alloc());
+    let mut expected = Vec::new(rt.alloc());
+    for frame in 0..51u8 {
+        let group = [8, 0, 7, frame, 0, 0, 0, 0, 0, 0];
+        put(&mut packer, &group, &mut blocks)?;
+        expected.extend_from_slice(&group)?;
+    }
+    assert!(rt; blocks.is_empty());
+    expected.resize(512, 0)?;
+    let last = [8, 0, 7, 51, 0, 0, 0, 0, 0, 0];
+    put(&mut packer, &last, &mut blocks)?;
+    assert_eq!(rt; blocks.as_slice(), expected.as_slice());
+    let expected = block_with(rt.alloc(), &last, 512, 0)?;
+    assert_eq!(rt; packer.padded(), expected.as_slice());
+    Ok(())
+}
+
+#[test]
+fn tells_whether_there_is_room(rt: HostRuntime) {
+    let mut packer = Packer::new(BlockSize::new(512).unwrap());
+    assert!(rt; packer.is_empty());
+    assert!(rt; packer.has_room(512));
+    packer.add(&[6; 300]);
+    assert!(rt; !packer.is_empty());
+    assert!(rt; packer.has_room(212));
+    assert!(rt; !packer.has_room(213));
+    packer.clear();
+    assert!(rt; packer.is_empty());
+    packer.add(&[7; 213]);
+    assert!(rt; packer.has_room(299));
+    assert!(rt; !packer.has_room(300));
+}
+
 #[test]
 fn lends_the_pending_block(rt: HostRuntime) -> Result<(), Fail> {
     let mut packer = Packer::new(BlockSize::new(512).unwrap());
-    let mut blocks = Vec::new(rt.alloc());
-    assert!(rt; packer.is_empty());
-    put(&mut packer, &[6; 300], &mut blocks)?;
-    assert!(rt; !packer.is_empty());
-    put(&mut packer, &[7; 213], &mut blocks)?;
-    put(&mut packer, &[8; 299], &mut blocks)?;
-    let mut expected = Vec::from_slice(rt.alloc(), &[6; 300])?;
-    expected.resize(512, 0)?;
-    assert_eq!(rt; blocks.as_slice(), expected.as_slice());
+    packer.add(&[7; 213]);
+    packer.add(&[8; 299]);
     let mut expected = Vec::from_slice(rt.alloc(), &[7; 213])?;
     expected.extend_from_slice(&[8; 299])?;
     assert_eq!(rt; packer.padded(), expected.as_slice());
     packer.clear();
-    assert!(rt; packer.is_empty());
     packer.add(&[9; 2]);
     let expected = block_with(rt.alloc(), &[9; 2], 512, 0)?;
     assert_eq!(rt; packer.padded(), expected.as_slice());
@@ -134,12 +145,12 @@ fn lends_the_pending_block(rt: HostRuntime) -> Result<(), Fail> {
 #[test]
 fn packs_the_largest_blocks(rt: HostRuntime) -> Result<(), Fail> {
     let mut packer = Packer::new(BlockSize::new(4096).unwrap());
-    assert!(rt; packer.put(&[1; 4096]).is_none());
-    let first = packer.put(&[2]).expect(&rt, "a full block");
-    assert_eq!(rt; first.as_slice(), [1; 4096].as_slice());
-    let second = packer.finish().expect(&rt, "the pending block");
+    let mut blocks = Vec::new(rt.alloc());
+    put(&mut packer, &[1; 4096], &mut blocks)?;
+    put(&mut packer, &[2], &mut blocks)?;
+    assert_eq!(rt; blocks.as_slice(), [1; 4096].as_slice());
     let expected = block_with(rt.alloc(), &[2], 4096, 0)?;
-    assert_eq!(rt; second.as_slice(), expected.as_slice());
+    assert_eq!(rt; packer.padded(), expected.as_slice());
     Ok(())
 }
 
