@@ -16,15 +16,15 @@ then_read-append first second (Err at) = refl
 
 -- one step, by what stands in front
 module _ (steps at : ℕ) (rest : List ℕ) where
-  step-zeros : frame_length rest ≡ 0 → frames_at (suc steps) at rest ≡ zeros_at at rest
+  pub step-zeros : frame_length rest ≡ 0 → frames_at (suc steps) at rest ≡ zeros_at at rest
   unfolding frames_at
   step-zeros none = search (rules, nat_tests)
 
-  step-short : 0 < frame_length rest → length rest < 2 + frame_length rest → frames_at (suc steps) at rest ≡ Err at
+  pub step-short : 0 < frame_length rest → length rest < 2 + frame_length rest → frames_at (suc steps) at rest ≡ Err at
   unfolding frames_at
   step-short some short = search (rules, nat_tests)
 
-  step-frame : 0 < frame_length rest → 2 + frame_length rest ≤ length rest → frames_at (suc steps) at rest ≡ then_read (frame_record rest ∷ []) (frames_at steps (at + (2 + frame_length rest)) (after_frame rest))
+  pub step-frame : 0 < frame_length rest → 2 + frame_length rest ≤ length rest → frames_at (suc steps) at rest ≡ then_read (frame_record rest ∷ []) (frames_at steps (at + (2 + frame_length rest)) (after_frame rest))
   unfolding frames_at
   step-frame some long = search (rules, nat_tests)
 

@@ -3,6 +3,7 @@ mod Continuing
 mod FramesRead
 mod Layouts
 mod Needs
+mod OnlyFrames
 mod Padding
 mod Parts
 mod Puts

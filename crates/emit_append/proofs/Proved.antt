@@ -1,5 +1,5 @@
 -- The laws of this crate, proved: all that the proofs of other crates cite of it.
-use Rattle.emit_append.specs.Frames.{PackedFramesReadBack}
+use Rattle.emit_append.specs.Frames.{PackedFramesReadBack, UnpackedIsFrames}
 use Rattle.emit_append.specs.GoingOn.{OneGroupIsPending, PackingGoesOn}
 use Rattle.emit_append.specs.Need.{NeedGrows, NeedIsEnough}
 use Rattle.emit_append.specs.OutputBlocks.{OutputBlocksAreBytes, OutputBlocksAreWhole}
@@ -7,6 +7,7 @@ use Rattle.emit_append.specs.Packed.{PackedAsDescribed}
 use Rattle.emit_append.specs.Packer.{LendingIsFinishing, LendingIsPutting, PuttingIsPacking}
 use Rattle.emit_append.proofs.Continuing as continuing
 use Rattle.emit_append.proofs.Needs as needs
+use Rattle.emit_append.proofs.OnlyFrames as only_frames
 use Rattle.emit_append.proofs.Parts as parts
 use Rattle.emit_append.proofs.Puts as puts
 use Rattle.emit_append.proofs.ReadBack as read_back
@@ -44,3 +45,6 @@ need_grows = needs.need_grows
 
 pub packed_frames_read_back : PackedFramesReadBack
 packed_frames_read_back = read_back.packed_frames_read_back
+
+pub unpacked_is_frames : UnpackedIsFrames
+unpacked_is_frames = only_frames.unpacked_is_frames

@@ -17,10 +17,10 @@ use Rattle.emit_append.proofs.Padding.{length-padded}
 use Rattle.emit_append.proofs.FramesRead.{block-frame, block-zeros}
 
 -- records that frames can hold
-abbrev AreRecords : List (List ℕ) → Type 0
+abbrev pub AreRecords : List (List ℕ) → Type 0
 AreRecords records = AllByRecursion (λ bytes. (0 < length bytes) × (length bytes < 2 ^ 16)) records
 
-front_two : (low high : ℕ) (rest : List ℕ) → frame_length (low ∷ high ∷ rest) ≡ little_number 2 (low ∷ high ∷ rest)
+pub front_two : (low high : ℕ) (rest : List ℕ) → frame_length (low ∷ high ∷ rest) ≡ little_number 2 (low ∷ high ∷ rest)
 front_two low high rest = search (rules, nat_tests)
 
 no_frame : (count : ℕ) → frame_length (replicate count 0) ≡ 0
@@ -115,7 +115,7 @@ none_in_front [] none = refl
 none_in_front (bytes ∷ records) none = absurd (omega arith)
 
 -- blocks of frames, one after another
-blocks-read : (block at : ℕ) (parts : List (List (List ℕ))) → AllByRecursion AreRecords parts → AllByRecursion (λ part. length (frames part) ≤ block) parts →
+pub blocks-read : (block at : ℕ) (parts : List (List (List ℕ))) → AllByRecursion AreRecords parts → AllByRecursion (λ part. length (frames part) ≤ block) parts →
     output_blocks_at (length parts) block at (concat (map (padded block) (map frames parts))) ≡ Ok (flat_map (λ part. part) parts)
 unfolding output_blocks_at
 blocks-read block at [] are fits = refl
@@ -128,7 +128,7 @@ blocks-read block at (part ∷ parts) are fits =
     ap (output_blocks_at (length parts) block (at + block)) (drop_at (padded block bytes) rest block long) ∙ blocks-read block (at + block) parts are.1 fits.1 in
     rw (first, others) refl
 
-length-blocks : (block : ℕ) (parts : List (List (List ℕ))) → AllByRecursion (λ part. length (frames part) ≤ block) parts →
+pub length-blocks : (block : ℕ) (parts : List (List (List ℕ))) → AllByRecursion (λ part. length (frames part) ≤ block) parts →
     length (concat (map (padded block) (map frames parts))) ≡ length parts * block
 length-blocks block [] fits = omega arith
 length-blocks block (part ∷ parts) fits =
@@ -141,7 +141,7 @@ bounded (bytes ∷ records) some small =
     let whole = length-append bytes (frames records) in
     ((some.0, omega (arith, whole)), bounded records some.1 (omega (arith, whole)))
 
-all_bounded : (block : ℕ) (groups : List (List (List ℕ))) → block < 2 ^ 16 → AllByRecursion (λ records. AllByRecursion (λ bytes. 0 < length bytes) records) groups → FitBlock block (map frames groups) →
+pub all_bounded : (block : ℕ) (groups : List (List (List ℕ))) → block < 2 ^ 16 → AllByRecursion (λ records. AllByRecursion (λ bytes. 0 < length bytes) records) groups → FitBlock block (map frames groups) →
     AllByRecursion AreRecords groups
 all_bounded block [] small some fit = tt
 all_bounded block (g ∷ gs) small some fit = (bounded g some.0 (omega (arith, fit.0)), all_bounded block gs small some.1 fit.1)

@@ -1,10 +1,11 @@
 -- How frames in output blocks are read back (profile).
-use Rattle.std.specs.Prelude.{ℕ, zero, suc, ◌≡◌, ◌+◌, ◌/◌, ◌^◌, ◌<◌, ◌==◌, nat_lt, List, [], ◌∷◌, ◌++◌, length, map, take, drop, Result, Ok, Err, if◌then◌else◌}
+use Rattle.std.specs.Prelude.{ℕ, zero, suc, ◌≡◌, ◌↔◌, ◌+◌, ◌/◌, ◌^◌, ◌<◌, ◌≤◌, ◌==◌, nat_lt, List, [], ◌∷◌, ◌++◌, length, map, take, drop, Result, Ok, Err, if◌then◌else◌}
 use Rattle.std.specs.List.{AllByRecursion, concat, flat_map}
 use Rattle.byteorder.specs.Endian.{little_number}
 use Rattle.program_interface.specs.Frame.{frames}
 use Rattle.emit_append.specs.Packed.{FitBlock}
-use Rattle.emit_append.specs.Packing.{packed}
+use Rattle.emit_append.specs.OutputBlocks.{AreBytes}
+use Rattle.emit_append.specs.Packing.{packed, padded}
 
 -- the records, or the place of the first byte that is refused
 abbrev pub Reading : Type 0
@@ -65,3 +66,18 @@ PackedFramesReadBack =
     AllByRecursion (λ records. AllByRecursion (λ bytes. 0 < length bytes) records) groups →
     FitBlock block (map frames groups) →
     unpacked block (concat (packed block (map frames groups))) ≡ Ok (flat_map (λ records. records) groups)
+
+-- bytes that are blocks of the frames of these records, in order, and of zeros, where no record is without bytes
+-- parts: the records of each block
+pub record AreFrames (block : ℕ) (records : List (List ℕ)) (bytes : List ℕ) : Type 0 where
+  pub parts : List (List (List ℕ))
+  pub in_order : flat_map (λ part. part) parts ≡ records
+  pub some : AllByRecursion (λ part. AllByRecursion (λ bytes. 0 < length bytes) part) parts
+  pub fits : AllByRecursion (λ part. length (frames part) ≤ block) parts
+  pub rest_is_zeros : bytes ≡ concat (map (padded block) (map frames parts))
+
+-- Bytes unpack to records where they are blocks of the records' frames and zeros, and nowhere else.
+abbrev pub UnpackedIsFrames : Type 0
+UnpackedIsFrames =
+    (block : ℕ) (bytes : List ℕ) (records : List (List ℕ)) → 0 < block → block < 2 ^ 16 → AreBytes bytes →
+    (unpacked block bytes ≡ Ok records) ↔ AreFrames block records bytes

@@ -1,6 +1,6 @@
 //! Laws of the definitions: what they mean, in words of their own.
 
-ghost use Rattle.emit_append.specs.Frames.{PackedFramesReadBack};
+ghost use Rattle.emit_append.specs.Frames.{PackedFramesReadBack, UnpackedIsFrames};
 ghost use Rattle.emit_append.specs.GoingOn.{OneGroupIsPending, PackingGoesOn};
 ghost use Rattle.emit_append.specs.Need.{NeedGrows, NeedIsEnough};
 ghost use Rattle.emit_append.specs.OutputBlocks.{OutputBlocksAreBytes, OutputBlocksAreWhole};
@@ -66,4 +66,9 @@ pub fn need_grows()
 /// What is packed of groups of frames reads back as the records of all of them, in order.
 pub fn packed_frames_read_back()
     ensures { PackedFramesReadBack }
+{}
+
+/// Bytes unpack to records where they are blocks of the records' frames and zeros, and nowhere else.
+pub fn unpacked_is_frames()
+    ensures { UnpackedIsFrames }
 {}

@@ -1,0 +1,168 @@
+-- What reads as records is blocks of their frames and zeros, and such blocks read so.
+use Rattle.std.proofs.Common.{◌≡◌, ℕ, zero, suc, ◌+◌, ◌-◌, ◌*◌, ◌/◌, ◌%◌, ◌^◌, ◌≤◌, ◌<◌, List, [], ◌∷◌, ◌++◌, length, map, take, drop, replicate, Ok, Err, refl, ap, sym, ◌∙◌, arith, length-append, length-drop, append_assoc, take-append-drop, inl, inr, ⊎_elim}
+use Rattle.std.specs.List.{AllByRecursion, concat, flat_map}
+use Rattle.std.proofs.Math.Nat.{div-add-mod', mul-div_cancel, suc-mul}
+use Rattle.std.proofs.lemmas.Bool.{cases_lt}
+use Rattle.std.proofs.lemmas.Bool.Decides.{eqb_tells}
+use Rattle.std.proofs.lemmas.List.{drop-drop, length-take-le}
+use Rattle.byteorder.specs.Endian.{little_bytes, little_number}
+use Rattle.program_interface.specs.Frame.{frame, frames}
+use Rattle.emit_append.specs.Packed.{FitBlock}
+use Rattle.emit_append.specs.Packing.{padded}
+use Rattle.emit_append.specs.OutputBlocks.{AreBytes}
+use Rattle.emit_append.specs.Frames.{AreFrames, Reading, UnpackedIsFrames, after_frame, and_then, frame_length, frame_record, frames_at, output_block_at, output_blocks_at, then_read, unpacked, zeros_at}
+use Rattle.emit_append.proofs.FramesRead.{step-frame, step-short, step-zeros}
+use Rattle.emit_append.proofs.ReadBack.{all_bounded, blocks-read, front_two, length-blocks}
+
+bytes_up_to : (n : ℕ) (xs : List ℕ) → AreBytes xs → AreBytes (take n xs)
+bytes_up_to zero xs are = tt
+bytes_up_to (suc n) [] are = tt
+bytes_up_to (suc n) (x ∷ xs) are = (are.0, bytes_up_to n xs are.1)
+
+bytes_from : (n : ℕ) (xs : List ℕ) → AreBytes xs → AreBytes (drop n xs)
+bytes_from zero xs are = are
+bytes_from (suc n) [] are = tt
+bytes_from (suc n) (x ∷ xs) are = bytes_from n xs are.1
+
+-- records that none is without bytes, whose frames stand in front of zeros
+record IsFrames (rest : List ℕ) (records : List (List ℕ)) : Type 0 where
+  some : AllByRecursion (λ bytes. 0 < length bytes) records
+  fits : length (frames records) ≤ length rest
+  is : rest ≡ padded (length rest) (frames records)
+
+-- zeros alone are read to the end
+zeros-only : (at : ℕ) (rest : List ℕ) (records : List (List ℕ)) → zeros_at at rest ≡ Ok records → (records ≡ []) × (rest ≡ replicate (length rest) 0)
+zeros-only at [] records is = (cc, refl)
+zeros-only at (byte ∷ rest) records is = elim (eqb_tells byte 0) [
+  | inl none ↦
+      let next = zeros-only (at + 1) rest records (rw none.0 at is) in
+      (next.0, ap (λ first. first ∷ rest) none.1 ∙ ap (λ others. 0 ∷ others) next.1)
+  | inr other ↦ let fault : Err at ≡ Ok records = rw other.0 at is in absurd cc
+]
+
+only-zeros : (at : ℕ) (rest : List ℕ) (records : List (List ℕ)) → zeros_at at rest ≡ Ok records → IsFrames rest records
+only-zeros at rest records is =
+    let only = zeros-only at rest records is in
+    let all : length rest ≡ length rest - 0 = omega arith in
+    rw only.0 (record { some = tt; fits = omega arith; is = only.1 ∙ ap (λ n. replicate n 0) all })
+
+-- the two bytes in front of a frame spell its length
+two_bytes : (low high : ℕ) (rest : List ℕ) → low < 2 ^ 8 → high < 2 ^ 8 → little_bytes 2 (little_number 2 (low ∷ high ∷ rest)) ≡ low ∷ high ∷ []
+two_bytes low high rest low_fits high_fits =
+    let first : (low + 256 * (high + 256 * 0)) % 256 ≡ low = omega arith in
+    let second : (low + 256 * (high + 256 * 0)) / 256 ^ 1 % 256 ≡ high = omega arith in
+    rw (first, second) refl
+
+record_length : (rest : List ℕ) → 2 + frame_length rest ≤ length rest → length (frame_record rest) ≡ frame_length rest
+record_length rest long = length-take-le (frame_length rest) (drop 2 rest) (omega (arith, long, length-drop 2 rest))
+
+-- a frame and what is behind it
+framed : (rest : List ℕ) → AreBytes rest → 2 + frame_length rest ≤ length rest → rest ≡ frame (frame_record rest) ++ after_frame rest
+framed [] are long = absurd (omega (arith, long))
+framed (low ∷ []) are long = absurd (omega (arith, long))
+framed (low ∷ high ∷ more) are long =
+    let rest = low ∷ high ∷ more in
+    let n = frame_length rest in
+    let front : little_bytes 2 (length (frame_record rest)) ≡ low ∷ high ∷ [] =
+    ap (little_bytes 2) (record_length rest long ∙ front_two low high more) ∙ two_bytes low high more are.0 are.1.0 in
+    let left : after_frame rest ≡ drop n more = sym (drop-drop n 2 rest) in
+    ap (λ bytes. low ∷ high ∷ bytes) (sym (take-append-drop n more))
+    ∙ ap (λ bytes. low ∷ high ∷ (take n more ++ bytes)) (sym left)
+    ∙ ap (λ bytes. (bytes ++ take n more) ++ after_frame rest) (sym front)
+
+frame-behind : (rest : List ℕ) (more : List (List ℕ)) → AreBytes rest → 0 < frame_length rest → 2 + frame_length rest ≤ length rest →
+    IsFrames (after_frame rest) more → IsFrames rest (frame_record rest ∷ more)
+frame-behind rest more are some long d =
+    let n = frame_length rest in
+    let size = record_length rest long in
+    let front = frame (frame_record rest) in
+    let whole : length (front ++ frames more) ≡ 2 + n + length (frames more) = omega (arith, size, length-append front (frames more), length-append (frame_record rest) (frames more)) in
+    let left : length (after_frame rest) ≡ length rest - (2 + n) = length-drop (2 + n) rest in
+    let count : length (after_frame rest) - length (frames more) ≡ length rest - length (front ++ frames more) = omega (arith, whole, left) in
+    record {
+      some = (omega (arith, some, size), d.some);
+      fits = omega (arith, whole, left, long, d.fits);
+      is =
+          framed rest are long
+          ∙ ap (λ bytes. front ++ bytes) d.is
+          ∙ sym (append_assoc front (frames more) (replicate (length (after_frame rest) - length (frames more)) 0))
+          ∙ ap (λ c. (front ++ frames more) ++ replicate c 0) count;
+    }
+
+after-frame : (rest : List ℕ) (records : List (List ℕ)) (reading : Reading) → AreBytes rest → 0 < frame_length rest → 2 + frame_length rest ≤ length rest →
+    then_read (frame_record rest ∷ []) reading ≡ Ok records → ((more : List (List ℕ)) → reading ≡ Ok more → IsFrames (after_frame rest) more) → IsFrames rest records
+after-frame rest records (Ok more) are some long is behind =
+    let all : records ≡ frame_record rest ∷ more = cc in
+    rw all (frame-behind rest more are some long (behind more refl))
+after-frame rest records (Err at) are some long is behind = absurd cc
+
+only-frames : (steps at : ℕ) (rest : List ℕ) (records : List (List ℕ)) → length rest ≤ steps → AreBytes rest → frames_at steps at rest ≡ Ok records → IsFrames rest records
+unfolding frames_at
+only-frames zero at [] records few are is = only-zeros at [] records is
+only-frames zero at (x ∷ xs) records few are is = absurd (omega (arith, few))
+only-frames (suc steps) at rest records few are is =
+    ⊎_elim
+    (λ some.
+    ⊎_elim
+    (λ short. let fault : Err at ≡ Ok records = sym (step-short steps at rest some short) ∙ is in absurd cc)
+    (λ long.
+    let left = length-drop (2 + frame_length rest) rest in
+    after-frame rest records _ are some long (sym (step-frame steps at rest some long) ∙ is)
+    (λ more. only-frames steps (at + (2 + frame_length rest)) (after_frame rest) more (omega (arith, few, long, left)) (bytes_from (2 + frame_length rest) rest are)))
+    (cases_lt (length rest) (2 + frame_length rest)))
+    (λ none. only-zeros at rest records (sym (step-zeros steps at rest (omega arith)) ∙ is))
+    (cases_lt 0 (frame_length rest))
+
+-- a block of frames, and the blocks behind it
+block-behind : (block : ℕ) (bytes : List ℕ) (front more : List (List ℕ)) → block ≤ length bytes → IsFrames (take block bytes) front → AreFrames block more (drop block bytes) → AreFrames block (front ++ more) bytes
+block-behind block bytes front more long first others =
+    let size = length-take-le block bytes long in
+    record {
+      parts = front ∷ others.parts;
+      in_order = ap (λ records. front ++ records) others.in_order;
+      some = (first.some, others.some);
+      fits = (omega (arith, size, first.fits), others.fits);
+      rest_is_zeros =
+          sym (take-append-drop block bytes)
+          ∙ ap (λ rest. take block bytes ++ rest) others.rest_is_zeros
+          ∙ ap (λ whole. whole ++ concat (map (padded block) (map frames others.parts))) (first.is ∙ ap (λ n. padded n (frames front)) size);
+    }
+
+after-block : (block : ℕ) (bytes : List ℕ) (records : List (List ℕ)) (first others : Reading) → block ≤ length bytes → and_then first others ≡ Ok records →
+    ((front : List (List ℕ)) → first ≡ Ok front → IsFrames (take block bytes) front) →
+    ((more : List (List ℕ)) → others ≡ Ok more → AreFrames block more (drop block bytes)) → AreFrames block records bytes
+after-block block bytes records (Ok front) (Ok more) long is here behind =
+    let all : records ≡ front ++ more = cc in
+    rw all (block-behind block bytes front more long (here front refl) (behind more refl))
+after-block block bytes records (Ok front) (Err at) long is here behind = absurd cc
+after-block block bytes records (Err at) others long is here behind = absurd cc
+
+only-blocks : (count block at : ℕ) (bytes : List ℕ) (records : List (List ℕ)) → count * block ≤ length bytes → AreBytes bytes → output_blocks_at count block at bytes ≡ Ok records → AreFrames block records bytes
+unfolding output_blocks_at
+only-blocks zero block at [] records long are is =
+    let none : records ≡ [] = cc in
+    rw none (record { parts = []; in_order = refl; some = tt; fits = tt; rest_is_zeros = refl })
+only-blocks zero block at (x ∷ xs) records long are is = absurd cc
+only-blocks (suc count) block at bytes records long are is =
+    let blocks = suc-mul count block in
+    after-block block bytes records _ _ (omega (arith, long, blocks)) is
+    (λ front. only-frames (length (take block bytes)) at (take block bytes) front (omega arith) (bytes_up_to block bytes are))
+    (λ more. only-blocks count block (at + block) (drop block bytes) more (omega (arith, long, blocks, length-drop block bytes)) (bytes_from block bytes are))
+
+parts_fit : (block : ℕ) (parts : List (List (List ℕ))) → AllByRecursion (λ part. length (frames part) ≤ block) parts → FitBlock block (map frames parts)
+parts_fit block [] fits = tt
+parts_fit block (part ∷ parts) fits = (fits.0, parts_fit block parts fits.1)
+
+-- blocks of frames and zeros read as the records
+frames-read : (block : ℕ) (bytes : List ℕ) (records : List (List ℕ)) → 0 < block → block < 2 ^ 16 → AreFrames block records bytes → unpacked block bytes ≡ Ok records
+frames-read block bytes records positive small d =
+    let blocks = concat (map (padded block) (map frames d.parts)) in
+    let count : length blocks / block ≡ length d.parts = ap (λ n. n / block) (length-blocks block d.parts d.fits) ∙ mul-div_cancel (length d.parts) positive in
+    let are = all_bounded block d.parts small d.some (parts_fit block d.parts d.fits) in
+    ap (unpacked block) d.rest_is_zeros ∙ ap (λ n. output_blocks_at n block 0 blocks) count ∙ blocks-read block 0 d.parts are d.fits ∙ ap Ok d.in_order
+
+pub unpacked_is_frames : UnpackedIsFrames
+unpacked_is_frames block bytes records positive small are = (
+  only-blocks (length bytes / block) block 0 bytes records (omega (arith, div-add-mod' (length bytes) block)) are,
+  frames-read block bytes records positive small,
+)
