@@ -4,8 +4,7 @@ use Rattle.std.proofs.lemmas.List.{append-nil, nil_from_length}
 use Rattle.std.proofs.Math.Nat.{div-eq_of_lt}
 use Rattle.emit_append.specs.declared.fault.UnpackFault.{UnpackFault}
 use Rattle.emit_append.specs.declared.fault.UnpackFault.TheVariants.{At, Memory}
-use Rattle.emit_append.specs.Frames.{Reading, and_then, output_block_at, output_blocks_at, then_read}
-use Rattle.emit_append.specs.Unpacking.{Fails, Gives}
+use Rattle.emit_append.specs.Unpacking.{Reading, and_then, output_block_at, output_blocks_at, then_read, Fails, Gives}
 use Rattle.emit_append.proofs.FramesRead.{and_then-err, more_blocks, no_more_blocks, part_of_block}
 
 -- no more records come after these

@@ -4,7 +4,7 @@ use Rattle.std.proofs.Math.Nat.{add-div_right}
 use Rattle.std.proofs.lemmas.Bool.{cases_lt}
 use Rattle.std.proofs.lemmas.Bool.Decides.{nat_tests}
 use Rattle.std.proofs.lemmas.List.{drop-take, length-take-le, take-take}
-use Rattle.emit_append.specs.Frames.{Reading, after_frame, and_then, output_block_at, output_blocks_at, frame_length, frame_record, frames_at, then_read, zeros_at}
+use Rattle.emit_append.specs.Unpacking.{Reading, after_frame, and_then, output_block_at, output_blocks_at, frame_length, frame_record, frames_at, then_read, zeros_at}
 
 pub then_read-none : (reading : Reading) → then_read [] reading ≡ reading
 then_read-none (Ok records) = refl

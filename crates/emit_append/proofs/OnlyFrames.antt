@@ -7,10 +7,10 @@ use Rattle.std.proofs.lemmas.Bool.Decides.{eqb_tells}
 use Rattle.std.proofs.lemmas.List.{drop-drop, length-take-le}
 use Rattle.byteorder.specs.Endian.{little_bytes, little_number}
 use Rattle.program_interface.specs.Frame.{frame, frames}
-use Rattle.emit_append.specs.Packed.{FitBlock}
+use Rattle.emit_append.specs.PackedLaw.{FitBlock}
 use Rattle.emit_append.specs.Packing.{padded}
 use Rattle.emit_append.specs.OutputBlocks.{AreBytes}
-use Rattle.emit_append.specs.Frames.{AreFrames, Reading, UnpackedIsFrames, after_frame, and_then, frame_length, frame_record, frames_at, output_block_at, output_blocks_at, then_read, unpacked, zeros_at}
+use Rattle.emit_append.specs.Unpacking.{AreFrames, Reading, UnpackedIsFrames, after_frame, and_then, frame_length, frame_record, frames_at, output_block_at, output_blocks_at, then_read, unpacked, zeros_at}
 use Rattle.emit_append.proofs.FramesRead.{step-frame, step-short, step-zeros}
 use Rattle.emit_append.proofs.ReadBack.{all_bounded, blocks-read, front_two, length-blocks}
 

@@ -1,9 +1,9 @@
 -- The laws of this crate, proved: all that the proofs of other crates cite of it.
-use Rattle.emit_append.specs.Frames.{PackedFramesReadBack, UnpackedIsFrames}
+use Rattle.emit_append.specs.Unpacking.{PackedFramesReadBack, UnpackedIsFrames}
 use Rattle.emit_append.specs.GoingOn.{OneGroupIsPending, PackingGoesOn}
 use Rattle.emit_append.specs.Need.{NeedGrows, NeedIsEnough}
 use Rattle.emit_append.specs.OutputBlocks.{OutputBlocksAreBytes, OutputBlocksAreWhole}
-use Rattle.emit_append.specs.Packed.{PackedAsDescribed}
+use Rattle.emit_append.specs.PackedLaw.{PackedAsDescribed}
 use Rattle.emit_append.specs.Packer.{LendingIsFinishing, LendingIsPutting, PuttingIsPacking}
 use Rattle.emit_append.proofs.Continuing as continuing
 use Rattle.emit_append.proofs.Needs as needs

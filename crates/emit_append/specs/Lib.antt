@@ -1,8 +1,7 @@
-pub mod Frames
 pub mod GoingOn
 pub mod Need
 pub mod OutputBlocks
-pub mod Packed
+pub mod PackedLaw
 pub mod Packer
 pub mod Packing
 pub mod Refusal

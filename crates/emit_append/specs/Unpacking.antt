@@ -1,9 +1,66 @@
--- What a reading call answers.
-use Rattle.std.specs.Prelude.{◌≡◌, ℕ, List, map, Result, Ok, Err, Vec}
+-- How frames in output blocks are read back (profile).
+use Rattle.std.specs.Prelude.{ℕ, zero, suc, ◌≡◌, ◌↔◌, ◌+◌, ◌/◌, ◌^◌, ◌<◌, ◌≤◌, ◌==◌, nat_lt, List, [], ◌∷◌, ◌++◌, length, map, take, drop, Result, Ok, Err, if◌then◌else◌, Vec}
+use Rattle.std.specs.List.{AllByRecursion, concat, flat_map}
 use Rattle.std.specs.declared.alloc.Global.{Global}
+use Rattle.byteorder.specs.Endian.{little_number}
+use Rattle.program_interface.specs.Frame.{frames}
 use Rattle.emit_append.specs.declared.fault.UnpackFault.{UnpackFault}
 use Rattle.emit_append.specs.declared.fault.UnpackFault.TheVariants.{At, Memory}
-use Rattle.emit_append.specs.Frames.{Reading}
+use Rattle.emit_append.specs.OutputBlocks.{AreBytes}
+use Rattle.emit_append.specs.PackedLaw.{FitBlock}
+use Rattle.emit_append.specs.Packing.{packed, padded}
+
+-- the records, or the place of the first byte that is refused
+abbrev pub Reading : Type 0
+Reading = Result (List (List ℕ)) ℕ
+
+-- these records, and those that are read after them
+abbrev pub then_read : List (List ℕ) → Reading → Reading
+then_read records (Ok more) = Ok (records ++ more)
+then_read records (Err at) = Err at
+
+-- The bytes after the last frame hold no record, and have to be zeros.
+abbrev pub zeros_at : ℕ → List ℕ → Reading
+zeros_at at [] = Ok []
+zeros_at at (byte ∷ rest) = if byte == 0 then zeros_at (at + 1) rest else Err at
+
+-- the length that stands in front; 0 where no frame follows
+abbrev pub frame_length : List ℕ → ℕ
+frame_length rest = if nat_lt (length rest) 2 then 0 else little_number 2 rest
+
+-- the record behind the length in front, and the bytes after that frame
+abbrev pub frame_record : List ℕ → List ℕ
+frame_record rest = take (frame_length rest) (drop 2 rest)
+
+abbrev pub after_frame : List ℕ → List ℕ
+after_frame rest = drop (2 + frame_length rest) rest
+
+-- The frames from a place of a block on, where these bytes are left. Each step passes a frame, so as many steps as bytes are enough.
+unfoldable pub frames_at : ℕ → ℕ → List ℕ → Reading
+frames_at zero at rest = Ok []
+frames_at (suc steps) at rest =
+    if frame_length rest == 0 then zeros_at at rest else
+    if nat_lt (length rest) (2 + frame_length rest) then Err at else
+    then_read (frame_record rest ∷ []) (frames_at steps (at + (2 + frame_length rest)) (after_frame rest))
+
+-- the records of a block whose first byte is at this place
+abbrev pub output_block_at : ℕ → List ℕ → Reading
+output_block_at at block = frames_at (length block) at block
+
+-- what is read in one block, and then in what follows it
+abbrev pub and_then : Reading → Reading → Reading
+and_then (Ok records) rest = then_read records rest
+and_then (Err at) rest = Err at
+
+-- so many blocks from a place on, after which nothing may follow
+unfoldable pub output_blocks_at : ℕ → ℕ → ℕ → List ℕ → Reading
+output_blocks_at zero block at [] = Ok []
+output_blocks_at zero block at (byte ∷ rest) = Err at
+output_blocks_at (suc count) block at bytes = and_then (output_block_at at (take block bytes)) (output_blocks_at count block (at + block) (drop block bytes))
+
+-- the records of the blocks that these bytes are
+abbrev pub unpacked : ℕ → List ℕ → Reading
+unpacked block bytes = output_blocks_at (length bytes / block) block 0 bytes
 
 -- the bytes of records, without where they lie in memory
 abbrev pub record_bytes : List (Vec ℕ Global) → List (List ℕ)
@@ -18,3 +75,26 @@ Fails Memory reading = Unit {0}
 abbrev pub Gives : {X : Type 0} → (X → List (List ℕ)) → Result X UnpackFault → Reading → Type 0
 Gives view (Ok x) reading = reading ≡ Ok (view x)
 Gives view (Err fault) reading = Fails fault reading
+
+-- What is packed of groups that hold frames reads back as the records of all of them, in order.
+abbrev pub PackedFramesReadBack : Type 0
+PackedFramesReadBack =
+    (block : ℕ) (groups : List (List (List ℕ))) → 0 < block → block < 2 ^ 16 →
+    AllByRecursion (λ records. AllByRecursion (λ bytes. 0 < length bytes) records) groups →
+    FitBlock block (map frames groups) →
+    unpacked block (concat (packed block (map frames groups))) ≡ Ok (flat_map (λ records. records) groups)
+
+-- bytes that are blocks of the frames of these records, in order, and of zeros, where no record is without bytes
+-- parts: the records of each block
+pub record AreFrames (block : ℕ) (records : List (List ℕ)) (bytes : List ℕ) : Type 0 where
+  pub parts : List (List (List ℕ))
+  pub in_order : flat_map (λ part. part) parts ≡ records
+  pub some : AllByRecursion (λ part. AllByRecursion (λ bytes. 0 < length bytes) part) parts
+  pub fits : AllByRecursion (λ part. length (frames part) ≤ block) parts
+  pub rest_is_zeros : bytes ≡ concat (map (padded block) (map frames parts))
+
+-- Bytes unpack to records where they are blocks of the records' frames and zeros, and nowhere else.
+abbrev pub UnpackedIsFrames : Type 0
+UnpackedIsFrames =
+    (block : ℕ) (bytes : List ℕ) (records : List (List ℕ)) → 0 < block → block < 2 ^ 16 → AreBytes bytes →
+    (unpacked block bytes ≡ Ok records) ↔ AreFrames block records bytes

@@ -1,10 +1,10 @@
 //! Laws of the definitions: what they mean, in words of their own.
 
-ghost use Rattle.emit_append.specs.Frames.{PackedFramesReadBack, UnpackedIsFrames};
+ghost use Rattle.emit_append.specs.Unpacking.{PackedFramesReadBack, UnpackedIsFrames};
 ghost use Rattle.emit_append.specs.GoingOn.{OneGroupIsPending, PackingGoesOn};
 ghost use Rattle.emit_append.specs.Need.{NeedGrows, NeedIsEnough};
 ghost use Rattle.emit_append.specs.OutputBlocks.{OutputBlocksAreBytes, OutputBlocksAreWhole};
-ghost use Rattle.emit_append.specs.Packed.{PackedAsDescribed};
+ghost use Rattle.emit_append.specs.PackedLaw.{PackedAsDescribed};
 ghost use Rattle.emit_append.specs.Packer.{LendingIsFinishing, LendingIsPutting, PuttingIsPacking};
 
 /// The groups that have bytes stand in the blocks whole and in order, at least one in each, the

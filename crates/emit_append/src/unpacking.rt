@@ -1,8 +1,7 @@
 //! Reading output blocks back.
 
 ghost use Rattle.std.specs.Prelude.{◌≡◌, ◌+◌, ◌^◌, ◌<◌, [], length};
-ghost use Rattle.emit_append.specs.Frames.{output_block_at, frame_length as length_in_front, then_read, unpacked, zeros_at};
-ghost use Rattle.emit_append.specs.Unpacking.{Gives, record_bytes};
+ghost use Rattle.emit_append.specs.Unpacking.{output_block_at, frame_length as length_in_front, then_read, unpacked, zeros_at, Gives, record_bytes};
 
 use crate::fault::UnpackFault;
 use byteorder::{ByteOrder, LittleEndian};

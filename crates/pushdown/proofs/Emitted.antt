@@ -5,8 +5,8 @@ use Rattle.program_interface.specs.Frame.{frames}
 use Rattle.program_meaning.specs.Run.{Run}
 use Rattle.word_domain.specs.Domain.{Operations}
 use Rattle.accepted_programs.specs.Laws.{AcceptedNeverTraps}
-use Rattle.emit_append.specs.Frames.{unpacked}
-use Rattle.emit_append.specs.Packed.{FitBlock}
+use Rattle.emit_append.specs.Unpacking.{unpacked}
+use Rattle.emit_append.specs.PackedLaw.{FitBlock}
 use Rattle.emit_append.specs.Packing.{packed}
 use Rattle.emit_append.proofs.Proved.{packed_frames_read_back}
 use Rattle.pushdown.specs.Admission.{source_blocks, task_of}

@@ -8,7 +8,7 @@ use Rattle.program_meaning.specs.TrapFree.{IsExit}
 use Rattle.program_meaning.specs.declared.end.End.{End}
 use Rattle.program_meaning.specs.declared.end.End.TheVariants as end
 use Rattle.emit_append.specs.OutputBlocks.{AreAllBytes}
-use Rattle.emit_append.specs.Packed.{FitBlock}
+use Rattle.emit_append.specs.PackedLaw.{FitBlock}
 use Rattle.emit_append.specs.Packing.{packed, pending_of, released}
 use Rattle.emit_append.proofs.Proved.{output_blocks_are_bytes, output_blocks_are_whole, packing_goes_on}
 use Rattle.pushdown.specs.BlockRuns.{Task, frames_of, groups_of, last_scratch, runs_of, scratch_after}

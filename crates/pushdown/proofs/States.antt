@@ -26,7 +26,7 @@ use Rattle.accepted_programs.specs.Accepted.{refusal}
 use Rattle.accepted_programs.specs.Laws.{AcceptedNeverTraps}
 use Rattle.accepted_programs.specs.declared.reason.Refusal.{Refusal}
 use Rattle.emit_append.specs.Need.{need}
-use Rattle.emit_append.specs.Packed.{FitBlock}
+use Rattle.emit_append.specs.PackedLaw.{FitBlock}
 use Rattle.emit_append.proofs.Proved.{need_grows, need_is_enough}
 use Rattle.image_store.specs.Blocks.{AreBytes}
 use Rattle.image_store.specs.Geometry.{Shape}

@@ -9,7 +9,7 @@ use Rattle.program_interface.specs.Frame.{frames}
 use Rattle.program_meaning.specs.Run.{Run}
 use Rattle.program_meaning.specs.TrapFree.{IsExit}
 use Rattle.word_domain.specs.Domain.{Operations}
-use Rattle.emit_append.specs.Frames.{unpacked}
+use Rattle.emit_append.specs.Unpacking.{unpacked}
 use Rattle.emit_append.specs.Packing.{packed, pending_of, released}
 use Rattle.image_store.specs.Blocks.{bytes_of}
 use Rattle.image_store.specs.Namespace.{ZoneBlocks, ZonedNamespace, zone_at, shape, IsNamespace}

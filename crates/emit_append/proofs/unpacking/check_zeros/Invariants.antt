@@ -1,5 +1,5 @@
 use Rattle.std.proofs.Common.{◌≡◌, ◌+◌, drop}
-use Rattle.emit_append.specs.Frames.{zeros_at}
+use Rattle.emit_append.specs.Unpacking.{zeros_at}
 use Rattle.emit_append.proofs.unpacking.check_zeros.Given as goal
 
 abbrev pub invariant-loop-i : goal.invariant-loop-i

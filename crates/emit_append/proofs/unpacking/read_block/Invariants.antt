@@ -1,6 +1,5 @@
 use Rattle.std.proofs.Common.{◌≡◌, ◌+◌, ◌<◌, ◌^◌, length}
-use Rattle.emit_append.specs.Frames.{output_block_at, frame_length, then_read}
-use Rattle.emit_append.specs.Unpacking.{record_bytes}
+use Rattle.emit_append.specs.Unpacking.{output_block_at, frame_length, then_read, record_bytes}
 use Rattle.emit_append.proofs.unpacking.read_block.Given as goal
 
 abbrev pub invariant-loop-length : goal.invariant-loop-length

@@ -1,6 +1,5 @@
 use Rattle.std.proofs.Common.{◌≡◌, ◌-◌, ◌/◌, ◌≤◌, length}
-use Rattle.emit_append.specs.Frames.{output_blocks_at, then_read, unpacked}
-use Rattle.emit_append.specs.Unpacking.{record_bytes}
+use Rattle.emit_append.specs.Unpacking.{output_blocks_at, then_read, unpacked, record_bytes}
 use Rattle.emit_append.proofs.unpacking.unpack.Given as goal
 
 abbrev pub invariant-loop-rest : goal.invariant-loop-rest
