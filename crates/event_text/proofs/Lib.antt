@@ -1,5 +1,10 @@
+pub mod BlankLines
 pub mod FileLemmas
+pub mod JoinedFiles
 pub mod LineLemmas
+pub mod PlainLines
 pub mod ReplyLemmas
+pub mod SingleLines
+pub mod SpelledEvents
 pub mod SubmissionLemmas
 pub mod WordLemmas

@@ -1,4 +1,5 @@
 pub mod CommandFile
+pub mod Laws
 pub mod Lines
 pub mod ReplyFile
 pub mod Submission

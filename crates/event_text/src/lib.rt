@@ -4,6 +4,7 @@
 
 mod command_file;
 mod fault;
+pub mod laws;
 mod lines;
 mod reply_file;
 mod submission;

@@ -1,0 +1,88 @@
+-- The lines of turns and of zones' faults are read back.
+use Rattle.std.proofs.Common.{◌≡◌, ℕ, ◌^◌, ◌<◌, List, [], ◌∷◌, ◌++◌, length, Option, Some, refl, ap, subst, sym, ◌∙◌, codes, append_assoc, arith}
+use Rattle.std.specs.Fmt.{decimal}
+use Rattle.std.specs.List.{All}
+use Rattle.std.specs.Option.{option_map}
+use Rattle.std.proofs.lemmas.Fmt.{decimal_nonempty}
+use Rattle.std.proofs.lemmas.List.Elements.{All-append}
+use Rattle.zone_state.specs.declared.state.FaultState.{FaultState}
+use Rattle.zone_state.specs.declared.state.FaultState.TheVariants.{ReadOnly, Offline}
+use Rattle.event_text.specs.CommandFile.{Turned, Failed, failure, line_told, state_named, words_told}
+use Rattle.event_text.specs.Laws.{FaultsReadBack, SubmissionsReadBack, TurnsReadBack, fault_text, state_text, turn_text}
+use Rattle.event_text.specs.Words.{words_of}
+use Rattle.event_text.proofs.PlainLines.{InLine, InWord, IsSpelled, as_line, decimal_again, decimal_below, decimal_in_word, line_told-words, space_before, spelled_in_word, unblank}
+use Rattle.event_text.proofs.SingleLines.{spelled_reads_back}
+use Rattle.event_text.proofs.SubmissionLemmas.{submission_spelled}
+use Rattle.event_text.proofs.WordLemmas.{word_first, word_last}
+
+pub submissions_read_back : SubmissionsReadBack
+submissions_read_back queue entry input small size entry_bytes input_bytes =
+    spelled_reads_back _ _ (submission_spelled queue entry input small size entry_bytes input_bytes)
+
+-- ---- turns
+
+words_of-turn : (run : ℕ) → run < 2 ^ 64 → words_of (turn_text run) ≡ codes "turn" ∷ decimal run ∷ []
+words_of-turn run small =
+    word_first (codes "turn") (decimal run) (omega arith) (unblank (codes "turn") (spelled_in_word (codes "turn") refl))
+    ∙ ap (λ (ws : List (List ℕ)). codes "turn" ∷ ws) (word_last (decimal run) (decimal_nonempty run small) (unblank (decimal run) (decimal_in_word run small)))
+
+turn_spelled : (run : ℕ) → run < 2 ^ 8 → IsSpelled (turn_text run) (Turned run)
+turn_spelled run small =
+    let in_a_line : All InLine (turn_text run) =
+    All-append InLine (codes "turn") (32 ∷ decimal run) (as_line (codes "turn") (spelled_in_word (codes "turn") refl)) (space_before (decimal run) (as_line (decimal run) (decimal_in_word run (omega arith)))) in
+    record {
+      plain = in_a_line;
+      told =
+          line_told-words (turn_text run) in_a_line
+          ∙ ap words_told (words_of-turn run (omega arith))
+          ∙ ap (λ (number : Option ℕ). option_map Some (option_map Turned number)) (decimal_below (2 ^ 8) run small (omega arith));
+    }
+
+pub turns_read_back : TurnsReadBack
+turns_read_back run small = spelled_reads_back (turn_text run) (Turned run) (turn_spelled run small)
+
+-- ---- faults
+
+state_in_word : (state : FaultState) → All InWord (state_text state)
+state_in_word ReadOnly = spelled_in_word (codes "readonly") refl
+state_in_word Offline = spelled_in_word (codes "offline") refl
+
+state_some : (state : FaultState) → 0 < length (state_text state)
+state_some ReadOnly = omega arith
+state_some Offline = omega arith
+
+state_again : (state : FaultState) → state_named (state_text state) ≡ Some state
+state_again ReadOnly = refl
+state_again Offline = refl
+
+-- the words of a line, one behind the other
+abbrev spaced : List ℕ → List ℕ → List ℕ
+spaced number state = codes "fault" ++ 32 ∷ (number ++ 32 ∷ state)
+
+fault_text-spaced : (zone : ℕ) (state : FaultState) → fault_text zone state ≡ spaced (decimal zone) (state_text state)
+fault_text-spaced zone state = ap (λ (ys : List ℕ). codes "fault " ++ ys) (append_assoc (decimal zone) (codes " ") (state_text state))
+
+words_of-fault : (number state : List ℕ) → 0 < length number → All InWord number → 0 < length state → All InWord state → words_of (spaced number state) ≡ codes "fault" ∷ number ∷ state ∷ []
+words_of-fault number state some is_number any is_state =
+    word_first (codes "fault") (number ++ 32 ∷ state) (omega arith) (unblank (codes "fault") (spelled_in_word (codes "fault") refl))
+    ∙ ap (λ (ws : List (List ℕ)). codes "fault" ∷ ws) (word_first number state some (unblank number is_number) ∙ ap (λ (ws : List (List ℕ)). number ∷ ws) (word_last state any (unblank state is_state)))
+
+fault_spelled : (zone : ℕ) (state : FaultState) → zone < 2 ^ 32 → IsSpelled (fault_text zone state) (Failed zone state)
+fault_spelled zone state small =
+    let number = decimal zone in
+    let name = state_text state in
+    let is_number = decimal_in_word zone (omega arith) in
+    let is_name = state_in_word state in
+    let line = spaced number name in
+    let behind = space_before (number ++ 32 ∷ name) (All-append InLine number (32 ∷ name) (as_line number is_number) (space_before name (as_line name is_name))) in
+    let in_a_line : All InLine line = All-append InLine (codes "fault") (32 ∷ (number ++ 32 ∷ name)) (as_line (codes "fault") (spelled_in_word (codes "fault") refl)) behind in
+    let told : line_told line ≡ Some (Some (Failed zone state)) =
+    line_told-words line in_a_line
+    ∙ ap words_told (words_of-fault number name (decimal_nonempty zone (omega arith)) is_number (state_some state) is_name)
+    ∙ ap (λ (n : Option ℕ). option_map Some (failure n (state_named name))) (decimal_again zone small)
+    ∙ ap (λ (s : Option FaultState). option_map Some (failure (Some zone) s)) (state_again state) in
+    let whole : IsSpelled line (Failed zone state) = record { plain = in_a_line; told = told } in
+    subst (λ (text : List ℕ). IsSpelled text (Failed zone state)) (sym (fault_text-spaced zone state)) whole
+
+pub faults_read_back : FaultsReadBack
+faults_read_back zone state small = spelled_reads_back (fault_text zone state) (Failed zone state) (fault_spelled zone state small)

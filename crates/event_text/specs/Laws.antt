@@ -1,0 +1,82 @@
+-- Laws of the events of a command file (profile).
+use Rattle.std.specs.Prelude.{◌≡◌, ℕ, ◌+◌, ◌^◌, ◌<◌, ◌==◌, not, List, [], ◌∷◌, ◌++◌, length, Result, Ok, Err, codes}
+use Rattle.std.specs.List.{AllPass}
+use Rattle.std.specs.Char.{is_ascii}
+use Rattle.std.specs.Fmt.{decimal}
+use Rattle.std.specs.Str.Lines.{lines}
+use Rattle.hex.specs.Hex.{IsBytes}
+use Rattle.zone_state.specs.declared.state.FaultState.{FaultState}
+use Rattle.zone_state.specs.declared.state.FaultState.TheVariants.{ReadOnly, Offline}
+use Rattle.text_lines.specs.Cut.{is_blank_byte}
+use Rattle.event_text.specs.CommandFile.{Told, Submitted, Turned, Failed, line_told, events_in}
+use Rattle.event_text.specs.Submission.{submission_text}
+
+-- the file, with the end of a line behind it
+abbrev pub ended : List ℕ → List ℕ
+ended file = file ++ 10 ∷ []
+
+-- what two files tell, of which the first has so many lines: a refused line of the second is counted behind those
+abbrev pub told_by_both : ℕ → Result (List Told) ℕ → Result (List Told) ℕ → Result (List Told) ℕ
+told_by_both count (Err line) second = Err line
+told_by_both count (Ok first) (Ok second) = Ok (first ++ second)
+told_by_both count (Ok first) (Err line) = Err (count + line)
+
+-- the events of two files joined at a line's end are those of both
+abbrev pub EventsAreByLine : Type 0
+EventsAreByLine =
+    (first second : List ℕ)
+    → events_in (ended first ++ second) ≡ told_by_both (length (lines (ended first))) (events_in (ended first)) (events_in second)
+
+-- what may stand at the end of a line: nothing, at the end of the file, else `\n` or `\r\n`
+pub data LineEnd : Type 0 where
+  EndOfFile : LineEnd
+  Newline : LineEnd
+  ReturnNewline : LineEnd
+
+abbrev pub end_text : LineEnd → List ℕ
+end_text EndOfFile = []
+end_text Newline = 10 ∷ []
+end_text ReturnNewline = 13 ∷ 10 ∷ []
+
+-- a comment, or none: `;` and whatever ASCII bytes stand behind it on the line
+abbrev pub IsComment : List ℕ → Type 0
+IsComment [] = Unit {0}
+IsComment (first ∷ rest) = (first ≡ 59) × AllPass is_ascii rest × AllPass (λ byte. not (byte == 10)) rest
+
+-- a line of blanks and a comment, of which either may be missing, makes no event
+abbrev pub BlanksDontCount : Type 0
+BlanksDontCount =
+    (blanks comment : List ℕ) (end : LineEnd) → AllPass is_blank_byte blanks → IsComment comment
+    → events_in (blanks ++ comment ++ end_text end) ≡ Ok []
+
+-- a comment behind a line changes nothing that the line tells
+abbrev pub CommentsDontCount : Type 0
+CommentsDontCount =
+    (line comment : List ℕ) → AllPass (λ byte. not (byte == 59)) line → IsComment comment → line_told (line ++ comment) ≡ line_told line
+
+-- the line of a turn of a run
+abbrev pub turn_text : ℕ → List ℕ
+turn_text run = codes "turn " ++ decimal run
+
+abbrev pub state_text : FaultState → List ℕ
+state_text ReadOnly = codes "readonly"
+state_text Offline = codes "offline"
+
+-- the line of a zone that fails to a state
+abbrev pub fault_text : ℕ → FaultState → List ℕ
+fault_text zone state = codes "fault " ++ decimal zone ++ codes " " ++ state_text state
+
+-- a line spelled for an event is read back as that event
+abbrev pub ReadsBack : List ℕ → Told → Type 0
+ReadsBack line event = (end : LineEnd) → events_in (line ++ end_text end) ≡ Ok (event ∷ [])
+
+abbrev pub SubmissionsReadBack : Type 0
+SubmissionsReadBack =
+    (queue : ℕ) (entry input : List ℕ) → queue < 2 ^ 16 → length entry ≡ 64 → IsBytes entry → IsBytes input
+    → ReadsBack (submission_text queue entry input) (Submitted queue entry input)
+
+abbrev pub TurnsReadBack : Type 0
+TurnsReadBack = (run : ℕ) → run < 2 ^ 8 → ReadsBack (turn_text run) (Turned run)
+
+abbrev pub FaultsReadBack : Type 0
+FaultsReadBack = (zone : ℕ) (state : FaultState) → zone < 2 ^ 32 → ReadsBack (fault_text zone state) (Failed zone state)
