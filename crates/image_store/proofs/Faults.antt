@@ -12,7 +12,7 @@ use Rattle.image_store.specs.declared.fault.LoadFault.TheVariants.{Truncated, Ma
 use Rattle.image_store.specs.declared.fault.RecordFault.{RecordFault}
 use Rattle.image_store.specs.declared.fault.RecordFault.TheVariants.{Reserved, State, Blocks}
 use Rattle.image_store.specs.declared.fault.HeaderFault.{HeaderFault}
-use Rattle.image_store.specs.declared.fault.HeaderFault.TheVariants.{VersionBlock, VersionZones, Reserved as ReservedHeader}
+use Rattle.image_store.specs.declared.fault.HeaderFault.TheVariants.{Numbers, VersionBlock, VersionZones, Reserved as ReservedHeader}
 use Rattle.image_store.specs.declared.geometry.GeometryFault.{GeometryFault}
 use Rattle.image_store.specs.declared.header.Header.{Header}
 use Rattle.image_store.specs.declared.version.Version.{Version}
@@ -20,6 +20,7 @@ use Rattle.zone_state.specs.Checks.{demand, first_failed, unless_failed}
 use Rattle.image_store.specs.Geometry.{Shape, shape_checks}
 use Rattle.image_store.specs.Loading.{Fails, CountsFault, CountsLoad, IsNoStream, NoStreamFails}
 use Rattle.image_store.specs.Reading.{◌>>=◌, are_zeros, number_at, numbers_fault, numbers_in, shape_told, version_in, version_kept, zeros_kept, total_told, header_of, header_told, zone_told, zone_in, total_kept, limits_kept}
+use Rattle.image_store.specs.Refusal.{refusal_of}
 use Rattle.image_store.specs.Text.{written_blocks}
 use Rattle.image_store.specs.Version.{has_block, numbers}
 use Rattle.image_store.proofs.ReadingCalls.{bind_err}
@@ -67,42 +68,44 @@ pub counts_last : {X : Type 0} (before after : ℕ) (result : Result X LoadFault
 counts_last before after (Ok x) h e = e
 counts_last before after (Err fault) h e = counts_no_stream before after fault h e
 
-is_this : {X : Type 0} (x fault : LoadFault) → (let r : Result X LoadFault = Err x in r) ≡ Err fault → x ≡ fault
+pub is_this : {X : Type 0} (x fault : LoadFault) → (let r : Result X LoadFault = Err x in r) ≡ Err fault → x ≡ fault
 is_this x fault e = cc
 
--- a test that fails with a fault of the text
-kept_fault : (test : Bool) (first fault : LoadFault) → IsOfText first → (let r : Result (Unit {0}) LoadFault = cond test (Ok tt) (Err first) in r) ≡ Err fault → IsOfText fault
-kept_fault true first fault h e = absurd cc
-kept_fault false first fault h e = subst IsOfText (is_this {X = Unit {0}} first fault e) h
+-- what holds of the fault that a test fails with
+pub kept_fault : (P : LoadFault → Type 0) (test : Bool) (first fault : LoadFault) → P first → (let r : Result (Unit {0}) LoadFault = cond test (Ok tt) (Err first) in r) ≡ Err fault → P fault
+kept_fault P true first fault h e = absurd cc
+kept_fault P false first fault h e = subst P (is_this {X = Unit {0}} first fault e) h
 
 magic_fault : (version : Option Version) (fault : LoadFault) → ok_or version Magic ≡ Err fault → IsOfText fault
 magic_fault None fault e = subst IsOfText (is_this {X = Version} Magic fault e) tt
 magic_fault (Some version) fault e = absurd cc
 
-numbers_text_fault : (check : Option GeometryFault) (s : Shape) (fault : LoadFault) → unless_failed (option_map (numbers_fault s) check) s ≡ Err fault → IsOfText fault
-numbers_text_fault None s fault e = absurd cc
-numbers_text_fault (Some first) s fault e = subst IsOfText (is_this {X = Shape} (numbers_fault s first) fault e) tt
+-- what holds of each fault of a header behind its magic
+module _ (P : LoadFault → Type 0) (of_header : (why : HeaderFault) → P (Geometry why)) where
+  numbers_text_fault : (check : Option GeometryFault) (s : Shape) (fault : LoadFault) → unless_failed (option_map (numbers_fault s) check) s ≡ Err fault → P fault
+  numbers_text_fault None s fault e = absurd cc
+  numbers_text_fault (Some first) s fault e = subst P (is_this {X = Shape} (numbers_fault s first) fault e) (of_header (Numbers (refusal_of first s)))
 
-version_text_fault : (a b : Bool) (f g : HeaderFault) (fault : LoadFault)
-    → (let r : Result (Unit {0}) LoadFault = unless_failed (first_failed (demand a (Geometry f) ∷ demand b (Geometry g) ∷ [])) tt in r) ≡ Err fault → IsOfText fault
-version_text_fault true true f g fault e = absurd cc
-version_text_fault true false f g fault e = subst IsOfText (is_this {X = Unit {0}} (Geometry g) fault e) tt
-version_text_fault false b f g fault e = subst IsOfText (is_this {X = Unit {0}} (Geometry f) fault e) tt
+  version_text_fault : (a b : Bool) (f g : HeaderFault) (fault : LoadFault)
+      → (let r : Result (Unit {0}) LoadFault = unless_failed (first_failed (demand a (Geometry f) ∷ demand b (Geometry g) ∷ [])) tt in r) ≡ Err fault → P fault
+  version_text_fault true true f g fault e = absurd cc
+  version_text_fault true false f g fault e = subst P (is_this {X = Unit {0}} (Geometry g) fault e) (of_header g)
+  version_text_fault false b f g fault e = subst P (is_this {X = Unit {0}} (Geometry f) fault e) (of_header f)
 
-header_of_fault : (bytes : List ℕ) (version : Version) (fault : LoadFault) → header_of bytes version ≡ Err fault → IsOfText fault
-header_of_fault bytes version fault e =
-    let made : Shape → Header = λ s. record { geometry = s; total = total_told version bytes } in
-    let zeros : Shape → Result Header LoadFault = λ s. zeros_kept version bytes >>= λ z. Ok (made s) in
-    let kept : Shape → Result Header LoadFault = λ s. version_kept version s >>= λ k. zeros s in
-    bind_err IsOfText (numbers_in (shape_told bytes)) kept fault e (numbers_text_fault (first_failed (shape_checks (shape_told bytes))) (shape_told bytes)) (λ s e2.
-    bind_err IsOfText (version_kept version s) (λ k. zeros s) fault e2
-    (version_text_fault (has_block version s.block) (nat_le s.zones (numbers version).most_zones) (VersionBlock version s.block) (VersionZones version s.zones)) (λ k e3.
-    bind_err IsOfText (zeros_kept version bytes) (λ z. Ok (made s)) fault e3
-    (λ first. kept_fault (are_zeros (drop (numbers version).zeros_from bytes)) (Geometry (ReservedHeader version)) first tt) (λ z e4. absurd cc)))
+  pub header_of_fault : (bytes : List ℕ) (version : Version) (fault : LoadFault) → header_of bytes version ≡ Err fault → P fault
+  header_of_fault bytes version fault e =
+      let made : Shape → Header = λ s. record { geometry = s; total = total_told version bytes } in
+      let zeros : Shape → Result Header LoadFault = λ s. zeros_kept version bytes >>= λ z. Ok (made s) in
+      let kept : Shape → Result Header LoadFault = λ s. version_kept version s >>= λ k. zeros s in
+      bind_err P (numbers_in (shape_told bytes)) kept fault e (numbers_text_fault (first_failed (shape_checks (shape_told bytes))) (shape_told bytes)) (λ s e2.
+      bind_err P (version_kept version s) (λ k. zeros s) fault e2
+      (version_text_fault (has_block version s.block) (nat_le s.zones (numbers version).most_zones) (VersionBlock version s.block) (VersionZones version s.zones)) (λ k e3.
+      bind_err P (zeros_kept version bytes) (λ z. Ok (made s)) fault e3
+      (λ first. kept_fault P (are_zeros (drop (numbers version).zeros_from bytes)) (Geometry (ReservedHeader version)) first (of_header (ReservedHeader version))) (λ z e4. absurd cc)))
 
 pub header_text_fault : (bytes : List ℕ) (fault : LoadFault) → header_told bytes ≡ Err fault → IsOfText fault
 header_text_fault bytes fault e =
-    bind_err IsOfText (ok_or (version_in bytes) Magic) (header_of bytes) fault e (magic_fault (version_in bytes)) (λ version. header_of_fault bytes version fault)
+    bind_err IsOfText (ok_or (version_in bytes) Magic) (header_of bytes) fault e (magic_fault (version_in bytes)) (λ version. header_of_fault IsOfText (λ why. tt) bytes version fault)
 
 allowed_fault : (test : Bool) (zone : ℕ) (first : RecordFault) (z : CountedZone) (fault : LoadFault) → cond test (Ok z) (Err (BadZone zone first)) ≡ Err fault → IsOfText fault
 allowed_fault true zone first z fault e = absurd cc
@@ -124,8 +127,8 @@ zone_text_fault zone capacity bytes fault e =
 
 pub total_text_fault : (total : Option ℕ) (zs : List CountedZone) (fault : LoadFault) → total_kept total zs ≡ Err fault → IsOfText fault
 total_text_fault None zs fault e = absurd cc
-total_text_fault (Some total) zs fault e = kept_fault (total == written_blocks zs) (Total total (written_blocks zs)) fault tt e
+total_text_fault (Some total) zs fault e = kept_fault IsOfText (total == written_blocks zs) (Total total (written_blocks zs)) fault tt e
 
 pub limits_text_fault : (limits : Limits) (zs : List CountedZone) (fault : LoadFault) → limits_kept limits zs ≡ Err fault → IsOfText fault
 limits_text_fault limits zs fault e =
-    kept_fault (nat_le (open_count zs) limits.open_limit && nat_le (active_count zs) limits.active_limit) PastLimits fault tt e
+    kept_fault IsOfText (nat_le (open_count zs) limits.open_limit && nat_le (active_count zs) limits.active_limit) PastLimits fault tt e

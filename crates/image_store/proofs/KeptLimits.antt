@@ -2,7 +2,6 @@
 use Rattle.std.proofs.Common.{◌≡◌, ℕ, List, sym, subst}
 use Rattle.zone_state.specs.Zone.{CountedZone}
 use Rattle.zone_resources.specs.Admission.{IsWithin}
-use Rattle.zone_resources.specs.declared.admission.Limits.{Limits}
 use Rattle.image_store.specs.Flat.{namespace_of, IsFlat}
 use Rattle.image_store.specs.Geometry.{Shape}
 use Rattle.image_store.specs.Namespace.{ZonedNamespace, IsWithinLimits}

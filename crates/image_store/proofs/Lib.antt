@@ -22,4 +22,5 @@ mod SpelledParts
 mod OnlyTextsLoad
 mod LoadedNamespaces
 mod CutTexts
+mod FaultPlaces
 pub mod Proved

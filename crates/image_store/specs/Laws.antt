@@ -1,5 +1,5 @@
 -- What the texts of a namespace are for.
-use Rattle.std.specs.Prelude.{ℕ, ◌≡◌, ◌≢◌, ◌<◌, ◌≤◌, true, List, [], ◌++◌, length, take, Result, Ok, Err}
+use Rattle.std.specs.Prelude.{ℕ, ◌≡◌, ◌≢◌, ◌<◌, ◌≤◌, ◌+◌, ◌*◌, true, List, [], ◌++◌, length, take, Result, Ok, Err}
 use Rattle.program_interface.specs.BlockSize.{IsBlockSize}
 use Rattle.image_store.specs.declared.fault.LoadFault.{LoadFault}
 use Rattle.image_store.specs.declared.fault.LoadFault.TheVariants as fault
@@ -9,7 +9,7 @@ use Rattle.image_store.specs.declared.version.Version.TheVariants.{Two}
 use Rattle.image_store.specs.Blocks.{AreBytes}
 use Rattle.image_store.specs.Geometry.{Shape, IsShape}
 use Rattle.image_store.specs.Namespace.{ZonedNamespace, shape, IsNamespace}
-use Rattle.image_store.specs.Reading.{◌>>=◌, namespace_in}
+use Rattle.image_store.specs.Reading.{◌>>=◌, shape_told, namespace_in}
 use Rattle.image_store.specs.Text.{text, text_of}
 use Rattle.image_store.specs.Version.{Has, has_block, numbers}
 
@@ -56,6 +56,26 @@ abbrev pub LongerTextsAreTrailing : Type 0
 LongerTextsAreTrailing =
     (version : Version) (ns : ZonedNamespace) → IsNamespace ns → Has version (shape ns)
     → (more : List ℕ) → more ≢ [] → namespace_in (text_of version ns ++ more) ≡ Err fault.Trailing
+
+-- how many zones the header of a text tells
+abbrev pub zones_told : List ℕ → ℕ
+zones_told bytes = (shape_told (take 64 bytes)).zones
+
+-- up to which byte a text has to be read to find a fault of it: those of its magic, of its header, of the zones' records
+-- up to the one that is told, or else of all records
+abbrev pub fault_end : List ℕ → LoadFault → ℕ
+fault_end bytes fault.Magic = 8
+fault_end bytes (fault.Geometry first) = 64
+fault_end bytes (fault.BadZone zone first) = 64 + (zone + 1) * 8
+fault_end bytes _ = 64 + zones_told bytes * 8
+
+-- the fault that a text is refused with, other than one of its end, is that of each text that is no shorter and has
+-- the same bytes up to where the fault stands
+abbrev pub FaultsAreByPrefix : Type 0
+FaultsAreByPrefix =
+    (bytes other : List ℕ) (first : LoadFault) → namespace_in bytes ≡ Err first → first ≢ fault.Truncated → first ≢ fault.Trailing
+    → length bytes ≤ length other → take (fault_end bytes first) other ≡ take (fault_end bytes first) bytes
+    → namespace_in other ≡ Err first
 
 -- the device has each block size, and as many zones, as a version has
 abbrev pub VersionsAreKnown : Type 0

@@ -1,7 +1,7 @@
 //! Laws of the texts of an image, and of its blocks. Each function does nothing: what it ensures is the law.
 
 ghost use Rattle.image_store.specs.BlockLaws.{AllowedIsWithin, BlockIsAPart, BlocksAreBytes, BlocksAreCounted, BlocksKeepBytes, BlocksLieInZones, WritesKeepZones, WrittenIsWithin};
-ghost use Rattle.image_store.specs.Laws.{CutTextsAreTruncated, EachVersionLoads, LastVersionHasAll, LoadedIsNamespace, LongerTextsAreTrailing, OnlyTextsLoad, SavedTextsLoad, UpgradedStandsForTheSame, UpgradingTwiceIsOnce, VersionsAreKnown};
+ghost use Rattle.image_store.specs.Laws.{CutTextsAreTruncated, EachVersionLoads, FaultsAreByPrefix, LastVersionHasAll, LoadedIsNamespace, LongerTextsAreTrailing, OnlyTextsLoad, SavedTextsLoad, UpgradedStandsForTheSame, UpgradingTwiceIsOnce, VersionsAreKnown};
 
 /// What is saved loads again as the same namespace, and so does the text of each version that has its shape.
 pub fn saved_texts_load()
@@ -31,6 +31,11 @@ pub fn upgrading_keeps_the_namespace()
 pub fn texts_have_one_length()
     ensures cut { CutTextsAreTruncated }
     ensures longer { LongerTextsAreTrailing }
+{}
+
+/// A text is tested from its front: what stands behind the fault that it is refused with changes nothing of that.
+pub fn faults_are_by_prefix()
+    ensures { FaultsAreByPrefix }
 {}
 
 /// The device has each block size and as many zones as an image of each version can have, and an image of the

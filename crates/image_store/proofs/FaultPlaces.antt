@@ -1,0 +1,341 @@
+-- A fault is found by the bytes of the text up to where it stands.
+use Rattle.std.proofs.Common.{◌≡◌, ◌≢◌, ℕ, ◌+◌, ◌*◌, ◌<◌, ◌≤◌, ◌==◌, zero, suc, Bool, true, false, cond, List, [], ◌∷◌, length, take, drop, get_or, Option, Some, None, Result, Ok, Err, refl, ap, sym, subst, ◌∙◌, arith, inl, inr, le_refl}
+use Rattle.std.specs.Cmp.Lexicographic.{pointwise}
+use Rattle.std.specs.List.{find}
+use Rattle.std.specs.Option.{ok_or}
+use Rattle.std.specs.Prelude.{◌&&◌, nat_le}
+use Rattle.std.proofs.lemmas.Bool.{le-leb}
+use Rattle.std.proofs.lemmas.Bool.Decides.{leb_tells}
+use Rattle.std.proofs.lemmas.List.{length-drop, take-take}
+use Rattle.zone_state.specs.declared.state.ZoneState.{ZoneState}
+use Rattle.zone_state.specs.State.{state_of}
+use Rattle.zone_state.specs.Zone.{CountedZone, fits_state}
+use Rattle.zone_resources.specs.declared.admission.Limits.{Limits as ResourceLimits}
+use Rattle.zone_resources.specs.Counts.{open_count, active_count}
+use Rattle.image_store.specs.declared.fault.LoadFault.{LoadFault}
+use Rattle.image_store.specs.declared.fault.LoadFault.TheVariants.{Truncated, Magic, BadZone, Total, Limits, Trailing}
+use Rattle.image_store.specs.declared.fault.RecordFault.{RecordFault}
+use Rattle.image_store.specs.declared.fault.RecordFault.TheVariants.{Reserved, State, Blocks}
+use Rattle.image_store.specs.declared.header.Header.{Header}
+use Rattle.image_store.specs.declared.version.Version.{Version}
+use Rattle.image_store.specs.declared.version.Version.TheVariants.{One, Two}
+use Rattle.image_store.specs.Flat.{zone_seen}
+use Rattle.image_store.specs.Geometry.{Shape}
+use Rattle.image_store.specs.Laws.{FaultsAreByPrefix, fault_end, zones_told}
+use Rattle.image_store.specs.Namespace.{ZonedNamespace}
+use Rattle.image_store.specs.Reading.{◌>>=◌, are_zeros, number_at, bytes_in, version_in, header_of, header_told, header_in, zone_told, zone_in, zones_in, total_kept, limits_kept, blocks_in, end_in, namespace_with, namespace_in}
+use Rattle.image_store.specs.Text.{written_blocks}
+use Rattle.image_store.specs.Version.{numbers}
+use Rattle.image_store.proofs.Faults.{header_of_fault, is_this, kept_fault}
+use Rattle.image_store.proofs.FilledBuffers.{Split, bytes_short}
+use Rattle.image_store.proofs.HeaderParts.{header_parts}
+use Rattle.image_store.proofs.LoadedParts.{after_blocks, after_header, after_limits, after_records, after_total}
+
+-- what fails has failed in the first part, or in the next behind what the first gave
+bind_fails : {X Y : Type 0} (P : LoadFault → Type 0) (read : Result X LoadFault) (next : X → Result Y LoadFault) (fault : LoadFault) → (read >>= next) ≡ Err fault
+    → ((first : LoadFault) → read ≡ Err first → P first) → ((x : X) → read ≡ Ok x → next x ≡ Err fault → P fault) → P fault
+bind_fails P (Ok x) next fault e first later = later x refl e
+bind_fails {Y = Y} P (Err found) next fault e first later = subst P (is_this {X = Y} found fault e) (first found refl)
+
+-- ---- bytes that are the same in front
+
+front_of : (m n : ℕ) (xs ys : List ℕ) → m ≤ n → take n ys ≡ take n xs → take m ys ≡ take m xs
+front_of m n xs ys less same = sym (take-take m n ys less) ∙ ap (take m) same ∙ take-take m n xs less
+
+take-drop : (k n : ℕ) (xs : List ℕ) → take n (drop k xs) ≡ drop k (take (k + n) xs)
+take-drop zero n xs = ap (λ (m : ℕ). take m xs) (let e : n ≡ 0 + n = omega arith in e)
+take-drop (suc k) zero [] = ap (λ (m : ℕ). drop (suc k) (take m [])) (let e : suc k ≡ suc k + 0 = omega arith in e)
+take-drop (suc k) (suc n) [] = ap (λ (m : ℕ). drop (suc k) (take m [])) (let e : suc (k + suc n) ≡ suc k + suc n = omega arith in e)
+take-drop (suc k) n (x ∷ xs) =
+    take-drop k n xs ∙ ap (λ (m : ℕ). drop (suc k) (take m (x ∷ xs))) (let e : suc (k + n) ≡ suc k + n = omega arith in e)
+
+-- and behind that
+rest_of : (k n m : ℕ) (xs ys : List ℕ) → m ≡ k + n → take m ys ≡ take m xs → take n (drop k ys) ≡ take n (drop k xs)
+rest_of k n m xs ys e same =
+    let parts : take (k + n) ys ≡ take (k + n) xs = subst (λ (i : ℕ). take i ys ≡ take i xs) e same in
+    take-drop k n ys ∙ ap (drop k) parts ∙ sym (take-drop k n xs)
+
+-- ---- the records
+
+abbrev IsBad : ℕ → LoadFault → Type 0
+IsBad zone fault = (why : RecordFault) × (fault ≡ BadZone zone why)
+
+is_bad : (zone : ℕ) (why : RecordFault) (fault : LoadFault) → (let r : Result CountedZone LoadFault = Err (BadZone zone why) in r) ≡ Err fault → IsBad zone fault
+is_bad zone why fault e = (why, sym (is_this {X = CountedZone} (BadZone zone why) fault e))
+
+blocks_bad : (test : Bool) (zone : ℕ) (why : RecordFault) (z : CountedZone) (fault : LoadFault) → cond test (Ok z) (Err (BadZone zone why)) ≡ Err fault → IsBad zone fault
+blocks_bad true zone why z fault e = absurd cc
+blocks_bad false zone why z fault e = is_bad zone why fault e
+
+state_bad : (zone code : ℕ) (told : Option ZoneState) (written capacity : ℕ) (fault : LoadFault) → zone_told zone code told written capacity ≡ Err fault → IsBad zone fault
+state_bad zone code None written capacity fault e = is_bad zone (State code) fault e
+state_bad zone code (Some state) written capacity fault e =
+    blocks_bad (fits_state state written capacity) zone (Blocks state written capacity) (record { state = state; written = written; capacity = capacity }) fault e
+
+padding_bad : (test : Bool) (zone code : ℕ) (told : Option ZoneState) (written capacity : ℕ) (fault : LoadFault)
+    → cond test (zone_told zone code told written capacity) (Err (BadZone zone Reserved)) ≡ Err fault → IsBad zone fault
+padding_bad true zone code told written capacity fault e = state_bad zone code told written capacity fault e
+padding_bad false zone code told written capacity fault e = is_bad zone Reserved fault e
+
+zone_bad : (zone capacity : ℕ) (bytes : List ℕ) (fault : LoadFault) → zone_in zone capacity bytes ≡ Err fault → IsBad zone fault
+zone_bad zone capacity bytes fault e =
+    padding_bad (are_zeros (take 3 (drop 1 bytes))) zone (get_or bytes 0 0) (state_of (get_or bytes 0 0)) (number_at bytes 4) capacity fault e
+
+-- a record that tells no zone is found by the records up to it
+record IsFoundAt (zone capacity n : ℕ) (xs : List ℕ) (fault : LoadFault) : Type 0 where
+  pub before : ℕ
+  pub why : RecordFault
+  pub is : fault ≡ BadZone (zone + before) why
+  pub same : (ys : List ℕ) → take ((before + 1) * 8) ys ≡ take ((before + 1) * 8) xs → zones_in zone capacity n ys ≡ Err fault
+
+first_found : (zone capacity n : ℕ) (xs : List ℕ) (fault : LoadFault) → zone_in zone capacity (take 8 xs) ≡ Err fault → IsFoundAt zone capacity (suc n) xs fault
+first_found zone capacity n xs fault e =
+    let bad = zone_bad zone capacity (take 8 xs) fault e in
+    record {
+      before = 0;
+      why = bad.0;
+      is = bad.1 ∙ ap (λ (k : ℕ). BadZone k bad.0) (let same : zone ≡ zone + 0 = omega arith in same);
+      same = λ ys same. ap (λ (r : Result CountedZone LoadFault). r >>= λ z. zones_in (zone + 1) capacity n (drop 8 ys) >>= λ zs. Ok (z ∷ zs)) (ap (zone_in zone capacity) same ∙ e);
+    }
+
+later_found : (zone capacity n : ℕ) (xs : List ℕ) (z : CountedZone) (fault : LoadFault) → zone_in zone capacity (take 8 xs) ≡ Ok z → IsFoundAt (zone + 1) capacity n (drop 8 xs) fault → IsFoundAt zone capacity (suc n) xs fault
+later_found zone capacity n xs z fault first found =
+    let k = found.before in
+    record {
+      before = k + 1;
+      why = found.why;
+      is = found.is ∙ ap (λ (i : ℕ). BadZone i found.why) (let same : zone + 1 + k ≡ zone + (k + 1) = omega arith in same);
+      same = λ ys same.
+          let front : take 8 ys ≡ take 8 xs = front_of 8 ((k + 1 + 1) * 8) xs ys (omega arith) same in
+          let rest : take ((k + 1) * 8) (drop 8 ys) ≡ take ((k + 1) * 8) (drop 8 xs) = rest_of 8 ((k + 1) * 8) ((k + 1 + 1) * 8) xs ys (omega arith) same in
+          ap (λ (r : Result CountedZone LoadFault). r >>= λ z. zones_in (zone + 1) capacity n (drop 8 ys) >>= λ zs. Ok (z ∷ zs)) (ap (zone_in zone capacity) front ∙ first)
+          ∙ ap (λ (r : Result (List CountedZone) LoadFault). r >>= λ zs. Ok (z ∷ zs)) (found.same (drop 8 ys) rest);
+    }
+
+zones_found : (zone capacity n : ℕ) (xs : List ℕ) (fault : LoadFault) → zones_in zone capacity n xs ≡ Err fault → IsFoundAt zone capacity n xs fault
+zones_found zone capacity zero xs fault e = absurd cc
+zones_found zone capacity (suc n) xs fault e =
+    bind_fails (IsFoundAt zone capacity (suc n) xs) (zone_in zone capacity (take 8 xs)) (λ z. zones_in (zone + 1) capacity n (drop 8 xs) >>= λ zs. Ok (z ∷ zs)) fault e
+    (first_found zone capacity n xs)
+    (λ z first later.
+    bind_fails (IsFoundAt zone capacity (suc n) xs) (zones_in (zone + 1) capacity n (drop 8 xs)) (λ zs. Ok (z ∷ zs)) fault later
+    (λ why at. later_found zone capacity n xs z why first (zones_found (zone + 1) capacity n (drop 8 xs) why at))
+    (λ zs all none. absurd cc))
+
+-- ---- the end
+
+abbrev IsOfEnd : LoadFault → Type 0
+IsOfEnd fault = fault ≢ Truncated → fault ≢ Trailing → ⊥
+
+short_if : (test : Bool) (got : Split) (fault : LoadFault) → cond test (Ok got) (Err Truncated) ≡ Err fault → fault ≡ Truncated
+short_if true got fault e = absurd cc
+short_if false got fault e = sym (is_this {X = Split} Truncated fault e)
+
+bytes_end : (n : ℕ) (bytes : List ℕ) (fault : LoadFault) → bytes_in n bytes ≡ Err fault → fault ≡ Truncated
+bytes_end n bytes fault e = short_if (nat_le n (length bytes)) (take n bytes, drop n bytes) fault e
+
+blocks_end : (block : ℕ) (zs : List CountedZone) (bytes : List ℕ) (fault : LoadFault) → blocks_in block zs bytes ≡ Err fault → fault ≡ Truncated
+blocks_end block [] bytes fault e = absurd cc
+blocks_end block (z ∷ zs) bytes fault e =
+    bind_fails (λ f. f ≡ Truncated) (bytes_in (z.written * block) bytes) (λ front. blocks_in block zs front.1 >>= λ rest. Ok (zone_seen block z front.0 ∷ rest.0, rest.1)) fault e
+    (bytes_end (z.written * block) bytes)
+    (λ front there later.
+    bind_fails (λ f. f ≡ Truncated) (blocks_in block zs front.1) (λ rest. Ok (zone_seen block z front.0 ∷ rest.0, rest.1)) fault later
+    (blocks_end block zs front.1) (λ rest all none. absurd cc))
+
+trailing_if : (test : Bool) (fault : LoadFault) → (let r : Result Unit LoadFault = cond test (Ok tt) (Err Trailing) in r) ≡ Err fault → fault ≡ Trailing
+trailing_if true fault e = absurd cc
+trailing_if false fault e = sym (is_this {X = Unit} Trailing fault e)
+
+-- what is behind the records is refused by its end alone
+limits_end : (s : Shape) (zs : List CountedZone) (bytes : List ℕ) (fault : LoadFault) → after_limits s zs bytes ≡ Err fault → IsOfEnd fault
+limits_end s zs bytes fault e =
+    bind_fails IsOfEnd (blocks_in s.block zs bytes) (λ blocks. after_blocks s blocks.0 blocks.1) fault e
+    (λ first short whole alone. whole (blocks_end s.block zs bytes first short))
+    (λ blocks all later.
+    bind_fails IsOfEnd (end_in blocks.1) (λ end. Ok (namespace_with s blocks.0)) fault later
+    (λ first more whole alone. alone (trailing_if (length blocks.1 == 0) first more))
+    (λ end last none. absurd cc))
+
+-- ---- the header
+
+-- a text with a whole header
+whole_header : (bytes : List ℕ) → 64 ≤ length bytes → header_in bytes ≡ (header_told (take 64 bytes) >>= λ h. Ok (h, drop 64 bytes))
+whole_header bytes there =
+    ap (λ (test : Bool). let r : Result Split LoadFault = cond test (Ok (take 64 bytes, drop 64 bytes)) (Err Truncated) in r >>= λ front. header_told front.0 >>= λ h. Ok (h, front.1))
+    (le-leb 64 (length bytes) there)
+
+bind_pair : (r : Result Header LoadFault) (rest : List ℕ) → (r >>= (λ h. let all : Result (Header × List ℕ) LoadFault = Ok (h, rest) in all) >>= λ got. after_header got.0 got.1) ≡ (r >>= λ h. after_header h rest)
+bind_pair (Ok h) rest = refl
+bind_pair (Err first) rest = refl
+
+whole_text : (bytes : List ℕ) → 64 ≤ length bytes → namespace_in bytes ≡ (header_told (take 64 bytes) >>= λ h. after_header h (drop 64 bytes))
+unfolding namespace_in
+whole_text bytes there =
+    ap (λ (r : Result (Header × List ℕ) LoadFault). r >>= λ got. after_header got.0 got.1) (whole_header bytes there)
+    ∙ bind_pair (header_told (take 64 bytes)) (drop 64 bytes)
+
+header_fails : (bytes : List ℕ) (fault : LoadFault) → 64 ≤ length bytes → header_told (take 64 bytes) ≡ Err fault → namespace_in bytes ≡ Err fault
+header_fails bytes fault there e = whole_text bytes there ∙ ap (λ (r : Result Header LoadFault). r >>= λ h. after_header h (drop 64 bytes)) e
+
+header_passes : (bytes : List ℕ) (h : Header) → 64 ≤ length bytes → header_told (take 64 bytes) ≡ Ok h → namespace_in bytes ≡ after_header h (drop 64 bytes)
+header_passes bytes h there e = whole_text bytes there ∙ ap (λ (r : Result Header LoadFault). r >>= λ h. after_header h (drop 64 bytes)) e
+
+-- the bytes of a version's magic, which alone tell the version
+abbrev version_of : List ℕ → Option Version
+version_of front = find (λ version. pointwise (λ a b. a == b) (numbers version).magic front) (One ∷ Two ∷ [])
+
+no_version : (told : Option Version) (bytes : List ℕ) → told ≡ None → (ok_or told Magic >>= header_of bytes) ≡ Err Magic
+no_version told bytes e = ap (λ (v : Option Version). ok_or v Magic >>= header_of bytes) e
+
+unknown : (told : Option Version) (fault : LoadFault) → ok_or told Magic ≡ Err fault → (told ≡ None) × (Magic ≡ fault)
+unknown None fault e = (refl, is_this {X = Version} Magic fault e)
+unknown (Some version) fault e = absurd cc
+
+-- what a text has to have for a fault of this one to be its own
+abbrev IsOf : List ℕ → List ℕ → LoadFault → Type 0
+IsOf bytes other fault = fault ≢ Truncated → fault ≢ Trailing → take (fault_end bytes fault) other ≡ take (fault_end bytes fault) bytes → namespace_in other ≡ Err fault
+
+module _ (bytes other : List ℕ) (there : 64 ≤ length bytes) (longer : length bytes ≤ length other) where
+  magic_is_of : version_in (take 64 bytes) ≡ None → IsOf bytes other Magic
+  magic_is_of none whole alone same =
+      let fits : 8 ≤ 64 = omega arith in
+      let front : take 8 (take 64 other) ≡ take 8 (take 64 bytes) = take-take 8 64 other fits ∙ same ∙ sym (take-take 8 64 bytes fits) in
+      let none_other : version_in (take 64 other) ≡ None = ap version_of front ∙ none in
+      header_fails other Magic (omega arith) (no_version (version_in (take 64 other)) (take 64 other) none_other)
+
+  -- a fault behind the magic is found by the whole header at least
+  abbrev IsBehind : LoadFault → Type 0
+  IsBehind fault = 64 ≤ fault_end bytes fault
+
+  header_same : (fault : LoadFault) → IsBehind fault → take (fault_end bytes fault) other ≡ take (fault_end bytes fault) bytes → take 64 other ≡ take 64 bytes
+  header_same fault behind same = front_of 64 (fault_end bytes fault) bytes other behind same
+
+  header_is_of : (fault : LoadFault) → header_told (take 64 bytes) ≡ Err fault → IsOf bytes other fault
+  header_is_of fault e =
+      bind_fails (IsOf bytes other) (ok_or (version_in (take 64 bytes)) Magic) (header_of (take 64 bytes)) fault e
+      (λ first none. let known = unknown (version_in (take 64 bytes)) first none in subst (IsOf bytes other) known.1 (magic_is_of known.0))
+      (λ version told later whole alone same.
+      let behind = header_of_fault IsBehind (λ why. le_refl 64) (take 64 bytes) version fault later in
+      header_fails other fault (omega arith) (ap header_told (header_same fault behind same) ∙ e))
+
+-- ---- behind the header
+
+take_comm : (m n : ℕ) (xs : List ℕ) → take m (take n xs) ≡ take n (take m xs)
+take_comm zero zero xs = refl
+take_comm zero (suc n) xs = refl
+take_comm (suc m) zero xs = refl
+take_comm (suc m) (suc n) [] = refl
+take_comm (suc m) (suc n) (x ∷ xs) = ap (λ (ys : List ℕ). x ∷ ys) (take_comm m n xs)
+
+whole_records : (h : Header) (rest : List ℕ) → h.geometry.zones * 8 ≤ length rest
+    → after_header h rest ≡ (zones_in 0 h.geometry.capacity h.geometry.zones (take (h.geometry.zones * 8) rest) >>= λ zs. after_records h zs (drop (h.geometry.zones * 8) rest))
+whole_records h rest there =
+    let s = h.geometry in
+    let n = s.zones * 8 in
+    ap (λ (test : Bool). let r : Result Split LoadFault = cond test (Ok (take n rest, drop n rest)) (Err Truncated) in
+    r >>= (λ front. zones_in 0 s.capacity s.zones front.0 >>= λ zs. let all : Result (List CountedZone × List ℕ) LoadFault = Ok (zs, front.1) in all) >>= λ records. after_records h records.0 records.1)
+    (le-leb n (length rest) there)
+    ∙ pair (zones_in 0 s.capacity s.zones (take n rest)) (drop n rest)
+  where
+    pair : (r : Result (List CountedZone) LoadFault) (behind : List ℕ)
+        → (r >>= (λ zs. let all : Result (List CountedZone × List ℕ) LoadFault = Ok (zs, behind) in all) >>= λ records. after_records h records.0 records.1) ≡ (r >>= λ zs. after_records h zs behind)
+    pair (Ok zs) behind = refl
+    pair (Err first) behind = refl
+
+short_records : (h : Header) (rest : List ℕ) → length rest < h.geometry.zones * 8 → after_header h rest ≡ Err Truncated
+short_records h rest short =
+    ap (λ (r : Result Split LoadFault). r >>= (λ front. zones_in 0 h.geometry.capacity h.geometry.zones front.0 >>= λ zs. let all : Result (List CountedZone × List ℕ) LoadFault = Ok (zs, front.1) in all) >>= λ records. after_records h records.0 records.1)
+    (bytes_short (h.geometry.zones * 8) rest short)
+
+-- a total or limits that are wrong are found by all records
+abbrev IsOfRecords : List ℕ → LoadFault → Type 0
+IsOfRecords bytes fault = fault_end bytes fault ≡ 64 + zones_told bytes * 8
+
+total_of_records : (bytes : List ℕ) (total : Option ℕ) (zs : List CountedZone) (fault : LoadFault) → total_kept total zs ≡ Err fault → IsOfRecords bytes fault
+total_of_records bytes None zs fault e = absurd cc
+total_of_records bytes (Some total) zs fault e = kept_fault (IsOfRecords bytes) (total == written_blocks zs) (Total total (written_blocks zs)) fault refl e
+
+limits_of_records : (bytes : List ℕ) (limits : ResourceLimits) (zs : List CountedZone) (fault : LoadFault) → limits_kept limits zs ≡ Err fault → IsOfRecords bytes fault
+limits_of_records bytes limits zs fault e =
+    kept_fault (IsOfRecords bytes) (nat_le (open_count zs) limits.open_limit && nat_le (active_count zs) limits.active_limit) Limits fault refl e
+
+module _ (bytes other : List ℕ) (there : 64 ≤ length bytes) (longer : length bytes ≤ length other) (h : Header) (told : header_told (take 64 bytes) ≡ Ok h) where
+  told_other : (n : ℕ) → 64 ≤ n → take n other ≡ take n bytes → namespace_in other ≡ after_header h (drop 64 other)
+  told_other n behind same = header_passes other h (omega arith) (ap header_told (front_of 64 n bytes other behind same) ∙ told)
+
+  rest_there : h.geometry.zones * 8 ≤ length (drop 64 bytes) → h.geometry.zones * 8 ≤ length (drop 64 other)
+  rest_there inside = omega (arith, length-drop 64 bytes, length-drop 64 other)
+
+  bad_is_of : (fault : LoadFault) → h.geometry.zones * 8 ≤ length (drop 64 bytes)
+      → IsFoundAt 0 h.geometry.capacity h.geometry.zones (take (h.geometry.zones * 8) (drop 64 bytes)) fault → IsOf bytes other fault
+  bad_is_of fault inside found whole alone same =
+      let k = found.before in
+      let n = h.geometry.zones * 8 in
+      let m = (k + 1) * 8 in
+      let end : fault_end bytes fault ≡ 64 + m = ap (fault_end bytes) found.is ∙ ap (λ (i : ℕ). 64 + (i + 1) * 8) (let e : 0 + k ≡ k = omega arith in e) in
+      let front : take (64 + m) other ≡ take (64 + m) bytes = subst (λ (i : ℕ). take i other ≡ take i bytes) end same in
+      let rest : take m (drop 64 other) ≡ take m (drop 64 bytes) = rest_of 64 m (64 + m) bytes other refl front in
+      let cut : take m (take n (drop 64 other)) ≡ take m (take n (drop 64 bytes)) = take_comm m n (drop 64 other) ∙ ap (take n) rest ∙ take_comm n m (drop 64 bytes) in
+      told_other (64 + m) (omega arith) front
+      ∙ whole_records h (drop 64 other) (rest_there inside)
+      ∙ ap (λ (r : Result (List CountedZone) LoadFault). r >>= λ zs. after_records h zs (drop n (drop 64 other))) (found.same (take n (drop 64 other)) cut)
+
+  records_is_of : (zs : List CountedZone) (fault : LoadFault) → h.geometry.zones * 8 ≤ length (drop 64 bytes)
+      → zones_in 0 h.geometry.capacity h.geometry.zones (take (h.geometry.zones * 8) (drop 64 bytes)) ≡ Ok zs → IsOfRecords bytes fault
+      → ((rest : List ℕ) → after_records h zs rest ≡ Err fault) → IsOf bytes other fault
+  records_is_of zs fault inside read end fails whole alone same =
+      let n = h.geometry.zones * 8 in
+      let zones : zones_told bytes ≡ h.geometry.zones = ap (λ (s : Shape). s.zones) (header_parts (take 64 bytes) h told).same in
+      let front : take (64 + n) other ≡ take (64 + n) bytes = subst (λ (i : ℕ). take i other ≡ take i bytes) (end ∙ ap (λ (i : ℕ). 64 + i * 8) zones) same in
+      let rest : take n (drop 64 other) ≡ take n (drop 64 bytes) = rest_of 64 n (64 + n) bytes other refl front in
+      told_other (64 + n) (omega arith) front
+      ∙ whole_records h (drop 64 other) (rest_there inside)
+      ∙ ap (λ (r : Result (List CountedZone) LoadFault). r >>= λ zs. after_records h zs (drop n (drop 64 other))) (ap (zones_in 0 h.geometry.capacity h.geometry.zones) rest ∙ read)
+      ∙ fails (drop n (drop 64 other))
+
+  -- behind records that are read
+  after_is_of : (zs : List CountedZone) (fault : LoadFault) → h.geometry.zones * 8 ≤ length (drop 64 bytes)
+      → zones_in 0 h.geometry.capacity h.geometry.zones (take (h.geometry.zones * 8) (drop 64 bytes)) ≡ Ok zs
+      → after_records h zs (drop (h.geometry.zones * 8) (drop 64 bytes)) ≡ Err fault → IsOf bytes other fault
+  after_is_of zs fault inside read e =
+      let s = h.geometry in
+      let behind = drop (s.zones * 8) (drop 64 bytes) in
+      bind_fails (IsOf bytes other) (total_kept h.total zs) (λ same. after_total s zs behind) fault e
+      (λ first wrong. records_is_of zs first inside read (total_of_records bytes h.total zs first wrong)
+      (λ rest. ap (λ (r : Result (Unit {0}) LoadFault). r >>= λ same. after_total s zs rest) wrong))
+      (λ same total later.
+      bind_fails (IsOf bytes other) (limits_kept s.limits zs) (λ kept. after_limits s zs behind) fault later
+      (λ first wrong. records_is_of zs first inside read (limits_of_records bytes s.limits zs first wrong)
+      (λ rest. ap (λ (r : Result (Unit {0}) LoadFault). r >>= λ same. after_total s zs rest) total ∙ ap (λ (r : Result Unit LoadFault). r >>= λ kept. after_limits s zs rest) wrong))
+      (λ kept limits last whole alone same. absurd (limits_end s zs behind fault last whole alone)))
+
+  rest_is_of : (fault : LoadFault) → after_header h (drop 64 bytes) ≡ Err fault → IsOf bytes other fault
+  rest_is_of fault e =
+      let s = h.geometry in
+      let n = s.zones * 8 in
+      elim (leb_tells n (length (drop 64 bytes))) [
+        | inl inside ↦
+            bind_fails (IsOf bytes other) (zones_in 0 s.capacity s.zones (take n (drop 64 bytes))) (λ zs. after_records h zs (drop n (drop 64 bytes))) fault
+            (sym (whole_records h (drop 64 bytes) inside.1) ∙ e)
+            (λ first bad. bad_is_of first inside.1 (zones_found 0 s.capacity s.zones (take n (drop 64 bytes)) first bad))
+            (λ zs read later. after_is_of zs fault inside.1 read later)
+        | inr short ↦ λ whole alone same. absurd (whole (sym (is_this {X = ZonedNamespace} Truncated fault (sym (short_records h (drop 64 bytes) short.1) ∙ e))))
+      ]
+
+short_text : (bytes : List ℕ) → length bytes < 64 → namespace_in bytes ≡ Err Truncated
+unfolding namespace_in
+short_text bytes short =
+    ap (λ (r : Result Split LoadFault). r >>= (λ front. header_told front.0 >>= λ h. let all : Result (Header × List ℕ) LoadFault = Ok (h, front.1) in all) >>= λ got. after_header got.0 got.1)
+    (bytes_short 64 bytes short)
+
+pub faults_are_by_prefix : FaultsAreByPrefix
+faults_are_by_prefix bytes other fault e whole alone longer same =
+    elim (leb_tells 64 (length bytes)) [
+      | inl there ↦
+          bind_fails (IsOf bytes other) (header_told (take 64 bytes)) (λ h. after_header h (drop 64 bytes)) fault (sym (whole_text bytes there.1) ∙ e)
+          (header_is_of bytes other there.1 longer)
+          (λ h told later. rest_is_of bytes other there.1 longer h told fault later)
+          whole alone same
+      | inr short ↦ absurd (whole (sym (is_this {X = ZonedNamespace} Truncated fault (sym (short_text bytes short.1) ∙ e))))
+    ]
