@@ -53,7 +53,7 @@ shape_of block zones size capacity limits = record { block = block; zones = zone
 abbrev pub tested : Shape → Result Shape GeometryFault
 tested s = unless_failed (first_failed (shape_checks s)) s
 
--- what holds of each shape that is accepted
+-- what follows for each shape that passes the tests, and for no other
 pub record IsShape (s : Shape) : Type 0 where
   pub block_size : IsBlockSize s.block
   pub block_some : 512 ≤ s.block

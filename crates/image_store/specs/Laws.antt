@@ -1,5 +1,5 @@
 -- What the texts of a namespace are for.
-use Rattle.std.specs.Prelude.{ℕ, ◌≡◌, ◌≢◌, ◌<◌, ◌≤◌, ◌+◌, ◌*◌, true, List, [], ◌++◌, length, take, Result, Ok, Err}
+use Rattle.std.specs.Prelude.{ℕ, ◌≡◌, ◌≢◌, ◌↔◌, ◌<◌, ◌≤◌, ◌+◌, ◌*◌, true, List, [], ◌++◌, length, take, Result, Ok, Err}
 use Rattle.program_interface.specs.BlockSize.{IsBlockSize}
 use Rattle.image_store.specs.declared.fault.LoadFault.{LoadFault}
 use Rattle.image_store.specs.declared.fault.LoadFault.TheVariants as fault
@@ -7,7 +7,7 @@ use Rattle.image_store.specs.declared.geometry.TheConstants.{MOST_ZONES}
 use Rattle.image_store.specs.declared.version.Version.{Version}
 use Rattle.image_store.specs.declared.version.Version.TheVariants.{Two}
 use Rattle.image_store.specs.Blocks.{AreBytes}
-use Rattle.image_store.specs.Geometry.{Shape, IsShape}
+use Rattle.image_store.specs.Geometry.{Shape, IsShape, tested}
 use Rattle.image_store.specs.Namespace.{ZonedNamespace, shape, IsNamespace}
 use Rattle.image_store.specs.Reading.{◌>>=◌, shape_told, namespace_in}
 use Rattle.image_store.specs.Text.{text, text_of}
@@ -76,6 +76,10 @@ FaultsAreByPrefix =
     (bytes other : List ℕ) (first : LoadFault) → namespace_in bytes ≡ Err first → first ≢ fault.Truncated → first ≢ fault.Trailing
     → length bytes ≤ length other → take (fault_end bytes first) other ≡ take (fault_end bytes first) bytes
     → namespace_in other ≡ Err first
+
+-- the tests of a geometry accept each shape that there is, and no other
+abbrev pub ShapesAreTested : Type 0
+ShapesAreTested = (s : Shape) → IsShape s ↔ (tested s ≡ Ok s)
 
 -- the device has each block size, and as many zones, as a version has
 abbrev pub VersionsAreKnown : Type 0

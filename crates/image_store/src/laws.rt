@@ -1,7 +1,7 @@
 //! Laws of the texts of an image, and of its blocks. Each function does nothing: what it ensures is the law.
 
 ghost use Rattle.image_store.specs.BlockLaws.{AllowedIsWithin, BlockIsAPart, BlocksAreBytes, BlocksAreCounted, BlocksKeepBytes, BlocksLieInZones, WritesKeepZones, WrittenIsWithin};
-ghost use Rattle.image_store.specs.Laws.{CutTextsAreTruncated, EachVersionLoads, FaultsAreByPrefix, LastVersionHasAll, LoadedIsNamespace, LongerTextsAreTrailing, OnlyTextsLoad, SavedTextsLoad, UpgradedStandsForTheSame, UpgradingTwiceIsOnce, VersionsAreKnown};
+ghost use Rattle.image_store.specs.Laws.{CutTextsAreTruncated, EachVersionLoads, FaultsAreByPrefix, LastVersionHasAll, LoadedIsNamespace, LongerTextsAreTrailing, OnlyTextsLoad, SavedTextsLoad, ShapesAreTested, UpgradedStandsForTheSame, UpgradingTwiceIsOnce, VersionsAreKnown};
 
 /// What is saved loads again as the same namespace, and so does the text of each version that has its shape.
 pub fn saved_texts_load()
@@ -36,6 +36,11 @@ pub fn texts_have_one_length()
 /// A text is tested from its front: what stands behind the fault that it is refused with changes nothing of that.
 pub fn faults_are_by_prefix()
     ensures { FaultsAreByPrefix }
+{}
+
+/// The tests of a geometry accept each shape that there is, and no other.
+pub fn shapes_are_tested()
+    ensures { ShapesAreTested }
 {}
 
 /// The device has each block size and as many zones as an image of each version can have, and an image of the
