@@ -19,11 +19,11 @@ slot_told (Err fault) = fault.slot
 abbrev told_at : ℕ → FaultKind → Result (List (Option Insn)) Fault
 told_at slot kind = Err (record { slot = slot; kind = kind })
 
-same_slot : (slot : ℕ) (kind : FaultKind) (fault : Fault) → told_at slot kind ≡ Err fault → fault.slot ≡ slot
+pub same_slot : (slot : ℕ) (kind : FaultKind) (fault : Fault) → told_at slot kind ≡ Err fault → fault.slot ≡ slot
 unfolding slot_told
 same_slot slot kind fault e = sym (ap slot_told e)
 
-fault_behind : (front : List (Option Insn)) (read : Result (List (Option Insn)) Fault) (fault : Fault) → with_front front read ≡ Err fault → read ≡ Err fault
+pub fault_behind : (front : List (Option Insn)) (read : Result (List (Option Insn)) Fault) (fault : Fault) → with_front front read ≡ Err fault → read ≡ Err fault
 fault_behind front (Ok slots) fault e = absurd cc
 fault_behind front (Err other) fault e = e
 

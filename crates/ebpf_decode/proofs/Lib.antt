@@ -4,4 +4,5 @@ mod Programs
 mod Bytes
 mod Again
 mod FaultSlots
+mod FirstFaults
 pub mod Proved

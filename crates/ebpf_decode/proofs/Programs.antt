@@ -53,7 +53,7 @@ wide-has-second (LoadImmediate dst value) (Some f) wide e = refl
 wide-has-second (LoadImmediate dst value) None wide e = absurd cc
 wide-has-second i next wide e = absurd cc
 
-are-fields-in : (fs : List Fields) → AllByRecursion AreFields fs → AreFieldsIn (slice_get fs 0)
+pub are-fields-in : (fs : List Fields) → AllByRecursion AreFields fs → AreFieldsIn (slice_get fs 0)
 are-fields-in [] all = tt
 are-fields-in (f ∷ fs) all = all.0
 

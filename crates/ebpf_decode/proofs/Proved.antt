@@ -1,6 +1,7 @@
 -- The laws of this crate, proved: all that the proofs of other crates cite of it.
-use Rattle.ebpf_decode.specs.Laws.{DecodedIsSpelled, FaultIsInside, HasOneProgram, SpelledIsDecoded}
+use Rattle.ebpf_decode.specs.Laws.{DecodedIsSpelled, FaultIsFirst, FaultIsInside, HasOneProgram, SpelledIsDecoded}
 use Rattle.ebpf_decode.proofs.FaultSlots as fault_slots
+use Rattle.ebpf_decode.proofs.FirstFaults as first_faults
 use Rattle.ebpf_decode.proofs.Programs.{decoded-program, one-program, program-again}
 
 pub spelled_is_decoded : SpelledIsDecoded
@@ -14,3 +15,6 @@ bytes_have_one_program = one-program
 
 pub fault_is_inside : FaultIsInside
 fault_is_inside = fault_slots.fault_is_inside
+
+pub fault_is_first : FaultIsFirst
+fault_is_first = first_faults.fault_is_first

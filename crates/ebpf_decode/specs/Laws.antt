@@ -3,6 +3,7 @@ use Rattle.std.specs.Prelude.{◌≡◌, ◌<◌, ℕ, List, Option, Ok, Err, sl
 use Rattle.ebpf_decode.specs.declared.fault.Fault.{Fault}
 use Rattle.instruction_set.specs.declared.insn.Insn.{Insn}
 use Rattle.instruction_set.specs.Program.{IsProgram}
+use Rattle.ebpf_decode.specs.FirstFault.{IsFirstFault}
 use Rattle.ebpf_decode.specs.Reading.{decoded_program}
 use Rattle.instruction_set.specs.Spelling.{program_bytes}
 use Rattle.program_interface.specs.declared.TheConstants.{MOST_SLOTS}
@@ -24,3 +25,8 @@ DecodedIsSpelled =
 -- the slot of a fault is below the most slots of a program
 abbrev pub FaultIsInside : Type 0
 FaultIsInside = (bytes : List ℕ) (fault : Fault) → decoded_program bytes ≡ Err fault → fault.slot < MOST_SLOTS
+
+-- What is refused, of numbers below 256, is the first fault: of the length, or else of the lowest slot that has one.
+abbrev pub FaultIsFirst : Type 0
+FaultIsFirst =
+    (bytes : List ℕ) (fault : Fault) → ((k : ℕ) → slice_index bytes k < 256) → decoded_program bytes ≡ Err fault → IsFirstFault bytes fault

@@ -1,6 +1,6 @@
 //! Laws of spelling and decoding, for all programs.
 
-ghost use Rattle.ebpf_decode.specs.Laws.{DecodedIsSpelled, FaultIsInside, HasOneProgram, SpelledIsDecoded};
+ghost use Rattle.ebpf_decode.specs.Laws.{DecodedIsSpelled, FaultIsFirst, FaultIsInside, HasOneProgram, SpelledIsDecoded};
 
 /// What a program spells decodes as the program.
 pub fn spelled_is_decoded()
@@ -20,4 +20,10 @@ pub fn bytes_have_one_program()
 /// The slot of a fault is below the most slots of a program.
 pub fn fault_is_inside()
     ensures { FaultIsInside }
+{}
+
+/// A refusal tells the first fault: that of the length, or else the lowest slot where no instruction
+/// begins, though those before it are instructions, and of its checks the first that fails.
+pub fn fault_is_first()
+    ensures { FaultIsFirst }
 {}

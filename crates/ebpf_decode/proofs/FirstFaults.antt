@@ -1,0 +1,209 @@
+-- What is refused is the first fault.
+use Rattle.std.proofs.Common.{◌≡◌, ℕ, suc, ◌+◌, ◌/◌, ◌<◌, Bool, true, false, cond, find, option_map, List, [], ◌∷◌, ◌++◌, length, slice_index, take, Option, Some, None, Result, Ok, Err, is_none, refl, sym, ap, ◌∙◌, append_assoc, arith, inl, inr}
+use Rattle.std.specs.List.{AllByRecursion, flat_map, slice_get}
+use Rattle.ebpf_decode.specs.declared.fault.Fault.{Fault}
+use Rattle.ebpf_decode.specs.declared.fault.FaultKind.{FaultKind}
+use Rattle.ebpf_decode.specs.declared.fault.FaultKind.TheVariants as kinds
+use Rattle.ebpf_decode.specs.declared.opcode.Opcode.{Opcode}
+use Rattle.instruction_set.specs.declared.fields.Fields.{Fields}
+use Rattle.instruction_set.specs.declared.insn.Insn.{Insn}
+use Rattle.instruction_set.specs.Program.{is_wide}
+use Rattle.instruction_set.specs.Spelling.{Fits, slots_spelled}
+use Rattle.ebpf_decode.specs.FirstFault.{AllPass, Begins, IsFirst, IsFirstFault, IsOfSlot, IsTold}
+use Rattle.ebpf_decode.specs.Laws.{FaultIsFirst}
+use Rattle.ebpf_decode.specs.Opcodes.{opcode_named}
+use Rattle.ebpf_decode.specs.Reading.{checks, found_in, instruction, length_checks, length_fault, read, read_named, read_slots, slots_at, then_read, unless, unless_length}
+use Rattle.ebpf_decode.proofs.Again.{read-again}
+use Rattle.ebpf_decode.proofs.Bytes.{slots-fields}
+use Rattle.ebpf_decode.proofs.FaultSlots.{fault_behind, same_slot}
+use Rattle.ebpf_decode.proofs.Programs.{are-fields-in}
+use Rattle.ebpf_decode.proofs.Takes.{AreFields, AreFieldsIn, IsTaken, read-takes}
+
+-- ---- the first of some checks
+
+abbrev first_found : List (Bool × FaultKind) → Option FaultKind
+first_found tests = option_map (λ (test : Bool × FaultKind). test.1) (find (λ (test : Bool × FaultKind). test.0) tests)
+
+found-at : (b : Bool) (test : Bool × FaultKind) (tests : List (Bool × FaultKind)) (kind : FaultKind) → test.0 ≡ b
+    → option_map (λ (t : Bool × FaultKind). t.1) (cond b (Some test) (find (λ (t : Bool × FaultKind). t.0) tests)) ≡ Some kind
+    → (first_found tests ≡ Some kind → IsFirst kind tests) → IsFirst kind (test ∷ tests)
+found-at true test tests kind is e later =
+    let same : test.1 ≡ kind = cc in
+    let whole : test ≡ (true, kind) = rw (← is, ← same) refl in
+    record { before = []; after = tests; are = ap (λ t. t ∷ tests) whole; pass = tt }
+found-at false test tests kind is e later =
+    let first = later e in
+    record { before = test ∷ first.before; after = first.after; are = ap (λ ts. test ∷ ts) first.are; pass = (is, first.pass) }
+
+is-first : (tests : List (Bool × FaultKind)) (kind : FaultKind) → first_found tests ≡ Some kind → IsFirst kind tests
+is-first [] kind e = absurd cc
+is-first (test ∷ tests) kind e = found-at test.0 test tests kind refl e (is-first tests kind)
+
+passes-at : (b : Bool) (test : Bool × FaultKind) (tests : List (Bool × FaultKind)) → test.0 ≡ b
+    → option_map (λ (t : Bool × FaultKind). t.1) (cond b (Some test) (find (λ (t : Bool × FaultKind). t.0) tests)) ≡ None
+    → (first_found tests ≡ None → AllPass tests) → AllPass (test ∷ tests)
+passes-at true test tests is e later = absurd cc
+passes-at false test tests is e later = (is, later e)
+
+all-pass : (tests : List (Bool × FaultKind)) → first_found tests ≡ None → AllPass tests
+all-pass [] e = tt
+all-pass (test ∷ tests) e = passes-at test.0 test tests refl e (all-pass tests)
+
+-- ---- what is told of a slot
+
+abbrev fails_by : FaultKind → Result Insn FaultKind
+fails_by kind = Err kind
+
+err-same : (a b : FaultKind) → fails_by a ≡ fails_by b → a ≡ b
+err-same a b e = cc
+
+with-value : (tests : List (Bool × FaultKind)) (found : Option Insn) (kind : FaultKind) (fault : Option FaultKind) → first_found tests ≡ fault
+    → unless fault found ≡ Err kind → IsFirst kind (tests ++ (is_none found, kinds.Value) ∷ [])
+with-value tests found kind (Some told) is e =
+    let same : told ≡ kind = err-same told kind e in
+    let first = is-first tests kind (is ∙ ap (λ k. Some k) same) in
+    record {
+      before = first.before;
+      after = first.after ++ (is_none found, kinds.Value) ∷ [];
+      are = ap (λ ts. ts ++ (is_none found, kinds.Value) ∷ []) first.are ∙ append_assoc first.before ((true, kind) ∷ first.after) ((is_none found, kinds.Value) ∷ []);
+      pass = first.pass;
+    }
+with-value tests (Some i) kind None is e = absurd cc
+with-value tests None kind None is e =
+    let same : kinds.Value ≡ kind = err-same kinds.Value kind e in
+    record { before = tests; after = []; are = ap (λ k. tests ++ (true, k) ∷ []) same; pass = all-pass tests is }
+
+told : (named : Option Opcode) (f : Fields) (next : Option Fields) (kind : FaultKind) → read_named named f next ≡ Err kind → IsTold kind named f next
+told None f next kind e = sym (err-same kinds.Opcode kind e)
+told (Some opcode) f next kind e = with-value (checks opcode f next) (instruction opcode f next) kind (first_found (checks opcode f next)) refl e
+
+begins-none : (f : Fields) (next : Option Fields) (kind : FaultKind) (i : Insn) → read f next ≡ Err kind → Begins f next i → ⊥
+begins-none f next kind i failed begins =
+    let clash : Ok i ≡ Err kind = sym (read-again i next begins.fits begins.second) ∙ ap (λ g. read g next) begins.first ∙ failed in
+    absurd cc
+
+-- ---- the slots before a fault
+
+-- slots from number s on: those below the fault's are instructions, and its own isn't read
+record Before (s : ℕ) (fs : List Fields) (fault : Fault) : Type 0 where
+  place : ℕ
+  at : fault.slot ≡ s + place
+  instructions : List Insn
+  fits : AllByRecursion Fits instructions
+  spelled : take place fs ≡ flat_map slots_spelled instructions
+  fields : Fields
+  here : slice_get fs place ≡ Some fields
+  failed : read fields (slice_get fs (place + 1)) ≡ Err fault.kind
+
+-- the same behind a wide instruction's second slot
+record BehindSecond (s : ℕ) (fs : List Fields) (fault : Fault) : Type 0 where
+  second : Fields
+  others : List Fields
+  are : fs ≡ second ∷ others
+  after : Before (s + 1) others fault
+
+abbrev BeforeFrom : Bool → ℕ → List Fields → Fault → Type 0
+BeforeFrom false s fs fault = Before s fs fault
+BeforeFrom true s fs fault = BehindSecond s fs fault
+
+-- the slot behind a place, of more slots
+one-more : (f : Fields) (fs : List Fields) (place : ℕ) → slice_get (f ∷ fs) (suc place + 1) ≡ slice_get fs (place + 1)
+one-more f fs place = let places : suc place + 1 ≡ suc (place + 1) = omega arith in ap (slice_get (f ∷ fs)) places
+
+behind : (f : Fields) (fs : List Fields) (s : ℕ) (fault : Fault) (i : Insn) (wide : Bool) → is_wide i ≡ wide
+    → IsTaken f (slice_get fs 0) i → BeforeFrom wide (s + 1) fs fault → Before s (f ∷ fs) fault
+behind f fs s fault i false is taken b = record {
+  place = suc b.place;
+  at = omega (arith, b.at);
+  instructions = i ∷ b.instructions;
+  fits = (taken.1, b.fits);
+  spelled = rw (taken.0.0, taken.0.1, is) (ap (λ xs. f ∷ xs) b.spelled);
+  fields = b.fields;
+  here = b.here;
+  failed = ap (read b.fields) (one-more f fs b.place) ∙ b.failed;
+}
+behind f fs s fault i true is taken b = record {
+  place = suc (suc b.after.place);
+  at = omega (arith, b.after.at);
+  instructions = i ∷ b.after.instructions;
+  fits = (taken.1, b.after.fits);
+  spelled =
+      let next : slice_get fs 0 ≡ Some b.second = ap (λ xs. slice_get xs 0) b.are in
+      rw (taken.0.0, taken.0.1, is, next) (ap (λ xs. f ∷ xs) (ap (take (suc b.after.place)) b.are ∙ ap (λ xs. b.second ∷ xs) b.after.spelled));
+  fields = b.after.fields;
+  here = ap (λ xs. slice_get xs (suc b.after.place)) b.are ∙ b.after.here;
+  failed =
+      ap (read b.after.fields) (one-more f fs (suc b.after.place))
+      ∙ ap (λ xs. read b.after.fields (slice_get xs (suc b.after.place + 1))) b.are
+      ∙ ap (read b.after.fields) (one-more b.second b.others b.after.place)
+      ∙ b.after.failed;
+}
+
+kind_told : Result (List (Option Insn)) Fault → FaultKind
+kind_told (Ok slots) = kinds.Opcode
+kind_told (Err fault) = fault.kind
+
+abbrev told_at : ℕ → FaultKind → Result (List (Option Insn)) Fault
+told_at slot kind = Err (record { slot = slot; kind = kind })
+
+same_kind : (slot : ℕ) (kind : FaultKind) (fault : Fault) → told_at slot kind ≡ Err fault → kind ≡ fault.kind
+unfolding kind_told
+same_kind slot kind fault e = ap kind_told e
+
+at-first : (f : Fields) (fs : List Fields) (s : ℕ) (fault : Fault) (found : Result Insn FaultKind) → read f (slice_get fs 0) ≡ found
+    → then_read (found_in found) s (λ wide. read_slots wide (s + 1) fs) ≡ Err fault → AreFields f → AreFieldsIn (slice_get fs 0)
+    → ((wide : Bool) → read_slots wide (s + 1) fs ≡ Err fault → BeforeFrom wide (s + 1) fs fault) → Before s (f ∷ fs) fault
+at-first f fs s fault (Err kind) is e fit fits later = record {
+  place = 0;
+  at = let slot : fault.slot ≡ s = same_slot s kind fault e in omega arith;
+  instructions = [];
+  fits = tt;
+  spelled = refl;
+  fields = f;
+  here = refl;
+  failed = is ∙ ap (λ k. Err k) (same_kind s kind fault e);
+}
+at-first f fs s fault (Ok i) is e fit fits later =
+    let taken = read-takes f (slice_get fs 0) i fit fits is in
+    behind f fs s fault i (is_wide i) refl taken
+    (later (is_wide i) (fault_behind (Some i ∷ []) (read_slots (is_wide i) (s + 1) fs) fault e))
+
+before : (fs : List Fields) (second : Bool) (s : ℕ) (fault : Fault) → AllByRecursion AreFields fs → read_slots second s fs ≡ Err fault → BeforeFrom second s fs fault
+before [] second s fault all e = absurd cc
+before (f ∷ fs) true s fault all e = record {
+  second = f;
+  others = fs;
+  are = refl;
+  after = before fs false (s + 1) fault all.1 (fault_behind (None ∷ []) (read_slots false (s + 1) fs) fault e);
+}
+before (f ∷ fs) false s fault all e =
+    at-first f fs s fault (read f (slice_get fs 0)) refl e all.0 (are-fields-in fs all.1) (λ wide h. before fs wide (s + 1) fault all.1 h)
+
+of-slot : (fs : List Fields) (fault : Fault) → AllByRecursion AreFields fs → read_slots false 0 fs ≡ Err fault → IsOfSlot fs fault
+of-slot fs fault all e =
+    let b : Before 0 fs fault = before fs false 0 fault all e in
+    let from : fault.slot ≡ 0 + b.place = b.at in
+    let at : fault.slot ≡ b.place = omega arith in
+    let failed : read b.fields (slice_get fs (fault.slot + 1)) ≡ Err fault.kind = ap (λ n. read b.fields (slice_get fs (n + 1))) at ∙ b.failed in
+    record {
+      before = b.instructions;
+      fits = b.fits;
+      spelled = ap (λ n. take n fs) at ∙ b.spelled;
+      fields = b.fields;
+      here = ap (slice_get fs) at ∙ b.here;
+      begins_none = λ i begins. begins-none b.fields (slice_get fs (fault.slot + 1)) fault.kind i failed begins;
+      told = told (opcode_named b.fields.opcode) b.fields (slice_get fs (fault.slot + 1)) fault.kind failed;
+    }
+
+by-length : (bytes : List ℕ) (fault : Fault) (found : Option FaultKind) → ((k : ℕ) → slice_index bytes k < 256) → length_fault (length bytes) ≡ found
+    → unless_length found (read_slots false 0 (slots_at (length bytes / 8) bytes)) ≡ Err fault → IsFirstFault bytes fault
+by-length bytes fault (Some kind) fits is e =
+    inl (record {
+      slot = same_slot 0 kind fault e;
+      told = is-first (length_checks (length bytes)) fault.kind (is ∙ ap (λ k. Some k) (same_kind 0 kind fault e));
+    })
+by-length bytes fault None fits is e =
+    inr (all-pass (length_checks (length bytes)) is, of-slot (slots_at (length bytes / 8) bytes) fault (slots-fields (length bytes / 8) bytes fits) e)
+
+pub fault_is_first : FaultIsFirst
+fault_is_first bytes fault fits e = by-length bytes fault (length_fault (length bytes)) fits refl e

@@ -1,0 +1,64 @@
+-- What a refusal tells: which fault, where, and that nothing before it is at fault.
+use Rattle.std.specs.Prelude.{◌≡◌, ℕ, ◌+◌, ◌/◌, Bool, true, false, cond, List, [], ◌∷◌, ◌++◌, length, take, slice_get, Option, Some, None, is_none, ◌⊎◌}
+use Rattle.std.specs.List.{AllByRecursion, flat_map}
+use Rattle.ebpf_decode.specs.declared.fault.Fault.{Fault}
+use Rattle.ebpf_decode.specs.declared.fault.FaultKind.{FaultKind}
+use Rattle.ebpf_decode.specs.declared.fault.FaultKind.TheVariants as kinds
+use Rattle.ebpf_decode.specs.declared.opcode.Opcode.{Opcode}
+use Rattle.instruction_set.specs.declared.fields.Fields.{Fields}
+use Rattle.instruction_set.specs.declared.insn.Insn.{Insn}
+use Rattle.instruction_set.specs.Program.{is_wide}
+use Rattle.instruction_set.specs.Spelling.{Fits, first_slot, second_slot, slots_spelled}
+use Rattle.ebpf_decode.specs.Opcodes.{opcode_named}
+use Rattle.ebpf_decode.specs.Reading.{checks, instruction, length_checks, slots_at}
+
+-- none of these checks finds its fault
+abbrev pub AllPass : List (Bool × FaultKind) → Type 0
+AllPass checks = AllByRecursion (λ check. check.0 ≡ false) checks
+
+-- the check of this kind finds its fault, and none before it does
+pub record IsFirst (kind : FaultKind) (checks : List (Bool × FaultKind)) : Type 0 where
+  pub before : List (Bool × FaultKind)
+  pub after : List (Bool × FaultKind)
+  pub are : checks ≡ before ++ (true, kind) ∷ after
+  pub pass : AllPass before
+
+-- the checks of a slot whose opcode is known: those of its fields, and at last of their values
+abbrev pub slot_checks : Opcode → Fields → Option Fields → List (Bool × FaultKind)
+slot_checks opcode f next = checks opcode f next ++ (is_none (instruction opcode f next), kinds.Value) ∷ []
+
+-- the kind that is told of a slot, by what its opcode names
+abbrev pub IsTold : FaultKind → Option Opcode → Fields → Option Fields → Type 0
+IsTold kind None f next = kind ≡ kinds.Opcode
+IsTold kind (Some opcode) f next = IsFirst kind (slot_checks opcode f next)
+
+-- an instruction that begins at a slot: it is spelled by the slot, and by the next one where it is wide
+pub record Begins (f : Fields) (next : Option Fields) (i : Insn) : Type 0 where
+  pub fits : Fits i
+  pub first : first_slot i ≡ f
+  pub second : second_slot i ≡ cond (is_wide i) next None
+
+-- a fault of the length is told at slot 0
+pub record IsOfLength (bytes : List ℕ) (fault : Fault) : Type 0 where
+  pub slot : fault.slot ≡ 0
+  pub told : IsFirst fault.kind (length_checks (length bytes))
+
+-- a fault of one of these slots
+pub record IsOfSlot (slots : List Fields) (fault : Fault) : Type 0 where
+  -- the slots before it are instructions,
+  pub before : List Insn
+  pub fits : AllByRecursion Fits before
+  pub spelled : take fault.slot slots ≡ flat_map slots_spelled before
+  -- and at the fault's own slot
+  pub fields : Fields
+  pub here : slice_get slots fault.slot ≡ Some fields
+  -- no instruction begins, for the reason that is told
+  pub begins_none : (i : Insn) → Begins fields (slice_get slots (fault.slot + 1)) i → ⊥
+  pub told : IsTold fault.kind (opcode_named fields.opcode) fields (slice_get slots (fault.slot + 1))
+
+-- a fault of a slot, of bytes whose length has none
+abbrev pub IsBehindLength : List ℕ → Fault → Type 0
+IsBehindLength bytes fault = AllPass (length_checks (length bytes)) × IsOfSlot (slots_at (length bytes / 8) bytes) fault
+
+abbrev pub IsFirstFault : List ℕ → Fault → Type 0
+IsFirstFault bytes fault = IsOfLength bytes fault ⊎ IsBehindLength bytes fault
