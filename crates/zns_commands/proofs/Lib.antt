@@ -1,6 +1,7 @@
 mod BlockParts
 mod FittingZones
 mod GivenWay
+mod HeldCommands
 mod HeldSources
 mod HeldZones
 mod KeptBlocks

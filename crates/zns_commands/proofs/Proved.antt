@@ -1,7 +1,9 @@
 -- The laws of this crate, proved: what the proofs of other crates cite of it.
+use Rattle.zns_commands.specs.Held.{HeldCommandsAreRefused}
 use Rattle.zns_commands.specs.Left.{DestinationsAreLeft, ShapesAreKept, SourcesKeepBlocks}
 use Rattle.zns_commands.specs.Lasting.{AppendedStays, GrowsByNone, GrowsOn, LyingIsRead, OpenIsThere, ReplacedGrows, StepsKeepZones, UnclearedIsReadable, WrittenStays}
 use Rattle.zns_commands.specs.Laws.{BlocksAreAppended, BlocksKeepNamespaces, EmptyIsNamespace, StepsKeepNamespaces}
+use Rattle.zns_commands.proofs.HeldCommands as held
 use Rattle.zns_commands.proofs.HeldSources as held_sources
 use Rattle.zns_commands.proofs.HeldZones as held_zones
 use Rattle.zns_commands.proofs.KeptBlocks as kept_blocks
@@ -59,3 +61,6 @@ appended_stays = read_back.appended_stays
 
 pub written_stays : WrittenStays
 written_stays = read_back.written_stays
+
+pub held_commands_are_refused : HeldCommandsAreRefused
+held_commands_are_refused = held.held_commands_are_refused

@@ -2,6 +2,7 @@ pub mod Address
 pub mod Answer
 pub mod Append
 pub mod Fault
+pub mod Held
 pub mod Left
 pub mod Lasting
 pub mod Laws

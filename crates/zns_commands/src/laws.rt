@@ -1,6 +1,7 @@
 //! Laws of the definitions that the contracts of this crate cite. Each function does nothing: what
 //! it ensures is the law.
 
+ghost use Rattle.zns_commands.specs.Held.{HeldCommandsAreRefused};
 ghost use Rattle.zns_commands.specs.Left.{BlocksAreAPart, DestinationsAreLeft, OthersAreLeft, ShapesAreKept, SourcesKeepBlocks};
 ghost use Rattle.zns_commands.specs.Lasting.{AppendedStays, GrowsByNone, GrowsOn, LyingIsRead, OpenIsThere, ReplacedGrows, StepsKeepZones, UnclearedIsReadable, WrittenStays};
 ghost use Rattle.zns_commands.specs.Laws.{AppendedReadsBack, BlocksAreAppended, BlocksKeepNamespaces, EmptyIsNamespace, JustOneCase, RefusedChangesNothing, ReportsEveryZone, StepsKeepNamespaces, WrittenReadsBack};
@@ -98,4 +99,10 @@ pub fn lying_blocks_are_read()
     ensures lying { LyingIsRead }
     ensures appended { AppendedStays }
     ensures written { WrittenStays }
+{}
+
+/// A Write, an Append or an action is refused on a zone that an active run appends to, and Reset and Offline on one
+/// that a run reads from, of one zone and of all: with Zone Held where its data and its address are right.
+pub fn held_commands_are_refused()
+    ensures { HeldCommandsAreRefused }
 {}
