@@ -7,6 +7,8 @@ pub mod laws;
 mod lines;
 mod number;
 mod parts;
+#[cfg(test)]
+mod tests;
 
 pub use excerpt::Excerpt;
 pub use lines::{first_line, is_all_ascii, line_behind, without_comment};
