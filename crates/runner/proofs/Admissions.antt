@@ -16,7 +16,7 @@ use Rattle.pushdown.specs.Admission.{Loaded, address_checks, destination_checks,
 use Rattle.pushdown.specs.Answers.{Submission}
 use Rattle.pushdown.specs.Machine.{why_not_run}
 use Rattle.pushdown.specs.State.{program_at}
-use Rattle.runner.specs.Admitting.{ArePlaces}
+use Rattle.runner.specs.steps.Admitting.{ArePlaces}
 use Rattle.runner.specs.Held.{loaded_slot, held_by, device_state}
 use Rattle.runner.specs.Ready.{IsReady}
 use Rattle.runner.specs.declared.active_run.Active.{Active as Held}

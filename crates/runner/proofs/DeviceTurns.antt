@@ -23,10 +23,10 @@ use Rattle.device_events.specs.declared.event.Event.TheVariants as event
 use Rattle.device_events.specs.declared.reply.Reply.{Reply}
 use Rattle.device_events.specs.declared.reply.Reply.TheVariants as reply
 use Rattle.pushdown.proofs.Proved.{events_keep_for_runs}
-use Rattle.runner.specs.Answered.{complete_reply}
+use Rattle.runner.specs.steps.Answered.{complete_reply}
 use Rattle.runner.specs.Held.{active_of, loaded_slot, loaded_of, running, device_state}
 use Rattle.runner.specs.Ready.{Fits, IsFor, IsReached, IsReady, IsRunning}
-use Rattle.runner.specs.Turning.{FitsAt, FitsIn, FitsOn, GoesOn, HasEnded, IsTurned, Keeps, SlotTurned}
+use Rattle.runner.specs.steps.Turning.{FitsAt, FitsIn, FitsOn, GoesOn, HasEnded, IsTurned, Keeps, SlotTurned}
 use Rattle.runner.specs.declared.active_run.Active.{Active as Held}
 use Rattle.runner.specs.declared.loaded_program.LoadedProgram.{LoadedProgram}
 use Rattle.runner.proofs.MayBeThere.{Where, found, still_some, was_set}

@@ -22,9 +22,9 @@ use Rattle.pushdown.specs.Machine.{judged, just_loaded, load_checks, load_unless
 use Rattle.pushdown.specs.Outcome.{rest}
 use Rattle.pushdown.specs.State.{Place, State, in_use, uses, with_slot}
 use Rattle.pushdown.specs.View.{Active, place_of, seen, to_come}
-use Rattle.runner.specs.Answered.{HasLoaded}
+use Rattle.runner.specs.steps.Answered.{HasLoaded}
 use Rattle.runner.specs.Held.{loaded_slot, running, device_state}
-use Rattle.runner.specs.Loading.{IsLoadable, IsNotAccepted, uses_slot}
+use Rattle.runner.specs.steps.Loading.{IsLoadable, IsNotAccepted, uses_slot}
 use Rattle.runner.specs.Ready.{IsFor, IsReady}
 use Rattle.runner.specs.declared.active_run.Active.{Active as Held}
 use Rattle.runner.specs.declared.loaded_program.LoadedProgram.{LoadedProgram}

@@ -6,7 +6,7 @@ use Rattle.program_interface.specs.declared.context.Context.{Context}
 use Rattle.image_store.specs.Namespace.{ZonedNamespace}
 use Rattle.pushdown.specs.View.{Active}
 use Rattle.pushdown.specs.BlockRuns.{run_over}
-use Rattle.runner.specs.Turning.{next_block, next_run}
+use Rattle.runner.specs.steps.Turning.{next_block, next_run}
 
 -- what a run is told of the block that is next
 abbrev next_context : ZonedNamespace → Active → Context

@@ -13,7 +13,7 @@ use Rattle.pushdown.specs.State.{State, new_state}
 use Rattle.device_events.specs.declared.event.Event.{Event}
 use Rattle.device_events.specs.declared.event.Event.TheVariants as event
 use Rattle.pushdown.proofs.Proved.{events_join, in_parts}
-use Rattle.runner.specs.Answered.{HasSubmitted}
+use Rattle.runner.specs.steps.Answered.{HasSubmitted}
 use Rattle.runner.specs.Ready.{IsReached}
 
 -- one more event leaves a state that events leave

@@ -14,7 +14,7 @@ use Rattle.pushdown.specs.Machine.{submitted}
 use Rattle.pushdown.specs.State.{State}
 use Rattle.device_events.specs.declared.reply.Reply.{Reply}
 use Rattle.device_events.specs.declared.reply.Reply.TheVariants as reply
-use Rattle.runner.specs.Answered.{HasSubmitted, answered, complete_reply}
+use Rattle.runner.specs.steps.Answered.{HasSubmitted, answered, complete_reply}
 
 module _ (sub : Submission) (asked : Result Command Status) (old new : State) (starved : Bool) (answer : Answer) (r : Reply) where
   -- an answer with its bytes, as a reply and the bytes in front

@@ -14,8 +14,8 @@ use Rattle.pushdown.specs.State.{Place, State, free_run, with_place}
 use Rattle.pushdown.specs.View.{begun, place_of, seen}
 use Rattle.device_events.specs.declared.reply.Reply.TheVariants as reply
 use Rattle.pushdown.proofs.Proved.{seen_at_admission}
-use Rattle.runner.specs.Admitting.{IsAdmission}
-use Rattle.runner.specs.Answered.{Refuses, Starts}
+use Rattle.runner.specs.steps.Admitting.{IsAdmission}
+use Rattle.runner.specs.steps.Answered.{Refuses, Starts}
 use Rattle.runner.specs.Held.{active_of, loaded_slot, held_by, new_active, running, device_state}
 use Rattle.runner.specs.Ready.{IsReady, IsRunning}
 use Rattle.runner.specs.declared.active_run.Active.{Active as Held}

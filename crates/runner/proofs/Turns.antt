@@ -24,8 +24,8 @@ use Rattle.pushdown.specs.Outcome.{Ending, Progress, Turn, appended_by, behind, 
 use Rattle.pushdown.specs.View.{Active, to_come, turns_of}
 use Rattle.pushdown.proofs.Proved.{blocks_leave_others, rest_ends, rest_goes_on, room_is_open, room_stays}
 use Rattle.runner.specs.Held.{active_of}
-use Rattle.runner.specs.Ran.{HasRun}
-use Rattle.runner.specs.Turning.{FitsOn, GoesOn, HasEnded, HasRoom, next_block, next_run, with_packer, with_scratch}
+use Rattle.runner.specs.steps.Ran.{HasRun}
+use Rattle.runner.specs.steps.Turning.{FitsOn, GoesOn, HasEnded, HasRoom, next_block, next_run, with_packer, with_scratch}
 use Rattle.runner.specs.declared.active_run.Active.{Active as Held}
 use Rattle.runner.proofs.Appends.{added_both}
 

@@ -1,10 +1,6 @@
-pub mod Admitting
-pub mod Answered
 pub mod Held
-pub mod Laws
-pub mod Loading
-pub mod Ran
-pub mod ReadBack
 pub mod Ready
 pub mod Runs
-pub mod Turning
+pub mod ReadBack
+pub mod Laws
+pub mod steps

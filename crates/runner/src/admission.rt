@@ -3,8 +3,8 @@
 ghost use Rattle.std.specs.Prelude.{◌≡◌, ◌<◌, ◌+◌, ◌^◌, length, get_or, position, is_some, is_none, None, Option, IfOk, IfErr, OnOk, OnErr};
 ghost use Rattle.zone_state.specs.Checks.{first_failed};
 ghost use Rattle.pushdown.specs.Admission.{address_checks, destination_checks, run_refusal, source_checks};
-ghost use Rattle.runner.specs.Admitting.{ArePlaces, AreWritten, IsAdmission};
-ghost use Rattle.runner.specs.Answered.{Refuses, Starts};
+ghost use Rattle.runner.specs.steps.Admitting.{ArePlaces, AreWritten, IsAdmission};
+ghost use Rattle.runner.specs.steps.Answered.{Refuses, Starts};
 ghost use Rattle.runner.specs.Held.{loaded_slot, held_by, device_state};
 ghost use Rattle.runner.specs.Ready.{IsReady};
 ghost use Rattle.zns_commands.specs.Address.{lowest_checks, zone_block_in, range_check, zone_number, IsZoneBlock};

@@ -2,7 +2,7 @@
 
 ghost use Rattle.std.specs.Prelude.{◌≡◌, ◌<◌, ◌≤◌, ◌^◌, length, take};
 ghost use Rattle.pushdown.specs.BlockRuns.{run_over};
-ghost use Rattle.runner.specs.Ran.{HasRun};
+ghost use Rattle.runner.specs.steps.Ran.{HasRun};
 
 use interp::{Exit, Machine};
 use program_interface::{CONTEXT_BYTES, SCRATCH_BYTES};

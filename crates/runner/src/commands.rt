@@ -2,7 +2,7 @@
 
 ghost use Rattle.std.specs.Prelude.{◌≡◌, ◌≤◌, ◌++◌, drop, length, List, Option};
 ghost use Rattle.image_store.specs.Namespace.{ZonedNamespace};
-ghost use Rattle.runner.specs.Answered.{GivesResult, complete_reply};
+ghost use Rattle.runner.specs.steps.Answered.{GivesResult, complete_reply};
 ghost use Rattle.runner.specs.Held.{device_state};
 ghost use Rattle.runner.specs.declared.active_run.Active.{Active as Held};
 

@@ -6,7 +6,7 @@ ghost use Rattle.nvme_entry.specs.Entry.{decoded, identifier_of};
 ghost use Rattle.nvme_entry.specs.declared.command.Command.TheVariants as command;
 ghost use Rattle.device_events.specs.Replies.{data_length};
 ghost use Rattle.pushdown.specs.Answers.{plain};
-ghost use Rattle.runner.specs.Answered.{HasExecuted, HasSubmitted, complete_reply, told_by};
+ghost use Rattle.runner.specs.steps.Answered.{HasExecuted, HasSubmitted, complete_reply, told_by};
 ghost use Rattle.runner.specs.Held.{device_state};
 ghost use Rattle.runner.specs.Ready.{IsReady};
 

@@ -8,9 +8,9 @@ ghost use Rattle.device_events.specs.Replies.{data_length};
 ghost use Rattle.pushdown.specs.BlockRuns.{scratch_after};
 ghost use Rattle.pushdown.specs.Machine.{added};
 ghost use Rattle.runner.specs.Held.{active_of, device_state};
-ghost use Rattle.runner.specs.Ran.{HasRun};
+ghost use Rattle.runner.specs.steps.Ran.{HasRun};
 ghost use Rattle.runner.specs.Ready.{Fits, IsReady, IsReached};
-ghost use Rattle.runner.specs.Turning.{FitsAt, FitsIn, FitsOn, HasRoom, IsTaking, IsTurned, Keeps, PlaceTurned, SlotTurned, Turned, next_block, next_run, with_packer, with_scratch};
+ghost use Rattle.runner.specs.steps.Turning.{FitsAt, FitsIn, FitsOn, HasRoom, IsTaking, IsTurned, Keeps, PlaceTurned, SlotTurned, Turned, next_block, next_run, with_packer, with_scratch};
 
 use crate::active_run::Active;
 use crate::block_run::run_block;

@@ -1,7 +1,7 @@
 use Rattle.std.proofs.Common.{◌<◌, ◌≤◌, ◌+◌, length, subst, arith}
 use Rattle.std.proofs.lemmas.Bool.Decides.{nat_tests}
 use Rattle.emit_append.proofs.Proved.{lending_is_putting}
-use Rattle.runner.specs.Turning.{HasRoom}
+use Rattle.runner.specs.steps.Turning.{HasRoom}
 use Rattle.runner.proofs.turn.put.Goals as goal
 
 pub release-requires-clause-room : goal.release-requires-clause-room

@@ -2,8 +2,8 @@ use Rattle.std.proofs.Common.{◌≡◌, take, ap, sym, subst, ◌∙◌}
 use Rattle.program_meaning.specs.Run.{Run}
 use Rattle.image_store.specs.Geometry.{Shape}
 use Rattle.runner.specs.Held.{active_of}
-use Rattle.runner.specs.Ran.{HasRun}
-use Rattle.runner.specs.Turning.{with_scratch}
+use Rattle.runner.specs.steps.Ran.{HasRun}
+use Rattle.runner.specs.steps.Turning.{with_scratch}
 use Rattle.runner.proofs.Nexts.{run_is, told_is}
 use Rattle.runner.proofs.turn.run_next.Goals as goal
 

@@ -12,7 +12,7 @@ use Rattle.zns_commands.specs.declared.answer.Answer.{Answer}
 use Rattle.pushdown.specs.Answers.{Submission}
 use Rattle.pushdown.specs.Machine.{load_checks, load_unless, sizes_for}
 use Rattle.pushdown.specs.State.{State}
-use Rattle.runner.specs.Answered.{answered}
+use Rattle.runner.specs.steps.Answered.{answered}
 use Rattle.runner.specs.declared.active_run.Active.{Active as Held}
 
 -- does an active run use the program of a slot?
