@@ -16,7 +16,12 @@ use nvme_entry::{BlockCount, MOST_TRANSFER, Status, put_front};
 use zone_state::ZoneState;
 
 /// The checks of a read: where it begins.
-fn check_read(image: &Image, lba: u64, blocks: BlockCount, input: &[u8]) -> Result<ZoneBlock, Status>
+fn check_read(
+    image: &Image,
+    lba: u64,
+    blocks: BlockCount,
+    input: &[u8],
+) -> Result<ZoneBlock, Status>
     ensures value { result ≡ unless_failed (first_failed (read_checks image.now lba blocks input.now)) (zone_block_in image.now lba) }
     ensures inside { IfOk result (λ place. place.zone < length image.now.zones) }
     ensures most { OnOk result (blocks * image.now.block ≤ MOST_TRANSFER) }
