@@ -58,14 +58,14 @@ fn try_load(
     ensures err { IfErr result (λ answer. (slots : List (Option LoadedProgram)) → let s = device_state namespace.now slots runs.now in HasLoaded command.now input.now s s answer) }
     ensures no_data { IfErr result (λ answer. answer.length ≡ 0) }
 {
-    match check(namespace, runs, command, input) {
+    match check_load(namespace, runs, command, input) {
         Ok(sizes) => read_program(alloc, input, sizes),
         Err(status) => Err(Answer::refused(status)),
     }
 }
 
 /// The sizes of the runs that a Load asks for, or the status that refuses it.
-fn check(
+fn check_load(
     namespace: &Namespace,
     runs: &[Option<Active>; RUNS],
     command: &LoadCommand,
