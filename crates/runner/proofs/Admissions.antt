@@ -50,8 +50,8 @@ last_decides ns holds place_free slot order input source destination blocks no_i
     ++ destination_checks ns holds (destination_zone ns order) (need order.blocks (sizes_in ns slot)))
     ∙ ap (λ (rest : Option Status). or_else (first_failed (address_checks ns order)) (or_else (demand place_free NO_RUN_FREE) rest))
     (joined (source_checks ns (zone_block_in ns order.lba) order.blocks) (destination_checks ns holds (destination_zone ns order) (need order.blocks (sizes_in ns slot))))) in
-    let from_none : from ≡ None = ap (λ (p : ZoneBlock). first_failed (source_checks ns p order.blocks)) (sym places.source_is) ∙ sources in
-    ap (λ (z : ℕ). first_failed (destination_checks ns holds z blocks)) places.destination_is
+    let from_none : from ≡ None = ap (λ (p : ZoneBlock). first_failed (source_checks ns p order.blocks)) (sym places.reads.is) ∙ sources in
+    ap (λ (z : ℕ). first_failed (destination_checks ns holds z blocks)) (ap (λ (b : ZoneBlock). b.zone) places.appends.is)
     ∙ ap (λ (n : ℕ). first_failed (destination_checks ns holds (destination_zone ns order) n)) enough
     ∙ sym (parts
     ∙ ap (λ (b : Bool). or_else (demand b INVALID_FIELD_IN_COMMAND) (or_else (demand (is_some slot) NO_SUCH_PROGRAM)

@@ -6,6 +6,7 @@ use Rattle.std.proofs.lemmas.Bool.Decides.{eqb_tells}
 use Rattle.zone_state.specs.declared.status.Status.{Status}
 use Rattle.nvme_entry.specs.declared.command.RunCommand.{RunCommand}
 use Rattle.image_store.specs.Namespace.{ZonedNamespace}
+use Rattle.image_store.specs.declared.geometry.ZoneBlock.{ZoneBlock}
 use Rattle.pushdown.specs.Admission.{run_refusal}
 use Rattle.pushdown.specs.Answers.{Submission, plain}
 use Rattle.pushdown.specs.Machine.{start_by}
@@ -72,14 +73,14 @@ module _ (ns : ZonedNamespace) (slots : List (Option LoadedProgram)) (runs : Lis
         loaded = at.1;
         accepted = ready.programs order.slot at.0 at.1;
         fits = record {
-          source = is.places.source_is;
-          destination = is.places.destination_is;
+          source = is.places.reads.is;
+          destination = ap (λ (b : ZoneBlock). b.zone) is.places.appends.is;
           other = is.places.other;
           left = is.some;
           most = is.most;
           written = is.written;
           small = is.small;
-          address = is.places.address;
+          address = is.places.reads.small;
           packer = same;
           frames = omega arith;
           appended = omega arith;

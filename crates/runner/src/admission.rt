@@ -7,7 +7,6 @@ ghost use Rattle.runner.specs.steps.Admitting.{ArePlaces, AreWritten, IsAdmissio
 ghost use Rattle.runner.specs.steps.Answered.{Refuses, Starts};
 ghost use Rattle.runner.specs.Held.{loaded_slot, held_by, device_state};
 ghost use Rattle.runner.specs.Ready.{IsReady};
-ghost use Rattle.zns_commands.specs.Address.{lowest_checks, zone_block_in, range_check, zone_number, IsZoneBlock};
 ghost use Rattle.zns_commands.specs.Resources.{why_not};
 
 use crate::active_run::Active;
@@ -16,7 +15,7 @@ use crate::places::{free_run, holds};
 use emit_append::need;
 use image_store::ZoneBlock;
 use nvme_entry::{BlockCount, PROGRAM_SLOTS, RunCommand, Status};
-use zns_commands::{Holds, Namespace};
+use zns_commands::{Holds, Namespace, first_block, lowest};
 use zone_resources::RUNS;
 use zone_state::ZoneState;
 
@@ -95,43 +94,12 @@ fn places(namespace: &Namespace, order: &RunCommand) -> Result<(ZoneBlock, u32),
     ensures why { why_not result ≡ first_failed (address_checks namespace.now order.now) }
     ensures places { IfOk result (λ found. ArePlaces namespace.now order.now found.0 found.1) }
 {
-    let source = first_block(namespace, order.lba, order.blocks)?;
-    let destination = destination_zone(namespace, order.destination)?;
+    let source = first_block(namespace.image(), order.lba, order.blocks)?;
+    let destination = lowest(namespace.image(), order.destination)?;
     if source.zone == destination {
         return Err(Status::SOURCE_IS_DESTINATION);
     }
     Ok((source, destination))
-}
-
-/// The place of the first of some blocks, all of which the namespace has.
-fn first_block(namespace: &Namespace, lba: u64, blocks: BlockCount) -> Result<ZoneBlock, Status>
-    ensures why { why_not result ≡ range_check namespace.now lba blocks }
-    ensures value { IfOk result (λ place. place ≡ zone_block_in namespace.now lba) }
-    ensures place { IfOk result (IsZoneBlock namespace.now lba) }
-{
-    let geometry = namespace.geometry();
-    let Some(place) = geometry.zone_block(lba) else {
-        return Err(Status::LBA_OUT_OF_RANGE);
-    };
-    if u64::from(blocks.get()) > geometry.blocks() - lba {
-        return Err(Status::LBA_OUT_OF_RANGE);
-    }
-    Ok(place)
-}
-
-/// The zone whose lowest block this is.
-fn destination_zone(namespace: &Namespace, lba: u64) -> Result<u32, Status>
-    ensures why { why_not result ≡ first_failed (lowest_checks namespace.now lba) }
-    ensures value { IfOk result (λ zone. zone ≡ zone_number namespace.now lba) }
-    ensures inside { IfOk result (λ zone. zone < length namespace.now.zones) }
-{
-    let Some(place) = namespace.geometry().zone_block(lba) else {
-        return Err(Status::LBA_OUT_OF_RANGE);
-    };
-    if place.offset != 0 {
-        return Err(Status::INVALID_FIELD_IN_COMMAND);
-    }
-    Ok(place.zone)
 }
 
 /// Tests the blocks that a run is to read: they lie in one zone, and are written.

@@ -11,9 +11,13 @@ use Rattle.image_store.specs.Namespace.{ZonedNamespace, zone_at, counted, block_
 abbrev pub block_total : ZonedNamespace → ℕ
 block_total ns = length ns.zones * ns.size
 
--- the number of the zone that contains a logical block
+-- a logical block as a block of the zone that contains it
+abbrev pub zone_block_in : ZonedNamespace → ℕ → ZoneBlock
+zone_block_in ns lba = record { zone = lba / ns.size; offset = lba % ns.size }
+
+-- the number of that zone
 abbrev pub zone_number : ZonedNamespace → ℕ → ℕ
-zone_number ns lba = lba / ns.size
+zone_number ns lba = (zone_block_in ns lba).zone
 
 -- the logical block that a zone's next write goes to (ZNS 1.1, 2.1.1.2)
 abbrev pub write_pointer : ZonedNamespace → ℕ → ℕ
@@ -52,12 +56,9 @@ lowest_checks ns lba = address_check ns lba ∷ lowest_check ns lba ∷ []
 abbrev pub range_checks : ZonedNamespace → ℕ → ℕ → List (Option Status)
 range_checks ns lba blocks = range_check ns lba blocks ∷ boundary_check ns lba blocks ∷ []
 
--- the zone of a logical block, and the block's place in it
-abbrev pub zone_block_in : ZonedNamespace → ℕ → ZoneBlock
-zone_block_in ns lba = record { zone = zone_number ns lba; offset = lba % ns.size }
-
--- what holds of the place of a logical block that the namespace has
+-- where a logical block lies that the namespace has
 pub record IsZoneBlock (ns : ZonedNamespace) (lba : ℕ) (place : ZoneBlock) : Type 0 where
+  pub is : place ≡ zone_block_in ns lba
   pub inside : place.zone < length ns.zones
   pub address : place.zone * ns.size + place.offset ≡ lba
   pub small : lba < 2 ^ 36

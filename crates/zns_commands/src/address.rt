@@ -2,12 +2,17 @@
 
 ghost use Rattle.std.specs.Prelude.{◌≡◌, IfOk};
 ghost use Rattle.zone_state.specs.Checks.{first_failed, unless_failed};
-ghost use Rattle.zns_commands.specs.Address.{lowest_checks, range_checks, zone_number, zone_block_in, IsZoneBlock};
+ghost use Rattle.zns_commands.specs.Address.{lowest_checks, range_check, range_checks, zone_number, zone_block_in, IsZoneBlock};
 
 use image_store::{Image, ZoneBlock};
 use nvme_entry::{BlockCount, Status};
 
-/// The zone whose lowest block is `lba`.
+/// The number of the zone whose lowest block is `lba`.
+///
+/// # Errors
+///
+/// [`Status::LBA_OUT_OF_RANGE`] for a block that the namespace doesn't have, [`Status::INVALID_FIELD_IN_COMMAND`] for one
+/// that isn't the lowest of its zone.
 pub fn lowest(image: &Image, lba: u64) -> Result<u32, Status>
     ensures value { result ≡ unless_failed (first_failed (lowest_checks image.now lba)) (zone_number image.now lba) }
     ensures place { IfOk result (λ zone. IsZoneBlock image.now lba (record { zone = zone; offset = 0 })) }
@@ -21,9 +26,13 @@ pub fn lowest(image: &Image, lba: u64) -> Result<u32, Status>
     Ok(place.zone)
 }
 
-/// Where a range of blocks begins, which lies in one zone.
-pub fn range(image: &Image, lba: u64, blocks: BlockCount) -> Result<ZoneBlock, Status>
-    ensures value { result ≡ unless_failed (first_failed (range_checks image.now lba blocks)) (zone_block_in image.now lba) }
+/// The first of a range of blocks, as a block of its zone.
+///
+/// # Errors
+///
+/// [`Status::LBA_OUT_OF_RANGE`] where the namespace doesn't have all of them.
+pub fn first_block(image: &Image, lba: u64, blocks: BlockCount) -> Result<ZoneBlock, Status>
+    ensures value { result ≡ unless_failed (range_check image.now lba blocks) (zone_block_in image.now lba) }
     ensures place { IfOk result (IsZoneBlock image.now lba) }
 {
     let geometry = image.geometry();
@@ -33,7 +42,20 @@ pub fn range(image: &Image, lba: u64, blocks: BlockCount) -> Result<ZoneBlock, S
     if u64::from(blocks.get()) > geometry.blocks() - lba {
         return Err(Status::LBA_OUT_OF_RANGE);
     }
-    if u64::from(place.offset) + u64::from(blocks.get()) > u64::from(geometry.size()) {
+    Ok(place)
+}
+
+/// The same of a range that lies in one zone.
+///
+/// # Errors
+///
+/// Those of [`first_block`], and [`Status::ZONE_BOUNDARY_ERROR`] where the range goes on into another zone.
+pub fn range(image: &Image, lba: u64, blocks: BlockCount) -> Result<ZoneBlock, Status>
+    ensures value { result ≡ unless_failed (first_failed (range_checks image.now lba blocks)) (zone_block_in image.now lba) }
+    ensures place { IfOk result (IsZoneBlock image.now lba) }
+{
+    let place = first_block(image, lba, blocks)?;
+    if u64::from(place.offset) + u64::from(blocks.get()) > u64::from(image.geometry().size()) {
         return Err(Status::ZONE_BOUNDARY_ERROR);
     }
     Ok(place)

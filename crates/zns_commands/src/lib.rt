@@ -16,6 +16,7 @@ mod tests;
 mod transfer;
 mod write;
 
+pub use address::{first_block, lowest};
 pub use answer::Answer;
 pub use image_store::{Geometry, GeometryFault, Image};
 pub use namespace::Namespace;

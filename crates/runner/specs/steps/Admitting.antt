@@ -3,19 +3,16 @@ use Rattle.std.specs.Prelude.{ℕ, ◌≡◌, ◌≢◌, ◌<◌, ◌≤◌, ◌
 use Rattle.nvme_entry.specs.declared.command.RunCommand.{RunCommand}
 use Rattle.image_store.specs.Namespace.{ZonedNamespace, zone_at}
 use Rattle.image_store.specs.declared.geometry.ZoneBlock.{ZoneBlock}
-use Rattle.zns_commands.specs.Address.{zone_block_in, zone_number}
+use Rattle.zns_commands.specs.Address.{IsZoneBlock}
 use Rattle.runner.specs.declared.active_run.Active.{Active as Held}
 use Rattle.runner.specs.declared.admission.Admitted.{Admitted}
 use Rattle.runner.specs.declared.loaded_program.LoadedProgram.{LoadedProgram}
 
 -- where an order reads and appends
 pub record ArePlaces (ns : ZonedNamespace) (order : RunCommand) (source : ZoneBlock) (destination : ℕ) : Type 0 where
-  pub source_is : source ≡ zone_block_in ns order.lba
-  pub destination_is : destination ≡ zone_number ns order.destination
+  pub reads : IsZoneBlock ns order.lba source
+  pub appends : IsZoneBlock ns order.destination (record { zone = destination; offset = 0 })
   pub other : source.zone ≢ destination
-  pub address : order.lba < 2 ^ 36
-  pub source_inside : source.zone < length ns.zones
-  pub destination_inside : destination < length ns.zones
 
 -- the blocks are written
 abbrev pub AreWritten : ZonedNamespace → ZoneBlock → ℕ → Type 0
