@@ -21,13 +21,9 @@ use Rattle.runner.specs.Held.{loaded_slot, held_by, device_state}
 use Rattle.runner.specs.Ready.{IsReady}
 use Rattle.runner.specs.declared.active_run.Active.{Active as Held}
 use Rattle.runner.specs.declared.loaded_program.LoadedProgram.{LoadedProgram}
+use Rattle.runner.proofs.Checked.{joined}
 use Rattle.runner.proofs.Holding.{holds_are}
 use Rattle.runner.proofs.Numbers.{free_is}
-
-joined : (first rest : List (Option Status)) → first_failed (first ++ rest) ≡ or_else (first_failed first) (first_failed rest)
-joined [] rest = refl
-joined (None ∷ first) rest = joined first rest
-joined (Some status ∷ first) rest = refl
 
 passes : (first rest : Option Status) → first ≡ None → or_else first rest ≡ rest
 passes first rest none = rw none refl

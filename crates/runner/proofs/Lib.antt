@@ -1,6 +1,7 @@
 pub mod Arrays
 pub mod Admissions
 pub mod Appends
+pub mod Checked
 pub mod DeviceTurns
 pub mod Drains
 pub mod Holding

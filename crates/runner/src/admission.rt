@@ -15,7 +15,7 @@ use crate::places::{free_run, holds};
 use emit_append::need;
 use image_store::ZoneBlock;
 use nvme_entry::{BlockCount, PROGRAM_SLOTS, RunCommand, Status};
-use zns_commands::{Holds, Namespace, first_block, lowest};
+use zns_commands::{Holds, Namespace, check_transfer, first_block, lowest};
 use zone_resources::RUNS;
 use zone_state::ZoneState;
 
@@ -69,9 +69,7 @@ fn admit(
     ensures why { why_not result ≡ run_refusal namespace.now (held_by runs.now) (is_some (position is_none runs.now)) (loaded_slot (get_or slots.now order.now.slot None)) order.now input.now }
     ensures admission { IfOk result (IsAdmission namespace.now slots.now runs.now order.now) }
 {
-    if !input.is_empty() {
-        return Err(Status::INVALID_FIELD_IN_COMMAND);
-    }
+    check_transfer(0, 0, input)?;
     let Some(loaded) = &slots[order.slot.index()] else {
         return Err(Status::NO_SUCH_PROGRAM);
     };

@@ -10,7 +10,7 @@ use crate::loaded_program::LoadedProgram;
 use device_events::Reply;
 use nvme_entry::{Completion, PROGRAM_SLOTS, ProgramSlot, Status};
 use program_interface::SCRATCH_BYTES;
-use zns_commands::Answer;
+use zns_commands::{Answer, check_transfer};
 
 /// Puts scratch bytes at the front.
 fn put_front(output: &mut [u8], scratch: &[u8; SCRATCH_BYTES])
@@ -33,8 +33,8 @@ pub fn give_result(
     ensures rest { drop result.length output.new ≡ drop result.length output.old }
     ensures within { result.length ≤ length output.new }
 {
-    if !input.is_empty() {
-        return Answer::refused(Status::INVALID_FIELD_IN_COMMAND);
+    if let Err(status) = check_transfer(0, 0, input) {
+        return Answer::refused(status);
     }
     match &slots[slot.index()] {
         None => Answer::refused(Status::NO_SUCH_PROGRAM),

@@ -15,12 +15,12 @@ use crate::active_run::Active;
 use crate::loaded_program::LoadedProgram;
 use ebpf_decode::{DecodeFault, decode};
 use interval_domain::Intervals;
-use nvme_entry::{LoadCommand, MOST_TRANSFER, PROGRAM_SLOTS, ProgramSlot, Status};
+use nvme_entry::{LoadCommand, PROGRAM_SLOTS, ProgramSlot, Status};
 use program_interface::{MOST_SLOTS, RunSizes};
 use std::alloc::Global;
 use verified_run::Prepared;
 use verifier::{Verified, VerifyFault, verify};
-use zns_commands::{Answer, Namespace};
+use zns_commands::{Answer, Namespace, check_transfer};
 use zone_resources::RUNS;
 
 /// Puts a program into a slot, without a result. Where it is refused, the slot is as it was.
@@ -74,10 +74,8 @@ fn check_load(
     ensures why { (slots : List (Option LoadedProgram)) → why_not result ≡ first_failed (load_checks (device_state namespace.now slots runs.now) command.now input.now) }
     ensures sizes { IfOk result (λ sizes. sizes ≡ record { block = namespace.now.block; limit = command.now.limit }) }
 {
-    let bytes = command.bytes as usize;
-    if bytes > MOST_TRANSFER || input.len() != bytes {
-        return Err(Status::INVALID_FIELD_IN_COMMAND);
-    }
+    let bytes = u64::from(command.bytes);
+    check_transfer(bytes, bytes, input)?;
     let Some(sizes) = RunSizes::new(namespace.geometry().block(), command.limit) else {
         return Err(Status::INVALID_FIELD_IN_COMMAND);
     };
