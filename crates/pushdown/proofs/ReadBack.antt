@@ -17,9 +17,10 @@ use Rattle.image_store.specs.Blocks.{bytes_of}
 use Rattle.image_store.specs.Namespace.{ZoneBlocks, ZonedNamespace, no_zone, zone_at, IsNamespace}
 use Rattle.image_store.proofs.Proved.{written_is_within}
 use Rattle.zns_commands.specs.Address.{zone_number}
-use Rattle.zns_commands.specs.Answer.{Effect, success_effect}
+use Rattle.zns_commands.specs.Answer.{Effect}
 use Rattle.zns_commands.specs.Meaning.{meaning}
-use Rattle.zns_commands.specs.Read.{read_meaning, read_refusal}
+use Rattle.zns_commands.specs.Laws.{AreRead as GivesBlocks}
+use Rattle.zns_commands.specs.Read.{read_refusal}
 use Rattle.zns_commands.proofs.Proved.{appended_stays, lying_is_read, written_stays}
 use Rattle.zns_commands.specs.Lasting.{Keeps, Lie}
 use Rattle.pushdown.specs.Answers.{Happening, Submission}
@@ -60,7 +61,7 @@ three front more behind = simp length-append
 -- some of a zone's blocks, behind others of them
 pub blocks_read : (ns : ZonedNamespace) (z : ℕ) (front more behind : List (List ℕ)) → IsNamespace ns
     → (zone_at ns z).blocks ≡ front ++ (more ++ behind) → 1 ≤ length more → length more * ns.block ≤ MOST_TRANSFER
-    → read_meaning ns (z * ns.size + length front) (length more) [] ≡ success_effect ns 0 (bytes_of more)
+    → GivesBlocks ns (z * ns.size + length front) (length more) (bytes_of more)
 blocks_read ns z front more behind is there some transfer =
     let all = ap length there ∙ three front more behind in
     let within = inside ns.zones z (omega (arith, all, some)) in
@@ -107,10 +108,10 @@ module _ {D : Type 0} (operations : Operations D) where
   has_blocks (event.Fault zone state) c input is = absurd is
 
   -- what is read of a namespace is read of a device
-  pub reads : (s : State) (lba blocks : ℕ) (bytes : List ℕ) → read_meaning s.namespace lba blocks [] ≡ success_effect s.namespace 0 bytes
+  pub reads : (s : State) (lba blocks : ℕ) (bytes : List ℕ) → GivesBlocks s.namespace lba blocks bytes
       → AreRead operations s lba blocks bytes
   reads s lba blocks bytes is read submits =
-      subst (λ (o : Effect). IsCompleted read.event s o (happens operations s read.starved read.event)) is
+      subst (λ (o : Effect). IsCompleted read.event s o (happens operations s read.starved read.event)) (is (holds_of s))
       (completed read.event (Read lba blocks) [] s read.starved submits)
 
   -- what is left of a zone after a command and after events that don't clear it
@@ -130,7 +131,7 @@ module _ {D : Type 0} (operations : Operations D) where
       let done = meaning ns (holds_of s) c input in
       let last = state_after operations events (happens operations s o.starved o.event).state in
       let keeps = lasts s o c input events (zone_number ns lba) is none in
-      let later = appended_stays ns (holds_of s) lba blocks input last.namespace sound (has_blocks o.event c input is) succeeded keeps (holds_of last) in
+      let later = appended_stays ns (holds_of s) lba blocks input last.namespace sound (has_blocks o.event c input is) succeeded keeps in
       (completed o.event c input s o.starved is, reads last (done.dw0 + done.dw1 * 2 ^ 32) blocks input later)
 
   pub written_reads_back : WrittenReadsBack operations
@@ -139,7 +140,7 @@ module _ {D : Type 0} (operations : Operations D) where
       let c = Write lba blocks in
       let last = state_after operations events (happens operations s o.starved o.event).state in
       let keeps = lasts s o c input events (zone_number ns lba) is none in
-      let later = written_stays ns (holds_of s) lba blocks input last.namespace sound (has_blocks o.event c input is) succeeded keeps (holds_of last) in
+      let later = written_stays ns (holds_of s) lba blocks input last.namespace sound (has_blocks o.event c input is) succeeded keeps in
       (completed o.event c input s o.starved is, reads last lba blocks input later)
 
 -- ---- a part of a list of blocks
@@ -178,8 +179,8 @@ module _ {D : Type 0} (operations : Operations D) where
       let joined = length-append front before in
       let start : z * ns.size + length (front ++ before) ≡ z * ns.size + length front + at = omega (arith, joined, part.start) in
       reads operations s (z * ns.size + length front + at) blocks (bytes_of more)
-      (subst (λ (lba : ℕ). read_meaning ns lba blocks [] ≡ success_effect ns 0 (bytes_of more)) start
-      (subst (λ (n : ℕ). read_meaning ns (z * ns.size + length (front ++ before)) n [] ≡ success_effect ns 0 (bytes_of more)) part.count read))
+      (subst (λ (lba : ℕ). GivesBlocks ns lba blocks (bytes_of more)) start
+      (subst (λ (n : ℕ). GivesBlocks ns (z * ns.size + length (front ++ before)) n (bytes_of more)) part.count read))
 
   pub written_is_read : WrittenIsRead operations
   written_is_read s z at blocks is within some transfer =

@@ -10,7 +10,7 @@ use Rattle.image_store.specs.Namespace.{ZonedNamespace, records}
 use Rattle.zns_commands.specs.Address.{zone_number}
 use Rattle.zns_commands.specs.Answer.{Effect, refused_effect, concluded}
 use Rattle.zns_commands.specs.Held.{HeldCommandsAreRefused, checks_before_holds}
-use Rattle.zns_commands.specs.Laws.{checks_of, effect_of}
+use Rattle.zns_commands.specs.Meaning.{checks_of, effect_of}
 use Rattle.zns_commands.specs.Send.{held_among}
 
 -- a check that fails refuses, where none before it does

@@ -19,7 +19,8 @@ use Rattle.zone_state.specs.State.{is_cleared}
 use Rattle.zns_commands.specs.Address.{zone_number}
 use Rattle.zns_commands.specs.Fault.{fault_answer, faulted_by}
 use Rattle.zns_commands.specs.Left.{Grows, SourcesKeepBlocks}
-use Rattle.zns_commands.specs.Laws.{Commanded, Failed, checks_of, effect_of}
+use Rattle.zns_commands.specs.Laws.{Commanded, Failed}
+use Rattle.zns_commands.specs.Meaning.{checks_of, effect_of}
 use Rattle.zns_commands.specs.Resources.{why_not, closed}
 use Rattle.zns_commands.specs.Send.{send_checks, send_effect, zone_plan, takes, swept}
 use Rattle.zns_commands.specs.Write.{write_plan}

@@ -24,7 +24,8 @@ use Rattle.zns_commands.specs.Address.{zone_number}
 use Rattle.zns_commands.specs.Append.{append_checks}
 use Rattle.zns_commands.specs.Fault.{fault_answer}
 use Rattle.zns_commands.specs.Left.{is_either, touches, DestinationsAreLeft}
-use Rattle.zns_commands.specs.Laws.{Commanded, Failed, checks_of}
+use Rattle.zns_commands.specs.Laws.{Commanded, Failed}
+use Rattle.zns_commands.specs.Meaning.{checks_of}
 use Rattle.zns_commands.specs.Resources.{room_by, room_for, closing_of}
 use Rattle.zns_commands.specs.Send.{send_checks, zone_plan, room_of, takes, held_among}
 use Rattle.zns_commands.specs.Write.{write_checks}

@@ -1,22 +1,12 @@
 -- That each command comes to its effect, or is refused.
-use Rattle.std.proofs.Common.{◌≡◌, ℕ, List, Option, Some, None, refl, sym, subst}
+use Rattle.std.proofs.Common.{◌≡◌, ℕ, List, Option, Some, None, refl}
 use Rattle.zone_state.specs.declared.status.Status.{Status}
 use Rattle.zone_resources.specs.declared.holds.Holds.{Holds}
 use Rattle.nvme_entry.specs.declared.command.StandardCommand.{StandardCommand}
-use Rattle.nvme_entry.specs.declared.command.StandardCommand.TheVariants.{Write, Read, Send, Receive, Append}
 use Rattle.zone_state.specs.Checks.{first_failed}
 use Rattle.image_store.specs.Namespace.{ZonedNamespace}
 use Rattle.zns_commands.specs.Answer.{Effect, concluded}
-use Rattle.zns_commands.specs.Meaning.{meaning}
-use Rattle.zns_commands.specs.Laws.{checks_of, effect_of}
-
-meaning_is : (ns : ZonedNamespace) (holds : Holds) (command : StandardCommand) (input : List ℕ)
-    → meaning ns holds command input ≡ concluded (first_failed (checks_of ns holds command input)) ns (effect_of ns holds command input)
-meaning_is ns holds (Write lba blocks) input = refl
-meaning_is ns holds (Read lba blocks) input = refl
-meaning_is ns holds (Send lba action select_all) input = refl
-meaning_is ns holds (Receive lba dwords filter partial) input = refl
-meaning_is ns holds (Append lba blocks) input = refl
+use Rattle.zns_commands.specs.Meaning.{checks_of, effect_of, meaning}
 
 concluded_so : (P : ZonedNamespace → Type 0) (refusal : Option Status) (ns : ZonedNamespace) (effect : Effect)
     → P ns → (refusal ≡ None → P effect.namespace) → P (concluded refusal ns effect).namespace
@@ -28,5 +18,4 @@ pub after_command : (P : ZonedNamespace → Type 0) (ns : ZonedNamespace) (holds
     → P ns → (first_failed (checks_of ns holds command input) ≡ None → P (effect_of ns holds command input).namespace)
     → P (meaning ns holds command input).namespace
 after_command P ns holds command input before done =
-    subst (λ (done : Effect). P done.namespace) (sym (meaning_is ns holds command input))
-    (concluded_so P (first_failed (checks_of ns holds command input)) ns (effect_of ns holds command input) before done)
+    concluded_so P (first_failed (checks_of ns holds command input)) ns (effect_of ns holds command input) before done

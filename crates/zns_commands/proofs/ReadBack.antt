@@ -10,7 +10,7 @@ use Rattle.zone_state.specs.declared.state.ZoneState.{ZoneState}
 use Rattle.zone_state.specs.declared.state.ZoneState.TheVariants.{ExplicitlyOpened, Closed, Full}
 use Rattle.zone_state.specs.declared.status.Status.{Status}
 use Rattle.zone_resources.specs.declared.holds.Holds.{Holds}
-use Rattle.nvme_entry.specs.declared.command.StandardCommand.TheVariants.{Write, Append}
+use Rattle.nvme_entry.specs.declared.command.StandardCommand.TheVariants.{Write, Read, Append}
 use Rattle.nvme_entry.specs.declared.command.TheConstants.{MOST_TRANSFER}
 use Rattle.zone_state.specs.Checks.{demand, first_failed}
 use Rattle.image_store.specs.Blocks.{as_blocks, block_count, bytes_of}
@@ -21,7 +21,7 @@ use Rattle.zns_commands.specs.Lasting.{Keeps, Lie, LyingIsRead, ReadsBack, Reads
 use Rattle.zns_commands.specs.Address.{counted_zone_at, zone_number, block_total, write_pointer}
 use Rattle.zns_commands.specs.Answer.{success_effect, concluded}
 use Rattle.zns_commands.specs.Append.{append_checks, append_effect}
-use Rattle.zns_commands.specs.Read.{read_refusal, blocks_read, read_checks, read_effect, read_meaning}
+use Rattle.zns_commands.specs.Read.{read_refusal, blocks_read, read_checks, read_effect}
 use Rattle.zns_commands.specs.Resources.{room_for, closing_of}
 use Rattle.zns_commands.specs.Write.{write_checks, write_effect, write_plan, written}
 use Rattle.zns_commands.specs.Laws.{after_all, AreRead, AppendedReadsBack, WrittenReadsBack}
@@ -55,7 +55,7 @@ all_pass : (a b c : Bool) (r : Option Status) (s t u : Status) → a ≡ true �
 all_pass a b c r s t u ea eb ec er = rw (ea, eb, ec, er) refl
 
 pub read_back : LyingIsRead
-read_back m z w blocks input h =
+read_back m z w blocks input h holds =
     let lba = z * m.size + w in
     let size = m.size in
     let number : lba / size ≡ z = div-mul-add z size w (omega (arith, h.room, h.some)) in
@@ -160,7 +160,7 @@ reads_later ns holds z blocks input later sound writes keeps any =
     let lie = lie_on m later z w blocks input (written_lie ns holds z blocks input sound writes) keeps in
     let same_size : later.size ≡ ns.size = ap (λ (s : Shape). s.size) (keeps.same_shape ∙ written_shape ns plan input) in
     let address : z * ns.size + w ≡ z * later.size + w = ap (λ (k : ℕ). z * k + w) (sym same_size) in
-    ap (λ (k : ℕ). read_meaning later k blocks []) address ∙ read_back later z w blocks input lie
+    ap (λ (k : ℕ). meaning later any (Read k blocks) []) address ∙ read_back later z w blocks input lie any
 
 pub appended_stays : AppendedStays
 appended_stays ns holds lba blocks input later sound some done =

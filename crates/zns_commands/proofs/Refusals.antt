@@ -1,17 +1,15 @@
 -- That just one case of a command holds, and that a refused command changes nothing.
-use Rattle.std.proofs.Common.{◌≡◌, ◌≢◌, zero, suc, List, [], ◌∷◌, ◌++◌, Option, Some, None, refl, ap, sym, ◌∙◌, arith}
+use Rattle.std.proofs.Common.{◌≡◌, ◌≢◌, ℕ, zero, suc, List, [], ◌∷◌, ◌++◌, Option, Some, None, refl, ap, sym, ◌∙◌, arith}
 use Rattle.std.specs.Prelude.{All}
 use Rattle.zone_state.specs.declared.status.Status.{Status}
 use Rattle.zone_state.specs.declared.status.TheConstants.Status.{SUCCESS}
+use Rattle.zone_resources.specs.declared.holds.Holds.{Holds}
+use Rattle.nvme_entry.specs.declared.command.StandardCommand.{StandardCommand}
 use Rattle.nvme_entry.specs.declared.command.StandardCommand.TheVariants.{Write, Read, Send, Receive, Append}
 use Rattle.zone_state.specs.Checks.{first_failed}
 use Rattle.image_store.specs.Namespace.{ZonedNamespace}
-use Rattle.zns_commands.specs.Answer.{Effect, success_effect, concluded}
-use Rattle.zns_commands.specs.Append.{append_checks, append_effect}
-use Rattle.zns_commands.specs.Read.{read_checks, read_effect}
-use Rattle.zns_commands.specs.Receive.{receive_checks, receive_effect}
-use Rattle.zns_commands.specs.Send.{send_checks, send_effect}
-use Rattle.zns_commands.specs.Write.{write_checks, write_effect}
+use Rattle.zns_commands.specs.Answer.{Effect, concluded}
+use Rattle.zns_commands.specs.Meaning.{checks_of, effect_of}
 use Rattle.zns_commands.specs.Laws.{Passes, IsCase, TakesEffect, IsRefused, JustOneCase, ChangesNothing, RefusedChangesNothing}
 
 none_refused : (checks : List (Option Status)) → All Passes checks → first_failed checks ≡ None
@@ -51,25 +49,9 @@ one_case ns checks effect done (IsRefused passed rest status split all is) =
     is ∙ ap (λ (refusal : Option Status). concluded refusal ns effect) (sym (ap first_failed split ∙ first_is passed rest status all))
 
 pub just_one_case : JustOneCase
-just_one_case ns holds (Write lba blocks) input =
-    let checks = write_checks ns holds lba blocks input in
-    let effect = write_effect ns holds lba input in
-    (some_case ns checks effect, one_case ns checks effect)
-just_one_case ns holds (Read lba blocks) input =
-    let checks = read_checks ns lba blocks input in
-    let effect = read_effect ns lba blocks in
-    (some_case ns checks effect, one_case ns checks effect)
-just_one_case ns holds (Send lba action select_all) input =
-    let checks = send_checks ns holds lba action select_all input in
-    let effect = success_effect (send_effect ns holds lba action select_all) 0 [] in
-    (some_case ns checks effect, one_case ns checks effect)
-just_one_case ns holds (Receive lba dwords filter partial) input =
-    let checks = receive_checks ns lba dwords input in
-    let effect = receive_effect ns lba dwords filter partial in
-    (some_case ns checks effect, one_case ns checks effect)
-just_one_case ns holds (Append lba blocks) input =
-    let checks = append_checks ns holds lba blocks input in
-    let effect = append_effect ns holds lba input in
+just_one_case ns holds command input =
+    let checks = checks_of ns holds command input in
+    let effect = effect_of ns holds command input in
     (some_case ns checks effect, one_case ns checks effect)
 
 -- where no check fails the status is that of the effect
@@ -78,15 +60,13 @@ refused_concluded : (refusal : Option Status) (ns : ZonedNamespace) (effect : Ef
 refused_concluded None ns effect done not_success = absurd (not_success done)
 refused_concluded (Some status) ns effect done not_success = record { namespace = refl; dw0 = refl; dw1 = refl; output = refl }
 
+succeeds : (ns : ZonedNamespace) (holds : Holds) (command : StandardCommand) (input : List ℕ) → (effect_of ns holds command input).status ≡ SUCCESS
+succeeds ns holds (Write lba blocks) input = refl
+succeeds ns holds (Read lba blocks) input = refl
+succeeds ns holds (Send lba action select_all) input = refl
+succeeds ns holds (Receive lba dwords filter partial) input = refl
+succeeds ns holds (Append lba blocks) input = refl
+
 pub refused_changes_nothing : RefusedChangesNothing
-refused_changes_nothing ns holds (Write lba blocks) input =
-    refused_concluded (first_failed (write_checks ns holds lba blocks input)) ns (write_effect ns holds lba input) refl
-refused_changes_nothing ns holds (Read lba blocks) input =
-    refused_concluded (first_failed (read_checks ns lba blocks input)) ns (read_effect ns lba blocks) refl
-refused_changes_nothing ns holds (Send lba action select_all) input =
-    refused_concluded (first_failed (send_checks ns holds lba action select_all input)) ns
-    (success_effect (send_effect ns holds lba action select_all) 0 []) refl
-refused_changes_nothing ns holds (Receive lba dwords filter partial) input =
-    refused_concluded (first_failed (receive_checks ns lba dwords input)) ns (receive_effect ns lba dwords filter partial) refl
-refused_changes_nothing ns holds (Append lba blocks) input =
-    refused_concluded (first_failed (append_checks ns holds lba blocks input)) ns (append_effect ns holds lba input) refl
+refused_changes_nothing ns holds command input =
+    refused_concluded (first_failed (checks_of ns holds command input)) ns (effect_of ns holds command input) (succeeds ns holds command input)

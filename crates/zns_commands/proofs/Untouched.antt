@@ -18,7 +18,8 @@ use Rattle.image_store.specs.Namespace.{ZoneBlocks, ZonedNamespace, no_zone, zon
 use Rattle.zns_commands.specs.Address.{zone_number}
 use Rattle.zns_commands.specs.Fault.{fault_answer, faulted_by}
 use Rattle.zns_commands.specs.Left.{is_either, touches, OthersAreLeft}
-use Rattle.zns_commands.specs.Laws.{Commanded, Failed, effect_of}
+use Rattle.zns_commands.specs.Laws.{Commanded, Failed}
+use Rattle.zns_commands.specs.Meaning.{effect_of}
 use Rattle.zns_commands.specs.Resources.{closed}
 use Rattle.zns_commands.specs.Send.{send_effect, zone_plan, takes, swept, led_to}
 use Rattle.zns_commands.specs.Write.{write_plan, written}

@@ -3,11 +3,10 @@ use Rattle.std.specs.Prelude.{ℕ, true, ◌≡◌, ◌≤◌, ◌+◌, ◌*◌,
 use Rattle.zone_state.specs.State.{is_open}
 use Rattle.zone_state.specs.declared.status.Status.{Status}
 use Rattle.zone_resources.specs.declared.holds.Holds.{Holds}
-use Rattle.zone_state.specs.Checks.{first_failed}
 use Rattle.image_store.specs.Blocks.{block_count}
 use Rattle.image_store.specs.Namespace.{ZonedNamespace, zone_at}
 use Rattle.zns_commands.specs.Address.{zone_number, write_pointer, lowest_checks}
-use Rattle.zns_commands.specs.Answer.{Effect, success_effect, concluded}
+use Rattle.zns_commands.specs.Answer.{Effect, success_effect}
 use Rattle.zns_commands.specs.Transfer.{transfer_checks}
 use Rattle.zns_commands.specs.Write.{zone_write_checks, write_plan, written}
 
@@ -24,10 +23,6 @@ append_checks ns holds lba blocks input =
 abbrev pub append_effect : ZonedNamespace → Holds → ℕ → List ℕ → Effect
 append_effect ns holds lba input =
     let z = zone_number ns lba in success_effect (written ns (write_plan ns holds z) input) (write_pointer ns z) []
-
-abbrev pub append_meaning : ZonedNamespace → Holds → ℕ → ℕ → List ℕ → Effect
-append_meaning ns holds lba blocks input =
-    concluded (first_failed (append_checks ns holds lba blocks input)) ns (append_effect ns holds lba input)
 
 -- a zone takes whole blocks, one or more, without a further check: it is open and has room for them
 pub record TakesBlocks (ns : ZonedNamespace) (z : ℕ) (bytes : List ℕ) : Type 0 where

@@ -9,11 +9,11 @@ use Rattle.nvme_entry.specs.declared.command.TheConstants.{MOST_TRANSFER}
 use Rattle.image_store.specs.Blocks.{bytes_of}
 use Rattle.image_store.specs.Namespace.{ZoneBlocks, ZonedNamespace, no_zone, zone_at, shape, IsNamespace}
 use Rattle.zns_commands.specs.Address.{zone_number}
-use Rattle.zns_commands.specs.Answer.{Effect, success_effect}
+use Rattle.zns_commands.specs.Answer.{Effect}
 use Rattle.zns_commands.specs.Left.{Grows}
 use Rattle.zns_commands.specs.Laws.{Step, after_all, NoneClears, AreRead}
 use Rattle.zns_commands.specs.Meaning.{meaning}
-use Rattle.zns_commands.specs.Read.{read_meaning, read_refusal}
+use Rattle.zns_commands.specs.Read.{read_refusal}
 
 -- ---- growing lists of blocks
 
@@ -73,7 +73,7 @@ pub record Lie (m : ZonedNamespace) (z w blocks : ℕ) (input : List ℕ) : Type
 abbrev pub LyingIsRead : Type 0
 LyingIsRead =
     (m : ZonedNamespace) (z w blocks : ℕ) (input : List ℕ) → Lie m z w blocks input
-    → read_meaning m (z * m.size + w) blocks [] ≡ success_effect m 0 input
+    → AreRead m (z * m.size + w) blocks input
 
 -- what a Read gives later of the blocks that an effect tells
 abbrev pub ReadsBack : ℕ → ZonedNamespace → ℕ → List ℕ → Effect → Type 0

@@ -18,13 +18,9 @@ use Rattle.image_store.specs.Namespace.{ZonedNamespace, zone_at, appended, IsNam
 use Rattle.zone_state.specs.State.{is_cleared}
 use Rattle.zns_commands.specs.Address.{zone_number}
 use Rattle.zns_commands.specs.Answer.{Effect, success_effect, refused_effect}
-use Rattle.zns_commands.specs.Append.{TakesBlocks, append_checks, append_effect}
+use Rattle.zns_commands.specs.Append.{TakesBlocks, append_effect}
 use Rattle.zns_commands.specs.Fault.{faulted}
-use Rattle.zns_commands.specs.Meaning.{meaning}
-use Rattle.zns_commands.specs.Read.{read_checks, read_effect}
-use Rattle.zns_commands.specs.Receive.{receive_checks, receive_effect}
-use Rattle.zns_commands.specs.Send.{send_checks, send_effect}
-use Rattle.zns_commands.specs.Write.{write_checks, write_effect}
+use Rattle.zns_commands.specs.Meaning.{checks_of, effect_of, meaning}
 
 -- what happens to a namespace, under the holds of the active runs: a command with the data beside its
 -- entry, or a fault of a zone
@@ -69,22 +65,6 @@ BlocksAreAppended =
 -- one of which nothing is written is a namespace
 abbrev pub EmptyIsNamespace : Type 0
 EmptyIsNamespace = (s : Shape) → IsShape s → IsNamespace (all_empty s)
-
--- the checks of a command, in their order
-abbrev pub checks_of : ZonedNamespace → Holds → StandardCommand → List ℕ → List (Option Status)
-checks_of ns holds (Write lba blocks) input = write_checks ns holds lba blocks input
-checks_of ns holds (Read lba blocks) input = read_checks ns lba blocks input
-checks_of ns holds (Send lba action select_all) input = send_checks ns holds lba action select_all input
-checks_of ns holds (Receive lba dwords filter partial) input = receive_checks ns lba dwords input
-checks_of ns holds (Append lba blocks) input = append_checks ns holds lba blocks input
-
--- what a command comes to that is not refused
-abbrev pub effect_of : ZonedNamespace → Holds → StandardCommand → List ℕ → Effect
-effect_of ns holds (Write lba blocks) input = write_effect ns holds lba input
-effect_of ns holds (Read lba blocks) input = read_effect ns lba blocks
-effect_of ns holds (Send lba action select_all) input = success_effect (send_effect ns holds lba action select_all) 0 []
-effect_of ns holds (Receive lba dwords filter partial) input = receive_effect ns lba dwords filter partial
-effect_of ns holds (Append lba blocks) input = append_effect ns holds lba input
 
 abbrev pub Passes : Option Status → Type 0
 Passes check = check ≡ None

@@ -1,20 +1,34 @@
 -- The meaning of a command: what it comes to on a namespace, with the data beside its entry.
-use Rattle.std.specs.Prelude.{ℕ, List}
+use Rattle.std.specs.Prelude.{ℕ, List, [], Option}
+use Rattle.zone_state.specs.declared.status.Status.{Status}
+use Rattle.zone_state.specs.Checks.{first_failed}
 use Rattle.zone_resources.specs.declared.holds.Holds.{Holds}
 use Rattle.nvme_entry.specs.declared.command.StandardCommand.{StandardCommand}
 use Rattle.nvme_entry.specs.declared.command.StandardCommand.TheVariants.{Write, Read, Send, Receive, Append}
 use Rattle.image_store.specs.Namespace.{ZonedNamespace}
-use Rattle.zns_commands.specs.Answer.{Effect}
-use Rattle.zns_commands.specs.Append.{append_meaning}
-use Rattle.zns_commands.specs.Read.{read_meaning}
-use Rattle.zns_commands.specs.Receive.{receive_meaning}
-use Rattle.zns_commands.specs.Send.{send_meaning}
-use Rattle.zns_commands.specs.Write.{write_meaning}
+use Rattle.zns_commands.specs.Answer.{Effect, concluded, success_effect}
+use Rattle.zns_commands.specs.Append.{append_checks, append_effect}
+use Rattle.zns_commands.specs.Read.{read_checks, read_effect}
+use Rattle.zns_commands.specs.Receive.{receive_checks, receive_effect}
+use Rattle.zns_commands.specs.Send.{send_checks, send_effect}
+use Rattle.zns_commands.specs.Write.{write_checks, write_effect}
 
--- under the holds of the active runs
+-- the checks of a command, in their order, under the holds of the active runs
+abbrev pub checks_of : ZonedNamespace → Holds → StandardCommand → List ℕ → List (Option Status)
+checks_of ns holds (Write lba blocks) input = write_checks ns holds lba blocks input
+checks_of ns holds (Read lba blocks) input = read_checks ns lba blocks input
+checks_of ns holds (Send lba action select_all) input = send_checks ns holds lba action select_all input
+checks_of ns holds (Receive lba dwords filter partial) input = receive_checks ns lba dwords input
+checks_of ns holds (Append lba blocks) input = append_checks ns holds lba blocks input
+
+-- what a command comes to that is not refused
+abbrev pub effect_of : ZonedNamespace → Holds → StandardCommand → List ℕ → Effect
+effect_of ns holds (Write lba blocks) input = write_effect ns holds lba input
+effect_of ns holds (Read lba blocks) input = read_effect ns lba blocks
+effect_of ns holds (Send lba action select_all) input = success_effect (send_effect ns holds lba action select_all) 0 []
+effect_of ns holds (Receive lba dwords filter partial) input = receive_effect ns lba dwords filter partial
+effect_of ns holds (Append lba blocks) input = append_effect ns holds lba input
+
+-- the first check that fails refuses the command; where none does, it takes effect
 abbrev pub meaning : ZonedNamespace → Holds → StandardCommand → List ℕ → Effect
-meaning ns holds (Write lba blocks) input = write_meaning ns holds lba blocks input
-meaning ns holds (Read lba blocks) input = read_meaning ns lba blocks input
-meaning ns holds (Send lba action select_all) input = send_meaning ns holds lba action select_all input
-meaning ns holds (Receive lba dwords filter partial) input = receive_meaning ns lba dwords filter partial input
-meaning ns holds (Append lba blocks) input = append_meaning ns holds lba blocks input
+meaning ns holds command input = concluded (first_failed (checks_of ns holds command input)) ns (effect_of ns holds command input)

@@ -4,11 +4,10 @@ use Rattle.zone_state.specs.declared.state.ZoneState.{ZoneState}
 use Rattle.zone_state.specs.declared.state.ZoneState.TheVariants.{Offline}
 use Rattle.zone_state.specs.declared.status.Status.{Status}
 use Rattle.zone_state.specs.declared.status.TheConstants.Status.{ZONE_IS_OFFLINE}
-use Rattle.zone_state.specs.Checks.{first_failed}
 use Rattle.image_store.specs.Blocks.{bytes_of}
 use Rattle.image_store.specs.Namespace.{ZonedNamespace, zone_at}
 use Rattle.zns_commands.specs.Address.{zone_number, range_checks}
-use Rattle.zns_commands.specs.Answer.{Effect, success_effect, concluded}
+use Rattle.zns_commands.specs.Answer.{Effect, success_effect}
 use Rattle.zns_commands.specs.Transfer.{transfer_checks}
 
 -- why a zone in this state gives no blocks
@@ -32,7 +31,3 @@ abbrev pub read_effect : ZonedNamespace → ℕ → ℕ → Effect
 read_effect ns lba blocks =
     let zone = zone_at ns (zone_number ns lba) in
     success_effect ns 0 (bytes_of (blocks_read ns.block zone.blocks (lba % ns.size) blocks))
-
-abbrev pub read_meaning : ZonedNamespace → ℕ → ℕ → List ℕ → Effect
-read_meaning ns lba blocks input =
-    concluded (first_failed (read_checks ns lba blocks input)) ns (read_effect ns lba blocks)

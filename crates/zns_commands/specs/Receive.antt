@@ -2,11 +2,10 @@
 use Rattle.std.specs.Prelude.{ℕ, Bool, ◌*◌, ◌++◌, List, [], ◌∷◌, Option}
 use Rattle.zone_state.specs.declared.status.Status.{Status}
 use Rattle.nvme_entry.specs.declared.filter.ZoneFilter.{ZoneFilter}
-use Rattle.zone_state.specs.Checks.{first_failed}
 use Rattle.nvme_entry.specs.Report.{report}
 use Rattle.image_store.specs.Namespace.{ZonedNamespace, records}
 use Rattle.zns_commands.specs.Address.{address_check, zone_number}
-use Rattle.zns_commands.specs.Answer.{Effect, success_effect, concluded}
+use Rattle.zns_commands.specs.Answer.{Effect, success_effect}
 use Rattle.zns_commands.specs.Transfer.{transfer_checks}
 
 -- the checks, in order (the order is profile): the transfer, the address
@@ -20,7 +19,3 @@ receive_checks ns lba dwords input =
 abbrev pub receive_effect : ZonedNamespace → ℕ → ℕ → ZoneFilter → Bool → Effect
 receive_effect ns lba dwords filter partial =
     success_effect ns 0 (report (4 * dwords) (records ns) (zone_number ns lba) ns.size filter partial)
-
-abbrev pub receive_meaning : ZonedNamespace → ℕ → ℕ → ZoneFilter → Bool → List ℕ → Effect
-receive_meaning ns lba dwords filter partial input =
-    concluded (first_failed (receive_checks ns lba dwords input)) ns (receive_effect ns lba dwords filter partial)

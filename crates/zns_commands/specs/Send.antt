@@ -13,10 +13,9 @@ use Rattle.zone_state.specs.declared.status.TheConstants.Status.{TOO_MANY_OPEN_Z
 use Rattle.zone_resources.specs.Counts.{open_count}
 use Rattle.zone_resources.specs.Holds.{refuses}
 use Rattle.zone_resources.specs.declared.holds.Holds.{Holds}
-use Rattle.zone_state.specs.Checks.{demand, first_failed}
+use Rattle.zone_state.specs.Checks.{demand}
 use Rattle.image_store.specs.Namespace.{ZoneBlocks, ZonedNamespace, zone_at, records, IsWithinLimits, arrived, with_state}
 use Rattle.zns_commands.specs.Address.{zone_number, lowest_checks}
-use Rattle.zns_commands.specs.Answer.{Effect, success_effect, concluded}
 use Rattle.zns_commands.specs.Resources.{room_for, why_not, closing_of, closed, CanGiveWay}
 use Rattle.zns_commands.specs.declared.send.ZonePlan.{ZonePlan}
 use Rattle.zns_commands.specs.Transfer.{transfer_checks}
@@ -102,10 +101,6 @@ send_checks ns holds lba action select_all input =
 
 abbrev pub send_effect : ZonedNamespace → Holds → ℕ → Action → Bool → ZonedNamespace
 send_effect ns holds lba action select_all = if select_all then all_effect ns action else zone_effect ns holds lba action
-
-abbrev pub send_meaning : ZonedNamespace → Holds → ℕ → Action → Bool → List ℕ → Effect
-send_meaning ns holds lba action select_all input =
-    concluded (first_failed (send_checks ns holds lba action select_all input)) ns (success_effect (send_effect ns holds lba action select_all) 0 [])
 
 -- the namespace once Select All has gone over its first zones
 abbrev pub swept_below : ZonedNamespace → Action → ℕ → ZonedNamespace

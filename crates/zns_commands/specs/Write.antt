@@ -5,12 +5,12 @@ use Rattle.zone_state.specs.declared.status.Status.{Status}
 use Rattle.zone_state.specs.declared.status.TheConstants.Status.{ZONE_HELD}
 use Rattle.zone_resources.specs.Holds.{is_destination}
 use Rattle.zone_resources.specs.declared.holds.Holds.{Holds}
-use Rattle.zone_state.specs.Checks.{demand, first_failed}
+use Rattle.zone_state.specs.Checks.{demand}
 use Rattle.image_store.specs.Blocks.{block_count}
 use Rattle.image_store.specs.Namespace.{ZonedNamespace, zone_at, appended, IsWithinLimits}
 use Rattle.zns_commands.specs.declared.write.WritePlan.{WritePlan}
 use Rattle.zns_commands.specs.Address.{zone_number, counted_zone_at, range_checks}
-use Rattle.zns_commands.specs.Answer.{Effect, success_effect, concluded}
+use Rattle.zns_commands.specs.Answer.{Effect, success_effect}
 use Rattle.zns_commands.specs.Resources.{room_for, why_not, closing_of, closed, CanGiveWay}
 use Rattle.zns_commands.specs.Transfer.{transfer_checks}
 
@@ -41,10 +41,6 @@ write_checks ns holds lba blocks input =
 
 abbrev pub write_effect : ZonedNamespace → Holds → ℕ → List ℕ → Effect
 write_effect ns holds lba input = success_effect (written ns (write_plan ns holds (zone_number ns lba)) input) 0 []
-
-abbrev pub write_meaning : ZonedNamespace → Holds → ℕ → ℕ → List ℕ → Effect
-write_meaning ns holds lba blocks input =
-    concluded (first_failed (write_checks ns holds lba blocks input)) ns (write_effect ns holds lba input)
 
 -- what holds of a write to a zone that isn't refused
 pub record CanWrite (ns : ZonedNamespace) (at blocks : ℕ) (plan : WritePlan) : Type 0 where

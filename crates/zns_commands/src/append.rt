@@ -1,10 +1,12 @@
 //! Zone Append.
 
 ghost use Rattle.std.specs.Prelude.{◌≡◌, ◌≤◌, ◌<◌, ◌^◌, length, List, ℕ, OnOk, OnErr};
+ghost use Rattle.nvme_entry.specs.declared.command.StandardCommand.TheVariants.{Append};
 ghost use Rattle.zone_state.specs.Checks.{first_failed, unless_failed};
 ghost use Rattle.zns_commands.specs.Address.{IsZoneBlock, zone_number, write_pointer};
 ghost use Rattle.zns_commands.specs.Answer.{effect_of_answer};
-ghost use Rattle.zns_commands.specs.Append.{append_checks, append_meaning};
+ghost use Rattle.zns_commands.specs.Append.{append_checks};
+ghost use Rattle.zns_commands.specs.Meaning.{meaning};
 ghost use Rattle.zns_commands.specs.Write.{write_plan, written};
 
 use crate::address::lowest;
@@ -23,7 +25,7 @@ pub fn append(
     blocks: BlockCount,
     input: &[u8],
 ) -> Answer
-    ensures answer { (bytes : List ℕ) → effect_of_answer result image.new bytes ≡ append_meaning image.old holds.now lba blocks input.now }
+    ensures answer { (bytes : List ℕ) → effect_of_answer result image.new bytes ≡ meaning image.old holds.now (Append lba blocks) input.now }
     ensures no_data { result.length ≡ 0 }
 {
     match try_append(image, holds, lba, blocks, input) {

@@ -1,12 +1,15 @@
 //! Read.
 
 ghost use Rattle.std.specs.Prelude.{◌≡◌, ◌≤◌, ◌<◌, ◌*◌, ◌+◌, ◌-◌, ◌++◌, ◌^◌, length, take, drop, replicate, List, ℕ, IfOk, OnOk};
+ghost use Rattle.zone_resources.specs.declared.holds.Holds.{Holds};
+ghost use Rattle.nvme_entry.specs.declared.command.StandardCommand.TheVariants.{Read};
 ghost use Rattle.image_store.specs.Blocks.{bytes_of};
 ghost use Rattle.image_store.specs.Namespace.{ZonedNamespace, zone_at};
 ghost use Rattle.zone_state.specs.Checks.{first_failed, unless_failed};
 ghost use Rattle.zns_commands.specs.Address.{zone_block_in};
 ghost use Rattle.zns_commands.specs.Answer.{effect_of_answer};
-ghost use Rattle.zns_commands.specs.Read.{read_checks, read_meaning, blocks_read};
+ghost use Rattle.zns_commands.specs.Meaning.{meaning};
+ghost use Rattle.zns_commands.specs.Read.{read_checks, blocks_read};
 
 use crate::address::range;
 use crate::answer::Answer;
@@ -76,7 +79,7 @@ fn give_blocks(image: &Image, place: ZoneBlock, blocks: BlockCount, output: &mut
 /// Gives the data of the blocks from `lba` on. It changes nothing.
 pub fn read(image: &Image, lba: u64, blocks: BlockCount, input: &[u8], output: &mut [u8]) -> Answer
     requires { MOST_TRANSFER ≤ length output.old }
-    ensures answer { effect_of_answer result image.now output.new ≡ read_meaning image.now lba blocks input.now }
+    ensures answer { (holds : Holds) → effect_of_answer result image.now output.new ≡ meaning image.now holds (Read lba blocks) input.now }
     ensures most { result.length ≤ MOST_TRANSFER }
     ensures rest { drop result.length output.new ≡ drop result.length output.old }
 {

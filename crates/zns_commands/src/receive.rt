@@ -2,11 +2,14 @@
 
 ghost use Rattle.std.specs.Prelude.{◌≡◌, ◌≤◌, ◌*◌, ◌++◌, ◌^◌, length, take, drop};
 ghost use Rattle.zone_state.specs.Checks.{first_failed, unless_failed};
+ghost use Rattle.zone_resources.specs.declared.holds.Holds.{Holds};
 ghost use Rattle.nvme_entry.specs.Report.{report};
+ghost use Rattle.nvme_entry.specs.declared.command.StandardCommand.TheVariants.{Receive};
 ghost use Rattle.zns_commands.specs.Address.{zone_number};
 ghost use Rattle.image_store.specs.Namespace.{records};
 ghost use Rattle.zns_commands.specs.Answer.{effect_of_answer};
-ghost use Rattle.zns_commands.specs.Receive.{receive_checks, receive_meaning};
+ghost use Rattle.zns_commands.specs.Meaning.{meaning};
+ghost use Rattle.zns_commands.specs.Receive.{receive_checks};
 
 use crate::answer::Answer;
 use crate::transfer::check_transfer;
@@ -70,7 +73,7 @@ pub fn receive(
     output: &mut [u8],
 ) -> Answer
     requires { MOST_TRANSFER ≤ length output.old }
-    ensures answer { effect_of_answer result image.now output.new ≡ receive_meaning image.now lba dwords filter partial input.now }
+    ensures answer { (holds : Holds) → effect_of_answer result image.now output.new ≡ meaning image.now holds (Receive lba dwords filter partial) input.now }
     ensures most { result.length ≤ MOST_TRANSFER }
     ensures rest { drop result.length output.new ≡ drop result.length output.old }
 {

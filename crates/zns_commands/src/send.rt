@@ -1,12 +1,14 @@
 //! Zone Management Send.
 
 ghost use Rattle.std.specs.Prelude.{true, ◌≡◌, ◌<◌, ◌≤◌, ◌^◌, length, List, ℕ, IfOk, OnOk, OnErr};
+ghost use Rattle.nvme_entry.specs.declared.command.StandardCommand.TheVariants.{Send};
 ghost use Rattle.zone_state.specs.Checks.{first_failed, unless_failed};
 ghost use Rattle.image_store.specs.declared.geometry.TheConstants.{MOST_ZONES};
 ghost use Rattle.image_store.specs.Namespace.{zone_at, with_zone, records, IsWithinLimits, with_state};
 ghost use Rattle.zns_commands.specs.Answer.{effect_of_answer};
+ghost use Rattle.zns_commands.specs.Meaning.{meaning};
 ghost use Rattle.zns_commands.specs.Resources.{closed};
-ghost use Rattle.zns_commands.specs.Send.{send_meaning, send_checks, send_effect, room_of, zone_checks, zone_plan, zone_effect, all_checks, all_effect, all_fit, swept, takes, held_among, taken_among, CanMove};
+ghost use Rattle.zns_commands.specs.Send.{send_checks, send_effect, room_of, zone_checks, zone_plan, zone_effect, all_checks, all_effect, all_fit, swept, takes, held_among, taken_among, CanMove};
 
 use crate::address::lowest;
 use crate::answer::Answer;
@@ -179,7 +181,7 @@ pub fn send(
     select_all: bool,
     input: &[u8],
 ) -> Answer
-    ensures answer { (bytes : List ℕ) → effect_of_answer result image.new bytes ≡ send_meaning image.old holds.now lba action select_all input.now }
+    ensures answer { (bytes : List ℕ) → effect_of_answer result image.new bytes ≡ meaning image.old holds.now (Send lba action select_all) input.now }
     ensures no_data { result.length ≡ 0 }
 {
     match try_send(image, holds, lba, action, select_all, input) {

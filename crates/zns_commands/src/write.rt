@@ -1,12 +1,14 @@
 //! Writing to a zone, and Write.
 
 ghost use Rattle.std.specs.Prelude.{◌≡◌, ◌≤◌, ◌<◌, ◌*◌, ◌^◌, length, List, ℕ, IfOk, OnOk, OnErr};
+ghost use Rattle.nvme_entry.specs.declared.command.StandardCommand.TheVariants.{Write};
 ghost use Rattle.image_store.specs.Namespace.{zone_at};
 ghost use Rattle.zone_state.specs.Checks.{first_failed, unless_failed};
 ghost use Rattle.zns_commands.specs.Address.{zone_number};
 ghost use Rattle.zns_commands.specs.Answer.{effect_of_answer};
+ghost use Rattle.zns_commands.specs.Meaning.{meaning};
 ghost use Rattle.zns_commands.specs.Transfer.{transfer_checks};
-ghost use Rattle.zns_commands.specs.Write.{zone_write_checks, write_checks, write_plan, write_meaning, written, CanWrite, IsWhole};
+ghost use Rattle.zns_commands.specs.Write.{zone_write_checks, write_checks, write_plan, written, CanWrite, IsWhole};
 
 use crate::address::range;
 use crate::answer::Answer;
@@ -84,7 +86,7 @@ pub fn put(image: &mut Image, plan: WritePlan, blocks: BlockCount, input: &[u8])
 /// Writes the data from `lba` on, which is the write pointer of its zone. A refused write changes
 /// nothing.
 pub fn write(image: &mut Image, holds: &Holds, lba: u64, blocks: BlockCount, input: &[u8]) -> Answer
-    ensures answer { (bytes : List ℕ) → effect_of_answer result image.new bytes ≡ write_meaning image.old holds.now lba blocks input.now }
+    ensures answer { (bytes : List ℕ) → effect_of_answer result image.new bytes ≡ meaning image.old holds.now (Write lba blocks) input.now }
     ensures no_data { result.length ≡ 0 }
 {
     match try_write(image, holds, lba, blocks, input) {
