@@ -5,9 +5,9 @@ use Rattle.std.specs.Int.{byte_at}
 use Rattle.byteorder.specs.Endian.{little_bytes, little_number}
 use Rattle.byteorder.specs.Numbers.{little_from-bytes, little_number-reads_back}
 use Rattle.zone_state.specs.declared.status.TheConstants.Status.{INVALID_FIELD_IN_COMMAND, INVALID_NAMESPACE_OR_FORMAT}
-use Rattle.zone_state.specs.Checks.{unless_failed, demand, first_failed, or_else}
+use Rattle.zone_state.specs.Checks.{demand, first_failed}
 use Rattle.nvme_entry.specs.Encoding.{HasFields}
-use Rattle.nvme_entry.specs.Entry.{command_of, decoded, decoded_by, field_checks, fuse_of, identifier_of, namespace_of, opcode_of}
+use Rattle.nvme_entry.specs.Entry.{asked, checked, decoded, decoded_by, fuse_of, identifier_of, namespace_of, opcode_of}
 use Rattle.nvme_entry.specs.declared.command.Opcode.{Opcode}
 use Rattle.nvme_entry.specs.declared.encoding.CommandDwords.{CommandDwords}
 
@@ -18,17 +18,23 @@ bytes_of first d = flat_map (little_bytes 4) (first ∷ 1 ∷ 0 ∷ 0 ∷ 0 ∷ 
 again : (n : ℕ) (rest : List ℕ) → n < 2 ^ 32 → little_number 4 (little_bytes 4 n ++ rest) ≡ n
 again n rest h = little_number-reads_back 4 n rest (omega arith)
 
+-- two dwords are one number
+two_again : (low high : ℕ) (rest : List ℕ) → low < 2 ^ 32 → high < 2 ^ 32 → little_number 8 (little_bytes 4 low ++ (little_bytes 4 high ++ rest)) ≡ low + high * 2 ^ 32
+two_again low high rest small large =
+    let first = again low (little_bytes 4 high ++ rest) small in
+    let second = again high rest large in
+    omega (arith, first, second)
+
 byte_is : (place n : ℕ) → byte_at place n ≡ n / 256 ^ place % 256
 byte_is place n = omega (arith, little_from-bytes 1 place n [])
 
 -- no check of all entries fails
 decoded_is : (entry : List ℕ) (opcode : Opcode) → opcode_of (slice_index entry 0) ≡ Some opcode → fuse_of entry ≡ 0 → namespace_of entry ≡ 1
-    → decoded entry ≡ unless_failed (first_failed (field_checks opcode entry)) (command_of opcode entry)
+    → decoded entry ≡ asked opcode entry
 decoded_is entry opcode is_opcode is_fuse is_namespace =
-    let checks = first_failed (field_checks opcode entry) in
     ap (λ (found : Option Opcode). decoded_by found entry) is_opcode
-    ∙ (ap (λ (n : ℕ). unless_failed (or_else (demand (n == 0) INVALID_FIELD_IN_COMMAND) (or_else (demand (namespace_of entry == 1) INVALID_NAMESPACE_OR_FORMAT) checks)) (command_of opcode entry)) is_fuse
-    ∙ ap (λ (n : ℕ). unless_failed (or_else (demand (n == 1) INVALID_NAMESPACE_OR_FORMAT) checks) (command_of opcode entry)) is_namespace)
+    ∙ (ap (λ (n : ℕ). checked (first_failed (demand (n == 0) INVALID_FIELD_IN_COMMAND ∷ demand (namespace_of entry == 1) INVALID_NAMESPACE_OR_FORMAT ∷ [])) (asked opcode entry)) is_fuse
+    ∙ ap (λ (n : ℕ). checked (first_failed (demand (n == 1) INVALID_NAMESPACE_OR_FORMAT ∷ [])) (asked opcode entry)) is_namespace)
 
 -- each dword fits
 pub record AreDwords (d : CommandDwords) : Type 0 where
@@ -55,6 +61,8 @@ bytes_have first code cid opcode d is_first byte half is_opcode fit =
       cdw13 = again d.cdw13 (drop 56 entry) fit.cdw13;
       cdw14 = again d.cdw14 (drop 60 entry) fit.cdw14;
       cdw15 = again d.cdw15 [] fit.cdw15;
+      starting_lba = two_again d.cdw10 d.cdw11 (drop 48 entry) fit.cdw10 fit.cdw11;
+      destination = two_again d.cdw14 d.cdw15 [] fit.cdw14 fit.cdw15;
       low_half = little_from-bytes 2 0 d.cdw12 (drop 50 entry) ∙ omega arith;
       third_byte = byte_is 2 d.cdw12;
       first_of_13 = byte_is 0 d.cdw13 ∙ omega arith;

@@ -1,9 +1,11 @@
+mod Agreeing
 mod Checked
 mod Commands
 mod Encodings
 mod Descriptors
 mod Listings
 mod Reports
+mod Spelled
 mod CompletionFields
 mod Writes
 pub mod Proved

@@ -1,19 +1,18 @@
 -- The fields of a submission queue entry and the command that they name.
-use Rattle.std.specs.Prelude.{ℕ, Bool, ◌+◌, ◌*◌, ◌%◌, ◌^◌, ◌==◌, nat_le, List, [], ◌∷◌, Option, Some, None, Result, if◌then◌else◌, is_some, unwrap_or, slice_index}
+use Rattle.std.specs.Prelude.{ℕ, ◌+◌, ◌*◌, ◌%◌, ◌==◌, nat_le, List, [], ◌∷◌, Option, Some, None, Result, Err, if◌then◌else◌, slice_index}
+use Rattle.std.specs.Option.{ok_or, option_and_then, option_map}
 use Rattle.zone_state.specs.declared.action.Action.{Action}
 use Rattle.zone_state.specs.declared.action.Action.TheVariants as action
 use Rattle.zone_state.specs.declared.status.Status.{Status}
 use Rattle.zone_state.specs.declared.status.TheConstants.Status.{INVALID_COMMAND_OPCODE, INVALID_FIELD_IN_COMMAND, INVALID_NAMESPACE_OR_FORMAT}
-use Rattle.zone_state.specs.Checks.{demand, first_failed, unless_failed}
+use Rattle.zone_state.specs.Checks.{demand, first_failed}
 use Rattle.nvme_entry.specs.declared.command.Opcode.{Opcode}
 use Rattle.nvme_entry.specs.declared.command.Opcode.TheVariants as opcode
 use Rattle.nvme_entry.specs.declared.command.Command.{Command}
 use Rattle.nvme_entry.specs.declared.command.Command.TheVariants as command
-use Rattle.nvme_entry.specs.declared.command.LoadCommand.{LoadCommand}
-use Rattle.nvme_entry.specs.declared.command.RunCommand.{RunCommand}
 use Rattle.nvme_entry.specs.declared.command.StandardCommand.TheVariants.{Write, Read, Send, Receive, Append}
 use Rattle.nvme_entry.specs.declared.command.TheConstants.{MOST_TRANSFER}
-use Rattle.nvme_entry.specs.declared.filter.ZoneFilter.TheVariants as filter
+use Rattle.nvme_entry.specs.declared.filter.ZoneFilter.{ZoneFilter}
 use Rattle.nvme_entry.specs.Fields.{field, dword}
 use Rattle.nvme_entry.specs.Filter.{filter_of}
 use Rattle.nvme_entry.specs.ProgramSlot.{program_slot_of}
@@ -32,7 +31,7 @@ namespace_of entry = dword entry 1
 
 -- Command Dwords 10 and 11: the starting logical block address
 abbrev pub starting_lba : List ℕ → ℕ
-starting_lba entry = dword entry 10 + dword entry 11 * 2 ^ 32
+starting_lba entry = field entry 40 8
 
 -- Command Dword 12, bits 15:0: the number of logical blocks, which is zero-based
 abbrev pub asked_blocks : List ℕ → ℕ
@@ -60,102 +59,77 @@ action_of code =
     if code == 0x04 then Some action.Reset else
     if code == 0x05 then Some action.Offline else None
 
--- Command Dword 13, bit 8: Select All (ZNS 1.1, figure 46)
-abbrev pub selects_all : List ℕ → Bool
-selects_all entry = slice_index entry 53 % 2 == 1
-
 -- Command Dword 12: the number of dwords, which is zero-based (ZNS 1.1, 3.4.2); none where they are more than one command moves
 abbrev pub dwords_of : ℕ → Option ℕ
 dwords_of count = if nat_le (4 * (count + 1)) MOST_TRANSFER then Some (count + 1) else None
 
--- Command Dword 13, bits 7:0: the zone receive action (ZNS 1.1, 3.4.2)
-abbrev pub receive_action : List ℕ → ℕ
-receive_action entry = slice_index entry 52
+-- Command Dword 13: the zone send action in bits 7:0, Select All in bit 8 (ZNS 1.1, figure 46)
+abbrev pub send_of : List ℕ → Option Command
+send_of entry = option_map
+    (λ (what : Action). command.Standard (Send (starting_lba entry) what (slice_index entry 53 % 2 == 1)))
+    (action_of (slice_index entry 52))
 
--- Command Dword 13, bit 16: Partial Report (ZNS 1.1, 3.4.2)
-abbrev pub is_partial : List ℕ → Bool
-is_partial entry = slice_index entry 54 % 2 == 1
+-- Command Dword 12: the number of dwords; Command Dword 13: the zone receive action in bits 7:0, of which 00h, Report Zones, is the
+-- one that there is (profile), its filter in bits 15:8, and Partial Report in bit 16 (ZNS 1.1, 3.4.2)
+abbrev pub receive_of : List ℕ → Option Command
+receive_of entry = option_and_then
+    (λ (dwords : ℕ). if slice_index entry 52 == 0x00
+    then option_map (λ (which : ZoneFilter). command.Standard (Receive (starting_lba entry) dwords which (slice_index entry 54 % 2 == 1))) (filter_of (slice_index entry 53))
+    else None)
+    (dwords_of (dword entry 12))
 
--- Command Dword 12, bits 23:16: the number of the program slot of a Run (profile)
-abbrev pub run_slot : List ℕ → ℕ
-run_slot entry = slice_index entry 50
+-- a Run (profile), which has its source where a Read has what it reads. Command Dword 12, bits 23:16: the program slot; Command
+-- Dword 13: the argument; Command Dwords 14 and 15: the lowest logical block address of the destination
+abbrev pub run_command_of : List ℕ → Option Command
+run_command_of entry = option_map
+    (λ (slot : ℕ). command.Run record {
+      lba = starting_lba entry;
+      blocks = asked_blocks entry;
+      slot = slot;
+      argument = dword entry 13;
+      destination = field entry 56 8;
+    })
+    (program_slot_of (slice_index entry 50))
 
--- Command Dword 10: the number of the program slot of a Load and of a Result (profile)
-abbrev pub slot_number : List ℕ → ℕ
-slot_number entry = dword entry 10
+-- a Load (profile). Command Dword 10: the program slot; Command Dword 11: the most bytes that the program may emit for a block;
+-- Command Dword 12: the number of its bytes, which is not zero-based
+abbrev pub load_of : List ℕ → Option Command
+load_of entry =
+    if nat_le (dword entry 12) MOST_TRANSFER
+    then option_map (λ (slot : ℕ). command.Load record { slot = slot; limit = dword entry 11; bytes = dword entry 12 }) (program_slot_of (dword entry 10))
+    else None
 
--- Command Dword 13: the argument of a Run (profile)
-abbrev pub argument_of : List ℕ → ℕ
-argument_of entry = dword entry 13
+-- a Result (profile). Command Dword 10: the program slot
+abbrev pub result_of : List ℕ → Option Command
+result_of entry = option_map (λ (slot : ℕ). command.Result slot) (program_slot_of (dword entry 10))
 
--- Command Dwords 14 and 15: the lowest logical block address of a Run's destination (profile)
-abbrev pub destination_lba : List ℕ → ℕ
-destination_lba entry = dword entry 14 + dword entry 15 * 2 ^ 32
+-- the command that the fields name, where each has a value that it may have
+abbrev pub command_of : Opcode → List ℕ → Option Command
+command_of opcode.Write entry = Some (command.Standard (Write (starting_lba entry) (asked_blocks entry)))
+command_of opcode.Read entry = Some (command.Standard (Read (starting_lba entry) (asked_blocks entry)))
+command_of opcode.ZoneManagementSend entry = send_of entry
+command_of opcode.ZoneManagementReceive entry = receive_of entry
+command_of opcode.ZoneAppend entry = Some (command.Standard (Append (starting_lba entry) (asked_blocks entry)))
+command_of opcode.Run entry = run_command_of entry
+command_of opcode.Load entry = load_of entry
+command_of opcode.Result entry = result_of entry
 
--- Command Dword 11: the most bytes that the program of a Load may emit for a block (profile)
-abbrev pub emit_limit : List ℕ → ℕ
-emit_limit entry = dword entry 11
+-- that command, or its refusal (profile)
+abbrev pub asked : Opcode → List ℕ → Result Command Status
+asked opcode entry = ok_or (command_of opcode entry) INVALID_FIELD_IN_COMMAND
 
--- Command Dword 12: the number of bytes of a Load's program, which is not zero-based (profile)
-abbrev pub asked_program_bytes : List ℕ → ℕ
-asked_program_bytes entry = dword entry 12
+-- the checks of an entry with an opcode that there is, in order (profile); the one namespace is 1 (profile)
+abbrev pub entry_checks : List ℕ → List (Option Status)
+entry_checks entry = demand (fuse_of entry == 0) INVALID_FIELD_IN_COMMAND ∷ demand (namespace_of entry == 1) INVALID_NAMESPACE_OR_FORMAT ∷ []
 
--- a Run, which has its source where a Read has what it reads
-abbrev pub run_command_of : List ℕ → RunCommand
-run_command_of entry = record {
-  lba = starting_lba entry;
-  blocks = asked_blocks entry;
-  slot = unwrap_or (program_slot_of (run_slot entry)) 0;
-  argument = argument_of entry;
-  destination = destination_lba entry;
-}
-
-abbrev pub load_of : List ℕ → LoadCommand
-load_of entry = record {
-  slot = unwrap_or (program_slot_of (slot_number entry)) 0;
-  limit = emit_limit entry;
-  bytes = asked_program_bytes entry;
-}
-
--- the command that the fields name
-abbrev pub command_of : Opcode → List ℕ → Command
-command_of opcode.Write entry = command.Standard (Write (starting_lba entry) (asked_blocks entry))
-command_of opcode.Read entry = command.Standard (Read (starting_lba entry) (asked_blocks entry))
-command_of opcode.ZoneManagementSend entry =
-    command.Standard (Send (starting_lba entry) (unwrap_or (action_of (slice_index entry 52)) action.Close) (selects_all entry))
-command_of opcode.ZoneManagementReceive entry =
-    command.Standard (Receive (starting_lba entry) (unwrap_or (dwords_of (dword entry 12)) 1) (unwrap_or (filter_of (slice_index entry 53)) filter.All) (is_partial entry))
-command_of opcode.ZoneAppend entry = command.Standard (Append (starting_lba entry) (asked_blocks entry))
-command_of opcode.Run entry = command.Run (run_command_of entry)
-command_of opcode.Load entry = command.Load (load_of entry)
-command_of opcode.Result entry = command.Result (unwrap_or (program_slot_of (slot_number entry)) 0)
-
--- the checks of the fields of a command (profile)
-abbrev pub field_checks : Opcode → List ℕ → List (Option Status)
-field_checks opcode.ZoneManagementSend entry = demand (is_some (action_of (slice_index entry 52))) INVALID_FIELD_IN_COMMAND ∷ []
-field_checks opcode.ZoneManagementReceive entry =
-    demand (is_some (dwords_of (dword entry 12))) INVALID_FIELD_IN_COMMAND
-    ∷ demand (receive_action entry == 0x00) INVALID_FIELD_IN_COMMAND
-    ∷ demand (is_some (filter_of (slice_index entry 53))) INVALID_FIELD_IN_COMMAND
-    ∷ []
-field_checks opcode.Run entry = demand (is_some (program_slot_of (run_slot entry))) INVALID_FIELD_IN_COMMAND ∷ []
-field_checks opcode.Load entry =
-    demand (nat_le (asked_program_bytes entry) MOST_TRANSFER) INVALID_FIELD_IN_COMMAND
-    ∷ demand (is_some (program_slot_of (slot_number entry))) INVALID_FIELD_IN_COMMAND
-    ∷ []
-field_checks opcode.Result entry = demand (is_some (program_slot_of (slot_number entry))) INVALID_FIELD_IN_COMMAND ∷ []
-field_checks _ entry = []
-
--- the checks of an entry alone, in order (profile); the one namespace is 1 (profile)
-abbrev pub entry_checks : Option Opcode → List ℕ → List (Option Status)
-entry_checks found entry =
-    demand (is_some found) INVALID_COMMAND_OPCODE
-    ∷ demand (fuse_of entry == 0) INVALID_FIELD_IN_COMMAND
-    ∷ demand (namespace_of entry == 1) INVALID_NAMESPACE_OR_FORMAT
-    ∷ field_checks (unwrap_or found opcode.Read) entry
+-- what is asked for, where no check fails
+abbrev pub checked : Option Status → Result Command Status → Result Command Status
+checked None found = found
+checked (Some status) found = Err status
 
 abbrev pub decoded_by : Option Opcode → List ℕ → Result Command Status
-decoded_by found entry = unless_failed (first_failed (entry_checks found entry)) (command_of (unwrap_or found opcode.Read) entry)
+decoded_by None entry = Err INVALID_COMMAND_OPCODE
+decoded_by (Some opcode) entry = checked (first_failed (entry_checks entry)) (asked opcode entry)
 
 -- the command of an entry, or the status of the first check that fails
 abbrev pub decoded : List ℕ → Result Command Status

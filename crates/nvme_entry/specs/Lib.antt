@@ -3,6 +3,7 @@ pub mod Completion
 pub mod Descriptor
 pub mod Encoding
 pub mod Entry
+pub mod EntryLaws
 pub mod Fields
 pub mod Filter
 pub mod Laws

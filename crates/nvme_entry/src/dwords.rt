@@ -1,7 +1,7 @@
 //! Dwords of entries.
 
 ghost use Rattle.std.specs.Prelude.{◌≡◌, ◌≤◌, ◌+◌, ◌*◌, length};
-ghost use Rattle.nvme_entry.specs.Fields.{dword};
+ghost use Rattle.nvme_entry.specs.Fields.{dword, field};
 
 use byteorder::{ByteOrder, LittleEndian};
 
@@ -11,4 +11,12 @@ pub(crate) fn dword(entry: &[u8], number: usize) -> u32
     ensures { result ≡ dword entry.now number }
 {
     LittleEndian::read_u32(&entry[4 * number..])
+}
+
+/// The number of the dword with this number and the one behind it, the lower first.
+pub(crate) fn two_dwords(entry: &[u8], number: usize) -> u64
+    requires { 4 * number + 8 ≤ length entry.now }
+    ensures { result ≡ field entry.now (4 * number) 8 }
+{
+    LittleEndian::read_u64(&entry[4 * number..])
 }

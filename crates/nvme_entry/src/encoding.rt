@@ -1,8 +1,7 @@
 //! Submission queue entries, made of the commands that they are to ask for.
 
 ghost use Rattle.std.specs.Prelude.{◌≡◌, ◌+◌, ◌*◌, ◌^◌, ◌≤◌, ◌<◌};
-ghost use Rattle.nvme_entry.specs.Entry.{action_of, asked_blocks, command_of, decoded, field_checks, identifier_of, starting_lba};
-ghost use Rattle.zone_state.specs.Checks.{unless_failed, first_failed};
+ghost use Rattle.nvme_entry.specs.Entry.{action_of, asked, asked_blocks, decoded, identifier_of, starting_lba};
 ghost use Rattle.nvme_entry.specs.Encoding.{program_length, HasFields};
 
 use crate::command::{
@@ -82,7 +81,7 @@ fn encode_standard(command: StandardCommand, cid: u16) -> [u8; 64]
 
 /// The entry of a command that moves blocks.
 fn transfer(opcode: Opcode, lba: u64, blocks: BlockCount, cid: u16) -> [u8; 64]
-    ensures command { decoded result ≡ unless_failed (first_failed (field_checks opcode result)) (command_of opcode result) }
+    ensures command { decoded result ≡ asked opcode result }
     ensures lba { starting_lba result ≡ lba }
     ensures blocks { asked_blocks result ≡ blocks }
     ensures identifier { identifier_of result ≡ cid }

@@ -1,14 +1,13 @@
 //! Submission queue entries.
 
-ghost use Rattle.std.specs.Prelude.{◌≡◌, ◌+◌, ◌*◌, ◌^◌, ◌<◌};
-ghost use Rattle.zone_state.specs.Checks.{unless_failed, first_failed};
-ghost use Rattle.nvme_entry.specs.Entry.{decoded, command_of, field_checks, action_of, identifier_of, starting_lba, asked_blocks, fuse_of, namespace_of};
+ghost use Rattle.std.specs.Prelude.{◌≡◌};
+ghost use Rattle.nvme_entry.specs.Entry.{decoded, asked, action_of, identifier_of, starting_lba, asked_blocks, fuse_of, namespace_of};
 
 use crate::command::{
     BlockCount, Command, DwordCount, LoadCommand, MOST_TRANSFER, Opcode, RunCommand,
     StandardCommand,
 };
-use crate::dwords::dword;
+use crate::dwords::{dword, two_dwords};
 use crate::filter::ZoneFilter;
 use crate::program_slot::ProgramSlot;
 use byteorder::{ByteOrder, LittleEndian};
@@ -52,7 +51,7 @@ impl Entry {
 
     /// The command that the fields of an entry name.
     fn command(opcode: Opcode, entry: &[u8; 64]) -> Result<Command, Status>
-        ensures { result ≡ unless_failed (first_failed (field_checks opcode entry.now)) (command_of opcode entry.now) }
+        ensures { result ≡ asked opcode entry.now }
     {
         let lba = Entry::lba(entry);
         let blocks = Entry::blocks(entry);
@@ -64,7 +63,7 @@ impl Entry {
             Opcode::ZoneManagementReceive => Entry::receive(entry),
             Opcode::Run => Entry::run(entry),
             Opcode::Load => Entry::load(entry),
-            Opcode::Result => Entry::last_result(entry),
+            Opcode::Result => Entry::result(entry),
         }
     }
 
@@ -77,7 +76,7 @@ impl Entry {
 
     /// A Zone Management Send.
     fn send(entry: &[u8; 64]) -> Result<Command, Status>
-        ensures { result ≡ unless_failed (first_failed (field_checks Opcode.ZoneManagementSend entry.now)) (command_of Opcode.ZoneManagementSend entry.now) }
+        ensures { result ≡ asked Opcode.ZoneManagementSend entry.now }
     {
         let lba = Entry::lba(entry);
         let Some(action) = action(entry[52]) else {
@@ -92,7 +91,7 @@ impl Entry {
 
     /// A Zone Management Receive.
     fn receive(entry: &[u8; 64]) -> Result<Command, Status>
-        ensures { result ≡ unless_failed (first_failed (field_checks Opcode.ZoneManagementReceive entry.now)) (command_of Opcode.ZoneManagementReceive entry.now) }
+        ensures { result ≡ asked Opcode.ZoneManagementReceive entry.now }
     {
         let lba = Entry::lba(entry);
         let Some(dwords) = DwordCount::from_zero_based(dword(entry, 12)) else {
@@ -114,7 +113,7 @@ impl Entry {
 
     /// A Run.
     fn run(entry: &[u8; 64]) -> Result<Command, Status>
-        ensures { result ≡ unless_failed (first_failed (field_checks Opcode.Run entry.now)) (command_of Opcode.Run entry.now) }
+        ensures { result ≡ asked Opcode.Run entry.now }
     {
         let Some(slot) = ProgramSlot::new(u32::from(entry[50])) else {
             return Err(Status::INVALID_FIELD_IN_COMMAND);
@@ -124,13 +123,13 @@ impl Entry {
             blocks: Entry::blocks(entry),
             slot,
             argument: dword(entry, 13),
-            destination: two_dwords(dword(entry, 14), dword(entry, 15)),
+            destination: two_dwords(entry, 14),
         }))
     }
 
     /// A Load.
     fn load(entry: &[u8; 64]) -> Result<Command, Status>
-        ensures { result ≡ unless_failed (first_failed (field_checks Opcode.Load entry.now)) (command_of Opcode.Load entry.now) }
+        ensures { result ≡ asked Opcode.Load entry.now }
     {
         let bytes = dword(entry, 12);
         if bytes as usize > MOST_TRANSFER {
@@ -147,8 +146,8 @@ impl Entry {
     }
 
     /// A Result.
-    fn last_result(entry: &[u8; 64]) -> Result<Command, Status>
-        ensures { result ≡ unless_failed (first_failed (field_checks Opcode.Result entry.now)) (command_of Opcode.Result entry.now) }
+    fn result(entry: &[u8; 64]) -> Result<Command, Status>
+        ensures { result ≡ asked Opcode.Result entry.now }
     {
         let Some(slot) = ProgramSlot::new(dword(entry, 10)) else {
             return Err(Status::INVALID_FIELD_IN_COMMAND);
@@ -171,7 +170,7 @@ impl Entry {
     fn lba(entry: &[u8; 64]) -> u64
         ensures { result ≡ starting_lba entry.now }
     {
-        two_dwords(dword(entry, 10), dword(entry, 11))
+        two_dwords(entry, 10)
     }
 
     fn blocks(entry: &[u8; 64]) -> BlockCount
@@ -193,11 +192,4 @@ fn action(code: u8) -> Option<Action>
         0x05 => Some(Action::Offline),
         _ => None,
     }
-}
-
-/// The number of two dwords.
-fn two_dwords(low: u32, high: u32) -> u64
-    ensures { result ≡ low + high * 2 ^ 32 }
-{
-    u64::from(low) + (u64::from(high) << 32)
 }

@@ -2,8 +2,19 @@
 //! it ensures is the law.
 
 ghost use Rattle.nvme_entry.specs.CheckLaws.{DemandedHolds, EachCheckPasses};
+ghost use Rattle.nvme_entry.specs.EntryLaws.{FieldsAreSpelled, OnlyNamedFieldsCount};
 ghost use Rattle.nvme_entry.specs.Laws.{GivesWhatMatches, ListsEveryZone};
 ghost use Rattle.nvme_entry.specs.CompletionFields.{CompletionsTell};
+
+/// The fields of the command that an entry is decoded to are the numbers of the entry's bytes at their places.
+pub fn fields_are_spelled()
+    ensures { FieldsAreSpelled }
+{}
+
+/// Entries that agree in what is named for their opcode are decoded alike, whatever else stands in them.
+pub fn only_named_fields_count()
+    ensures { OnlyNamedFieldsCount }
+{}
 
 /// A completion's 16 bytes give back its dwords, its queue and its command's identifier, and the code and the
 /// type of its status.

@@ -1,16 +1,14 @@
 -- A command that an entry spells has at least one block.
-use Rattle.std.proofs.Common.{◌≡◌, ℕ, zero, suc, ◌≤◌, List, [], ◌∷◌, Option, Some, None, Ok, subst, arith}
-use Rattle.std.specs.Prelude.{All, unwrap_or, slice_index}
-use Rattle.zone_state.specs.declared.status.Status.{Status}
+use Rattle.std.proofs.Common.{◌≡◌, ℕ, zero, suc, ◌+◌, ◌≤◌, List, [], ◌∷◌, Ok, arith}
+use Rattle.std.specs.Prelude.{All}
 use Rattle.zone_resources.specs.declared.holds.Holds.{Holds}
-use Rattle.zone_state.specs.Checks.{unless_failed, first_failed}
-use Rattle.nvme_entry.specs.Entry.{command_of, decoded, entry_checks, opcode_of}
+use Rattle.nvme_entry.specs.Entry.{decoded}
+use Rattle.nvme_entry.specs.Fields.{field}
 use Rattle.nvme_entry.specs.declared.command.Command.{Command}
 use Rattle.nvme_entry.specs.declared.command.Command.TheVariants as command
-use Rattle.nvme_entry.specs.declared.command.Opcode.{Opcode}
-use Rattle.nvme_entry.specs.declared.command.Opcode.TheVariants as opcode
 use Rattle.nvme_entry.specs.declared.command.StandardCommand.{StandardCommand}
 use Rattle.nvme_entry.specs.declared.command.StandardCommand.TheVariants.{Write, Read, Send, Receive, Append}
+use Rattle.nvme_entry.proofs.Proved.{fields_are_spelled}
 use Rattle.image_store.specs.Blocks.{AreBytes}
 use Rattle.zns_commands.specs.Laws.{Commanded, IsSpelled, Step}
 
@@ -24,25 +22,25 @@ HasBlocks (command.Run order) = 1 ≤ order.blocks
 HasBlocks (command.Load load) = Unit {0}
 HasBlocks (command.Result slot) = Unit {0}
 
-named : (o : Opcode) (entry : List ℕ) → HasBlocks (command_of o entry)
-named opcode.Write entry = omega arith
-named opcode.ZoneAppend entry = omega arith
-named opcode.Run entry = omega arith
-named opcode.Read entry = tt
-named opcode.ZoneManagementSend entry = tt
-named opcode.ZoneManagementReceive entry = tt
-named opcode.Load entry = tt
-named opcode.Result entry = tt
-
-allowed_is : (refused : Option Status) (named other : Command) → unless_failed refused named ≡ Ok other → named ≡ other
-allowed_is None named other e = cc
-allowed_is (Some status) named other e = absurd cc
+-- a number that stands zero-based is at least 1
+at_least_one : (n k : ℕ) → n ≡ k + 1 → 1 ≤ n
+at_least_one n k e = omega (arith, e)
 
 pub decoded_has : (entry : List ℕ) (c : Command) → decoded entry ≡ Ok c → HasBlocks c
-decoded_has entry c e =
-    let found = opcode_of (slice_index entry 0) in
-    let o = unwrap_or found opcode.Read in
-    subst HasBlocks (allowed_is (first_failed (entry_checks found entry)) (command_of o entry) c e) (named o entry)
+decoded_has entry (command.Standard (Write lba blocks)) e =
+    let told = fields_are_spelled entry (command.Standard (Write lba blocks)) e in
+    at_least_one blocks (field entry 48 2) told.2.2
+decoded_has entry (command.Standard (Append lba blocks)) e =
+    let told = fields_are_spelled entry (command.Standard (Append lba blocks)) e in
+    at_least_one blocks (field entry 48 2) told.2.2
+decoded_has entry (command.Standard (Read lba blocks)) e = tt
+decoded_has entry (command.Standard (Send lba action select_all)) e = tt
+decoded_has entry (command.Standard (Receive lba dwords filter partial)) e = tt
+decoded_has entry (command.Run order) e =
+    let told = fields_are_spelled entry (command.Run order) e in
+    at_least_one order.blocks (field entry 48 2) told.2.2
+decoded_has entry (command.Load load) e = tt
+decoded_has entry (command.Result slot) e = tt
 
 pub spelled : (holds : Holds) (c : StandardCommand) (input : List ℕ) → HasBlocks (command.Standard c) → AreBytes input
     → IsSpelled (Commanded holds c input)

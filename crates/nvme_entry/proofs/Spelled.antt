@@ -1,0 +1,127 @@
+-- An entry that is decoded spells its command.
+use Rattle.std.proofs.Common.{◌≡◌, ℕ, ◌+◌, ◌*◌, ◌%◌, ◌==◌, nat_le, nat_lt, Bool, true, false, cond, List, [], ◌∷◌, Option, Some, None, Ok, slice_index, refl, ap, subst, ◌∙◌}
+use Rattle.std.specs.Prelude.{Result}
+use Rattle.std.specs.Option.{ok_or, option_and_then, option_map}
+use Rattle.std.proofs.lemmas.Bool.{eqb-true}
+use Rattle.zone_state.specs.declared.action.Action.{Action}
+use Rattle.zone_state.specs.declared.status.Status.{Status}
+use Rattle.zone_state.specs.declared.status.TheConstants.Status.{INVALID_FIELD_IN_COMMAND, INVALID_NAMESPACE_OR_FORMAT}
+use Rattle.zone_state.specs.Checks.{demand, first_failed}
+use Rattle.nvme_entry.specs.Entry.{action_of, asked, asked_blocks, checked, command_of, decoded_by, dwords_of, fuse_of, namespace_of, opcode_of, starting_lba}
+use Rattle.nvme_entry.specs.EntryLaws.{FieldsAreSpelled, Spells}
+use Rattle.nvme_entry.specs.Fields.{dword, field}
+use Rattle.nvme_entry.specs.Filter.{filter_of}
+use Rattle.nvme_entry.specs.ProgramSlot.{program_slot_of}
+use Rattle.nvme_entry.specs.declared.command.Command.{Command}
+use Rattle.nvme_entry.specs.declared.command.Command.TheVariants as command
+use Rattle.nvme_entry.specs.declared.command.Opcode.{Opcode}
+use Rattle.nvme_entry.specs.declared.command.Opcode.TheVariants as opcode
+use Rattle.nvme_entry.specs.declared.command.StandardCommand.TheVariants.{Write, Read, Send, Receive, Append}
+use Rattle.nvme_entry.specs.declared.command.TheConstants.{MOST_TRANSFER}
+use Rattle.nvme_entry.specs.declared.filter.ZoneFilter.{ZoneFilter}
+
+abbrev code : Opcode → ℕ
+code opcode.Write = 0x01
+code opcode.Read = 0x02
+code opcode.ZoneManagementSend = 0x79
+code opcode.ZoneManagementReceive = 0x7A
+code opcode.ZoneAppend = 0x7D
+code opcode.Run = 0xC0
+code opcode.Load = 0xC1
+code opcode.Result = 0xC2
+
+either : (n k : ℕ) (x o : Opcode) (rest : Option Opcode) (test : Bool) → (n == k) ≡ test → k ≡ code x → (rest ≡ Some o → n ≡ code o) → cond test (Some x) rest ≡ Some o → n ≡ code o
+either n k x o rest true is known behind e =
+    let same : x ≡ o = cc in
+    eqb-true n k is ∙ known ∙ ap code same
+either n k x o rest false is known behind e = behind e
+
+row : (n k : ℕ) (x o : Opcode) (rest : Option Opcode) → k ≡ code x → (rest ≡ Some o → n ≡ code o) → cond (n == k) (Some x) rest ≡ Some o → n ≡ code o
+row n k x o rest known behind e = either n k x o rest (n == k) refl known behind e
+
+none : (n : ℕ) (o : Opcode) → None ≡ Some o → n ≡ code o
+none n o e = absurd cc
+
+-- an opcode has one code
+code_told : (n : ℕ) (o : Opcode) → opcode_of n ≡ Some o → n ≡ code o
+code_told n o =
+    row n 0x01 opcode.Write o _ refl
+    (row n 0x02 opcode.Read o _ refl
+    (row n 0x79 opcode.ZoneManagementSend o _ refl
+    (row n 0x7A opcode.ZoneManagementReceive o _ refl
+    (row n 0x7D opcode.ZoneAppend o _ refl
+    (row n 0xC0 opcode.Run o _ refl
+    (row n 0xC1 opcode.Load o _ refl
+    (row n 0xC2 opcode.Result o _ refl (none n o))))))))
+
+one : (P : Command → Type 0) (x c : Command) → P x → Some x ≡ Some c → P c
+one P x c has e =
+    let same : x ≡ c = cc in
+    subst P same has
+
+mapped : {X : Type 0} (P : Command → Type 0) (f : X → Command) (o : Option X) (c : Command) → ((x : X) → o ≡ Some x → P (f x)) → option_map f o ≡ Some c → P c
+mapped P f None c each e = absurd cc
+mapped P f (Some x) c each e = one P (f x) c (each x refl) e
+
+chained : {X : Type 0} (P : Command → Type 0) (f : X → Option Command) (o : Option X) (c : Command) → ((x : X) → o ≡ Some x → f x ≡ Some c → P c) → option_and_then f o ≡ Some c → P c
+chained P f None c each e = absurd cc
+chained P f (Some x) c each e = each x refl e
+
+passed : (P : Command → Type 0) (test : Bool) (found : Option Command) (c : Command) → (test ≡ true → found ≡ Some c → P c) → cond test found None ≡ Some c → P c
+passed P true found c each e = each refl e
+passed P false found c each e = absurd cc
+
+within : (test : Bool) (x y : ℕ) → cond test (Some x) None ≡ Some y → y ≡ x
+within true x y e = cc
+within false x y e = absurd cc
+
+spelled_by : (o : Opcode) (entry : List ℕ) (c : Command) → slice_index entry 0 ≡ code o → command_of o entry ≡ Some c → Spells entry c
+spelled_by opcode.Write entry c is e = one (Spells entry) (command.Standard (Write (starting_lba entry) (asked_blocks entry))) c (is, refl, refl) e
+spelled_by opcode.Read entry c is e = one (Spells entry) (command.Standard (Read (starting_lba entry) (asked_blocks entry))) c (is, refl, refl) e
+spelled_by opcode.ZoneAppend entry c is e = one (Spells entry) (command.Standard (Append (starting_lba entry) (asked_blocks entry))) c (is, refl, refl) e
+spelled_by opcode.ZoneManagementSend entry c is e =
+    mapped (Spells entry) (λ (what : Action). command.Standard (Send (starting_lba entry) what (slice_index entry 53 % 2 == 1))) (action_of (slice_index entry 52)) c
+    (λ what told. (is, refl, told, refl)) e
+spelled_by opcode.ZoneManagementReceive entry c is e =
+    let made = λ (dwords : ℕ) (which : ZoneFilter). command.Standard (Receive (starting_lba entry) dwords which (slice_index entry 54 % 2 == 1)) in
+    chained (Spells entry) (λ (dwords : ℕ). cond (slice_index entry 52 == 0x00) (option_map (made dwords) (filter_of (slice_index entry 53))) None) (dwords_of (dword entry 12)) c
+    (λ dwords count. passed (Spells entry) (slice_index entry 52 == 0x00) (option_map (made dwords) (filter_of (slice_index entry 53))) c
+    (λ reports. mapped (Spells entry) (made dwords) (filter_of (slice_index entry 53)) c
+    (λ which told. (is, refl, within (nat_le (4 * (dword entry 12 + 1)) MOST_TRANSFER) (dword entry 12 + 1) dwords count, eqb-true (slice_index entry 52) 0x00 reports, told, refl))))
+    e
+spelled_by opcode.Run entry c is e =
+    mapped (Spells entry)
+    (λ (slot : ℕ). command.Run record { lba = starting_lba entry; blocks = asked_blocks entry; slot = slot; argument = dword entry 13; destination = field entry 56 8 })
+    (program_slot_of (slice_index entry 50)) c
+    (λ slot told. (is, refl, refl, within (nat_lt (slice_index entry 50) 8) (slice_index entry 50) slot told, refl, refl)) e
+spelled_by opcode.Load entry c is e =
+    let made = λ (slot : ℕ). command.Load record { slot = slot; limit = dword entry 11; bytes = dword entry 12 } in
+    passed (Spells entry) (nat_le (dword entry 12) MOST_TRANSFER) (option_map made (program_slot_of (dword entry 10))) c
+    (λ fits. mapped (Spells entry) made (program_slot_of (dword entry 10)) c
+    (λ slot told. (is, within (nat_lt (dword entry 10) 8) (dword entry 10) slot told, refl, refl)))
+    e
+spelled_by opcode.Result entry c is e =
+    mapped (Spells entry) (λ (slot : ℕ). command.Result slot) (program_slot_of (dword entry 10)) c
+    (λ slot told. (is, within (nat_lt (dword entry 10) 8) (dword entry 10) slot told)) e
+
+past : (a b : Bool) (r : Result Command Status) (c : Command) → checked (first_failed (demand a INVALID_FIELD_IN_COMMAND ∷ demand b INVALID_NAMESPACE_OR_FORMAT ∷ [])) r ≡ Ok c
+    → (a ≡ true) × (b ≡ true) × (r ≡ Ok c)
+past true true r c e = (refl, refl, e)
+past true false r c e = absurd cc
+past false b r c e = absurd cc
+
+given : (found : Option Command) (c : Command) → ok_or found INVALID_FIELD_IN_COMMAND ≡ Ok c → found ≡ Some c
+given None c e = absurd cc
+given (Some x) c e =
+    let same : x ≡ c = cc in
+    ap (λ (y : Command). Some y) same
+
+decoded_as : (entry : List ℕ) (found : Option Opcode) (c : Command) → opcode_of (slice_index entry 0) ≡ found → decoded_by found entry ≡ Ok c
+    → (slice_index entry 1 % 4 ≡ 0) × (field entry 4 4 ≡ 1) × Spells entry c
+decoded_as entry None c is e = absurd cc
+decoded_as entry (Some o) c is e =
+    let told = past (fuse_of entry == 0) (namespace_of entry == 1) (asked o entry) c e in
+    (eqb-true (fuse_of entry) 0 told.0, eqb-true (namespace_of entry) 1 told.1, spelled_by o entry c (code_told (slice_index entry 0) o is) (given (command_of o entry) c told.2))
+
+pub fields_are_spelled : FieldsAreSpelled
+fields_are_spelled entry c e = decoded_as entry (opcode_of (slice_index entry 0)) c refl e
