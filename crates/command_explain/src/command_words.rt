@@ -1,5 +1,6 @@
 //! Commands in words.
 
+use command_files::Counted;
 use nvme_entry::{Command, RunCommand, StandardCommand};
 use std::fmt;
 use zone_state::Action;
@@ -76,18 +77,5 @@ fn action_name(action: Action) -> &'static str {
         Action::Open => "open",
         Action::Reset => "reset",
         Action::Offline => "offline",
-    }
-}
-
-/// So many of something: `1 block`, `2 blocks`.
-#[derive(Clone, Copy)]
-pub(crate) struct Counted(pub(crate) u64, pub(crate) &'static str);
-
-impl fmt::Display for Counted {
-    fn fmt<W: fmt::Write>(&self, f: &mut fmt::Formatter<W>) -> fmt::Result {
-        let number = self.0;
-        let name = self.1;
-        let plural = if number == 1 { "" } else { "s" };
-        write!(f, "{number} {name}{plural}")
     }
 }

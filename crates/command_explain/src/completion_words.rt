@@ -1,7 +1,8 @@
 //! Completions in words.
 
-use crate::command_words::{CommandWords, Counted};
+use crate::command_words::CommandWords;
 use crate::report_words::tell_report;
+use command_files::Counted;
 use nvme_entry::{Command, Completion, Entry, StandardCommand, Status};
 use std::io::{self, Write};
 

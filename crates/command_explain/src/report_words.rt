@@ -1,6 +1,6 @@
 //! Reports of zones, as `nvme zns report-zones` shows them.
 
-use crate::command_words::Counted;
+use command_files::Counted;
 use nvme_entry::{ZoneDescriptor, zones_told};
 use std::io::{self, Write};
 

@@ -1,11 +1,14 @@
 //! The words that follow a command's name.
 
-ghost use Rattle.std.specs.Prelude.{◌≡◌};
+ghost use Rattle.std.specs.Prelude.{◌≡◌, ◌≤◌, IfErr, IfOk, None, OnErr, OnOk};
+ghost use Rattle.program_interface.specs.BlockSize.{block_size as size_of_bytes};
 ghost use Rattle.command_files.specs.Arguments.{value_of};
 
 use clap::error::ErrorKind;
 use clap::{Arg, ArgAction, ArgMatches, Command};
 use command_failure::Failure;
+use image_store::GeometryRefusal;
+use program_interface::{BlockSize, LARGEST_BLOCK};
 use std::alloc::{AllocError, Global};
 use text_lines::decimal;
 
@@ -65,5 +68,29 @@ pub fn number<'a>(matches: &ArgMatches<'a>, id: &str) -> Result<u32, Failure<'a>
     match decimal(text.as_bytes()) {
         Some(number) => Ok(number),
         None => Err(Failure::NotNumber(text)),
+    }
+}
+
+/// The block size of so many bytes.
+///
+/// # Errors
+///
+/// [`Failure::GeometryRefused`] where no block has as many, as `format` tells it.
+pub fn block_size<'a>(bytes: usize) -> Result<BlockSize, Failure<'a>>
+    ensures same { IfOk result (λ block. block ≡ bytes) }
+    ensures most { OnOk result (bytes ≤ LARGEST_BLOCK) }
+    ensures told { IfErr result (λ failure. failure ≡ Failure.GeometryRefused (GeometryRefusal.BlockSize bytes)) }
+    ensures refused { OnErr result (size_of_bytes bytes ≡ None) }
+{
+    let size = match u32::try_from(bytes) {
+        Ok(bytes) => BlockSize::new(bytes),
+        Err(_) => None,
+    };
+    match size {
+        Some(size) => {
+            let _most = size.bytes();
+            Ok(size)
+        }
+        None => Err(Failure::GeometryRefused(GeometryRefusal::BlockSize(bytes))),
     }
 }

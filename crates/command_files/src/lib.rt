@@ -1,11 +1,13 @@
-//! The files that a command names, and the arguments that name them.
+//! The files that a command names, the arguments that name them, and numbers as a user reads them.
 #![tactic(auto)]
 
 pub mod arguments;
+mod counted;
 mod disk;
 mod files;
 mod whole;
 
+pub use counted::Counted;
 pub use disk::{Disk, FileReader, FileWriter};
 pub use files::{FileError, Files};
 pub use whole::{cannot_read, cannot_write, read, write};
