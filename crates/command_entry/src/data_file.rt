@@ -5,7 +5,6 @@ ghost use Rattle.std.specs.Prelude.{◌≡◌, ◌≤◌, IfOk, vec_len};
 use crate::numbers::block_count;
 use command_failure::{DataFault, Failure};
 use command_files::{Files, read};
-use image_store::GeometryRefusal;
 use nvme_entry::{BlockCount, MOST_TRANSFER};
 use program_interface::BlockSize;
 
@@ -37,16 +36,5 @@ pub(crate) fn whole_blocks<'a>(
     match block_count(bytes / size as usize) {
         Some(blocks) => Ok(blocks),
         None => Err(Failure::DataRefused(path, DataFault::TooLong)),
-    }
-}
-
-/// The block size of so many bytes. Of other numbers the user is told what `format` tells.
-pub(crate) fn block_size<'a>(bytes: u32) -> Result<BlockSize, Failure<'a>> {
-    match BlockSize::new(bytes) {
-        Some(block) => Ok(block),
-        None => {
-            let refusal = GeometryRefusal::BlockSize(bytes as usize);
-            Err(Failure::GeometryRefused(refusal))
-        }
     }
 }

@@ -3,13 +3,13 @@
 ghost use Rattle.std.specs.Prelude.{◌≡◌};
 
 use crate::asked::Asked;
-use crate::data_file::{block_size, read_data, whole_blocks};
+use crate::data_file::{read_data, whole_blocks};
 use crate::numbers::{address, blocks};
 use crate::printing::and_target;
 use clap::{Arg, ArgMatches, Command};
 use command_failure::Failure;
 use command_files::Files;
-use command_files::arguments::{and_argument, number, option, required};
+use command_files::arguments::{and_argument, block_size, number, option, required};
 use nvme_entry::{BlockCount, StandardCommand};
 use std::alloc::{AllocError, Global};
 
@@ -128,7 +128,7 @@ fn data_blocks<'a, F: Files>(
 ) -> Result<(BlockCount, Vec<u8>), Failure<'a>>
     ensures { F.made files.new ≡ F.made files.old }
 {
-    let block = block_size(number(matches, BLOCK)?)?;
+    let block = block_size(number(matches, BLOCK)? as usize)?;
     let path = required(matches, DATA);
     let data = read_data(path, files)?;
     let blocks = whole_blocks(path, data.len(), block)?;
