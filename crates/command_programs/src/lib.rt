@@ -4,7 +4,6 @@
 pub mod asm;
 pub mod disasm;
 mod program;
-mod quantity;
 mod refusal_lines;
 mod sizes;
 mod step_lines;

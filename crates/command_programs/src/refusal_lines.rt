@@ -1,7 +1,7 @@
 //! Why an instruction is refused, in words: the reason with its numbers, and what is known of the registers.
 
-use crate::quantity::bytes;
 use accepted_programs::{Facts, Reason};
+use command_files::Counted;
 use instruction_set::{Insn, Operation, Register, Source};
 use interval_domain::{Fact, Intervals};
 use program_interface::{Area, RunSizes};
@@ -85,7 +85,8 @@ impl Refused<'_> {
     }
 
     fn tell_allowed<O: Write>(&self, access: Access, out: &mut O) -> io::Result<()> {
-        let (number, size) = (access.base.number(), bytes(u64::from(access.size)));
+        let number = access.base.number();
+        let size = Counted(u64::from(access.size), "byte");
         let Fact::Pointer { area, .. } = self.fact(access.base) else {
             return writeln!(out, "r{number} isn't known to be an address");
         };
@@ -114,7 +115,8 @@ impl Refused<'_> {
     fn tell_budget<O: Write>(&self, out: &mut O) -> io::Result<()> {
         let (emitted, limit) = (self.facts.emitted as u64, self.sizes.limit());
         let most = self.facts.get(Register::from_number(2)).bounds().high;
-        let (before, frame) = (bytes(emitted), bytes(most));
+        let before = Counted(emitted, "byte");
+        let frame = Counted(most, "byte");
         let after = u128::from(emitted) + 2 + u128::from(most);
         writeln!(
             out,

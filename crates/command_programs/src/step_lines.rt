@@ -1,7 +1,7 @@
 //! What an instruction changed, on a line.
 
-use crate::quantity::bytes;
 use command_failure::{Failure, printed};
+use command_files::Counted;
 use ebpf_asm::instruction_text;
 use instruction_set::{Insn, Register};
 use interp::Machine;
@@ -65,7 +65,7 @@ pub(crate) fn tell_changes<'a, O: Write>(
 
 /// Prints what was emitted.
 fn tell_emit<O: Write>(emitting: Emitting, out: &mut O) -> io::Result<()> {
-    let length = bytes(emitting.length);
+    let length = Counted(emitting.length, "byte");
     match emitting.place() {
         Some(place) => write!(out, "  emit {length} at {place}"),
         None => write!(out, "  emit {length}"),

@@ -6,11 +6,11 @@ ghost use Rattle.interp.specs.Machine.{machine_slot, steps_of, group_length};
 ghost use Rattle.program_interface.specs.Context.{context_bytes};
 
 use crate::program::read_program;
-use crate::sizes::{block_size, run_sizes};
+use crate::sizes::run_sizes;
 use crate::step_lines::{Emitting, tell_changes};
 use clap::{Arg, ArgAction, ArgMatches, Command};
 use command_failure::{Failure, printed};
-use command_files::arguments::{and_argument, number, option, required};
+use command_files::arguments::{and_argument, block_size, number, option, required};
 use command_files::{Files, read};
 use instruction_set::Program;
 use interp::{Machine, Step};

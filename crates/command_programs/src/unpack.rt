@@ -3,10 +3,9 @@
 ghost use Rattle.std.specs.Prelude.{◌≡◌};
 ghost use Rattle.command_programs.specs.UserTold.{IsToldOfFrame};
 
-use crate::sizes::block_size;
 use clap::{Arg, ArgMatches, Command};
 use command_failure::{Failure, printed};
-use command_files::arguments::{and_argument, block_option, number, required};
+use command_files::arguments::{and_argument, block_option, block_size, number, required};
 use command_files::{Files, read};
 use emit_append::{BlockSize, FrameRefusal, UnpackFault, unpack as records_of};
 use std::alloc::{AllocError, Global};

@@ -3,14 +3,13 @@
 ghost use Rattle.std.specs.Prelude.{◌≡◌};
 
 use crate::program::read_program;
-use crate::quantity::{bytes, steps};
 use crate::refusal_lines::Refused;
-use crate::sizes::{block_size, run_sizes};
+use crate::sizes::run_sizes;
 use accepted_programs::{Facts, Refusal};
 use clap::{Arg, ArgAction, ArgMatches, Command};
 use command_failure::{Failure, printed};
-use command_files::Files;
-use command_files::arguments::{and_argument, block_option, number, option, required};
+use command_files::arguments::{and_argument, block_option, block_size, number, option, required};
+use command_files::{Counted, Files};
 use ebpf_asm::instruction_text;
 use instruction_set::Program;
 use interval_domain::Intervals;
@@ -142,7 +141,8 @@ fn explain_accepted<O: Write>(
     out: &mut O,
 ) -> io::Result<()> {
     tell_accepted(instructions, out)?;
-    let (taken, emitted) = (steps(instructions as u64), bytes(most_emitted as u64));
+    let taken = Counted(instructions as u64, "step");
+    let emitted = Counted(most_emitted as u64, "byte");
     writeln!(out, "for a block at most {taken}, and {emitted} emitted")
 }
 
