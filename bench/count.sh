@@ -43,7 +43,6 @@ skip { skip = 0; next }
 {
     now = name(substr($0, 1, 2)); skip = now == "wide"
     here[now]++; count++
-    # a pair whose second uses what its first makes or compares the same register
     if (before != "") here[before " -> " now]++
     before = now
 }
