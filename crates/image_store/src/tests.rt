@@ -231,9 +231,9 @@ fn the_first_fault_decides(rt: HostRuntime) -> Result<(), Fail> {
         counted: 1,
     };
     assert_eq!(rt; fault_of(rt.alloc(), &miscounted), Some(total));
-    let no_counted_zone = changed(&[(32, 1), (91, 1)]);
+    let bad_zone = changed(&[(32, 1), (91, 1)]);
     assert_eq!(rt;
-        fault_of(rt.alloc(), &no_counted_zone),
+        fault_of(rt.alloc(), &bad_zone),
         bad_record(3, RecordFault::Reserved)
     );
     Ok(())
