@@ -29,9 +29,9 @@ compare() {
 for version in v2 v3; do
     mkdir "$work/$version"
     make -s TO="$work/$version" CPU=$version
-    compare $version "$work/$version" ../crates/zscli/src/tests/filters/*.rt
+    compare $version "$work/$version" ../crates/compiled_filters/src/tests/examples/*.rt
 done
 mkdir "$work/spills"
 make -s -C spills TO="$work/spills"
-compare program "$work/spills" ../crates/spilled_filters/src/tests/*.rt
+compare program "$work/spills" ../crates/compiled_filters/src/tests/spills/*.rt
 exit $status

@@ -1,51 +1,112 @@
 -- What was done, and what was done where an answer is refused.
-use Rattle.std.proofs.Common.{◌≡◌, ℕ, List, Option, None, Result, Ok, Err, OnOk, OnErr, IfErr, subst}
+use Rattle.std.proofs.Common.{◌≡◌, ℕ, List, Option, Result, Ok, Err, OnOk, OnErr, IfErr, ◌∙◌, subst}
 use Rattle.image_store.specs.Namespace.{ZonedNamespace}
 use Rattle.image_store.specs.Text.{text}
 use Rattle.interval_domain.specs.Intervals.{intervals}
-use Rattle.device_events.specs.Replies.{ReplyWithData}
+use Rattle.device_events.specs.Printed.{Printed, Prints}
+use Rattle.device_events.specs.Refusals.{CountsRefusals}
+use Rattle.device_events.specs.Replies.{Joins, ReplyWithData}
+use Rattle.device_events.proofs.Proved.{prints_in_parts}
 use Rattle.pushdown.specs.Draining.{HasDrained, StopsDraining}
-use Rattle.pushdown.specs.Events.{HasServed}
+use Rattle.pushdown.specs.Events.{HasServed, HasStopped}
 use Rattle.pushdown.specs.Parts.{HasFinished}
 use Rattle.pushdown.specs.State.{State, new_state}
 use Rattle.device_events.specs.declared.event.Event.{Event}
 use Rattle.pushdown.proofs.Proved.{served_and_drained}
 use Rattle.runner.specs.declared.device.Stopped.{Stopped}
+use Rattle.event_text.specs.Lines.{line_of}
 use Rattle.command_files.specs.Made.{Made, then_made}
-use Rattle.command_exec.specs.Saved.{HasBegun, InTurns, SavesAll, SavesFirst}
+use Rattle.command_exec.specs.Saved.{HasBegun, HasPrinted, InEvents, InTurns, PrintsAll, PrintsAnswers, SavesAll, SavesFirst, Untold}
 
 pub on_err : {T E fact : Type 0} (result : Result T E) → fact → OnErr result fact
 on_err (Ok value) holds = tt
 on_err (Err error) holds = holds
 
-module _ (events : List Event) (old between new : State) (before some taken : Option (List ReplyWithData)) (served : HasServed intervals events old between before some) where
+-- what `Lines` took: its writer stays the same
+abbrev pub Took : ℕ × Printed → ℕ × Printed → List ReplyWithData → Type 0
+Took a b replies = (b.0 ≡ a.0) × Prints line_of a.1 b.1 replies
+
+took_joins : Joins Took
+took_joins a b c first later early late = (late.0 ∙ early.0, prints_in_parts line_of a.1 b.1 c.1 first later early.1 late.1)
+
+-- events, of which one was refused
+pub stops_in_events : (events : List Event) (old new : State) (took : List ReplyWithData → Type 0) (done : ℕ)
+    → HasStopped intervals events old new took done → HasBegun events old new
+stops_in_events events old new took done stopped = InEvents done (record {
+  some = stopped.some;
+  within = stopped.within;
+  occurrences = stopped.occurrences;
+  are = stopped.are;
+  state = stopped.state;
+  answers = tt;
+})
+
+module _ (events : List Event) (old between new : State) (before then after : ℕ × Printed) (served : HasServed intervals events old between (Took before then)) where
   -- a drain, behind events that were all done
-  pub finishes : (result : Result (Unit {0}) Stopped) → OnOk result (HasDrained between new some taken) → OnOk result (HasFinished intervals events old new before taken)
-  finishes (Ok done) drained = served_and_drained intervals events old between new before some taken served drained
-  finishes (Err error) drained = tt
+  pub finishes : (result : Result (Unit {0}) Stopped) → then.1.refused ≡ before.1.refused → CountsRefusals then.1.refused after.1.refused result
+      → OnOk result (HasDrained between new (Took then after)) → OnOk result (HasFinished intervals events old new (HasPrinted before.1.bytes after.1.bytes))
+  finishes (Err error) none count drained = tt
+  finishes (Ok done) none count drained =
+      let finished = served_and_drained intervals Took took_joins events old between new before then after served drained in
+      record {
+        occurrences = finished.occurrences;
+        are = finished.are;
+        runs = finished.runs;
+        drains = finished.drains;
+        state = finished.state;
+        answers = finished.answers.1.texts (count ∙ none);
+        none_left = finished.none_left;
+      }
 
   -- one that stops
-  pub stops_in_turns : (result : Result (Unit {0}) Stopped) → IfErr result (λ stopped. StopsDraining between new some taken stopped.done)
-      → OnErr result (HasBegun events old new before taken)
+  pub stops_in_turns : (result : Result (Unit {0}) Stopped) → IfErr result (λ stopped. StopsDraining between new (Took then after) stopped.done)
+      → OnErr result (HasBegun events old new)
   stops_in_turns (Ok done) stopped = tt
-  stops_in_turns (Err error) stopped = InTurns between some error.done served stopped
+  stops_in_turns (Err error) stopped = InTurns between error.done
+      (record { occurrences = served.occurrences; are = served.are; state = served.state; answers = tt })
+      (record {
+        runs = stopped.runs;
+        lowest = stopped.lowest;
+        some = stopped.some;
+        given = stopped.given;
+        few = stopped.few;
+        state = stopped.state;
+        answers = tt;
+      })
 
--- the image is saved that a device shows which began with an image
-module _ (events : List Event) (image shown : ZonedNamespace) (path : List ℕ) (before after : Option (List Made)) (old left : State)
-    (made : after ≡ then_made before path (text shown)) (shows : shown ≡ left.namespace) (begins : old ≡ new_state image) where
+  -- it goes on printing to the same writer
+  pub same_writer : (result : Result (Unit {0}) Stopped) → OnOk result (HasDrained between new (Took then after))
+      → IfErr result (λ stopped. StopsDraining between new (Took then after) stopped.done) → after.0 ≡ before.0
+  same_writer (Ok done) drained stopped = drained.answers.0 ∙ served.answers.0
+  same_writer (Err error) drained stopped = stopped.answers.0 ∙ served.answers.0
+
+-- a device began with an image; its writer held so much before the lines were printed, and so much it holds now
+pub prints_all : (events : List Event) (image : ZonedNamespace) (old left : State) (held before holds after : Option (List ℕ))
+    → old ≡ new_state image → held ≡ before → holds ≡ after → HasFinished intervals events old left (HasPrinted held holds)
+    → HasFinished intervals events (new_state image) left (HasPrinted before after)
+prints_all events image old left held before holds after begins first last finished =
+    subst (λ (s : State). HasFinished intervals events s left (HasPrinted before after)) begins
+    (subst (λ (bytes : Option (List ℕ)). HasFinished intervals events old left (HasPrinted bytes after)) first
+    (subst (λ (bytes : Option (List ℕ)). HasFinished intervals events old left (HasPrinted held bytes)) last finished))
+
+pub prints_answers : {T E : Type 0} (result : Result T E) (events : List Event) (image : ZonedNamespace) (before after : Option (List ℕ))
+    → OnOk result (PrintsAll events image before after) → OnOk result (PrintsAnswers before after)
+prints_answers (Ok done) events image before after prints = record { events = events; image = image; prints = prints }
+prints_answers (Err error) events image before after prints = tt
+
+-- the image is saved that a device shows
+module _ (events : List Event) (image shown : ZonedNamespace) (path : List ℕ) (before after : Option (List Made)) (left : State)
+    (made : after ≡ then_made before path (text shown)) (shows : shown ≡ left.namespace) where
   meant : after ≡ then_made before path (text left.namespace)
   meant = subst (λ (ns : ZonedNamespace). after ≡ then_made before path (text ns)) shows made
 
-  pub saves_all : HasFinished intervals events old left None None → SavesAll events image path before after
-  saves_all finished = record {
-    left = left;
-    finished = subst (λ (s : State). HasFinished intervals events s left None None) begins finished;
-    made = meant;
-  }
+  pub saves_all : (printed printed_after : Option (List ℕ)) → HasFinished intervals events (new_state image) left (HasPrinted printed printed_after)
+      → SavesAll events image path before after printed printed_after
+  saves_all printed printed_after finished = record { prints = record { left = left; finished = finished }; made = meant }
 
-  pub saves_first : HasBegun events old left None None → SavesFirst events image path before after
-  saves_first begun = record {
+  pub saves_first : (old : State) → old ≡ new_state image → HasBegun events old left → SavesFirst events image path before after
+  saves_first old begins begun = record {
     left = left;
-    begun = subst (λ (s : State). HasBegun events s left None None) begins begun;
+    begun = subst (λ (s : State). HasBegun events s left) begins begun;
     made = meant;
   }

@@ -1,5 +1,6 @@
--- What `exec` saves.
-use Rattle.std.specs.Prelude.{◌≡◌, ℕ, List, Option, None}
+-- What `exec` saves, and what it prints.
+use Rattle.std.specs.Prelude.{◌≡◌, ℕ, List, flat_map, Option}
+use Rattle.std.specs.Io.KnownBytes.{Appends}
 use Rattle.image_store.specs.Namespace.{ZonedNamespace}
 use Rattle.image_store.specs.Text.{text}
 use Rattle.interval_domain.specs.Intervals.{intervals}
@@ -9,24 +10,43 @@ use Rattle.pushdown.specs.Events.{HasServed, HasStopped}
 use Rattle.pushdown.specs.Parts.{HasFinished}
 use Rattle.pushdown.specs.State.{State, new_state}
 use Rattle.device_events.specs.declared.event.Event.{Event}
+use Rattle.event_text.specs.Lines.{line_of}
 use Rattle.command_files.specs.Made.{Made, then_made}
+
+-- the lines of these replies were printed, in order, and nothing else, where the output tells what it holds
+abbrev pub HasPrinted : Option (List ℕ) → Option (List ℕ) → List ReplyWithData → Type 0
+HasPrinted before after replies = Appends before after (flat_map line_of replies)
+
+-- nothing is said of what was printed
+abbrev pub Untold : List ReplyWithData → Type 0
+Untold replies = Unit {0}
 
 -- the first of some events and of the turns behind them were done, one or more, and the answer to the last of these
 -- was refused
-pub data HasBegun (events : List Event) (old new : State) (before taken : Option (List ReplyWithData)) : Type 0 where
-  InEvents : (done : ℕ) (stopped : HasStopped intervals events old new before taken done) → HasBegun events old new before taken
-  InTurns : (between : State) (some : Option (List ReplyWithData)) (done : ℕ) (served : HasServed intervals events old between before some)
-      (stopped : StopsDraining between new some taken done) → HasBegun events old new before taken
+pub data HasBegun (events : List Event) (old new : State) : Type 0 where
+  InEvents : (done : ℕ) (stopped : HasStopped intervals events old new Untold done) → HasBegun events old new
+  InTurns : (between : State) (done : ℕ) (served : HasServed intervals events old between Untold)
+      (stopped : StopsDraining between new Untold done) → HasBegun events old new
 
--- the file is made anew of the image that the events and the turns behind them leave
-pub record SavesAll (events : List Event) (image : ZonedNamespace) (path : List ℕ) (before after : Option (List Made)) : Type 0 where
+-- the events are done on an image, and the turns behind them, and the line of each answer is printed
+pub record PrintsAll (events : List Event) (image : ZonedNamespace) (before after : Option (List ℕ)) : Type 0 where
   pub left : State
-  pub finished : HasFinished intervals events (new_state image) left None None
-  pub made : after ≡ then_made before path (text left.namespace)
+  pub finished : HasFinished intervals events (new_state image) left (HasPrinted before after)
+
+-- what is printed are the lines of the answers to some events on some image, and to the turns behind them
+pub record PrintsAnswers (before after : Option (List ℕ)) : Type 0 where
+  pub events : List Event
+  pub image : ZonedNamespace
+  pub prints : PrintsAll events image before after
+
+-- that is done and printed, and the file is made anew of the image that it leaves
+pub record SavesAll (events : List Event) (image : ZonedNamespace) (path : List ℕ) (before after : Option (List Made)) (printed printed_after : Option (List ℕ)) : Type 0 where
+  pub prints : PrintsAll events image printed printed_after
+  pub made : after ≡ then_made before path (text prints.left.namespace)
 
 -- the file is made anew of the image that the first of these leave. How many is not said: standard
 -- output doesn't tell what it took
 pub record SavesFirst (events : List Event) (image : ZonedNamespace) (path : List ℕ) (before after : Option (List Made)) : Type 0 where
   pub left : State
-  pub begun : HasBegun events (new_state image) left None None
+  pub begun : HasBegun events (new_state image) left
   pub made : after ≡ then_made before path (text left.namespace)

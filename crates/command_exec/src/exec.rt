@@ -4,7 +4,7 @@ ghost use Rattle.std.specs.Prelude.{◌≡◌, ◌≢◌, ◌≤◌, ◌<◌, �
 ghost use Rattle.interval_domain.specs.Intervals.{intervals};
 ghost use Rattle.pushdown.specs.Parts.{HasFinished};
 ghost use Rattle.command_files.specs.Made.{MakesOne};
-ghost use Rattle.command_exec.specs.Saved.{HasBegun, SavesAll, SavesFirst};
+ghost use Rattle.command_exec.specs.Saved.{HasBegun, HasPrinted, PrintsAll, PrintsAnswers, SavesAll, SavesFirst};
 
 use clap::{Arg, ArgMatches, Command};
 use command_failure::Failure;
@@ -12,7 +12,7 @@ use command_files::arguments::{and_argument, required};
 use command_files::{Files, read};
 use command_images::image_file;
 use event_text::Lines;
-use runner::{Device, Event, Out, Stopped};
+use runner::{Device, Event, Stopped};
 use std::alloc::{AllocError, Global};
 use std::io::Write;
 use zns_commands::{Image, MOST_TRANSFER};
@@ -82,6 +82,7 @@ pub fn exec<'a, F: Files, O: Write>(
     files: &mut F,
     out: &mut O,
 ) -> Result<(), Failure<'a>>
+    ensures printed { OnOk result (PrintsAnswers (O.contents out.old) (O.contents out.new)) }
     ensures made { OnOk result (MakesOne (F.made files.old) (F.made files.new)) }
     ensures stopped { result ≡ Err Failure.CannotPrint → MakesOne (F.made files.old) (F.made files.new) }
     ensures kept { IfErr result (λ failure. failure ≢ Failure.CannotPrint → F.made files.new ≡ F.made files.old) }
@@ -109,7 +110,8 @@ fn run<'a, F: Files, O: Write>(
     files: &mut F,
     out: &mut O,
 ) -> Result<(), Failure<'a>>
-    ensures saved { OnOk result (F.Writer.tells → SavesAll events.now image path.now (F.made files.old) (F.made files.new)) }
+    ensures printed { OnOk result (PrintsAll events.now image (O.contents out.old) (O.contents out.new)) }
+    ensures saved { OnOk result (F.Writer.tells → SavesAll events.now image path.now (F.made files.old) (F.made files.new) (O.contents out.old) (O.contents out.new)) }
     ensures stopped { result ≡ Err Failure.CannotPrint → F.Writer.tells → SavesFirst events.now image path.now (F.made files.old) (F.made files.new) }
     ensures made { OnOk result (MakesOne (F.made files.old) (F.made files.new)) }
     ensures one { result ≡ Err Failure.CannotPrint → MakesOne (F.made files.old) (F.made files.new) }
@@ -119,7 +121,10 @@ fn run<'a, F: Files, O: Write>(
     let mut data = vec![in alloc; 0; MOST_TRANSFER]?;
     let mut device = Device::new(alloc, image);
     let done = serve_and_drain(&mut device, events, data.as_mut_slice(), &mut lines);
+    let out = lines.into_writer();
     image_file::save(device.image(), path, files)?;
+    // No effect at run time. The proof reads what was printed from this use of `out`.
+    let _ = &*out;
     match done {
         Ok(()) => Ok(()),
         Err(Stopped { .. }) => Err(Failure::CannotPrint),
@@ -127,17 +132,18 @@ fn run<'a, F: Files, O: Write>(
 }
 
 /// Does the events, and then gives turns until no run is left.
-fn serve_and_drain<O: Out>(
+fn serve_and_drain<O: Write>(
     device: &mut Device,
     events: &[Event],
     output: &mut [u8],
-    out: &mut O,
+    lines: &mut Lines<'_, O>,
 ) -> Result<(), Stopped>
     requires room { MOST_TRANSFER ≤ length output.old }
-    requires counts { O.refused out.old + 1 < 2 ^ 64 }
-    ensures finished { OnOk result (HasFinished intervals events.now device.old device.new (O.taken out.old) (O.taken out.new)) }
-    ensures stopped { OnErr result (HasBegun events.now device.old device.new (O.taken out.old) (O.taken out.new)) }
+    requires counts { lines.old.refusals + 1 < 2 ^ 64 }
+    ensures same_writer { lines.new.out.ghost_name ≡ lines.old.out.ghost_name }
+    ensures finished { OnOk result (HasFinished intervals events.now device.old device.new (HasPrinted (O.contents lines.old.out.now) (O.contents lines.new.out.now))) }
+    ensures stopped { OnErr result (HasBegun events.now device.old device.new) }
 {
-    device.serve(events, output, out)?;
-    device.drain(output, out)
+    device.serve(events, output, lines)?;
+    device.drain(output, lines)
 }

@@ -1,5 +1,5 @@
 -- How the program ends (profile).
-use Rattle.std.specs.Prelude.{ℕ}
+use Rattle.std.specs.Prelude.{ℕ, Result, Ok, Err}
 use Rattle.command_failure.specs.declared.failure.Failure.{Failure}
 use Rattle.command_failure.specs.declared.failure.Failure.TheVariants.{CommandLine, NotText, NotNumber, NotInRange, CannotRead, CannotWrite, CannotPrint, NoMemory, LineRefused, ReplyRefused, GeometryRefused, ImageRefused, AssemblyRefused, ProgramRefused, FrameRefused, DataRefused, EmitExceedsBlock, NotAccepted}
 
@@ -23,3 +23,8 @@ status_of (ProgramRefused path refusal) = 3
 status_of (FrameRefused path refusal) = 3
 status_of (DataRefused file fault) = 3
 status_of NotAccepted = 3
+
+-- the exit status of the program: 0 where all was done, else that of the failure
+abbrev pub exit_status : Result (Unit {0}) Failure → ℕ
+exit_status (Ok done) = 0
+exit_status (Err failure) = status_of failure

@@ -1,2 +1,3 @@
 pub mod Failure
+pub mod Lines
 pub mod UserTold

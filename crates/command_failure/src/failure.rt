@@ -2,7 +2,8 @@
 
 ghost use Rattle.std.specs.Prelude.{◌≡◌, ◌≢◌, OnOk, OnErr};
 ghost use Rattle.std.specs.IoError.{error_kind};
-ghost use Rattle.command_failure.specs.Failure.{status_of};
+ghost use Rattle.command_failure.specs.Failure.{exit_status, status_of};
+ghost use Rattle.command_failure.specs.Lines.{IsConcluded};
 ghost use Rattle.command_failure.specs.declared.failure.Failure.TheVariants.{NoMemory};
 ghost use Rattle.command_failure.specs.UserTold.{told_of_command_line, told_of_commands, told_of_words};
 
@@ -14,76 +15,57 @@ use event_text::{LineFault, ParseError};
 use image_store::{GeometryRefusal, LoadFault};
 use std::alloc::AllocError;
 use std::io::{self, ErrorKind, Write};
-use thiserror::Error;
 
 /// Why a command ended. Its text is the last on standard error: of input that is refused a sentence, and behind it a
 /// line for programs.
-#[derive(Debug, Drop, Error)]
+#[derive(Debug, Drop)]
 pub enum Failure<'a> {
-    #[error("{0}")]
     CommandLine(clap::Error),
-    #[error("error: a word of the command line isn't text")]
     NotText,
-    #[error("error: '{0}' is not a number from 0 to 4294967295")]
     NotNumber(&'a str),
-    #[error("error: '{0}' is not a number from {1} to {2}")]
     NotInRange(&'a str, u64, u64),
-    #[error("cannot read {0}")]
     CannotRead(&'a str),
-    #[error("cannot write {0}")]
     CannotWrite(&'a str),
     /// Standard output failed.
-    #[error("cannot write -")]
     CannotPrint,
-    #[error("no memory")]
     NoMemory,
     /// A line of a command file that has no event.
-    #[error("{path}, line {line}: {fault}\nline {line} refused")]
     LineRefused {
         path: &'a str,
         line: usize,
         fault: LineFault,
     },
     /// A line of a file of replies that no reply is printed as.
-    #[error("{path}, line {line}: not one that `exec` prints\nline {line} refused")]
     ReplyRefused {
         path: &'a str,
         line: usize,
     },
     /// Numbers that are no geometry.
-    #[error("{0}\ngeometry refused {number}", number = .0.fault().number())]
     GeometryRefused(GeometryRefusal),
     /// A file that is no image.
-    #[error("{path}: {fault}\nimage refused {}", .fault.number())]
     ImageRefused {
         path: &'a str,
         fault: LoadFault,
     },
     /// A file that is no assembly text.
-    #[error("{path}, {refusal}\nassembly refused {} {}", .refusal.fault.line, .refusal.fault.kind.number())]
     AssemblyRefused {
         path: &'a str,
         refusal: AssemblyRefusal,
     },
     /// A file that is no program.
-    #[error("{path}, {refusal}\nprogram refused {} {}", .refusal.fault.slot, .refusal.fault.kind.number())]
     ProgramRefused {
         path: &'a str,
         refusal: ProgramRefusal,
     },
     /// A file of other bytes than output blocks.
-    #[error("{path}, {refusal}\nframe refused {}", .refusal.place())]
     FrameRefused {
         path: &'a str,
         refusal: FrameRefusal,
     },
     /// A file isn't what a command can move.
-    #[error("{0} {1}")]
     DataRefused(&'a str, DataFault),
-    #[error("emit exceeds block")]
     EmitExceedsBlock,
     /// What a verifier says of a program stands on standard output alone.
-    #[error("")]
     NotAccepted,
 }
 
@@ -113,19 +95,6 @@ impl<'a> Failure<'a> {
         }
     }
 
-    /// Tells the user, and answers the exit status.
-    pub fn tell<E: Write>(self, err: &mut E) -> u8
-        ensures { result ≡ status_of self.entry }
-    {
-        let _ = match &self {
-            // This text has a line end of its own.
-            Failure::CommandLine(error) => write!(err, "{error}"),
-            Failure::NotAccepted => Ok(()),
-            _ => writeln!(err, "{self}"),
-        };
-        self.status()
-    }
-
     /// 1 where a file failed or memory was wanting, 2 for a wrong command line, 3 for input that is
     /// refused.
     fn status(&self) -> u8
@@ -151,6 +120,34 @@ impl<'a> Failure<'a> {
             | Failure::DataRefused(..)
             | Failure::NotAccepted => 3,
         }
+    }
+}
+
+/// How a command line ended.
+#[derive(Drop)]
+pub struct Ending {
+    /// The exit status: 0 where all was done, 1 where a file failed or memory was wanting, 2 for a wrong
+    /// command line, 3 for input that is refused.
+    pub status: u8,
+    /// What printing why the work wasn't done came to.
+    pub told: io::Result<()>,
+}
+
+/// Ends a command line: tells the user why the work wasn't done, where it wasn't.
+pub fn conclude<E: Write>(outcome: Result<(), Failure<'_>>, err: &mut E) -> Ending
+    ensures status { result.status ≡ exit_status outcome.entry }
+    ensures told { OnOk result.told (IsConcluded outcome.entry (E.contents err.old) (E.contents err.new)) }
+    ensures quiet { OnOk outcome.entry (err.new ≡ err.old) }
+{
+    match outcome {
+        Ok(()) => Ending {
+            status: 0,
+            told: Ok(()),
+        },
+        Err(failure) => Ending {
+            status: failure.status(),
+            told: failure.print(err),
+        },
     }
 }
 

@@ -3,6 +3,7 @@
 
 mod data_fault;
 mod failure;
+mod lines;
 
 pub use data_fault::DataFault;
-pub use failure::{Failure, printed};
+pub use failure::{Ending, Failure, conclude, printed};

@@ -1,3 +1,4 @@
 pub mod Arguments
 pub mod Made
+pub mod MemoryFiles
 pub mod UserTold

@@ -5,9 +5,11 @@ pub mod arguments;
 mod counted;
 mod disk;
 mod files;
+mod memory_files;
 mod whole;
 
 pub use counted::Counted;
 pub use disk::{Disk, FileReader, FileWriter};
 pub use files::{FileError, Files};
+pub use memory_files::{MemoryFiles, MemoryReader, MemoryWriter};
 pub use whole::{cannot_read, cannot_write, read, write};

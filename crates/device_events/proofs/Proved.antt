@@ -1,8 +1,22 @@
--- The laws of this crate, proved: what the proofs of other crates cite of it.
-use Rattle.std.proofs.Common.{List, Option, Some, None, refl, ap}
-use Rattle.std.proofs.lemmas.List.{append_assoc}
-use Rattle.device_events.specs.Replies.{TakenInParts}
+-- The laws of this crate, proved: what others cite of it.
+use Rattle.std.proofs.Common.{◌≡◌, ℕ, ◌≤◌, List, ◌++◌, refl, sym, ◌∙◌, subst, arith}
+use Rattle.std.specs.Prelude.{flat_map}
+use Rattle.std.specs.Io.KnownBytes.{Appends}
+use Rattle.std.proofs.KnownBytes.{Appends-nil, Appends-trans}
+use Rattle.std.proofs.lemmas.List.Concat.{flat_map-append}
+use Rattle.device_events.specs.Printed.{Printed, PrintsInParts, PrintsNone}
+use Rattle.device_events.specs.Replies.{ReplyWithData}
 
-pub taken_in_parts : TakenInParts
-taken_in_parts None first later = refl
-taken_in_parts (Some xs) first later = ap Some (append_assoc xs first later)
+module _ (text : ReplyWithData → List ℕ) where
+  pub prints_none : PrintsNone text
+  prints_none printed = record { no_fewer = omega arith; texts = λ same. Appends-nil printed.bytes }
+
+  pub prints_in_parts : PrintsInParts text
+  prints_in_parts a b c first later early late = record {
+    no_fewer = omega (arith, early.no_fewer, late.no_fewer);
+    texts = λ same.
+        let none : b.refused ≡ a.refused = omega (arith, same, early.no_fewer, late.no_fewer) in
+        let fewer : c.refused ≡ b.refused = omega (arith, same, none) in
+        subst (Appends a.bytes c.bytes) (sym (flat_map-append text first later))
+        (Appends-trans a.bytes b.bytes c.bytes (flat_map text first) (flat_map text later) (early.texts none) (late.texts fewer));
+  }

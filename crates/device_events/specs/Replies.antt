@@ -1,6 +1,5 @@
 -- Replies with their data.
-use Rattle.std.specs.Prelude.{ℕ, ◌≡◌, List, ◌++◌, length, Option}
-use Rattle.std.specs.Option.{option_map}
+use Rattle.std.specs.Prelude.{ℕ, List, ◌++◌}
 use Rattle.device_events.specs.declared.reply.Reply.{Reply}
 use Rattle.device_events.specs.declared.reply.Reply.TheVariants as reply
 
@@ -17,12 +16,6 @@ data_length reply.Idle = 0
 data_length reply.FaultTaken = 0
 data_length reply.FaultRefused = 0
 
--- what was taken before, where that is told, and then this
-abbrev pub and_then : Option (List ReplyWithData) → List ReplyWithData → Option (List ReplyWithData)
-and_then before later = option_map (λ first. first ++ later) before
-
--- what is taken in two parts is taken as one
-abbrev pub TakenInParts : Type 0
-TakenInParts =
-    (before : Option (List ReplyWithData)) (first later : List ReplyWithData)
-    → and_then (and_then before first) later ≡ and_then before (first ++ later)
+-- what is taken first and what is taken then are taken in this order
+abbrev pub Joins : {T : Type 0} → (T → T → List ReplyWithData → Type 0) → Type 0
+Joins {T} took = (a b c : T) (first later : List ReplyWithData) → took a b first → took b c later → took a c (first ++ later)

@@ -1,7 +1,7 @@
 //! What takes the replies of a device.
 
-ghost use Rattle.std.specs.Prelude.{◌≡◌, ◌+◌, ◌<◌, ◌^◌, ℕ, List, [], ◌∷◌, Option, OnOk, OnErr};
-ghost use Rattle.device_events.specs.Replies.{ReplyWithData, and_then};
+ghost use Rattle.std.specs.Prelude.{◌≡◌, ◌+◌, ◌<◌, ◌^◌, ℕ, List, [], ◌∷◌, OnOk, OnErr};
+ghost use Rattle.device_events.specs.Replies.{ReplyWithData, Joins};
 ghost use Rattle.device_events.specs.Refusals.{CountsRefusals};
 
 use crate::reply::Reply;
@@ -12,8 +12,9 @@ pub struct NotTaken;
 
 /// Takes replies with their data, in order, and counts those that it refuses.
 pub trait Out {
-    /// The replies that it took, or `None` where it doesn't tell.
-    ghost taken: { Self → Option (List ReplyWithData) };
+    /// From the first state to the second it took these replies, in order, and no other. What it
+    /// doesn't tell holds of any.
+    ghost took: { Self → Self → List ReplyWithData → Type 0 };
 
     /// How many replies it refused.
     ghost refused: { Self → ℕ };
@@ -21,11 +22,17 @@ pub trait Out {
     /// Takes a reply with the bytes of its data, or refuses it.
     fn take(&mut self, reply: Reply, bytes: &[u8]) -> Result<(), NotTaken>
         requires { refused self.old + 1 < 2 ^ 64 }
-        ensures ok { OnOk result (taken self.new ≡ and_then (taken self.old) (record { reply = reply; bytes = bytes.now } ∷ [])) }
-        ensures err { OnErr result (taken self.new ≡ taken self.old) }
+        ensures ok { OnOk result (took self.old self.new (record { reply = reply; bytes = bytes.now } ∷ [])) }
+        ensures err { OnErr result (took self.old self.new []) }
         ensures count { CountsRefusals (refused self.old) (refused self.new) result };
 
     /// How many replies it refused.
     fn refusals(&self) -> u64
         ensures { result ≡ refused self.now };
+
+    /// As long as nothing happens to it, it takes none.
+    ghost takes_none: { (out : Self) → took out out [] };
+
+    /// What it takes in two parts it takes in order.
+    ghost joins: { Joins took };
 }

@@ -13,9 +13,9 @@ use Rattle.ebpf_asm.specs.declared.fault.FaultKind.{FaultKind}
 use Rattle.ebpf_asm.specs.declared.fault.FaultKind.TheVariants.{TooLong}
 use Rattle.ebpf_asm.specs.declared.line as code
 use Rattle.ebpf_asm.specs.Line.{Line, slots_in, slots_of_insn}
-use Rattle.ebpf_asm.specs.LineView.{line_view, line_views}
+use Rattle.ebpf_asm.specs.steps.LineView.{line_view, line_views}
 use Rattle.ebpf_asm.specs.Assembly.{LabelMap, label_at, labels_from, label_map, slot_named, slot_count, is_twice, line_fault, first_fault, resolved, before_later, bytes_of, bytes_from, told_first}
-use Rattle.ebpf_asm.specs.Labels.{with_label}
+use Rattle.ebpf_asm.specs.steps.Labels.{with_label}
 
 -- ---- the lines that are left, and those before
 

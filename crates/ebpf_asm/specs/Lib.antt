@@ -1,11 +1,9 @@
 pub mod Fault
 pub mod Mnemonic
 pub mod Operand
-pub mod Number
 pub mod Statement
 pub mod Listing
 pub mod Line
 pub mod Assembly
-pub mod LineView
-pub mod Labels
 pub mod Laws
+pub mod steps

@@ -2,8 +2,8 @@
 
 ghost use Rattle.std.specs.Prelude.{◌≡◌, ◌≤◌, ◌<◌, ◌+◌, ◌-ℤ◌, ◌^◌, ℕ, pos, List, [], None, IfOk, OnOk, IfErr, option_copied};
 ghost use Rattle.ebpf_asm.specs.Assembly.{assembled, first_fault, label_map, line_fault, jump_by as jumping_by, resolved, bytes_from, slot_count, Gives, FaultIs};
-ghost use Rattle.ebpf_asm.specs.Labels.{label_in};
-ghost use Rattle.ebpf_asm.specs.LineView.{line_views};
+ghost use Rattle.ebpf_asm.specs.steps.Labels.{label_in};
+ghost use Rattle.ebpf_asm.specs.steps.LineView.{line_views};
 
 use crate::fault::{AsmFault, AssembleError, FaultKind};
 use crate::label::{Labels, define, is_defined, slot_of};

@@ -2,7 +2,7 @@
 
 ghost use Rattle.std.specs.Prelude.{◌≡◌, ℕ, List, OnOk, Some, option_copied, option_and_then, is_some, if◌then◌else◌};
 ghost use Rattle.std.specs.Str.{bytes_eq};
-ghost use Rattle.ebpf_asm.specs.Labels.{label_in, with_label};
+ghost use Rattle.ebpf_asm.specs.steps.Labels.{label_in, with_label};
 
 use std::alloc::AllocError;
 use std::collections::BTreeMap;

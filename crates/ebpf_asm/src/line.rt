@@ -3,7 +3,7 @@
 ghost use Rattle.std.specs.Prelude.{◌≡◌, option_copied};
 ghost use Rattle.text_lines.specs.Cut.{cut_at};
 ghost use Rattle.ebpf_asm.specs.Line.{line_of, split_label, labelled as labelled_line, slots_of_insn};
-ghost use Rattle.ebpf_asm.specs.LineView.{line_view};
+ghost use Rattle.ebpf_asm.specs.steps.LineView.{line_view};
 
 use crate::fault::FaultKind;
 use crate::operand::label;

@@ -2,7 +2,7 @@
 
 ghost use Rattle.std.specs.Prelude.{◌≡◌, ◌+◌, ◌*◌, ◌^◌, ◌<◌, ◌≤◌, ℕ};
 ghost use Rattle.ebpf_asm.specs.Operand.{numeral_of, magnitude_of, literal_of, signed_of, short_of, long_of, immediate_of, wide_of};
-ghost use Rattle.ebpf_asm.specs.Number.{below_2_64};
+ghost use Rattle.ebpf_asm.specs.steps.Number.{below_2_64};
 
 use crate::fault::FaultKind;
 

@@ -2,7 +2,7 @@
 
 ghost use Rattle.std.specs.Prelude.{◌≡◌, IfOk};
 ghost use Rattle.ebpf_asm.specs.Assembly.{lines_of};
-ghost use Rattle.ebpf_asm.specs.LineView.{line_views};
+ghost use Rattle.ebpf_asm.specs.steps.LineView.{line_views};
 
 use crate::line::{Line, read_line};
 use std::alloc::{AllocError, Global};

@@ -1,8 +1,8 @@
+pub mod Packing
 pub mod GoingOn
 pub mod Need
-pub mod OutputBlocks
 pub mod PackedLaw
+pub mod OutputBlocks
 pub mod Packer
-pub mod Packing
 pub mod Refusal
 pub mod Unpacking

@@ -1,13 +1,11 @@
 -- Command files (profile): a list of events as text, one on a line.
-use Rattle.std.specs.Prelude.{◌≡◌, ℕ, ◌+◌, ◌^◌, nat_lt, if◌then◌else◌, List, [], ◌∷◌, Option, Some, None, option_and_then, option_map, Result, Ok, Err, codes}
+use Rattle.std.specs.Prelude.{◌≡◌, ℕ, ◌+◌, ◌^◌, nat_lt, List, [], ◌∷◌, Option, Some, None, option_and_then, option_map, Result, Ok, Err, codes, if◌then◌else◌}
 use Rattle.std.specs.List.{list_all}
 use Rattle.std.specs.Char.{is_ascii}
 use Rattle.std.specs.Str.{bytes_eq}
 use Rattle.std.specs.Str.Lines.{lines}
 use Rattle.std.specs.Result.{result_ok}
 use Rattle.hex.specs.Hex.{decode_of, decode_sized}
-use Rattle.hex.specs.declared.error.FromHexError.{FromHexError}
-use Rattle.hex.specs.declared.error.FromHexError.TheVariants as digits
 use Rattle.zone_state.specs.declared.state.FaultState.{FaultState}
 use Rattle.zone_state.specs.declared.state.FaultState.TheVariants.{ReadOnly, Offline}
 use Rattle.text_lines.specs.Cut.{uncommented}
@@ -16,9 +14,6 @@ use Rattle.device_events.specs.declared.event.Event.{Event}
 use Rattle.device_events.specs.declared.event.Event.TheVariants as event
 use Rattle.event_text.specs.declared.command_file.ParseError.{ParseError}
 use Rattle.event_text.specs.declared.command_file.ParseError.TheVariants.{Line, OutOfMemory}
-use Rattle.event_text.specs.declared.command_file.LineError.{LineError}
-use Rattle.event_text.specs.declared.command_file.LineError.TheVariants as reasons
-use Rattle.event_text.specs.declared.fault.LineFault.TheVariants as fault
 use Rattle.event_text.specs.Words.{words_of, one_of, two_of, three_of}
 
 -- an event as a line tells it
@@ -95,35 +90,6 @@ events_from number (line ∷ rest) = line_before number (line_told line) (events
 -- the events of a file, or its lowest line that is refused
 abbrev pub events_in : List ℕ → Result (List Told) ℕ
 events_in file = events_from 1 (lines file)
-
--- why an entry of so many characters that spells no 64 bytes refuses its line
-abbrev pub entry_reason : ℕ → FromHexError → LineError
-entry_reason characters digits.OutOfMemory = reasons.OutOfMemory
-entry_reason characters (digits.InvalidHexCharacter character before) = reasons.Refused (fault.EntryDigit character before)
-entry_reason characters _ = reasons.Refused (fault.EntryLength characters)
-
--- why data of so many characters that spells no bytes refuses its line
-abbrev pub data_reason : ℕ → FromHexError → LineError
-data_reason characters digits.OutOfMemory = reasons.OutOfMemory
-data_reason characters (digits.InvalidHexCharacter character before) = reasons.Refused (fault.DataDigit character before)
-data_reason characters _ = reasons.Refused (fault.DataLength characters)
-
--- the event that is given, or the refusal, is the one that is told, unless memory ran out
-abbrev pub RefusesEvent : LineError → Option Told → Type 0
-RefusesEvent (reasons.Refused fault) meant = meant ≡ None
-RefusesEvent reasons.OutOfMemory meant = Unit {0}
-
-abbrev pub GivesEvent : Result Event LineError → Option Told → Type 0
-GivesEvent (Ok event) meant = meant ≡ Some (told_of event)
-GivesEvent (Err error) meant = RefusesEvent error meant
-
-abbrev pub RefusesLine : LineError → Option (Option Told) → Type 0
-RefusesLine (reasons.Refused fault) meant = meant ≡ None
-RefusesLine reasons.OutOfMemory meant = Unit {0}
-
-abbrev pub GivesLine : Result (Option Event) LineError → Option (Option Told) → Type 0
-GivesLine (Ok event) meant = meant ≡ Some (option_map told_of event)
-GivesLine (Err error) meant = RefusesLine error meant
 
 abbrev pub RefusesFile : ParseError → Result (List Told) ℕ → Type 0
 RefusesFile (Line number fault) meant = meant ≡ Err number

@@ -1,6 +1,7 @@
-pub mod CommandFile
-pub mod Laws
 pub mod Lines
 pub mod ReplyFile
-pub mod Submission
 pub mod Words
+pub mod CommandFile
+pub mod Submission
+pub mod Laws
+pub mod steps

@@ -2,6 +2,7 @@
 use Rattle.std.specs.Prelude.{ℕ, ◌==◌, if◌then◌else◌, List, [], ◌∷◌, ◌++◌, length, codes}
 use Rattle.std.specs.Fmt.{decimal}
 use Rattle.hex.specs.Hex.{encode_lower}
+use Rattle.device_events.specs.Replies.{ReplyWithData}
 use Rattle.device_events.specs.declared.reply.Reply.{Reply}
 use Rattle.device_events.specs.declared.reply.Reply.TheVariants.{Complete, Pending, Idle, FaultTaken, FaultRefused}
 
@@ -19,3 +20,6 @@ reply_text FaultRefused bytes = codes "refused"
 
 abbrev pub line_text : Reply → List ℕ → List ℕ
 line_text reply bytes = reply_text reply bytes ++ 10 ∷ []
+
+abbrev pub line_of : ReplyWithData → List ℕ
+line_of answer = line_text answer.reply answer.bytes

@@ -11,7 +11,8 @@ ghost use Rattle.std.specs.Prelude.{◌≡◌, ◌^◌, map, option_and_then, Ok
 ghost use Rattle.text_lines.specs.Number.{decimal_of};
 ghost use Rattle.event_text.specs.Words.{words_of};
 ghost use Rattle.event_text.specs.declared.command_file.ParseError.TheVariants.{OutOfMemory};
-ghost use Rattle.event_text.specs.CommandFile.{told_of, below, submission_of, turn_of, fault_of, state_named, event_named as named_event, line_told, events_in, entry_reason, data_reason, GivesEvent, GivesLine, RefusesFile};
+ghost use Rattle.event_text.specs.CommandFile.{told_of, below, submission_of, turn_of, fault_of, state_named, event_named as named_event, line_told, events_in, RefusesFile};
+ghost use Rattle.event_text.specs.steps.ReadLines.{entry_reason, data_reason, GivesEvent, GivesLine};
 
 use crate::fault::LineFault;
 use crate::words::Words;

@@ -1,10 +1,13 @@
 //! Replies as lines of text.
 
-ghost use Rattle.std.specs.Prelude.{◌≡◌, ◌≤◌, ◌<◌, ◌+◌, ◌^◌, ◌++◌, length, None, IfOk, OnOk};
-ghost use Rattle.device_events.specs.Refusals.{CountsRefusals};
+ghost use Rattle.std.specs.Prelude.{◌≡◌, ◌≤◌, ◌<◌, ◌+◌, ◌^◌, ◌++◌, length, IfOk, OnOk};
+ghost use Rattle.std.proofs.Common.{◌∙◌, refl};
 ghost use Rattle.std.specs.Io.KnownBytes.{Appends};
 ghost use Rattle.hex.specs.Hex.{encode_lower};
-ghost use Rattle.event_text.specs.Lines.{data_text, line_text, reply_text};
+ghost use Rattle.device_events.specs.Printed.{Prints};
+ghost use Rattle.device_events.specs.Refusals.{CountsRefusals};
+ghost use Rattle.device_events.proofs.Proved.{prints_in_parts, prints_none};
+ghost use Rattle.event_text.specs.Lines.{data_text, line_of, line_text, reply_text};
 
 use device_events::{NotTaken, Out, Reply};
 use std::alloc::{AllocError, Global};
@@ -29,7 +32,8 @@ pub struct Lines<'a, W> {
 impl<'a, W: Write> Lines<'a, W> {
     /// A printer of replies, with room for the longest line.
     pub fn new(alloc: Global, out: &'a mut W) -> Result<Lines<'a, W>, AllocError>
-        ensures { IfOk result (λ lines. ⟦<Lines<'a, W> as Out>⟧.refused lines ≡ 0) }
+        ensures same_writer { IfOk result (λ lines. (lines.out.ghost_name ≡ out.entry.ghost_name) × (lines.out.now ≡ out.old)) }
+        ensures none_refused { IfOk result (λ lines. ⟦<Lines<'a, W> as Out>⟧.refused lines ≡ 0) }
     {
         let line = Vec::with_capacity(alloc, LINE_BYTES)?;
         Ok(Lines {
@@ -38,15 +42,30 @@ impl<'a, W: Write> Lines<'a, W> {
             refusals: 0,
         })
     }
+
+    /// What it printed to.
+    pub fn into_writer(self) -> &'a mut W
+        ensures same_writer { result.ghost_name ≡ self.entry.out.ghost_name }
+        ensures value { result.now ≡ self.entry.out.now }
+    {
+        let Lines { out, .. } = self;
+        out
+    }
 }
 
 impl<W: Write> Out for Lines<'_, W> {
-    ghost taken = { λ _. None };
+    ghost took = { λ old new replies. (new.out.ghost_name ≡ old.out.ghost_name)
+        × Prints line_of (record { refused = old.refusals; bytes = W.contents old.out.now }) (record { refused = new.refusals; bytes = W.contents new.out.now }) replies };
 
     ghost refused = { λ lines. lines.refusals };
 
+    ghost takes_none = { λ lines. (refl, prints_none line_of _) };
+
+    ghost joins = { λ _ _ _ first later early late. (late.0 ∙ early.0, prints_in_parts line_of _ _ _ first later early.1 late.1) };
+
     fn take(&mut self, reply: Reply, bytes: &[u8]) -> Result<(), NotTaken>
         requires { self.old.refusals + 1 < 2 ^ 64 }
+        ensures same_writer { self.new.out.ghost_name ≡ self.old.out.ghost_name }
         ensures printed { OnOk result (Appends (W.contents self.old.out.now) (W.contents self.new.out.now) (line_text reply bytes.now)) }
         ensures count { CountsRefusals self.old.refusals self.new.refusals result }
     {

@@ -11,7 +11,8 @@ use Rattle.image_store.specs.declared.fault.RecordFault.TheVariants as record_fa
 use Rattle.image_store.specs.declared.header.Header.{Header}
 use Rattle.image_store.specs.Flat.{no_counted_zone}
 use Rattle.image_store.specs.Geometry.{Shape, IsShape}
-use Rattle.image_store.specs.Loading.{Fails, Gives, NoStreamFails, AreZones}
+use Rattle.image_store.specs.Loading.{Fails, Gives}
+use Rattle.image_store.specs.steps.LoadedParts.{NoStreamFails, AreZones}
 use Rattle.image_store.specs.Namespace.{ZoneBlocks, ZonedNamespace}
 use Rattle.image_store.specs.Reading.{◌>>=◌, are_zeros, number_at, bytes_in, header_told, header_in, zone_told, zone_in, zones_in, records_in, total_kept, limits_kept, blocks_in, end_in, namespace_with, namespace_in}
 use Rattle.image_store.proofs.ReadingCalls.{bind_ok, ok_is, chosen, passed, fails_then}

@@ -4,9 +4,11 @@ use Rattle.std.proofs.lemmas.List.{append-nil, take-take, drop-take, drop-drop, 
 use Rattle.std.proofs.Math.Nat.{suc-mul, mul-le-mul_right}
 use Rattle.zone_state.specs.Zone.{CountedZone}
 use Rattle.image_store.specs.declared.fault.LoadFault.{LoadFault}
-use Rattle.image_store.specs.Flat.{zones_of, zone_seen, spliced, no_counted_zone, IsFlat}
+use Rattle.image_store.specs.Flat.{zones_of, zone_seen, no_counted_zone, IsFlat}
+use Rattle.image_store.specs.steps.Spliced.{spliced}
 use Rattle.image_store.specs.Geometry.{Shape}
-use Rattle.image_store.specs.Loading.{Fails, spliced_in}
+use Rattle.image_store.specs.Loading.{Fails}
+use Rattle.image_store.specs.steps.LoadedParts.{spliced_in}
 use Rattle.image_store.specs.Namespace.{ZoneBlocks}
 use Rattle.image_store.specs.Reading.{◌>>=◌, bytes_in, blocks_in}
 use Rattle.image_store.proofs.ReadingCalls.{fails_then, fails_before, bind_ok, ok_is}

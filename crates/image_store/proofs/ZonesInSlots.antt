@@ -4,7 +4,8 @@ use Rattle.std.proofs.lemmas.List.{drop-drop, take_at, take_all}
 use Rattle.std.proofs.Math.Nat.{suc-mul, mul-le-mul_right, add-mul}
 use Rattle.zone_state.specs.Zone.{CountedZone}
 use Rattle.image_store.specs.Blocks.{blocks_of}
-use Rattle.image_store.specs.Flat.{zones_of, zone_seen, spliced, no_counted_zone}
+use Rattle.image_store.specs.Flat.{zones_of, zone_seen, no_counted_zone}
+use Rattle.image_store.specs.steps.Spliced.{spliced}
 use Rattle.image_store.specs.Namespace.{ZoneBlocks, no_zone}
 use Rattle.image_store.proofs.BlocksOfBytes.{blocks-same, blocks-add, take-spliced, drop-spliced, drop-spliced-past, drop-spliced-later}
 

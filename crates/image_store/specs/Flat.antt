@@ -1,5 +1,5 @@
 -- Zones whose blocks lie in one list of bytes, in a slot of one size for each zone.
-use Rattle.std.specs.Prelude.{ℕ, ◌≡◌, ◌<◌, ◌+◌, ◌*◌, List, [], ◌∷◌, ◌++◌, length, get_or, take, drop}
+use Rattle.std.specs.Prelude.{ℕ, ◌≡◌, ◌<◌, ◌*◌, List, [], ◌∷◌, length, get_or, drop}
 use Rattle.zone_state.specs.declared.state.ZoneState.TheVariants.{Empty, Offline}
 use Rattle.zone_resources.specs.Admission.{IsWithin}
 use Rattle.zone_resources.specs.Counts.{counts_of}
@@ -44,7 +44,3 @@ pub record IsImage (s : Shape) (zones : List CountedZone) (counts : Counts) (byt
   pub counted : counts ≡ counts_of zones
   pub within : IsWithin zones s.limits
   pub are_bytes : AreBytes bytes
-
--- bytes with others put in their place from one on
-abbrev pub spliced : ℕ → List ℕ → List ℕ → List ℕ
-spliced at new bytes = take at bytes ++ (new ++ drop (at + length new) bytes)

@@ -1,11 +1,7 @@
 -- What a call answers that reads from a source, over what reading the source's bytes gives.
-use Rattle.std.specs.Prelude.{ℕ, ◌≡◌, ◌<◌, ◌*◌, List, length, Result, Ok, Err}
-use Rattle.zone_state.specs.Zone.{CountedZone}
+use Rattle.std.specs.Prelude.{ℕ, ◌≡◌, ◌<◌, Result, Ok, Err}
 use Rattle.image_store.specs.declared.fault.LoadFault.{LoadFault}
 use Rattle.image_store.specs.declared.fault.LoadFault.TheVariants.{Truncated, Magic, Geometry, BadZone, Total, Limits, Trailing, Stream, Memory}
-use Rattle.image_store.specs.Flat.{IsFlat, spliced}
-use Rattle.image_store.specs.Geometry.{Shape}
-use Rattle.image_store.specs.Reading.{◌>>=◌, bytes_in}
 
 -- The fault is the one that reading gives. A stream that fails says nothing of the bytes, and memory
 -- is wanted only where this holds.
@@ -34,20 +30,3 @@ CountsFault before after _ = after ≡ before
 abbrev pub CountsLoad : {X : Type 0} → ℕ → ℕ → Result X LoadFault → Type 0
 CountsLoad before after (Ok x) = after ≡ before
 CountsLoad before after (Err fault) = CountsFault before after fault
-
--- no stream has failed
-abbrev pub IsNoStream : LoadFault → Type 0
-IsNoStream Stream = ⊥
-IsNoStream _ = Unit {0}
-
-abbrev pub NoStreamFails : {X : Type 0} → Result X LoadFault → Type 0
-NoStreamFails (Ok x) = Unit {0}
-NoStreamFails (Err fault) = IsNoStream fault
-
--- so many bytes, put into their place among others, and the rest
-abbrev pub spliced_in : ℕ → ℕ → List ℕ → List ℕ → Result (List ℕ × List ℕ) LoadFault
-spliced_in at n others bytes = bytes_in n bytes >>= λ part. Ok (spliced at part.0 others, part.1)
-
--- zones that fit their shape, over any bytes that have room for all blocks
-abbrev pub AreZones : Shape → List CountedZone → Type 0
-AreZones s zones = (bytes : List ℕ) → length bytes ≡ s.zones * (s.capacity * s.block) → IsFlat s zones bytes

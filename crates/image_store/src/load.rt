@@ -3,7 +3,8 @@
 ghost use Rattle.std.specs.Prelude.{◌≡◌, ◌≤◌, ◌<◌, ◌-◌, ◌+◌, ◌*◌, ◌^◌, length, IfOk, IsOk, OnOk};
 ghost use Rattle.zone_resources.specs.Admission.{IsWithin};
 ghost use Rattle.image_store.specs.Flat.{IsFlat, namespace_of, zones_of};
-ghost use Rattle.image_store.specs.Loading.{Gives, CountsLoad, AreZones, spliced_in};
+ghost use Rattle.image_store.specs.Loading.{Gives, CountsLoad};
+ghost use Rattle.image_store.specs.steps.LoadedParts.{AreZones, spliced_in};
 ghost use Rattle.image_store.specs.Reading.{bytes_in, header_in, records_in, total_kept, limits_kept, blocks_in, end_in, namespace_in};
 
 use crate::fault::LoadFault;

@@ -1,7 +1,8 @@
 //! The records of an image's zones.
 
 ghost use Rattle.std.specs.Prelude.{◌≡◌, ◌≤◌, ◌*◌, ◌<◌, ◌^◌, length};
-ghost use Rattle.image_store.specs.Loading.{Gives, NoStreamFails};
+ghost use Rattle.image_store.specs.Loading.{Gives};
+ghost use Rattle.image_store.specs.steps.LoadedParts.{NoStreamFails};
 ghost use Rattle.image_store.specs.Reading.{zone_in, zone_with, zones_in};
 ghost use Rattle.image_store.specs.Text.{record_text, written_blocks};
 

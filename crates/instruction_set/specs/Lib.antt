@@ -1,5 +1,5 @@
-pub mod Codes
 pub mod Instruction
-pub mod Laws
-pub mod Program
 pub mod Spelling
+pub mod Codes
+pub mod Program
+pub mod Laws

@@ -1,7 +1,9 @@
 //! The machine.
 
 mod effect;
+mod emit;
 mod exit;
+mod guessed;
 mod run;
 mod step;
 

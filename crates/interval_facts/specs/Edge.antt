@@ -1,5 +1,5 @@
 -- What an edge of a compare tells of its operands (profile).
-use Rattle.std.specs.Prelude.{ℕ, Bool, true, false, Option, Some, None, ◌≤◌, ◌+◌, ◌-◌, ◌^◌, ◌==◌, ◌&&◌, ◌||◌, nat_lt, not, min, max, if◌then◌else◌}
+use Rattle.std.specs.Prelude.{ℕ, Bool, true, false, Option, Some, None, ◌+◌, ◌-◌, ◌^◌, ◌==◌, ◌&&◌, ◌||◌, nat_lt, not, min, max, if◌then◌else◌}
 use Rattle.instruction_set.specs.declared.operation.Relation.{Relation}
 use Rattle.instruction_set.specs.declared.operation.Relation.TheVariants.{Equal, Greater, GreaterOrEqual, AnyBitSet, NotEqual, SignedGreater, SignedGreaterOrEqual, Less, LessOrEqual, SignedLess, SignedLessOrEqual}
 use Rattle.instruction_set.specs.declared.operation.Width.{Width}
@@ -9,9 +9,6 @@ use Rattle.interval_facts.specs.Fact.{IsFact, is_single, range}
 use Rattle.word_domain.specs.declared.bounds.Bounds.{Bounds}
 use Rattle.interval_facts.specs.declared.fact.Fact.{Fact}
 use Rattle.interval_facts.specs.declared.fact.Fact.TheVariants.{Words}
-
-abbrev pub OrderedPair : Bounds × Bounds → Type 0
-OrderedPair both = (both.0.low ≤ both.0.high) × (both.1.low ≤ both.1.high)
 
 abbrev pub FactPair : Fact × Fact → Type 0
 FactPair both = IsFact both.0 × IsFact both.1

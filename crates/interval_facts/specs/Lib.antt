@@ -4,3 +4,4 @@ pub mod Arithmetic
 pub mod Edge
 pub mod Intervals
 pub mod Constants
+pub mod steps

@@ -1,6 +1,6 @@
 -- Arithmetic on words between bounds, which are numbers of the instruction's width (profile). The
 -- rules are those for operands of which not all are single.
-use Rattle.std.specs.Prelude.{ℕ, ◌<◌, ◌≤◌, ◌+◌, ◌-◌, ◌*◌, ◌/◌, ◌^◌, ◌==◌, ◌&&◌, nat_lt, nat_le, min, if◌then◌else◌}
+use Rattle.std.specs.Prelude.{ℕ, ◌+◌, ◌-◌, ◌*◌, ◌/◌, ◌^◌, ◌==◌, ◌&&◌, nat_lt, nat_le, min, if◌then◌else◌}
 use Rattle.instruction_set.specs.declared.operation.Operation.{Operation}
 use Rattle.instruction_set.specs.declared.operation.Operation.TheVariants.{Add, Subtract, Multiply, Divide, SignedDivide, Or, And, LeftShift, RightShift, Modulo, SignedModulo, Xor, Move, ArithmeticShift}
 use Rattle.instruction_set.specs.declared.operation.Width.{Width}
@@ -15,11 +15,6 @@ limit w = 2 ^ bits w
 -- all numbers of a width
 abbrev pub top : Width → Bounds
 top w = range 0 (limit w - 1)
-
--- bounds in order, of numbers of a width
-pub record IsRange (w : Width) (b : Bounds) : Type 0 where
-  pub ordered : b.low ≤ b.high
-  pub below : b.high < limit w
 
 -- a number below this has no sign in a width
 abbrev pub half : Width → ℕ

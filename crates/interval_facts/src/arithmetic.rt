@@ -3,7 +3,7 @@
 ghost use Rattle.std.specs.Prelude.{◌≡◌, ◌≤◌, ◌≤ℤ◌, ◌+ℤ◌, ◌-ℤ◌, IfSome};
 ghost use Rattle.program_meaning.specs.Word.{computed};
 ghost use Rattle.interval_facts.specs.Fact.{IsFact, bounds_of};
-ghost use Rattle.interval_facts.specs.Range.{IsRange};
+ghost use Rattle.interval_facts.specs.steps.Bounds.{IsRange};
 ghost use Rattle.interval_facts.specs.Arithmetic.{signed_bounds, moved_on, moved_back, added, subtracted, cut, operand_of, combined_64, combined_of, width_of, unsigned_below, extended_of, swapped_of, is_known, are_known, estimated, alu_of};
 
 use crate::fact::{Fact, is_one, one, pointer_between, words_of};

@@ -3,7 +3,8 @@
 ghost use Rattle.std.specs.Prelude.{◌≡◌, ◌≤◌, ◌<◌, ◌^◌, ◌-◌, ◌+◌, nat_lt};
 ghost use Rattle.program_meaning.specs.Word.{bits, count};
 ghost use Rattle.interval_facts.specs.Fact.{range};
-ghost use Rattle.interval_facts.specs.Range.{IsRange, limit, top, half, sum, difference, product, quotient, remainder, if_positive, conjunction, shifted_left, shifted_left_by, shifted_right, shifted_right_by, combined};
+ghost use Rattle.interval_facts.specs.Range.{limit, top, half, sum, difference, product, quotient, remainder, if_positive, conjunction, shifted_left, shifted_left_by, shifted_right, shifted_right_by, combined};
+ghost use Rattle.interval_facts.specs.steps.Bounds.{IsRange};
 
 use crate::fact::{is_one, one};
 use instruction_set::{Operation, Width};

@@ -2,7 +2,8 @@
 
 ghost use Rattle.std.specs.Prelude.{◌≡◌, ◌+◌, ◌*◌, ◌^◌, ◌≤◌, ◌<◌};
 ghost use Rattle.nvme_entry.specs.Entry.{action_of, asked, asked_blocks, decoded, identifier_of, starting_lba};
-ghost use Rattle.nvme_entry.specs.Encoding.{program_length, HasFields};
+ghost use Rattle.nvme_entry.specs.Encoding.{program_length};
+ghost use Rattle.nvme_entry.specs.steps.EntryFields.{HasFields};
 
 use crate::command::{
     BlockCount, Command, DwordCount, LoadCommand, MOST_TRANSFER, Opcode, RunCommand,

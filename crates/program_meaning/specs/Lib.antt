@@ -1,9 +1,9 @@
-pub mod Cause
-pub mod Effect
-pub mod Laws
 pub mod Memory
-pub mod Run
 pub mod State
-pub mod Step
-pub mod TrapFree
 pub mod Word
+pub mod Effect
+pub mod Cause
+pub mod Step
+pub mod Run
+pub mod TrapFree
+pub mod Laws

@@ -1,9 +1,8 @@
 -- Lists of events, in parts, and turns as events.
-use Rattle.std.proofs.Common.{suc, ◌≡◌, ℕ, List, [], ◌∷◌, ◌++◌, map, Option, None, refl, ap, sym, subst, ◌∙◌}
+use Rattle.std.proofs.Common.{suc, ◌≡◌, ℕ, List, [], ◌∷◌, ◌++◌, map, None, refl, ap, sym, subst, ◌∙◌}
 use Rattle.std.proofs.lemmas.List.{map-append}
 use Rattle.word_domain.specs.Domain.{Operations}
-use Rattle.device_events.specs.Replies.{ReplyWithData, and_then}
-use Rattle.device_events.proofs.Proved.{taken_in_parts}
+use Rattle.device_events.specs.Replies.{Joins, ReplyWithData}
 use Rattle.pushdown.specs.Draining.{AreLowest, Drains, answers_to_turns, lowest_run, state_after_turns}
 use Rattle.pushdown.specs.Events.{Occurrence, answers_to, state_after}
 use Rattle.pushdown.specs.Machine.{happens, turned}
@@ -39,35 +38,11 @@ module _ {D : Type 0} (operations : Operations D) where
   pub in_parts : InParts operations
   in_parts first later s = record { answers = answers_to-append first later s; state = state_after-append first later s }
 
-  -- the answers that were taken, with those of later events behind them
-  answers_in_parts : (first later : List Occurrence) (old between : State) (before then taken : Option (List ReplyWithData))
-      → between ≡ state_after operations first old → then ≡ and_then before (answers_to operations first old)
-      → taken ≡ and_then then (answers_to operations later between)
-      → taken ≡ and_then before (answers_to operations (first ++ later) old)
-  answers_in_parts first later old between before then taken state early late =
-      let done = answers_to operations first old in
-      late
-      ∙ ap (λ (b : Option (List ReplyWithData)). and_then b (answers_to operations later between)) early
-      ∙ taken_in_parts before done (answers_to operations later between)
-      ∙ ap (λ (s : State). and_then before (done ++ answers_to operations later s)) state
-      ∙ ap (and_then before) (sym (answers_to-append first later old))
-
   state_in_parts : (first later : List Occurrence) (old between new : State)
       → between ≡ state_after operations first old → new ≡ state_after operations later between
       → new ≡ state_after operations (first ++ later) old
   state_in_parts first later old between new state last =
       last ∙ ap (state_after operations later) state ∙ sym (state_after-append first later old)
-
-  pub served_in_parts : ServedInParts operations
-  served_in_parts first later old between new before then taken a b = record {
-    occurrences = a.occurrences ++ b.occurrences;
-    are =
-        map-append (λ (o : Occurrence). o.event) a.occurrences b.occurrences
-        ∙ ap (λ (events : List Event). events ++ map (λ (o : Occurrence). o.event) b.occurrences) a.are
-        ∙ ap (λ (events : List Event). first ++ events) b.are;
-    state = state_in_parts a.occurrences b.occurrences old between new a.state b.state;
-    answers = answers_in_parts a.occurrences b.occurrences old between before then taken a.state a.answers b.answers;
-  }
 
   -- ---- turns as events
 
@@ -83,20 +58,43 @@ module _ {D : Type 0} (operations : Operations D) where
   pub drained_by_turns : DrainedByTurns operations
   drained_by_turns runs s = record { answers = turns_answers runs s; state = turns_state runs s }
 
-  pub served_and_drained : ServedAndDrained operations
-  served_and_drained events old between new before then taken served drained =
-      let runs = drained.runs in
-      let turns = turn_events runs in
-      record {
-        occurrences = served.occurrences;
-        are = served.are;
-        runs = runs;
-        drains = subst (λ (s : State). Drains s runs) served.state drained.drains;
-        state = state_in_parts served.occurrences turns old between new served.state (drained.state ∙ turns_state runs between);
-        answers = answers_in_parts served.occurrences turns old between before then taken served.state served.answers
-            (drained.answers ∙ ap (and_then then) (turns_answers runs between));
-        none_left = ap lowest_run drained.state ∙ drained.drains.none_left;
-      }
+  -- ---- what takes the answers, in two parts
+
+  module _ {T : Type 0} (took : T → T → List ReplyWithData → Type 0) (joins : Joins took) where
+    taken_in_parts : (first later : List Occurrence) (old between : State) (before then after : T) → between ≡ state_after operations first old
+        → took before then (answers_to operations first old) → took then after (answers_to operations later between)
+        → took before after (answers_to operations (first ++ later) old)
+    taken_in_parts first later old between before then after state early late =
+        let done = answers_to operations first old in
+        subst (took before after) (sym (answers_to-append first later old))
+        (subst (λ (s : State). took before after (done ++ answers_to operations later s)) state
+        (joins before then after done (answers_to operations later between) early late))
+
+    pub served_in_parts : ServedInParts operations took
+    served_in_parts first later old between new before then after a b = record {
+      occurrences = a.occurrences ++ b.occurrences;
+      are =
+          map-append (λ (o : Occurrence). o.event) a.occurrences b.occurrences
+          ∙ ap (λ (events : List Event). events ++ map (λ (o : Occurrence). o.event) b.occurrences) a.are
+          ∙ ap (λ (events : List Event). first ++ events) b.are;
+      state = state_in_parts a.occurrences b.occurrences old between new a.state b.state;
+      answers = taken_in_parts a.occurrences b.occurrences old between before then after a.state a.answers b.answers;
+    }
+
+    pub served_and_drained : ServedAndDrained operations took
+    served_and_drained events old between new before then after served drained =
+        let runs = drained.runs in
+        let turns = turn_events runs in
+        record {
+          occurrences = served.occurrences;
+          are = served.are;
+          runs = runs;
+          drains = subst (λ (s : State). Drains s runs) served.state drained.drains;
+          state = state_in_parts served.occurrences turns old between new served.state (drained.state ∙ turns_state runs between);
+          answers = taken_in_parts served.occurrences turns old between before then after served.state served.answers
+              (subst (took then after) (turns_answers runs between) drained.answers);
+          none_left = ap lowest_run drained.state ∙ drained.drains.none_left;
+        }
 
 -- ---- what drains a state
 

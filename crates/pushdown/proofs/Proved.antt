@@ -1,6 +1,8 @@
 -- The laws of this crate, proved: what the proofs of other crates cite of it.
+use Rattle.std.proofs.Common.{List}
 use Rattle.word_domain.specs.Domain.{Operations}
 use Rattle.accepted_programs.specs.Laws.{AcceptedNeverTraps}
+use Rattle.device_events.specs.Replies.{Joins, ReplyWithData}
 use Rattle.pushdown.specs.AnyOrder.{TurnsInAnyOrder}
 use Rattle.pushdown.specs.Laws.{BlocksLeaveOthers, DrainingEnds, EventsKeepForRuns, RestEnds, RestGoesOn, RestIsFew, RoomIsOpen, RoomStays, StatesAreSound, TurnsLeaveFewer}
 use Rattle.pushdown.specs.Parts.{DrainedByTurns, EventsJoin, InParts, ServedAndDrained}
@@ -54,7 +56,7 @@ module _ {D : Type 0} (operations : Operations D) where
   pub drained_by_turns : DrainedByTurns operations
   drained_by_turns = parts.drained_by_turns operations
 
-  pub served_and_drained : ServedAndDrained operations
+  pub served_and_drained : {T : Type 0} (took : T → T → List ReplyWithData → Type 0) → Joins took → ServedAndDrained operations took
   served_and_drained = parts.served_and_drained operations
 
   pub events_keep_for_runs : EventsKeepForRuns operations

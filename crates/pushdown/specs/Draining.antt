@@ -1,6 +1,6 @@
 -- Turns of the lowest active run, until no run is left.
 use Rattle.std.specs.Prelude.{ℕ, ◌≡◌, ◌≤◌, ◌+◌, ◌-◌, List, [], ◌∷◌, length, position, take, is_some, Option, Some, None}
-use Rattle.device_events.specs.Replies.{ReplyWithData, and_then}
+use Rattle.device_events.specs.Replies.{ReplyWithData}
 use Rattle.pushdown.specs.Machine.{turned}
 use Rattle.pushdown.specs.State.{Place, State}
 
@@ -37,20 +37,20 @@ pub record Drains (s : State) (runs : List ℕ) : Type 0 where
   pub none_left : lowest_run (state_after_turns runs s) ≡ None
   pub few : length runs ≤ turns_left s.places
 
--- what a device does that is drained, whose answers are taken, where that is told
-pub record HasDrained (old new : State) (before taken : Option (List ReplyWithData)) : Type 0 where
+-- what a device does that is drained; `took` says of its answers that they were taken
+pub record HasDrained (old new : State) (took : List ReplyWithData → Type 0) : Type 0 where
   pub runs : List ℕ
   pub drains : Drains old runs
   pub state : new ≡ state_after_turns runs old
-  pub answers : taken ≡ and_then before (answers_to_turns runs old)
+  pub answers : took (answers_to_turns runs old)
 
 -- so many turns are done, each of the lowest active run of then, and the answer to the last of them was
 -- refused; those before it were taken
-pub record StopsDraining (old new : State) (before taken : Option (List ReplyWithData)) (done : ℕ) : Type 0 where
+pub record StopsDraining (old new : State) (took : List ReplyWithData → Type 0) (done : ℕ) : Type 0 where
   pub runs : List ℕ
   pub lowest : AreLowest runs old
   pub some : 1 ≤ done
   pub given : length runs ≡ done
   pub few : done ≤ turns_left old.places
   pub state : new ≡ state_after_turns runs old
-  pub answers : taken ≡ and_then before (answers_to_turns (take (done - 1) runs) old)
+  pub answers : took (answers_to_turns (take (done - 1) runs) old)

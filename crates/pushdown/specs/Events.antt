@@ -1,7 +1,7 @@
 -- Lists of events.
-use Rattle.std.specs.Prelude.{ℕ, Bool, ◌≡◌, ◌≤◌, ◌-◌, List, [], ◌∷◌, length, map, take, Option}
+use Rattle.std.specs.Prelude.{ℕ, Bool, ◌≡◌, ◌≤◌, ◌-◌, List, [], ◌∷◌, length, map, take}
 use Rattle.word_domain.specs.Domain.{Operations}
-use Rattle.device_events.specs.Replies.{ReplyWithData, and_then}
+use Rattle.device_events.specs.Replies.{ReplyWithData}
 use Rattle.pushdown.specs.Machine.{happens}
 use Rattle.pushdown.specs.State.{State}
 use Rattle.device_events.specs.declared.event.Event.{Event}
@@ -36,18 +36,18 @@ module _ {D : Type 0} (operations : Operations D) where
     pub state : new ≡ (happens operations old starved e).state
     pub answered : answer ≡ (happens operations old starved e).answer
 
-  -- events were done, and their answers taken, where that is told
-  pub record HasServed (events : List Event) (old new : State) (before taken : Option (List ReplyWithData)) : Type 0 where
+  -- events were done; `took` says of their answers that they were taken
+  pub record HasServed (events : List Event) (old new : State) (took : List ReplyWithData → Type 0) : Type 0 where
     pub occurrences : List Occurrence
     pub are : AreOf events occurrences
     pub state : new ≡ state_after operations occurrences old
-    pub answers : taken ≡ and_then before (answers_to operations occurrences old)
+    pub answers : took (answers_to operations occurrences old)
 
   -- so many events are done, and the answer to the last of them was refused; those before it were taken
-  pub record HasStopped (events : List Event) (old new : State) (before taken : Option (List ReplyWithData)) (done : ℕ) : Type 0 where
+  pub record HasStopped (events : List Event) (old new : State) (took : List ReplyWithData → Type 0) (done : ℕ) : Type 0 where
     pub some : 1 ≤ done
     pub within : done ≤ length events
     pub occurrences : List Occurrence
     pub are : AreOf (take done events) occurrences
     pub state : new ≡ state_after operations occurrences old
-    pub answers : taken ≡ and_then before (answers_to operations (take (done - 1) occurrences) old)
+    pub answers : took (answers_to operations (take (done - 1) occurrences) old)

@@ -1,7 +1,7 @@
 -- Lists of events, in parts, and turns as events.
-use Rattle.std.specs.Prelude.{ℕ, false, ◌≡◌, List, ◌++◌, length, map, Option, None}
+use Rattle.std.specs.Prelude.{ℕ, false, ◌≡◌, List, ◌++◌, length, map, None}
 use Rattle.word_domain.specs.Domain.{Operations}
-use Rattle.device_events.specs.Replies.{ReplyWithData, and_then}
+use Rattle.device_events.specs.Replies.{ReplyWithData}
 use Rattle.pushdown.specs.Draining.{Drains, HasDrained, answers_to_turns, lowest_run, state_after_turns}
 use Rattle.pushdown.specs.Events.{AreOf, HasServed, Occurrence, answers_to, state_after}
 use Rattle.pushdown.specs.Pushdown.{AreEvents}
@@ -29,15 +29,15 @@ module _ {D : Type 0} (operations : Operations D) where
     pub answers : answers_to_turns runs s ≡ answers_to operations (turn_events runs) s
     pub state : state_after_turns runs s ≡ state_after operations (turn_events runs) s
 
-  -- events were done, and then turns of the lowest active run of then, until no run was left; the answers of
-  -- both were taken in order, where that is told
-  pub record HasFinished (events : List Event) (old new : State) (before taken : Option (List ReplyWithData)) : Type 0 where
+  -- events were done, and then turns of the lowest active run of then, until no run was left; `took` says of the
+  -- answers of both, in order, that they were taken
+  pub record HasFinished (events : List Event) (old new : State) (took : List ReplyWithData → Type 0) : Type 0 where
     pub occurrences : List Occurrence
     pub are : AreOf events occurrences
     pub runs : List ℕ
     pub drains : Drains (state_after operations occurrences old) runs
     pub state : new ≡ state_after operations (occurrences ++ turn_events runs) old
-    pub answers : taken ≡ and_then before (answers_to operations (occurrences ++ turn_events runs) old)
+    pub answers : took (answers_to operations (occurrences ++ turn_events runs) old)
     pub none_left : lowest_run new ≡ None
 
 -- the events of two lists that bytes can spell are so together
@@ -48,11 +48,11 @@ EventsJoin = (first later : List Occurrence) → AreEvents first → AreEvents l
 abbrev pub InParts : {D : Type 0} → Operations D → Type 0
 InParts operations = (first later : List Occurrence) (s : State) → AreInParts operations first later s
 
-abbrev pub ServedInParts : {D : Type 0} → Operations D → Type 0
-ServedInParts operations =
-    (first later : List Event) (old between new : State) (before then taken : Option (List ReplyWithData))
-    → HasServed operations first old between before then → HasServed operations later between new then taken
-    → HasServed operations (first ++ later) old new before taken
+abbrev pub ServedInParts : {D T : Type 0} → Operations D → (T → T → List ReplyWithData → Type 0) → Type 0
+ServedInParts {T = T} operations took =
+    (first later : List Event) (old between new : State) (before then after : T)
+    → HasServed operations first old between (took before then) → HasServed operations later between new (took then after)
+    → HasServed operations (first ++ later) old new (took before after)
 
 abbrev pub DrainedByTurns : {D : Type 0} → Operations D → Type 0
 DrainedByTurns operations = (runs : List ℕ) (s : State) → AreTurns operations runs s
@@ -62,8 +62,8 @@ abbrev pub DrainedInOneWay : Type 0
 DrainedInOneWay = (s : State) (runs others : List ℕ) → Drains s runs → Drains s others → runs ≡ others
 
 -- a device that is served events and then drained has done them and all that they began
-abbrev pub ServedAndDrained : {D : Type 0} → Operations D → Type 0
-ServedAndDrained operations =
-    (events : List Event) (old between new : State) (before then taken : Option (List ReplyWithData))
-    → HasServed operations events old between before then → HasDrained between new then taken
-    → HasFinished operations events old new before taken
+abbrev pub ServedAndDrained : {D T : Type 0} → Operations D → (T → T → List ReplyWithData → Type 0) → Type 0
+ServedAndDrained {T = T} operations took =
+    (events : List Event) (old between new : State) (before then after : T)
+    → HasServed operations events old between (took before then) → HasDrained between new (took then after)
+    → HasFinished operations events old new (took before after)

@@ -8,6 +8,7 @@ ghost use Rattle.pushdown.specs.Pushdown.{Pushdown};
 ghost use Rattle.pushdown.specs.ReadBack.{AppendedReadsBack, RunsReadBack, ShapesAreKept, UnclearedKeepBlocks, WrittenIsRead, WrittenReadsBack};
 ghost use Rattle.pushdown.specs.View.{SeenAtAdmission, SeenStays};
 
+use device_events::Out;
 use word_domain::Domain;
 
 /// The rest of a run at its admission is its outcome; later it is its next turn and the rest after that,
@@ -70,18 +71,18 @@ pub fn one_answer_each<D: Domain>()
 {}
 
 /// Events can be served in parts: the later ones happen to what the earlier ones leave.
-pub fn served_in_parts<D: Domain>()
+pub fn served_in_parts<D: Domain, O: Out>()
     ensures joined { EventsJoin }
     ensures parts { InParts D.operations }
-    ensures served { ServedInParts D.operations }
+    ensures served { ServedInParts D.operations O.took }
 {}
 
 /// A device that is drained does turns that are events like any other, and there is one list of turns that
 /// drains it. One that is served events and then drained has done both, and no run is left.
-pub fn served_and_drained<D: Domain>()
+pub fn served_and_drained<D: Domain, O: Out>()
     ensures turns { DrainedByTurns D.operations }
     ensures one_way { DrainedInOneWay }
-    ensures finished { ServedAndDrained D.operations }
+    ensures finished { ServedAndDrained D.operations O.took }
 {}
 
 /// In each state that events leave, turns of the lowest active run come to an end: no run is left, after at

@@ -17,7 +17,8 @@ use Rattle.pushdown.specs.Answers.{Submission}
 use Rattle.pushdown.specs.Machine.{why_not_run}
 use Rattle.pushdown.specs.State.{program_at}
 use Rattle.runner.specs.steps.Admitting.{ArePlaces}
-use Rattle.runner.specs.Held.{loaded_slot, held_by, device_state}
+use Rattle.runner.specs.Held.{loaded_slot, device_state}
+use Rattle.runner.specs.steps.HeldRuns.{held_by}
 use Rattle.runner.specs.Ready.{IsReady}
 use Rattle.runner.specs.declared.active_run.Active.{Active as Held}
 use Rattle.runner.specs.declared.loaded_program.LoadedProgram.{LoadedProgram}

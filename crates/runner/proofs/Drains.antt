@@ -1,18 +1,17 @@
 -- Turns of the lowest active run, one turn more.
-use Rattle.std.proofs.Common.{◌≡◌, ℕ, suc, ◌+◌, ◌-◌, ◌*◌, ◌%◌, ◌≤◌, List, [], ◌∷◌, ◌++◌, length, map, take, drop, get_or, Option, Some, None, refl, inl, inr, ◌⊎◌, ap, sym, subst, ◌∙◌, arith, length-append}
-use Rattle.std.specs.Prelude.{is_some, true}
+use Rattle.std.proofs.Common.{◌≡◌, ℕ, suc, ◌+◌, ◌-◌, ◌*◌, ◌%◌, ◌≤◌, List, [], ◌∷◌, ◌++◌, append-nil, length, map, take, drop, get_or, Option, Some, None, true, refl, inl, inr, ◌⊎◌, ap, sym, subst, ◌∙◌, arith, length-append}
+use Rattle.std.specs.Prelude.{is_some}
 use Rattle.std.proofs.lemmas.List.{length-take, take_at}
 use Rattle.std.proofs.lemmas.List.Quantifiers.{position-Some}
 use Rattle.interval_domain.specs.Intervals.{intervals}
 use Rattle.image_store.specs.Namespace.{ZonedNamespace, zone_at}
 use Rattle.zns_commands.specs.Address.{zone_number}
 use Rattle.pushdown.specs.Admission.{task_of}
-use Rattle.device_events.specs.Replies.{ReplyWithData, and_then}
+use Rattle.device_events.specs.Replies.{Joins, ReplyWithData}
 use Rattle.pushdown.specs.Draining.{AreLowest, HasDrained, StopsDraining, answers_to_turns, lowest_run, state_after_turns, turns_left}
 use Rattle.pushdown.specs.Machine.{turned}
 use Rattle.pushdown.specs.State.{State, place_at}
 use Rattle.pushdown.specs.View.{seen, to_come}
-use Rattle.device_events.proofs.Proved.{taken_in_parts}
 use Rattle.pushdown.proofs.Proved.{rest_is_few, turns_leave_fewer}
 use Rattle.runner.specs.Held.{active_of, loaded_slot, device_state}
 use Rattle.runner.specs.Ready.{Fits, IsReached}
@@ -63,48 +62,52 @@ lowest-append [] later s are more = more
 lowest-append (run ∷ runs) later s are more = (are.0, lowest-append runs later (turned s run).state are.1 more)
 
 -- what is done so far: so many turns, each of the lowest active run, whose answers were taken
-pub record IsDraining (old now : State) (first taken : Option (List ReplyWithData)) (done : ℕ) : Type 0 where
+pub record IsDraining (old now : State) (took : List ReplyWithData → Type 0) (done : ℕ) : Type 0 where
   pub runs : List ℕ
   pub lowest : AreLowest runs old
   pub count : length runs ≡ done
   pub state : now ≡ state_after_turns runs old
-  pub answers : taken ≡ and_then first (answers_to_turns runs old)
+  pub answers : took (answers_to_turns runs old)
   pub few : done + turns_left now.places ≤ turns_left old.places
 
-module _ (old now new : State) (first then after : Option (List ReplyWithData)) (done run : ℕ) (answer : ReplyWithData) where
-  more_state : (d : IsDraining old now first then done) → new ≡ (turned now run).state → new ≡ state_after_turns (d.runs ++ run ∷ []) old
+module _ {T : Type 0} (took : T → T → List ReplyWithData → Type 0) (joins : Joins took) (old now new : State) (first then after : T) (done run : ℕ) (answer : ReplyWithData) where
+  more_state : (d : IsDraining old now (took first then) done) → new ≡ (turned now run).state → new ≡ state_after_turns (d.runs ++ run ∷ []) old
   more_state d step = step ∙ ap (λ (s : State). (turned s run).state) d.state ∙ sym (turns_state-append d.runs (run ∷ []) old)
 
-  more_lowest : (d : IsDraining old now first then done) → lowest_run now ≡ Some run → AreLowest (d.runs ++ run ∷ []) old
+  more_lowest : (d : IsDraining old now (took first then) done) → lowest_run now ≡ Some run → AreLowest (d.runs ++ run ∷ []) old
   more_lowest d low = lowest-append d.runs (run ∷ []) old d.lowest (subst (λ (s : State). lowest_run s ≡ Some run) d.state low, tt)
 
-  more_count : (d : IsDraining old now first then done) → length (d.runs ++ run ∷ []) ≡ done + 1
+  more_count : (d : IsDraining old now (took first then) done) → length (d.runs ++ run ∷ []) ≡ done + 1
   more_count d = omega (arith, length-append d.runs (run ∷ []), d.count)
 
-  module _ (d : IsDraining old now first then done) (reached : IsReached now) (low : lowest_run now ≡ Some run) (step : new ≡ (turned now run).state) where
+  more_answers : (d : IsDraining old now (took first then) done) → answer ≡ (turned now run).answer
+      → answers_to_turns (d.runs ++ run ∷ []) old ≡ answers_to_turns d.runs old ++ answer ∷ []
+  more_answers d answered =
+      turns_answers-append d.runs (run ∷ []) old
+      ∙ ap (λ (x : ReplyWithData). answers_to_turns d.runs old ++ x ∷ []) (sym (answered ∙ ap (λ (s : State). (turned s run).answer) d.state))
+
+  module _ (d : IsDraining old now (took first then) done) (reached : IsReached now) (low : lowest_run now ≡ Some run) (step : new ≡ (turned now run).state) where
     more_few : done + 1 + turns_left new.places ≤ turns_left old.places
     more_few =
         let less = turn_less now run reached low in
         let left = ap (λ (s : State). turns_left s.places) step in omega (arith, d.few, less, left)
 
-    pub drained_more : answer ≡ (turned now run).answer → after ≡ and_then then (answer ∷ []) → IsDraining old new first after (done + 1)
+    pub drained_more : answer ≡ (turned now run).answer → took then after (answer ∷ []) → IsDraining old new (took first after) (done + 1)
     drained_more answered added = record {
       runs = d.runs ++ run ∷ [];
       lowest = more_lowest d low;
       count = more_count d;
       state = more_state d step;
-      answers = added ∙ ap (λ (x : Option (List ReplyWithData)). and_then x (answer ∷ [])) d.answers
-          ∙ taken_in_parts first (answers_to_turns d.runs old) (answer ∷ [])
-          ∙ ap (λ (x : ReplyWithData). and_then first (answers_to_turns d.runs old ++ x ∷ [])) (answered ∙ ap (λ (s : State). (turned s run).answer) d.state)
-          ∙ ap (and_then first) (sym (turns_answers-append d.runs (run ∷ []) old));
+      answers = subst (took first after) (sym (more_answers d answered)) (joins first then after (answers_to_turns d.runs old) (answer ∷ []) d.answers added);
       few = more_few;
     }
 
-    pub drained_stops : after ≡ then → StopsDraining old new first after (done + 1)
-    drained_stops same =
+    pub drained_stops : took then after [] → StopsDraining old new (took first after) (done + 1)
+    drained_stops none =
         let before : done + 1 - 1 ≡ length d.runs = omega (arith, d.count) in
         let those : take (done + 1 - 1) (d.runs ++ run ∷ []) ≡ d.runs =
         ap (λ (n : ℕ). take n (d.runs ++ run ∷ [])) before ∙ take_at d.runs (run ∷ []) (length d.runs) refl in
+        let answers = answers_to_turns d.runs old in
         record {
           runs = d.runs ++ run ∷ [];
           lowest = more_lowest d low;
@@ -112,13 +115,18 @@ module _ (old now new : State) (first then after : Option (List ReplyWithData)) 
           given = more_count d;
           few = omega (arith, more_few);
           state = more_state d step;
-          answers = same ∙ d.answers ∙ ap (λ (xs : List ℕ). and_then first (answers_to_turns xs old)) (sym those);
+          answers = subst (took first after) (append-nil answers ∙ ap (λ (xs : List ℕ). answers_to_turns xs old) (sym those))
+              (joins first then after answers [] d.answers none);
         }
 
+-- before the first turn
+pub drained_none : {T : Type 0} (took : T → T → List ReplyWithData → Type 0) (first : T) (s : State) → took first first [] → IsDraining s s (took first first) 0
+drained_none took first s none = record { runs = []; lowest = tt; count = refl; state = refl; answers = none; few = omega arith }
+
 -- no run is left
-pub drained : (old now : State) (first then : Option (List ReplyWithData)) (done : ℕ) → IsDraining old now first then done → lowest_run now ≡ None
-    → HasDrained old now first then
-drained old now first then done d none = record {
+pub drained : (old now : State) (took : List ReplyWithData → Type 0) (done : ℕ) → IsDraining old now took done → lowest_run now ≡ None
+    → HasDrained old now took
+drained old now took done d none = record {
   runs = d.runs;
   drains = record {
     lowest = d.lowest;
@@ -134,8 +142,8 @@ none_done [] s none = refl
 none_done (run ∷ runs) s none = absurd (omega (arith, none))
 
 -- what bounds the turns that are left before any turn bounded them at first
-pub few_at_first : (old now : State) (first taken : Option (List ReplyWithData)) (done most : ℕ) → IsDraining old now first taken done
+pub few_at_first : (old now : State) (took : List ReplyWithData → Type 0) (done most : ℕ) → IsDraining old now took done
     → (done ≡ 0) ⊎ (turns_left old.places ≤ most) → turns_left now.places ≤ most → turns_left old.places ≤ most
-few_at_first old now first taken done most d (inr few) left = few
-few_at_first old now first taken done most d (inl none) left =
+few_at_first old now took done most d (inr few) left = few
+few_at_first old now took done most d (inl none) left =
     subst (λ (s : State). turns_left s.places ≤ most) (d.state ∙ none_done d.runs old (d.count ∙ none)) left

@@ -6,7 +6,8 @@ use Rattle.zns_commands.specs.Address.{zone_number}
 use Rattle.pushdown.specs.Admission.{Loaded}
 use Rattle.pushdown.specs.State.{destination_of, holds_of, source_of}
 use Rattle.pushdown.specs.View.{seen}
-use Rattle.runner.specs.Held.{destination_held, loaded_slot, held_by, running, source_held, device_state}
+use Rattle.runner.specs.Held.{loaded_slot, running, device_state}
+use Rattle.runner.specs.steps.HeldRuns.{destination_held, held_by, source_held}
 use Rattle.runner.specs.Ready.{Fits, IsReady}
 use Rattle.runner.specs.declared.active_run.Active.{Active as Held}
 use Rattle.runner.specs.declared.loaded_program.LoadedProgram.{LoadedProgram}

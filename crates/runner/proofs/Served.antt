@@ -1,14 +1,13 @@
 -- Events that are done one after another, one event more.
-use Rattle.std.proofs.Common.{◌≡◌, ℕ, ◌+◌, ◌-◌, ◌<◌, List, [], ◌∷◌, ◌++◌, length, take, get_or, Option, refl, ap, sym, ◌∙◌, arith}
+use Rattle.std.proofs.Common.{◌≡◌, ℕ, ◌+◌, ◌-◌, ◌<◌, List, [], ◌∷◌, ◌++◌, append-nil, length, take, get_or, refl, ap, subst, sym, ◌∙◌, arith}
 use Rattle.std.proofs.lemmas.List.{length-map, length-take-le, map_push, take_at, take_more}
 use Rattle.interval_domain.specs.Intervals.{intervals}
-use Rattle.device_events.specs.Replies.{ReplyWithData, and_then, data_length}
+use Rattle.device_events.specs.Replies.{Joins, ReplyWithData, data_length}
 use Rattle.pushdown.specs.Events.{AreOf, HasHappened, HasServed, HasStopped, Occurrence, answers_to, state_after}
 use Rattle.pushdown.specs.Machine.{happens}
 use Rattle.pushdown.specs.State.{State}
 use Rattle.device_events.specs.declared.event.Event.{Event}
 use Rattle.device_events.specs.declared.reply.Reply.{Reply}
-use Rattle.device_events.proofs.Proved.{taken_in_parts}
 use Rattle.pushdown.proofs.Proved.{in_parts}
 
 -- a reply with the bytes that go with it
@@ -33,44 +32,49 @@ module _ (es : List Event) (i : ℕ) (e : Event) (old now new : State) (answer :
   state_more os o before step =
       step ∙ ap (λ (s : State). (happens intervals s o.starved o.event).state) before ∙ sym ((in_parts intervals os (o ∷ []) old).state)
 
-  answers_more : (first then after : Option (List ReplyWithData)) (os : List Occurrence) (o : Occurrence) → now ≡ state_after intervals os old
-      → answer ≡ (happens intervals now o.starved o.event).answer → then ≡ and_then first (answers_to intervals os old)
-      → after ≡ and_then then (answer ∷ []) → after ≡ and_then first (answers_to intervals (os ++ o ∷ []) old)
-  answers_more first then after os o before step taken added =
-      added ∙ ap (λ (x : Option (List ReplyWithData)). and_then x (answer ∷ [])) taken
-      ∙ taken_in_parts first (answers_to intervals os old) (answer ∷ [])
-      ∙ ap (λ (x : ReplyWithData). and_then first (answers_to intervals os old ++ x ∷ []))
-      (step ∙ ap (λ (s : State). (happens intervals s o.starved o.event).answer) before)
-      ∙ ap (and_then first) (sym ((in_parts intervals os (o ∷ []) old).answers))
+  answers_more : (os : List Occurrence) (o : Occurrence) → now ≡ state_after intervals os old → answer ≡ (happens intervals now o.starved o.event).answer
+      → answers_to intervals (os ++ o ∷ []) old ≡ answers_to intervals os old ++ answer ∷ []
+  answers_more os o before step =
+      (in_parts intervals os (o ∷ []) old).answers
+      ∙ ap (λ (x : ReplyWithData). answers_to intervals os old ++ x ∷ [])
+      (sym (step ∙ ap (λ (s : State). (happens intervals s o.starved o.event).answer) before))
 
-  module _ (first then after : Option (List ReplyWithData)) (within : i < length es) (item : e ≡ get_or es i e)
-      (served : HasServed intervals (take i es) old now first then) (happened : HasHappened intervals e now new answer) where
+  module _ {T : Type 0} (took : T → T → List ReplyWithData → Type 0) (joins : Joins took) (first then after : T) (within : i < length es) (item : e ≡ get_or es i e)
+      (served : HasServed intervals (take i es) old now (took first then)) (happened : HasHappened intervals e now new answer) where
     o : Occurrence
     o = record { event = e; starved = happened.starved }
 
     -- its answer was taken
-    pub served_more : after ≡ and_then then (answer ∷ []) → HasServed intervals (take (i + 1) es) old new first after
+    pub served_more : took then after (answer ∷ []) → HasServed intervals (take (i + 1) es) old new (took first after)
     unfolding o
     served_more added = record {
       occurrences = served.occurrences ++ o ∷ [];
       are = are_more served.occurrences o within item refl served.are;
       state = state_more served.occurrences o served.state happened.state;
-      answers = answers_more first then after served.occurrences o served.state happened.answered served.answers added;
+      answers = subst (took first after) (sym (answers_more served.occurrences o served.state happened.answered))
+          (joins first then after (answers_to intervals served.occurrences old) (answer ∷ []) served.answers added);
     }
 
     -- its answer was refused
-    pub served_stopped : after ≡ then → HasStopped intervals es old new first after (i + 1)
+    pub served_stopped : took then after [] → HasStopped intervals es old new (took first after) (i + 1)
     unfolding o
-    served_stopped same =
+    served_stopped none =
         let os = served.occurrences in
         let count : length os ≡ i = sym (length-map os (λ (x : Occurrence). x.event)) ∙ ap length served.are ∙ length-take-le i es (omega (arith, within)) in
         let done : i + 1 - 1 ≡ i = omega arith in
         let those : take (i + 1 - 1) (os ++ o ∷ []) ≡ os = ap (λ (n : ℕ). take n (os ++ o ∷ [])) done ∙ take_at os (o ∷ []) i count in
+        let answers = answers_to intervals os old in
         record {
           some = omega arith;
           within = omega (arith, within);
           occurrences = os ++ o ∷ [];
           are = are_more os o within item refl served.are;
           state = state_more os o served.state happened.state;
-          answers = same ∙ served.answers ∙ ap (λ (xs : List Occurrence). and_then first (answers_to intervals xs old)) (sym those);
+          answers = subst (took first after) (append-nil answers ∙ ap (λ (xs : List Occurrence). answers_to intervals xs old) (sym those))
+              (joins first then after answers [] served.answers none);
         }
+
+-- before the first event
+pub served_none : {T : Type 0} (took : T → T → List ReplyWithData → Type 0) (first : T) (es : List Event) (s : State)
+    → took first first [] → HasServed intervals (take 0 es) s s (took first first)
+served_none took first es s none = record { occurrences = []; are = refl; state = refl; answers = none }

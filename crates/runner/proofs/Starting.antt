@@ -17,7 +17,8 @@ use Rattle.device_events.specs.declared.reply.Reply.TheVariants as reply
 use Rattle.pushdown.proofs.Proved.{seen_at_admission}
 use Rattle.runner.specs.steps.Admitting.{IsAdmission}
 use Rattle.runner.specs.steps.Answered.{Refuses, Starts}
-use Rattle.runner.specs.Held.{active_of, loaded_slot, held_by, new_active, running, device_state}
+use Rattle.runner.specs.Held.{active_of, loaded_slot, running, device_state}
+use Rattle.runner.specs.steps.HeldRuns.{held_by, new_active}
 use Rattle.runner.specs.Ready.{IsReady, IsRunning}
 use Rattle.runner.specs.declared.active_run.Active.{Active as Held}
 use Rattle.runner.specs.declared.admission.Admitted.{Admitted}

@@ -20,7 +20,8 @@ use Rattle.pushdown.specs.State.{Place, with_namespace}
 use Rattle.pushdown.specs.State.{holds_of as places_hold}
 use Rattle.zone_resources.proofs.Proved.{users_name_zones}
 use Rattle.runner.specs.steps.Answered.{answered}
-use Rattle.runner.specs.Held.{loaded_slot, held_by, source_held, device_state}
+use Rattle.runner.specs.Held.{loaded_slot, device_state}
+use Rattle.runner.specs.steps.HeldRuns.{held_by, source_held}
 use Rattle.runner.specs.Ready.{IsReady}
 use Rattle.runner.specs.declared.active_run.Active.{Active as Held}
 use Rattle.runner.specs.declared.loaded_program.LoadedProgram.{LoadedProgram}

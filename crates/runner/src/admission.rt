@@ -5,7 +5,8 @@ ghost use Rattle.zone_state.specs.Checks.{first_failed};
 ghost use Rattle.pushdown.specs.Admission.{address_checks, destination_checks, run_refusal, source_checks};
 ghost use Rattle.runner.specs.steps.Admitting.{ArePlaces, AreWritten, IsAdmission};
 ghost use Rattle.runner.specs.steps.Answered.{Refuses, Starts};
-ghost use Rattle.runner.specs.Held.{loaded_slot, held_by, device_state};
+ghost use Rattle.runner.specs.Held.{loaded_slot, device_state};
+ghost use Rattle.runner.specs.steps.HeldRuns.{held_by};
 ghost use Rattle.runner.specs.Ready.{IsReady};
 ghost use Rattle.zns_commands.specs.Resources.{why_not};
 

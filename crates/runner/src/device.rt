@@ -3,7 +3,7 @@
 ghost use Rattle.std.specs.Prelude.{◌≡◌, ◌≤◌, ◌<◌, ◌+◌, ◌*◌, ◌^◌, length, take, drop, OnOk, IfErr};
 ghost use Rattle.interval_domain.specs.Intervals.{intervals};
 ghost use Rattle.image_store.specs.Blocks.{AreBytes};
-ghost use Rattle.device_events.specs.Replies.{and_then, data_length};
+ghost use Rattle.device_events.specs.Replies.{data_length};
 ghost use Rattle.pushdown.specs.Draining.{HasDrained, StopsDraining, lowest_run, turns_left};
 ghost use Rattle.pushdown.specs.Events.{HasHappened, HasServed, HasStopped};
 ghost use Rattle.pushdown.specs.Machine.{failed};
@@ -142,8 +142,8 @@ impl Device {
     ) -> Result<(), Stopped>
         requires room { MOST_TRANSFER ≤ length output.old }
         requires counts { O.refused out.old + 1 < 2 ^ 64 }
-        ensures served { OnOk result (HasServed intervals events.now self.old self.new (O.taken out.old) (O.taken out.new)) }
-        ensures stopped { IfErr result (λ stopped. HasStopped intervals events.now self.old self.new (O.taken out.old) (O.taken out.new) stopped.done) }
+        ensures served { OnOk result (HasServed intervals events.now self.old self.new (O.took out.old out.new)) }
+        ensures stopped { IfErr result (λ stopped. HasStopped intervals events.now self.old self.new (O.took out.old out.new) stopped.done) }
         ensures refused { CountsRefusals (O.refused out.old) (O.refused out.new) result }
     {
         for (index, event) in events.iter().enumerate() {
@@ -175,8 +175,8 @@ impl Device {
     pub fn drain<O: Out>(&mut self, output: &mut [u8], out: &mut O) -> Result<(), Stopped>
         requires room { MOST_TRANSFER ≤ length output.old }
         requires counts { O.refused out.old + 1 < 2 ^ 64 }
-        ensures drained { OnOk result (HasDrained self.old self.new (O.taken out.old) (O.taken out.new)) }
-        ensures stopped { IfErr result (λ stopped. StopsDraining self.old self.new (O.taken out.old) (O.taken out.new) stopped.done) }
+        ensures drained { OnOk result (HasDrained self.old self.new (O.took out.old out.new)) }
+        ensures stopped { IfErr result (λ stopped. StopsDraining self.old self.new (O.took out.old out.new) stopped.done) }
         ensures refused { CountsRefusals (O.refused out.old) (O.refused out.new) result }
     {
         let mut done = 0;

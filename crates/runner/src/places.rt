@@ -1,7 +1,7 @@
 //! The places for active runs.
 
 ghost use Rattle.std.specs.Prelude.{◌≡◌, is_none, is_some, length, position};
-ghost use Rattle.runner.specs.Held.{destination_held, held_by, source_held};
+ghost use Rattle.runner.specs.steps.HeldRuns.{destination_held, held_by, source_held};
 
 use crate::active_run::Active;
 use zns_commands::Holds;

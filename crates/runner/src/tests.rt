@@ -1,6 +1,7 @@
 //! A Load that has memory succeeds, an image is the one of now, and each call on its happy path.
 
-ghost use Rattle.std.specs.Prelude.{◌≡◌, ◌≤◌, length, map, Some};
+ghost use Rattle.std.proofs.Common.{◌∙◌, ap, append_assoc, rules};
+ghost use Rattle.std.specs.Prelude.{◌≡◌, ◌≤◌, ◌++◌, length, map};
 
 use super::*;
 use std::alloc::Global;
@@ -11,7 +12,17 @@ use zone_resources::RUNS;
 use zone_state::ZoneState;
 
 mod accepting;
+mod actions;
+mod admitting;
+mod draining;
+mod holds;
+mod loading;
 mod refusing;
+mod running;
+mod scenes;
+mod states;
+mod steps;
+mod submissions;
 
 const BLOCK: usize = 512;
 
@@ -202,9 +213,14 @@ impl Kept {
 }
 
 impl Out for Kept {
-    ghost taken = { λ kept. Some (map (λ answer. record { reply = answer.0; bytes = answer.1.items }) kept.answers.items) };
+    ghost took = { λ old new replies. map (λ answer. record { reply = answer.0; bytes = answer.1.items }) new.answers.items
+        ≡ map (λ answer. record { reply = answer.0; bytes = answer.1.items }) old.answers.items ++ replies };
 
     ghost refused = { λ kept. kept.refusals };
+
+    ghost takes_none = { Prim.search rules };
+
+    ghost joins = { λ _ _ _ first later early late. late ∙ ap (λ xs. xs ++ later) early ∙ append_assoc _ first later };
 
     fn take(&mut self, reply: Reply, bytes: &[u8]) -> Result<(), NotTaken> {
         if self.answers.len() < self.room {

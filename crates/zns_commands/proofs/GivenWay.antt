@@ -17,7 +17,8 @@ use Rattle.zone_resources.proofs.Proved.{closes_the_lowest, admission_keeps_limi
 use Rattle.image_store.specs.Blocks.{as_blocks}
 use Rattle.image_store.specs.Namespace.{ZoneBlocks, ZonedNamespace, no_zone, zone_at, with_zone, counted, grown, records, IsNamespace, IsWithinLimits, arrived, with_state}
 use Rattle.zns_commands.specs.Address.{counted_zone_at}
-use Rattle.zns_commands.specs.Resources.{room_by, room_for, closed, CanGiveWay}
+use Rattle.zns_commands.specs.Resources.{room_by, room_for, closed}
+use Rattle.zns_commands.specs.steps.Accepted.{CanGiveWay}
 use Rattle.zns_commands.specs.Write.{written}
 use Rattle.zns_commands.proofs.ClosableZones.{closable_zone, closable_state, other_zone, closed_fits}
 use Rattle.zns_commands.proofs.FittingZones.{FitsIn, set_namespace, record_there, records_with, one_within}

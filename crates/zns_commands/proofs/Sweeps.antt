@@ -1,7 +1,8 @@
 -- Going over zones from the first on.
 use Rattle.zone_state.specs.declared.action.Action.{Action}
 use Rattle.image_store.specs.Namespace.{ZoneBlocks, ZonedNamespace, no_zone, zone_at, with_zone}
-use Rattle.zns_commands.specs.Send.{swept, swept_below}
+use Rattle.zns_commands.specs.Send.{swept}
+use Rattle.zns_commands.specs.steps.Accepted.{swept_below}
 use Rattle.std.proofs.Common.{◌≡◌, ℕ, ◌+◌, ◌<◌, zero, suc, List, [], ◌∷◌, ◌++◌, length, get_or, set, take, drop, map, refl, ap, ◌∙◌, arith}
 
 -- the list with f applied to its first elements

@@ -13,7 +13,8 @@ use Rattle.zone_state.specs.declared.state.ZoneState.TheVariants.{Empty}
 use Rattle.zone_resources.specs.Admission.{IsWithin}
 use Rattle.zone_resources.specs.Counts.{open_count, one_if}
 use Rattle.image_store.specs.Namespace.{ZoneBlocks, ZonedNamespace, no_zone, zone_at, counted, records, IsNamespace, IsWithinLimits, arrived}
-use Rattle.zns_commands.specs.Send.{all_effect, all_fit, takes, taken_among, swept, swept_below}
+use Rattle.zns_commands.specs.Send.{all_effect, all_fit, takes, taken_among, swept}
+use Rattle.zns_commands.specs.steps.Accepted.{swept_below}
 use Rattle.zns_commands.proofs.FittingZones.{FitsIn, zone_fits, namespace_of_zones}
 use Rattle.zns_commands.proofs.Sweeps.{mapped, mapped-all}
 use Rattle.zns_commands.proofs.MovedZones.{arrived_fits, after_action, action_fits}

@@ -1,14 +1,12 @@
 -- The open and active resources that a command takes.
-use Rattle.std.specs.Prelude.{ℕ, ◌≢◌, ◌<◌, length, Option, Some, None, Result, Ok, Err}
+use Rattle.std.specs.Prelude.{ℕ, Option, Some, None, Result, Ok, Err}
 use Rattle.zone_state.specs.declared.state.ZoneState.{ZoneState}
-use Rattle.std.specs.Option.{ForSome}
 use Rattle.zone_state.specs.declared.state.ZoneState.TheVariants.{Closed}
-use Rattle.zone_state.specs.Zone.{IsZone}
 use Rattle.zone_state.specs.declared.status.Status.{Status}
 use Rattle.zone_resources.specs.Admission.{admission, wanted_of}
 use Rattle.zone_resources.specs.declared.admission.Wanted.{Wanted}
 use Rattle.zone_resources.specs.declared.holds.Holds.{Holds}
-use Rattle.image_store.specs.Namespace.{ZonedNamespace, zone_at, with_state, records, IsWithinLimits}
+use Rattle.image_store.specs.Namespace.{ZonedNamespace, with_state, records}
 
 abbrev pub room_by : ZonedNamespace → Holds → Option Wanted → Result (Option ℕ) Status
 room_by ns holds None = Ok None
@@ -30,11 +28,3 @@ closing_of (Err status) = None
 abbrev pub closed : ZonedNamespace → Option ℕ → ZonedNamespace
 closed ns None = ns
 closed ns (Some z) = with_state ns z Closed
-
--- what holds of the zone that gives way, if one does: it is another than the one that wants room, and
--- can be Closed, which the limits allow
-pub record CanGiveWay (ns : ZonedNamespace) (zone : ℕ) (closing : Option ℕ) : Type 0 where
-  pub inside : ForSome closing (λ z. z < length ns.zones)
-  pub fits : ForSome closing (λ z. IsZone Closed (length (zone_at ns z).blocks) ns.capacity)
-  pub other : closing ≢ Some zone
-  pub limits : IsWithinLimits (closed ns closing)

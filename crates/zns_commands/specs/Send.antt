@@ -1,9 +1,9 @@
 -- Zone Management Send (ZNS 1.1, 3.4.3).
-use Rattle.std.specs.Prelude.{ℕ, Bool, true, false, ◌+◌, ◌<◌, ◌++◌, ◌&&◌, not, nat_le, List, [], ◌∷◌, length, take, drop, map, count_by, Option, None, Result, Ok, Err, if◌then◌else◌}
+use Rattle.std.specs.Prelude.{ℕ, Bool, true, false, ◌+◌, ◌++◌, ◌&&◌, not, nat_le, List, [], ◌∷◌, take, map, count_by, Option, None, Result, Ok, Err, if◌then◌else◌}
 use Rattle.std.specs.List.{enumerate_from, list_any}
 use Rattle.zone_state.specs.State.{is_open, is_active}
 use Rattle.zone_state.specs.Transition.{transition}
-use Rattle.zone_state.specs.Zone.{CountedZone, IsZone, kept}
+use Rattle.zone_state.specs.Zone.{CountedZone}
 use Rattle.zone_state.specs.declared.action.Action.{Action}
 use Rattle.zone_state.specs.declared.action.Action.TheVariants as action
 use Rattle.zone_state.specs.declared.state.ZoneState.{ZoneState}
@@ -14,9 +14,9 @@ use Rattle.zone_resources.specs.Counts.{open_count}
 use Rattle.zone_resources.specs.Holds.{refuses}
 use Rattle.zone_resources.specs.declared.holds.Holds.{Holds}
 use Rattle.zone_state.specs.Checks.{demand}
-use Rattle.image_store.specs.Namespace.{ZoneBlocks, ZonedNamespace, zone_at, records, IsWithinLimits, arrived, with_state}
+use Rattle.image_store.specs.Namespace.{ZoneBlocks, ZonedNamespace, zone_at, records, arrived, with_state}
 use Rattle.zns_commands.specs.Address.{zone_number, lowest_checks}
-use Rattle.zns_commands.specs.Resources.{room_for, why_not, closing_of, closed, CanGiveWay}
+use Rattle.zns_commands.specs.Resources.{room_for, why_not, closing_of, closed}
 use Rattle.zns_commands.specs.declared.send.ZonePlan.{ZonePlan}
 use Rattle.zns_commands.specs.Transfer.{transfer_checks}
 
@@ -101,20 +101,3 @@ send_checks ns holds lba action select_all input =
 
 abbrev pub send_effect : ZonedNamespace → Holds → ℕ → Action → Bool → ZonedNamespace
 send_effect ns holds lba action select_all = if select_all then all_effect ns action else zone_effect ns holds lba action
-
--- the namespace once Select All has gone over its first zones
-abbrev pub swept_below : ZonedNamespace → Action → ℕ → ZonedNamespace
-swept_below ns action n = record {
-  block = ns.block;
-  size = ns.size;
-  capacity = ns.capacity;
-  limits = ns.limits;
-  zones = map (swept action) (take n ns.zones) ++ drop n ns.zones;
-}
-
--- what holds where an action on a zone isn't refused
-pub record CanMove (ns : ZonedNamespace) (plan : ZonePlan) : Type 0 where
-  pub inside : plan.zone < length ns.zones
-  pub fits : IsZone plan.to (kept plan.to (length (zone_at ns plan.zone).blocks)) ns.capacity
-  pub gives : CanGiveWay ns plan.zone plan.closing
-  pub limits : IsWithinLimits (with_state (closed ns plan.closing) plan.zone plan.to)

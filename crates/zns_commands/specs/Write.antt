@@ -1,17 +1,16 @@
 -- Writing to a zone, and Write (NVM Command Set 1.0, 3.2.6; ZNS 1.1, 3.3.6).
-use Rattle.std.specs.Prelude.{ℕ, ◌*◌, ◌%◌, ◌++◌, not, List, [], ◌∷◌, Option, Ok, ◌≡◌, ◌≤◌, ◌<◌, length}
+use Rattle.std.specs.Prelude.{ℕ, ◌*◌, ◌%◌, ◌++◌, not, List, [], ◌∷◌, Option}
 use Rattle.zone_state.specs.Zone.{refusal}
 use Rattle.zone_state.specs.declared.status.Status.{Status}
 use Rattle.zone_state.specs.declared.status.TheConstants.Status.{ZONE_HELD}
 use Rattle.zone_resources.specs.Holds.{is_destination}
 use Rattle.zone_resources.specs.declared.holds.Holds.{Holds}
 use Rattle.zone_state.specs.Checks.{demand}
-use Rattle.image_store.specs.Blocks.{block_count}
-use Rattle.image_store.specs.Namespace.{ZonedNamespace, zone_at, appended, IsWithinLimits}
+use Rattle.image_store.specs.Namespace.{ZonedNamespace, zone_at, appended}
 use Rattle.zns_commands.specs.declared.write.WritePlan.{WritePlan}
 use Rattle.zns_commands.specs.Address.{zone_number, counted_zone_at, range_checks}
 use Rattle.zns_commands.specs.Answer.{Effect, success_effect}
-use Rattle.zns_commands.specs.Resources.{room_for, why_not, closing_of, closed, CanGiveWay}
+use Rattle.zns_commands.specs.Resources.{room_for, why_not, closing_of, closed}
 use Rattle.zns_commands.specs.Transfer.{transfer_checks}
 
 -- the checks of a write to a zone, from one of its blocks on, in order (the order is profile): the
@@ -41,16 +40,3 @@ write_checks ns holds lba blocks input =
 
 abbrev pub write_effect : ZonedNamespace → Holds → ℕ → List ℕ → Effect
 write_effect ns holds lba input = success_effect (written ns (write_plan ns holds (zone_number ns lba)) input) 0 []
-
--- what holds of a write to a zone that isn't refused
-pub record CanWrite (ns : ZonedNamespace) (at blocks : ℕ) (plan : WritePlan) : Type 0 where
-  pub inside : plan.zone < length ns.zones
-  pub some : 1 ≤ blocks
-  pub fits : refusal (counted_zone_at ns plan.zone) at blocks ≡ Ok tt
-  pub gives : CanGiveWay ns plan.zone plan.closing
-  pub limits : (bytes : List ℕ) → IsWithinLimits (written ns plan bytes)
-
--- the data is whole blocks, as many as the command says
-pub record IsWhole (ns : ZonedNamespace) (blocks : ℕ) (input : List ℕ) : Type 0 where
-  pub count : block_count ns.block input ≡ blocks
-  pub size : length input ≡ blocks * ns.block

@@ -2,7 +2,8 @@
 
 ghost use Rattle.std.specs.Prelude.{◌≡◌, ◌<◌, length};
 ghost use Rattle.image_store.specs.Namespace.{zone_at};
-ghost use Rattle.zns_commands.specs.Resources.{room_for, closed, CanGiveWay};
+ghost use Rattle.zns_commands.specs.Resources.{room_for, closed};
+ghost use Rattle.zns_commands.specs.steps.Accepted.{CanGiveWay};
 
 use image_store::Image;
 use nvme_entry::Status;

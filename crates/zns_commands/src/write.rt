@@ -8,7 +8,8 @@ ghost use Rattle.zns_commands.specs.Address.{zone_number};
 ghost use Rattle.zns_commands.specs.Answer.{effect_of_answer};
 ghost use Rattle.zns_commands.specs.Meaning.{meaning};
 ghost use Rattle.zns_commands.specs.Transfer.{transfer_checks};
-ghost use Rattle.zns_commands.specs.Write.{zone_write_checks, write_checks, write_plan, written, CanWrite, IsWhole};
+ghost use Rattle.zns_commands.specs.Write.{zone_write_checks, write_checks, write_plan, written};
+ghost use Rattle.zns_commands.specs.steps.Accepted.{CanWrite, IsWhole};
 
 use crate::address::range;
 use crate::answer::Answer;

@@ -1,5 +1,5 @@
 pub use Rattle.zone_state.specs.State
 pub use Rattle.zone_state.specs.Zone
-pub mod Admission
 pub mod Counts
 pub mod Holds
+pub mod Admission

@@ -1,6 +1,6 @@
 //! The words of a command line, and what they ask for.
 
-ghost use Rattle.std.specs.Prelude.{◌≡◌, ◌≢◌, ◌≤◌, ◌<◌, IfErr, OnErr};
+ghost use Rattle.std.specs.Prelude.{◌≡◌, ◌≢◌, IfErr, OnErr};
 ghost use Rattle.command_files.specs.Made.{MakesAtMostOne};
 
 use clap::error::ErrorKind;
@@ -16,32 +16,9 @@ use command_programs::{asm, disasm, trace, unpack, verify};
 use std::alloc::{AllocError, Global};
 use std::io::Write;
 
-/// Does what the words ask for, the program's name first, and answers the exit status: 0 where all
-/// was done, 1 where a file failed or memory was wanting, 2 for a wrong command line, 3 for input
-/// that is refused. For 1 and 3 the last line written to `err` says what it was; that a program isn't
-/// accepted stands on `out` alone. At most one file is made, and none where this fails, but that
-/// `exec` saves an image where `out` fails.
-pub fn command<F: Files, O: Write, E: Write>(
-    alloc: Global,
-    words: &[String],
-    files: &mut F,
-    out: &mut O,
-    err: &mut E,
-) -> u8
-    ensures known { result ≤ 3 }
-    ensures quiet { result ≡ 0 → err.new ≡ err.old }
-    ensures one { MakesAtMostOne (F.made files.old) (F.made files.new) }
-    ensures kept { 1 < result → F.made files.new ≡ F.made files.old }
-{
-    match run(alloc, words, files, out) {
-        Ok(()) => 0,
-        Err(failure) => failure.tell(err),
-    }
-}
-
-/// Reads the words, and does the command that they name. Of the failures, that of standard output
-/// alone can leave a file that was made.
-fn run<'a, F: Files, O: Write>(
+/// Reads the words of a command line, the program's name first, and does the command that they name. At
+/// most one file is made, and none where this fails, but that `exec` saves an image where `out` fails.
+pub fn command<'a, F: Files, O: Write>(
     alloc: Global,
     words: &'a [String],
     files: &mut F,

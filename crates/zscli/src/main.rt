@@ -5,7 +5,7 @@ mod commands;
 #[cfg(test)]
 mod tests;
 
-use command_failure::Failure;
+use command_failure::{Failure, conclude};
 use command_files::Disk;
 use commands::command;
 use std::env::{self, Env};
@@ -13,19 +13,20 @@ use std::io;
 use std::process::ExitCode;
 
 fn main(rt: HostRuntime) -> ExitCode {
-    let mut out = io::writer(&rt);
     let mut err = rt.stderr();
-    let status = match command_line_words(&rt) {
-        Ok(words) => command(
-            rt.alloc(),
-            words.as_slice(),
-            &mut Disk::new(&rt),
-            &mut out,
-            &mut err,
-        ),
-        Err(failure) => failure.tell(&mut err),
+    let words = match command_line_words(&rt) {
+        Ok(words) => words,
+        Err(failure) => return ExitCode::from(conclude(Err(failure), &mut err).status),
     };
-    ExitCode::from(status)
+    let mut out = io::writer(&rt);
+    let outcome = command(
+        rt.alloc(),
+        words.as_slice(),
+        &mut Disk::new(&rt),
+        &mut out,
+    );
+    // Where standard error fails, nobody can be told.
+    ExitCode::from(conclude(outcome, &mut err).status)
 }
 
 /// The words of the command line, the program's name first.

@@ -11,8 +11,17 @@ use std::test::Fail;
 use verifier::{VerifyFault, verify};
 use word_domain::Domain;
 
+mod accesses;
+mod arithmetic;
 mod domains;
+mod emits;
+mod ends;
+mod from_c;
+mod kept;
+mod rows;
 mod runs;
+mod slots;
+mod ways;
 
 const EXIT: u64 = 0x9500_0000_0000_0000;
 

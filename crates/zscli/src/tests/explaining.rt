@@ -4,23 +4,6 @@ use super::scenes::{Act, Scene, play};
 use super::stage::Parts;
 use std::test::Fail;
 
-/// The entries of `examples/pushdown.cmd`, whose data no words depend on.
-const PUSHDOWN: Parts = &[(
-    b"\
-submit 1 7d00010001000000000000000000000000000000000000000000000000000000000000000000000000000000000000000c000000000000000000000000000000
-submit 1 7d00020001000000000000000000000000000000000000000000000000000000000000000000000000000000000000000c000000000000000000000000000000
-submit 1 79000500010000000000000000000000000000000000000000000000000000000000000000000000400000000000000000000000030000000000000000000000
-submit 1 c1000600010000000000000000000000000000000000000000000000000000000000000000000000000000004200000040000000000000000000000000000000
-submit 1 c0000700010000000000000000000000000000000000000000000000000000000000000000000000000000000000000033000000030000004000000000000000
-turn 0
-submit 2 7d000100010000000000000000000000000000000000000000000000000000000000000000000000800000000000000000000000000000000000000000000000
-submit 2 7d000200010000000000000000000000000000000000000000000000000000000000000000000000400000000000000000000000000000000000000000000000
-submit 3 79000200010000000000000000000000000000000000000000000000000000000000000000000000000000000000000000000000040000000000000000000000
-submit 1 02000800010000000000000000000000000000000000000000000000000000000000000000000000400000000000000001000000000000000000000000000000
-",
-    1,
-)];
-
 /// What it prints, of one turn and of a last one, with the two blocks read being zeros.
 const PUSHDOWN_REPLIES: Parts = &[
     (
@@ -73,21 +56,42 @@ records in 2 blocks)
 queue 1, command 8: done; dwords 0 and 1: 0, 0; 1024 bytes of data
 ";
 
+/// The entries of `examples/pushdown.cmd`, on whose data no words depend.
 const PUSHED_DOWN: &[Act] = &[
-    Act::Put("commands", PUSHDOWN),
+    Act::Put("record", &[(b"\0", 512)]),
+    Act::Put("records", &[(b"\0", 6656)]),
+    Act::Put("filter", &[(b"\0", 64)]),
+    Act::AddsTo(
+        "commands",
+        "zscli entry append --lba 0 --data records --cid 1",
+    ),
+    Act::AddsTo(
+        "commands",
+        "zscli entry append --lba 0 --data records --cid 2",
+    ),
+    Act::AddsTo("commands", "zscli entry open --lba 64 --cid 5"),
+    Act::AddsTo(
+        "commands",
+        "zscli entry load --slot 0 --program filter --emit 66 --cid 6",
+    ),
+    Act::AddsTo(
+        "commands",
+        "zscli entry run --slot 0 --from 0 --blocks 52 --to 64 --argument 3 --cid 7",
+    ),
+    Act::Add("commands", b"turn 0\n"),
+    Act::AddsTo(
+        "commands",
+        "zscli entry append --lba 128 --data record --queue 2 --cid 1",
+    ),
+    Act::AddsTo(
+        "commands",
+        "zscli entry append --lba 64 --data record --queue 2 --cid 2",
+    ),
+    Act::AddsTo("commands", "zscli entry reset --lba 0 --queue 3 --cid 2"),
+    Act::AddsTo("commands", "zscli entry read --lba 64 --blocks 2 --cid 8"),
     Act::Put("replies", PUSHDOWN_REPLIES),
     Act::Prints("zscli explain replies --commands commands", PUSHDOWN_WORDS),
     Act::Prints("zscli explain replies", PUSHDOWN_ALONE),
-];
-
-/// A report of 192 bytes: three zones match, and there is room for the descriptors of two.
-const REPORT: Parts = &[
-    (
-        b"submit 1 7a00040001000000000000000000000000000000000000000000000000000000000000000000000000000000000000002f00000000000000",
-        1,
-    ),
-    (b"00", 8),
-    (b"\n", 1),
 ];
 
 const REPORT_REPLIES: Parts = &[
@@ -110,8 +114,9 @@ const REPORT_REPLIES: Parts = &[
     (b"\n", 1),
 ];
 
+/// A report of 192 bytes: three zones match, and there is room for the descriptors of two.
 const REPORTED: &[Act] = &[
-    Act::Put("commands", REPORT),
+    Act::AddsTo("commands", "zscli entry report --lba 0 --dwords 48 --cid 4"),
     Act::Put("replies", REPORT_REPLIES),
     Act::Prints(
         "zscli explain replies --commands commands",
@@ -127,24 +132,14 @@ queue 1, command 4: report of zones from that of LBA 0 on: 3 zones
     ),
 ];
 
-/// Two submissions with one identifier, and other commands.
-const COMMANDS: Parts = &[
-    (b"submit 1 0100030001", 1),
-    (b"00", 35),
-    (b"0a", 1),
-    (b"00", 23),
-    (b"\nsubmit 1 7900030001", 1),
-    (b"00", 47),
-    (b"0301", 1),
-    (b"00", 10),
-    (b"\nsubmit 1 c200080001", 1),
-    (b"00", 59),
-    (b"\nsubmit 1 c100090001", 1),
-    (b"00", 59),
-    (b"\nsubmit 1 030006", 1),
-    (b"00", 61),
-    (b"\nfault 2 offline\n", 1),
-];
+/// A Load of no bytes, and an entry that is no command.
+const WITHOUT_WORDS: &[u8] = b"\
+submit 1 c1000900010000000000000000000000000000000000000000000000000000000000000000000000\
+000000000000000000000000000000000000000000000000
+submit 1 03000600000000000000000000000000000000000000000000000000000000000000000000000000\
+000000000000000000000000000000000000000000000000
+fault 2 offline
+";
 
 const REPLIES: Parts = &[(
     b"\
@@ -163,8 +158,16 @@ cpl 2 00000000000000000000010003000000
     1,
 )];
 
+/// Two submissions with one identifier, and other commands.
 const ANSWERED: &[Act] = &[
-    Act::Put("commands", COMMANDS),
+    Act::Put("record", &[(b"\0", 512)]),
+    Act::AddsTo(
+        "commands",
+        "zscli entry write --lba 10 --data record --cid 3",
+    ),
+    Act::AddsTo("commands", "zscli entry open --all --cid 3"),
+    Act::AddsTo("commands", "zscli entry result --slot 0 --cid 8"),
+    Act::Add("commands", WITHOUT_WORDS),
     Act::Put("replies", REPLIES),
     Act::Prints(
         "zscli explain replies --commands commands",

@@ -2,7 +2,6 @@
 
 use super::scenes::{Act, EMPTY_IMAGE, EMPTY_ZONE, EXEC, MAGIC, NUMBERS, SHAPE, Scene, play};
 use super::stage::Parts;
-use super::steps::{A_BLOCK, Case, Step};
 use std::test::Fail;
 
 const FORMATTED: &[Act] = &[
@@ -69,37 +68,33 @@ const NO_GEOMETRY: &[Act] = &[
     Act::HasNo("new"),
 ];
 
-const FIRST: &[Case] = &[(
-    Step::Append(1, 8, A_BLOCK),
-    "cpl 1 08000000000000000000010001000000",
-)];
-
-const SECOND: &[Case] = &[
-    (
-        Step::Read(2, 8, 1, A_BLOCK),
-        "cpl 1 00000000000000000000010002000000",
-    ),
-    (
-        Step::Append(3, 8, A_BLOCK),
-        "cpl 1 09000000000000000000010003000000",
-    ),
-];
-
 const WRITTEN: &[Act] = &[
     Act::Start(b""),
-    Act::Events(FIRST),
-    Act::Answers(EXEC),
+    Act::Put("block", A_BLOCK),
+    Act::Adds("zscli entry append --lba 8 --data block --cid 1"),
+    Act::Prints(EXEC, "cpl 1 08000000000000000000010001000000\n"),
     Act::Has("g1", NEW),
     Act::Prints(
         "zscli zones g1",
         "0 empty 0\n1 implicit 1\n2 empty 0\n3 empty 0\n",
     ),
-    Act::Events(SECOND),
-    Act::Answers(EXEC),
+    Act::Put("events", &[]),
+    Act::Adds("zscli entry read --lba 8 --blocks 1 --cid 2"),
+    Act::Adds("zscli entry append --lba 8 --data block --cid 3"),
+    Act::AddsTo("replies", EXEC),
+    Act::Has("replies", READ_AND_APPENDED),
     Act::Prints(
         "zscli zones g1",
         "0 empty 0\n1 implicit 2\n2 empty 0\n3 empty 0\n",
     ),
+];
+
+const A_BLOCK: Parts = &[(b"\xa5", 512)];
+
+const READ_AND_APPENDED: Parts = &[
+    (b"cpl 1 00000000000000000000010002000000 ", 1),
+    (b"a5", 512),
+    (b"\ncpl 1 09000000000000000000010003000000\n", 1),
 ];
 
 /// The image of one written block that is saved.

@@ -5,8 +5,8 @@ use super::stage::Parts;
 use std::test::Fail;
 
 /// Emits the first 8 bytes of a block whose first byte is 7.
-const MATCHING: &[u8] =
-    b"\x71\x26\0\0\0\0\0\0\x55\x06\x03\0\x07\0\0\0\xbf\x21\0\0\0\0\0\0\xb7\x02\0\0\x08\0\0\0\x85\0\0\0\x01\0\0\0\xb7\0\0\0\0\0\0\0\x95\0\0\0\0\0\0\0";
+const MATCHING: &[u8] = b"\x71\x26\0\0\0\0\0\0\x55\x06\x03\0\x07\0\0\0\xbf\x21\0\0\0\0\0\0\
+\xb7\x02\0\0\x08\0\0\0\x85\0\0\0\x01\0\0\0\xb7\0\0\0\0\0\0\0\x95\0\0\0\0\0\0\0";
 
 const LISTING: &str = "\
 ldxb r6, [r2+0]
@@ -207,7 +207,8 @@ const TRACED_WITH_REGISTERS: &[Act] = &[
     Act::Prints("zscli asm events made", ""),
     Act::Prints(
         "zscli trace made block --emit 10 --registers",
-        "   0  mov r1, r2  r1 = 0x200000000\n   1  add r1, 16  r1 = 0x200000010\n   2  mov r2, 8  r2 = 0x8\n   3  call 1  emit 8 bytes at block + 16  r0 = 0x0\n   4  exit\nexit 0 5 08000000000000000000\n",
+        "   0  mov r1, r2  r1 = 0x200000000\n   1  add r1, 16  r1 = 0x200000010\n   2  mov r2, 8  r2 = 0x8\n\
+\x20  3  call 1  emit 8 bytes at block + 16  r0 = 0x0\n   4  exit\nexit 0 5 08000000000000000000\n",
     ),
     Act::Prints(
         "zscli trace made block --emit 9 --registers",

@@ -1,7 +1,6 @@
 //! What is done with files and command lines, as data, and what has to come of it.
 
 use super::stage::{At, Parts, Stage};
-use super::steps::{ALL_EMPTY, Case, G1, Shape, Zones};
 use std::alloc::Global;
 use std::process::Abort;
 use std::test::Fail;
@@ -39,18 +38,12 @@ pub(super) enum Act {
     Start(&'static [u8]),
     /// Puts a file of these bytes.
     Put(&'static str, Parts),
-    /// Puts an image with these zones.
-    Image(&'static str, Shape, Zones),
-    /// Puts the command file of these steps as `events`.
-    Events(&'static [Case]),
     /// From now on no file can be larger.
     Room(usize),
     /// From now on reading fails behind the first bytes of a file.
     Unreadable,
     /// A command line succeeds, and prints this alone.
     Prints(&'static str, &'static str),
-    /// A command line succeeds, and prints the lines that answer the steps alone.
-    Answers(&'static str),
     /// A command line succeeds, and what it prints is put behind `events`.
     Adds(&'static str),
     /// The same, behind a file.
@@ -71,8 +64,6 @@ pub(super) enum Act {
     HasNo(&'static str),
     /// A program as text, the most bytes that it may emit, and what `verify` says of it.
     Verify(&'static str, u32, &'static str),
-    /// The same of a program in hexadecimal.
-    VerifyDigits(&'static str, u32, &'static str),
 }
 
 /// Plays scenes, each on files of its own.
@@ -94,13 +85,11 @@ fn play_one(rt: &impl Abort, alloc: Global, scene: &str, acts: &[Act]) -> Result
 fn perform(rt: &impl Abort, stage: &mut Stage, scene: &str, act: Act) -> Result<(), Fail> {
     match act {
         Act::Start(events) => {
-            stage.put_image("g1", &G1, ALL_EMPTY)?;
+            stage.put("g1", EMPTY_IMAGE)?;
             stage.files.put("events", events)?;
         }
         Act::Put(file, parts) => stage.put(file, parts)?,
         Act::Add(file, bytes) => stage.files.add(file, bytes)?,
-        Act::Image(file, shape, zones) => stage.put_image(file, &shape, zones)?,
-        Act::Events(steps) => stage.put_events(steps)?,
         Act::Room(room) => stage.files.room = room,
         Act::Unreadable => stage.files.fails = true,
         _ => judge(rt, stage, scene, act)?,
@@ -112,7 +101,6 @@ fn perform(rt: &impl Abort, stage: &mut Stage, scene: &str, act: Act) -> Result<
 fn judge(rt: &impl Abort, stage: &mut Stage, scene: &str, act: Act) -> Result<(), Fail> {
     match act {
         Act::Prints(line, out) => stage.check(rt, &At { scene, line }, 0, out, "")?,
-        Act::Answers(line) => stage.check_answers(rt, &At { scene, line })?,
         Act::Adds(line) => stage.add_printed(rt, &At { scene, line }, "events")?,
         Act::AddsTo(file, line) => stage.add_printed(rt, &At { scene, line }, file)?,
         Act::Fails(line, status, out, err) => {
@@ -134,10 +122,6 @@ fn judge(rt: &impl Abort, stage: &mut Stage, scene: &str, act: Act) -> Result<()
             let line = "zscli asm events made";
             stage.check(rt, &At { scene: text, line }, 0, "", "")?;
             stage.check_program(rt, text, "made", emit, answer)?;
-        }
-        Act::VerifyDigits(digits, emit, answer) => {
-            stage.put_program(digits)?;
-            stage.check_program(rt, digits, "events", emit, answer)?;
         }
         _ => {}
     }

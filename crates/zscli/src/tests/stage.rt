@@ -1,8 +1,8 @@
 //! Where command lines run.
 
-use super::memory::Memory;
-use super::steps::{Case, Lines, Shape, bytes_of, write_image};
 use crate::commands::command;
+use command_failure::conclude;
+use command_files::MemoryFiles;
 use std::alloc::{AllocError, Global};
 use std::io::{self, Write};
 use std::process::Abort;
@@ -45,8 +45,7 @@ pub(super) struct At<'a> {
 #[derive(Drop)]
 pub(super) struct Stage {
     alloc: Global,
-    pub(super) files: Memory,
-    lines: Lines,
+    pub(super) files: MemoryFiles,
     out: Printed,
     err: Vec<u8>,
     status: u8,
@@ -57,8 +56,7 @@ impl Stage {
     pub(super) fn new(alloc: Global) -> Stage {
         Stage {
             alloc,
-            files: Memory::new(alloc),
-            lines: Lines::new(alloc),
+            files: MemoryFiles::new(alloc),
             out: Printed {
                 bytes: Vec::new(alloc),
                 writes: 0,
@@ -74,28 +72,6 @@ impl Stage {
         self.files.put(file, bytes.as_slice())
     }
 
-    /// Puts an image with these zones.
-    pub(super) fn put_image(&mut self, file: &str, shape: &Shape, zones: &str) -> Result<(), Fail> {
-        let mut bytes = Vec::new(self.alloc);
-        write_image(&mut bytes, shape, zones)?;
-        Ok(self.files.put(file, bytes.as_slice())?)
-    }
-
-    /// Puts the command file of these steps as `events`.
-    pub(super) fn put_events(&mut self, steps: &[Case]) -> Result<(), Fail> {
-        self.lines.clear();
-        for (step, answer) in steps {
-            self.lines.add(*step, answer)?;
-        }
-        Ok(self.files.put("events", self.lines.events())?)
-    }
-
-    /// Puts a program, which these hexadecimal digits spell, as `events`.
-    pub(super) fn put_program(&mut self, digits: &str) -> Result<(), Fail> {
-        let bytes = bytes_of(self.alloc, digits)?;
-        Ok(self.files.put("events", bytes.as_slice())?)
-    }
-
     /// Runs a command line, whose words spaces separate, where standard output takes so many writes.
     pub(super) fn run(&mut self, line: &str, writes: usize) -> Result<(), AllocError> {
         let mut words = Vec::new(self.alloc);
@@ -105,13 +81,13 @@ impl Stage {
         self.out.bytes.clear();
         self.out.writes = writes;
         self.err.clear();
-        self.status = command(
+        let outcome = command(
             self.alloc,
             words.as_slice(),
             &mut self.files,
             &mut self.out,
-            &mut self.err,
         );
+        self.status = conclude(outcome, &mut self.err).status;
         Ok(())
     }
 
@@ -130,15 +106,7 @@ impl Stage {
         Ok(())
     }
 
-    /// The same where it succeeds, and prints the lines that answer the steps of `events`.
-    pub(super) fn check_answers(&mut self, rt: &impl Abort, at: &At) -> Result<(), AllocError> {
-        self.run(at.line, usize::MAX)?;
-        self.check_end(rt, at, 0, "");
-        assert_printed(rt, at, self.out.bytes.as_slice(), self.lines.answers());
-        Ok(())
-    }
-
-    /// The same where it succeeds, and what it prints goes behind the bytes of a file.
+    /// Runs a command line that succeeds, and puts what it prints behind the bytes of a file.
     pub(super) fn add_printed(
         &mut self,
         rt: &impl Abort,
@@ -204,19 +172,6 @@ impl Stage {
             line: "zscli verify",
         };
         assert_printed(rt, &at, self.out.bytes.as_slice(), answer);
-        Ok(())
-    }
-
-    /// `verify` accepts the program in `events`, for blocks of 512 bytes.
-    pub(super) fn check_accepted(
-        &mut self,
-        rt: &impl Abort,
-        name: &str,
-        emit: u32,
-    ) -> Result<(), AllocError> {
-        let line = format!(in self.alloc; "zscli verify events --block 512 --emit {emit}")?;
-        self.run(line.as_str(), usize::MAX)?;
-        assert!(rt; self.out.bytes.starts_with(b"accepted "), "{name}");
         Ok(())
     }
 

@@ -1,18 +1,45 @@
-use Rattle.command_exec.specs.Saved.{InEvents}
-use Rattle.command_exec.proofs.Saving.{finishes, on_err, stops_in_turns}
+use Rattle.std.proofs.Common.{ℕ}
+use Rattle.device_events.specs.Printed.{Printed}
+use Rattle.command_exec.proofs.Saving.{finishes, on_err, same_writer, stops_in_events, stops_in_turns}
 use Rattle.command_exec.proofs.exec.serve_and_drain.Goals as goal
 
+pub returns-in_err-serve-clause-same_writer : goal.returns-in_err-serve-clause-same_writer
+returns-in_err-serve-clause-same_writer g c = c.in_err-serve.ensures.stopped.answers.0
+
 pub returns-in_err-serve-clause-stopped : goal.returns-in_err-serve-clause-stopped
-returns-in_err-serve-clause-stopped g c = on_err c.from_residual.result (InEvents c.in_err-serve.field-0.0.done c.in_err-serve.ensures.stopped)
+returns-in_err-serve-clause-stopped g c =
+    on_err c.from_residual.result
+    (stops_in_events c.args.events.now c.args.device.now c.serve.new.self _ c.in_err-serve.field-0.0.done c.in_err-serve.ensures.stopped)
+
+pub returns-clause-same_writer : goal.returns-clause-same_writer
+returns-clause-same_writer g c =
+    let old = c.args.lines.now in
+    let between = c.serve.new.out in
+    let new = c.drain.new.out in
+    let before : ℕ × Printed = (old.out.ghost_name, record { refused = old.refusals; bytes = g.O.Write.contents old.out.now }) in
+    let then : ℕ × Printed = (between.out.ghost_name, record { refused = between.refusals; bytes = g.O.Write.contents between.out.now }) in
+    let after : ℕ × Printed = (new.out.ghost_name, record { refused = new.refusals; bytes = g.O.Write.contents new.out.now }) in
+    same_writer c.args.events.now c.args.device.now c.serve.new.self c.drain.new.self before then after
+    c.in_ok-serve.ensures.served c.drain.result c.drain.ensures.drained c.drain.ensures.stopped
 
 pub returns-clause-finished : goal.returns-clause-finished
 returns-clause-finished g c =
-    finishes c.args.events.now c.args.device.now c.serve.new.self c.drain.new.self
-    (g.O.Out.taken c.args.out.now) (g.O.Out.taken c.serve.new.out) (g.O.Out.taken c.drain.new.out)
-    c.in_ok-serve.ensures.served c.drain.result c.drain.ensures.drained
+    let old = c.args.lines.now in
+    let between = c.serve.new.out in
+    let new = c.drain.new.out in
+    let before : ℕ × Printed = (old.out.ghost_name, record { refused = old.refusals; bytes = g.O.Write.contents old.out.now }) in
+    let then : ℕ × Printed = (between.out.ghost_name, record { refused = between.refusals; bytes = g.O.Write.contents between.out.now }) in
+    let after : ℕ × Printed = (new.out.ghost_name, record { refused = new.refusals; bytes = g.O.Write.contents new.out.now }) in
+    finishes c.args.events.now c.args.device.now c.serve.new.self c.drain.new.self before then after
+    c.in_ok-serve.ensures.served c.drain.result c.in_ok-serve.ensures.refused c.drain.ensures.refused c.drain.ensures.drained
 
 pub returns-clause-stopped : goal.returns-clause-stopped
 returns-clause-stopped g c =
-    stops_in_turns c.args.events.now c.args.device.now c.serve.new.self c.drain.new.self
-    (g.O.Out.taken c.args.out.now) (g.O.Out.taken c.serve.new.out) (g.O.Out.taken c.drain.new.out)
+    let old = c.args.lines.now in
+    let between = c.serve.new.out in
+    let new = c.drain.new.out in
+    let before : ℕ × Printed = (old.out.ghost_name, record { refused = old.refusals; bytes = g.O.Write.contents old.out.now }) in
+    let then : ℕ × Printed = (between.out.ghost_name, record { refused = between.refusals; bytes = g.O.Write.contents between.out.now }) in
+    let after : ℕ × Printed = (new.out.ghost_name, record { refused = new.refusals; bytes = g.O.Write.contents new.out.now }) in
+    stops_in_turns c.args.events.now c.args.device.now c.serve.new.self c.drain.new.self before then after
     c.in_ok-serve.ensures.served c.drain.result c.drain.ensures.stopped

@@ -1,5 +1,5 @@
 use Rattle.std.proofs.Common.{rules}
-use Rattle.ebpf_asm.specs.Labels.{label_in}
+use Rattle.ebpf_asm.specs.steps.Labels.{label_in}
 use Rattle.ebpf_asm.proofs.Passes.{made_nothing, made_more, made_fault}
 use Rattle.ebpf_asm.proofs.assembly.bytes_of.Goals as goal
 use Rattle.ebpf_asm.proofs.assembly.bytes_of.Goals.{in_default-via-in-Ok+in_default, in_default-via-in_default}

@@ -1,4 +1,4 @@
-use Rattle.ebpf_asm.specs.Labels.{label_in}
+use Rattle.ebpf_asm.specs.steps.Labels.{label_in}
 use Rattle.ebpf_asm.proofs.Passes.{read_fault, read_more}
 use Rattle.ebpf_asm.proofs.assembly.labels_of.Goals as goal
 

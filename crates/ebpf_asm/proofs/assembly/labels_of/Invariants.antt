@@ -1,6 +1,6 @@
 use Rattle.std.proofs.Common.{take, drop}
-use Rattle.ebpf_asm.specs.Labels.{label_in}
-use Rattle.ebpf_asm.specs.LineView.{line_views}
+use Rattle.ebpf_asm.specs.steps.Labels.{label_in}
+use Rattle.ebpf_asm.specs.steps.LineView.{line_views}
 use Rattle.ebpf_asm.proofs.Passes.{HasRead}
 use Rattle.ebpf_asm.proofs.assembly.labels_of.Given as goal
 

@@ -1,6 +1,6 @@
 use Rattle.std.proofs.Common.{◌≡◌, ◌++◌, length}
 use Rattle.ebpf_asm.specs.Assembly.{lines_of}
-use Rattle.ebpf_asm.specs.LineView.{line_views}
+use Rattle.ebpf_asm.specs.steps.LineView.{line_views}
 use Rattle.ebpf_asm.proofs.text.read_lines.Given as goal
 
 abbrev pub invariant-loop-rest : goal.invariant-loop-rest

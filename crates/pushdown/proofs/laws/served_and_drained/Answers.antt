@@ -8,4 +8,4 @@ pub returns-clause-one_way : goal.returns-clause-one_way
 returns-clause-one_way g c = drained_in_one_way
 
 pub returns-clause-finished : goal.returns-clause-finished
-returns-clause-finished g c = served_and_drained g.D.Domain.operations
+returns-clause-finished g c = served_and_drained g.D.Domain.operations g.O.Out.took g.met.O.Out.joins

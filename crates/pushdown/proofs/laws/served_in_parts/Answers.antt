@@ -8,4 +8,4 @@ pub returns-clause-parts : goal.returns-clause-parts
 returns-clause-parts g c = in_parts g.D.Domain.operations
 
 pub returns-clause-served : goal.returns-clause-served
-returns-clause-served g c = served_in_parts g.D.Domain.operations
+returns-clause-served g c = served_in_parts g.D.Domain.operations g.O.Out.took g.met.O.Out.joins

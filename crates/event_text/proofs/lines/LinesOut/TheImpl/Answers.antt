@@ -1,15 +1,38 @@
--- what isn't told follows from nothing
-use Rattle.std.proofs.Common.{Result, Ok, Err, refl}
-use Rattle.std.specs.Result.{OnOk, OnErr}
+use Rattle.std.proofs.Common.{◌≡◌, ℕ, [], ◌∷◌, append-nil, Result, Ok, Err, OnOk, OnErr, subst, sym, arith}
+use Rattle.std.specs.Io.KnownBytes.{Appends}
+use Rattle.device_events.specs.Printed.{Printed, Prints}
+use Rattle.device_events.specs.Refusals.{CountsRefusals}
+use Rattle.device_events.specs.Replies.{ReplyWithData}
+use Rattle.event_text.specs.Lines.{line_of}
 use Rattle.event_text.proofs.lines.LinesOut.TheImpl.Goals as goal
 
-on_ok : {T E fact : Type 0} (result : Result T E) → fact → OnOk result fact
-on_ok (Ok value) holds = holds
-on_ok (Err error) holds = tt
+-- one writer, to which a line was printed, or one that failed
+module _ {T E : Type 0} (writer after : ℕ) (same : after ≡ writer) (old new : Printed) where
+  line_taken : (result : Result T E) (answer : ReplyWithData) → OnOk result (Appends old.bytes new.bytes (line_of answer))
+      → CountsRefusals old.refused new.refused result → OnOk result ((after ≡ writer) × Prints line_of old new (answer ∷ []))
+  line_taken (Err error) answer printed count = tt
+  line_taken (Ok value) answer printed count = (
+    same,
+    record {
+      no_fewer = omega (arith, count);
+      texts = λ _. subst (Appends old.bytes new.bytes) (sym (append-nil (line_of answer))) printed;
+    },
+  )
 
-on_err : {T E fact : Type 0} (result : Result T E) → fact → OnErr result fact
-on_err (Ok value) holds = tt
-on_err (Err error) holds = holds
+  line_refused : (result : Result T E) → CountsRefusals old.refused new.refused result → OnErr result ((after ≡ writer) × Prints line_of old new [])
+  line_refused (Ok value) count = tt
+  line_refused (Err error) count = (same, record { no_fewer = omega (arith, count); texts = λ none. absurd (omega (arith, count, none)) })
 
 pub take-tells : goal.take-tells
-take-tells g c = record { ok = on_ok c.result refl; err = on_err c.result refl; count = c.ensures.count }
+take-tells g c =
+    let old = c.args.self.now in
+    let new = c.new.self.now in
+    let before : Printed = record { refused = old.refusals; bytes = g.W.Write.contents old.out.now } in
+    let after : Printed = record { refused = new.refusals; bytes = g.W.Write.contents new.out.now } in
+    let answer : ReplyWithData = record { reply = c.args.reply; bytes = c.args.bytes.now } in
+    let same = c.ensures.same_writer in
+    record {
+      ok = line_taken old.out.ghost_name new.out.ghost_name same before after c.result answer c.ensures.printed c.ensures.count;
+      err = line_refused old.out.ghost_name new.out.ghost_name same before after c.result c.ensures.count;
+      count = c.ensures.count;
+    }

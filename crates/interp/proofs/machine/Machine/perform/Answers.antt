@@ -1,6 +1,15 @@
 use Rattle.std.proofs.Common.{eq-eqb}
 use Rattle.interp.proofs.machine.Machine.perform.Goals as goal
 
+pub returns-in-LoadImmediate-clause-answer : goal.returns-in-LoadImmediate-clause-answer
+returns-in-LoadImmediate-clause-answer c program slot = c.perform_load.ensures.answer program c.args.limit slot c.args.group.now
+
+pub returns-in-StoreImmediate-clause-answer : goal.returns-in-StoreImmediate-clause-answer
+returns-in-StoreImmediate-clause-answer c program slot = c.perform_store.ensures.answer program c.args.limit slot c.args.group.now
+
+pub returns-in-Arithmetic-clause-answer : goal.returns-in-Arithmetic-clause-answer
+returns-in-Arithmetic-clause-answer c program slot = c.perform_arithmetic.ensures.answer program c.args.limit slot c.args.group.now
+
 pub returns-then-helper-eq1-clause-answer : goal.returns-then-helper-eq1-clause-answer
 returns-then-helper-eq1-clause-answer c program slot =
     rw (c.in-Call.is, eq-eqb _ _ c.if-helper-eq1.true) (c.emit.ensures.answer slot)

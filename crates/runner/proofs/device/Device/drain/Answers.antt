@@ -1,9 +1,9 @@
-use Rattle.std.proofs.Common.{◌*◌, [], ◌∷◌, inr, take, ap, sym, ◌∙◌, arith}
+use Rattle.std.proofs.Common.{◌*◌, [], ◌∷◌, inl, inr, take, refl, ap, subst, sym, ◌∙◌, arith}
 use Rattle.zone_resources.specs.declared.holds.TheConstants.{RUNS}
-use Rattle.device_events.specs.Replies.{ReplyWithData, and_then, data_length}
+use Rattle.device_events.specs.Replies.{ReplyWithData, data_length}
 use Rattle.pushdown.specs.Draining.{turns_left}
 use Rattle.pushdown.specs.State.{State}
-use Rattle.runner.proofs.Drains.{drained_more, drained_stops, few_at_first, turn_less}
+use Rattle.runner.proofs.Drains.{drained_more, drained_none, drained_stops, few_at_first, turn_less}
 use Rattle.runner.proofs.Served.{with_data}
 use Rattle.runner.proofs.device.Device.drain.Goals as goal
 
@@ -15,19 +15,27 @@ loop-run-smaller g c =
     let left = ap (λ (s : State). turns_left s.places) c.step-reply.ensures.happened.state in
     omega (arith, less, left)
 
+pub loop-run-init : goal.loop-run-init
+loop-run-init g c = record {
+  draining = drained_none g.O.Out.took c.args.out.now c.args.self.now (g.met.O.Out.takes_none c.args.out.now);
+  few = inl refl;
+  refused = refl;
+}
+
 pub loop-run-preserved : goal.loop-run-preserved
 loop-run-preserved g c =
+    let out = g.O.Out in
     let step = c.step-reply in
     let inv = c.loop-run.invariant in
-    let first = g.O.Out.taken c.args.out.now in
-    let then = g.O.Out.taken c.loop-run.out in
     let low = sym c.next_run.ensures.lowest ∙ c.in-Some.is in
     let answer : ReplyWithData = record { reply = step.result; bytes = take (data_length step.result) step.new.output } in
-    let taken = c.in-Ok.ensures.ok ∙ ap (λ (x : ReplyWithData). and_then then (x ∷ [])) (with_data step.result c.data_length.result step.new.output c.data_length.ensures) in
+    let taken = subst (λ (x : ReplyWithData). out.took c.loop-run.out c.take.new.self (x ∷ []))
+    (with_data step.result c.data_length.result step.new.output c.data_length.ensures) c.in-Ok.ensures.ok in
     record {
-      draining = drained_more c.args.self.now c.loop-run.self step.new.self first then (g.O.Out.taken c.take.new.self) c.loop-run.done c.in-Some.run' answer
-          inv.draining c.next_run.ensures.reached low step.ensures.happened.state step.ensures.happened.answered taken;
-      few = inr (few_at_first c.args.self.now c.loop-run.self first then c.loop-run.done (65536 * RUNS) inv.draining inv.few c.next_run.ensures.few);
+      draining = drained_more out.took g.met.O.Out.joins c.args.self.now c.loop-run.self step.new.self c.args.out.now c.loop-run.out c.take.new.self
+          c.loop-run.done c.in-Some.run' answer inv.draining c.next_run.ensures.reached low step.ensures.happened.state step.ensures.happened.answered taken;
+      few = inr (few_at_first c.args.self.now c.loop-run.self (out.took c.args.out.now c.loop-run.out) c.loop-run.done (65536 * RUNS) inv.draining inv.few
+          c.next_run.ensures.few);
       refused = c.in-Ok.ensures.count ∙ inv.refused;
     }
 
@@ -36,5 +44,5 @@ returns-in-Err-clause-stopped g c =
     let step = c.step-reply in
     let low = sym c.next_run.ensures.lowest ∙ c.in-Some.is in
     let answer : ReplyWithData = record { reply = step.result; bytes = take (data_length step.result) step.new.output } in
-    drained_stops c.args.self.now c.loop-run.self step.new.self (g.O.Out.taken c.args.out.now) (g.O.Out.taken c.loop-run.out) (g.O.Out.taken c.take.new.self)
+    drained_stops g.O.Out.took g.met.O.Out.joins c.args.self.now c.loop-run.self step.new.self c.args.out.now c.loop-run.out c.take.new.self
     c.loop-run.done c.in-Some.run' answer c.loop-run.invariant.draining c.next_run.ensures.reached low step.ensures.happened.state c.in-Err.ensures.err

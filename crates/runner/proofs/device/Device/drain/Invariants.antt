@@ -6,7 +6,7 @@ use Rattle.runner.proofs.device.Device.drain.Given as goal
 
 abbrev pub invariant-loop-run : goal.invariant-loop-run
 invariant-loop-run g l = record {
-  draining : IsDraining l.fn.self l.self (g.O.Out.taken l.fn.out) (g.O.Out.taken l.out) l.done;
+  draining : IsDraining l.fn.self l.self (g.O.Out.took l.fn.out l.out) l.done;
   few : (l.done ≡ 0) ⊎ (turns_left l.fn.self.places ≤ 65536 * RUNS);
   refused : g.O.Out.refused l.out ≡ g.O.Out.refused l.fn.out;
 }

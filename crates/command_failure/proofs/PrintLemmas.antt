@@ -1,0 +1,39 @@
+-- What a stream grows by, where the words of a fault stand in the text.
+use Rattle.std.proofs.Common.{◌≡◌, ℕ, List, [], ◌∷◌, ◌++◌, Option, Some, None, Result, Ok, Err, OnOk, IfSome, append_assoc, ap, subst, ◌∙◌}
+use Rattle.std.specs.Io.KnownBytes.{Appends}
+use Rattle.command_failure.specs.Lines.{GrowsAround}
+
+-- one text, and then another
+pub both : (old between new : Option (List ℕ)) (first then : List ℕ) → Appends old between first → Appends between new then → Appends old new (first ++ then)
+both None between new first then begins goes_on = tt
+both (Some xs) None new first then begins goes_on = elim begins [ ]
+both (Some xs) (Some ys) None first then begins goes_on = elim goes_on [ ]
+both (Some xs) (Some ys) (Some zs) first then begins goes_on = goes_on ∙ ap (λ (t : List ℕ). t ++ then) begins ∙ append_assoc xs first then
+
+-- a line, and then another that may be known
+pub two_lines : {T E : Type 0} (result : Result T E) (old between new behind : Option (List ℕ)) (first : List ℕ) (whole : List ℕ → List ℕ)
+    → ((text : List ℕ) → first ++ (text ++ 10 ∷ []) ≡ whole text) → Appends old between first
+    → OnOk result (IfSome behind (λ text. Appends between new (text ++ 10 ∷ []))) → OnOk result (IfSome behind (λ text. Appends old new (whole text)))
+two_lines (Err error) old between new behind first whole is begins goes_on = tt
+two_lines (Ok done) old between new None first whole is begins goes_on = tt
+two_lines (Ok done) old between new (Some text) first whole is begins goes_on =
+    subst (λ (t : List ℕ). Appends old new t) (is text) (both old between new first (text ++ 10 ∷ []) begins goes_on)
+
+-- a text that has the words between two others
+pub around : {T E : Type 0} (result : Result T E) (front words behind text : List ℕ) (old new : Option (List ℕ))
+    → text ≡ front ++ words ++ behind → OnOk result (Appends old new text) → OnOk result (GrowsAround front behind old new)
+around (Err error) front words behind text old new is grows = tt
+around (Ok done) front words behind text old new is grows = record { words = words; grows = subst (λ (t : List ℕ). Appends old new t) is grows }
+
+-- the same, where the line for programs may be known
+pub around_known : {T E : Type 0} (result : Result T E) (front words : List ℕ) (behind old new : Option (List ℕ)) (whole : List ℕ → List ℕ)
+    → ((text : List ℕ) → whole text ≡ front ++ words ++ (10 ∷ text ++ 10 ∷ [])) → OnOk result (IfSome behind (λ text. Appends old new (whole text)))
+    → OnOk result (IfSome behind (λ text. GrowsAround front (10 ∷ text ++ 10 ∷ []) old new))
+around_known (Err error) front words behind old new whole is grows = tt
+around_known (Ok done) front words None old new whole is grows = tt
+around_known (Ok done) front words (Some text) old new whole is grows = record { words = words; grows = subst (λ (t : List ℕ). Appends old new t) (is text) grows }
+
+-- the same, with another text behind the words, which is equal
+pub reframed : {T E : Type 0} (result : Result T E) (front behind other : List ℕ) (old new : Option (List ℕ))
+    → behind ≡ other → OnOk result (GrowsAround front behind old new) → OnOk result (GrowsAround front other old new)
+reframed result front behind other old new is grows = subst (λ (t : List ℕ). OnOk result (GrowsAround front t old new)) is grows

@@ -1,0 +1,6 @@
+use Rattle.std.proofs.Common.{append_assoc, refl}
+use Rattle.command_failure.proofs.PrintLemmas.{reframed}
+use Rattle.command_failure.proofs.lines.print_image.Goals as goal
+
+pub returns : goal.returns
+returns g c = reframed c.print_refusal.result _ _ _ _ _ (rw c.number-number.ensures refl) c.print_refusal.ensures

@@ -1,0 +1,108 @@
+-- What the user is told of a failure (profile).
+use Rattle.std.specs.Prelude.{◌≡◌, ℕ, List, [], ◌∷◌, ◌++◌, codes, Option, Result, Ok, Err}
+use Rattle.std.specs.Fmt.{decimal}
+use Rattle.std.specs.Io.KnownBytes.{Appends}
+use Rattle.ebpf_asm.specs.Fault.{fault_number as assembly_number}
+use Rattle.ebpf_asm.specs.declared.refusal.AssemblyRefusal.{AssemblyRefusal}
+use Rattle.ebpf_decode.specs.Faults.{fault_number as program_number}
+use Rattle.ebpf_decode.specs.declared.refusal.ProgramRefusal.{ProgramRefusal}
+use Rattle.emit_append.specs.Refusal.{refused_byte}
+use Rattle.emit_append.specs.declared.refusal.FrameRefusal.{FrameRefusal}
+use Rattle.image_store.specs.Fault.{load_number}
+use Rattle.image_store.specs.Geometry.{geometry_fault_number as geometry_number}
+use Rattle.image_store.specs.Refusal.{fault_of}
+use Rattle.image_store.specs.declared.fault.LoadFault.{LoadFault}
+use Rattle.image_store.specs.declared.refusal.GeometryRefusal.{GeometryRefusal}
+use Rattle.command_failure.specs.declared.failure.Failure.{Failure}
+use Rattle.command_failure.specs.declared.failure.Failure.TheVariants.{CommandLine, NotText, NotNumber, NotInRange, CannotRead, CannotWrite, CannotPrint, NoMemory, LineRefused, ReplyRefused, GeometryRefused, ImageRefused, AssemblyRefused, ProgramRefused, FrameRefused, DataRefused, EmitExceedsBlock, NotAccepted}
+
+-- a text: one that is said here, one around words that another crate has, one that another crate has, or none
+pub data Text : Type 0 where
+  Said : (text : List ℕ) → Text
+  Around : (front behind : List ℕ) → Text
+  Elsewhere : Text
+  Silence : Text
+
+-- a line
+abbrev pub line : List ℕ → Text
+line text = Said (text ++ 10 ∷ [])
+
+-- a sentence of which the fault's own words stand behind this front, and then a line for programs
+abbrev pub sentence : List ℕ → List ℕ → Text
+sentence front behind = Around front (10 ∷ behind ++ 10 ∷ [])
+
+-- a word of the command line that is no number, or not one from the lowest to the highest
+abbrev pub number_text : List ℕ → Text
+number_text word = line (codes "error: '" ++ word ++ codes "' is not a number from 0 to 4294967295")
+
+abbrev pub range_text : List ℕ → ℕ → ℕ → Text
+range_text word low high = line (codes "error: '" ++ word ++ codes "' is not a number from " ++ decimal low ++ codes " to " ++ decimal high)
+
+-- what is refused, by the file's name and the line or the refusal
+abbrev pub at_line : List ℕ → ℕ → List ℕ → List ℕ
+at_line path number words =
+    path ++ codes ", line " ++ decimal number ++ codes ": " ++ words ++ 10 ∷ (codes "line " ++ decimal number ++ codes " refused") ++ 10 ∷ []
+
+abbrev pub line_text : List ℕ → ℕ → Text
+line_text path number = sentence (path ++ codes ", line " ++ decimal number ++ codes ": ") (codes "line " ++ decimal number ++ codes " refused")
+
+abbrev pub reply_text : List ℕ → ℕ → Text
+reply_text path number = Said (at_line path number (codes "not one that `exec` prints"))
+
+abbrev pub geometry_text : GeometryRefusal → Text
+geometry_text refusal = sentence [] (codes "geometry refused " ++ decimal (geometry_number (fault_of refusal)))
+
+abbrev pub image_text : List ℕ → LoadFault → Text
+image_text path fault = sentence (path ++ codes ": ") (codes "image refused " ++ decimal (load_number fault))
+
+abbrev pub assembly_text : List ℕ → AssemblyRefusal → Text
+assembly_text path refusal =
+    sentence (path ++ codes ", ") (codes "assembly refused " ++ decimal refusal.fault.line ++ codes " " ++ decimal (assembly_number refusal.fault.kind))
+
+abbrev pub program_text : List ℕ → ProgramRefusal → Text
+program_text path refusal =
+    sentence (path ++ codes ", ") (codes "program refused " ++ decimal refusal.fault.slot ++ codes " " ++ decimal (program_number refusal.fault.kind))
+
+abbrev pub frame_text : List ℕ → FrameRefusal → Text
+frame_text path refusal = sentence (path ++ codes ", ") (codes "frame refused " ++ decimal (refused_byte refusal))
+
+abbrev pub data_text : List ℕ → Text
+data_text file = Around (file ++ codes " ") (10 ∷ [])
+
+abbrev pub text_of : Failure → Text
+text_of (CommandLine error) = Elsewhere
+text_of NotText = line (codes "error: a word of the command line isn't text")
+text_of (NotNumber text) = number_text text.now
+text_of (NotInRange text low high) = range_text text.now low high
+text_of (CannotRead path) = line (codes "cannot read " ++ path.now)
+text_of (CannotWrite path) = line (codes "cannot write " ++ path.now)
+text_of CannotPrint = line (codes "cannot write -")
+text_of NoMemory = line (codes "no memory")
+text_of (LineRefused path number fault) = line_text path.now number
+text_of (ReplyRefused path number) = reply_text path.now number
+text_of (GeometryRefused refusal) = geometry_text refusal
+text_of (ImageRefused path fault) = image_text path.now fault
+text_of (AssemblyRefused path refusal) = assembly_text path.now refusal
+text_of (ProgramRefused path refusal) = program_text path.now refusal
+text_of (FrameRefused path refusal) = frame_text path.now refusal
+text_of (DataRefused file fault) = data_text file.now
+text_of EmitExceedsBlock = line (codes "emit exceeds block")
+text_of NotAccepted = Silence
+
+-- a stream grows by some words, with this in front of them and that behind them
+pub record GrowsAround (front behind : List ℕ) (old new : Option (List ℕ)) : Type 0 where
+  pub words : List ℕ
+  pub grows : Appends old new (front ++ words ++ behind)
+
+-- a stream grows by a text
+abbrev pub IsPrinted : Text → Option (List ℕ) → Option (List ℕ) → Type 0
+IsPrinted (Said text) old new = Appends old new text
+IsPrinted (Around front behind) old new = GrowsAround front behind old new
+IsPrinted Elsewhere old new = Unit {0}
+IsPrinted Silence old new = new ≡ old
+
+-- what stands on standard error at the end of a command line: nothing more where all was done, else what the user is
+-- told of the failure
+abbrev pub IsConcluded : Result (Unit {0}) Failure → Option (List ℕ) → Option (List ℕ) → Type 0
+IsConcluded (Ok done) old new = new ≡ old
+IsConcluded (Err failure) old new = IsPrinted (text_of failure) old new

@@ -1,0 +1,212 @@
+//! What a failure is printed as.
+
+ghost use Rattle.std.specs.Prelude.{◌++◌, ◌∷◌, [], codes, decimal, IfSome, OnOk};
+ghost use Rattle.std.specs.Io.KnownBytes.{Appends};
+ghost use Rattle.command_failure.specs.Lines.{IsPrinted, assembly_text, at_line, data_text, frame_text, geometry_text, image_text, line, line_text, number_text, program_text, range_text, reply_text, sentence, text_of};
+
+use crate::data_fault::DataFault;
+use crate::failure::Failure;
+use ebpf_asm::AssemblyRefusal;
+use ebpf_decode::ProgramRefusal;
+use emit_append::FrameRefusal;
+use event_text::LineFault;
+use image_store::{GeometryRefusal, LoadFault};
+use std::fmt::{Display, InlineText};
+use std::io::{self, Write};
+
+/// Room for the words of a fault, of which none has as many bytes.
+type Words = InlineText<512>;
+
+impl Failure<'_> {
+    /// Prints what the user is told.
+    ///
+    /// # Errors
+    ///
+    /// Those of the stream.
+    pub fn print<W: Write>(&self, out: &mut W) -> io::Result<()>
+        ensures { OnOk result (IsPrinted (text_of self.now) (W.contents out.old) (W.contents out.new)) }
+    {
+        match self {
+            // This text has a line end of its own.
+            Failure::CommandLine(error) => write!(out, "{error}"),
+            Failure::NotText => print_line(out, "error: a word of the command line isn't text"),
+            Failure::NotNumber(text) => print_number(out, text),
+            Failure::NotInRange(text, low, high) => print_range(out, text, *low, *high),
+            Failure::CannotRead(path) => print_line(out, format_args!("cannot read {path}")),
+            Failure::CannotWrite(path) => print_line(out, format_args!("cannot write {path}")),
+            Failure::CannotPrint => print_line(out, "cannot write -"),
+            Failure::NoMemory => print_line(out, "no memory"),
+            Failure::LineRefused { path, line, fault } => {
+                print_line_fault(out, path, *line, *fault)
+            }
+            Failure::ReplyRefused { path, line } => print_reply(out, path, *line),
+            Failure::GeometryRefused(refusal) => print_geometry(out, *refusal),
+            Failure::ImageRefused { path, fault } => print_image(out, path, *fault),
+            Failure::AssemblyRefused { path, refusal } => print_assembly(out, path, *refusal),
+            Failure::ProgramRefused { path, refusal } => print_program(out, path, *refusal),
+            Failure::FrameRefused { path, refusal } => print_frame(out, path, *refusal),
+            Failure::DataRefused(file, fault) => print_data(out, file, *fault),
+            Failure::EmitExceedsBlock => print_line(out, "emit exceeds block"),
+            Failure::NotAccepted => Ok(()),
+        }
+    }
+}
+
+/// Prints a line.
+fn print_line<W: Write, D: Display + Drop>(out: &mut W, text: D) -> io::Result<()>
+    ensures { OnOk result (IfSome (D.output text) (λ text. IsPrinted (line text) (W.contents out.old) (W.contents out.new))) }
+{
+    writeln!(out, "{text}")
+}
+
+fn print_number<W: Write>(out: &mut W, text: &str) -> io::Result<()>
+    ensures { OnOk result (IsPrinted (number_text text.now) (W.contents out.old) (W.contents out.new)) }
+{
+    writeln!(out, "error: '{text}' is not a number from 0 to 4294967295")
+}
+
+fn print_range<W: Write>(out: &mut W, text: &str, low: u64, high: u64) -> io::Result<()>
+    ensures { OnOk result (IsPrinted (range_text text.now low high) (W.contents out.old) (W.contents out.new)) }
+{
+    writeln!(out, "error: '{text}' is not a number from {low} to {high}")
+}
+
+fn print_line_fault<W: Write>(
+    out: &mut W,
+    path: &str,
+    number: usize,
+    fault: LineFault,
+) -> io::Result<()>
+    ensures { OnOk result (IsPrinted (line_text path.now number) (W.contents out.old) (W.contents out.new)) }
+{
+    let words = Words::of(fault);
+    print_at_line(out, path, number, words.as_str())
+}
+
+fn print_reply<W: Write>(out: &mut W, path: &str, number: usize) -> io::Result<()>
+    ensures { OnOk result (IsPrinted (reply_text path.now number) (W.contents out.old) (W.contents out.new)) }
+{
+    print_at_line(out, path, number, "not one that `exec` prints")
+}
+
+fn print_geometry<W: Write>(out: &mut W, refusal: GeometryRefusal) -> io::Result<()>
+    ensures { OnOk result (IsPrinted (geometry_text refusal) (W.contents out.old) (W.contents out.new)) }
+{
+    let number = refusal.fault().number();
+    print_refusal(
+        out,
+        "",
+        "",
+        refusal,
+        format_args!("geometry refused {number}"),
+    )
+}
+
+fn print_image<W: Write>(out: &mut W, path: &str, fault: LoadFault) -> io::Result<()>
+    ensures { OnOk result (IsPrinted (image_text path.now fault) (W.contents out.old) (W.contents out.new)) }
+{
+    let number = fault.number();
+    print_refusal(
+        out,
+        path,
+        ": ",
+        fault,
+        format_args!("image refused {number}"),
+    )
+}
+
+fn print_assembly<W: Write>(out: &mut W, path: &str, refusal: AssemblyRefusal) -> io::Result<()>
+    ensures { OnOk result (IsPrinted (assembly_text path.now refusal) (W.contents out.old) (W.contents out.new)) }
+{
+    let line = refusal.fault.line;
+    let number = refusal.fault.kind.number();
+    print_refusal(
+        out,
+        path,
+        ", ",
+        refusal,
+        format_args!("assembly refused {line} {number}"),
+    )
+}
+
+fn print_program<W: Write>(out: &mut W, path: &str, refusal: ProgramRefusal) -> io::Result<()>
+    ensures { OnOk result (IsPrinted (program_text path.now refusal) (W.contents out.old) (W.contents out.new)) }
+{
+    let slot = refusal.fault.slot;
+    let number = refusal.fault.kind.number();
+    print_refusal(
+        out,
+        path,
+        ", ",
+        refusal,
+        format_args!("program refused {slot} {number}"),
+    )
+}
+
+fn print_frame<W: Write>(out: &mut W, path: &str, refusal: FrameRefusal) -> io::Result<()>
+    ensures { OnOk result (IsPrinted (frame_text path.now refusal) (W.contents out.old) (W.contents out.new)) }
+{
+    let place = refusal.place();
+    print_refusal(
+        out,
+        path,
+        ", ",
+        refusal,
+        format_args!("frame refused {place}"),
+    )
+}
+
+fn print_data<W: Write>(out: &mut W, file: &str, fault: DataFault) -> io::Result<()>
+    ensures { OnOk result (IsPrinted (data_text file.now) (W.contents out.old) (W.contents out.new)) }
+{
+    let words = Words::of(fault);
+    print_words(out, file, " ", words.as_str())
+}
+
+/// Prints a sentence, in which the words of a fault stand behind a file's name and a mark, and a line for programs.
+fn print_refusal<W: Write, D: Display + Drop, B: Display + Drop>(
+    out: &mut W,
+    path: &str,
+    mark: &str,
+    fault: D,
+    behind: B,
+) -> io::Result<()>
+    ensures { OnOk result (IfSome (B.output behind) (λ behind. IsPrinted (sentence (path.now ++ mark.now) behind) (W.contents out.old) (W.contents out.new))) }
+{
+    let words = Words::of(fault);
+    print_sentence(out, path, mark, words.as_str(), behind)
+}
+
+/// Prints a sentence and a line for programs.
+fn print_sentence<W: Write, B: Display + Drop>(
+    out: &mut W,
+    path: &str,
+    mark: &str,
+    words: &str,
+    behind: B,
+) -> io::Result<()>
+    ensures { OnOk result (IfSome (B.output behind) (λ behind. Appends (W.contents out.old) (W.contents out.new) (path.now ++ mark.now ++ words.now ++ 10 ∷ behind ++ 10 ∷ []))) }
+{
+    print_words(out, path, mark, words)?;
+    print_line(out, behind)
+}
+
+/// Prints a sentence on a line of a file, and a line for programs.
+fn print_at_line<W: Write>(out: &mut W, path: &str, number: usize, words: &str) -> io::Result<()>
+    ensures { OnOk result (Appends (W.contents out.old) (W.contents out.new) (at_line path.now number words.now)) }
+{
+    print_line_words(out, path, number, words)?;
+    print_line(out, format_args!("line {number} refused"))
+}
+
+fn print_words<W: Write>(out: &mut W, path: &str, mark: &str, words: &str) -> io::Result<()>
+    ensures { OnOk result (IsPrinted (line (path.now ++ mark.now ++ words.now)) (W.contents out.old) (W.contents out.new)) }
+{
+    writeln!(out, "{path}{mark}{words}")
+}
+
+fn print_line_words<W: Write>(out: &mut W, path: &str, number: usize, words: &str) -> io::Result<()>
+    ensures { OnOk result (IsPrinted (line (path.now ++ codes ", line " ++ decimal number ++ codes ": " ++ words.now)) (W.contents out.old) (W.contents out.new)) }
+{
+    writeln!(out, "{path}, line {number}: {words}")
+}

@@ -1,0 +1,12 @@
+-- Files in memory.
+use Rattle.std.specs.Prelude.{ℕ, List, map, reverse, find, Option, option_map, string_bytes, bytes_eq}
+use Rattle.command_files.specs.Made.{Made}
+use Rattle.command_files.specs.declared.memory_files.NamedFile.{NamedFile}
+
+-- the files that were made, in order
+abbrev pub made_of : List NamedFile → List Made
+made_of files = map (λ file. record { path = string_bytes file.name; bytes = file.bytes.items }) files
+
+-- the bytes of the last of these files that has this name, where one has it
+abbrev pub bytes_named : List NamedFile → List ℕ → Option (List ℕ)
+bytes_named files path = option_map (λ file. file.bytes.items) (find (λ file. bytes_eq (string_bytes file.name) path) (reverse files))

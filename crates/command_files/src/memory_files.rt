@@ -1,0 +1,197 @@
+//! Files in memory. They tell which files were made, and the bytes of each.
+
+ghost use Rattle.std.specs.Prelude.{◌≡◌, List, [], ◌∷◌, ◌++◌, drop, Some, OnOk, OnErr, option_copied};
+ghost use Rattle.command_files.specs.Made.{Made};
+ghost use Rattle.command_files.specs.MemoryFiles.{bytes_named, made_of};
+
+use crate::files::{FileError, Files};
+use image_store::{Sink, Source, StreamFault};
+use std::alloc::{AllocError, Global};
+
+/// A file with its name.
+#[derive(Drop)]
+struct NamedFile {
+    name: String,
+    bytes: Vec<u8>,
+}
+
+/// Files in memory, each with its name.
+#[derive(Drop)]
+pub struct MemoryFiles {
+    alloc: Global,
+    /// Each file that was made. It hides those before it that have its name.
+    files: Vec<NamedFile>,
+    /// The most bytes of a file that a command makes.
+    pub room: usize,
+    /// Does reading in pieces fail behind the first bytes of a file?
+    pub fails: bool,
+}
+
+impl MemoryFiles {
+    /// No files, and room for all.
+    pub fn new(alloc: Global) -> MemoryFiles
+        ensures { made_of result.files.items ≡ [] }
+    {
+        MemoryFiles {
+            alloc,
+            files: Vec::new(alloc),
+            room: usize::MAX,
+            fails: false,
+        }
+    }
+
+    /// Puts a file of these bytes in the place of the one with this name, whatever room there is.
+    ///
+    /// # Errors
+    ///
+    /// Want of memory, which leaves the files as they were.
+    pub fn put(&mut self, name: &str, bytes: &[u8]) -> Result<(), AllocError>
+        ensures ok { OnOk result (made_of self.new.files.items ≡ made_of self.old.files.items ++ record { path = name.now; bytes = bytes.now } ∷ []) }
+        ensures err { OnErr result (made_of self.new.files.items ≡ made_of self.old.files.items) }
+    {
+        let file = NamedFile {
+            name: String::from_str(self.alloc, name)?,
+            bytes: Vec::from_slice(self.alloc, bytes)?,
+        };
+        self.files.push(file)?;
+        Ok(())
+    }
+
+    /// Puts bytes behind those of the file with this name, if there is one.
+    ///
+    /// # Errors
+    ///
+    /// Want of memory, which leaves the files as they were.
+    pub fn add(&mut self, name: &str, bytes: &[u8]) -> Result<(), AllocError>
+        ensures { OnErr result (made_of self.new.files.items ≡ made_of self.old.files.items) }
+    {
+        let mut all = Vec::new(self.alloc);
+        if let Some(before) = self.bytes(name) {
+            all.extend_from_slice(before)?;
+        }
+        all.extend_from_slice(bytes)?;
+        self.put(name, all.as_slice())
+    }
+
+    /// The bytes of the file with this name.
+    pub fn bytes(&self, name: &str) -> Option<&[u8]>
+        ensures { option_copied result ≡ bytes_named self.now.files.items name.now }
+    {
+        let file = self
+            .files
+            .iter()
+            .rev()
+            .find(|file| file.name.as_str() == name)?;
+        Some(file.bytes.as_slice())
+    }
+}
+
+impl Files for MemoryFiles {
+    type Reader = MemoryReader;
+
+    type Writer = MemoryWriter;
+
+    ghost made = { λ memory. Some (made_of memory.files.items) };
+
+    ghost contents = { λ memory path. bytes_named memory.files.items path };
+
+    fn read(&mut self, path: &str) -> Result<Vec<u8>, FileError> {
+        let bytes = self.bytes(path).ok_or(FileError::Failed)?;
+        Ok(Vec::from_slice(self.alloc, bytes)?)
+    }
+
+    fn write(&mut self, path: &str, bytes: &[u8]) -> Result<(), FileError> {
+        if bytes.len() > self.room {
+            return Err(FileError::Failed);
+        }
+        Ok(self.put(path, bytes)?)
+    }
+
+    fn open(&mut self, path: &str) -> Result<MemoryReader, FileError> {
+        Ok(MemoryReader {
+            bytes: self.read(path)?,
+            fails: self.fails,
+            at: 0,
+            failures: 0,
+        })
+    }
+
+    fn begin(&mut self, _path: &str) -> Result<MemoryWriter, FileError> {
+        Ok(MemoryWriter {
+            bytes: Vec::new(self.alloc),
+            room: self.room,
+            failures: 0,
+        })
+    }
+
+    fn finish(&mut self, path: &str, file: MemoryWriter) -> Result<(), FileError> {
+        Ok(self.put(path, file.bytes.as_slice())?)
+    }
+
+    fn discard(&mut self, _file: MemoryWriter) {}
+}
+
+/// A file in memory that is read in pieces.
+#[derive(Drop)]
+pub struct MemoryReader {
+    bytes: Vec<u8>,
+    fails: bool,
+    /// How many bytes were read.
+    at: usize,
+    failures: u64,
+}
+
+impl Source for MemoryReader {
+    ghost tells = { Unit {0} };
+
+    ghost rest = { λ reader. drop reader.at reader.bytes.items };
+
+    ghost failures = { λ reader. reader.failures };
+
+    fn read(&mut self, to: &mut [u8]) -> Result<usize, StreamFault> {
+        if self.fails && self.at > 0 {
+            self.failures += 1;
+            return Err(StreamFault);
+        }
+        let start = self.at.min(self.bytes.len());
+        let rest = &self.bytes.as_slice()[start..];
+        let count = rest.len().min(to.len());
+        to[..count].copy_from_slice(&rest[..count]);
+        self.at = start + count;
+        Ok(count)
+    }
+
+    fn failures(&self) -> u64 {
+        self.failures
+    }
+}
+
+/// A file in memory that is written in pieces.
+#[derive(Drop)]
+pub struct MemoryWriter {
+    bytes: Vec<u8>,
+    /// How many bytes it still takes.
+    room: usize,
+    failures: u64,
+}
+
+impl Sink for MemoryWriter {
+    ghost tells = { Unit {0} };
+
+    ghost taken = { λ writer. writer.bytes.items };
+
+    ghost failures = { λ writer. writer.failures };
+
+    fn write(&mut self, from: &[u8]) -> Result<usize, StreamFault> {
+        if from.len() > self.room || self.bytes.extend_from_slice(from).is_err() {
+            self.failures += 1;
+            return Err(StreamFault);
+        }
+        self.room -= from.len();
+        Ok(from.len())
+    }
+
+    fn failures(&self) -> u64 {
+        self.failures
+    }
+}

@@ -1,0 +1,287 @@
+//! The filters of `examples/`, as clang makes them: each runs on a device over records that are made beside the answer.
+
+mod events;
+mod fields;
+mod ranks;
+mod sets;
+mod sums;
+mod walks;
+
+ghost use Rattle.std.specs.Prelude.{◌<◌, ◌≤◌, length};
+
+use super::{BLOCK, sizes};
+use ebpf_decode::decode;
+use events::{append, done, load, open, read, result, run};
+use interval_domain::Intervals;
+use program_interface::SCRATCH_BYTES;
+use runner::{Device, Event, Reply};
+use std::alloc::{AllocError, Global};
+use std::process::Abort;
+use std::test::Fail;
+use verifier::verify;
+use zns_commands::{Geometry, Image, Limits, MOST_TRANSFER};
+
+/// The blocks of a run.
+const BLOCKS: usize = 6;
+
+/// The first block of the zone that a run appends to.
+const OUTPUT: u64 = 64;
+
+/// A filter of `examples/` in hexadecimal, for versions 2 and 3 of the instruction set.
+struct Filter {
+    name: &'static str,
+    /// The most bytes that it may emit for a block.
+    emit: u32,
+    v2: &'static str,
+    v3: &'static str,
+}
+
+/// Blocks for a run, and what it has to leave.
+#[derive(Drop)]
+struct Trial {
+    alloc: Global,
+    blocks: Vec<u8>,
+    frames: u32,
+    /// The frames of the last block, each behind its length.
+    group: Vec<u8>,
+    /// The groups of the blocks before, none of them in two output blocks.
+    output: Vec<u8>,
+    scratch: Vec<u8>,
+}
+
+impl Trial {
+    /// No blocks.
+    fn new(alloc: Global) -> Trial {
+        Trial {
+            alloc,
+            blocks: Vec::new(alloc),
+            frames: 0,
+            group: Vec::new(alloc),
+            output: Vec::new(alloc),
+            scratch: Vec::new(alloc),
+        }
+    }
+
+    /// Adds bytes to the last block, or begins one where that is full.
+    fn add(&mut self, bytes: &[u8]) -> Result<(), AllocError> {
+        if self.blocks.len() % BLOCK == 0 {
+            self.end_group()?;
+        }
+        self.blocks.extend_from_slice(bytes)
+    }
+
+    /// Fills the last block with zeros.
+    fn fill_block(&mut self) -> Result<(), AllocError> {
+        fill(&mut self.blocks, BLOCK)
+    }
+
+    /// The filter has to emit a frame for the last block.
+    fn expect_frame(&mut self, frame: &[u8]) -> Result<(), Fail> {
+        let length = u16::try_from(frame.len())?;
+        self.frames = self.frames.wrapping_add(1);
+        self.group.extend_from_slice(&length.to_le_bytes())?;
+        self.group.extend_from_slice(frame)?;
+        Ok(())
+    }
+
+    /// The filter has to emit a record's first bytes.
+    fn expect_start(&mut self, record: &[u8], length: usize) -> Result<(), Fail> {
+        let length = length.min(record.len());
+        self.expect_frame(&record[..length])
+    }
+
+    /// Scratch has to have these bytes behind those before, and zeros behind them.
+    fn expect_scratch(&mut self, bytes: &[u8]) -> Result<(), AllocError> {
+        self.scratch.extend_from_slice(bytes)
+    }
+
+    fn end_group(&mut self) -> Result<(), AllocError> {
+        let used = self.output.len() % BLOCK;
+        if self.group.len() > BLOCK - used {
+            fill(&mut self.output, BLOCK)?;
+        }
+        self.output.extend_from_slice(self.group.as_slice())?;
+        self.group.clear();
+        Ok(())
+    }
+
+    /// Runs the filter, which has to be accepted, with this argument, and compares what it leaves.
+    fn check(&mut self, rt: &impl Abort, filter: &Filter, argument: u32) -> Result<(), Fail> {
+        self.end_group()?;
+        fill(&mut self.output, BLOCK)?;
+        fill(&mut self.scratch, SCRATCH_BYTES)?;
+        for program in [filter.v2, filter.v3] {
+            self.check_program(rt, filter, program, argument)?;
+        }
+        Ok(())
+    }
+
+    fn check_program(
+        &self,
+        rt: &impl Abort,
+        filter: &Filter,
+        program: &str,
+        argument: u32,
+    ) -> Result<(), Fail> {
+        let program = hex::decode(self.alloc, program)?;
+        let decoded = decode(self.alloc, &program)?;
+        verify::<Intervals>(self.alloc, decoded, sizes(filter.emit)?)?;
+        let mut device = device(self.alloc)?;
+        let mut room = vec![in self.alloc; 0; MOST_TRANSFER]?;
+        let data = room.as_mut_slice();
+        let loading = load(rt, filter.emit, program)?;
+        self.check_run(rt, filter.name, &mut device, data, &loading, argument)?;
+        self.check_left(rt, filter.name, &mut device, data)
+    }
+
+    /// Appends the blocks, and runs the program over them.
+    fn check_run(
+        &self,
+        rt: &impl Abort,
+        name: &str,
+        device: &mut Device,
+        data: &mut [u8],
+        loading: &Event,
+        argument: u32,
+    ) -> Result<(), Fail>
+        requires { MOST_TRANSFER ≤ length data.old }
+        ensures { MOST_TRANSFER ≤ length data.new }
+    {
+        let last = u16::try_from((self.blocks.len() / BLOCK).wrapping_sub(1))?;
+        let blocks = Vec::from_slice(self.alloc, self.blocks.as_slice())?;
+        let pending = Reply::Pending { run: 0 };
+        let appending = append(last, blocks);
+        expect(rt, name, device, data, &appending, done(1, [0, 0], 0));
+        expect(
+            rt,
+            name,
+            device,
+            data,
+            &open(self.alloc),
+            done(2, [0, 0], 0),
+        );
+        expect(rt, name, device, data, loading, done(3, [0, 0], 0));
+        let running = run(self.alloc, last, argument)?;
+        expect(rt, name, device, data, &running, pending);
+        for _ in 0..last {
+            expect(rt, name, device, data, &Event::Turn { run: 0 }, pending);
+        }
+        let ended = done(4, [self.frames, self.appended()?], 0);
+        expect(rt, name, device, data, &Event::Turn { run: 0 }, ended);
+        Ok(())
+    }
+
+    /// Reads what the run appended, and its scratch.
+    fn check_left(
+        &self,
+        rt: &impl Abort,
+        name: &str,
+        device: &mut Device,
+        data: &mut [u8],
+    ) -> Result<(), Fail>
+        requires { MOST_TRANSFER ≤ length data.old }
+    {
+        // a block that isn't written reads as zeros
+        let unwritten = [0; BLOCK];
+        let output = bytes_or(&self.output, &unwritten);
+        let reading = read(
+            self.alloc,
+            u16::try_from(self.appended()?.saturating_sub(1))?,
+        );
+        expect(
+            rt,
+            name,
+            device,
+            data,
+            &reading,
+            done(5, [0, 0], output.len()),
+        );
+        assert!(rt; data.starts_with(output), "{name}");
+        let unused = [0; SCRATCH_BYTES];
+        let scratch = bytes_or(&self.scratch, &unused);
+        expect(
+            rt,
+            name,
+            device,
+            data,
+            &result(self.alloc)?,
+            done(6, [0, 0], scratch.len()),
+        );
+        assert!(rt; data.starts_with(scratch), "{name}");
+        Ok(())
+    }
+
+    /// How many blocks the run has to append.
+    fn appended(&self) -> Result<u32, Fail> {
+        Ok(u32::try_from(self.output.len() / BLOCK)?)
+    }
+}
+
+/// A device of two empty zones of 64 blocks.
+fn device(alloc: Global) -> Result<Device, Fail> {
+    let limits = Limits {
+        open_limit: 2,
+        active_limit: 2,
+    };
+    let geometry = Geometry::new(512, 2, 64, 64, limits)?;
+    Ok(Device::new(alloc, Image::empty(alloc, geometry)?))
+}
+
+/// Does an event, and compares its reply.
+fn expect(
+    rt: &impl Abort,
+    name: &str,
+    device: &mut Device,
+    data: &mut [u8],
+    event: &Event,
+    reply: Reply,
+)
+    requires { MOST_TRANSFER ≤ length data.old }
+    ensures { MOST_TRANSFER ≤ length data.new }
+{
+    assert_eq!(rt; device.step(event, data), reply, "{name}");
+}
+
+/// Bytes, or zeros where there are none.
+fn bytes_or<'a>(bytes: &'a Vec<u8>, zeros: &'a [u8]) -> &'a [u8] {
+    if bytes.is_empty() {
+        zeros
+    } else {
+        bytes.as_slice()
+    }
+}
+
+/// Adds zeros up to a multiple of a size.
+fn fill(bytes: &mut Vec<u8>, size: usize) -> Result<(), AllocError>
+    requires { 0 < size }
+{
+    let over = bytes.len() % size;
+    if over > 0 {
+        for _ in over..size {
+            bytes.push(0)?;
+        }
+    }
+    Ok(())
+}
+
+/// Numbers that look random.
+#[derive(Drop)]
+struct Numbers(u64);
+
+impl Numbers {
+    /// The next number, of 32 bits: the upper half of a linear congruence.
+    fn draw(&mut self) -> u64 {
+        let next = self.0.wrapping_mul(0x5851_f42d_4c95_7f2d);
+        self.0 = next.wrapping_add(0x1405_7b7e_f767_814f);
+        self.0 >> 32
+    }
+}
+
+/// The byte of 8 bits, the lowest first.
+fn byte_of(bits: &[bool]) -> u8 {
+    let mut byte = 0;
+    for bit in bits.iter().rev() {
+        byte = byte << 1 | u8::from(*bit);
+    }
+    byte
+}

@@ -1,0 +1,101 @@
+//! What happens to the device of a filter, and what it answers: entries to queue 1.
+
+ghost use Rattle.std.specs.Prelude.{◌≤◌};
+ghost use Rattle.nvme_entry.specs.Encoding.{program_length};
+
+use super::OUTPUT;
+use nvme_entry::{Command, Entry, LoadCommand, ProgramSlot, RunCommand};
+use runner::{Event, Reply};
+use std::alloc::Global;
+use std::process::Abort;
+use std::test::Fail;
+use zns_commands::{BlockCount, MOST_TRANSFER, StandardCommand};
+use zone_state::Action;
+
+/// A submission of a command, with bytes beside it.
+fn submit(command: Command, cid: u16, input: Vec<u8>) -> Event
+    requires { program_length command ≤ MOST_TRANSFER }
+{
+    Event::Submit {
+        queue: 1,
+        entry: Entry::encode(command, cid),
+        input,
+    }
+}
+
+/// Appends blocks, one more than `last`, to the first zone.
+pub(super) fn append(last: u16, bytes: Vec<u8>) -> Event {
+    let blocks = BlockCount::from_zero_based(last);
+    let command = StandardCommand::Append { lba: 0, blocks };
+    submit(Command::Standard(command), 1, bytes)
+}
+
+/// Opens the zone that the run appends to.
+pub(super) fn open(alloc: Global) -> Event {
+    let command = StandardCommand::Send {
+        lba: OUTPUT,
+        action: Action::Open,
+        select_all: false,
+    };
+    submit(Command::Standard(command), 2, Vec::new(alloc))
+}
+
+/// Loads a program into slot 0.
+pub(super) fn load(rt: &impl Abort, limit: u32, program: Vec<u8>) -> Result<Event, Fail> {
+    let bytes = u32::try_from(program.len())?;
+    assert!(rt; bytes as usize <= MOST_TRANSFER);
+    let load = LoadCommand {
+        slot: first_slot()?,
+        limit,
+        bytes,
+    };
+    Ok(submit(Command::Load(load), 3, program))
+}
+
+/// Runs it over blocks, one more than `last`.
+pub(super) fn run(alloc: Global, last: u16, argument: u32) -> Result<Event, Fail> {
+    let run = RunCommand {
+        lba: 0,
+        blocks: BlockCount::from_zero_based(last),
+        slot: first_slot()?,
+        argument,
+        destination: OUTPUT,
+    };
+    Ok(submit(Command::Run(run), 4, Vec::new(alloc)))
+}
+
+/// Reads blocks, one more than `last`, that the run appended.
+pub(super) fn read(alloc: Global, last: u16) -> Event {
+    let blocks = BlockCount::from_zero_based(last);
+    let command = StandardCommand::Read {
+        lba: OUTPUT,
+        blocks,
+    };
+    submit(Command::Standard(command), 5, Vec::new(alloc))
+}
+
+/// Reads the scratch bytes that the run left.
+pub(super) fn result(alloc: Global) -> Result<Event, Fail> {
+    Ok(submit(Command::Result(first_slot()?), 6, Vec::new(alloc)))
+}
+
+fn first_slot() -> Result<ProgramSlot, Fail> {
+    let Some(slot) = ProgramSlot::new(0) else {
+        return Err(Fail::from("no slot"));
+    };
+    Ok(slot)
+}
+
+/// The completion of a command that is done, with its Dwords 0 and 1 and so many bytes of data.
+pub(super) fn done(cid: u8, dwords: [u32; 2], length: usize) -> Reply {
+    let mut entry = [0; 16];
+    entry[0..4].copy_from_slice(&dwords[0].to_le_bytes());
+    entry[4..8].copy_from_slice(&dwords[1].to_le_bytes());
+    entry[10] = 1;
+    entry[12] = cid;
+    Reply::Complete {
+        queue: 1,
+        entry,
+        length,
+    }
+}

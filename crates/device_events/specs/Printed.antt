@@ -1,0 +1,23 @@
+-- What an `Out` tells that prints the replies that it takes.
+use Rattle.std.specs.Prelude.{ℕ, ◌≡◌, ◌≤◌, List, [], Option, flat_map}
+use Rattle.std.specs.Io.KnownBytes.{Appends}
+use Rattle.device_events.specs.Replies.{Joins, ReplyWithData}
+
+-- how many replies were refused, and the bytes that were printed, where these are known
+pub record Printed : Type 0 where
+  pub refused : ℕ
+  pub bytes : Option (List ℕ)
+
+-- the texts of these replies came behind what was printed before, and nothing else; but once a reply is refused nothing is said
+-- of the bytes, for of its text nobody knows how much was printed
+pub record Prints (text : ReplyWithData → List ℕ) (old new : Printed) (replies : List ReplyWithData) : Type 0 where
+  pub no_fewer : old.refused ≤ new.refused
+  pub texts : new.refused ≡ old.refused → Appends old.bytes new.bytes (flat_map text replies)
+
+-- as long as nothing is printed, it is the texts of no replies
+abbrev pub PrintsNone : (ReplyWithData → List ℕ) → Type 0
+PrintsNone text = (printed : Printed) → Prints text printed printed []
+
+-- what is printed in two parts is printed in order
+abbrev pub PrintsInParts : (ReplyWithData → List ℕ) → Type 0
+PrintsInParts text = Joins (Prints text)

@@ -1,0 +1,108 @@
+//! Calls the files of the system, one after another, in the folder that the program runs in, and prints what each gives.
+#![tactic(auto)]
+
+use command_files::{Disk, FileError, Files};
+use image_store::{Sink, Source};
+use std::io::{self, Write};
+use std::str;
+
+fn main(rt: HostRuntime) -> io::Result<()> {
+    let mut files = Disk::new(&rt);
+    let mut out = io::writer(&rt);
+    read(&mut files, "text", &mut out)?;
+    read(&mut files, "missing", &mut out)?;
+    open(&mut files, "text", &mut out)?;
+    open(&mut files, "missing", &mut out)?;
+    write(&mut files, "made", "first text", &mut out)?;
+    write(&mut files, "made", "second", &mut out)?;
+    write(&mut files, "missing/made", "third", &mut out)?;
+    finish(&mut files, "made", &mut out)?;
+    finish(&mut files, "missing/made", &mut out)?;
+    discard(&mut files, "made", &mut out)
+}
+
+/// Reads a whole file.
+fn read<F: Files, W: Write>(files: &mut F, path: &str, out: &mut W) -> io::Result<()> {
+    match files.read(path) {
+        Ok(bytes) => {
+            let text = str::from_utf8(bytes.as_slice()).unwrap_or("no text");
+            writeln!(out, "read {path}: {text:?}")
+        }
+        Err(error) => failed("read", path, error, out),
+    }
+}
+
+/// Reads the first bytes of a file, and those behind them.
+fn open<F: Files, W: Write>(files: &mut F, path: &str, out: &mut W) -> io::Result<()> {
+    match files.open(path) {
+        Ok(mut file) => {
+            piece(&mut file, out)?;
+            piece(&mut file, out)
+        }
+        Err(error) => failed("open", path, error, out),
+    }
+}
+
+/// Reads at most 6 bytes.
+fn piece<S: Source, W: Write>(file: &mut S, out: &mut W) -> io::Result<()> {
+    let mut bytes = [0; 6];
+    match file.read(&mut bytes) {
+        Ok(count) => {
+            let text = str::from_utf8(bytes.get(..count).unwrap_or(&[])).unwrap_or("no text");
+            writeln!(out, "piece: {text:?}")
+        }
+        Err(_) => writeln!(out, "piece: failed"),
+    }
+}
+
+/// Makes a file, and reads it.
+fn write<F: Files, W: Write>(files: &mut F, path: &str, text: &str, out: &mut W) -> io::Result<()> {
+    match files.write(path, text.as_bytes()) {
+        Ok(()) => read(files, path, out),
+        Err(error) => failed("write", path, error, out),
+    }
+}
+
+/// Makes a file in pieces, and reads it before it is finished and afterwards.
+fn finish<F: Files, W: Write>(files: &mut F, path: &str, out: &mut W) -> io::Result<()> {
+    match begun(files, path) {
+        Ok(file) => {
+            read(files, path, out)?;
+            match files.finish(path, file) {
+                Ok(()) => read(files, path, out),
+                Err(error) => failed("finish", path, error, out),
+            }
+        }
+        Err(error) => failed("begin", path, error, out),
+    }
+}
+
+/// Begins a file, and forgets it.
+fn discard<F: Files, W: Write>(files: &mut F, path: &str, out: &mut W) -> io::Result<()> {
+    match begun(files, path) {
+        Ok(file) => {
+            files.discard(file);
+            read(files, path, out)?;
+            read(files, "made.unfinished", out)
+        }
+        Err(error) => failed("begin", path, error, out),
+    }
+}
+
+/// A file that two pieces are written to.
+fn begun<F: Files>(files: &mut F, path: &str) -> Result<F::Writer, FileError> {
+    let mut file = files.begin(path)?;
+    match file.write(b"in ") {
+        Ok(_) => {}
+        Err(_) => return Err(FileError::Failed),
+    }
+    match file.write(b"pieces") {
+        Ok(_) => Ok(file),
+        Err(_) => Err(FileError::Failed),
+    }
+}
+
+/// What an error is told as.
+fn failed<W: Write>(call: &str, path: &str, error: FileError, out: &mut W) -> io::Result<()> {
+    writeln!(out, "{call} {path}: {error:?}")
+}

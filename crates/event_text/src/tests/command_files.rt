@@ -1,0 +1,175 @@
+//! Which lines of a command file are events, and what is said of the others.
+
+use super::text_of;
+use crate::{ParseError, parse, submission_line};
+use device_events::Event;
+use std::alloc::Global;
+use std::process::Abort;
+use std::test::Fail;
+
+/// Command files, and the events that they tell.
+const EVENTS: &[(&str, &str)] = &[
+    ("", "[]"),
+    ("\n", "[]"),
+    ("; turn 0", "[]"),
+    ("turn 0\r\nturn 0 ; x", "[Turn { run: 0 }, Turn { run: 0 }]"),
+    ("\t turn\t255 \n", "[Turn { run: 255 }]"),
+    ("turn 000;", "[Turn { run: 0 }]"),
+    ("turn 3;turn 4\r\n \r\n", "[Turn { run: 3 }]"),
+    (
+        "fault 0 readonly\nfault 4294967295 offline",
+        "[Fault { zone: 0, state: ReadOnly }, Fault { zone: 4294967295, state: Offline }]",
+    ),
+];
+
+/// Command files, and what is said of the line that has no event.
+const REFUSED: &[(&str, &str)] = &[
+    (
+        "; x\n\nturn 0\nturn 256\nturn 257\n",
+        "4: \"256\": no run; a number from 0 to 255 is expected",
+    ),
+    (
+        "; x\n\nturn 0\n trun 0 ; x\nturn 256\n",
+        "4: \"trun 0\": no such event; submit, turn or fault is expected",
+    ),
+    (
+        "Turn 0",
+        "1: \"Turn 0\": no such event; submit, turn or fault is expected",
+    ),
+    (
+        "turn\r0\n",
+        "1: \"turn\\r0\": no such event; submit, turn or fault is expected",
+    ),
+    (
+        "turn 0 ; \u{e9}",
+        "1: \"\\xc3\\xa9\": only ASCII text is expected",
+    ),
+    ("turn", "1: \"turn\": turn is expected with a run alone"),
+    (
+        "turn 1 2",
+        "1: \"turn 1 2\": turn is expected with a run alone",
+    ),
+    (
+        "turn +1",
+        "1: \"+1\": no run; a number from 0 to 255 is expected",
+    ),
+    (
+        "turn 0x1",
+        "1: \"0x1\": no run; a number from 0 to 255 is expected",
+    ),
+    (
+        "turn 99999999999999999999999",
+        "1: \"99999999999999999999999\": no run; a number from 0 to 255 is expected",
+    ),
+    (
+        "turn 0\nturn 0\r",
+        "2: \"0\\r\": no run; a number from 0 to 255 is expected",
+    ),
+    (
+        "fault 0",
+        "1: \"fault 0\": fault is expected with a zone and a state",
+    ),
+    (
+        "fault 4294967296 offline",
+        "1: \"4294967296\": no zone; a number from 0 to 4294967295 is expected",
+    ),
+    (
+        "fault 0 lost",
+        "1: \"lost\": no state of a fault; readonly or offline is expected",
+    ),
+];
+
+/// Submissions, which stand before a line that is refused.
+const SUBMISSIONS: &[(&str, &str)] = &[
+    (
+        "submit 65535 |0*128|\nturn 256",
+        "2: \"256\": no run; a number from 0 to 255 is expected",
+    ),
+    (
+        "submit",
+        "1: \"submit\": submit is expected with a queue, an entry and, where there is any, data",
+    ),
+    (
+        "submit 1",
+        "1: \"submit 1\": submit is expected with a queue, an entry and, where there is any, data",
+    ),
+    (
+        "submit 1 |0*128| aa bb\nturn 256",
+        "1: \"submit 1 0000000000000000000000000000000\"..: submit is expected with a queue, an entry and, where there is any, data",
+    ),
+    (
+        "submit 65536 00",
+        "1: \"65536\": no queue; a number from 0 to 65535 is expected",
+    ),
+    (
+        "submit 65536 |0*128|\nturn 256",
+        "1: \"65536\": no queue; a number from 0 to 65535 is expected",
+    ),
+    (
+        "submit |1*50| |0*128",
+        "1: \"1111111111111111111111111111111111111111\"..: no queue; a number from 0 to 65535 is expected",
+    ),
+    (
+        "submit 1 7d0000",
+        "1: an entry of 6 characters; 128 hexadecimal digits are expected",
+    ),
+    (
+        "submit 1 |0*128|00\nturn 256",
+        "1: an entry of 130 characters; 128 hexadecimal digits are expected",
+    ),
+    (
+        "submit 1 |0*100|g|0*27",
+        "1: character 101 of the entry: 'g'; a hexadecimal digit is expected",
+    ),
+    (
+        "submit 1 |0*128| abc\nturn 256",
+        "1: data of 3 characters; two hexadecimal digits for each byte are expected",
+    ),
+    (
+        "submit 1 |0*128| 0g\nturn 256",
+        "1: character 2 of the data: 'g'; a hexadecimal digit is expected",
+    ),
+];
+
+/// The events of a command file as Rust shows them, or the line that has none and what is said of it.
+fn told(alloc: Global, file: &str) -> Result<String, Fail> {
+    let file = text_of(alloc, file)?;
+    let told = match parse(alloc, file.as_bytes()) {
+        Ok(events) => format!(in alloc; "{events:?}")?,
+        Err(ParseError::Line { number, fault }) => format!(in alloc; "{number}: {fault}")?,
+        Err(ParseError::OutOfMemory) => return Err(Fail::from("no memory")),
+    };
+    Ok(told)
+}
+
+fn check(rt: &impl Abort, alloc: Global, rows: &[(&str, &str)]) -> Result<(), Fail> {
+    for (file, expected) in rows {
+        assert_eq!(rt; told(alloc, file)?.as_str(), *expected, "{file}");
+    }
+    Ok(())
+}
+
+#[test]
+fn lines_of_command_files(rt: HostRuntime) -> Result<(), Fail> {
+    let alloc = rt.alloc();
+    check(&rt, alloc, EVENTS)?;
+    check(&rt, alloc, REFUSED)?;
+    check(&rt, alloc, SUBMISSIONS)
+}
+
+#[test]
+fn a_submission_is_told(rt: HostRuntime) -> Result<(), Fail> {
+    let alloc = rt.alloc();
+    let line = submission_line(alloc, 65535, &[0x7d; 64], b"\0\xab")?;
+    let expected = text_of(alloc, "submit 65535 |7d*64| 00ab\n")?;
+    assert_eq!(rt; line.as_slice(), expected.as_bytes());
+    let told = Event::Submit {
+        queue: 65535,
+        entry: [0x7d; 64],
+        input: Vec::from_slice(alloc, b"\0\xab")?,
+    };
+    let events = parse(alloc, &line).expect(&rt, "a line of a command file");
+    assert_eq!(rt; events.len(), 1);
+    assert_eq!(rt; events[0], told);
+    Ok(())
+}

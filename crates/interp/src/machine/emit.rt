@@ -1,0 +1,63 @@
+//! Emit, the helper that adds a frame to the group.
+
+ghost use Rattle.std.specs.Prelude.{◌≡◌, ◌++◌, replicate, drop};
+
+use crate::machine::Machine;
+use crate::memory::write_frame;
+use program_interface::REGISTERS;
+use program_meaning::{AreaOffset, Cause};
+
+/// R0 to R5 after a call.
+fn clear_scratched(registers: &mut [u64; REGISTERS])
+    ensures { registers.new ≡ replicate 6 0 ++ drop 6 registers.old }
+{
+    registers[..6].copy_from_slice(&[0; 6]);
+}
+
+impl Machine<'_> {
+    ghost use Rattle.std.specs.Prelude.{◌≡◌, ◌+◌, ◌<◌, ◌≤◌, ◌^◌, ℕ, Option, Some, length, take, drop, ◌++◌, is_ok, if◌then◌else◌, slice_index};
+    ghost use Rattle.program_meaning.specs.Effect.{with_frame, emitted};
+    ghost use Rattle.program_meaning.specs.Memory.{bytes_of, bytes_from, area_offset_of};
+    ghost use Rattle.program_interface.specs.Area.{length_of};
+    ghost use Rattle.interp.specs.Machine.{state_at, memory_of, group_length, Extends};
+    ghost use Rattle.interp.specs.Answer.{unless, emit_hindrance};
+
+    /// Adds the frame that R1 and R2 tell to the group, unless a cause hinders it.
+    #[inline]
+    pub fn emit(&mut self, limit: usize, group: &mut [u8]) -> Result<(), Cause>
+        requires limit { limit < 2 ^ 16 }
+        requires room { limit ≤ length group.old }
+        requires used { self.old.group_len ≤ length group.old }
+        ensures answer { (slot : ℕ) → result ≡ unless (emit_hindrance limit (state_at self.old slot group.old)) }
+        ensures state { (slot : ℕ) → state_at self.new slot group.new ≡ (if is_ok result then emitted (state_at self.old slot group.old) else state_at self.old slot group.old) }
+        ensures extends { Extends self.old self.new group.old group.new }
+    {
+        let size = self.registers[2];
+        if size == 0 {
+            return Err(Cause::EmitLength);
+        }
+        let Some(place) = self.area_offset(self.registers[1], size) else {
+            return Err(Cause::EmitOutside);
+        };
+        if (self.group_len + 2) as u64 + size > limit as u64 {
+            return Err(Cause::EmitLength);
+        }
+        self.add_frame(place, size as usize, group);
+        Ok(())
+    }
+
+    fn add_frame(&mut self, place: AreaOffset, size: usize, group: &mut [u8])
+        requires room { place.offset + size ≤ length_of (length self.old.block.now) place.area }
+        requires size { size < 2 ^ 16 }
+        requires fits { self.old.group_len + 2 + size ≤ length group.old }
+        ensures state { (slot : ℕ) → state_at self.new slot group.new ≡ with_frame (state_at self.old slot group.old) (take size (bytes_from (memory_of self.old) (Some place))) }
+        ensures extends { Extends self.old self.new group.old group.new }
+    {
+        let start = self.group_len;
+        let bytes = self.bytes(place.area);
+        write_frame(group, start, &bytes[place.offset..][..size]);
+        self.group_len = start + 2 + size;
+        self.frames += 1;
+        clear_scratched(&mut self.registers);
+    }
+}

@@ -1,0 +1,35 @@
+-- What a device holds of a run.
+use Rattle.std.specs.Prelude.{ℕ, List, map, Option, Some, None}
+use Rattle.nvme_entry.specs.declared.command.RunCommand.{RunCommand}
+use Rattle.emit_append.specs.Packer.{new_packer}
+use Rattle.image_store.specs.declared.geometry.ZoneBlock.{ZoneBlock}
+use Rattle.pushdown.specs.BlockRuns.{no_scratch}
+use Rattle.zone_resources.specs.declared.holds.Holds.{Holds}
+use Rattle.runner.specs.declared.active_run.Active.{Active as Held}
+
+-- a run before its first turn
+abbrev pub new_active : ℕ → ℕ → RunCommand → ZoneBlock → ℕ → ℕ → Held
+new_active queue cid order source destination block = record {
+  queue = queue;
+  cid = cid;
+  order = order;
+  source = source;
+  destination = destination;
+  index = 0;
+  scratch = no_scratch;
+  packer = new_packer block;
+  frames = 0;
+  appended = 0;
+}
+
+-- the zones that a run reads from and appends to
+abbrev pub source_held : Option Held → Option ℕ
+source_held None = None
+source_held (Some a) = Some a.source.zone
+
+abbrev pub destination_held : Option Held → Option ℕ
+destination_held None = None
+destination_held (Some a) = Some a.destination
+
+abbrev pub held_by : List (Option Held) → Holds
+held_by runs = record { sources = map source_held runs; destinations = map destination_held runs }

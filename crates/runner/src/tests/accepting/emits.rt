@@ -1,0 +1,100 @@
+//! Programs that emit.
+
+use super::rows::Row::{self, Text};
+use super::rows::Verdict::{Accepted, Refused};
+use super::rows::check;
+use std::test::Fail;
+
+const EMITS: &[Row] = &[
+    // There is one helper, number 1.
+    Text("call 2\nexit", 0, Refused(0, 7)),
+    // A negative number is none.
+    Text("call -1\nexit", 0, Refused(0, 7)),
+    // R2 is the block's address, which bounds no length.
+    Text("call 1\nexit", 0, Refused(0, 9)),
+    // R1 is 0, and no address.
+    Text("mov r1, 0\nmov r2, 1\ncall 1\nexit", 3, Refused(2, 8)),
+    // The byte before the context.
+    Text("sub r1, 1\nmov r2, 1\ncall 1\nexit", 3, Refused(2, 8)),
+    // A frame has at least one byte.
+    Text("mov r1, r2\nmov r2, 0\ncall 1\nexit", 2, Refused(2, 9)),
+    // The block has 512 bytes.
+    Text("mov r1, r2\nmov r2, 513\ncall 1\nexit", 512, Refused(2, 9)),
+    // With its length the frame has 514 bytes.
+    Text("mov r1, r2\nmov r2, 512\ncall 1\nexit", 512, Refused(2, 10)),
+    // With its length the frame has 512.
+    Text("mov r1, r2\nmov r2, 510\ncall 1\nexit", 512, Accepted(4)),
+    // The whole context.
+    Text("mov r2, 32\ncall 1\nexit", 34, Accepted(3)),
+    // One byte more.
+    Text("mov r2, 33\ncall 1\nexit", 35, Refused(1, 9)),
+    // The stack's last 8 bytes.
+    Text(
+        "mov r1, r10\nsub r1, 8\nmov r2, 8\ncall 1\nexit",
+        10,
+        Accepted(5),
+    ),
+    // From the stack's end on there is no byte.
+    Text("mov r1, r10\nmov r2, 1\ncall 1\nexit", 3, Refused(2, 9)),
+    // 1 to 8 bytes, and their length.
+    Text(
+        "ldxb r6, [r2+0]\nand r6, 7\nadd r6, 1\nmov r1, r2\nmov r2, r6\ncall 1\nmov r0, 0\nexit",
+        10,
+        Accepted(8),
+    ),
+    // One byte too many.
+    Text(
+        "ldxb r6, [r2+0]\nand r6, 7\nadd r6, 1\nmov r1, r2\nmov r2, r6\ncall 1\nmov r0, 0\nexit",
+        9,
+        Refused(5, 10),
+    ),
+    // 8 bytes, and their length.
+    Text(
+        "ldxb r6, [r2+0]\njne r6, 7, +3\nmov r1, r2\nmov r2, 8\ncall 1\nmov r0, 0\nexit",
+        10,
+        Accepted(7),
+    ),
+    // One byte too many.
+    Text(
+        "ldxb r6, [r2+0]\njne r6, 7, +3\nmov r1, r2\nmov r2, 8\ncall 1\nmov r0, 0\nexit",
+        9,
+        Refused(4, 10),
+    ),
+    // Two frames of 5 bytes.
+    Text(
+        "mov r6, r2\nmov r1, r6\nmov r2, 3\ncall 1\nmov r1, r6\nmov r2, 3\ncall 1\nexit",
+        10,
+        Accepted(8),
+    ),
+    // The second takes the group over the limit.
+    Text(
+        "mov r6, r2\nmov r1, r6\nmov r2, 3\ncall 1\nmov r1, r6\nmov r2, 3\ncall 1\nexit",
+        9,
+        Refused(6, 10),
+    ),
+    // One frame or two, of 3 bytes each.
+    Text(
+        "mov r7, r2\nldxb r6, [r7+0]\njeq r6, 0, +3\nmov r1, r7\nmov r2, 1\ncall 1\n\
+mov r1, r7\nmov r2, 1\ncall 1\nexit",
+        6,
+        Accepted(10),
+    ),
+    // Where two ways meet, the longer group counts.
+    Text(
+        "mov r7, r2\nldxb r6, [r7+0]\njeq r6, 0, +3\nmov r1, r7\nmov r2, 1\ncall 1\n\
+mov r1, r7\nmov r2, 1\ncall 1\nexit",
+        5,
+        Refused(8, 10),
+    ),
+    // A call leaves 0 in R0 to R5.
+    Text(
+        "mov r1, r2\nmov r2, 1\ncall 1\nldxb r0, [r3+0]\nexit",
+        3,
+        Refused(3, 5),
+    ),
+];
+
+#[test]
+fn emits(rt: HostRuntime) -> Result<(), Fail> {
+    check(&rt, rt.alloc(), EMITS)
+}

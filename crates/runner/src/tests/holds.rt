@@ -1,0 +1,81 @@
+//! What active runs keep from their zones.
+
+use super::scenes::{G1, Scene, play};
+use super::steps::Answer::{Done, DoneWith, FaultRefused, Pending, Refused};
+use super::steps::{CLOSE, CLOSE_ALL, Case, FINISH, RESET, RESET_ALL, RETURNING, Step, ZONE_HELD};
+use std::test::Fail;
+use zns_commands::FaultState;
+
+const RESET_OF_ALL: &[Case] = &[
+    (Step::Load(1, 0, 0, RETURNING), Done(1)),
+    (Step::Run(2, 16, 1, 8), Pending(0)),
+    (Step::Send(5, 0, RESET_ALL), Refused(5, ZONE_HELD)),
+    (Step::Turns(0, 1), Done(2)),
+];
+
+/// A run from zone 0 to zone 1 after the first of its two turns.
+const BETWEEN: &[Case] = &[
+    (Step::Load(1, 0, 0, RETURNING), Done(1)),
+    (Step::Run(2, 0, 2, 8), Pending(0)),
+    (Step::Turns(0, 1), Pending(0)),
+    // Its source.
+    (Step::Send(3, 0, RESET), Refused(3, ZONE_HELD)),
+    (Step::Fault(0, FaultState::ReadOnly), FaultRefused),
+    (Step::Fault(0, FaultState::Offline), FaultRefused),
+    // Its destination.
+    (Step::Append(4, 8, "01 00*511"), Refused(4, ZONE_HELD)),
+    (Step::Write(5, 9, "01 00*511"), Refused(5, ZONE_HELD)),
+    (Step::Send(6, 8, FINISH), Refused(6, ZONE_HELD)),
+    (Step::Fault(1, FaultState::ReadOnly), FaultRefused),
+    (Step::Read(7, 8, 1, "02 00*511"), Done(7)),
+    // A third zone is opened: zone 2 gives way, and not zone 1, which is lower.
+    (Step::Write(8, 24, "01 00*511"), Done(8)),
+    (Step::Turns(0, 1), Done(2)),
+    // Nothing is held any more.
+    (Step::Send(9, 0, RESET), Done(9)),
+];
+
+const CLOSING: &[Case] = &[
+    (Step::Load(1, 0, 0, RETURNING), Done(1)),
+    (Step::Run(2, 0, 2, 8), Pending(0)),
+    // Close of all would take the destination.
+    (Step::Send(3, 0, CLOSE_ALL), Refused(3, ZONE_HELD)),
+    // The source may be appended to, closed and finished.
+    (Step::Append(4, 0, "01 00*511"), DoneWith(4, 2, 0)),
+    (Step::Send(5, 0, CLOSE), Done(5)),
+    (Step::Send(6, 0, FINISH), Done(6)),
+    (Step::Turns(0, 1), Pending(0)),
+    (Step::Turns(0, 1), Done(2)),
+];
+
+const SCENES: &[Scene] = &[
+    Scene {
+        name: "all zones but a source",
+        shape: G1,
+        zones: "full 01*6, explicit, full 02*6, empty",
+        steps: RESET_OF_ALL,
+        drained: &[],
+        left: "full 6, explicit 0, full 6, empty 0",
+    },
+    Scene {
+        name: "zones of a run",
+        shape: G1,
+        zones: "full 01*6, implicit 02, implicit 03, empty",
+        steps: BETWEEN,
+        drained: &[],
+        left: "empty 0, implicit 1, closed 1, implicit 1",
+    },
+    Scene {
+        name: "a source is closed and finished",
+        shape: G1,
+        zones: "implicit 01 02, explicit, empty, empty",
+        steps: CLOSING,
+        drained: &[],
+        left: "full 3, explicit 0, empty 0, empty 0",
+    },
+];
+
+#[test]
+fn holds(rt: HostRuntime) -> Result<(), Fail> {
+    play(&rt, rt.alloc(), SCENES)
+}

@@ -1,0 +1,261 @@
+//! Runs, turn by turn.
+
+use super::scenes::{G1, G2, Scene, play};
+use super::steps::Answer::{Done, DoneWith, Idle, Pending, Refused};
+use super::steps::{Case, MATCHING, RETURNING, Step, ZONE_IS_FULL};
+use std::test::Fail;
+
+const TURNS: &[Case] = &[
+    (Step::Load(1, 0, 0, RETURNING), Done(1)),
+    (Step::Run(7, 0, 3, 8), Pending(0)),
+    (Step::Turns(0, 2), Pending(0)),
+    // The last of three blocks.
+    (Step::Turns(0, 1), Done(7)),
+    (Step::Turns(0, 1), Idle),
+    (Step::Turns(3, 1), Idle),
+    (Step::Turns(255, 1), Idle),
+];
+
+const PACKED: &[Case] = &[
+    (Step::Load(1, 0, 10, MATCHING), Done(1)),
+    (Step::Run(2, 0, 52, 64), Pending(0)),
+    // 51 groups of 10 bytes fit into a block of 512.
+    (Step::Turns(0, 51), Pending(0)),
+    // So nothing is appended yet: a block that isn't written reads as zeros.
+    (Step::Read(3, 64, 1, "00*512"), Done(3)),
+    // 52 records in 2 blocks.
+    (Step::Turns(0, 1), DoneWith(2, 52, 2)),
+    (
+        Step::Read(
+            4,
+            64,
+            2,
+            "08000700000000000000*51 00*2 08000700000000000000 00*502",
+        ),
+        Done(4),
+    ),
+];
+
+/// Adds the first bytes of blocks in scratch, and returns 1 for the third block.
+const SUMMING: &[Case] = &[
+    (
+        Step::Load(
+            1,
+            0,
+            0,
+            "\
+7124000000000000 7935000000000000 0f45000000000000 7b53000000000000 6116080000000000 b700000000000000 \
+5506010002000000 b700000001000000 9500000000000000",
+        ),
+        Done(1),
+    ),
+    (Step::Run(2, 0, 10, 64), Pending(0)),
+    (Step::Turns(0, 2), Pending(0)),
+    (Step::Turns(0, 1), Done(2)),
+    (Step::Turns(0, 1), Idle),
+    // 1 and 2 and 3.
+    (Step::Result(3, 0, "06 00*1023"), Done(3)),
+];
+
+/// Emits a byte, and returns 1.
+const ENDING: &[Case] = &[
+    (
+        Step::Load(
+            1,
+            0,
+            3,
+            "bf21000000000000 b702000001000000 8500000001000000 b700000001000000 9500000000000000",
+        ),
+        Done(1),
+    ),
+    (Step::Run(2, 0, 3, 8), Pending(0)),
+    (Step::Turns(0, 1), DoneWith(2, 1, 1)),
+    // What it emitted for that block is kept.
+    (Step::Read(3, 8, 1, "010009 00*509"), Done(3)),
+];
+
+/// Emits as many of a block's first bytes as its first byte tells, and one more.
+const GROWING: &[Case] = &[
+    (
+        Step::Load(
+            1,
+            0,
+            10,
+            "\
+7126000000000000 5706000007000000 0706000001000000 bf21000000000000 bf62000000000000 8500000001000000 \
+b700000000000000 9500000000000000",
+        ),
+        Done(1),
+    ),
+    (Step::Run(2, 0, 2, 8), Pending(0)),
+    (Step::Turns(0, 1), Pending(0)),
+    (Step::Turns(0, 1), DoneWith(2, 2, 1)),
+    (
+        Step::Read(3, 8, 1, "040003000000 08000700000000000000 00*496"),
+        Done(3),
+    ),
+];
+
+/// Emits the context.
+const TOLD: &[Case] = &[
+    (
+        Step::Load(
+            1,
+            5,
+            34,
+            "b702000020000000 8500000001000000 b700000000000000 9500000000000000",
+        ),
+        Done(1),
+    ),
+    // 2 blocks from block 1 on, by slot 5 and with argument abcdh.
+    (
+        Step::Entry(0xc0, 2, [1, 0, 0x5_0001, 0xabcd, 8, 0], ""),
+        Pending(0),
+    ),
+    (Step::Turns(0, 1), Pending(0)),
+    (Step::Turns(0, 1), DoneWith(2, 2, 1)),
+    // The address, the index and the number of blocks, the size of a block, and the argument.
+    (
+        Step::Read(
+            3,
+            8,
+            1,
+            "200001000000000000000000000002000000 00020000cdab00000000000000000000 \
+             200002000000000000000100000002000000 00020000cdab00000000000000000000 00*444",
+        ),
+        Done(3),
+    ),
+];
+
+/// A run from zone 0 to zone 1, and one from zone 1 to zone 2, in turn.
+const IN_TURN: &[Case] = &[
+    (Step::Load(1, 0, 10, MATCHING), Done(1)),
+    (Step::Run(2, 0, 2, 8), Pending(0)),
+    (Step::Run(3, 8, 2, 16), Pending(1)),
+    (Step::Turns(0, 1), Pending(0)),
+    (Step::Turns(1, 1), Pending(1)),
+    (Step::Turns(0, 1), DoneWith(2, 2, 1)),
+    (Step::Turns(1, 1), DoneWith(3, 2, 1)),
+    APPENDED_BY_FIRST,
+    APPENDED_BY_SECOND,
+];
+
+/// The same runs, the second before the first.
+const ONE_BY_ONE: &[Case] = &[
+    (Step::Load(1, 0, 10, MATCHING), Done(1)),
+    (Step::Run(2, 0, 2, 8), Pending(0)),
+    (Step::Run(3, 8, 2, 16), Pending(1)),
+    (Step::Turns(1, 1), Pending(1)),
+    (Step::Turns(1, 1), DoneWith(3, 2, 1)),
+    (Step::Turns(0, 1), Pending(0)),
+    (Step::Turns(0, 1), DoneWith(2, 2, 1)),
+    APPENDED_BY_FIRST,
+    APPENDED_BY_SECOND,
+];
+
+const APPENDED_BY_FIRST: Case = (
+    Step::Read(4, 10, 1, "08000700000000000000*2 00*492"),
+    Done(4),
+);
+
+const APPENDED_BY_SECOND: Case = (
+    Step::Read(5, 16, 1, "08000700000000000000*2 00*492"),
+    Done(5),
+);
+
+const FILLING: &[Case] = &[
+    (Step::Load(1, 0, 10, MATCHING), Done(1)),
+    (Step::Run(2, 0, 2, 8), Pending(0)),
+    (Step::Turns(0, 1), Pending(0)),
+    (Step::Turns(0, 1), DoneWith(2, 2, 1)),
+    // The zone is Full.
+    (Step::Append(3, 8, "00*512"), Refused(3, ZONE_IS_FULL)),
+];
+
+const EMITTED: &[Scene] = &[
+    Scene {
+        name: "a turn for each block",
+        shape: G1,
+        zones: "implicit 01 02 03, explicit, empty, empty",
+        steps: TURNS,
+        drained: &[],
+        left: "implicit 3, explicit 0, empty 0, empty 0",
+    },
+    Scene {
+        name: "groups are packed into blocks",
+        shape: G2,
+        zones: "closed 07*52, explicit",
+        steps: PACKED,
+        drained: &[],
+        left: "closed 52, explicit 2",
+    },
+    Scene {
+        name: "scratch lasts from block to block",
+        shape: G2,
+        zones: "closed 01 02 03 04 05 06 07 08 09 0a, explicit",
+        steps: SUMMING,
+        drained: &[],
+        left: "closed 10, explicit 0",
+    },
+    Scene {
+        name: "a program ends its run",
+        shape: G1,
+        zones: "implicit 09 08 07, explicit, empty, empty",
+        steps: ENDING,
+        drained: &[],
+        left: "implicit 3, explicit 1, empty 0, empty 0",
+    },
+    Scene {
+        name: "records of many lengths",
+        shape: G1,
+        zones: "implicit 03 07, explicit, empty, empty",
+        steps: GROWING,
+        drained: &[],
+        left: "implicit 2, explicit 1, empty 0, empty 0",
+    },
+    Scene {
+        name: "what a program is told",
+        shape: G1,
+        zones: "implicit 01 02 03, explicit, empty, empty",
+        steps: TOLD,
+        drained: &[],
+        left: "implicit 3, explicit 1, empty 0, empty 0",
+    },
+];
+
+#[test]
+fn what_runs_emit_and_leave(rt: HostRuntime) -> Result<(), Fail> {
+    play(&rt, rt.alloc(), EMITTED)
+}
+
+const TURNS_OF_RUNS: &[Scene] = &[
+    Scene {
+        name: "turns of two runs, one after the other",
+        shape: G1,
+        zones: "closed 07 07, implicit 07 07, explicit, empty",
+        steps: IN_TURN,
+        drained: &[],
+        left: "closed 2, implicit 3, explicit 1, empty 0",
+    },
+    Scene {
+        name: "turns of two runs, the second before the first",
+        shape: G1,
+        zones: "closed 07 07, implicit 07 07, explicit, empty",
+        steps: ONE_BY_ONE,
+        drained: &[],
+        left: "closed 2, implicit 3, explicit 1, empty 0",
+    },
+    Scene {
+        name: "a turn fills its zone",
+        shape: G1,
+        zones: "closed 07 07, implicit 01 02 03 04 05, empty, empty",
+        steps: FILLING,
+        drained: &[],
+        left: "closed 2, full 6, empty 0, empty 0",
+    },
+];
+
+#[test]
+fn turns_in_any_order(rt: HostRuntime) -> Result<(), Fail> {
+    play(&rt, rt.alloc(), TURNS_OF_RUNS)
+}

@@ -1,0 +1,239 @@
+//! Steps on a device, as data, and what has to come of them.
+
+ghost use Rattle.std.specs.Prelude.{◌≤◌, length};
+
+use super::steps::{Answer, Case, bytes_of, low};
+use super::{Kept, room};
+use crate::{Device, Event, Reply};
+use std::alloc::Global;
+use std::process::Abort;
+use std::test::Fail;
+use zns_commands::{Image, MOST_TRANSFER};
+use zone_state::ZoneState;
+
+/// The numbers of a namespace: the bytes of a block, the zones, the blocks of a zone, how many of them can be
+/// written, and the most zones that are open, and active.
+pub(super) type Shape = [u32; 6];
+
+/// Zones: the state of each, and then the first byte of each of its blocks, whose others are zeros.
+pub(super) type Zones = &'static str;
+
+/// 4 zones of 8 blocks, 6 of them writable, at most 2 open and 3 active.
+pub(super) const G1: Shape = [512, 4, 8, 6, 2, 3];
+
+/// 2 zones of 64 blocks, at most 2 open and active.
+pub(super) const G2: Shape = [512, 2, 64, 64, 2, 2];
+
+/// 8 zones of 8 blocks, at most 6 open and active.
+pub(super) const G3: Shape = [512, 8, 8, 8, 6, 6];
+
+/// 12 zones of 8 blocks, at most 10 open and active.
+pub(super) const G4: Shape = [512, 12, 8, 8, 10, 10];
+
+/// 4 zones without blocks.
+pub(super) const ALL_EMPTY: Zones = "empty, empty, empty, empty";
+
+/// Steps on a device of its own.
+#[derive(Clone, Copy)]
+pub(super) struct Scene {
+    /// What it shows.
+    pub(super) name: &'static str,
+    pub(super) shape: Shape,
+    pub(super) zones: Zones,
+    pub(super) steps: &'static [Case],
+    /// What answers the turns that end the runs which are left.
+    pub(super) drained: &'static [Answer],
+    /// The state of each zone at the end, and how many of its blocks are written.
+    pub(super) left: &'static str,
+}
+
+/// Where something was compared: a scene, and which of its steps.
+#[derive(Clone, Copy, Debug)]
+struct At {
+    scene: &'static str,
+    step: usize,
+}
+
+/// Plays scenes.
+pub(super) fn play(rt: &impl Abort, alloc: Global, scenes: &[Scene]) -> Result<(), Fail> {
+    for scene in scenes {
+        play_one(rt, alloc, scene)?;
+    }
+    Ok(())
+}
+
+fn play_one(rt: &impl Abort, alloc: Global, scene: &Scene) -> Result<(), Fail> {
+    let mut device = Device::new(alloc, image_of(alloc, &scene.shape, scene.zones)?);
+    let mut room = room(rt, alloc);
+    let data = room.as_mut_slice();
+    check_steps(rt, alloc, &mut device, data, scene)?;
+    check_drained(rt, alloc, &mut device, data, scene)?;
+    check_zones(rt, alloc, &device, scene)
+}
+
+/// Does the steps of a scene, and compares their answers.
+fn check_steps(
+    rt: &impl Abort,
+    alloc: Global,
+    device: &mut Device,
+    output: &mut [u8],
+    scene: &Scene,
+) -> Result<(), Fail>
+    requires { MOST_TRANSFER ≤ length output.old }
+    ensures { MOST_TRANSFER ≤ length output.new }
+{
+    for (step, case) in scene.steps.iter().enumerate() {
+        let at = At {
+            scene: scene.name,
+            step,
+        };
+        check(rt, alloc, device, output, &at, case)?;
+    }
+    Ok(())
+}
+
+/// Does a step, and compares its answer.
+fn check(
+    rt: &impl Abort,
+    alloc: Global,
+    device: &mut Device,
+    output: &mut [u8],
+    at: &At,
+    case: &Case,
+) -> Result<(), Fail>
+    requires { MOST_TRANSFER ≤ length output.old }
+    ensures { MOST_TRANSFER ≤ length output.new }
+{
+    let event = case.0.event(alloc)?;
+    let gives = bytes_of(alloc, case.0.gives())?;
+    let reply = case.1.reply(gives.len());
+    for _ in 0..case.0.times() {
+        check_event(rt, device, output, at, &event, reply);
+    }
+    assert!(rt; output.starts_with(gives.as_slice()), "{at:?}");
+    Ok(())
+}
+
+fn check_event(
+    rt: &impl Abort,
+    device: &mut Device,
+    output: &mut [u8],
+    at: &At,
+    event: &Event,
+    reply: Reply,
+)
+    requires { MOST_TRANSFER ≤ length output.old }
+    ensures { MOST_TRANSFER ≤ length output.new }
+{
+    assert_eq!(rt; device.step(event, output), reply, "{at:?}");
+}
+
+/// Gives all turns that are left, and compares what answers them.
+fn check_drained(
+    rt: &impl Abort,
+    alloc: Global,
+    device: &mut Device,
+    output: &mut [u8],
+    scene: &Scene,
+) -> Result<(), Fail>
+    requires { MOST_TRANSFER ≤ length output.old }
+{
+    let mut out = Kept::new(alloc, usize::MAX);
+    device.drain(output, &mut out)?;
+    assert_eq!(rt; out.answers.len(), scene.drained.len(), "{}", scene.name);
+    for (answer, kept) in scene.drained.iter().zip(out.answers.iter()) {
+        assert_eq!(rt; kept.0, answer.reply(0), "{}", scene.name);
+    }
+    Ok(())
+}
+
+/// Compares the zones with those that have to be left.
+fn check_zones(rt: &impl Abort, alloc: Global, device: &Device, scene: &Scene) -> Result<(), Fail> {
+    let mut left = String::new(alloc);
+    for zone in device.image().zones() {
+        if !left.is_empty() {
+            left.push_str(", ")?;
+        }
+        let (state, written) = (name_of(zone.state()), zone.written());
+        left.push_str(format!(in alloc; "{state} {written}")?.as_str())?;
+    }
+    assert_eq!(rt; left.as_str(), scene.left, "{}", scene.name);
+    Ok(())
+}
+
+fn name_of(state: ZoneState) -> &'static str {
+    match state {
+        ZoneState::Empty => "empty",
+        ZoneState::ImplicitlyOpened => "implicit",
+        ZoneState::ExplicitlyOpened => "explicit",
+        ZoneState::Closed => "closed",
+        ZoneState::ReadOnly => "readonly",
+        ZoneState::Full => "full",
+        ZoneState::Offline => "offline",
+    }
+}
+
+/// The image of these zones.
+fn image_of(alloc: Global, shape: &Shape, zones: &str) -> Result<Image, Fail> {
+    let mut bytes = Vec::new(alloc);
+    write_image(&mut bytes, shape, zones)?;
+    let mut source = bytes.as_slice();
+    Ok(Image::load(alloc, &mut source)?)
+}
+
+/// Writes the bytes of an image.
+fn write_image(to: &mut Vec<u8>, shape: &Shape, zones: &str) -> Result<(), Fail> {
+    to.extend_from_slice(b"ZNSIMG02")?;
+    for number in shape {
+        to.extend_from_slice(&number.to_le_bytes())?;
+    }
+    let mut total = 0u64;
+    for zone in zones.split(", ") {
+        total = total.wrapping_add(firsts_of(*to.allocator(), zone)?.len() as u64);
+    }
+    to.extend_from_slice(&total.to_le_bytes())?;
+    to.extend_from_slice(&[0; 24])?;
+    for zone in zones.split(", ") {
+        write_record(to, zone)?;
+    }
+    for zone in zones.split(", ") {
+        write_blocks(to, zone)?;
+    }
+    Ok(())
+}
+
+fn write_record(to: &mut Vec<u8>, zone: &str) -> Result<(), Fail> {
+    let (state, _) = zone.split_once(' ').unwrap_or((zone, ""));
+    let blocks = firsts_of(*to.allocator(), zone)?.len();
+    to.extend_from_slice(&[code_of(state), 0, 0, 0])?;
+    to.extend_from_slice(&low(blocks as u64).to_le_bytes())?;
+    Ok(())
+}
+
+fn write_blocks(to: &mut Vec<u8>, zone: &str) -> Result<(), Fail> {
+    for first in firsts_of(*to.allocator(), zone)?.iter() {
+        to.push(*first)?;
+        to.extend_from_slice(&[0; 511])?;
+    }
+    Ok(())
+}
+
+/// The first bytes of a zone's blocks.
+fn firsts_of(alloc: Global, zone: &str) -> Result<Vec<u8>, Fail> {
+    let (_, firsts) = zone.split_once(' ').unwrap_or((zone, ""));
+    bytes_of(alloc, firsts)
+}
+
+/// The code of a state as images have it (ZNS 1.1, figure 37).
+fn code_of(state: &str) -> u8 {
+    match state {
+        "empty" => 0x1,
+        "implicit" => 0x2,
+        "explicit" => 0x3,
+        "closed" => 0x4,
+        "readonly" => 0xd,
+        "full" => 0xe,
+        "offline" => 0xf,
+        _ => 0,
+    }
+}

@@ -1,0 +1,81 @@
+//! Where standard output fails in the turns after the last event.
+
+use super::scenes::{Act, EMPTY_ZONE, MAGIC, SHAPE, Scene, play};
+use super::stage::Parts;
+use std::test::Fail;
+
+const EXEC_IMAGE: &str = "zscli exec image events";
+
+/// Emits 510 bytes of each block, which fill an output block.
+const COPYING: &[u8] = b"mov r1, r2\nmov r2, 510\ncall 1\nmov r0, 0\nexit\n";
+
+/// Zone 0 is Closed and has three blocks, and zone 1 is open.
+const THREE_BLOCKS: Parts = &[
+    (MAGIC, 1),
+    (SHAPE, 1),
+    (b"\x03", 1),
+    (b"\0", 31),
+    (b"\x04\0\0\0\x03\0\0\0", 1),
+    (b"\x03\0\0\0\0\0\0\0", 1),
+    (EMPTY_ZONE, 2),
+    (b"\x01", 1),
+    (b"\0", 511),
+    (b"\x02", 1),
+    (b"\0", 511),
+    (b"\x03", 1),
+    (b"\0", 511),
+];
+
+/// The turn is done whose line standard output doesn't take, and no later one.
+const STOPPED: &[Act] = &[
+    Act::Put("text", &[(COPYING, 1)]),
+    Act::Prints("zscli asm text copying", ""),
+    Act::Adds("zscli entry load --slot 0 --program copying --emit 512 --cid 1"),
+    Act::Adds("zscli entry run --slot 0 --from 0 --blocks 3 --to 8 --cid 2"),
+    Act::Put("image", THREE_BLOCKS),
+    Act::Stops(EXEC_IMAGE, 0, 1, "cannot write -\n"),
+    Act::Prints(
+        "zscli zones image",
+        "0 closed 3\n1 explicit 0\n2 empty 0\n3 empty 0\n",
+    ),
+    Act::Put("image", THREE_BLOCKS),
+    Act::Stops(EXEC_IMAGE, 1, 1, "cannot write -\n"),
+    Act::Prints(
+        "zscli zones image",
+        "0 closed 3\n1 explicit 0\n2 empty 0\n3 empty 0\n",
+    ),
+    Act::Put("image", THREE_BLOCKS),
+    Act::Stops(EXEC_IMAGE, 2, 1, "cannot write -\n"),
+    Act::Prints(
+        "zscli zones image",
+        "0 closed 3\n1 explicit 0\n2 empty 0\n3 empty 0\n",
+    ),
+    Act::Put("image", THREE_BLOCKS),
+    Act::Stops(EXEC_IMAGE, 3, 1, "cannot write -\n"),
+    Act::Prints(
+        "zscli zones image",
+        "0 closed 3\n1 explicit 1\n2 empty 0\n3 empty 0\n",
+    ),
+    Act::Put("image", THREE_BLOCKS),
+    Act::Stops(EXEC_IMAGE, 4, 1, "cannot write -\n"),
+    Act::Prints(
+        "zscli zones image",
+        "0 closed 3\n1 explicit 3\n2 empty 0\n3 empty 0\n",
+    ),
+    Act::Put("image", THREE_BLOCKS),
+    Act::Stops(EXEC_IMAGE, 5, 0, ""),
+    Act::Prints(
+        "zscli zones image",
+        "0 closed 3\n1 explicit 3\n2 empty 0\n3 empty 0\n",
+    ),
+];
+
+const SCENES: &[Scene] = &[Scene {
+    name: "standard output fails in a turn",
+    acts: STOPPED,
+}];
+
+#[test]
+fn standard_output_fails_in_a_turn(rt: HostRuntime) -> Result<(), Fail> {
+    play(&rt, rt.alloc(), SCENES)
+}
