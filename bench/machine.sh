@@ -3,7 +3,7 @@
 # interpreter (Debian's libdpdk-dev) on the same instructions over a block of 4096 bytes, and prints the
 # picoseconds an instruction, the best of several rounds and launches, with their ratios to DPDK's: of the
 # second 0.7 is wanted on the straight program and 0.75 on the branchy one.
-set -e
+set -eu
 here=$(cd "$(dirname "$0")" && pwd)
 program=machine
 . "$here/dpdk.sh"

@@ -5,6 +5,6 @@
 # byte twice: into the pending block, and into the destination. The bytes are 64 KiB, which stay in
 # the cache (the best of 2000 rounds on each side), and 64 MiB, as of a large image, which don't (the
 # best of 20).
-set -e
+set -eu
 cd "$(dirname "$0")/../crates/bench_packing"
 exec rt run -- time

@@ -2,7 +2,7 @@
 # Times a load, decoding, verifying and making records, against DPDK's (Debian's libdpdk-dev) of the same
 # instructions, and prints the nanoseconds of both, the best of several rounds and launches, with their
 # ratio: at most 1 is wanted.
-set -e
+set -eu
 here=$(cd "$(dirname "$0")" && pwd)
 program=verifier
 . "$here/dpdk.sh"

@@ -10,7 +10,7 @@ long aggregate(const struct context *context, const u8 *block, u8 *scratch)
 {
     u64 *sum = (u64 *)scratch;
 
-    *sum += *(const u32 *)(block + 16);
+    *sum += le32(block, 16);
     if (context->index + 1 == context->count)
         emit(sum, 8);
     return 0;

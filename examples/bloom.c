@@ -13,7 +13,7 @@ long bloom(const struct context *context, const u8 *block, u8 *scratch)
 
 #pragma unroll
     for (int i = 0; i < 8; i++) {
-        u64 key = *(const u64 *)(block + 64 * i);
+        u64 key = le64(block, 64 * i);
         u64 hash = key * 0x9e3779b97f4a7c15ull;
         u64 first = hash >> 54, second = hash >> 44 & 1023;
         u64 one = bits[first >> 6] >> (first & 63) & 1;

@@ -8,7 +8,7 @@
 
 long filter(const struct context *context, const u8 *block)
 {
-    if (*(const u32 *)(block + 8) == context->argument)
+    if (le32(block, 8) == context->argument)
         emit(block, 64);
     return 0;
 }

@@ -7,7 +7,7 @@
    Argument: the other port */
 #include "pifnjarl.h"
 
-static u16 big16(const u8 *at) { return at[0] << 8 | at[1]; }
+static inline u16 big16(const u8 *at) { return at[0] << 8 | at[1]; }
 
 long packets(const struct context *context, const u8 *block)
 {

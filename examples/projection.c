@@ -8,8 +8,8 @@
 
 long projection(const struct context *context, const u8 *block, u8 *scratch)
 {
-    *(u64 *)scratch = *(const u64 *)block;
-    *(u64 *)(scratch + 8) = *(const u32 *)(block + 24);
+    *(u64 *)scratch = le64(block, 0);
+    *(u64 *)(scratch + 8) = le32(block, 24);
     emit(scratch, 16);
     return 0;
 }

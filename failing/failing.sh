@@ -16,6 +16,7 @@ wrong=0
 # the files that commands are given
 mkdir "$work/given"
 cp examples/empty.img "$work/given/image"
+{ printf ZNSIMG01; tail -c +9 examples/empty.img; } > "$work/given/old"
 cp examples/pushdown.cmd "$work/given/events"
 cat > "$work/given/text" << 'END'
         ldxb r6, [r2+0]
@@ -29,6 +30,9 @@ END
 "$zscli" asm "$work/given/text" "$work/given/program"
 { printf '\007'; head -c 511 /dev/zero; } > "$work/given/block"
 { printf '\003\000abc'; head -c 507 /dev/zero; } > "$work/given/packed"
+
+cp examples/empty.img "$work/image"
+"$zscli" exec "$work/image" "$work/given/events" > "$work/given/replies"
 
 # Prints an entry with this opcode, identifier, Command Dwords 10 to 15, and data behind it.
 entry() {
@@ -101,12 +105,12 @@ check() {
         echo "wrong: run $number changes a slot though its Load was refused"
         wrong=1
     fi
-    if [ -e "$work/run/image.unfinished" ] || [ -e "$work/run/new.unfinished" ]; then
+    if [ -e "$work/run/image.unfinished" ] || [ -e "$work/run/new.unfinished" ] || [ -e "$work/run/old.unfinished" ]; then
         echo "wrong: run $number leaves an unfinished file"
         wrong=1
     fi
     case $file in
-    image | new)
+    image | new | old)
         if [ -e "$work/run/$file" ] && ! "$zscli" zones "$work/run/$file" > /dev/null; then
             echo "wrong: run $number leaves part of an image"
             wrong=1
@@ -152,6 +156,7 @@ each() {
 geometry="--block 512 --zones 9 --size 64 --capacity 64 --open 3 --active 3"
 each new format new $geometry
 each image format image $geometry
+each old upgrade old
 each '' zones image
 each image exec image events
 each image exec image loads
@@ -160,4 +165,6 @@ each '' disasm program
 each '' trace program block --emit 10
 each '' verify program --block 512 --emit 10
 each '' unpack packed --block 512
+each '' entry append --lba 0 --data block
+each '' explain replies --commands events
 exit "$wrong"
