@@ -1,14 +1,17 @@
 -- Checks of which none fails.
-use Rattle.std.proofs.Common.{zero, suc, true, false, [], ◌∷◌, Some, None, refl}
-use Rattle.nvme_entry.specs.CheckLaws.{EachCheckPasses, DemandedHolds}
+use Rattle.std.proofs.Common.{◌≡◌, ℕ, zero, suc, Bool, true, false, List, [], ◌∷◌, get_or, Option, Some, None, refl}
+use Rattle.zone_state.specs.declared.status.Status.{Status}
+use Rattle.zone_state.specs.Checks.{demand, first_failed}
 
-pub passed : EachCheckPasses
+-- where no check fails, each passes,
+pub passed : (checks : List (Option Status)) (i : ℕ) → first_failed checks ≡ None → get_or checks i None ≡ None
 passed [] zero none = refl
 passed [] (suc i) none = refl
 passed (None ∷ checks) zero none = refl
 passed (None ∷ checks) (suc i) none = passed checks i none
 passed (Some status ∷ checks) i none = cc
 
-pub demanded : DemandedHolds
+-- and what one that passes demands holds
+pub demanded : (test : Bool) (status : Status) → demand test status ≡ None → test ≡ true
 demanded true status none = refl
 demanded false status none = cc

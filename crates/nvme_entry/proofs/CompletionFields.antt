@@ -19,37 +19,34 @@ three_bits Generic = omega arith
 three_bits CommandSpecific = omega arith
 three_bits VendorSpecific = omega arith
 
-pub completions_tell : CompletionsTell
-completions_tell c fields =
-    let bytes = completion_bytes c in
-    let kind = three_bits c.status.kind in
-    let small : status_dword c.cid c.status < 2 ^ 32 = omega (arith, fields.cid, fields.code, kind) in
-    let second : dword bytes 2 ≡ c.queue * 2 ^ 16 = again (c.queue * 2 ^ 16) (drop 12 bytes) (omega (arith, fields.queue)) in
-    let third : dword bytes 3 ≡ status_dword c.cid c.status = again (status_dword c.cid c.status) (drop 16 bytes) small in
-    record {
-      size = refl;
-      dw0 = again c.dw0 (drop 4 bytes) fields.dw0;
-      dw1 = again c.dw1 (drop 8 bytes) fields.dw1;
-      queue = ap (λ (n : ℕ). n / 2 ^ 16) second ∙ omega (arith, fields.queue);
-      cid = ap (λ (n : ℕ). n % 2 ^ 16) third ∙ omega (arith, fields.cid);
-      code = ap (λ (n : ℕ). n / 2 ^ 17 % 2 ^ 8) third ∙ omega (arith, fields.cid, fields.code);
-      kind = ap (λ (n : ℕ). n / 2 ^ 25 % 2 ^ 3) third ∙ omega (arith, fields.cid, fields.code, kind);
-    }
-
-pub false_is_not_true : false ≡ true → ⊥
-false_is_not_true e = cc
-
 type_told : (kind : StatusType) → type_of (type_number kind) ≡ Some kind
 type_told Generic = refl
 type_told CommandSpecific = refl
 type_told VendorSpecific = refl
 
--- the completion with those fields is the one whose bytes they are
+-- the completion with the fields that its bytes tell is the one whose bytes they are
 pub completions_read_back : (c : Completion) → AreFields c → completion_in (completion_bytes c) ≡ Some c
 completions_read_back c fields =
-    let told = completions_tell c fields in
-    let kind : type_of (dword (completion_bytes c) 3 / 2 ^ 25 % 2 ^ 3) ≡ Some c.status.kind = ap type_of told.kind ∙ type_told c.status.kind in
-    rw (kind, told.dw0, told.dw1, told.queue, told.cid, told.code) refl
+    let bytes = completion_bytes c in
+    let few = three_bits c.status.kind in
+    let small : status_dword c.cid c.status < 2 ^ 32 = omega (arith, fields.cid, fields.code, few) in
+    let second : dword bytes 2 ≡ c.queue * 2 ^ 16 = again (c.queue * 2 ^ 16) (drop 12 bytes) (omega (arith, fields.queue)) in
+    let third : dword bytes 3 ≡ status_dword c.cid c.status = again (status_dword c.cid c.status) (drop 16 bytes) small in
+    let dw0 : dword bytes 0 ≡ c.dw0 = again c.dw0 (drop 4 bytes) fields.dw0 in
+    let dw1 : dword bytes 1 ≡ c.dw1 = again c.dw1 (drop 8 bytes) fields.dw1 in
+    let queue : dword bytes 2 / 2 ^ 16 ≡ c.queue = ap (λ (n : ℕ). n / 2 ^ 16) second ∙ omega (arith, fields.queue) in
+    let cid : dword bytes 3 % 2 ^ 16 ≡ c.cid = ap (λ (n : ℕ). n % 2 ^ 16) third ∙ omega (arith, fields.cid) in
+    let code : dword bytes 3 / 2 ^ 17 % 2 ^ 8 ≡ c.status.code = ap (λ (n : ℕ). n / 2 ^ 17 % 2 ^ 8) third ∙ omega (arith, fields.cid, fields.code) in
+    let number : dword bytes 3 / 2 ^ 25 % 2 ^ 3 ≡ type_number c.status.kind =
+    ap (λ (n : ℕ). n / 2 ^ 25 % 2 ^ 3) third ∙ omega (arith, fields.cid, fields.code, few) in
+    let kind : type_of (dword bytes 3 / 2 ^ 25 % 2 ^ 3) ≡ Some c.status.kind = ap type_of number ∙ type_told c.status.kind in
+    rw (kind, dw0, dw1, queue, cid, code) refl
+
+pub completions_tell : CompletionsTell
+completions_tell c fields = (refl, completions_read_back c fields)
+
+pub false_is_not_true : false ≡ true → ⊥
+false_is_not_true e = cc
 
 pub some_is_one : {A : Type 0} (a b : A) → Some a ≡ Some b → a ≡ b
 some_is_one a b e = cc

@@ -12,7 +12,7 @@ use Rattle.nvme_entry.specs.Filter.{takes}
 use Rattle.nvme_entry.specs.declared.filter.ZoneFilter.{ZoneFilter}
 use Rattle.nvme_entry.specs.declared.filter.ZoneFilter.TheVariants.{All}
 use Rattle.nvme_entry.specs.Report.{descriptor_at, fitting, report_header, listed, matching, report, taken}
-use Rattle.nvme_entry.specs.Laws.{GivesWhatMatches, ListsEveryZone, Tells, descriptors_in, number_in, pieces}
+use Rattle.nvme_entry.specs.ReportLaws.{GivesWhatMatches, Tells, descriptors_in, number_in, pieces}
 use Rattle.nvme_entry.proofs.Listings.{length-descriptor, length-header, length-whole, whole}
 
 length-each : (size : ℕ) (zone : ℕ × CountedZone) → length (descriptor_at size zone) ≡ 64
@@ -172,7 +172,13 @@ same_number : (partial : Bool) (given count number : ℕ) → given ≡ count �
 same_number true given count number e is = is ∙ e
 same_number false given count number e is = is
 
-pub lists_every_zone : ListsEveryZone
+-- a report of all zones from the first on, with room for all, lists every zone once, in order, and tells
+-- their number
+pub lists_every_zone : (bytes : ℕ) (zones : List CountedZone) (size : ℕ) (partial : Bool)
+    → 64 + 64 * length zones ≤ bytes → length zones < 2 ^ 64
+    → let given = report bytes zones 0 size All partial in
+    (number_in given ≡ length zones)
+    × (descriptors_in (length zones) given ≡ map (descriptor_at size) (enumerate_from 0 zones))
 lists_every_zone bytes zones size partial room few =
     let given = report bytes zones 0 size All partial in
     let found = matching zones 0 All in

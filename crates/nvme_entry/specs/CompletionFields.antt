@@ -1,37 +1,15 @@
 -- What the bytes of a completion queue entry tell a host.
-use Rattle.std.specs.Prelude.{ℕ, ◌≡◌, ◌<◌, ◌/◌, ◌%◌, ◌^◌, List, length, Option}
+use Rattle.std.specs.Prelude.{ℕ, ◌≡◌, ◌<◌, ◌/◌, ◌%◌, ◌^◌, List, length, Option, Some}
 use Rattle.std.specs.Option.{option_map}
-use Rattle.zone_state.specs.Status.{type_number, type_of}
+use Rattle.zone_state.specs.Status.{type_of}
 use Rattle.zone_state.specs.declared.status.StatusType.{StatusType}
 use Rattle.nvme_entry.specs.Completion.{completion_bytes}
 use Rattle.nvme_entry.specs.Fields.{dword}
 use Rattle.nvme_entry.specs.declared.completion.Completion.{Completion}
 
--- bytes tell the fields of a completion: in Dword 2 the queue identifier stands in bits 31:16; in Dword 3 the
--- command identifier in bits 15:0, the status code in bits 24:17 and its type in bits 27:25 (NVMe Base 2.0,
--- figures 90 to 92)
-pub record TellCompletion (bytes : List ℕ) (c : Completion) : Type 0 where
-  pub size : length bytes ≡ 16
-  pub dw0 : dword bytes 0 ≡ c.dw0
-  pub dw1 : dword bytes 1 ≡ c.dw1
-  pub queue : dword bytes 2 / 2 ^ 16 ≡ c.queue
-  pub cid : dword bytes 3 % 2 ^ 16 ≡ c.cid
-  pub code : dword bytes 3 / 2 ^ 17 % 2 ^ 8 ≡ c.status.code
-  pub kind : dword bytes 3 / 2 ^ 25 % 2 ^ 3 ≡ type_number c.status.kind
-
--- the fields have the numbers of their types
-pub record AreFields (c : Completion) : Type 0 where
-  pub dw0 : c.dw0 < 2 ^ 32
-  pub dw1 : c.dw1 < 2 ^ 32
-  pub queue : c.queue < 2 ^ 16
-  pub cid : c.cid < 2 ^ 16
-  pub code : c.status.code < 2 ^ 8
-
--- a host reads from a completion what the device put into it
-abbrev pub CompletionsTell : Type 0
-CompletionsTell = (c : Completion) → AreFields c → TellCompletion (completion_bytes c) c
-
--- the completion with the fields that bytes tell, where they tell a known status code type
+-- the completion with the fields that bytes tell, where they tell a known status code type: in Dword 2 the queue
+-- identifier stands in bits 31:16; in Dword 3 the command identifier in bits 15:0, the status code in bits 24:17 and
+-- its type in bits 27:25 (NVMe Base 2.0, 3.3.3.2)
 abbrev pub completion_in : List ℕ → Option Completion
 completion_in bytes = option_map
     (λ (kind : StatusType). record {
@@ -42,3 +20,15 @@ completion_in bytes = option_map
       status = record { kind = kind; code = dword bytes 3 / 2 ^ 17 % 2 ^ 8 };
     })
     (type_of (dword bytes 3 / 2 ^ 25 % 2 ^ 3))
+
+-- the fields have the numbers of their types
+pub record AreFields (c : Completion) : Type 0 where
+  pub dw0 : c.dw0 < 2 ^ 32
+  pub dw1 : c.dw1 < 2 ^ 32
+  pub queue : c.queue < 2 ^ 16
+  pub cid : c.cid < 2 ^ 16
+  pub code : c.status.code < 2 ^ 8
+
+-- a host reads from a completion, of 16 bytes, what the device put into it
+abbrev pub CompletionsTell : Type 0
+CompletionsTell = (c : Completion) → AreFields c → (length (completion_bytes c) ≡ 16) × (completion_in (completion_bytes c) ≡ Some c)

@@ -7,7 +7,6 @@ pub mod Entry
 pub mod Encoding
 pub mod Report
 pub mod CompletionFields
-pub mod CheckLaws
 pub mod EntryLaws
-pub mod Laws
+pub mod ReportLaws
 pub mod steps

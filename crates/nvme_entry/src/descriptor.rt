@@ -3,7 +3,7 @@
 ghost use Rattle.std.specs.Prelude.{◌≡◌, ◌<◌, ◌≤◌, ◌+◌, ◌*◌, ◌/◌, ◌%◌, ◌^◌, ℕ, length, IfSome};
 ghost use Rattle.zone_state.specs.Zone.{CountedZone};
 ghost use Rattle.nvme_entry.specs.Report.{descriptor};
-ghost use Rattle.nvme_entry.specs.Laws.{number_in};
+ghost use Rattle.nvme_entry.specs.ReportLaws.{number_in};
 ghost use Rattle.nvme_entry.specs.Descriptor.{first_word, pointer_told, descriptor_bytes, described, word_in, descriptor_in};
 
 use byteorder::{ByteOrder, LittleEndian};

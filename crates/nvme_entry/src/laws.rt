@@ -1,9 +1,8 @@
 //! Laws of the definitions that the contracts of this crate cite. Each function does nothing: what
 //! it ensures is the law.
 
-ghost use Rattle.nvme_entry.specs.CheckLaws.{DemandedHolds, EachCheckPasses};
 ghost use Rattle.nvme_entry.specs.EntryLaws.{FieldsAreSpelled, OnlyNamedFieldsCount};
-ghost use Rattle.nvme_entry.specs.Laws.{GivesWhatMatches, ListsEveryZone};
+ghost use Rattle.nvme_entry.specs.ReportLaws.{GivesWhatMatches};
 ghost use Rattle.nvme_entry.specs.CompletionFields.{CompletionsTell};
 
 /// The fields of the command that an entry is decoded to are the numbers of the entry's bytes at their places.
@@ -25,15 +24,4 @@ pub fn completions_tell()
 /// A report gives the descriptors of the zones that match, in order, as many as fit whole.
 pub fn reports_give_what_matches()
     ensures { GivesWhatMatches }
-{}
-
-/// A report of all zones with room for all lists every zone once, in order, and tells their number.
-pub fn full_reports_list_every_zone()
-    ensures { ListsEveryZone }
-{}
-
-/// Where no check of a list fails, each passes, and what it demands holds.
-pub fn checks_pass()
-    ensures each { EachCheckPasses }
-    ensures demanded { DemandedHolds }
 {}

@@ -10,7 +10,7 @@ use Rattle.nvme_entry.specs.declared.command.RunCommand.{RunCommand}
 use Rattle.word_domain.specs.Domain.{Operations}
 use Rattle.image_store.specs.Blocks.{AreBytes}
 use Rattle.zns_commands.specs.Left as kept
-use Rattle.zns_commands.specs.Laws.{Commanded, Failed, IsSpelled, Step, after}
+use Rattle.zns_commands.specs.Laws.{Commanded, Faulted, IsSpelled, NamespaceEvent, after}
 use Rattle.zns_commands.specs.Transfer.{transfer_checks}
 use Rattle.pushdown.specs.Admission.{Loaded}
 use Rattle.pushdown.specs.Answers.{Submission}
@@ -46,7 +46,7 @@ module _ {D : Type 0} (operations : Operations D) (P : State → Type 0) (s : St
   -- it holds of the state that the event finds, and after each change that the event can be
   pub record HoldsAfter (e : Event) : Type 0 where
     pub same : P s
-    pub step : (step : Step) → kept.holds_of step ≡ holds_of s → (HasBytes e → IsSpelled step) → P (with_namespace s (after step s.namespace))
+    pub step : (step : NamespaceEvent) → kept.holds_of step ≡ holds_of s → (HasBytes e → IsSpelled step) → P (with_namespace s (after step s.namespace))
     pub load : (sub : Submission) (load : LoadCommand) (t : State) → (HasBytes e → AreBytes sub.input)
         → (takes : TakesSlot operations sub s load t) → P (with_slot s load.slot (Some (just_loaded takes.program load.limit)))
     pub start : (sub : Submission) (order : RunCommand) (run : ℕ) → why_not_run sub s order ≡ None → free_run s ≡ Some run → 1 ≤ order.blocks
@@ -90,4 +90,4 @@ module _ {D : Type 0} (operations : Operations D) (P : State → Type 0) (s : St
       after_entry (event.Submit queue entry input) holds starved (record { queue = queue; entry = entry; input = input.items }) (decoded entry) refl
       (λ has. has)
   after_event starved (event.Turn run) holds = after_turn P s run holds.same (λ place turn later. holds.turn run place turn later refl)
-  after_event starved (event.Fault zone state) holds = holds.step (Failed (holds_of s) zone state) refl (λ has. tt)
+  after_event starved (event.Fault zone state) holds = holds.step (Faulted (holds_of s) zone state) refl (λ has. tt)

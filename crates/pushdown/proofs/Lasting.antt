@@ -3,9 +3,9 @@ use Rattle.std.proofs.Common.{◌≡◌, ℕ, Bool, false, List, [], ◌∷◌, 
 use Rattle.word_domain.specs.Domain.{Operations}
 use Rattle.image_store.specs.Namespace.{ZonedNamespace, shape, zone_at}
 use Rattle.zone_state.specs.State.{is_cleared}
-use Rattle.zns_commands.specs.Laws.{Step, after}
-use Rattle.zns_commands.proofs.Proved.{grows_on, steps_keep_shapes, steps_keep_zones, uncleared_is_readable}
-use Rattle.zns_commands.specs.Lasting.{Keeps}
+use Rattle.zns_commands.specs.Laws.{NamespaceEvent, after}
+use Rattle.zns_commands.proofs.Proved.{grows_on, events_keep_shapes, events_keep_zones, uncleared_is_readable}
+use Rattle.zns_commands.proofs.Proved.{KeepsZone}
 use Rattle.pushdown.specs.Events.{Occurrence, state_after}
 use Rattle.pushdown.specs.Machine.{added, happens}
 use Rattle.pushdown.specs.ReadBack.{NoneClears, ShapesAreKept, UnclearedKeepBlocks}
@@ -18,20 +18,20 @@ use Rattle.pushdown.proofs.Changes.{after_event}
 abbrev Uncleared : ZonedNamespace → ℕ → Type 0
 Uncleared ns z = is_cleared (zone_at ns z).state ≡ false
 
-keeps_itself : (ns : ZonedNamespace) (z : ℕ) → Keeps ns ns z
-keeps_itself ns z = steps_keep_zones [] ns z tt
+keeps_itself : (ns : ZonedNamespace) (z : ℕ) → KeepsZone ns ns z
+keeps_itself ns z = events_keep_zones [] ns z tt
 
-keeps_on : (a b c : ZonedNamespace) (z : ℕ) → Keeps a b z → Keeps b c z → Keeps a c z
+keeps_on : (a b c : ZonedNamespace) (z : ℕ) → KeepsZone a b z → KeepsZone b c z → KeepsZone a c z
 keeps_on a b c z first second = record {
   same_shape = second.same_shape ∙ first.same_shape;
   blocks = grows_on (zone_at a z).blocks (zone_at b z).blocks (zone_at c z).blocks first.blocks second.blocks;
   readable = λ known. second.readable (first.readable known);
 }
 
-step_keeps : (step : Step) (ns : ZonedNamespace) (z : ℕ) → Uncleared (after step ns) z → Keeps ns (after step ns) z
-step_keeps step ns z stays = steps_keep_zones (step ∷ []) ns z (stays, tt)
+step_keeps : (step : NamespaceEvent) (ns : ZonedNamespace) (z : ℕ) → Uncleared (after step ns) z → KeepsZone ns (after step ns) z
+step_keeps step ns z stays = events_keep_zones (step ∷ []) ns z (stays, tt)
 
-added_keeps : (ns : ZonedNamespace) (d z : ℕ) (blocks : List (List ℕ)) → Uncleared (added ns d blocks) z → Keeps ns (added ns d blocks) z
+added_keeps : (ns : ZonedNamespace) (d z : ℕ) (blocks : List (List ℕ)) → Uncleared (added ns d blocks) z → KeepsZone ns (added ns d blocks) z
 added_keeps ns d z [] stays = keeps_itself ns z
 added_keeps ns d z (b ∷ bs) stays = record {
   same_shape = added_shape ns d (b ∷ bs);
@@ -41,9 +41,9 @@ added_keeps ns d z (b ∷ bs) stays = record {
 
 module _ {D : Type 0} (operations : Operations D) where
   event_keeps : (s : State) (starved : Bool) (e : Event) (z : ℕ) → Uncleared (happens operations s starved e).state.namespace z
-      → Keeps s.namespace (happens operations s starved e).state.namespace z
+      → KeepsZone s.namespace (happens operations s starved e).state.namespace z
   event_keeps s starved e z =
-      after_event operations (λ (t : State). Uncleared t.namespace z → Keeps s.namespace t.namespace z) s starved e (record {
+      after_event operations (λ (t : State). Uncleared t.namespace z → KeepsZone s.namespace t.namespace z) s starved e (record {
         same = λ stays. keeps_itself s.namespace z;
         step = λ step same is stays. step_keeps step s.namespace z stays;
         load = λ sub load t are takes stays. keeps_itself s.namespace z;
@@ -52,7 +52,7 @@ module _ {D : Type 0} (operations : Operations D) where
       })
 
   pub events_keep : (events : List Occurrence) (s : State) (z : ℕ) → NoneClears operations z events s
-      → Keeps s.namespace (state_after operations events s).namespace z
+      → KeepsZone s.namespace (state_after operations events s).namespace z
   events_keep [] s z none = keeps_itself s.namespace z
   events_keep (o ∷ os) s z none =
       let next = (happens operations s o.starved o.event).state in
@@ -65,7 +65,7 @@ module _ {D : Type 0} (operations : Operations D) where
   event_shape : (s : State) (starved : Bool) (e : Event) → shape (happens operations s starved e).state.namespace ≡ shape s.namespace
   event_shape s starved e = after_event operations (λ (t : State). shape t.namespace ≡ shape s.namespace) s starved e (record {
     same = refl;
-    step = λ step same is. steps_keep_shapes step s.namespace;
+    step = λ step same is. events_keep_shapes step s.namespace;
     load = λ sub load t are takes. refl;
     start = λ sub order run passed free some. refl;
     turn = λ run place turn later is at first. added_shape s.namespace place.destination turn.blocks;

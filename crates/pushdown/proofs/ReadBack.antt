@@ -22,7 +22,7 @@ use Rattle.zns_commands.specs.Meaning.{meaning}
 use Rattle.zns_commands.specs.Laws.{AreRead as GivesBlocks}
 use Rattle.zns_commands.specs.Read.{read_refusal}
 use Rattle.zns_commands.proofs.Proved.{appended_stays, lying_is_read, written_stays}
-use Rattle.zns_commands.specs.Lasting.{Keeps, Lie}
+use Rattle.zns_commands.proofs.Proved.{BlocksLieAt, KeepsZone}
 use Rattle.pushdown.specs.Answers.{Happening, Submission}
 use Rattle.pushdown.specs.Events.{Occurrence, state_after}
 use Rattle.pushdown.specs.Machine.{commanded, happens, submitted}
@@ -66,7 +66,7 @@ blocks_read ns z front more behind is there some transfer =
     let all = ap length there ∙ three front more behind in
     let within = inside ns.zones z (omega (arith, all, some)) in
     let has = has_some (zone_at ns z).state (length (zone_at ns z).blocks) ns.capacity (is.fits z within) (omega (arith, all, some)) in
-    let lie : Lie ns z (length front) (length more) (bytes_of more) = record {
+    let lie : BlocksLieAt ns z (length front) (length more) (bytes_of more) = record {
       front = front;
       more = more;
       behind = behind;
@@ -117,12 +117,12 @@ module _ {D : Type 0} (operations : Operations D) where
   -- what is left of a zone after a command and after events that don't clear it
   lasts : (s : State) (o : Occurrence) (c : StandardCommand) (input : List ℕ) (events : List Occurrence) (z : ℕ) → Submits o.event c input
       → NoneClears operations z events (happens operations s o.starved o.event).state
-      → Keeps (meaning s.namespace (holds_of s) c input).namespace
+      → KeepsZone (meaning s.namespace (holds_of s) c input).namespace
       (state_after operations events (happens operations s o.starved o.event).state).namespace z
   lasts s o c input events z is none =
       let then = (happens operations s o.starved o.event).state in
       let last = state_after operations events then in
-      subst (λ (ns : ZonedNamespace). Keeps ns last.namespace z) (leaves o.event c input s o.starved is) (events_keep operations events then z none)
+      subst (λ (ns : ZonedNamespace). KeepsZone ns last.namespace z) (leaves o.event c input s o.starved is) (events_keep operations events then z none)
 
   pub appended_reads_back : AppendedReadsBack operations
   appended_reads_back s sound o lba blocks input events is succeeded none =

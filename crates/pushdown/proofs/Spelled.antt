@@ -10,7 +10,7 @@ use Rattle.nvme_entry.specs.declared.command.StandardCommand.{StandardCommand}
 use Rattle.nvme_entry.specs.declared.command.StandardCommand.TheVariants.{Write, Read, Send, Receive, Append}
 use Rattle.nvme_entry.proofs.Proved.{fields_are_spelled}
 use Rattle.image_store.specs.Blocks.{AreBytes}
-use Rattle.zns_commands.specs.Laws.{Commanded, IsSpelled, Step}
+use Rattle.zns_commands.specs.Laws.{Commanded, IsSpelled, NamespaceEvent}
 
 abbrev pub HasBlocks : Command → Type 0
 HasBlocks (command.Standard (Write lba blocks)) = 1 ≤ blocks
@@ -50,6 +50,6 @@ spelled holds (Read lba blocks) input some fit = tt
 spelled holds (Send lba action select_all) input some fit = tt
 spelled holds (Receive lba dwords filter partial) input some fit = tt
 
-pub just_one : (step : Step) → IsSpelled step → All IsSpelled (step ∷ [])
+pub just_one : (step : NamespaceEvent) → IsSpelled step → All IsSpelled (step ∷ [])
 just_one step is zero other h = is
 just_one step is (suc k) other h = absurd (omega arith)

@@ -32,8 +32,8 @@ use Rattle.image_store.specs.Blocks.{AreBytes}
 use Rattle.image_store.specs.Geometry.{Shape}
 use Rattle.image_store.specs.Namespace.{ZonedNamespace, IsNamespace, zone_at}
 use Rattle.zns_commands.specs.Left as kept
-use Rattle.zns_commands.specs.Laws.{IsSpelled, Step, after}
-use Rattle.zns_commands.proofs.Proved.{destinations_are_left, steps_keep_namespaces, steps_keep_shapes}
+use Rattle.zns_commands.specs.Laws.{IsSpelled, NamespaceEvent, after}
+use Rattle.zns_commands.proofs.Proved.{destinations_are_left, events_keep_namespaces, events_keep_shapes}
 use Rattle.nvme_entry.proofs.Proved.{demanded, passed}
 use Rattle.pushdown.specs.Admission.{Loaded, admission_checks, source_blocks, task_of}
 use Rattle.pushdown.specs.Answers.{Submission}
@@ -130,12 +130,12 @@ module _ {D : Type 0} (operations : Operations D) (never : AcceptedNeverTraps op
 
   -- ---- commands and faults
 
-  step_fine : (s : State) (step : Step) → IsFine s → kept.holds_of step ≡ holds_of s → IsSpelled step
+  step_fine : (s : State) (step : NamespaceEvent) → IsFine s → kept.holds_of step ≡ holds_of s → IsSpelled step
       → IsFine (with_namespace s (after step s.namespace))
   step_fine s step h same is_spelled =
-      let kept_shape = steps_keep_shapes step s.namespace in
+      let kept_shape = events_keep_shapes step s.namespace in
       record {
-        is = steps_keep_namespaces (step ∷ []) s.namespace h.is (just_one step is_spelled);
+        is = events_keep_namespaces (step ∷ []) s.namespace h.is (just_one step is_spelled);
         size = ap (λ (x : Shape). x.block) kept_shape ∙ h.size;
         slots = h.slots;
         places = h.places;

@@ -10,10 +10,10 @@ use Rattle.image_store.specs.Namespace.{ZonedNamespace, shape, zone_at}
 use Rattle.zns_commands.specs.Left.{Grows, holds_of}
 use Rattle.zns_commands.specs.Answer.{Effect, effect_of_answer}
 use Rattle.zns_commands.specs.Fault.{faulted}
-use Rattle.zns_commands.specs.Laws.{Commanded, Failed, Step, after}
+use Rattle.zns_commands.specs.Laws.{Commanded, Faulted, NamespaceEvent, after}
 use Rattle.zns_commands.specs.Meaning.{meaning}
 use Rattle.zns_commands.specs.declared.answer.Answer.{Answer}
-use Rattle.zns_commands.proofs.Proved.{sources_keep_blocks, steps_keep_shapes}
+use Rattle.zns_commands.proofs.Proved.{sources_keep_blocks, events_keep_shapes}
 use Rattle.pushdown.specs.Answers.{Submission}
 use Rattle.pushdown.specs.Machine.{commanded, failed}
 use Rattle.pushdown.specs.State.{Place, with_namespace}
@@ -67,10 +67,10 @@ source_there : (runs : List (Option Held)) (k : ℕ) (a : Held) → get_or runs 
 source_there runs k a at = users_name_zones source_held a.source.zone runs k a at refl
 
 -- where a step heeds what the active runs hold
-step_leaves : (ns : ZonedNamespace) (slots : List (Option LoadedProgram)) (runs : List (Option Held)) (step : Step) → IsReady ns slots runs
+step_leaves : (ns : ZonedNamespace) (slots : List (Option LoadedProgram)) (runs : List (Option Held)) (step : NamespaceEvent) → IsReady ns slots runs
     → holds_of step ≡ held_by runs → IsLeft ns (after step ns) slots runs
 step_leaves ns slots runs step ready heeds =
-    is_left ns (after step ns) slots runs ready (steps_keep_shapes step ns)
+    is_left ns (after step ns) slots runs ready (events_keep_shapes step ns)
     (λ k a at.
     sources_keep_blocks step ns a.source.zone
     (ap (λ (holds : Holds). is_source holds a.source.zone) heeds ∙ source_there runs k a at))
@@ -83,7 +83,7 @@ pub fault_leaves : (ns new : ZonedNamespace) (slots : List (Option LoadedProgram
 fault_leaves ns new slots runs holds zone fault ready heeds is =
     let s = device_state ns slots runs in
     let left : IsLeft ns new slots runs =
-    subst (λ (later : ZonedNamespace). IsLeft ns later slots runs) (sym is) (step_leaves ns slots runs (Failed holds zone fault) ready heeds) in (
+    subst (λ (later : ZonedNamespace). IsLeft ns later slots runs) (sym is) (step_leaves ns slots runs (Faulted holds zone fault) ready heeds) in (
       left.ready,
       left.state ∙ ap (with_namespace s) (is ∙ ap (λ (h : Holds). faulted ns h zone fault) (heeds ∙ holds_are ns slots runs ready)),
     )

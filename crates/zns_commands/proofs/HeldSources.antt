@@ -19,13 +19,13 @@ use Rattle.zone_state.specs.State.{is_cleared}
 use Rattle.zns_commands.specs.Address.{zone_number}
 use Rattle.zns_commands.specs.Fault.{fault_answer, faulted_by}
 use Rattle.zns_commands.specs.Left.{Grows, SourcesKeepBlocks}
-use Rattle.zns_commands.specs.Laws.{Commanded, Failed}
+use Rattle.zns_commands.specs.Laws.{Commanded, Faulted}
 use Rattle.zns_commands.specs.Meaning.{checks_of, effect_of}
 use Rattle.zns_commands.specs.Resources.{why_not, closed}
 use Rattle.zns_commands.specs.Send.{send_checks, send_effect, zone_plan, takes, swept}
 use Rattle.zns_commands.specs.Write.{write_plan}
 use Rattle.zns_commands.proofs.HeldZones.{not_taken, not_refused, not_held}
-use Rattle.zns_commands.proofs.KeptBlocks.{grows_not, grows_on, set_grows_at, closed_grows, written_grows}
+use Rattle.zns_commands.proofs.KeptBlocks.{grows_by_none, grows_on, replaced_grows, closed_grows, written_grows}
 use Rattle.zns_commands.proofs.Meanings.{after_command}
 use Rattle.zns_commands.proofs.MovedZones.{after_action}
 use Rattle.nvme_entry.proofs.Proved.{passed}
@@ -35,7 +35,7 @@ use Rattle.zns_commands.proofs.Untouched.{neither, effect_left}
 arrived_keeps : (to : ZoneState) (zone : ZoneBlocks) → is_cleared to ≡ false → Grows zone.blocks (arrived to zone).blocks
 arrived_keeps Empty zone e = cc
 arrived_keeps Offline zone e = cc
-arrived_keeps to zone e = grows_not zone.blocks
+arrived_keeps to zone e = grows_by_none zone.blocks
 
 -- an action that forgets nothing clears no zone that it can be taken on
 leads_to : (a : Action) (from : ZoneState) → forgets a ≡ false → why_not (transition a from) ≡ None → is_cleared (after_action a from) ≡ false
@@ -55,12 +55,12 @@ taken_leads a from e is = refl
 
 swept_one : (a : Action) (zone : ZoneBlocks) (taken : Bool) → forgets a ≡ false → takes a zone.state ≡ taken
     → Grows zone.blocks (cond taken (arrived (after_action a zone.state) zone) zone).blocks
-swept_one a zone false e is = grows_not zone.blocks
+swept_one a zone false e is = grows_by_none zone.blocks
 swept_one a zone true e is = arrived_keeps (after_action a zone.state) zone (taken_leads a zone.state e is)
 
 swept_keeps : (a : Action) (zones : List ZoneBlocks) (z : ℕ) → forgets a ≡ false
     → Grows (get_or zones z no_zone).blocks (get_or (map (swept a) zones) z no_zone).blocks
-swept_keeps a [] z e = grows_not (get_or [] z no_zone).blocks
+swept_keeps a [] z e = grows_by_none (get_or [] z no_zone).blocks
 swept_keeps a (x ∷ xs) zero e = swept_one a x (takes a x.state) e refl
 swept_keeps a (x ∷ xs) (suc z) e = swept_keeps a xs z e
 
@@ -83,7 +83,7 @@ module _ (ns : ZonedNamespace) (holds : Holds) (d : ℕ) (held : is_source holds
       let m = closed ns gives in
       let zone = arrived to (zone_at m z) in
       grows_on (zone_at ns d).blocks (zone_at m d).blocks (zone_at (with_zone m z zone) d).blocks (closed_grows ns gives d)
-      (set_grows_at m.zones z d zone
+      (replaced_grows m.zones z d zone
       (λ same is. subst (λ (n : ℕ). Grows (zone_at m n).blocks zone.blocks) same (arrived_keeps to (zone_at m z) (keeps same))))
 
   one_kept : (lba : ℕ) (a : Action) (input : List ℕ) → first_failed (send_checks ns holds lba a false input) ≡ None
@@ -104,7 +104,7 @@ module _ (ns : ZonedNamespace) (holds : Holds) (d : ℕ) (held : is_source holds
   all_kept lba a input true is none =
       let refused = refuses_it (is_destination holds d) (forgets a) (is_source holds d) held is in
       let same = effect_left ns d holds (Send lba a true) input (not_taken ns holds lba a input d none refused) in
-      subst (λ (zone : ZoneBlocks). Grows (zone_at ns d).blocks zone.blocks) (sym same) (grows_not (zone_at ns d).blocks)
+      subst (λ (zone : ZoneBlocks). Grows (zone_at ns d).blocks zone.blocks) (sym same) (grows_by_none (zone_at ns d).blocks)
 
   sent_kept : (lba : ℕ) (a : Action) (select_all : Bool) (input : List ℕ) → first_failed (send_checks ns holds lba a select_all input) ≡ None
       → Kept (send_effect ns holds lba a select_all)
@@ -115,13 +115,13 @@ module _ (ns : ZonedNamespace) (holds : Holds) (d : ℕ) (held : is_source holds
       → Kept (effect_of ns holds command input).namespace
   effect_kept (Write lba blocks) input none = written_grows ns (write_plan ns holds (zone_number ns lba)) input d
   effect_kept (Append lba blocks) input none = written_grows ns (write_plan ns holds (zone_number ns lba)) input d
-  effect_kept (Read lba blocks) input none = grows_not (zone_at ns d).blocks
-  effect_kept (Receive lba dwords filter partial) input none = grows_not (zone_at ns d).blocks
+  effect_kept (Read lba blocks) input none = grows_by_none (zone_at ns d).blocks
+  effect_kept (Receive lba dwords filter partial) input none = grows_by_none (zone_at ns d).blocks
   effect_kept (Send lba a select_all) input none = sent_kept lba a select_all input none
 
   faulted_kept : (z : ℕ) (fault : FaultState) (answer : Result Unit FaultRefused)
       → ((done : Unit {0}) → answer ≡ Ok done → is_held holds z ≡ false) → Kept (faulted_by answer ns z fault)
-  faulted_kept z fault (Err none) free = grows_not (zone_at ns d).blocks
+  faulted_kept z fault (Err none) free = grows_by_none (zone_at ns d).blocks
   faulted_kept z fault (Ok done) free =
       moved_kept None z (state_of_fault fault)
       (λ same.
@@ -131,8 +131,8 @@ module _ (ns : ZonedNamespace) (holds : Holds) (d : ℕ) (held : is_source holds
 
 pub sources_keep_blocks : SourcesKeepBlocks
 sources_keep_blocks (Commanded holds command input) ns d held =
-    after_command (λ m. Grows (zone_at ns d).blocks (zone_at m d).blocks) ns holds command input (grows_not (zone_at ns d).blocks)
+    after_command (λ m. Grows (zone_at ns d).blocks (zone_at m d).blocks) ns holds command input (grows_by_none (zone_at ns d).blocks)
     (effect_kept ns holds d held command input)
-sources_keep_blocks (Failed holds z fault) ns d held =
+sources_keep_blocks (Faulted holds z fault) ns d held =
     faulted_kept ns holds d held z fault (fault_answer ns holds z fault)
     (λ done e. not_held (nat_lt z (length ns.zones)) (is_held holds z) (fault_refusal fault (zone_at ns z).state) done e)

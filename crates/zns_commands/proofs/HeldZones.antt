@@ -24,7 +24,7 @@ use Rattle.zns_commands.specs.Address.{zone_number}
 use Rattle.zns_commands.specs.Append.{append_checks}
 use Rattle.zns_commands.specs.Fault.{fault_answer}
 use Rattle.zns_commands.specs.Left.{is_either, touches, DestinationsAreLeft}
-use Rattle.zns_commands.specs.Laws.{Commanded, Failed}
+use Rattle.zns_commands.specs.Laws.{Commanded, Faulted}
 use Rattle.zns_commands.specs.Meaning.{checks_of}
 use Rattle.zns_commands.specs.Resources.{room_by, room_for, closing_of}
 use Rattle.zns_commands.specs.Send.{send_checks, zone_plan, room_of, takes, held_among}
@@ -159,7 +159,7 @@ pub destinations_are_left : DestinationsAreLeft
 destinations_are_left (Commanded holds command input) ns d held =
     after_command (λ m. zone_at m d ≡ zone_at ns d) ns holds command input refl
     (λ none. effect_left ns d holds command input (free ns holds d held command input none))
-destinations_are_left (Failed holds z fault) ns d held =
+destinations_are_left (Faulted holds z fault) ns d held =
     faulted_left ns d z fault (fault_answer ns holds z fault)
     (λ done e.
     let no = not_held (nat_lt z (length ns.zones)) (is_held holds z) (fault_refusal fault (zone_at ns z).state) done e in

@@ -20,32 +20,35 @@ use Rattle.zns_commands.specs.Address.{zone_number}
 use Rattle.zns_commands.specs.Answer.{Effect, success_effect, concluded}
 use Rattle.zns_commands.specs.Append.{append_checks, append_effect}
 use Rattle.zns_commands.specs.Fault.{fault_answer, faulted_by}
-use Rattle.zns_commands.specs.Read.{read_checks, read_effect}
+use Rattle.zns_commands.specs.Read.{read_checks, read_effect, read_refusal}
 use Rattle.zns_commands.specs.Resources.{closed}
 use Rattle.zns_commands.specs.Receive.{receive_checks, receive_effect}
 use Rattle.zns_commands.specs.Send.{send_checks, send_effect, zone_plan, takes, swept}
 use Rattle.zns_commands.specs.Write.{write_checks, write_effect, write_plan, written}
 use Rattle.zns_commands.specs.Left.{Grows}
-use Rattle.zns_commands.specs.Lasting.{GrowsByNone, GrowsOn, ReplacedGrows, UnclearedIsReadable, StepsKeepZones}
-use Rattle.zns_commands.specs.Laws.{Step, Commanded, Failed, after, after_all}
+use Rattle.zns_commands.specs.Laws.{NamespaceEvent, Commanded, Faulted, NoneClears, after, after_events}
 use Rattle.zns_commands.proofs.MovedZones.{after_action}
 
-pub grows_not : GrowsByNone
-grows_not blocks = record { more = []; is = sym (append-nil blocks) }
+-- a list of blocks grows by none,
+pub grows_by_none : (blocks : List (List ℕ)) → Grows blocks blocks
+grows_by_none blocks = record { more = []; is = sym (append-nil blocks) }
 
-pub grows_on : GrowsOn
+-- and by more and then by more
+pub grows_on : (before then after : List (List ℕ)) → Grows before then → Grows then after → Grows before after
 grows_on a b c first second = record {
   more = first.more ++ second.more;
   is = second.is ∙ (ap (λ (blocks : List (List ℕ)). blocks ++ second.more) first.is ∙ append_assoc a first.more second.more);
 }
 
--- a zone in the place of one that it keeps the blocks of
-pub set_grows_at : ReplacedGrows
-set_grows_at [] y z zone grows = grows_not (get_or [] z no_zone).blocks
-set_grows_at (x ∷ xs) zero zero zone grows = grows refl refl
-set_grows_at (x ∷ xs) zero (suc z) zone grows = grows_not (get_or xs z no_zone).blocks
-set_grows_at (x ∷ xs) (suc y) zero zone grows = grows_not x.blocks
-set_grows_at (x ∷ xs) (suc y) (suc z) zone grows = set_grows_at xs y z zone (λ same is. grows (ap suc same) is)
+-- where a zone is replaced by one that keeps its blocks, each zone keeps its blocks
+pub replaced_grows : (zones : List ZoneBlocks) (y z : ℕ) (zone : ZoneBlocks)
+    → (y ≡ z → get_or (set zones y zone) z no_zone ≡ zone → Grows (get_or zones z no_zone).blocks zone.blocks)
+    → Grows (get_or zones z no_zone).blocks (get_or (set zones y zone) z no_zone).blocks
+replaced_grows [] y z zone grows = grows_by_none (get_or [] z no_zone).blocks
+replaced_grows (x ∷ xs) zero zero zone grows = grows refl refl
+replaced_grows (x ∷ xs) zero (suc z) zone grows = grows_by_none (get_or xs z no_zone).blocks
+replaced_grows (x ∷ xs) (suc y) zero zone grows = grows_by_none x.blocks
+replaced_grows (x ∷ xs) (suc y) (suc z) zone grows = replaced_grows xs y z zone (λ same is. grows (ap suc same) is)
 
 -- the same of one whose state may say that it keeps none
 set_grows : (clears : ZoneState → Bool) (zones : List ZoneBlocks) (y z : ℕ) (zone : ZoneBlocks)
@@ -53,16 +56,16 @@ set_grows : (clears : ZoneState → Bool) (zones : List ZoneBlocks) (y z : ℕ) 
     → clears (get_or (set zones y zone) z no_zone).state ≡ false
     → Grows (get_or zones z no_zone).blocks (get_or (set zones y zone) z no_zone).blocks
 set_grows clears zones y z zone grows stays =
-    set_grows_at zones y z zone
+    replaced_grows zones y z zone
     (λ same is.
     subst (λ (n : ℕ). Grows (get_or zones n no_zone).blocks zone.blocks) same
     (grows (subst (λ (x : ZoneBlocks). clears x.state ≡ false) is stays)))
 
 pub closed_grows : (ns : ZonedNamespace) (gives : Option ℕ) (z : ℕ) → Grows (zone_at ns z).blocks (zone_at (closed ns gives) z).blocks
-closed_grows ns None z = grows_not (zone_at ns z).blocks
+closed_grows ns None z = grows_by_none (zone_at ns z).blocks
 closed_grows ns (Some k) z =
     let blocks = (zone_at ns k).blocks in
-    set_grows (λ s. false) ns.zones k z (record { state = Closed; blocks = blocks }) (λ stays. grows_not blocks) refl
+    set_grows (λ s. false) ns.zones k z (record { state = Closed; blocks = blocks }) (λ stays. grows_by_none blocks) refl
 
 pub written_grows : (ns : ZonedNamespace) (plan : WritePlan) (input : List ℕ) (z : ℕ)
     → Grows (zone_at ns z).blocks (zone_at (written ns plan input) z).blocks
@@ -77,7 +80,7 @@ written_grows ns plan input z =
 arrived_grows : (to : ZoneState) (zone : ZoneBlocks) → is_cleared (arrived to zone).state ≡ false → Grows zone.blocks (arrived to zone).blocks
 arrived_grows Empty zone stays = cc
 arrived_grows Offline zone stays = cc
-arrived_grows to zone stays = grows_not zone.blocks
+arrived_grows to zone stays = grows_by_none zone.blocks
 
 moved_grows : (ns : ZonedNamespace) (gives : Option ℕ) (y z : ℕ) (to : ZoneState)
     → is_cleared (zone_at (with_state (closed ns gives) y to) z).state ≡ false
@@ -92,12 +95,12 @@ moved_grows ns gives y z to stays =
 taken_grows : (taken : Bool) (to : ZoneState) (zone : ZoneBlocks)
     → is_cleared (cond taken (arrived to zone) zone).state ≡ false → Grows zone.blocks (cond taken (arrived to zone) zone).blocks
 taken_grows true to zone stays = arrived_grows to zone stays
-taken_grows false to zone stays = grows_not zone.blocks
+taken_grows false to zone stays = grows_by_none zone.blocks
 
 swept_grows : (a : Action) (zones : List ZoneBlocks) (z : ℕ)
     → is_cleared (get_or (map (swept a) zones) z no_zone).state ≡ false
     → Grows (get_or zones z no_zone).blocks (get_or (map (swept a) zones) z no_zone).blocks
-swept_grows a [] z stays = grows_not (get_or [] z no_zone).blocks
+swept_grows a [] z stays = grows_by_none (get_or [] z no_zone).blocks
 swept_grows a (x ∷ xs) zero stays = taken_grows (takes a x.state) (after_action a x.state) x stays
 swept_grows a (x ∷ xs) (suc z) stays = swept_grows a xs z stays
 
@@ -112,34 +115,34 @@ faulted_grows : (answer : Result Unit FaultRefused) (ns : ZonedNamespace) (y z :
     → is_cleared (zone_at (faulted_by answer ns y fault) z).state ≡ false
     → Grows (zone_at ns z).blocks (zone_at (faulted_by answer ns y fault) z).blocks
 faulted_grows (Ok done) ns y z fault stays = moved_grows ns None y z (state_of_fault fault) stays
-faulted_grows (Err none) ns y z fault stays = grows_not (zone_at ns z).blocks
+faulted_grows (Err none) ns y z fault stays = grows_by_none (zone_at ns z).blocks
 
 concluded_grows : (refusal : Option Status) (ns : ZonedNamespace) (effect : Effect) (z : ℕ)
     → (is_cleared (zone_at effect.namespace z).state ≡ false → Grows (zone_at ns z).blocks (zone_at effect.namespace z).blocks)
     → is_cleared (zone_at (concluded refusal ns effect).namespace z).state ≡ false
     → Grows (zone_at ns z).blocks (zone_at (concluded refusal ns effect).namespace z).blocks
 concluded_grows None ns effect z grows stays = grows stays
-concluded_grows (Some status) ns effect z grows stays = grows_not (zone_at ns z).blocks
+concluded_grows (Some status) ns effect z grows stays = grows_by_none (zone_at ns z).blocks
 
-step_grows : (step : Step) (ns : ZonedNamespace) (z : ℕ)
-    → is_cleared (zone_at (after step ns) z).state ≡ false → Grows (zone_at ns z).blocks (zone_at (after step ns) z).blocks
-step_grows (Commanded holds (Write lba blocks) input) ns z =
+event_grows : (event : NamespaceEvent) (ns : ZonedNamespace) (z : ℕ)
+    → is_cleared (zone_at (after event ns) z).state ≡ false → Grows (zone_at ns z).blocks (zone_at (after event ns) z).blocks
+event_grows (Commanded holds (Write lba blocks) input) ns z =
     concluded_grows (first_failed (write_checks ns holds lba blocks input)) ns (write_effect ns holds lba input) z
     (λ stays. written_grows ns (write_plan ns holds (zone_number ns lba)) input z)
-step_grows (Commanded holds (Append lba blocks) input) ns z =
+event_grows (Commanded holds (Append lba blocks) input) ns z =
     concluded_grows (first_failed (append_checks ns holds lba blocks input)) ns (append_effect ns holds lba input) z
     (λ stays. written_grows ns (write_plan ns holds (zone_number ns lba)) input z)
-step_grows (Commanded holds (Read lba blocks) input) ns z =
+event_grows (Commanded holds (Read lba blocks) input) ns z =
     concluded_grows (first_failed (read_checks ns lba blocks input)) ns (read_effect ns lba blocks) z
-    (λ stays. grows_not (zone_at ns z).blocks)
-step_grows (Commanded holds (Receive lba dwords filter partial) input) ns z =
+    (λ stays. grows_by_none (zone_at ns z).blocks)
+event_grows (Commanded holds (Receive lba dwords filter partial) input) ns z =
     concluded_grows (first_failed (receive_checks ns lba dwords input)) ns (receive_effect ns lba dwords filter partial) z
-    (λ stays. grows_not (zone_at ns z).blocks)
-step_grows (Commanded holds (Send lba a select_all) input) ns z =
+    (λ stays. grows_by_none (zone_at ns z).blocks)
+event_grows (Commanded holds (Send lba a select_all) input) ns z =
     concluded_grows (first_failed (send_checks ns holds lba a select_all input)) ns
     (success_effect (send_effect ns holds lba a select_all) 0 []) z
     (send_grows ns holds lba a select_all z)
-step_grows (Failed holds y fault) ns z = faulted_grows (fault_answer ns holds y fault) ns y z fault
+event_grows (Faulted holds y fault) ns z = faulted_grows (fault_answer ns holds y fault) ns y z fault
 
 -- a namespace with so many zones, otherwise of the same shape
 abbrev with_count : ZonedNamespace → ℕ → Shape
@@ -176,34 +179,41 @@ concluded_shape : (refusal : Option Status) (ns : ZonedNamespace) (effect : Effe
 concluded_shape None ns effect same = same
 concluded_shape (Some status) ns effect same = refl
 
-pub step_shape : (step : Step) (ns : ZonedNamespace) → shape (after step ns) ≡ shape ns
-step_shape (Commanded holds (Write lba blocks) input) ns =
+pub event_shape : (event : NamespaceEvent) (ns : ZonedNamespace) → shape (after event ns) ≡ shape ns
+event_shape (Commanded holds (Write lba blocks) input) ns =
     concluded_shape (first_failed (write_checks ns holds lba blocks input)) ns (write_effect ns holds lba input)
     (written_shape ns (write_plan ns holds (zone_number ns lba)) input)
-step_shape (Commanded holds (Append lba blocks) input) ns =
+event_shape (Commanded holds (Append lba blocks) input) ns =
     concluded_shape (first_failed (append_checks ns holds lba blocks input)) ns (append_effect ns holds lba input)
     (written_shape ns (write_plan ns holds (zone_number ns lba)) input)
-step_shape (Commanded holds (Read lba blocks) input) ns =
+event_shape (Commanded holds (Read lba blocks) input) ns =
     concluded_shape (first_failed (read_checks ns lba blocks input)) ns (read_effect ns lba blocks) refl
-step_shape (Commanded holds (Receive lba dwords filter partial) input) ns =
+event_shape (Commanded holds (Receive lba dwords filter partial) input) ns =
     concluded_shape (first_failed (receive_checks ns lba dwords input)) ns (receive_effect ns lba dwords filter partial) refl
-step_shape (Commanded holds (Send lba a select_all) input) ns =
+event_shape (Commanded holds (Send lba a select_all) input) ns =
     concluded_shape (first_failed (send_checks ns holds lba a select_all input)) ns
     (success_effect (send_effect ns holds lba a select_all) 0 []) (send_shape ns holds lba a select_all)
-step_shape (Failed holds z fault) ns = faulted_shape (fault_answer ns holds z fault) ns z fault
+event_shape (Faulted holds z fault) ns = faulted_shape (fault_answer ns holds z fault) ns z fault
 
 -- a zone that isn't cleared can be read
-pub uncleared_readable : UnclearedIsReadable
-uncleared_readable Offline stays = cc
-uncleared_readable s stays = refl
+pub uncleared_is_readable : (s : ZoneState) → is_cleared s ≡ false → read_refusal s ≡ None
+uncleared_is_readable Offline stays = cc
+uncleared_is_readable s stays = refl
 
-pub steps_keep : StepsKeepZones
-steps_keep [] ns z none = record { same_shape = refl; blocks = grows_not (zone_at ns z).blocks; readable = λ known. known }
-steps_keep (step ∷ steps) ns z none =
-    let m = after step ns in
-    let later = steps_keep steps m z none.1 in
+-- what a later namespace has of a zone
+pub record KeepsZone (ns m : ZonedNamespace) (z : ℕ) : Type 0 where
+  pub same_shape : shape m ≡ shape ns
+  pub blocks : Grows (zone_at ns z).blocks (zone_at m z).blocks
+  pub readable : read_refusal (zone_at ns z).state ≡ None → read_refusal (zone_at m z).state ≡ None
+
+-- events of which none clears a zone keep it
+pub events_keep_zones : (events : List NamespaceEvent) (ns : ZonedNamespace) (z : ℕ) → NoneClears z events ns → KeepsZone ns (after_events events ns) z
+events_keep_zones [] ns z none = record { same_shape = refl; blocks = grows_by_none (zone_at ns z).blocks; readable = λ known. known }
+events_keep_zones (event ∷ events) ns z none =
+    let m = after event ns in
+    let later = events_keep_zones events m z none.1 in
     record {
-      same_shape = later.same_shape ∙ step_shape step ns;
-      blocks = grows_on (zone_at ns z).blocks (zone_at m z).blocks (zone_at (after_all steps m) z).blocks (step_grows step ns z none.0) later.blocks;
-      readable = λ known. later.readable (uncleared_readable (zone_at m z).state none.0);
+      same_shape = later.same_shape ∙ event_shape event ns;
+      blocks = grows_on (zone_at ns z).blocks (zone_at m z).blocks (zone_at (after_events events m) z).blocks (event_grows event ns z none.0) later.blocks;
+      readable = λ known. later.readable (uncleared_is_readable (zone_at m z).state none.0);
     }

@@ -15,7 +15,7 @@ mod ReadBytes
 mod Refusals
 mod ReportedZones
 mod ClosableZones
-mod SoundSteps
+mod SoundEvents
 mod Sweeps
 mod SweptZones
 mod Transfers

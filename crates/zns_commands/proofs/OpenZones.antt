@@ -1,5 +1,5 @@
 -- That an open zone wants nothing, and takes blocks as by an Append.
-use Rattle.std.proofs.Common.{◌≡◌, ℕ, zero, suc, ◌+◌, ◌*◌, ◌/◌, ◌≤◌, Bool, true, List, [], ◌∷◌, length, Option, None, Ok, refl, ap, sym, ◌∙◌, arith}
+use Rattle.std.proofs.Common.{◌≡◌, ℕ, zero, suc, ◌+◌, ◌*◌, ◌/◌, ◌≤◌, ◌<◌, Bool, true, List, [], ◌∷◌, length, get_or, Option, None, Ok, refl, ap, sym, ◌∙◌, arith}
 use Rattle.std.specs.Prelude.{nat_eq, nat_le}
 use Rattle.std.proofs.Math.Nat.{mul-div_cancel}
 use Rattle.std.proofs.lemmas.Bool.{eq-eqb, le-leb}
@@ -12,8 +12,7 @@ use Rattle.zone_resources.specs.Holds.{no_holds}
 use Rattle.zone_resources.specs.declared.admission.Wanted.{Wanted}
 use Rattle.zone_resources.specs.declared.holds.Holds.{Holds}
 use Rattle.image_store.specs.Blocks.{as_blocks, block_count}
-use Rattle.image_store.specs.Namespace.{ZonedNamespace, zone_at, grown, appended, IsNamespace, IsWithinLimits}
-use Rattle.zns_commands.specs.Lasting.{OpenIsThere}
+use Rattle.image_store.specs.Namespace.{ZoneBlocks, ZonedNamespace, no_zone, zone_at, grown, appended, IsNamespace, IsWithinLimits}
 use Rattle.zns_commands.specs.Address.{counted_zone_at, zone_number}
 use Rattle.zns_commands.specs.Laws.{BlocksAreAppended, BlocksKeepNamespaces}
 use Rattle.zns_commands.specs.Resources.{room_by, closing_of}
@@ -36,11 +35,12 @@ open_plan ns holds z some is =
     ∙ ap (λ (wanted : Option Wanted). let plan : WritePlan = record { zone = z; closing = closing_of (room_by ns holds wanted) } in plan)
     (open_wants_none (zone_at ns z).state is)
 
-pub open_inside : OpenIsThere
-open_inside [] z is = cc
-open_inside (x ∷ xs) zero is = omega arith
-open_inside (x ∷ xs) (suc z) is =
-    let rest = open_inside xs z is in omega arith
+-- an open zone is one of the zones
+pub open_is_there : (zones : List ZoneBlocks) (z : ℕ) → is_open (get_or zones z no_zone).state ≡ true → z < length zones
+open_is_there [] z is = cc
+open_is_there (x ∷ xs) zero is = omega arith
+open_is_there (x ∷ xs) (suc z) is =
+    let rest = open_is_there xs z is in omega arith
 
 -- an open zone holds all resources that a zone can hold
 open_holds : (is s : ZoneState) → is_open s ≡ true → HoldsNoMore is s
@@ -57,7 +57,7 @@ pub open_within : (ns : ZonedNamespace) (z : ℕ) (bytes : List ℕ) → IsNames
     → IsWithinLimits (appended ns z bytes)
 open_within ns z bytes sound is =
     let zone = grown ns.capacity (zone_at ns z) (as_blocks ns.block bytes) in
-    one_within ns z zone (open_inside ns.zones z is) sound.within (open_holds zone.state (zone_at ns z).state is)
+    one_within ns z zone (open_is_there ns.zones z is) sound.within (open_holds zone.state (zone_at ns z).state is)
 
 -- ---- an open zone takes blocks that it has room for
 
@@ -81,7 +81,7 @@ open_takes ns z n is room =
 pub blocks_keep_namespaces : BlocksKeepNamespaces
 blocks_keep_namespaces ns z bytes sound takes are =
     let n = block_count ns.block bytes in
-    written_sound ns no_holds z (length (zone_at ns z).blocks) n None bytes sound (open_inside ns.zones z takes.opened)
+    written_sound ns no_holds z (length (zone_at ns z).blocks) n None bytes sound (open_is_there ns.zones z takes.opened)
     takes.some takes.whole are (open_takes ns z n takes.opened takes.room)
     (ap (room_by ns no_holds) (open_wants_none (zone_at ns z).state takes.opened))
 

@@ -9,6 +9,7 @@ use Rattle.zone_state.specs.Zone.{refusal, written_state}
 use Rattle.zone_state.specs.declared.state.ZoneState.{ZoneState}
 use Rattle.zone_state.specs.declared.state.ZoneState.TheVariants.{ExplicitlyOpened, Closed, Full}
 use Rattle.zone_state.specs.declared.status.Status.{Status}
+use Rattle.zone_state.specs.declared.status.TheConstants.Status.{SUCCESS}
 use Rattle.zone_resources.specs.declared.holds.Holds.{Holds}
 use Rattle.nvme_entry.specs.declared.command.StandardCommand.TheVariants.{Write, Read, Append}
 use Rattle.nvme_entry.specs.declared.command.TheConstants.{MOST_TRANSFER}
@@ -17,18 +18,17 @@ use Rattle.image_store.specs.Blocks.{as_blocks, block_count, bytes_of}
 use Rattle.image_store.specs.Geometry.{Shape}
 use Rattle.image_store.specs.Namespace.{ZoneBlocks, ZonedNamespace, no_zone, zone_at, grown, IsNamespace}
 use Rattle.image_store.proofs.Proved.{allowed_is_within, blocks_keep_bytes}
-use Rattle.zns_commands.specs.Lasting.{Keeps, Lie, LyingIsRead, ReadsBack, ReadsAt, AppendedStays, WrittenStays}
 use Rattle.zns_commands.specs.Address.{counted_zone_at, zone_number, block_total, write_pointer}
-use Rattle.zns_commands.specs.Answer.{success_effect, concluded}
+use Rattle.zns_commands.specs.Answer.{Effect, success_effect, concluded}
 use Rattle.zns_commands.specs.Append.{append_checks, append_effect}
 use Rattle.zns_commands.specs.Read.{read_refusal, blocks_read, read_checks, read_effect}
 use Rattle.zns_commands.specs.Resources.{room_for, closing_of}
 use Rattle.zns_commands.specs.Write.{write_checks, write_effect, write_plan, written}
-use Rattle.zns_commands.specs.Laws.{after_all, AreRead, AppendedReadsBack, WrittenReadsBack}
+use Rattle.zns_commands.specs.Laws.{after_events, AreRead, AppendedReadsBack, WrittenReadsBack}
 use Rattle.zns_commands.specs.Meaning.{meaning}
 use Rattle.zns_commands.proofs.GivenWay.{has_room, written_is}
 use Rattle.zns_commands.proofs.WrittenZones.{brings, pointer_in}
-use Rattle.zns_commands.proofs.KeptBlocks.{steps_keep, written_shape}
+use Rattle.zns_commands.proofs.KeptBlocks.{KeepsZone, events_keep_zones, written_shape}
 use Rattle.nvme_entry.proofs.Proved.{passed, demanded}
 use Rattle.zns_commands.proofs.PassedChecks.{roomed, allowed, zone_inside, append_passed, write_passed}
 
@@ -54,8 +54,25 @@ all_pass : (a b c : Bool) (r : Option Status) (s t u : Status) → a ≡ true �
     → first_failed (demand a s ∷ None ∷ demand b t ∷ demand c u ∷ r ∷ []) ≡ None
 all_pass a b c r s t u ea eb ec er = rw (ea, eb, ec, er) refl
 
-pub read_back : LyingIsRead
-read_back m z w blocks input h holds =
+-- blocks in a zone, from one of its blocks on
+pub record BlocksLieAt (m : ZonedNamespace) (z w blocks : ℕ) (input : List ℕ) : Type 0 where
+  pub front : List (List ℕ)
+  pub more : List (List ℕ)
+  pub behind : List (List ℕ)
+  pub there : (zone_at m z).blocks ≡ front ++ (more ++ behind)
+  pub start : length front ≡ w
+  pub count : length more ≡ blocks
+  pub bytes : bytes_of more ≡ input
+  pub readable : read_refusal (zone_at m z).state ≡ None
+  pub inside : z < length m.zones
+  pub room : w + blocks ≤ m.size
+  pub some : 1 ≤ blocks
+  pub transfer : nat_le (blocks * m.block) MOST_TRANSFER ≡ true
+
+-- where blocks lie they are read
+pub lying_is_read : (m : ZonedNamespace) (z w blocks : ℕ) (input : List ℕ) → BlocksLieAt m z w blocks input
+    → AreRead m (z * m.size + w) blocks input
+lying_is_read m z w blocks input h holds =
     let lba = z * m.size + w in
     let size = m.size in
     let number : lba / size ≡ z = div-mul-add z size w (omega (arith, h.room, h.some)) in
@@ -79,7 +96,7 @@ read_back m z w blocks input h holds =
     ∙ ap (success_effect m 0) h.bytes))))))
 
 -- they lie there as long as the zone isn't cleared
-pub lie_on : (ns m : ZonedNamespace) (z w blocks : ℕ) (input : List ℕ) → Lie ns z w blocks input → Keeps ns m z → Lie m z w blocks input
+pub lie_on : (ns m : ZonedNamespace) (z w blocks : ℕ) (input : List ℕ) → BlocksLieAt ns z w blocks input → KeepsZone ns m z → BlocksLieAt m z w blocks input
 lie_on ns m z w blocks input lie keeps =
     let grows = keeps.blocks in
     record {
@@ -118,7 +135,7 @@ record Writes (ns : ZonedNamespace) (holds : Holds) (z blocks : ℕ) (input : Li
   room : room_for ns holds (zone_at ns z).state ≡ Ok (closing_of (room_for ns holds (zone_at ns z).state))
 
 written_lie : (ns : ZonedNamespace) (holds : Holds) (z blocks : ℕ) (input : List ℕ) → IsNamespace ns → Writes ns holds z blocks input
-    → Lie (written ns (write_plan ns holds z) input) z (length (zone_at ns z).blocks) blocks input
+    → BlocksLieAt (written ns (write_plan ns holds z) input) z (length (zone_at ns z).blocks) blocks input
 written_lie ns holds z blocks input sound writes =
     let zone = zone_at ns z in
     let more = as_blocks ns.block input in
@@ -152,7 +169,7 @@ written_lie ns holds z blocks input sound writes =
 reads_later : (ns : ZonedNamespace) (holds : Holds) (z blocks : ℕ) (input : List ℕ) (later : ZonedNamespace) → IsNamespace ns
     → Writes ns holds z blocks input
     → let m = written ns (write_plan ns holds z) input in
-    Keeps m later z → AreRead later (write_pointer ns z) blocks input
+    KeepsZone m later z → AreRead later (write_pointer ns z) blocks input
 reads_later ns holds z blocks input later sound writes keeps any =
     let w = length (zone_at ns z).blocks in
     let plan = write_plan ns holds z in
@@ -160,9 +177,16 @@ reads_later ns holds z blocks input later sound writes keeps any =
     let lie = lie_on m later z w blocks input (written_lie ns holds z blocks input sound writes) keeps in
     let same_size : later.size ≡ ns.size = ap (λ (s : Shape). s.size) (keeps.same_shape ∙ written_shape ns plan input) in
     let address : z * ns.size + w ≡ z * later.size + w = ap (λ (k : ℕ). z * k + w) (sym same_size) in
-    ap (λ (k : ℕ). meaning later any (Read k blocks) []) address ∙ read_back later z w blocks input lie any
+    ap (λ (k : ℕ). meaning later any (Read k blocks) []) address ∙ lying_is_read later z w blocks input lie any
 
-pub appended_stays : AppendedStays
+-- what a Read gives later of the blocks that an effect tells
+abbrev pub ReadsBack : ℕ → ZonedNamespace → ℕ → List ℕ → Effect → Type 0
+ReadsBack z later blocks input done = KeepsZone done.namespace later z → AreRead later (done.dw0 + done.dw1 * 2 ^ 32) blocks input
+
+-- what an Append that succeeds put in is read in each namespace that keeps the zone
+pub appended_stays : (ns : ZonedNamespace) (holds : Holds) (lba blocks : ℕ) (input : List ℕ) (later : ZonedNamespace) → IsNamespace ns → 1 ≤ blocks
+    → (meaning ns holds (Append lba blocks) input).status ≡ SUCCESS
+    → ReadsBack (zone_number ns lba) later blocks input (meaning ns holds (Append lba blocks) input)
 appended_stays ns holds lba blocks input later sound some done =
     let none = append_passed ns holds lba blocks input done in
     let checks = append_checks ns holds lba blocks input in
@@ -183,11 +207,18 @@ appended_stays ns holds lba blocks input later sound some done =
     (λ keeps. subst (λ (k : ℕ). AreRead later k blocks input) (sym address) (reads_later ns holds z blocks input later sound writes keeps))
 
 pub appended_reads_back : AppendedReadsBack
-appended_reads_back ns holds lba blocks input steps sound some done stays =
+appended_reads_back ns holds lba blocks input events sound some done stays =
     let m = (meaning ns holds (Append lba blocks) input).namespace in
-    appended_stays ns holds lba blocks input (after_all steps m) sound some done (steps_keep steps m (zone_number ns lba) stays)
+    appended_stays ns holds lba blocks input (after_events events m) sound some done (events_keep_zones events m (zone_number ns lba) stays)
 
-pub written_stays : WrittenStays
+-- what a Read gives later of the blocks from an address on
+abbrev pub ReadsAt : ℕ → ℕ → ZonedNamespace → ℕ → List ℕ → Effect → Type 0
+ReadsAt z lba later blocks input done = KeepsZone done.namespace later z → AreRead later lba blocks input
+
+-- the same of a Write, which is read from its own address
+pub written_stays : (ns : ZonedNamespace) (holds : Holds) (lba blocks : ℕ) (input : List ℕ) (later : ZonedNamespace) → IsNamespace ns → 1 ≤ blocks
+    → (meaning ns holds (Write lba blocks) input).status ≡ SUCCESS
+    → ReadsAt (zone_number ns lba) lba later blocks input (meaning ns holds (Write lba blocks) input)
 written_stays ns holds lba blocks input later sound some done =
     let none = write_passed ns holds lba blocks input done in
     let checks = write_checks ns holds lba blocks input in
@@ -212,6 +243,6 @@ written_stays ns holds lba blocks input later sound some done =
     (λ keeps. subst (λ (k : ℕ). AreRead later k blocks input) address (reads_later ns holds z blocks input later sound writes keeps))
 
 pub written_reads_back : WrittenReadsBack
-written_reads_back ns holds lba blocks input steps sound some done stays =
+written_reads_back ns holds lba blocks input events sound some done stays =
     let m = (meaning ns holds (Write lba blocks) input).namespace in
-    written_stays ns holds lba blocks input (after_all steps m) sound some done (steps_keep steps m (zone_number ns lba) stays)
+    written_stays ns holds lba blocks input (after_events events m) sound some done (events_keep_zones events m (zone_number ns lba) stays)

@@ -9,7 +9,7 @@ use Rattle.zone_state.specs.declared.status.TheConstants.Status.{SUCCESS, INVALI
 use Rattle.nvme_entry.specs.declared.command.TheConstants.{MOST_TRANSFER}
 use Rattle.nvme_entry.specs.declared.filter.ZoneFilter.TheVariants as filter
 use Rattle.zone_state.specs.Checks.{demand, first_failed}
-use Rattle.nvme_entry.specs.Laws.{number_in, descriptors_in}
+use Rattle.nvme_entry.specs.ReportLaws.{number_in, descriptors_in}
 use Rattle.nvme_entry.specs.Report.{report, descriptor_at}
 use Rattle.image_store.specs.Namespace.{counted, records}
 use Rattle.zns_commands.specs.Address.{block_total}

@@ -10,7 +10,7 @@ use Rattle.nvme_entry.specs.declared.command.StandardCommand.{StandardCommand}
 use Rattle.nvme_entry.specs.declared.command.StandardCommand.TheVariants.{Write, Read, Send, Receive, Append}
 use Rattle.nvme_entry.specs.declared.command.TheConstants.{MOST_TRANSFER}
 use Rattle.nvme_entry.specs.declared.filter.ZoneFilter.TheVariants as filter
-use Rattle.nvme_entry.specs.Laws.{number_in, descriptors_in}
+use Rattle.nvme_entry.specs.ReportLaws.{number_in, descriptors_in}
 use Rattle.nvme_entry.specs.Report.{descriptor_at}
 use Rattle.image_store.specs.Blocks.{AreBytes}
 use Rattle.image_store.specs.Geometry.{Shape, IsShape}
@@ -22,34 +22,34 @@ use Rattle.zns_commands.specs.Append.{TakesBlocks, append_effect}
 use Rattle.zns_commands.specs.Fault.{faulted}
 use Rattle.zns_commands.specs.Meaning.{checks_of, effect_of, meaning}
 
--- what happens to a namespace, under the holds of the active runs: a command with the data beside its
--- entry, or a fault of a zone
-pub data Step : Type 0 where
-  Commanded : (holds : Holds) (command : StandardCommand) (input : List ℕ) → Step
-  Failed : (holds : Holds) (zone : ℕ) (fault : FaultState) → Step
+-- an event that happens to a namespace, under the holds of the active runs: a command with the data beside
+-- its entry, or a fault of a zone
+pub data NamespaceEvent : Type 0 where
+  Commanded : (holds : Holds) (command : StandardCommand) (input : List ℕ) → NamespaceEvent
+  Faulted : (holds : Holds) (zone : ℕ) (fault : FaultState) → NamespaceEvent
 
-abbrev pub after : Step → ZonedNamespace → ZonedNamespace
+abbrev pub after : NamespaceEvent → ZonedNamespace → ZonedNamespace
 after (Commanded holds command input) ns = (meaning ns holds command input).namespace
-after (Failed holds zone fault) ns = faulted ns holds zone fault
+after (Faulted holds zone fault) ns = faulted ns holds zone fault
 
--- the namespace after one step after another
-abbrev pub after_all : List Step → ZonedNamespace → ZonedNamespace
-after_all [] ns = ns
-after_all (step ∷ steps) ns = after_all steps (after step ns)
+-- the namespace after one event after another
+abbrev pub after_events : List NamespaceEvent → ZonedNamespace → ZonedNamespace
+after_events [] ns = ns
+after_events (event ∷ events) ns = after_events events (after event ns)
 
 -- what an entry and the bytes beside it can spell: a command that writes at least one block, and bytes
-abbrev pub IsSpelled : Step → Type 0
+abbrev pub IsSpelled : NamespaceEvent → Type 0
 IsSpelled (Commanded holds (Write lba blocks) input) = (1 ≤ blocks) × AreBytes input
 IsSpelled (Commanded holds (Append lba blocks) input) = (1 ≤ blocks) × AreBytes input
 IsSpelled (Commanded holds (Read lba blocks) input) = Unit {0}
 IsSpelled (Commanded holds (Send lba action select_all) input) = Unit {0}
 IsSpelled (Commanded holds (Receive lba dwords filter partial) input) = Unit {0}
-IsSpelled (Failed holds zone fault) = Unit {0}
+IsSpelled (Faulted holds zone fault) = Unit {0}
 
 -- a namespace stays one, its open and active zones within the limits, whatever commands and faults come
 -- (ZNS 1.1, Zone State Machine and Zone Resources)
-abbrev pub StepsKeepNamespaces : Type 0
-StepsKeepNamespaces = (steps : List Step) (ns : ZonedNamespace) → IsNamespace ns → All IsSpelled steps → IsNamespace (after_all steps ns)
+abbrev pub EventsKeepNamespaces : Type 0
+EventsKeepNamespaces = (events : List NamespaceEvent) (ns : ZonedNamespace) → IsNamespace ns → All IsSpelled events → IsNamespace (after_events events ns)
 
 -- and so it does where blocks of bytes are put into an open zone that has room for them,
 abbrev pub BlocksKeepNamespaces : Type 0
@@ -98,10 +98,10 @@ RefusedChangesNothing =
     → (meaning ns holds command input).status ≢ SUCCESS
     → ChangesNothing ns (meaning ns holds command input)
 
--- after none of the steps is the zone cleared
-abbrev pub NoneClears : ℕ → List Step → ZonedNamespace → Type 0
+-- after none of the events is the zone cleared
+abbrev pub NoneClears : ℕ → List NamespaceEvent → ZonedNamespace → Type 0
 NoneClears z [] ns = Unit {0}
-NoneClears z (step ∷ steps) ns = (is_cleared (zone_at (after step ns) z).state ≡ false) × NoneClears z steps (after step ns)
+NoneClears z (event ∷ events) ns = (is_cleared (zone_at (after event ns) z).state ≡ false) × NoneClears z events (after event ns)
 
 -- these bytes are read, under any holds, of so many blocks from an address on
 abbrev pub AreRead : ZonedNamespace → ℕ → ℕ → List ℕ → Type 0
@@ -111,20 +111,20 @@ AreRead ns lba blocks bytes = (holds : Holds) → meaning ns holds (Read lba blo
 -- commands and faults come in between, until the zone is reset, goes offline or is lost
 abbrev pub AppendedReadsBack : Type 0
 AppendedReadsBack =
-    (ns : ZonedNamespace) (holds : Holds) (lba blocks : ℕ) (input : List ℕ) (steps : List Step)
+    (ns : ZonedNamespace) (holds : Holds) (lba blocks : ℕ) (input : List ℕ) (events : List NamespaceEvent)
     → IsNamespace ns → 1 ≤ blocks → (meaning ns holds (Append lba blocks) input).status ≡ SUCCESS
     → let done = meaning ns holds (Append lba blocks) input in
-    NoneClears (zone_number ns lba) steps done.namespace
-    → AreRead (after_all steps done.namespace) (done.dw0 + done.dw1 * 2 ^ 32) blocks input
+    NoneClears (zone_number ns lba) events done.namespace
+    → AreRead (after_events events done.namespace) (done.dw0 + done.dw1 * 2 ^ 32) blocks input
 
 -- the same of a Write, which is read from its own address
 abbrev pub WrittenReadsBack : Type 0
 WrittenReadsBack =
-    (ns : ZonedNamespace) (holds : Holds) (lba blocks : ℕ) (input : List ℕ) (steps : List Step)
+    (ns : ZonedNamespace) (holds : Holds) (lba blocks : ℕ) (input : List ℕ) (events : List NamespaceEvent)
     → IsNamespace ns → 1 ≤ blocks → (meaning ns holds (Write lba blocks) input).status ≡ SUCCESS
     → let done = meaning ns holds (Write lba blocks) input in
-    NoneClears (zone_number ns lba) steps done.namespace
-    → AreRead (after_all steps done.namespace) lba blocks input
+    NoneClears (zone_number ns lba) events done.namespace
+    → AreRead (after_events events done.namespace) lba blocks input
 
 -- a report of all zones from the lowest address on, with room for all, tells how many zones there are,
 -- and gives the descriptor of each one once, in order

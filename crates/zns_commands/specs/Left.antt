@@ -5,22 +5,22 @@ use Rattle.zone_resources.specs.declared.holds.Holds.{Holds}
 use Rattle.nvme_entry.specs.declared.command.StandardCommand.TheVariants.{Write, Read, Send, Receive, Append}
 use Rattle.image_store.specs.Namespace.{ZonedNamespace, zone_at, shape, IsNamespace}
 use Rattle.zns_commands.specs.Address.{zone_number, blocks_from}
-use Rattle.zns_commands.specs.Laws.{Step, Commanded, Failed, after}
+use Rattle.zns_commands.specs.Laws.{NamespaceEvent, Commanded, Faulted, after}
 use Rattle.zns_commands.specs.Send.{zone_plan, takes}
 use Rattle.zns_commands.specs.Write.{write_plan}
 
--- the holds under which a step is taken
-abbrev pub holds_of : Step → Holds
+-- the holds under which an event is taken
+abbrev pub holds_of : NamespaceEvent → Holds
 holds_of (Commanded holds command input) = holds
-holds_of (Failed holds zone fault) = holds
+holds_of (Faulted holds zone fault) = holds
 
 -- is the zone the one that is named, or the one that gives way to it?
 abbrev pub is_either : ℕ → Option ℕ → ℕ → Bool
 is_either named gives z = named == z || names z gives
 
--- may a step change the zone? It may change the one that it names, the one that gives way to that, and
+-- may an event change the zone? It may change the one that it names, the one that gives way to that, and
 -- those that Select All takes
-abbrev pub touches : ZonedNamespace → Step → ℕ → Bool
+abbrev pub touches : ZonedNamespace → NamespaceEvent → ℕ → Bool
 touches ns (Commanded holds (Write lba blocks) input) z =
     let plan = write_plan ns holds (zone_number ns lba) in is_either plan.zone plan.closing z
 touches ns (Commanded holds (Append lba blocks) input) z =
@@ -30,16 +30,16 @@ touches ns (Commanded holds (Send lba action false) input) z =
     let plan = zone_plan ns holds lba action in is_either plan.zone plan.closing z
 touches ns (Commanded holds (Read lba blocks) input) z = false
 touches ns (Commanded holds (Receive lba dwords filter partial) input) z = false
-touches ns (Failed holds zone fault) z = zone == z
+touches ns (Faulted holds zone fault) z = zone == z
 
--- a step leaves each other zone as it is
+-- an event leaves each other zone as it is
 abbrev pub OthersAreLeft : Type 0
-OthersAreLeft = (step : Step) (ns : ZonedNamespace) (z : ℕ) → touches ns step z ≡ false → zone_at (after step ns) z ≡ zone_at ns z
+OthersAreLeft = (event : NamespaceEvent) (ns : ZonedNamespace) (z : ℕ) → touches ns event z ≡ false → zone_at (after event ns) z ≡ zone_at ns z
 
--- a step leaves a zone that a run appends to as it is, its state and its blocks
+-- an event leaves a zone that a run appends to as it is, its state and its blocks
 abbrev pub DestinationsAreLeft : Type 0
 DestinationsAreLeft =
-    (step : Step) (ns : ZonedNamespace) (z : ℕ) → is_destination (holds_of step) z ≡ true → zone_at (after step ns) z ≡ zone_at ns z
+    (event : NamespaceEvent) (ns : ZonedNamespace) (z : ℕ) → is_destination (holds_of event) z ≡ true → zone_at (after event ns) z ≡ zone_at ns z
 
 -- the blocks of before, and perhaps some behind them
 pub record Grows (before after : List (List ℕ)) : Type 0 where
@@ -49,12 +49,12 @@ pub record Grows (before after : List (List ℕ)) : Type 0 where
 -- what is written in a zone that a run reads from stays the beginning of what is
 abbrev pub SourcesKeepBlocks : Type 0
 SourcesKeepBlocks =
-    (step : Step) (ns : ZonedNamespace) (z : ℕ) → is_source (holds_of step) z ≡ true
-    → Grows (zone_at ns z).blocks (zone_at (after step ns) z).blocks
+    (event : NamespaceEvent) (ns : ZonedNamespace) (z : ℕ) → is_source (holds_of event) z ≡ true
+    → Grows (zone_at ns z).blocks (zone_at (after event ns) z).blocks
 
--- no step changes how many zones there are, their size and capacity, the bytes of a block, or the limits
+-- no event changes how many zones there are, their size and capacity, the bytes of a block, or the limits
 abbrev pub ShapesAreKept : Type 0
-ShapesAreKept = (step : Step) (ns : ZonedNamespace) → shape (after step ns) ≡ shape ns
+ShapesAreKept = (event : NamespaceEvent) (ns : ZonedNamespace) → shape (after event ns) ≡ shape ns
 
 -- written blocks that follow one another in a zone are a part of its list
 abbrev pub BlocksAreAPart : Type 0

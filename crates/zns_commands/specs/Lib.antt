@@ -12,5 +12,4 @@ pub mod Meaning
 pub mod Held
 pub mod Laws
 pub mod Left
-pub mod Lasting
 pub mod steps

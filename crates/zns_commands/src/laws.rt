@@ -3,14 +3,13 @@
 
 ghost use Rattle.zns_commands.specs.Held.{HeldCommandsAreRefused};
 ghost use Rattle.zns_commands.specs.Left.{BlocksAreAPart, DestinationsAreLeft, OthersAreLeft, ShapesAreKept, SourcesKeepBlocks};
-ghost use Rattle.zns_commands.specs.Lasting.{AppendedStays, GrowsByNone, GrowsOn, LyingIsRead, OpenIsThere, ReplacedGrows, StepsKeepZones, UnclearedIsReadable, WrittenStays};
-ghost use Rattle.zns_commands.specs.Laws.{AppendedReadsBack, BlocksAreAppended, BlocksKeepNamespaces, EmptyIsNamespace, JustOneCase, RefusedChangesNothing, ReportsEveryZone, StepsKeepNamespaces, WrittenReadsBack};
+ghost use Rattle.zns_commands.specs.Laws.{AppendedReadsBack, BlocksAreAppended, BlocksKeepNamespaces, EmptyIsNamespace, JustOneCase, RefusedChangesNothing, ReportsEveryZone, EventsKeepNamespaces, WrittenReadsBack};
 
 /// A namespace stays one, whatever commands and faults come: its open and active zones are within the
 /// limits, each zone's state fits its written blocks, and each block is whole. One of which nothing is
 /// written is one.
 pub fn commands_keep_namespaces_sound()
-    ensures kept { StepsKeepNamespaces }
+    ensures kept { EventsKeepNamespaces }
     ensures start { EmptyIsNamespace }
 {}
 
@@ -77,28 +76,6 @@ pub fn shapes_are_kept()
 /// Written blocks that follow one another in a zone are a part of the list of its blocks.
 pub fn consecutive_blocks_are_a_part()
     ensures { BlocksAreAPart }
-{}
-
-/// Lists of blocks grow by none, or by more one after the other, and so do those of a zone that is
-/// replaced by one that keeps its blocks.
-pub fn lists_of_blocks_grow()
-    ensures none { GrowsByNone }
-    ensures on { GrowsOn }
-    ensures replaced { ReplacedGrows }
-{}
-
-/// A zone that none of the steps clears is kept: it can be read, and what was put in lies there.
-pub fn uncleared_zones_are_kept()
-    ensures steps { StepsKeepZones }
-    ensures readable { UnclearedIsReadable }
-    ensures open { OpenIsThere }
-{}
-
-/// Where blocks lie they are read, in each namespace that keeps the zone.
-pub fn lying_blocks_are_read()
-    ensures lying { LyingIsRead }
-    ensures appended { AppendedStays }
-    ensures written { WrittenStays }
 {}
 
 /// A Write, an Append or an action is refused on a zone that an active run appends to, and Reset and Offline on one

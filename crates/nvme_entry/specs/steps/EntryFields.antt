@@ -3,7 +3,6 @@ use Rattle.std.specs.Prelude.{◌≡◌, ℕ, ◌+◌, ◌*◌, ◌/◌, ◌%◌
 use Rattle.nvme_entry.specs.Entry.{asked, decoded, identifier_of}
 use Rattle.nvme_entry.specs.Fields.{dword, field}
 use Rattle.nvme_entry.specs.declared.command.Opcode.{Opcode}
-use Rattle.nvme_entry.specs.declared.command.Command.{Command}
 use Rattle.nvme_entry.specs.declared.encoding.CommandDwords.{CommandDwords}
 
 -- an entry for namespace 1 that isn't part of a fused command, with this opcode, identifier and Command Dwords

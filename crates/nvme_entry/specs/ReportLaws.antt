@@ -1,10 +1,8 @@
 -- Laws of reports, in the words of a host that reads them.
 use Rattle.std.specs.Prelude.{ℕ, zero, suc, ◌≡◌, ◌≤◌, ◌<◌, ◌+◌, ◌-◌, ◌*◌, ◌/◌, ◌^◌, min, Bool, List, [], ◌∷◌, length, map, take, drop, replicate, if◌then◌else◌}
-use Rattle.std.specs.List.{enumerate_from}
 use Rattle.byteorder.specs.Endian.{little_number}
 use Rattle.zone_state.specs.Zone.{CountedZone}
 use Rattle.nvme_entry.specs.declared.filter.ZoneFilter.{ZoneFilter}
-use Rattle.nvme_entry.specs.declared.filter.ZoneFilter.TheVariants.{All}
 use Rattle.nvme_entry.specs.Report.{report, matching, descriptor_at}
 
 -- the number of zones that a report tells (ZNS 1.1, 3.4.2)
@@ -38,13 +36,3 @@ GivesWhatMatches =
     → let given = report bytes zones first size option partial in
     let found = matching zones first option in
     (length given ≡ bytes) × Tells given partial size (min ((bytes - 64) / 64) (length found)) found
-
--- A report of all zones from the first on, with room for all, lists every zone once, in order, and
--- tells their number.
-abbrev pub ListsEveryZone : Type 0
-ListsEveryZone =
-    (bytes : ℕ) (zones : List CountedZone) (size : ℕ) (partial : Bool)
-    → 64 + 64 * length zones ≤ bytes → length zones < 2 ^ 64
-    → let given = report bytes zones 0 size All partial in
-    (number_in given ≡ length zones)
-    × (descriptors_in (length zones) given ≡ map (descriptor_at size) (enumerate_from 0 zones))

@@ -25,7 +25,7 @@ use Rattle.zns_commands.specs.Resources.{room_for, closing_of}
 use Rattle.zns_commands.specs.Receive.{receive_checks, receive_effect}
 use Rattle.zns_commands.specs.Send.{send_checks, send_effect, all_fit, room_of}
 use Rattle.zns_commands.specs.Write.{write_checks, write_effect}
-use Rattle.zns_commands.specs.Laws.{Step, Commanded, Failed, after, IsSpelled, StepsKeepNamespaces, EmptyIsNamespace}
+use Rattle.zns_commands.specs.Laws.{NamespaceEvent, Commanded, Faulted, after, IsSpelled, EventsKeepNamespaces, EmptyIsNamespace}
 use Rattle.zns_commands.proofs.FittingZones.{FitsIn, namespace_of_zones, no_bytes}
 use Rattle.zns_commands.proofs.WrittenZones.{written_sound}
 use Rattle.zns_commands.proofs.MovedZones.{moved_sound, fault_sound}
@@ -76,28 +76,28 @@ send_sound ns holds lba a false input sound none =
     let start = ltb-true lba (block_total ns) (demanded (nat_lt lba (block_total ns)) _ (passed checks 2 none)) in
     moved_sound ns holds z a (closing_of room) sound (zone_inside ns lba sound start) (roomed room (passed checks 6 none))
 
--- one step
-step_sound : (step : Step) (ns : ZonedNamespace) → IsNamespace ns → IsSpelled step → IsNamespace (after step ns)
-step_sound (Commanded holds (Write lba blocks) input) ns sound some =
+-- one event
+event_sound : (event : NamespaceEvent) (ns : ZonedNamespace) → IsNamespace ns → IsSpelled event → IsNamespace (after event ns)
+event_sound (Commanded holds (Write lba blocks) input) ns sound some =
     concluded_sound (first_failed (write_checks ns holds lba blocks input)) ns (write_effect ns holds lba input) sound
     (write_sound ns holds lba blocks input sound some)
-step_sound (Commanded holds (Append lba blocks) input) ns sound some =
+event_sound (Commanded holds (Append lba blocks) input) ns sound some =
     concluded_sound (first_failed (append_checks ns holds lba blocks input)) ns (append_effect ns holds lba input) sound
     (append_sound ns holds lba blocks input sound some)
-step_sound (Commanded holds (Read lba blocks) input) ns sound some =
+event_sound (Commanded holds (Read lba blocks) input) ns sound some =
     concluded_sound (first_failed (read_checks ns lba blocks input)) ns (read_effect ns lba blocks) sound (λ none. sound)
-step_sound (Commanded holds (Receive lba dwords filter partial) input) ns sound some =
+event_sound (Commanded holds (Receive lba dwords filter partial) input) ns sound some =
     concluded_sound (first_failed (receive_checks ns lba dwords input)) ns (receive_effect ns lba dwords filter partial) sound (λ none. sound)
-step_sound (Commanded holds (Send lba a select_all) input) ns sound some =
+event_sound (Commanded holds (Send lba a select_all) input) ns sound some =
     concluded_sound (first_failed (send_checks ns holds lba a select_all input)) ns
     (success_effect (send_effect ns holds lba a select_all) 0 []) sound
     (send_sound ns holds lba a select_all input sound)
-step_sound (Failed holds z fault) ns sound some = fault_sound ns holds z fault sound
+event_sound (Faulted holds z fault) ns sound some = fault_sound ns holds z fault sound
 
-pub steps_keep_namespaces : StepsKeepNamespaces
-steps_keep_namespaces [] ns sound some = sound
-steps_keep_namespaces (step ∷ steps) ns sound some =
-    steps_keep_namespaces steps (after step ns) (step_sound step ns sound (some 0 step (omega arith)))
+pub events_keep_namespaces : EventsKeepNamespaces
+events_keep_namespaces [] ns sound some = sound
+events_keep_namespaces (event ∷ events) ns sound some =
+    events_keep_namespaces events (after event ns) (event_sound event ns sound (some 0 event (omega arith)))
     (λ k other in_list. some (suc k) other (omega arith))
 
 empty_counts : (test : ZoneState → Bool) (c n : ℕ) → test Empty ≡ false
