@@ -3,7 +3,7 @@ use Rattle.std.proofs.Common.{ℕ, ◌+◌, ◌*◌, ◌<◌, zero, suc, List, [
 use Rattle.std.proofs.lemmas.List.{take-append-drop, get_or-drop}
 use Rattle.zone_state.specs.Zone.{CountedZone}
 use Rattle.image_store.specs.Blocks.{AreBytes, blocks_of}
-use Rattle.image_store.specs.Flat.{zones_of}
+use Rattle.image_store.specs.ImageInMemory.{zones_of}
 use Rattle.image_store.specs.steps.Spliced.{spliced}
 use Rattle.image_store.specs.Namespace.{no_zone}
 

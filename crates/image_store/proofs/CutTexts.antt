@@ -8,18 +8,18 @@ use Rattle.zone_state.specs.Zone.{CountedZone}
 use Rattle.image_store.specs.declared.fault.LoadFault.{LoadFault}
 use Rattle.image_store.specs.declared.fault.LoadFault.TheVariants as fault
 use Rattle.image_store.specs.Blocks.{bytes_of}
-use Rattle.image_store.specs.Flat.{zone_seen}
+use Rattle.image_store.specs.ImageInMemory.{zone_seen}
 use Rattle.image_store.specs.declared.header.Header.{Header}
 use Rattle.image_store.specs.declared.version.Version.{Version}
 use Rattle.image_store.specs.Geometry.{Shape}
-use Rattle.image_store.specs.Namespace.{ZoneBlocks, ZonedNamespace, no_zone, counted, records, shape, IsNamespace}
-use Rattle.image_store.specs.Reading.{◌>>=◌, bytes_in, header_told, zones_in, blocks_in, end_in, namespace_with, namespace_in}
-use Rattle.image_store.specs.Text.{header, written_blocks, records_text, blocks_text, text_of}
+use Rattle.image_store.specs.Namespace.{ZoneBlocks, ZonedNamespace, no_zone, counted, counted_zones, shape, IsNamespace, namespace_with}
+use Rattle.image_store.specs.Reading.{◌>>=◌, bytes_in, header_told, zones_in, blocks_in, end_in, namespace_in}
+use Rattle.image_store.specs.Text.{header, written_blocks, zone_rows, blocks_text, text_of}
 use Rattle.image_store.specs.Version.{Has}
-use Rattle.image_store.proofs.TextsReadBack.{blocks_read, front_read, length-bytes, length-records, told_of, total_small}
+use Rattle.image_store.proofs.TextsReadBack.{blocks_read, front_read, length-bytes, length-rows, told_of, total_small}
 use Rattle.image_store.proofs.FilledBuffers.{Split, bytes_short, bytes_whole}
 use Rattle.image_store.proofs.Headers.{header_length, header_read}
-use Rattle.image_store.proofs.LoadedParts.{after_blocks, after_header, after_records, past_header, past_blocks}
+use Rattle.image_store.proofs.LoadedParts.{after_blocks, after_header, after_rows, past_header, past_blocks}
 
 -- ---- more behind the text
 
@@ -36,12 +36,12 @@ pub longer_is_trailing : (version : Version) (ns : ZonedNamespace) → IsNamespa
     → namespace_in (text_of version ns ++ more) ≡ Err fault.Trailing
 longer_is_trailing version ns sound has more some =
     let s = shape ns in
-    let zs = records ns in
+    let zs = counted_zones ns in
     let front = header version s (written_blocks zs) in
     let last = blocks_text ns.zones in
-    let parts : text_of version ns ++ more ≡ front ++ (records_text zs ++ (last ++ more)) =
-    append_assoc front (records_text zs ++ last) more
-    ∙ ap (λ (rest : List ℕ). front ++ rest) (append_assoc (records_text zs) last more) in
+    let parts : text_of version ns ++ more ≡ front ++ (zone_rows zs ++ (last ++ more)) =
+    append_assoc front (zone_rows zs ++ last) more
+    ∙ ap (λ (rest : List ℕ). front ++ rest) (append_assoc (zone_rows zs) last more) in
     ap namespace_in parts
     ∙ (front_read version ns (last ++ more) sound has
     ∙ (past_blocks s zs (last ++ more) more ns.zones (blocks_read ns.block ns.capacity ns.zones more sound.whole)
@@ -78,17 +78,17 @@ blocks_cut b c (zone ∷ zones) n whole h =
       | inr short ↦ ap read (cut_within (length zone.blocks * b) front rest n size (omega (arith, short.1, size)))
     ]
 
--- the records cut, or what is behind them
-past_cut_records : (version : Version) (ns : ZonedNamespace) → IsNamespace ns → Has version (shape ns) → (n : ℕ) → n < length (records_text (records ns) ++ blocks_text ns.zones)
-    → namespace_in (header version (shape ns) (written_blocks (records ns)) ++ take n (records_text (records ns) ++ blocks_text ns.zones)) ≡ Err fault.Truncated
-past_cut_records version ns sound has n h =
+-- the rows cut, or what is behind them
+past_cut_rows : (version : Version) (ns : ZonedNamespace) → IsNamespace ns → Has version (shape ns) → (n : ℕ) → n < length (zone_rows (counted_zones ns) ++ blocks_text ns.zones)
+    → namespace_in (header version (shape ns) (written_blocks (counted_zones ns)) ++ take n (zone_rows (counted_zones ns) ++ blocks_text ns.zones)) ≡ Err fault.Truncated
+past_cut_rows version ns sound has n h =
     let s = shape ns in
-    let zs = records ns in
+    let zs = counted_zones ns in
     let total = written_blocks zs in
-    let front = records_text zs in
+    let front = zone_rows zs in
     let last = blocks_text ns.zones in
     let cut = take n (front ++ last) in
-    let size : length front ≡ s.zones * 8 = length-records zs ∙ ap (λ (k : ℕ). k * 8) (length-map ns.zones (counted ns.capacity)) in
+    let size : length front ≡ s.zones * 8 = length-rows zs ∙ ap (λ (k : ℕ). k * 8) (length-map ns.zones (counted ns.capacity)) in
     let zones : Result Split LoadFault → Result (List CountedZone × List ℕ) LoadFault =
     λ r. r >>= λ part. zones_in 0 s.capacity s.zones part.0 >>= λ zs. Ok (zs, part.1) in
     elim (leb_tells (length front) n) [
@@ -100,7 +100,7 @@ past_cut_records version ns sound has n h =
           (blocks_cut ns.block ns.capacity ns.zones left sound.whole (omega (arith, length-append front last, there.1))))
       | inr short ↦
           past_header (header version s total ++ cut) cut (told_of version ns) (header_read version s total cut sound.shape has (total_small ns sound))
-          ∙ ap (λ (r : Result (List CountedZone × List ℕ) LoadFault). r >>= λ got. after_records (told_of version ns) got.0 got.1)
+          ∙ ap (λ (r : Result (List CountedZone × List ℕ) LoadFault). r >>= λ got. after_rows (told_of version ns) got.0 got.1)
           (ap zones (cut_within (s.zones * 8) front last n size (omega (arith, short.1, size))))
     ]
 
@@ -109,16 +109,16 @@ pub cut_is_truncated : (version : Version) (ns : ZonedNamespace) → IsNamespace
 unfolding namespace_in
 cut_is_truncated version ns sound has n h =
     let s = shape ns in
-    let total = written_blocks (records ns) in
+    let total = written_blocks (counted_zones ns) in
     let front = header version s total in
     let size = header_length version s total in
-    let rest = records_text (records ns) ++ blocks_text ns.zones in
+    let rest = zone_rows (counted_zones ns) ++ blocks_text ns.zones in
     let told : Result Split LoadFault → Result (Header × List ℕ) LoadFault =
     λ r. r >>= λ part. header_told part.0 >>= λ header. Ok (header, part.1) in
     elim (leb_tells (length front) n) [
       | inl there ↦
           ap namespace_in (cut_behind front rest n there.1)
-          ∙ past_cut_records version ns sound has (n - length front) (omega (arith, length-append front rest, there.1))
+          ∙ past_cut_rows version ns sound has (n - length front) (omega (arith, length-append front rest, there.1))
       | inr short ↦
           ap (λ (r : Result (Header × List ℕ) LoadFault). r >>= λ got. after_header got.0 got.1)
           (ap told (cut_within 64 front rest n size (omega (arith, short.1, size))))

@@ -14,22 +14,22 @@ use Rattle.zone_resources.specs.declared.admission.Limits.{Limits as ResourceLim
 use Rattle.zone_resources.specs.Counts.{open_count, active_count}
 use Rattle.image_store.specs.declared.fault.LoadFault.{LoadFault}
 use Rattle.image_store.specs.declared.fault.LoadFault.TheVariants.{Truncated, Magic, BadZone, Total, Limits, Trailing}
-use Rattle.image_store.specs.declared.fault.RecordFault.{RecordFault}
-use Rattle.image_store.specs.declared.fault.RecordFault.TheVariants.{Reserved, State, Blocks}
+use Rattle.image_store.specs.declared.fault.ZoneRowFault.{ZoneRowFault}
+use Rattle.image_store.specs.declared.fault.ZoneRowFault.TheVariants.{Reserved, State, Blocks}
 use Rattle.image_store.specs.declared.header.Header.{Header}
 use Rattle.image_store.specs.declared.version.Version.{Version}
 use Rattle.image_store.specs.declared.version.Version.TheVariants.{One, Two}
-use Rattle.image_store.specs.Flat.{zone_seen}
+use Rattle.image_store.specs.ImageInMemory.{zone_seen}
 use Rattle.image_store.specs.Geometry.{Shape}
 use Rattle.image_store.specs.Laws.{FaultsAreByPrefix, fault_end, zones_told}
-use Rattle.image_store.specs.Namespace.{ZonedNamespace}
-use Rattle.image_store.specs.Reading.{◌>>=◌, are_zeros, number_at, bytes_in, version_in, header_of, header_told, header_in, zone_told, zone_in, zones_in, total_kept, limits_kept, blocks_in, end_in, namespace_with, namespace_in}
+use Rattle.image_store.specs.Namespace.{ZonedNamespace, namespace_with}
+use Rattle.image_store.specs.Reading.{◌>>=◌, are_zeros, number_at, bytes_in, version_in, header_of, header_told, header_in, zone_told, zone_in, zones_in, total_kept, limits_kept, blocks_in, end_in, namespace_in}
 use Rattle.image_store.specs.Text.{written_blocks}
 use Rattle.image_store.specs.Version.{numbers}
 use Rattle.image_store.proofs.Faults.{header_of_fault, is_this, kept_fault}
 use Rattle.image_store.proofs.FilledBuffers.{Split, bytes_short}
 use Rattle.image_store.proofs.HeaderParts.{header_parts}
-use Rattle.image_store.proofs.LoadedParts.{after_blocks, after_header, after_limits, after_records, after_total}
+use Rattle.image_store.proofs.LoadedParts.{after_blocks, after_header, after_limits, after_rows, after_total}
 
 -- what fails has failed in the first part, or in the next behind what the first gave
 bind_fails : {X Y : Type 0} (P : LoadFault → Type 0) (read : Result X LoadFault) (next : X → Result Y LoadFault) (fault : LoadFault) → (read >>= next) ≡ Err fault
@@ -55,15 +55,15 @@ rest_of k n m xs ys e same =
     let parts : take (k + n) ys ≡ take (k + n) xs = subst (λ (i : ℕ). take i ys ≡ take i xs) e same in
     take-drop k n ys ∙ ap (drop k) parts ∙ sym (take-drop k n xs)
 
--- ---- the records
+-- ---- the rows
 
 abbrev IsBad : ℕ → LoadFault → Type 0
-IsBad zone fault = (why : RecordFault) × (fault ≡ BadZone zone why)
+IsBad zone fault = (why : ZoneRowFault) × (fault ≡ BadZone zone why)
 
-is_bad : (zone : ℕ) (why : RecordFault) (fault : LoadFault) → (let r : Result CountedZone LoadFault = Err (BadZone zone why) in r) ≡ Err fault → IsBad zone fault
+is_bad : (zone : ℕ) (why : ZoneRowFault) (fault : LoadFault) → (let r : Result CountedZone LoadFault = Err (BadZone zone why) in r) ≡ Err fault → IsBad zone fault
 is_bad zone why fault e = (why, sym (is_this {X = CountedZone} (BadZone zone why) fault e))
 
-blocks_bad : (test : Bool) (zone : ℕ) (why : RecordFault) (z : CountedZone) (fault : LoadFault) → cond test (Ok z) (Err (BadZone zone why)) ≡ Err fault → IsBad zone fault
+blocks_bad : (test : Bool) (zone : ℕ) (why : ZoneRowFault) (z : CountedZone) (fault : LoadFault) → cond test (Ok z) (Err (BadZone zone why)) ≡ Err fault → IsBad zone fault
 blocks_bad true zone why z fault e = absurd cc
 blocks_bad false zone why z fault e = is_bad zone why fault e
 
@@ -81,10 +81,10 @@ zone_bad : (zone capacity : ℕ) (bytes : List ℕ) (fault : LoadFault) → zone
 zone_bad zone capacity bytes fault e =
     padding_bad (are_zeros (take 3 (drop 1 bytes))) zone (get_or bytes 0 0) (state_of (get_or bytes 0 0)) (number_at bytes 4) capacity fault e
 
--- a record that tells no zone is found by the records up to it
+-- a row that tells no zone is found by the rows up to it
 record IsFoundAt (zone capacity n : ℕ) (xs : List ℕ) (fault : LoadFault) : Type 0 where
   pub before : ℕ
-  pub why : RecordFault
+  pub why : ZoneRowFault
   pub is : fault ≡ BadZone (zone + before) why
   pub same : (ys : List ℕ) → take ((before + 1) * 8) ys ≡ take ((before + 1) * 8) xs → zones_in zone capacity n ys ≡ Err fault
 
@@ -147,7 +147,7 @@ trailing_if : (test : Bool) (fault : LoadFault) → (let r : Result Unit LoadFau
 trailing_if true fault e = absurd cc
 trailing_if false fault e = sym (is_this {X = Unit} Trailing fault e)
 
--- what is behind the records is refused by its end alone
+-- what is behind the rows is refused by its end alone
 limits_end : (s : Shape) (zs : List CountedZone) (bytes : List ℕ) (fault : LoadFault) → after_limits s zs bytes ≡ Err fault → IsOfEnd fault
 limits_end s zs bytes fault e =
     bind_fails IsOfEnd (blocks_in s.block zs bytes) (λ blocks. after_blocks s blocks.0 blocks.1) fault e
@@ -228,37 +228,37 @@ take_comm (suc m) zero xs = refl
 take_comm (suc m) (suc n) [] = refl
 take_comm (suc m) (suc n) (x ∷ xs) = ap (λ (ys : List ℕ). x ∷ ys) (take_comm m n xs)
 
-whole_records : (h : Header) (rest : List ℕ) → h.geometry.zones * 8 ≤ length rest
-    → after_header h rest ≡ (zones_in 0 h.geometry.capacity h.geometry.zones (take (h.geometry.zones * 8) rest) >>= λ zs. after_records h zs (drop (h.geometry.zones * 8) rest))
-whole_records h rest there =
+whole_rows : (h : Header) (rest : List ℕ) → h.geometry.zones * 8 ≤ length rest
+    → after_header h rest ≡ (zones_in 0 h.geometry.capacity h.geometry.zones (take (h.geometry.zones * 8) rest) >>= λ zs. after_rows h zs (drop (h.geometry.zones * 8) rest))
+whole_rows h rest there =
     let s = h.geometry in
     let n = s.zones * 8 in
     ap (λ (test : Bool). let r : Result Split LoadFault = cond test (Ok (take n rest, drop n rest)) (Err Truncated) in
-    r >>= (λ front. zones_in 0 s.capacity s.zones front.0 >>= λ zs. let all : Result (List CountedZone × List ℕ) LoadFault = Ok (zs, front.1) in all) >>= λ records. after_records h records.0 records.1)
+    r >>= (λ front. zones_in 0 s.capacity s.zones front.0 >>= λ zs. let all : Result (List CountedZone × List ℕ) LoadFault = Ok (zs, front.1) in all) >>= λ rows. after_rows h rows.0 rows.1)
     (le-leb n (length rest) there)
     ∙ pair (zones_in 0 s.capacity s.zones (take n rest)) (drop n rest)
   where
     pair : (r : Result (List CountedZone) LoadFault) (behind : List ℕ)
-        → (r >>= (λ zs. let all : Result (List CountedZone × List ℕ) LoadFault = Ok (zs, behind) in all) >>= λ records. after_records h records.0 records.1) ≡ (r >>= λ zs. after_records h zs behind)
+        → (r >>= (λ zs. let all : Result (List CountedZone × List ℕ) LoadFault = Ok (zs, behind) in all) >>= λ rows. after_rows h rows.0 rows.1) ≡ (r >>= λ zs. after_rows h zs behind)
     pair (Ok zs) behind = refl
     pair (Err first) behind = refl
 
-short_records : (h : Header) (rest : List ℕ) → length rest < h.geometry.zones * 8 → after_header h rest ≡ Err Truncated
-short_records h rest short =
-    ap (λ (r : Result Split LoadFault). r >>= (λ front. zones_in 0 h.geometry.capacity h.geometry.zones front.0 >>= λ zs. let all : Result (List CountedZone × List ℕ) LoadFault = Ok (zs, front.1) in all) >>= λ records. after_records h records.0 records.1)
+short_rows : (h : Header) (rest : List ℕ) → length rest < h.geometry.zones * 8 → after_header h rest ≡ Err Truncated
+short_rows h rest short =
+    ap (λ (r : Result Split LoadFault). r >>= (λ front. zones_in 0 h.geometry.capacity h.geometry.zones front.0 >>= λ zs. let all : Result (List CountedZone × List ℕ) LoadFault = Ok (zs, front.1) in all) >>= λ rows. after_rows h rows.0 rows.1)
     (bytes_short (h.geometry.zones * 8) rest short)
 
--- a total or limits that are wrong are found by all records
-abbrev IsOfRecords : List ℕ → LoadFault → Type 0
-IsOfRecords bytes fault = fault_end bytes fault ≡ 64 + zones_told bytes * 8
+-- a total or limits that are wrong are found by all rows
+abbrev IsOfRows : List ℕ → LoadFault → Type 0
+IsOfRows bytes fault = fault_end bytes fault ≡ 64 + zones_told bytes * 8
 
-total_of_records : (bytes : List ℕ) (total : Option ℕ) (zs : List CountedZone) (fault : LoadFault) → total_kept total zs ≡ Err fault → IsOfRecords bytes fault
-total_of_records bytes None zs fault e = absurd cc
-total_of_records bytes (Some total) zs fault e = kept_fault (IsOfRecords bytes) (total == written_blocks zs) (Total total (written_blocks zs)) fault refl e
+total_of_rows : (bytes : List ℕ) (total : Option ℕ) (zs : List CountedZone) (fault : LoadFault) → total_kept total zs ≡ Err fault → IsOfRows bytes fault
+total_of_rows bytes None zs fault e = absurd cc
+total_of_rows bytes (Some total) zs fault e = kept_fault (IsOfRows bytes) (total == written_blocks zs) (Total total (written_blocks zs)) fault refl e
 
-limits_of_records : (bytes : List ℕ) (limits : ResourceLimits) (zs : List CountedZone) (fault : LoadFault) → limits_kept limits zs ≡ Err fault → IsOfRecords bytes fault
-limits_of_records bytes limits zs fault e =
-    kept_fault (IsOfRecords bytes) (nat_le (open_count zs) limits.open_limit && nat_le (active_count zs) limits.active_limit) Limits fault refl e
+limits_of_rows : (bytes : List ℕ) (limits : ResourceLimits) (zs : List CountedZone) (fault : LoadFault) → limits_kept limits zs ≡ Err fault → IsOfRows bytes fault
+limits_of_rows bytes limits zs fault e =
+    kept_fault (IsOfRows bytes) (nat_le (open_count zs) limits.open_limit && nat_le (active_count zs) limits.active_limit) Limits fault refl e
 
 module _ (bytes other : List ℕ) (there : 64 ≤ length bytes) (longer : length bytes ≤ length other) (h : Header) (told : header_told (take 64 bytes) ≡ Ok h) where
   told_other : (n : ℕ) → 64 ≤ n → take n other ≡ take n bytes → namespace_in other ≡ after_header h (drop 64 other)
@@ -278,35 +278,35 @@ module _ (bytes other : List ℕ) (there : 64 ≤ length bytes) (longer : length
       let rest : take m (drop 64 other) ≡ take m (drop 64 bytes) = rest_of 64 m (64 + m) bytes other refl front in
       let cut : take m (take n (drop 64 other)) ≡ take m (take n (drop 64 bytes)) = take_comm m n (drop 64 other) ∙ ap (take n) rest ∙ take_comm n m (drop 64 bytes) in
       told_other (64 + m) (omega arith) front
-      ∙ whole_records h (drop 64 other) (rest_there inside)
-      ∙ ap (λ (r : Result (List CountedZone) LoadFault). r >>= λ zs. after_records h zs (drop n (drop 64 other))) (found.same (take n (drop 64 other)) cut)
+      ∙ whole_rows h (drop 64 other) (rest_there inside)
+      ∙ ap (λ (r : Result (List CountedZone) LoadFault). r >>= λ zs. after_rows h zs (drop n (drop 64 other))) (found.same (take n (drop 64 other)) cut)
 
-  records_is_of : (zs : List CountedZone) (fault : LoadFault) → h.geometry.zones * 8 ≤ length (drop 64 bytes)
-      → zones_in 0 h.geometry.capacity h.geometry.zones (take (h.geometry.zones * 8) (drop 64 bytes)) ≡ Ok zs → IsOfRecords bytes fault
-      → ((rest : List ℕ) → after_records h zs rest ≡ Err fault) → IsOf bytes other fault
-  records_is_of zs fault inside read end fails whole alone same =
+  rows_is_of : (zs : List CountedZone) (fault : LoadFault) → h.geometry.zones * 8 ≤ length (drop 64 bytes)
+      → zones_in 0 h.geometry.capacity h.geometry.zones (take (h.geometry.zones * 8) (drop 64 bytes)) ≡ Ok zs → IsOfRows bytes fault
+      → ((rest : List ℕ) → after_rows h zs rest ≡ Err fault) → IsOf bytes other fault
+  rows_is_of zs fault inside read end fails whole alone same =
       let n = h.geometry.zones * 8 in
       let zones : zones_told bytes ≡ h.geometry.zones = ap (λ (s : Shape). s.zones) (header_parts (take 64 bytes) h told).same in
       let front : take (64 + n) other ≡ take (64 + n) bytes = subst (λ (i : ℕ). take i other ≡ take i bytes) (end ∙ ap (λ (i : ℕ). 64 + i * 8) zones) same in
       let rest : take n (drop 64 other) ≡ take n (drop 64 bytes) = rest_of 64 n (64 + n) bytes other refl front in
       told_other (64 + n) (omega arith) front
-      ∙ whole_records h (drop 64 other) (rest_there inside)
-      ∙ ap (λ (r : Result (List CountedZone) LoadFault). r >>= λ zs. after_records h zs (drop n (drop 64 other))) (ap (zones_in 0 h.geometry.capacity h.geometry.zones) rest ∙ read)
+      ∙ whole_rows h (drop 64 other) (rest_there inside)
+      ∙ ap (λ (r : Result (List CountedZone) LoadFault). r >>= λ zs. after_rows h zs (drop n (drop 64 other))) (ap (zones_in 0 h.geometry.capacity h.geometry.zones) rest ∙ read)
       ∙ fails (drop n (drop 64 other))
 
-  -- behind records that are read
+  -- behind rows that are read
   after_is_of : (zs : List CountedZone) (fault : LoadFault) → h.geometry.zones * 8 ≤ length (drop 64 bytes)
       → zones_in 0 h.geometry.capacity h.geometry.zones (take (h.geometry.zones * 8) (drop 64 bytes)) ≡ Ok zs
-      → after_records h zs (drop (h.geometry.zones * 8) (drop 64 bytes)) ≡ Err fault → IsOf bytes other fault
+      → after_rows h zs (drop (h.geometry.zones * 8) (drop 64 bytes)) ≡ Err fault → IsOf bytes other fault
   after_is_of zs fault inside read e =
       let s = h.geometry in
       let behind = drop (s.zones * 8) (drop 64 bytes) in
       bind_fails (IsOf bytes other) (total_kept h.total zs) (λ same. after_total s zs behind) fault e
-      (λ first wrong. records_is_of zs first inside read (total_of_records bytes h.total zs first wrong)
+      (λ first wrong. rows_is_of zs first inside read (total_of_rows bytes h.total zs first wrong)
       (λ rest. ap (λ (r : Result (Unit {0}) LoadFault). r >>= λ same. after_total s zs rest) wrong))
       (λ same total later.
       bind_fails (IsOf bytes other) (limits_kept s.limits zs) (λ kept. after_limits s zs behind) fault later
-      (λ first wrong. records_is_of zs first inside read (limits_of_records bytes s.limits zs first wrong)
+      (λ first wrong. rows_is_of zs first inside read (limits_of_rows bytes s.limits zs first wrong)
       (λ rest. ap (λ (r : Result (Unit {0}) LoadFault). r >>= λ same. after_total s zs rest) total ∙ ap (λ (r : Result Unit LoadFault). r >>= λ kept. after_limits s zs rest) wrong))
       (λ kept limits last whole alone same. absurd (limits_end s zs behind fault last whole alone)))
 
@@ -316,11 +316,11 @@ module _ (bytes other : List ℕ) (there : 64 ≤ length bytes) (longer : length
       let n = s.zones * 8 in
       elim (leb_tells n (length (drop 64 bytes))) [
         | inl inside ↦
-            bind_fails (IsOf bytes other) (zones_in 0 s.capacity s.zones (take n (drop 64 bytes))) (λ zs. after_records h zs (drop n (drop 64 bytes))) fault
-            (sym (whole_records h (drop 64 bytes) inside.1) ∙ e)
+            bind_fails (IsOf bytes other) (zones_in 0 s.capacity s.zones (take n (drop 64 bytes))) (λ zs. after_rows h zs (drop n (drop 64 bytes))) fault
+            (sym (whole_rows h (drop 64 bytes) inside.1) ∙ e)
             (λ first bad. bad_is_of first inside.1 (zones_found 0 s.capacity s.zones (take n (drop 64 bytes)) first bad))
             (λ zs read later. after_is_of zs fault inside.1 read later)
-        | inr short ↦ λ whole alone same. absurd (whole (sym (is_this {X = ZonedNamespace} Truncated fault (sym (short_records h (drop 64 bytes) short.1) ∙ e))))
+        | inr short ↦ λ whole alone same. absurd (whole (sym (is_this {X = ZonedNamespace} Truncated fault (sym (short_rows h (drop 64 bytes) short.1) ∙ e))))
       ]
 
 short_text : (bytes : List ℕ) → length bytes < 64 → namespace_in bytes ≡ Err Truncated

@@ -9,8 +9,8 @@ use Rattle.zone_resources.specs.declared.admission.Limits.{Limits}
 use Rattle.zone_resources.specs.Counts.{open_count, active_count}
 use Rattle.image_store.specs.declared.fault.LoadFault.{LoadFault}
 use Rattle.image_store.specs.declared.fault.LoadFault.TheVariants.{Truncated, Magic, Geometry, BadZone, Total, Limits as PastLimits, Trailing, Stream, Memory}
-use Rattle.image_store.specs.declared.fault.RecordFault.{RecordFault}
-use Rattle.image_store.specs.declared.fault.RecordFault.TheVariants.{Reserved, State, Blocks}
+use Rattle.image_store.specs.declared.fault.ZoneRowFault.{ZoneRowFault}
+use Rattle.image_store.specs.declared.fault.ZoneRowFault.TheVariants.{Reserved, State, Blocks}
 use Rattle.image_store.specs.declared.fault.HeaderFault.{HeaderFault}
 use Rattle.image_store.specs.declared.fault.HeaderFault.TheVariants.{Numbers, VersionBlock, VersionZones, Reserved as ReservedHeader}
 use Rattle.image_store.specs.declared.geometry.GeometryFault.{GeometryFault}
@@ -108,7 +108,7 @@ pub header_text_fault : (bytes : List ℕ) (fault : LoadFault) → header_told b
 header_text_fault bytes fault e =
     bind_err IsOfText (ok_or (version_in bytes) Magic) (header_of bytes) fault e (magic_fault (version_in bytes)) (λ version. header_of_fault IsOfText (λ why. tt) bytes version fault)
 
-allowed_fault : (test : Bool) (zone : ℕ) (first : RecordFault) (z : CountedZone) (fault : LoadFault) → cond test (Ok z) (Err (BadZone zone first)) ≡ Err fault → IsOfText fault
+allowed_fault : (test : Bool) (zone : ℕ) (first : ZoneRowFault) (z : CountedZone) (fault : LoadFault) → cond test (Ok z) (Err (BadZone zone first)) ≡ Err fault → IsOfText fault
 allowed_fault true zone first z fault e = absurd cc
 allowed_fault false zone first z fault e = subst IsOfText (is_this {X = CountedZone} (BadZone zone first) fault e) tt
 

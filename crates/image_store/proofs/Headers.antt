@@ -14,12 +14,12 @@ use Rattle.image_store.specs.declared.version.Version.TheVariants.{One, Two}
 use Rattle.zone_state.specs.Checks.{first_failed, unless_failed}
 use Rattle.image_store.specs.Geometry.{Shape, IsShape, shape_of, shape_checks}
 use Rattle.image_store.specs.Reading.{◌>>=◌, numbers_fault, numbers_in, shape_told, version_kept, zeros_kept, total_told, header_of, header_told, header_in}
-use Rattle.image_store.specs.Text.{word, numbers_of, header_end, header}
+use Rattle.image_store.specs.Text.{four_bytes, numbers_of, header_end, header}
 use Rattle.image_store.specs.Version.{Has, numbers}
 use Rattle.image_store.proofs.FilledBuffers.{Split, bytes_whole}
 use Rattle.image_store.proofs.Shapes.{none_fails, shape_passes}
 
-pub word_again : (n : ℕ) (rest : List ℕ) → n < 2 ^ 32 → little_number 4 (word n ++ rest) ≡ n
+pub word_again : (n : ℕ) (rest : List ℕ) → n < 2 ^ 32 → little_number 4 (four_bytes n ++ rest) ≡ n
 word_again n rest h = little_number-reads_back 4 n rest (omega arith)
 
 abbrev shape_with : ℕ → ℕ → ℕ → ℕ → ℕ → ℕ → Shape
@@ -27,7 +27,7 @@ shape_with block zones size capacity opened active = shape_of block zones size c
 
 -- 64 bytes of a version with this digit
 abbrev with_digit : ℕ → Shape → List ℕ → List ℕ
-with_digit digit s last = codes "ZNSIMG0" ++ (digit ∷ (flat_map word (numbers_of s) ++ last))
+with_digit digit s last = codes "ZNSIMG0" ++ (digit ∷ (flat_map four_bytes (numbers_of s) ++ last))
 
 numbers_again : (digit : ℕ) (s : Shape) (last : List ℕ) → IsShape s → shape_told (with_digit digit s last) ≡ s
 numbers_again digit s last known =

@@ -7,12 +7,12 @@ use Rattle.zone_state.specs.declared.state.ZoneState.{ZoneState}
 use Rattle.zone_state.specs.declared.state.ZoneState.TheVariants.{Empty, ImplicitlyOpened, ExplicitlyOpened, Closed, ReadOnly, Full, Offline}
 use Rattle.zone_state.specs.Zone.{CountedZone, IsZone, refusal, refusal_in, after_write}
 use Rattle.image_store.specs.Blocks.{blocks_of, as_blocks, block_count, bytes_of}
-use Rattle.image_store.specs.Flat.{zones_of, zone_seen, no_counted_zone, empty_counted_zone, namespace_of, IsFlat}
+use Rattle.image_store.specs.ImageInMemory.{zones_of, zone_seen, no_counted_zone, empty_counted_zone, namespace_of, IsFlat}
 use Rattle.image_store.specs.steps.Spliced.{spliced}
 use Rattle.image_store.specs.Geometry.{Shape}
 use Rattle.image_store.specs.Namespace.{ZoneBlocks, ZonedNamespace, zone_at, counted, grown, appended, all_empty, shape}
 use Rattle.image_store.proofs.BlocksOfBytes.{length-blocks, bytes-middle}
-use Rattle.image_store.proofs.ZonesInSlots.{HasRoom, length-zones, zone-at, zones-append, write_end}
+use Rattle.image_store.proofs.ZonesInMemory.{HasRoom, length-zones, zone-at, zones-append, write_end}
 
 -- a zone's written blocks fit its capacity
 pub within_capacity : (state : ZoneState) (written capacity : ℕ) → IsZone state written capacity → written ≤ capacity
@@ -40,7 +40,7 @@ room_in Offline z at n h = cc
 pub allowed_fits : (z : CountedZone) (at n : ℕ) → refusal z at n ≡ Ok tt → z.written + n ≤ z.capacity
 allowed_fits z at n h = room_in z.state z at n h
 
--- a zone as it is seen has the counts of its record
+-- a zone as it is seen is counted as it was
 pub counted_seen : (b c : ℕ) (r : CountedZone) (xs : List ℕ) → r.capacity ≡ c → counted c (zone_seen b r xs) ≡ r
 counted_seen b c r xs same =
     ap (λ (n : ℕ). let z : CountedZone = record { state = r.state; written = n; capacity = c } in z) (length-blocks b r.written xs)
@@ -51,7 +51,7 @@ counted_at s zs xs z flat inside =
     ap (counted s.capacity) (zone-at s.block s.capacity zs xs z inside)
     ∙ counted_seen s.block s.capacity (get_or zs z no_counted_zone) (drop (z * (s.capacity * s.block)) xs) (flat.capacities z inside)
 
--- the blocks to be written have room in the zone's slot
+-- the blocks to be written have room in the zone's room
 pub has_room : (s : Shape) (zs : List CountedZone) (xs : List ℕ) (z : ℕ) (new : List ℕ) → IsFlat s zs xs → z < length zs
     → length new ≡ block_count s.block new * s.block → refusal (get_or zs z no_counted_zone) (get_or zs z no_counted_zone).written (block_count s.block new) ≡ Ok tt
     → HasRoom s.block s.capacity (get_or zs z no_counted_zone).written (block_count s.block new) new
@@ -61,9 +61,9 @@ has_room s zs xs z new flat inside whole allowed = record {
       let same = flat.capacities z inside in omega arith;
 }
 
--- a slot ends within the room
-pub slot_end : (s : Shape) (zs : List CountedZone) (xs : List ℕ) (z : ℕ) → IsFlat s zs xs → z < length zs → z * (s.capacity * s.block) + s.capacity * s.block ≤ length xs
-slot_end s zs xs z flat inside =
+-- the room of a zone ends within the room of all
+pub room_end : (s : Shape) (zs : List CountedZone) (xs : List ℕ) (z : ℕ) → IsFlat s zs xs → z < length zs → z * (s.capacity * s.block) + s.capacity * s.block ≤ length xs
+room_end s zs xs z flat inside =
     let count = flat.count in
     let room = flat.room in
     let below : suc z ≤ s.zones = omega arith in
@@ -74,7 +74,7 @@ pub write_fits : (s : Shape) (zs : List CountedZone) (xs : List ℕ) (z : ℕ) (
     → length new ≡ block_count s.block new * s.block → refusal (get_or zs z no_counted_zone) (get_or zs z no_counted_zone).written (block_count s.block new) ≡ Ok tt
     → z * (s.capacity * s.block) + (get_or zs z no_counted_zone).written * s.block + length new ≤ length xs
 write_fits s zs xs z new flat inside whole allowed =
-    let end = slot_end s zs xs z flat inside in
+    let end = room_end s zs xs z flat inside in
     let reach = write_end s.block s.capacity (get_or zs z no_counted_zone).written (block_count s.block new) new (has_room s zs xs z new flat inside whole allowed) in
     omega arith
 
@@ -83,7 +83,7 @@ grown_seen b c r xs new same =
     ap (λ (z : CountedZone). let seen : ZoneBlocks = record { state = (after_write z (length (as_blocks b new))).state; blocks = blocks_of b r.written xs ++ as_blocks b new } in seen) (counted_seen b c r xs same)
     ∙ ap (λ (n : ℕ). let seen : ZoneBlocks = record { state = (after_write r n).state; blocks = blocks_of b r.written xs ++ as_blocks b new } in seen) (length-blocks b (block_count b new) new)
 
--- writing into the slot and counting the blocks appends them to the zone
+-- writing into the room and counting the blocks appends them to the zone
 pub append_seen : (s : Shape) (zs : List CountedZone) (xs : List ℕ) (z : ℕ) (new : List ℕ) → IsFlat s zs xs → z < length zs
     → length new ≡ block_count s.block new * s.block → refusal (get_or zs z no_counted_zone) (get_or zs z no_counted_zone).written (block_count s.block new) ≡ Ok tt
     → namespace_of s (set zs z (after_write (get_or zs z no_counted_zone) (block_count s.block new))) (spliced (z * (s.capacity * s.block) + (get_or zs z no_counted_zone).written * s.block) new xs)
@@ -126,18 +126,18 @@ empty_seen s xs =
     ap (λ (all : List ZoneBlocks). let ns : ZonedNamespace = record { block = s.block; size = s.size; capacity = s.capacity; limits = s.limits; zones = all } in ns)
     (empty_zones s.block s.capacity s.zones r xs refl)
 
--- the zones without their blocks are the records
-pub counted_zones : (b c : ℕ) (zs : List CountedZone) (xs : List ℕ) → ((z : ℕ) → z < length zs → (get_or zs z no_counted_zone).capacity ≡ c) → map (counted c) (zones_of b c zs xs) ≡ zs
-counted_zones b c [] xs same = refl
-counted_zones b c (r ∷ zs) xs same =
+-- the zones without their blocks are the counted zones
+pub zones_counted : (b c : ℕ) (zs : List CountedZone) (xs : List ℕ) → ((z : ℕ) → z < length zs → (get_or zs z no_counted_zone).capacity ≡ c) → map (counted c) (zones_of b c zs xs) ≡ zs
+zones_counted b c [] xs same = refl
+zones_counted b c (r ∷ zs) xs same =
     ap (λ (y : CountedZone). y ∷ map (counted c) (zones_of b c zs (drop (c * b) xs))) (counted_seen b c r xs (same 0 (omega arith)))
-    ∙ ap (λ (rest : List CountedZone). r ∷ rest) (counted_zones b c zs (drop (c * b) xs) (λ z h. same (suc z) (omega arith)))
+    ∙ ap (λ (rest : List CountedZone). r ∷ rest) (zones_counted b c zs (drop (c * b) xs) (λ z h. same (suc z) (omega arith)))
 
--- a part of a zone's written blocks lies within its slot
+-- a part of a zone's written blocks lies within its room
 pub part_fits : (s : Shape) (zs : List CountedZone) (xs : List ℕ) (z first count : ℕ) → IsFlat s zs xs → z < length zs → first + count ≤ (get_or zs z no_counted_zone).written
     → z * (s.capacity * s.block) + first * s.block + count * s.block ≤ length xs
 part_fits s zs xs z first count flat inside written =
-    let end = slot_end s zs xs z flat inside in
+    let end = room_end s zs xs z flat inside in
     let most = within s zs xs z flat inside in
     let fits : first + count ≤ s.capacity = omega arith in
     let product : (first + count) * s.block ≤ s.capacity * s.block = mul-le-mul_right s.block fits in

@@ -1,6 +1,6 @@
 mod ByteParts
 mod BlocksOfBytes
-mod ZonesInSlots
+mod ZonesInMemory
 mod ImageFields
 mod KeptLimits
 mod ReplacedZones
@@ -9,8 +9,8 @@ mod Sinks
 mod Texts
 mod ReadingCalls
 mod FilledBuffers
-mod RecordsRead
-mod SlotsRead
+mod ZoneRowsRead
+mod BlocksRead
 mod Headers
 mod Shapes
 mod HeaderParts

@@ -10,18 +10,18 @@ use Rattle.zone_resources.specs.Counts.{open_count, active_count}
 use Rattle.zone_resources.specs.declared.admission.Limits.{Limits}
 use Rattle.image_store.specs.declared.fault.LoadFault.TheVariants as fault
 use Rattle.image_store.specs.Blocks.{AreBytes, blocks_of}
-use Rattle.image_store.specs.Flat.{no_counted_zone, zone_seen}
+use Rattle.image_store.specs.ImageInMemory.{no_counted_zone, zone_seen}
 use Rattle.image_store.specs.Geometry.{Shape, IsShape}
 use Rattle.image_store.specs.Laws.{LoadedIsNamespace}
-use Rattle.image_store.specs.Namespace.{ZoneBlocks, no_zone, counted, IsNamespace}
-use Rattle.image_store.specs.Reading.{◌>>=◌, bytes_in, header_in, records_in, zones_in, total_kept, limits_kept, blocks_in, end_in, namespace_with, namespace_in}
-use Rattle.image_store.specs.Text.{header, records_text}
+use Rattle.image_store.specs.Namespace.{ZoneBlocks, no_zone, counted, IsNamespace, namespace_with}
+use Rattle.image_store.specs.Reading.{◌>>=◌, bytes_in, header_in, zone_rows_in, zones_in, total_kept, limits_kept, blocks_in, end_in, namespace_in}
+use Rattle.image_store.specs.Text.{header, zone_rows}
 use Rattle.image_store.proofs.TextsReadBack.{at-counted}
 use Rattle.image_store.proofs.ReadingCalls.{bind_ok, ok_is, chosen}
 use Rattle.image_store.proofs.ByteParts.{front_fit, rest_fit, blocks_fit}
 use Rattle.image_store.proofs.FilledBuffers.{bytes_parts, bytes_size}
-use Rattle.image_store.proofs.LoadedParts.{after_header, after_records, after_total, after_limits, after_blocks, zones_fit}
-use Rattle.image_store.proofs.OnlyTextsLoad.{header_only, records_only, blocks_only}
+use Rattle.image_store.proofs.LoadedParts.{after_header, after_rows, after_total, after_limits, after_blocks, zones_fit}
+use Rattle.image_store.proofs.OnlyTextsLoad.{header_only, rows_only, blocks_only}
 use Rattle.image_store.proofs.BlocksOfBytes.{length-blocks}
 use Rattle.image_store.proofs.SoundImages.{block-at}
 
@@ -73,7 +73,7 @@ kept_within limits zs done e =
     let p = and_parts (nat_le (open_count zs) limits.open_limit) (nat_le (active_count zs) limits.active_limit) test in
     record { opened = leb-true (open_count zs) limits.open_limit p.0; active = leb-true (active_count zs) limits.active_limit p.1 }
 
--- the zones, whose records are read
+-- the zones, whose rows are read
 zone_allowed : (c : ℕ) (zs : List CountedZone) (zones : List ZoneBlocks) → map (counted c) zones ≡ zs
     → ((k : ℕ) → k < length zs → IsZone (get_or zs k no_counted_zone).state (get_or zs k no_counted_zone).written c)
     → (z : ℕ) → z < length zones → IsZone (get_or zones z no_zone).state (length (get_or zones z no_zone).blocks) c
@@ -82,13 +82,13 @@ zone_allowed c zs zones same each z h =
     let read = ap (λ (all : List CountedZone). get_or all z no_counted_zone) (sym same) ∙ at-counted c zones z h in
     subst (λ (r : CountedZone). IsZone r.state r.written c) read (each z there)
 
--- the records that are read
+-- the rows that are read
 record AreAllowed (s : Shape) (zs : List CountedZone) : Type 0 where
   pub count : length zs ≡ s.zones
   pub each : (k : ℕ) → k < length zs → IsZone (get_or zs k no_counted_zone).state (get_or zs k no_counted_zone).written s.capacity
 
-records_allowed : (s : Shape) (bytes : List ℕ) (got : List CountedZone × List ℕ) → IsShape s → records_in s bytes ≡ Ok got → AreAllowed s got.0
-records_allowed s bytes got known e =
+rows_allowed : (s : Shape) (bytes : List ℕ) (got : List CountedZone × List ℕ) → IsShape s → zone_rows_in s bytes ≡ Ok got → AreAllowed s got.0
+rows_allowed s bytes got known e =
     let r = bind_ok (bytes_in (s.zones * 8) bytes) (λ front. zones_in 0 s.capacity s.zones front.0 >>= λ all. Ok (all, front.1)) got e in
     let q = bind_ok (zones_in 0 s.capacity s.zones r.0.0) (λ all. Ok (all, r.0.1)) got r.2 in
     let fit = zones_fit 0 s.capacity s.zones r.0.0 q.0 known.capacity_some q.1 in
@@ -116,16 +116,16 @@ loaded_is_namespace bytes ns fit e =
     let a = bind_ok (header_in bytes) (λ h. after_header h.0 h.1) ns e in
     let h = a.0.0 in
     let s = h.geometry in
-    let b = bind_ok (records_in s a.0.1) (λ records. after_records h records.0 records.1) ns a.2 in
+    let b = bind_ok (zone_rows_in s a.0.1) (λ rows. after_rows h rows.0 rows.1) ns a.2 in
     let t = bind_ok (total_kept h.total b.0.0) (λ same. after_total s b.0.0 b.0.1) ns b.2 in
     let c = bind_ok (limits_kept s.limits b.0.0) (λ kept. after_limits s b.0.0 b.0.1) ns t.2 in
     let d = bind_ok (blocks_in s.block b.0.0 b.0.1) (λ blocks. after_blocks s blocks.0 blocks.1) ns c.2 in
     let f = bind_ok (end_in d.0.1) (λ end. Ok (namespace_with s d.0.0)) ns d.2 in
     let headed = header_only bytes h a.0.1 fit a.1 in
     let later = rest_fit (header headed.version s headed.total) a.0.1 (subst AreBytes (sym headed.spelled) fit) in
-    let records = records_only s a.0.1 b.0 later b.1 in
-    let last = rest_fit (records_text b.0.0) b.0.1 (subst AreBytes (sym records.spelled) later) in
-    let blocks = blocks_only s.block s.capacity b.0.0 b.0.1 d.0 records.same d.1 in
+    let rows = rows_only s a.0.1 b.0 later b.1 in
+    let last = rest_fit (zone_rows b.0.0) b.0.1 (subst AreBytes (sym rows.spelled) later) in
+    let blocks = blocks_only s.block s.capacity b.0.0 b.0.1 d.0 rows.same d.1 in
     subst IsNamespace (ok_is (namespace_with s d.0.0) ns f.2)
-    (parts_are s b.0.0 d.0.0 headed.known (records_allowed s a.0.1 b.0 headed.known b.1) (kept_within s.limits b.0.0 c.0 c.1) blocks.counted
+    (parts_are s b.0.0 d.0.0 headed.known (rows_allowed s a.0.1 b.0 headed.known b.1) (kept_within s.limits b.0.0 c.0 c.1) blocks.counted
     (blocks_whole s.block b.0.0 b.0.1 d.0 last d.1))

@@ -7,14 +7,14 @@ use Rattle.zone_state.specs.State.{state_of}
 use Rattle.zone_state.specs.Zone.{CountedZone, IsZone, fits_state}
 use Rattle.image_store.specs.declared.fault.LoadFault.{LoadFault}
 use Rattle.image_store.specs.declared.fault.LoadFault.TheVariants as fault
-use Rattle.image_store.specs.declared.fault.RecordFault.TheVariants as record_fault
+use Rattle.image_store.specs.declared.fault.ZoneRowFault.TheVariants as row_fault
 use Rattle.image_store.specs.declared.header.Header.{Header}
-use Rattle.image_store.specs.Flat.{no_counted_zone}
+use Rattle.image_store.specs.ImageInMemory.{no_counted_zone}
 use Rattle.image_store.specs.Geometry.{Shape, IsShape}
 use Rattle.image_store.specs.Loading.{Fails, Gives}
 use Rattle.image_store.specs.steps.LoadedParts.{NoStreamFails, AreZones}
-use Rattle.image_store.specs.Namespace.{ZoneBlocks, ZonedNamespace}
-use Rattle.image_store.specs.Reading.{◌>>=◌, are_zeros, number_at, bytes_in, header_told, header_in, zone_told, zone_in, zones_in, records_in, total_kept, limits_kept, blocks_in, end_in, namespace_with, namespace_in}
+use Rattle.image_store.specs.Namespace.{ZoneBlocks, ZonedNamespace, namespace_with}
+use Rattle.image_store.specs.Reading.{◌>>=◌, are_zeros, number_at, bytes_in, header_told, header_in, zone_told, zone_in, zones_in, zone_rows_in, total_kept, limits_kept, blocks_in, end_in, namespace_in}
 use Rattle.image_store.proofs.ReadingCalls.{bind_ok, ok_is, chosen, passed, fails_then}
 use Rattle.image_store.proofs.Faults.{no_stream, fails_text, header_text_fault}
 use Rattle.image_store.proofs.FilledBuffers.{Split}
@@ -40,16 +40,16 @@ with_fits : (zone code : ℕ) (told : Option ZoneState) (written capacity : ℕ)
 with_fits zone code None written capacity z some e = absurd cc
 with_fits zone code (Some state) written capacity z some e =
     let made : CountedZone = record { state = state; written = written; capacity = capacity } in
-    let p = chosen (fits_state state written capacity) made z (fault.BadZone zone (record_fault.Blocks state written capacity)) e in
+    let p = chosen (fits_state state written capacity) made z (fault.BadZone zone (row_fault.Blocks state written capacity)) e in
     (sym (ap (λ (x : CountedZone). x.capacity) p.1), subst (λ (x : CountedZone). IsZone x.state x.written capacity) p.1 (some, p.0))
 
 zone_fits : (zone capacity : ℕ) (bytes : List ℕ) (z : CountedZone) → 1 ≤ capacity → zone_in zone capacity bytes ≡ Ok z → (z.capacity ≡ capacity) × IsZone z.state z.written capacity
 zone_fits zone capacity bytes z some e =
     let code = get_or bytes 0 0 in
     with_fits zone code (state_of code) (number_at bytes 4) capacity z some
-    (passed (are_zeros (take 3 (drop 1 bytes))) (zone_told zone code (state_of code) (number_at bytes 4) capacity) z (fault.BadZone zone record_fault.Reserved) e).1
+    (passed (are_zeros (take 3 (drop 1 bytes))) (zone_told zone code (state_of code) (number_at bytes 4) capacity) z (fault.BadZone zone row_fault.Reserved) e).1
 
--- the zones of records, as many as were wanted
+-- the zones of rows, as many as were wanted
 pub record HaveFit (capacity n : ℕ) (zs : List CountedZone) : Type 0 where
   pub count : length zs ≡ n
   pub each : (k : ℕ) → k < length zs → ((get_or zs k no_counted_zone).capacity ≡ capacity) × IsZone (get_or zs k no_counted_zone).state (get_or zs k no_counted_zone).written capacity
@@ -69,9 +69,9 @@ zones_fit zone capacity (suc n) bytes zs some e =
     let more = zones_fit (zone + 1) capacity n (drop 8 bytes) b.0 some b.1 in
     subst (HaveFit capacity (suc n)) (ok_is (a.0 ∷ b.0) zs b.2) (record { count = ap suc more.count; each = fit_more capacity a.0 b.0 first more.each })
 
-pub records_fit : {X : Type 0} (view : X → List CountedZone) (s : Shape) (result : Result X LoadFault) (bytes : List ℕ) → IsShape s
+pub rows_fit : {X : Type 0} (view : X → List CountedZone) (s : Shape) (result : Result X LoadFault) (bytes : List ℕ) → IsShape s
     → Gives (Unit {0}) view result (zones_in 0 s.capacity s.zones bytes) → IfOk result (λ x. AreZones s (view x))
-records_fit view s (Ok x) bytes known e =
+rows_fit view s (Ok x) bytes known e =
     let fit = zones_fit 0 s.capacity s.zones bytes (view x) known.capacity_some e in
     λ room size. record {
       shape = known;
@@ -80,7 +80,7 @@ records_fit view s (Ok x) bytes known e =
       capacities = λ k h. (fit.each k h).0;
       fits = λ k h. (fit.each k h).1;
     }
-records_fit view s (Err first) bytes known e = tt
+rows_fit view s (Err first) bytes known e = tt
 
 -- zones that fit their shape are few
 pub zones_few : (s : Shape) (zs : List CountedZone) → AreZones s zs → length zs < 2 ^ 32
@@ -99,20 +99,20 @@ after_limits s zs bytes = blocks_in s.block zs bytes >>= λ blocks. after_blocks
 abbrev pub after_total : Shape → List CountedZone → List ℕ → Result ZonedNamespace LoadFault
 after_total s zs bytes = limits_kept s.limits zs >>= λ kept. after_limits s zs bytes
 
-abbrev pub after_records : Header → List CountedZone → List ℕ → Result ZonedNamespace LoadFault
-after_records h zs bytes = total_kept h.total zs >>= λ same. after_total h.geometry zs bytes
+abbrev pub after_rows : Header → List CountedZone → List ℕ → Result ZonedNamespace LoadFault
+after_rows h zs bytes = total_kept h.total zs >>= λ same. after_total h.geometry zs bytes
 
 abbrev pub after_header : Header → List ℕ → Result ZonedNamespace LoadFault
-after_header h bytes = records_in h.geometry bytes >>= λ records. after_records h records.0 records.1
+after_header h bytes = zone_rows_in h.geometry bytes >>= λ rows. after_rows h rows.0 rows.1
 
 pub past_header : (all rest : List ℕ) (h : Header) → header_in all ≡ Ok (h, rest) → namespace_in all ≡ after_header h rest
 unfolding namespace_in
 past_header all rest h e = ap (λ (r : Result (Header × List ℕ) LoadFault). r >>= λ x. after_header x.0 x.1) e
 
-pub past_records : (h : Header) (bytes rest : List ℕ) (zs : List CountedZone) → records_in h.geometry bytes ≡ Ok (zs, rest) → after_header h bytes ≡ after_records h zs rest
-past_records h bytes rest zs e = ap (λ (r : Result (List CountedZone × List ℕ) LoadFault). r >>= λ records. after_records h records.0 records.1) e
+pub past_rows : (h : Header) (bytes rest : List ℕ) (zs : List CountedZone) → zone_rows_in h.geometry bytes ≡ Ok (zs, rest) → after_header h bytes ≡ after_rows h zs rest
+past_rows h bytes rest zs e = ap (λ (r : Result (List CountedZone × List ℕ) LoadFault). r >>= λ rows. after_rows h rows.0 rows.1) e
 
-pub past_total : (h : Header) (zs : List CountedZone) (bytes : List ℕ) → total_kept h.total zs ≡ Ok tt → after_records h zs bytes ≡ after_total h.geometry zs bytes
+pub past_total : (h : Header) (zs : List CountedZone) (bytes : List ℕ) → total_kept h.total zs ≡ Ok tt → after_rows h zs bytes ≡ after_total h.geometry zs bytes
 past_total h zs bytes e = ap (λ (r : Result (Unit {0}) LoadFault). r >>= λ same. after_total h.geometry zs bytes) e
 
 pub past_limits : (s : Shape) (zs : List CountedZone) (bytes : List ℕ) → limits_kept s.limits zs ≡ Ok tt → after_total s zs bytes ≡ after_limits s zs bytes

@@ -10,16 +10,16 @@ use Rattle.zone_state.specs.State.{code_of, state_of, states}
 use Rattle.zone_state.specs.Zone.{CountedZone, fits_state}
 use Rattle.byteorder.specs.Endian.{little_number}
 use Rattle.image_store.specs.declared.fault.LoadFault.TheVariants as fault
-use Rattle.image_store.specs.declared.fault.RecordFault.TheVariants as record_fault
+use Rattle.image_store.specs.declared.fault.ZoneRowFault.TheVariants as row_fault
 use Rattle.image_store.specs.Blocks.{AreBytes, blocks_of, bytes_of}
-use Rattle.image_store.specs.Flat.{no_counted_zone, zone_seen}
+use Rattle.image_store.specs.ImageInMemory.{no_counted_zone, zone_seen}
 use Rattle.image_store.specs.declared.header.Header.{Header}
 use Rattle.image_store.specs.declared.version.Version.{Version}
 use Rattle.image_store.specs.declared.version.Version.TheVariants.{One, Two}
 use Rattle.image_store.specs.Geometry.{Shape, IsShape}
-use Rattle.image_store.specs.Namespace.{ZoneBlocks, ZonedNamespace, counted, shape}
-use Rattle.image_store.specs.Reading.{◌>>=◌, are_zeros, total_told, header_told, header_in, total_kept, zone_told, zone_in, zones_in, records_in, limits_kept, blocks_in, end_in, namespace_with, namespace_in, bytes_in}
-use Rattle.image_store.specs.Text.{word, header, written_blocks, record_text, records_text, blocks_text, text_of}
+use Rattle.image_store.specs.Namespace.{ZoneBlocks, ZonedNamespace, counted, shape, namespace_with}
+use Rattle.image_store.specs.Reading.{◌>>=◌, are_zeros, total_told, header_told, header_in, total_kept, zone_told, zone_in, zones_in, zone_rows_in, limits_kept, blocks_in, end_in, namespace_in, bytes_in}
+use Rattle.image_store.specs.Text.{four_bytes, header, written_blocks, zone_row, zone_rows, blocks_text, text_of}
 use Rattle.image_store.specs.Version.{Has}
 use Rattle.image_store.proofs.ReadingCalls.{bind_ok, ok_is, chosen, passed}
 use Rattle.image_store.proofs.ByteParts.{front_fit, rest_fit}
@@ -27,9 +27,9 @@ use Rattle.image_store.proofs.FilledBuffers.{bytes_parts, bytes_size}
 use Rattle.image_store.proofs.HeaderParts.{header_parts}
 use Rattle.image_store.proofs.Headers.{total_in}
 use Rattle.image_store.proofs.ImageFields.{counted_seen}
-use Rattle.image_store.proofs.LoadedParts.{after_header, after_records, after_total, after_limits, after_blocks}
+use Rattle.image_store.proofs.LoadedParts.{after_header, after_rows, after_total, after_limits, after_blocks}
 use Rattle.image_store.proofs.BlocksOfBytes.{bytes-blocks}
-use Rattle.image_store.proofs.SpelledParts.{word_spelled, zeros_spelled, header_spelled, total_or_none}
+use Rattle.image_store.proofs.SpelledParts.{four_bytes_spelled, zeros_spelled, header_spelled, total_or_none}
 
 -- a header that is read stands in front
 pub record IsHeaded (bytes : List ℕ) (told : Header) (rest : List ℕ) : Type 0 where
@@ -64,7 +64,7 @@ header_only bytes told rest fit e =
       same = h.total ∙ total_is h.version a.0.0;
     })
 
--- a number of written blocks that is told is that of the records
+-- a number of written blocks that is told is that of the rows
 pub header_counted : (version : Version) (s : Shape) (total : ℕ) (zs : List CountedZone) (done : Unit {0}) → total_kept (total_in version total) zs ≡ Ok done
     → header version s total ≡ header version s (written_blocks zs)
 header_counted One s total zs done e = refl
@@ -86,34 +86,34 @@ zone_told_only : (zone code : ℕ) (told : Option ZoneState) (written capacity :
 zone_told_only zone code None written capacity z e = absurd cc
 zone_told_only zone code (Some state) written capacity z e =
     let made : CountedZone = record { state = state; written = written; capacity = capacity } in
-    let same = (chosen (fits_state state written capacity) made z (fault.BadZone zone (record_fault.Blocks state written capacity)) e).1 in
+    let same = (chosen (fits_state state written capacity) made z (fault.BadZone zone (row_fault.Blocks state written capacity)) e).1 in
     (ap (λ (x : CountedZone). Some x.state) same, sym (ap (λ (x : CountedZone). x.written) same), sym (ap (λ (x : CountedZone). x.capacity) same))
 
--- a record that is read is spelled so
-record_only : (zone capacity : ℕ) (xs : List ℕ) (z : CountedZone) → length xs ≡ 8 → AreBytes xs → zone_in zone capacity xs ≡ Ok z → (record_text z ≡ xs) × (z.capacity ≡ capacity)
-record_only zone capacity [] z size fit e = absurd (omega arith)
-record_only zone capacity (a ∷ []) z size fit e = absurd (omega arith)
-record_only zone capacity (a ∷ p ∷ []) z size fit e = absurd (omega arith)
-record_only zone capacity (a ∷ p ∷ q ∷ []) z size fit e = absurd (omega arith)
-record_only zone capacity (a ∷ p ∷ q ∷ r ∷ xs) z size fit e =
+-- a row that is read is spelled so
+row_only : (zone capacity : ℕ) (xs : List ℕ) (z : CountedZone) → length xs ≡ 8 → AreBytes xs → zone_in zone capacity xs ≡ Ok z → (zone_row z ≡ xs) × (z.capacity ≡ capacity)
+row_only zone capacity [] z size fit e = absurd (omega arith)
+row_only zone capacity (a ∷ []) z size fit e = absurd (omega arith)
+row_only zone capacity (a ∷ p ∷ []) z size fit e = absurd (omega arith)
+row_only zone capacity (a ∷ p ∷ q ∷ []) z size fit e = absurd (omega arith)
+row_only zone capacity (a ∷ p ∷ q ∷ r ∷ xs) z size fit e =
     let few : length xs ≡ 4 = omega arith in
-    let tests = passed (are_zeros (p ∷ q ∷ r ∷ [])) (zone_told zone a (state_of a) (little_number 4 xs) capacity) z (fault.BadZone zone record_fault.Reserved) e in
+    let tests = passed (are_zeros (p ∷ q ∷ r ∷ [])) (zone_told zone a (state_of a) (little_number 4 xs) capacity) z (fault.BadZone zone row_fault.Reserved) e in
     let told = zone_told_only zone a (state_of a) (little_number 4 xs) capacity z tests.1 in
     let zeros = zeros_spelled (p ∷ q ∷ r ∷ []) tests.0 in
     let none : drop 4 xs ≡ [] = drop_all 4 xs (omega arith) in
-    let spelled : word (little_number 4 xs) ≡ xs =
-    sym (append-nil (word (little_number 4 xs))) ∙ (ap (λ (rest : List ℕ). word (little_number 4 xs) ++ rest) (sym none)
-    ∙ word_spelled xs (omega arith) (rest_fit (a ∷ p ∷ q ∷ r ∷ []) xs fit)) in (
-      ap (λ (code : ℕ). code ∷ 0 ∷ 0 ∷ 0 ∷ word z.written) (found states a z.state told.0)
-          ∙ (ap (λ (n : ℕ). a ∷ 0 ∷ 0 ∷ 0 ∷ word n) told.1
+    let spelled : four_bytes (little_number 4 xs) ≡ xs =
+    sym (append-nil (four_bytes (little_number 4 xs))) ∙ (ap (λ (rest : List ℕ). four_bytes (little_number 4 xs) ++ rest) (sym none)
+    ∙ four_bytes_spelled xs (omega arith) (rest_fit (a ∷ p ∷ q ∷ r ∷ []) xs fit)) in (
+      ap (λ (code : ℕ). code ∷ 0 ∷ 0 ∷ 0 ∷ four_bytes z.written) (found states a z.state told.0)
+          ∙ (ap (λ (n : ℕ). a ∷ 0 ∷ 0 ∷ 0 ∷ four_bytes n) told.1
           ∙ (ap (λ (rest : List ℕ). a ∷ 0 ∷ 0 ∷ 0 ∷ rest) spelled
           ∙ ap (λ (front : List ℕ). a ∷ (front ++ xs)) zeros)),
       told.2,
     )
 
--- records that are read are spelled so, and there are as many as were wanted
+-- rows that are read are spelled so, and there are as many as were wanted
 record AreSpelled (capacity n : ℕ) (xs : List ℕ) (zs : List CountedZone) : Type 0 where
-  pub spelled : records_text zs ≡ xs
+  pub spelled : zone_rows zs ≡ xs
   pub count : length zs ≡ n
   pub same : (k : ℕ) → k < length zs → (get_or zs k no_counted_zone).capacity ≡ capacity
 
@@ -133,11 +133,11 @@ zones_only zone capacity (suc n) xs zs size fit e =
     let parts = take-append-drop 8 xs in
     let all = subst AreBytes (sym parts) fit in
     let long : 8 ≤ length xs = omega (arith, suc-mul n 8) in
-    let first = record_only zone capacity (take 8 xs) a.0 (length-take-le 8 xs long) (front_fit (take 8 xs) (drop 8 xs) all) a.1 in
+    let first = row_only zone capacity (take 8 xs) a.0 (length-take-le 8 xs long) (front_fit (take 8 xs) (drop 8 xs) all) a.1 in
     let more = zones_only (zone + 1) capacity n (drop 8 xs) b.0 (omega (arith, length-drop 8 xs, suc-mul n 8)) (rest_fit (take 8 xs) (drop 8 xs) all) b.1 in
     let same : a.0 ∷ b.0 ≡ zs = ok_is (a.0 ∷ b.0) zs b.2 in
     subst (AreSpelled capacity (suc n) xs) same (record {
-      spelled = ap (λ (front : List ℕ). front ++ records_text b.0) first.0 ∙ (ap (λ (rest : List ℕ). take 8 xs ++ rest) more.spelled ∙ parts);
+      spelled = ap (λ (front : List ℕ). front ++ zone_rows b.0) first.0 ∙ (ap (λ (rest : List ℕ). take 8 xs ++ rest) more.spelled ∙ parts);
       count = ap suc more.count;
       same = same_more capacity a.0 b.0 first.1 more.same;
     })
@@ -164,33 +164,33 @@ blocks_only b capacity (z ∷ zs) xs got same e =
       counted = ap (λ (first : CountedZone). first ∷ map (counted capacity) c.0.0) (counted_seen b capacity z a.0.0 (same 0 (omega arith))) ∙ ap (λ (more : List CountedZone). z ∷ more) rest.counted;
     })
 
--- records that are read stand in front, as many as were told
-pub record AreRecords (s : Shape) (bytes : List ℕ) (zs : List CountedZone) (rest : List ℕ) : Type 0 where
-  pub spelled : records_text zs ++ rest ≡ bytes
+-- rows that are read stand in front, as many as were told
+pub record AreZoneRows (s : Shape) (bytes : List ℕ) (zs : List CountedZone) (rest : List ℕ) : Type 0 where
+  pub spelled : zone_rows zs ++ rest ≡ bytes
   pub count : length zs ≡ s.zones
   pub same : (k : ℕ) → k < length zs → (get_or zs k no_counted_zone).capacity ≡ s.capacity
 
-pub records_only : (s : Shape) (bytes : List ℕ) (got : List CountedZone × List ℕ) → AreBytes bytes → records_in s bytes ≡ Ok got → AreRecords s bytes got.0 got.1
-records_only s bytes got fit e =
+pub rows_only : (s : Shape) (bytes : List ℕ) (got : List CountedZone × List ℕ) → AreBytes bytes → zone_rows_in s bytes ≡ Ok got → AreZoneRows s bytes got.0 got.1
+rows_only s bytes got fit e =
     let r = bind_ok (bytes_in (s.zones * 8) bytes) (λ front. zones_in 0 s.capacity s.zones front.0 >>= λ all. Ok (all, front.1)) got e in
     let q = bind_ok (zones_in 0 s.capacity s.zones r.0.0) (λ all. Ok (all, r.0.1)) got r.2 in
     let parts = bytes_parts (s.zones * 8) bytes r.0 r.1 in
     let front = front_fit r.0.0 r.0.1 (subst AreBytes (sym parts) fit) in
-    let records = zones_only 0 s.capacity s.zones r.0.0 q.0 (bytes_size (s.zones * 8) bytes r.0 r.1) front q.1 in
-    subst (λ (x : List CountedZone × List ℕ). AreRecords s bytes x.0 x.1) (ok_is (q.0, r.0.1) got q.2) (record {
-      spelled = ap (λ (xs : List ℕ). xs ++ r.0.1) records.spelled ∙ parts;
-      count = records.count;
-      same = records.same;
+    let rows = zones_only 0 s.capacity s.zones r.0.0 q.0 (bytes_size (s.zones * 8) bytes r.0 r.1) front q.1 in
+    subst (λ (x : List CountedZone × List ℕ). AreZoneRows s bytes x.0 x.1) (ok_is (q.0, r.0.1) got q.2) (record {
+      spelled = ap (λ (xs : List ℕ). xs ++ r.0.1) rows.spelled ∙ parts;
+      count = rows.count;
+      same = rows.same;
     })
 
--- header, records and blocks, one behind another
-joined : (front : List ℕ) (zs : List CountedZone) (zones : List ZoneBlocks) (bytes rest later last : List ℕ) → front ++ rest ≡ bytes → records_text zs ++ later ≡ rest → blocks_text zones ++ last ≡ later → last ≡ []
-    → bytes ≡ front ++ (records_text zs ++ blocks_text zones)
-joined front zs zones bytes rest later last start records blocks ended =
+-- header, rows and blocks, one behind another
+joined : (front : List ℕ) (zs : List CountedZone) (zones : List ZoneBlocks) (bytes rest later last : List ℕ) → front ++ rest ≡ bytes → zone_rows zs ++ later ≡ rest → blocks_text zones ++ last ≡ later → last ≡ []
+    → bytes ≡ front ++ (zone_rows zs ++ blocks_text zones)
+joined front zs zones bytes rest later last start rows blocks ended =
     let written : later ≡ blocks_text zones = sym blocks ∙ (ap (λ (xs : List ℕ). blocks_text zones ++ xs) ended ∙ append-nil (blocks_text zones)) in
     sym start
-    ∙ (ap (λ (xs : List ℕ). front ++ xs) (sym records)
-    ∙ ap (λ (xs : List ℕ). front ++ (records_text zs ++ xs)) written)
+    ∙ (ap (λ (xs : List ℕ). front ++ xs) (sym rows)
+    ∙ ap (λ (xs : List ℕ). front ++ (zone_rows zs ++ xs)) written)
 
 size_read : (s : Shape) (zs : List CountedZone) (zones : List ZoneBlocks) → length zs ≡ s.zones → map (counted s.capacity) zones ≡ zs → s.zones ≡ length zones
 size_read s zs zones count same = sym (sym (length-map zones (counted s.capacity)) ∙ (ap length same ∙ count))
@@ -201,11 +201,11 @@ resized s n = record { block = s.block; zones = n; size = s.size; capacity = s.c
 
 -- the text of the namespace that is read
 text_with : (version : Version) (s : Shape) (zs : List CountedZone) (zones : List ZoneBlocks) → s.zones ≡ length zones → map (counted s.capacity) zones ≡ zs
-    → header version s (written_blocks zs) ++ (records_text zs ++ blocks_text zones) ≡ text_of version (namespace_with s zones)
+    → header version s (written_blocks zs) ++ (zone_rows zs ++ blocks_text zones) ≡ text_of version (namespace_with s zones)
 text_with version s zs zones size same =
     let all = map (counted s.capacity) zones in
-    ap (λ (read : List CountedZone). header version s (written_blocks read) ++ (records_text read ++ blocks_text zones)) (sym same)
-    ∙ ap (λ (n : ℕ). header version (resized s n) (written_blocks all) ++ (records_text all ++ blocks_text zones)) size
+    ap (λ (read : List CountedZone). header version s (written_blocks read) ++ (zone_rows read ++ blocks_text zones)) (sym same)
+    ∙ ap (λ (n : ℕ). header version (resized s n) (written_blocks all) ++ (zone_rows all ++ blocks_text zones)) size
 
 pub text_only : (bytes : List ℕ) (ns : ZonedNamespace) → AreBytes bytes → namespace_in bytes ≡ Ok ns
     → (version : Version) × Has version (shape ns) × (bytes ≡ text_of version ns)
@@ -214,7 +214,7 @@ text_only bytes ns fit e =
     let a = bind_ok (header_in bytes) (λ h. after_header h.0 h.1) ns e in
     let h = a.0.0 in
     let s = h.geometry in
-    let b = bind_ok (records_in s a.0.1) (λ records. after_records h records.0 records.1) ns a.2 in
+    let b = bind_ok (zone_rows_in s a.0.1) (λ rows. after_rows h rows.0 rows.1) ns a.2 in
     let t = bind_ok (total_kept h.total b.0.0) (λ same. after_total s b.0.0 b.0.1) ns b.2 in
     let c = bind_ok (limits_kept s.limits b.0.0) (λ kept. after_limits s b.0.0 b.0.1) ns t.2 in
     let d = bind_ok (blocks_in s.block b.0.0 b.0.1) (λ blocks. after_blocks s blocks.0 blocks.1) ns c.2 in
@@ -224,13 +224,13 @@ text_only bytes ns fit e =
     let version = headed.version in
     let front = header version s headed.total in
     let counts = header_counted version s headed.total b.0.0 t.0 (ap (λ (n : Option ℕ). total_kept n b.0.0) (sym headed.same) ∙ t.1) in
-    let records = records_only s a.0.1 b.0 (rest_fit front a.0.1 (subst AreBytes (sym headed.spelled) fit)) b.1 in
-    let blocks = blocks_only s.block s.capacity b.0.0 b.0.1 d.0 records.same d.1 in
-    let size = size_read s b.0.0 d.0.0 records.count blocks.counted in
+    let rows = rows_only s a.0.1 b.0 (rest_fit front a.0.1 (subst AreBytes (sym headed.spelled) fit)) b.1 in
+    let blocks = blocks_only s.block s.capacity b.0.0 b.0.1 d.0 rows.same d.1 in
+    let size = size_read s b.0.0 d.0.0 rows.count blocks.counted in
     let read = ok_is (namespace_with s d.0.0) ns f.2 in (
       version,
       subst (λ (x : ZonedNamespace). Has version (shape x)) read (subst (λ (n : ℕ). Has version (resized s n)) size headed.has),
-      joined front b.0.0 d.0.0 bytes a.0.1 b.0.1 d.0.1 headed.spelled records.spelled blocks.spelled ended
-          ∙ (ap (λ (xs : List ℕ). xs ++ (records_text b.0.0 ++ blocks_text d.0.0)) counts
+      joined front b.0.0 d.0.0 bytes a.0.1 b.0.1 d.0.1 headed.spelled rows.spelled blocks.spelled ended
+          ∙ (ap (λ (xs : List ℕ). xs ++ (zone_rows b.0.0 ++ blocks_text d.0.0)) counts
           ∙ (text_with version s b.0.0 d.0.0 size blocks.counted ∙ ap (text_of version) read)),
     )

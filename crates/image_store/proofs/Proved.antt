@@ -1,5 +1,9 @@
--- The laws of this crate, proved: what the proofs of other crates cite of it.
-use Rattle.image_store.specs.BlockLaws.{AllowedIsWithin, BlockIsAPart, BlocksAreBytes, BlocksAreCounted, BlocksKeepBytes, BlocksLieInZones, WritesKeepZones, WrittenIsWithin}
+-- What the proofs of other crates cite of this one: laws, and lemmas of zones and blocks.
+use Rattle.std.proofs.Common.{ℕ, ◌≡◌, ◌+◌, ◌*◌, ◌<◌, ◌≤◌, List, [], length, get_or, take, drop, Ok}
+use Rattle.zone_state.specs.Zone.{CountedZone, IsZone, refusal, after_write}
+use Rattle.zone_state.specs.declared.state.ZoneState.{ZoneState}
+use Rattle.image_store.specs.Blocks.{AreBytes, blocks_of, bytes_of}
+use Rattle.image_store.specs.Namespace.{ZoneBlocks, no_zone}
 use Rattle.image_store.specs.Laws.{LoadedIsNamespace, SavedTextsLoad}
 use Rattle.image_store.proofs.TextsReadBack.{saved_again}
 use Rattle.image_store.proofs.ByteParts.{blocks_fit}
@@ -15,26 +19,36 @@ saved_texts_load = saved_again
 pub loaded_is_namespace : LoadedIsNamespace
 loaded_is_namespace = loaded.loaded_is_namespace
 
-pub blocks_are_counted : BlocksAreCounted
+-- bytes are cut into as many blocks as are asked for,
+pub blocks_are_counted : (block count : ℕ) (bytes : List ℕ) → length (blocks_of block count bytes) ≡ count
 blocks_are_counted = length-blocks
 
-pub block_is_a_part : BlockIsAPart
+-- each of which is the part of the bytes at its place,
+pub block_is_a_part : (block count i : ℕ) (bytes : List ℕ) → i < count
+    → get_or (blocks_of block count bytes) i [] ≡ take block (drop (i * block) bytes)
 block_is_a_part = block-at
 
-pub blocks_are_bytes : BlocksAreBytes
+-- and is bytes;
+pub blocks_are_bytes : (block count : ℕ) (bytes : List ℕ) → AreBytes bytes → (i : ℕ) → AreBytes (get_or (blocks_of block count bytes) i [])
 blocks_are_bytes = blocks_fit
 
-pub blocks_keep_bytes : BlocksKeepBytes
+-- the bytes of the blocks are those that they were cut from
+pub blocks_keep_bytes : (block count : ℕ) (bytes : List ℕ) → bytes_of (blocks_of block count bytes) ≡ take (count * block) bytes
 blocks_keep_bytes = bytes-blocks
 
-pub written_is_within : WrittenIsWithin
+-- a zone's written blocks are within its capacity,
+pub written_is_within : (state : ZoneState) (written capacity : ℕ) → IsZone state written capacity → written ≤ capacity
 written_is_within = within_capacity
 
-pub allowed_is_within : AllowedIsWithin
+-- and are so behind a write that is allowed,
+pub allowed_is_within : (z : CountedZone) (at count : ℕ) → refusal z at count ≡ Ok tt → z.written + count ≤ z.capacity
 allowed_is_within = allowed_fits
 
-pub writes_keep_zones : WritesKeepZones
+-- of which the zone is left in a state that fits it
+pub writes_keep_zones : (z : CountedZone) (count : ℕ) → 1 ≤ count → refusal z z.written count ≡ Ok tt
+    → IsZone (after_write z count).state (after_write z count).written z.capacity
 writes_keep_zones = after_write_zone
 
-pub blocks_lie_in_zones : BlocksLieInZones
+-- where a block stands there is a zone
+pub blocks_lie_in_zones : (zones : List ZoneBlocks) (z i : ℕ) → i < length (get_or zones z no_zone).blocks → z < length zones
 blocks_lie_in_zones = zone_with_blocks

@@ -1,4 +1,4 @@
--- One zone's record replaced.
+-- One counted zone replaced.
 use Rattle.std.proofs.Common.{◌≡◌, ℕ, ◌+◌, ◌*◌, ◌<◌, ◌≤◌, zero, suc, Bool, true, false, nat_eq, if◌then◌else◌, List, [], ◌∷◌, length, get_or, set, drop, refl, ap, sym, subst, ◌∙◌, arith, Ok}
 use Rattle.std.proofs.lemmas.Bool.{eqb-false, le-leb}
 use Rattle.std.proofs.lemmas.Bool.Decides.{nat_tests}
@@ -8,12 +8,12 @@ use Rattle.zone_state.specs.declared.state.ZoneState.TheVariants.{Empty, Implici
 use Rattle.zone_state.specs.State.{is_cleared}
 use Rattle.zone_state.specs.Zone.{CountedZone, IsZone, kept, refusal, after_write, written_state}
 use Rattle.image_store.specs.Blocks.{block_count, blocks_of}
-use Rattle.image_store.specs.Flat.{zone_seen, no_counted_zone, namespace_of, IsFlat}
+use Rattle.image_store.specs.ImageInMemory.{zone_seen, no_counted_zone, namespace_of, IsFlat}
 use Rattle.image_store.specs.steps.Spliced.{spliced}
 use Rattle.image_store.specs.Geometry.{Shape}
 use Rattle.image_store.specs.Namespace.{ZoneBlocks, ZonedNamespace, zone_at, with_zone, arrived, with_state}
 use Rattle.image_store.proofs.BlocksOfBytes.{length-blocks, length-spliced}
-use Rattle.image_store.proofs.ZonesInSlots.{zone-at, zones-set}
+use Rattle.image_store.proofs.ZonesInMemory.{zone-at, zones-set}
 use Rattle.image_store.proofs.ImageFields.{allowed_fits, write_fits}
 
 pub zone_set : (s : Shape) (zs : List CountedZone) (xs : List ℕ) (z : ℕ) (r : CountedZone)
@@ -22,13 +22,13 @@ zone_set s zs xs z r =
     ap (λ (all : List ZoneBlocks). let ns : ZonedNamespace = record { block = s.block; size = s.size; capacity = s.capacity; limits = s.limits; zones = all } in ns)
     (zones-set s.block s.capacity zs xs z r)
 
--- the blocks that a record counts which keeps all or none
+-- the blocks of a counted zone that keeps all or none
 kept_seen : (cleared : Bool) (block written : ℕ) (bytes : List ℕ)
     → blocks_of block (if cleared then 0 else written) bytes ≡ (if cleared then [] else blocks_of block written bytes)
 kept_seen true block written bytes = refl
 kept_seen false block written bytes = refl
 
--- a record of a state with the blocks that are kept there brings the zone into that state
+-- a counted zone in a state, with the blocks that are kept there brings the zone into that state
 pub state_set : (s : Shape) (zs : List CountedZone) (xs : List ℕ) (z : ℕ) (to : ZoneState) → z < length zs
     → namespace_of s (set zs z (record { state = to; written = kept to (get_or zs z no_counted_zone).written; capacity = s.capacity })) xs ≡ with_state (namespace_of s zs xs) z to
 state_set s zs xs z to inside =
@@ -63,7 +63,7 @@ each_set P (x ∷ zs) zero r all here (suc y) h = all (suc y) h
 each_set P (x ∷ zs) (suc z) r all here zero h = all 0 (omega arith)
 each_set P (x ∷ zs) (suc z) r all here (suc y) h = each_set P zs z r (λ k in_list. all (suc k) (omega arith)) here y (omega arith)
 
--- an allowed record in one place, over bytes of the same number
+-- an allowed counted zone in one place, over bytes of the same number
 pub flat_set : (s : Shape) (zs : List CountedZone) (xs ys : List ℕ) (z : ℕ) (r : CountedZone)
     → IsFlat s zs xs → length ys ≡ length xs → r.capacity ≡ s.capacity → IsZone r.state r.written s.capacity → IsFlat s (set zs z r) ys
 flat_set s zs xs ys z r flat size same fits = record {
@@ -74,7 +74,7 @@ flat_set s zs xs ys z r flat size same fits = record {
   fits = each_set (λ (x : CountedZone). IsZone x.state x.written s.capacity) zs z r flat.fits fits;
 }
 
--- a write that is allowed leaves an allowed record
+-- a write that is allowed leaves an allowed counted zone
 pub flat_append : (s : Shape) (zs : List CountedZone) (xs : List ℕ) (z : ℕ) (new : List ℕ) → IsFlat s zs xs → z < length zs → 1 ≤ block_count s.block new
     → length new ≡ block_count s.block new * s.block → refusal (get_or zs z no_counted_zone) (get_or zs z no_counted_zone).written (block_count s.block new) ≡ Ok tt
     → IsFlat s (set zs z (after_write (get_or zs z no_counted_zone) (block_count s.block new))) (spliced (z * (s.capacity * s.block) + (get_or zs z no_counted_zone).written * s.block) new xs)

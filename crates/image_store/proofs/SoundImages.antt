@@ -7,14 +7,14 @@ use Rattle.zone_state.specs.Zone.{CountedZone, IsZone}
 use Rattle.zone_resources.specs.declared.counts.Counts.{Counts}
 use Rattle.image_store.specs.declared.geometry.ZoneBlock.{ZoneBlock}
 use Rattle.image_store.specs.Blocks.{blocks_of, bytes_of}
-use Rattle.image_store.specs.Flat.{no_counted_zone, namespace_of, IsFlat, IsImage}
+use Rattle.image_store.specs.ImageInMemory.{no_counted_zone, namespace_of, IsFlat, IsImage}
 use Rattle.image_store.specs.Geometry.{Shape, IsShape, zone_block_of}
 use Rattle.image_store.specs.Namespace.{ZoneBlocks, ZonedNamespace, no_zone, zone_at, shape, IsWritten, IsNamespace}
 use Rattle.image_store.proofs.ByteParts.{zones_fit}
 use Rattle.image_store.proofs.KeptLimits.{within_seen}
 use Rattle.image_store.proofs.BlocksOfBytes.{length-blocks}
-use Rattle.image_store.proofs.ZonesInSlots.{length-zones, zone-at}
-use Rattle.image_store.proofs.ImageFields.{slot_end, within, shape_seen}
+use Rattle.image_store.proofs.ZonesInMemory.{length-zones, zone-at}
+use Rattle.image_store.proofs.ImageFields.{room_end, within, shape_seen}
 
 pub block-at : (b n i : ℕ) (xs : List ℕ) → i < n → get_or (blocks_of b n xs) i [] ≡ take b (drop (i * b) xs)
 block-at b zero i xs h = absurd (omega arith)
@@ -32,14 +32,14 @@ zone_with_blocks (zone ∷ zones) (suc z) i h = let rest = zone_with_blocks zone
 block_whole : (s : Shape) (zs : List CountedZone) (xs : List ℕ) (z i : ℕ) → IsFlat s zs xs → z < length zs → i < (get_or zs z no_counted_zone).written
     → length (get_or (zone_at (namespace_of s zs xs) z).blocks i []) ≡ s.block
 block_whole s zs xs z i flat inside written =
-    let slot = drop (z * (s.capacity * s.block)) xs in
-    let end = slot_end s zs xs z flat inside in
+    let room = drop (z * (s.capacity * s.block)) xs in
+    let end = room_end s zs xs z flat inside in
     let most = within s zs xs z flat inside in
     let below : suc i ≤ s.capacity = omega arith in
     let product : suc i * s.block ≤ s.capacity * s.block = mul-le-mul_right s.block below in
     ap (λ (zone : ZoneBlocks). length (get_or zone.blocks i [])) (zone-at s.block s.capacity zs xs z inside)
-    ∙ (ap length (block-at s.block (get_or zs z no_counted_zone).written i slot written)
-    ∙ omega (arith, suc-mul i s.block, length-take s.block (drop (i * s.block) slot), length-drop (i * s.block) slot, length-drop (z * (s.capacity * s.block)) xs))
+    ∙ (ap length (block-at s.block (get_or zs z no_counted_zone).written i room written)
+    ∙ omega (arith, suc-mul i s.block, length-take s.block (drop (i * s.block) room), length-drop (i * s.block) room, length-drop (z * (s.capacity * s.block)) xs))
 
 pub image_sound : (s : Shape) (zs : List CountedZone) (counts : Counts) (xs : List ℕ) → IsImage s zs counts xs → IsNamespace (namespace_of s zs xs)
 image_sound s zs counts xs image =

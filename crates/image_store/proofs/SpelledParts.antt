@@ -10,26 +10,26 @@ use Rattle.image_store.specs.declared.version.Version.{Version}
 use Rattle.image_store.specs.declared.version.Version.TheVariants.{One, Two}
 use Rattle.image_store.specs.Blocks.{AreBytes}
 use Rattle.image_store.specs.Reading.{are_zeros, number_at, shape_told, total_told}
-use Rattle.image_store.specs.Text.{word, header_end, header}
+use Rattle.image_store.specs.Text.{four_bytes, header_end, header}
 use Rattle.image_store.specs.Version.{numbers}
 use Rattle.image_store.proofs.ByteParts.{bytes_from, front_fit}
 use Rattle.image_store.proofs.HeaderParts.{begins}
 
 -- four bytes spell the number that they tell
-pub word_spelled : (xs : List ℕ) → 4 ≤ length xs → AreBytes xs → word (little_number 4 xs) ++ drop 4 xs ≡ xs
-word_spelled [] h fit = absurd (omega arith)
-word_spelled (a ∷ []) h fit = absurd (omega arith)
-word_spelled (a ∷ b ∷ []) h fit = absurd (omega arith)
-word_spelled (a ∷ b ∷ c ∷ []) h fit = absurd (omega arith)
-word_spelled (a ∷ b ∷ c ∷ d ∷ xs) h fit =
+pub four_bytes_spelled : (xs : List ℕ) → 4 ≤ length xs → AreBytes xs → four_bytes (little_number 4 xs) ++ drop 4 xs ≡ xs
+four_bytes_spelled [] h fit = absurd (omega arith)
+four_bytes_spelled (a ∷ []) h fit = absurd (omega arith)
+four_bytes_spelled (a ∷ b ∷ []) h fit = absurd (omega arith)
+four_bytes_spelled (a ∷ b ∷ c ∷ []) h fit = absurd (omega arith)
+four_bytes_spelled (a ∷ b ∷ c ∷ d ∷ xs) h fit =
     let number : little_number 4 (a ∷ b ∷ c ∷ d ∷ xs) ≡ a + 256 * (b + 256 * (c + 256 * (d + 256 * 0))) = refl in
     ap (λ (front : List ℕ). front ++ xs) (le_bytes_4 (a ∷ b ∷ c ∷ d ∷ []) (little_number 4 (a ∷ b ∷ c ∷ d ∷ xs)) refl (front_fit (a ∷ b ∷ c ∷ d ∷ []) xs fit) (omega arith))
 
 -- the number at a place, and what follows
-pub number_spelled : (xs : List ℕ) (at : ℕ) → at + 4 ≤ length xs → AreBytes xs → word (number_at xs at) ++ drop (at + 4) xs ≡ drop at xs
+pub number_spelled : (xs : List ℕ) (at : ℕ) → at + 4 ≤ length xs → AreBytes xs → four_bytes (number_at xs at) ++ drop (at + 4) xs ≡ drop at xs
 number_spelled xs at h fit =
-    ap (λ (rest : List ℕ). word (number_at xs at) ++ rest) (sym (drop-drop 4 at xs))
-    ∙ word_spelled (drop at xs) (omega (arith, length-drop at xs)) (bytes_from at xs fit)
+    ap (λ (rest : List ℕ). four_bytes (number_at xs at) ++ rest) (sym (drop-drop 4 at xs))
+    ∙ four_bytes_spelled (drop at xs) (omega (arith, length-drop at xs)) (bytes_from at xs fit)
 
 pub zeros_spelled : (xs : List ℕ) → are_zeros xs ≡ true → replicate (length xs) 0 ≡ xs
 zeros_spelled [] h = refl
@@ -88,11 +88,11 @@ header_spelled version xs size fit magic zeros =
     let n4 = number_at xs 20 in
     let n5 = number_at xs 24 in
     let n6 = number_at xs 28 in
-    ap (λ (rest : List ℕ). front ++ (word n1 ++ (word n2 ++ (word n3 ++ (word n4 ++ (word n5 ++ (word n6 ++ rest))))))) (end_spelled version xs size fit zeros)
-    ∙ (ap (λ (rest : List ℕ). front ++ (word n1 ++ (word n2 ++ (word n3 ++ (word n4 ++ (word n5 ++ rest)))))) (number_spelled xs 28 (omega arith) fit)
-    ∙ (ap (λ (rest : List ℕ). front ++ (word n1 ++ (word n2 ++ (word n3 ++ (word n4 ++ rest))))) (number_spelled xs 24 (omega arith) fit)
-    ∙ (ap (λ (rest : List ℕ). front ++ (word n1 ++ (word n2 ++ (word n3 ++ rest)))) (number_spelled xs 20 (omega arith) fit)
-    ∙ (ap (λ (rest : List ℕ). front ++ (word n1 ++ (word n2 ++ rest))) (number_spelled xs 16 (omega arith) fit)
-    ∙ (ap (λ (rest : List ℕ). front ++ (word n1 ++ rest)) (number_spelled xs 12 (omega arith) fit)
+    ap (λ (rest : List ℕ). front ++ (four_bytes n1 ++ (four_bytes n2 ++ (four_bytes n3 ++ (four_bytes n4 ++ (four_bytes n5 ++ (four_bytes n6 ++ rest))))))) (end_spelled version xs size fit zeros)
+    ∙ (ap (λ (rest : List ℕ). front ++ (four_bytes n1 ++ (four_bytes n2 ++ (four_bytes n3 ++ (four_bytes n4 ++ (four_bytes n5 ++ rest)))))) (number_spelled xs 28 (omega arith) fit)
+    ∙ (ap (λ (rest : List ℕ). front ++ (four_bytes n1 ++ (four_bytes n2 ++ (four_bytes n3 ++ (four_bytes n4 ++ rest))))) (number_spelled xs 24 (omega arith) fit)
+    ∙ (ap (λ (rest : List ℕ). front ++ (four_bytes n1 ++ (four_bytes n2 ++ (four_bytes n3 ++ rest)))) (number_spelled xs 20 (omega arith) fit)
+    ∙ (ap (λ (rest : List ℕ). front ++ (four_bytes n1 ++ (four_bytes n2 ++ rest))) (number_spelled xs 16 (omega arith) fit)
+    ∙ (ap (λ (rest : List ℕ). front ++ (four_bytes n1 ++ rest)) (number_spelled xs 12 (omega arith) fit)
     ∙ (ap (λ (rest : List ℕ). front ++ rest) (number_spelled xs 8 (omega arith) fit)
     ∙ magic_spelled version xs magic))))))

@@ -15,22 +15,22 @@ use Rattle.zone_resources.specs.Counts.{open_count, active_count}
 use Rattle.zone_resources.specs.declared.admission.Limits.{Limits}
 use Rattle.image_store.specs.declared.fault.LoadFault.{LoadFault}
 use Rattle.image_store.specs.declared.fault.LoadFault.TheVariants as fault
-use Rattle.image_store.specs.declared.fault.RecordFault.TheVariants as record_fault
+use Rattle.image_store.specs.declared.fault.ZoneRowFault.TheVariants as row_fault
 use Rattle.image_store.specs.Blocks.{blocks_of, bytes_of}
-use Rattle.image_store.specs.Flat.{no_counted_zone, zone_seen}
+use Rattle.image_store.specs.ImageInMemory.{no_counted_zone, zone_seen}
 use Rattle.image_store.specs.declared.geometry.TheConstants.{MOST_ZONES, MOST_ZONE_BLOCKS}
 use Rattle.image_store.specs.declared.header.Header.{Header}
 use Rattle.image_store.specs.declared.version.Version.{Version}
 use Rattle.image_store.specs.declared.version.Version.TheVariants.{One, Two}
 use Rattle.image_store.specs.Geometry.{Shape, IsShape}
-use Rattle.image_store.specs.Namespace.{ZoneBlocks, ZonedNamespace, no_zone, counted, records, shape, IsNamespace}
-use Rattle.image_store.specs.Reading.{◌>>=◌, zone_told, zone_in, zones_in, records_in, total_kept, limits_kept, blocks_in, namespace_in}
-use Rattle.image_store.specs.Text.{header, written_blocks, record_text, records_text, blocks_text, text, text_of}
+use Rattle.image_store.specs.Namespace.{ZoneBlocks, ZonedNamespace, no_zone, counted, counted_zones, shape, IsNamespace}
+use Rattle.image_store.specs.Reading.{◌>>=◌, zone_told, zone_in, zones_in, zone_rows_in, total_kept, limits_kept, blocks_in, namespace_in}
+use Rattle.image_store.specs.Text.{header, written_blocks, zone_row, zone_rows, blocks_text, text, text_of}
 use Rattle.image_store.specs.Version.{Has}
 use Rattle.image_store.proofs.FilledBuffers.{Split, bytes_whole}
 use Rattle.image_store.proofs.Headers.{word_again, header_read, header_seen, total_in}
 use Rattle.image_store.proofs.ImageFields.{within_capacity}
-use Rattle.image_store.proofs.LoadedParts.{after_limits, past_header, past_records, past_total, past_limits, past_blocks, past_end}
+use Rattle.image_store.proofs.LoadedParts.{after_limits, past_header, past_rows, past_total, past_limits, past_blocks, past_end}
 
 code_again : (state : ZoneState) → state_of (code_of state) ≡ Some state
 code_again Empty = refl
@@ -41,38 +41,38 @@ code_again ReadOnly = refl
 code_again Full = refl
 code_again Offline = refl
 
--- records that can be spelled
+-- rows that can be spelled
 pub record CanSpell (capacity : ℕ) (z : CountedZone) : Type 0 where
   pub same : z.capacity ≡ capacity
   pub fits : IsZone z.state z.written capacity
   pub small : capacity < 2 ^ 32
 
-record_again : (zone capacity : ℕ) (z : CountedZone) → CanSpell capacity z → zone_in zone capacity (record_text z) ≡ Ok z
-record_again zone capacity z can =
+row_again : (zone capacity : ℕ) (z : CountedZone) → CanSpell capacity z → zone_in zone capacity (zone_row z) ≡ Ok z
+row_again zone capacity z can =
     let most = within_capacity z.state z.written capacity can.fits in
     let small = can.small in
     let number = word_again z.written [] (omega arith) in
     ap (λ (n : ℕ). zone_told zone (code_of z.state) (state_of (code_of z.state)) n capacity) number
     ∙ (ap (λ state. zone_told zone (code_of z.state) state z.written capacity) (code_again z.state)
-    ∙ (ap (λ (test : Bool). let r : Result CountedZone LoadFault = cond test (Ok (record { state = z.state; written = z.written; capacity = capacity })) (Err (fault.BadZone zone (record_fault.Blocks z.state z.written capacity))) in r) can.fits.1
+    ∙ (ap (λ (test : Bool). let r : Result CountedZone LoadFault = cond test (Ok (record { state = z.state; written = z.written; capacity = capacity })) (Err (fault.BadZone zone (row_fault.Blocks z.state z.written capacity))) in r) can.fits.1
     ∙ ap (λ (n : ℕ). let same : CountedZone = record { state = z.state; written = z.written; capacity = n } in let r : Result CountedZone LoadFault = Ok same in r) (sym can.same)))
 
-records_again : (zone capacity : ℕ) (zs : List CountedZone) → ((k : ℕ) → k < length zs → CanSpell capacity (get_or zs k no_counted_zone)) → zones_in zone capacity (length zs) (records_text zs) ≡ Ok zs
-records_again zone capacity [] can = refl
-records_again zone capacity (z ∷ zs) can =
-    ap (λ (r : Result CountedZone LoadFault). r >>= λ first. zones_in (zone + 1) capacity (length zs) (records_text zs) >>= λ more. Ok (first ∷ more)) (record_again zone capacity z (can 0 (omega arith)))
-    ∙ ap (λ (r : Result (List CountedZone) LoadFault). r >>= λ more. Ok (z ∷ more)) (records_again (zone + 1) capacity zs (λ k h. can (suc k) (omega arith)))
+rows_again : (zone capacity : ℕ) (zs : List CountedZone) → ((k : ℕ) → k < length zs → CanSpell capacity (get_or zs k no_counted_zone)) → zones_in zone capacity (length zs) (zone_rows zs) ≡ Ok zs
+rows_again zone capacity [] can = refl
+rows_again zone capacity (z ∷ zs) can =
+    ap (λ (r : Result CountedZone LoadFault). r >>= λ first. zones_in (zone + 1) capacity (length zs) (zone_rows zs) >>= λ more. Ok (first ∷ more)) (row_again zone capacity z (can 0 (omega arith)))
+    ∙ ap (λ (r : Result (List CountedZone) LoadFault). r >>= λ more. Ok (z ∷ more)) (rows_again (zone + 1) capacity zs (λ k h. can (suc k) (omega arith)))
 
-pub length-records : (zs : List CountedZone) → length (records_text zs) ≡ length zs * 8
-length-records [] = refl
-length-records (z ∷ zs) = omega (arith, length-records zs, suc-mul (length zs) 8, length-append (record_text z) (records_text zs))
+pub length-rows : (zs : List CountedZone) → length (zone_rows zs) ≡ length zs * 8
+length-rows [] = refl
+length-rows (z ∷ zs) = omega (arith, length-rows zs, suc-mul (length zs) 8, length-append (zone_row z) (zone_rows zs))
 
-pub records_read : (s : Shape) (zs : List CountedZone) (rest : List ℕ) → length zs ≡ s.zones → ((k : ℕ) → k < length zs → CanSpell s.capacity (get_or zs k no_counted_zone))
-    → records_in s (records_text zs ++ rest) ≡ Ok (zs, rest)
-records_read s zs rest count can =
-    ap (λ (r : Result Split LoadFault). r >>= λ front. zones_in 0 s.capacity s.zones front.0 >>= λ all. Ok (all, front.1)) (bytes_whole (s.zones * 8) (records_text zs) rest (length-records zs ∙ ap (λ (n : ℕ). n * 8) count))
-    ∙ (ap (λ (n : ℕ). zones_in 0 s.capacity n (records_text zs) >>= λ all. Ok (all, rest)) (sym count)
-    ∙ ap (λ (r : Result (List CountedZone) LoadFault). r >>= λ all. Ok (all, rest)) (records_again 0 s.capacity zs can))
+pub rows_read : (s : Shape) (zs : List CountedZone) (rest : List ℕ) → length zs ≡ s.zones → ((k : ℕ) → k < length zs → CanSpell s.capacity (get_or zs k no_counted_zone))
+    → zone_rows_in s (zone_rows zs ++ rest) ≡ Ok (zs, rest)
+rows_read s zs rest count can =
+    ap (λ (r : Result Split LoadFault). r >>= λ front. zones_in 0 s.capacity s.zones front.0 >>= λ all. Ok (all, front.1)) (bytes_whole (s.zones * 8) (zone_rows zs) rest (length-rows zs ∙ ap (λ (n : ℕ). n * 8) count))
+    ∙ (ap (λ (n : ℕ). zones_in 0 s.capacity n (zone_rows zs) >>= λ all. Ok (all, rest)) (sym count)
+    ∙ ap (λ (r : Result (List CountedZone) LoadFault). r >>= λ all. Ok (all, rest)) (rows_again 0 s.capacity zs can))
 
 pub limits_read : (limits : Limits) (zs : List CountedZone) → IsWithin zs limits → limits_kept limits zs ≡ Ok tt
 limits_read limits zs within = rw (le-leb (open_count zs) limits.open_limit within.opened, le-leb (active_count zs) limits.active_limit within.active) refl
@@ -107,7 +107,7 @@ at-counted c [] k h = absurd (omega arith)
 at-counted c (zone ∷ zones) zero h = refl
 at-counted c (zone ∷ zones) (suc k) h = at-counted c zones k (omega arith)
 
-pub can_spell : (ns : ZonedNamespace) → IsNamespace ns → (k : ℕ) → k < length (records ns) → CanSpell ns.capacity (get_or (records ns) k no_counted_zone)
+pub can_spell : (ns : ZonedNamespace) → IsNamespace ns → (k : ℕ) → k < length (counted_zones ns) → CanSpell ns.capacity (get_or (counted_zones ns) k no_counted_zone)
 can_spell ns sound k h =
     let there : k < length ns.zones = omega (arith, length-map ns.zones (counted ns.capacity)) in
     let most = sound.shape.capacity_most in
@@ -115,21 +115,21 @@ can_spell ns sound k h =
     subst (CanSpell ns.capacity) (sym (at-counted ns.capacity ns.zones k there)) (record { same = refl; fits = sound.fits k there; small = omega arith })
 
 -- no namespace has more written blocks than can be told
-pub total_small : (ns : ZonedNamespace) → IsNamespace ns → written_blocks (records ns) < 2 ^ 64
+pub total_small : (ns : ZonedNamespace) → IsNamespace ns → written_blocks (counted_zones ns) < 2 ^ 64
 total_small ns sound =
-    let each : (k : ℕ) → k < length (records ns) → (get_or (records ns) k no_counted_zone).written ≤ ns.capacity =
-    λ k h. let z = get_or (records ns) k no_counted_zone in within_capacity z.state z.written ns.capacity (can_spell ns sound k h).fits in
-    let most = sum_by-le (λ z. z.written) ns.capacity (records ns) (All-from_get_or (λ (z : CountedZone). z.written ≤ ns.capacity) (records ns) no_counted_zone each) in
+    let each : (k : ℕ) → k < length (counted_zones ns) → (get_or (counted_zones ns) k no_counted_zone).written ≤ ns.capacity =
+    λ k h. let z = get_or (counted_zones ns) k no_counted_zone in within_capacity z.state z.written ns.capacity (can_spell ns sound k h).fits in
+    let most = sum_by-le (λ z. z.written) ns.capacity (counted_zones ns) (All-from_get_or (λ (z : CountedZone). z.written ≤ ns.capacity) (counted_zones ns) no_counted_zone each) in
     let known = sound.shape in
-    let zones : length (records ns) ≤ MOST_ZONES = let count = length-map ns.zones (counted ns.capacity) in let few = known.zones_most in omega arith in
+    let zones : length (counted_zones ns) ≤ MOST_ZONES = let count = length-map ns.zones (counted ns.capacity) in let few = known.zones_most in omega arith in
     let capacity : ns.capacity ≤ MOST_ZONE_BLOCKS = let some = known.capacity_most in let few = known.size_most in omega arith in
-    let product : length (records ns) * ns.capacity ≤ MOST_ZONES * MOST_ZONE_BLOCKS = mul-le-mul zones capacity in
+    let product : length (counted_zones ns) * ns.capacity ≤ MOST_ZONES * MOST_ZONE_BLOCKS = mul-le-mul zones capacity in
     omega arith
 
 same_number : (n : ℕ) → nat_eq n n ≡ true
 same_number n = grind (arith, nat_tests)
 
--- the number of written blocks that the header tells is that of the records
+-- the number of written blocks that the header tells is that of the rows
 pub total_read : (version : Version) (zs : List CountedZone) → total_kept (total_in version (written_blocks zs)) zs ≡ Ok tt
 total_read One zs = refl
 total_read Two zs =
@@ -138,26 +138,26 @@ total_read Two zs =
 
 -- what the header of a namespace tells
 abbrev pub told_of : Version → ZonedNamespace → Header
-told_of version ns = header_seen version (shape ns) (written_blocks (records ns))
+told_of version ns = header_seen version (shape ns) (written_blocks (counted_zones ns))
 
--- header and records are read, whatever is behind them
+-- header and rows are read, whatever is behind them
 pub front_read : (version : Version) (ns : ZonedNamespace) (rest : List ℕ) → IsNamespace ns → Has version (shape ns)
-    → namespace_in (header version (shape ns) (written_blocks (records ns)) ++ (records_text (records ns) ++ rest)) ≡ after_limits (shape ns) (records ns) rest
+    → namespace_in (header version (shape ns) (written_blocks (counted_zones ns)) ++ (zone_rows (counted_zones ns) ++ rest)) ≡ after_limits (shape ns) (counted_zones ns) rest
 front_read version ns rest sound has =
     let s = shape ns in
-    let zs = records ns in
+    let zs = counted_zones ns in
     let total = written_blocks zs in
     let h = told_of version ns in
-    let bytes = records_text zs ++ rest in
+    let bytes = zone_rows zs ++ rest in
     past_header (header version s total ++ bytes) bytes h (header_read version s total bytes sound.shape has (total_small ns sound))
-    ∙ (past_records h bytes rest zs (records_read s zs rest (length-map ns.zones (counted ns.capacity)) (can_spell ns sound))
+    ∙ (past_rows h bytes rest zs (rows_read s zs rest (length-map ns.zones (counted ns.capacity)) (can_spell ns sound))
     ∙ (past_total h zs rest (total_read version zs)
     ∙ past_limits s zs rest (limits_read ns.limits zs sound.within)))
 
 pub text_again : (version : Version) (ns : ZonedNamespace) → IsNamespace ns → Has version (shape ns) → namespace_in (text_of version ns) ≡ Ok ns
 text_again version ns sound has =
     let s = shape ns in
-    let zs = records ns in
+    let zs = counted_zones ns in
     let last = blocks_text ns.zones in
     let blocks : blocks_in ns.block zs last ≡ Ok (ns.zones, []) = ap (blocks_in ns.block zs) (sym (append-nil last)) ∙ blocks_read ns.block ns.capacity ns.zones [] sound.whole in
     front_read version ns last sound has ∙ (past_blocks s zs last [] ns.zones blocks ∙ past_end s ns.zones [] refl)

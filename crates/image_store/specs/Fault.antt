@@ -1,9 +1,7 @@
--- The faults of loading and saving an image.
+-- The faults of loading an image.
 use Rattle.std.specs.Prelude.{ℕ}
 use Rattle.image_store.specs.declared.fault.LoadFault.{LoadFault}
 use Rattle.image_store.specs.declared.fault.LoadFault.TheVariants.{Truncated, Magic, Geometry, BadZone, Total, Limits, Trailing, Stream, Memory}
-use Rattle.image_store.specs.declared.fault.SaveFault.{SaveFault}
-use Rattle.image_store.specs.declared.fault.SaveFault.TheVariants as save
 
 -- the number by which a user is told of a fault of loading (profile)
 abbrev pub load_number : LoadFault → ℕ
@@ -16,7 +14,3 @@ load_number Limits = 14
 load_number Trailing = 15
 load_number Stream = 16
 load_number Memory = 17
-
--- the number by which a user is told of a fault of saving (profile)
-abbrev pub save_number : SaveFault → ℕ
-save_number save.Stream = 16

@@ -61,8 +61,8 @@ LongerTextsAreTrailing =
 abbrev pub zones_told : List ℕ → ℕ
 zones_told bytes = (shape_told (take 64 bytes)).zones
 
--- up to which byte a text has to be read to find a fault of it: those of its magic, of its header, of the zones' records
--- up to the one that is told, or else of all records
+-- up to which byte a text has to be read to find a fault of it: those of its magic, of its header, of the zones' rows
+-- up to the one that is told, or else of all rows
 abbrev pub fault_end : List ℕ → LoadFault → ℕ
 fault_end bytes fault.Magic = 8
 fault_end bytes (fault.Geometry first) = 64

@@ -3,12 +3,11 @@ pub mod Geometry
 pub mod Fault
 pub mod Refusal
 pub mod Namespace
-pub mod Flat
+pub mod ImageInMemory
 pub mod Version
 pub mod Text
 pub mod Reading
 pub mod Streams
 pub mod Loading
-pub mod BlockLaws
 pub mod Laws
 pub mod steps

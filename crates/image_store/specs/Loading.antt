@@ -1,20 +1,14 @@
 -- What a call answers that reads from a source, over what reading the source's bytes gives.
 use Rattle.std.specs.Prelude.{ℕ, ◌≡◌, ◌<◌, Result, Ok, Err}
 use Rattle.image_store.specs.declared.fault.LoadFault.{LoadFault}
-use Rattle.image_store.specs.declared.fault.LoadFault.TheVariants.{Truncated, Magic, Geometry, BadZone, Total, Limits, Trailing, Stream, Memory}
+use Rattle.image_store.specs.declared.fault.LoadFault.TheVariants.{Stream, Memory}
 
 -- The fault is the one that reading gives. A stream that fails says nothing of the bytes, and memory
 -- is wanted only where this holds.
 abbrev pub Fails : {Y : Type 0} → Type 0 → LoadFault → Result Y LoadFault → Type 0
 Fails wanted Stream reading = Unit {0}
 Fails wanted Memory reading = wanted
-Fails wanted Truncated reading = reading ≡ Err Truncated
-Fails wanted Magic reading = reading ≡ Err Magic
-Fails wanted (Geometry first) reading = reading ≡ Err (Geometry first)
-Fails wanted (BadZone zone first) reading = reading ≡ Err (BadZone zone first)
-Fails wanted (Total told counted) reading = reading ≡ Err (Total told counted)
-Fails wanted Limits reading = reading ≡ Err Limits
-Fails wanted Trailing reading = reading ≡ Err Trailing
+Fails wanted fault reading = reading ≡ Err fault
 
 -- A call whose answer is seen by view gives what reading gives, unless the stream failed or memory was
 -- wanted, which is only where this holds.

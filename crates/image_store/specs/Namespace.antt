@@ -32,19 +32,19 @@ zone_at ns z = get_or ns.zones z no_zone
 
 -- the namespace with another zone in this place
 abbrev pub with_zone : ZonedNamespace → ℕ → ZoneBlocks → ZonedNamespace
-with_zone ns z zone = record { block = ns.block; size = ns.size; capacity = ns.capacity; limits = ns.limits; zones = set ns.zones z zone }
+with_zone ns z zone = record ns { zones = set ns.zones z zone }
 
 -- a zone whose blocks are only counted
 abbrev pub counted : ℕ → ZoneBlocks → CountedZone
 counted capacity zone = record { state = zone.state; written = length zone.blocks; capacity = capacity }
 
--- all zones so
-abbrev pub records : ZonedNamespace → List CountedZone
-records ns = map (counted ns.capacity) ns.zones
+-- all zones so counted
+abbrev pub counted_zones : ZonedNamespace → List CountedZone
+counted_zones ns = map (counted ns.capacity) ns.zones
 
 -- no more zones are open or active than may be (ZNS 1.1, Zone Resources)
 abbrev pub IsWithinLimits : ZonedNamespace → Type 0
-IsWithinLimits ns = IsWithin (records ns) ns.limits
+IsWithinLimits ns = IsWithin (counted_zones ns) ns.limits
 
 -- a zone with more blocks written at its write pointer
 abbrev pub grown : ℕ → ZoneBlocks → List (List ℕ) → ZoneBlocks
@@ -65,15 +65,13 @@ arrived to zone = record { state = to; blocks = if is_cleared to then [] else zo
 abbrev pub with_state : ZonedNamespace → ℕ → ZoneState → ZonedNamespace
 with_state ns z to = with_zone ns z (arrived to (zone_at ns z))
 
+-- the namespace of a shape that has these zones
+abbrev pub namespace_with : Shape → List ZoneBlocks → ZonedNamespace
+namespace_with s zones = record { block = s.block; size = s.size; capacity = s.capacity; limits = s.limits; zones = zones }
+
 -- a namespace of which nothing is written
 abbrev pub all_empty : Shape → ZonedNamespace
-all_empty s = record {
-  block = s.block;
-  size = s.size;
-  capacity = s.capacity;
-  limits = s.limits;
-  zones = replicate s.zones (record { state = Empty; blocks = [] });
-}
+all_empty s = namespace_with s (replicate s.zones (record { state = Empty; blocks = [] }))
 
 -- the shape of a namespace
 abbrev pub shape : ZonedNamespace → Shape

@@ -11,9 +11,9 @@ use Rattle.zone_resources.specs.declared.admission.Limits.{Limits}
 use Rattle.zone_resources.specs.Counts.{open_count, active_count}
 use Rattle.image_store.specs.declared.fault.LoadFault.{LoadFault}
 use Rattle.image_store.specs.declared.fault.LoadFault.TheVariants as fault
-use Rattle.image_store.specs.declared.fault.RecordFault.TheVariants as record_fault
+use Rattle.image_store.specs.declared.fault.ZoneRowFault.TheVariants as row_fault
 use Rattle.zone_state.specs.Checks.{demand, first_failed, unless_failed}
-use Rattle.image_store.specs.Flat.{zone_seen}
+use Rattle.image_store.specs.ImageInMemory.{zone_seen}
 use Rattle.image_store.specs.declared.fault.HeaderFault.TheVariants as header_fault
 use Rattle.image_store.specs.declared.geometry.GeometryFault.{GeometryFault}
 use Rattle.image_store.specs.declared.header.Header.{Header}
@@ -21,7 +21,7 @@ use Rattle.image_store.specs.declared.version.Version.{Version}
 use Rattle.image_store.specs.declared.version.Version.TheVariants.{One, Two}
 use Rattle.image_store.specs.Geometry.{Shape, shape_of, shape_checks}
 use Rattle.image_store.specs.Refusal.{refusal_of}
-use Rattle.image_store.specs.Namespace.{ZoneBlocks, ZonedNamespace}
+use Rattle.image_store.specs.Namespace.{ZoneBlocks, ZonedNamespace, namespace_with}
 use Rattle.image_store.specs.Text.{written_blocks}
 use Rattle.image_store.specs.Version.{numbers, has_block}
 
@@ -103,11 +103,11 @@ abbrev pub zone_with : ℕ → ZoneState → ℕ → ℕ → Result CountedZone 
 zone_with zone state written capacity =
     if fits_state state written capacity
     then Ok (record { state = state; written = written; capacity = capacity })
-    else Err (fault.BadZone zone (record_fault.Blocks state written capacity))
+    else Err (fault.BadZone zone (row_fault.Blocks state written capacity))
 
 -- the same in the state that a code tells, if it tells one
 abbrev pub zone_told : ℕ → ℕ → Option ZoneState → ℕ → ℕ → Result CountedZone LoadFault
-zone_told zone code None written capacity = Err (fault.BadZone zone (record_fault.State code))
+zone_told zone code None written capacity = Err (fault.BadZone zone (row_fault.State code))
 zone_told zone code (Some state) written capacity = zone_with zone state written capacity
 
 -- what the 8 bytes of the zone with this number tell
@@ -115,7 +115,7 @@ abbrev pub zone_in : ℕ → ℕ → List ℕ → Result CountedZone LoadFault
 zone_in zone capacity bytes =
     if are_zeros (take 3 (drop 1 bytes))
     then zone_told zone (get_or bytes 0 0) (state_of (get_or bytes 0 0)) (number_at bytes 4) capacity
-    else Err (fault.BadZone zone record_fault.Reserved)
+    else Err (fault.BadZone zone row_fault.Reserved)
 
 -- what the bytes of so many zones tell, from the one with this number on
 abbrev pub zones_in : ℕ → ℕ → ℕ → List ℕ → Result (List CountedZone) LoadFault
@@ -123,12 +123,12 @@ zones_in zone capacity zero bytes = Ok []
 zones_in zone capacity (suc n) bytes =
     zone_in zone capacity (take 8 bytes) >>= λ z. zones_in (zone + 1) capacity n (drop 8 bytes) >>= λ zs. Ok (z ∷ zs)
 
--- the zones of records, all of which are there before any is looked at
-abbrev pub records_in : Shape → List ℕ → Result (List CountedZone × List ℕ) LoadFault
-records_in s bytes =
+-- the zones of the zone rows, all of which are there before any is looked at
+abbrev pub zone_rows_in : Shape → List ℕ → Result (List CountedZone × List ℕ) LoadFault
+zone_rows_in s bytes =
     bytes_in (s.zones * 8) bytes >>= λ front. zones_in 0 s.capacity s.zones front.0 >>= λ zs. Ok (zs, front.1)
 
--- the records have as many written blocks as the header tells, if it tells that
+-- the rows have as many written blocks as the header tells, if it tells that
 abbrev pub total_kept : Option ℕ → List CountedZone → Result (Unit {0}) LoadFault
 total_kept None zs = Ok tt
 total_kept (Some total) zs = if total == written_blocks zs then Ok tt else Err (fault.Total total (written_blocks zs))
@@ -151,16 +151,13 @@ blocks_in block (z ∷ zs) bytes =
 abbrev pub end_in : List ℕ → Result Unit LoadFault
 end_in bytes = if length bytes == 0 then Ok tt else Err fault.Trailing
 
-abbrev pub namespace_with : Shape → List ZoneBlocks → ZonedNamespace
-namespace_with s zones = record { block = s.block; size = s.size; capacity = s.capacity; limits = s.limits; zones = zones }
-
 -- the namespace that a text stands for
 unfoldable pub namespace_in : List ℕ → Result ZonedNamespace LoadFault
 namespace_in bytes =
     header_in bytes
-    >>= λ header. records_in header.0.geometry header.1
-    >>= λ records. total_kept header.0.total records.0
-    >>= λ same. limits_kept header.0.geometry.limits records.0
-    >>= λ kept. blocks_in header.0.geometry.block records.0 records.1
+    >>= λ header. zone_rows_in header.0.geometry header.1
+    >>= λ rows. total_kept header.0.total rows.0
+    >>= λ same. limits_kept header.0.geometry.limits rows.0
+    >>= λ kept. blocks_in header.0.geometry.block rows.0 rows.1
     >>= λ blocks. end_in blocks.1
     >>= λ end. Ok (namespace_with header.0.geometry blocks.0)

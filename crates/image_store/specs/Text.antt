@@ -8,12 +8,12 @@ use Rattle.image_store.specs.declared.version.Version.{Version}
 use Rattle.image_store.specs.declared.version.Version.TheVariants.{One, Two}
 use Rattle.image_store.specs.Blocks.{bytes_of}
 use Rattle.image_store.specs.Geometry.{Shape}
-use Rattle.image_store.specs.Namespace.{ZoneBlocks, ZonedNamespace, records, shape}
+use Rattle.image_store.specs.Namespace.{ZoneBlocks, ZonedNamespace, counted_zones, shape}
 use Rattle.image_store.specs.Version.{numbers}
 
 -- 32 bits, the lowest byte first
-abbrev pub word : ℕ → List ℕ
-word n = little_bytes 4 n
+abbrev pub four_bytes : ℕ → List ℕ
+four_bytes n = little_bytes 4 n
 
 -- the numbers of a shape, in their order
 abbrev pub numbers_of : Shape → List ℕ
@@ -26,27 +26,27 @@ header_end Two total = little_bytes 8 total ++ replicate 24 0
 
 -- 64 bytes: the magic, the numbers, and the end
 abbrev pub header : Version → Shape → ℕ → List ℕ
-header version s total = (numbers version).magic ++ (flat_map word (numbers_of s) ++ header_end version total)
+header version s total = (numbers version).magic ++ (flat_map four_bytes (numbers_of s) ++ header_end version total)
 
 -- how many blocks of zones are written
 abbrev pub written_blocks : List CountedZone → ℕ
 written_blocks zones = sum_by (λ zone. zone.written) zones
 
 -- 8 bytes: the state's code, zeros, and how many blocks are written
-abbrev pub record_text : CountedZone → List ℕ
-record_text z = code_of z.state ∷ 0 ∷ 0 ∷ 0 ∷ word z.written
+abbrev pub zone_row : CountedZone → List ℕ
+zone_row z = code_of z.state ∷ 0 ∷ 0 ∷ 0 ∷ four_bytes z.written
 
--- the records of zones
-abbrev pub records_text : List CountedZone → List ℕ
-records_text zones = flat_map record_text zones
+-- the rows of zones
+abbrev pub zone_rows : List CountedZone → List ℕ
+zone_rows zones = flat_map zone_row zones
 
 -- the written blocks of zones, one zone's behind another's
 abbrev pub blocks_text : List ZoneBlocks → List ℕ
 blocks_text zones = flat_map (λ zone. bytes_of zone.blocks) zones
 
--- the header, the record of each zone, and the written blocks of each zone
+-- the header, the row of each zone, and the written blocks of each zone
 abbrev pub text_of : Version → ZonedNamespace → List ℕ
-text_of version ns = header version (shape ns) (written_blocks (records ns)) ++ (records_text (records ns) ++ blocks_text ns.zones)
+text_of version ns = header version (shape ns) (written_blocks (counted_zones ns)) ++ (zone_rows (counted_zones ns) ++ blocks_text ns.zones)
 
 -- what is saved
 abbrev pub text : ZonedNamespace → List ℕ

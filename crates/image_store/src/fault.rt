@@ -1,7 +1,7 @@
 //! Why an image could not be loaded or saved.
 
 ghost use Rattle.std.specs.Prelude.{◌≡◌};
-ghost use Rattle.image_store.specs.Fault.{load_number, save_number};
+ghost use Rattle.image_store.specs.Fault.{load_number};
 ghost use Rattle.image_store.specs.declared.fault.LoadFault.TheVariants as load_fault;
 ghost use Rattle.image_store.specs.declared.fault.SaveFault.TheVariants as save_fault;
 
@@ -29,9 +29,9 @@ pub enum HeaderFault {
     Reserved(Version),
 }
 
-/// Why the record of a zone tells none.
+/// Why the row of a zone tells none.
 #[derive(Clone, Copy, Debug, PartialEq, Eq, Error)]
-pub enum RecordFault {
+pub enum ZoneRowFault {
     #[error("bytes 1 to 3 are not zero")]
     Reserved,
     /// The code that stands for no state.
@@ -55,11 +55,11 @@ pub enum LoadFault {
     Magic,
     #[error("header: {0}")]
     Geometry(HeaderFault),
-    /// The lowest zone whose record tells none, and why.
-    #[error("record of zone {zone}: {fault}")]
-    BadZone { zone: u32, fault: RecordFault },
-    /// The header tells another number of written blocks than the records have in all.
-    #[error("the header tells of {told} written blocks, the records of {counted}")]
+    /// The lowest zone whose row tells none, and why.
+    #[error("row of zone {zone}: {fault}")]
+    BadZone { zone: u32, fault: ZoneRowFault },
+    /// The header tells another number of written blocks than the zone rows have in all.
+    #[error("the header tells of {told} written blocks, the zone rows of {counted}")]
     Total { told: u64, counted: u64 },
     #[error("more zones are open or active than may be")]
     Limits,
@@ -71,11 +71,11 @@ pub enum LoadFault {
     Memory,
 }
 
-/// Why an image could not be saved. The variant has the number that a user is told (profile).
+/// Why an image could not be saved.
 #[derive(Clone, Copy, Debug, PartialEq, Eq, Error)]
 pub enum SaveFault {
     #[error("the stream failed")]
-    Stream = 16,
+    Stream,
 }
 
 impl LoadFault {
@@ -94,15 +94,6 @@ impl LoadFault {
             LoadFault::Stream => 16,
             LoadFault::Memory => 17,
         }
-    }
-}
-
-impl SaveFault {
-    /// The fault's number, 16.
-    pub fn number(self) -> u8
-        ensures { result ≡ save_number self }
-    {
-        self as u8
     }
 }
 

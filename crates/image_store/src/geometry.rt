@@ -180,7 +180,7 @@ impl Geometry {
     }
 
     /// Bytes that the blocks of one zone may take.
-    pub fn slot(self) -> usize
+    pub fn zone_room(self) -> usize
         ensures { result ≡ self.capacity * self.block }
     {
         self.capacity as usize * self.block.bytes() as usize
@@ -190,7 +190,7 @@ impl Geometry {
     pub fn room(self) -> usize
         ensures { result ≡ self.zones * (self.capacity * self.block) }
     {
-        self.zones as usize * self.slot()
+        self.zones as usize * self.zone_room()
     }
 }
 

@@ -13,7 +13,7 @@ use byteorder::{ByteOrder, LittleEndian};
 use zone_resources::Limits;
 
 /// Bytes of a header.
-pub const LENGTH: usize = 64;
+pub const HEADER_BYTES: usize = 64;
 
 /// What a header tells.
 #[derive(Clone, Copy, Debug, PartialEq, Eq)]
@@ -25,7 +25,7 @@ pub struct Header {
 }
 
 /// The header of an image that is saved: of this geometry, with so many written blocks.
-pub fn encode(geometry: Geometry, total: u64) -> [u8; LENGTH]
+pub fn encode(geometry: Geometry, total: u64) -> [u8; HEADER_BYTES]
     ensures { result ≡ header Version.Two geometry total }
 {
     let limits = geometry.limits();
@@ -37,7 +37,7 @@ pub fn encode(geometry: Geometry, total: u64) -> [u8; LENGTH]
         limits.open_limit,
         limits.active_limit,
     ];
-    let mut bytes = [0; LENGTH];
+    let mut bytes = [0; HEADER_BYTES];
     bytes[..8].copy_from_slice(&Version::Two.magic());
     LittleEndian::write_u32_into(&numbers, &mut bytes[8..32]);
     LittleEndian::write_u64(&mut bytes[32..], total);

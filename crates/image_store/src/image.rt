@@ -9,7 +9,7 @@ ghost use Rattle.image_store.specs.Streams.{Takes, CountsFailure};
 ghost use Rattle.image_store.specs.Loading.{Gives, CountsLoad};
 ghost use Rattle.image_store.specs.Reading.{header_in, namespace_in};
 ghost use Rattle.image_store.specs.Text.{text};
-ghost use Rattle.image_store.specs.Namespace.{appended, with_state, counted, records, zone_at, all_empty, shape, block_at, IsWithinLimits, IsWritten, IsNamespace};
+ghost use Rattle.image_store.specs.Namespace.{appended, with_state, counted, counted_zones, zone_at, all_empty, shape, block_at, IsWithinLimits, IsWritten, IsNamespace};
 
 use crate::bytes::are_bytes;
 use crate::fault::{LoadFault, SaveFault};
@@ -33,7 +33,7 @@ pub struct Image {
 
 impl Model for Image {
     ghost use Rattle.image_store.specs.Namespace.{ZonedNamespace};
-    ghost use Rattle.image_store.specs.Flat.{namespace_of, IsImage};
+    ghost use Rattle.image_store.specs.ImageInMemory.{namespace_of, IsImage};
 
     ghost Value = { ZonedNamespace };
 
@@ -63,8 +63,8 @@ impl Image {
     /// # Errors
     ///
     /// The first fault of the text from the left, or [`LoadFault::Stream`] where the source fails, or
-    /// [`LoadFault::Memory`] where memory is refused: for the records once the header is accepted,
-    /// and for the blocks once the records are.
+    /// [`LoadFault::Memory`] where memory is refused: for the zone rows once the header is accepted,
+    /// and for the blocks once the rows are.
     pub fn load<R: Source>(alloc: Global, source: &mut R) -> Result<Image, LoadFault>
         requires { R.failures source.old < 2 ^ 64 - 1 }
         ensures image { R.tells → Gives (IsOk (header_in (R.rest source.old))) (λ image. image) result (namespace_in (R.rest source.old)) }
@@ -106,14 +106,14 @@ impl Image {
 
     /// The zones, without their blocks.
     pub fn zones(&self) -> &[Zone]
-        ensures { result.now ≡ records self.now }
+        ensures { result.now ≡ counted_zones self.now }
     {
         &self.zones
     }
 
     /// How many zones hold resources.
     pub fn counts(&self) -> Counts
-        ensures { result ≡ counts_of (records self.now) }
+        ensures { result ≡ counts_of (counted_zones self.now) }
     {
         self.counts
     }

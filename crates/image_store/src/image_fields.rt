@@ -4,7 +4,7 @@ ghost use Rattle.std.specs.Prelude.{◌≡◌, ◌≤◌, ◌<◌, ◌+◌, ◌*
 ghost use Rattle.zone_resources.specs.Counts.{counts_of};
 ghost use Rattle.zone_state.specs.Zone.{refusal, IsZone, kept};
 ghost use Rattle.image_store.specs.Blocks.{block_count, bytes_of};
-ghost use Rattle.image_store.specs.Flat.{IsFlat, IsImage, namespace_of, empty_counted_zone, no_counted_zone};
+ghost use Rattle.image_store.specs.ImageInMemory.{IsFlat, IsImage, namespace_of, empty_counted_zone, no_counted_zone};
 ghost use Rattle.image_store.specs.steps.Spliced.{spliced};
 ghost use Rattle.image_store.specs.Namespace.{appended, with_state, zone_at, IsWithinLimits};
 
@@ -37,7 +37,7 @@ fn part(bytes: &[u8], start: usize, len: usize) -> &[u8]
     &bytes[start..start + len]
 }
 
-/// Puts a zone's new record in its place, and counts it.
+/// Puts a counted zone in its place, and follows it in the counts.
 fn replace(zones: &mut [Zone], counts: &mut Counts, zone: usize, is: Zone)
     requires inside { zone < length zones.old }
     requires counted { counts.old ≡ counts_of zones.old }
@@ -98,7 +98,7 @@ pub fn append(
     let mut is = zones[zone];
     splice(
         blocks,
-        zone * geometry.slot() + is.written() as usize * block,
+        zone * geometry.zone_room() + is.written() as usize * block,
         bytes,
     );
     is.note_written((bytes.len() / block) as u32);
@@ -121,6 +121,6 @@ pub fn blocks<'a>(
     ensures value { result.now ≡ bytes_of (take count (drop first (zone_at (namespace_of geometry zones.now blocks.now) zone).blocks)) }
 {
     let block = geometry.block().bytes() as usize;
-    let start = zone * geometry.slot() + first * block;
+    let start = zone * geometry.zone_room() + first * block;
     part(blocks, start, count * block)
 }

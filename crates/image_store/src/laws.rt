@@ -1,6 +1,5 @@
-//! Laws of the texts of an image, and of its blocks. Each function does nothing: what it ensures is the law.
+//! Laws of the texts of an image. Each function does nothing: what it ensures is the law.
 
-ghost use Rattle.image_store.specs.BlockLaws.{AllowedIsWithin, BlockIsAPart, BlocksAreBytes, BlocksAreCounted, BlocksKeepBytes, BlocksLieInZones, WritesKeepZones, WrittenIsWithin};
 ghost use Rattle.image_store.specs.Laws.{CutTextsAreTruncated, EachVersionLoads, FaultsAreByPrefix, LastVersionHasAll, LoadedIsNamespace, LongerTextsAreTrailing, OnlyTextsLoad, SavedTextsLoad, ShapesAreTested, UpgradedStandsForTheSame, UpgradingTwiceIsOnce, VersionsAreKnown};
 
 /// What is saved loads again as the same namespace, and so does the text of each version that has its shape.
@@ -48,20 +47,4 @@ pub fn shapes_are_tested()
 pub fn versions_are_known()
     ensures known { VersionsAreKnown }
     ensures all { LastVersionHasAll }
-{}
-
-/// Bytes are cut into so many blocks, each a part of them, which together are these bytes again.
-pub fn bytes_are_cut_into_blocks()
-    ensures count { BlocksAreCounted }
-    ensures part { BlockIsAPart }
-    ensures bytes { BlocksAreBytes }
-    ensures kept { BlocksKeepBytes }
-{}
-
-/// What is written of a zone is within its capacity, and stays so behind a write that is allowed.
-pub fn zones_hold_their_blocks()
-    ensures within { WrittenIsWithin }
-    ensures allowed { AllowedIsWithin }
-    ensures kept { WritesKeepZones }
-    ensures there { BlocksLieInZones }
 {}

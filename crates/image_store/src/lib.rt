@@ -10,15 +10,15 @@ mod image_fields;
 pub mod laws;
 mod load;
 mod memory_streams;
-mod record;
 mod refusal;
 mod save;
 mod streams;
 #[cfg(test)]
 mod tests;
 mod version;
+mod zone_row;
 
-pub use fault::{HeaderFault, LoadFault, RecordFault, SaveFault};
+pub use fault::{HeaderFault, LoadFault, SaveFault, ZoneRowFault};
 pub use geometry::{Geometry, GeometryFault, MOST_ZONES, ZoneBlock};
 pub use image::Image;
 pub use memory_streams::Buffer;

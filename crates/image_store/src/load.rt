@@ -2,16 +2,16 @@
 
 ghost use Rattle.std.specs.Prelude.{◌≡◌, ◌≤◌, ◌<◌, ◌-◌, ◌+◌, ◌*◌, ◌^◌, length, IfOk, IsOk, OnOk};
 ghost use Rattle.zone_resources.specs.Admission.{IsWithin};
-ghost use Rattle.image_store.specs.Flat.{IsFlat, namespace_of, zones_of};
+ghost use Rattle.image_store.specs.ImageInMemory.{IsFlat, namespace_of, zones_of};
 ghost use Rattle.image_store.specs.Loading.{Gives, CountsLoad};
 ghost use Rattle.image_store.specs.steps.LoadedParts.{AreZones, spliced_in};
-ghost use Rattle.image_store.specs.Reading.{bytes_in, header_in, records_in, total_kept, limits_kept, blocks_in, end_in, namespace_in};
+ghost use Rattle.image_store.specs.Reading.{bytes_in, header_in, zone_rows_in, total_kept, limits_kept, blocks_in, end_in, namespace_in};
 
 use crate::fault::LoadFault;
 use crate::geometry::Geometry;
 use crate::header::Header;
 use crate::streams::Source;
-use crate::{header, record};
+use crate::{header, zone_row};
 use std::alloc::Global;
 use zone_resources::{Counts, Limits};
 use zone_state::Zone;
@@ -29,7 +29,7 @@ pub fn load<R: Source>(
 {
     let header = read_header(source)?;
     let geometry = header.geometry;
-    let zones = read_records(alloc, source, geometry)?;
+    let zones = read_zone_rows(alloc, source, geometry)?;
     check_total(&zones, header.total)?;
     check_limits(&zones, geometry.limits())?;
     let blocks = read_blocks(alloc, source, geometry, &zones)?;
@@ -43,26 +43,26 @@ fn read_header<R: Source>(source: &mut R) -> Result<Header, LoadFault>
     ensures header { R.tells → Gives ⊥ (λ header. (header, R.rest source.new)) result (header_in (R.rest source.old)) }
     ensures failures { CountsLoad (R.failures source.old) (R.failures source.new) result }
 {
-    let mut bytes = [0; header::LENGTH];
+    let mut bytes = [0; header::HEADER_BYTES];
     fill(source, &mut bytes)?;
     header::decode(&bytes)
 }
 
-/// Reads the records of the zones, all of them before any is looked at.
-fn read_records<R: Source>(
+/// Reads the rows of the zones, all of them before any is looked at.
+fn read_zone_rows<R: Source>(
     alloc: Global,
     source: &mut R,
     geometry: Geometry,
 ) -> Result<Vec<Zone>, LoadFault>
     requires { R.failures source.old < 2 ^ 64 - 1 }
-    ensures records { R.tells → Gives (Unit {0}) (λ zones. (zones.items, R.rest source.new)) result (records_in geometry (R.rest source.old)) }
+    ensures rows { R.tells → Gives (Unit {0}) (λ zones. (zones.items, R.rest source.new)) result (zone_rows_in geometry (R.rest source.old)) }
     ensures fit { IfOk result (λ zones. AreZones geometry zones.items) }
     ensures failures { CountsLoad (R.failures source.old) (R.failures source.new) result }
 {
     let count = geometry.zones();
-    let mut bytes = vec![in alloc; 0; count as usize * record::RECORD]?;
+    let mut bytes = vec![in alloc; 0; count as usize * zone_row::ZONE_ROW_BYTES]?;
     fill(source, &mut bytes)?;
-    record::decode_all(alloc, &bytes, count, geometry.capacity())
+    zone_row::decode_all(alloc, &bytes, count, geometry.capacity())
 }
 
 /// Refuses zones with another number of written blocks than the header tells, if it tells one.
@@ -73,7 +73,7 @@ fn check_total(zones: &[Zone], total: Option<u64>) -> Result<(), LoadFault>
     let Some(told) = total else {
         return Ok(());
     };
-    let counted = record::written_blocks(zones);
+    let counted = zone_row::written_blocks(zones);
     if told != counted {
         return Err(LoadFault::Total { told, counted });
     }
@@ -109,12 +109,12 @@ fn read_blocks<R: Source>(
     ensures failures { CountsLoad (R.failures source.old) (R.failures source.new) result }
 {
     let mut blocks = vec![in alloc; 0; geometry.room()]?;
-    fill_slots(source, geometry, zones, &mut blocks)?;
+    fill_zones(source, geometry, zones, &mut blocks)?;
     Ok(blocks)
 }
 
-/// Reads the written blocks of each zone into its slot.
-fn fill_slots<R: Source>(
+/// Reads the written blocks of each zone into its room.
+fn fill_zones<R: Source>(
     source: &mut R,
     geometry: Geometry,
     zones: &[Zone],
@@ -126,10 +126,10 @@ fn fill_slots<R: Source>(
     ensures failures { CountsLoad (R.failures source.old) (R.failures source.new) result }
 {
     let block = geometry.block().bytes() as usize;
-    let slot = geometry.slot();
+    let room = geometry.zone_room();
     for (number, zone) in zones.iter().enumerate() {
         let written = zone.written() as usize * block;
-        fill_part(source, blocks, number * slot, written)?;
+        fill_part(source, blocks, number * room, written)?;
     }
     Ok(())
 }

@@ -2,13 +2,13 @@
 
 ghost use Rattle.std.specs.Prelude.{◌≡◌, ◌<◌, ◌-◌, ◌^◌};
 ghost use Rattle.image_store.specs.Streams.{Takes, CountsFailure};
-ghost use Rattle.image_store.specs.Flat.{IsFlat, namespace_of};
-ghost use Rattle.image_store.specs.Text.{text, records_text, blocks_text};
+ghost use Rattle.image_store.specs.ImageInMemory.{IsFlat, namespace_of};
+ghost use Rattle.image_store.specs.Text.{text, zone_rows, blocks_text};
 
 use crate::fault::SaveFault;
 use crate::geometry::Geometry;
 use crate::streams::Sink;
-use crate::{header, image_fields, record};
+use crate::{header, image_fields, zone_row};
 use zone_state::Zone;
 
 /// Hands the text of an image to a sink.
@@ -23,20 +23,20 @@ pub fn save<W: Sink>(
     ensures text { W.tells → Takes (W.taken sink.old) (W.taken sink.new) (text (namespace_of geometry zones.now blocks.now)) result }
     ensures failures { CountsFailure (W.failures sink.old) (W.failures sink.new) result }
 {
-    let total = record::written_blocks(zones);
+    let total = zone_row::written_blocks(zones);
     write_all(sink, &header::encode(geometry, total))?;
-    write_records(sink, zones)?;
+    write_zone_rows(sink, zones)?;
     write_blocks(sink, geometry, zones, blocks)
 }
 
-/// Hands the record of each zone to a sink.
-fn write_records<W: Sink>(sink: &mut W, zones: &[Zone]) -> Result<(), SaveFault>
+/// Hands the row of each zone to a sink.
+fn write_zone_rows<W: Sink>(sink: &mut W, zones: &[Zone]) -> Result<(), SaveFault>
     requires { W.failures sink.old < 2 ^ 64 - 1 }
-    ensures text { W.tells → Takes (W.taken sink.old) (W.taken sink.new) (records_text zones.now) result }
+    ensures text { W.tells → Takes (W.taken sink.old) (W.taken sink.new) (zone_rows zones.now) result }
     ensures failures { CountsFailure (W.failures sink.old) (W.failures sink.new) result }
 {
     for zone in zones {
-        write_all(sink, &record::encode(*zone))?;
+        write_all(sink, &zone_row::encode(*zone))?;
     }
     Ok(())
 }

@@ -58,7 +58,7 @@ pub trait Sink {
     ///
     /// # Errors
     ///
-    /// [`StreamFault`] where the stream fails, which is counted. No byte is taken then.
+    /// [`StreamFault`] where the stream fails, which is counted. A sink over memory has taken no byte then.
     fn write(&mut self, from: &[u8]) -> Result<usize, StreamFault>
         requires { failures self.old < 2 ^ 64 - 1 }
         ensures bound { IfOk result (λ n. n ≤ length from.now) }

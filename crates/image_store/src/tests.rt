@@ -4,8 +4,8 @@
 ghost use Rattle.std.specs.Prelude.{◌≤◌};
 
 use crate::{
-    Buffer, Geometry, GeometryFault, GeometryRefusal, HeaderFault, Image, Limits, LoadFault,
-    RecordFault, Sink, Source, StreamFault, Version,
+    Buffer, Geometry, GeometryFault, GeometryRefusal, HeaderFault, Image, Limits, LoadFault, Sink,
+    Source, StreamFault, Version, ZoneRowFault,
 };
 use std::alloc::{AllocError, Global};
 use std::process::Abort;
@@ -63,7 +63,7 @@ fn fault_of_front(alloc: Global, text: &[u8], length: usize) -> Option<LoadFault
 }
 
 #[test]
-fn an_empty_image_is_its_header_and_records(rt: HostRuntime) -> Result<(), Fail> {
+fn an_empty_image_is_its_header_and_zone_rows(rt: HostRuntime) -> Result<(), Fail> {
     let image = Image::empty(rt.alloc(), geometry()?)?;
     let mut sink = Buffer::new(rt.alloc());
     image.save(&mut sink)?;
@@ -165,23 +165,23 @@ fn bad_header(fault: HeaderFault) -> Option<LoadFault> {
     Some(LoadFault::Geometry(fault))
 }
 
-/// What is told of the record of a zone that has this fault.
-fn bad_record(zone: u32, fault: RecordFault) -> Option<LoadFault> {
+/// What is told of the row of a zone that has this fault.
+fn bad_row(zone: u32, fault: ZoneRowFault) -> Option<LoadFault> {
     Some(LoadFault::BadZone { zone, fault })
 }
 
 /// What is told of zone 0, in an implicitly opened state with so many of its 6 blocks written.
 fn bad_count(written: u32) -> Option<LoadFault> {
-    let fault = RecordFault::Blocks {
+    let fault = ZoneRowFault::Blocks {
         state: ZoneState::ImplicitlyOpened,
         written,
         capacity: 6,
     };
-    bad_record(0, fault)
+    bad_row(0, fault)
 }
 
 #[test]
-fn each_bad_record_has_its_fault(rt: HostRuntime) -> Result<(), Fail> {
+fn each_bad_zone_row_has_its_fault(rt: HostRuntime) -> Result<(), Fail> {
     assert_eq!(rt; fault_of(rt.alloc(), &changed(&[(64, 2)])), bad_count(0));
     assert_eq!(rt;
         fault_of(rt.alloc(), &changed(&[(64, 2), (68, 6)])),
@@ -189,11 +189,11 @@ fn each_bad_record_has_its_fault(rt: HostRuntime) -> Result<(), Fail> {
     );
     assert_eq!(rt;
         fault_of(rt.alloc(), &changed(&[(72, 5)])),
-        bad_record(1, RecordFault::State(5))
+        bad_row(1, ZoneRowFault::State(5))
     );
     assert_eq!(rt;
         fault_of(rt.alloc(), &changed(&[(91, 1)])),
-        bad_record(3, RecordFault::Reserved)
+        bad_row(3, ZoneRowFault::Reserved)
     );
     let many = changed(&[(64, 3), (72, 3), (80, 3)]);
     assert_eq!(rt; fault_of(rt.alloc(), &many), Some(LoadFault::Limits));
@@ -234,7 +234,7 @@ fn the_first_fault_decides(rt: HostRuntime) -> Result<(), Fail> {
     let bad_zone = changed(&[(32, 1), (91, 1)]);
     assert_eq!(rt;
         fault_of(rt.alloc(), &bad_zone),
-        bad_record(3, RecordFault::Reserved)
+        bad_row(3, ZoneRowFault::Reserved)
     );
     Ok(())
 }

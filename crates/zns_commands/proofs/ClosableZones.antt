@@ -10,20 +10,20 @@ use Rattle.zone_state.specs.declared.state.ZoneState.TheVariants.{Empty, Implici
 use Rattle.zone_resources.specs.Admission.{wanted_of, IsClosable}
 use Rattle.zone_resources.specs.declared.admission.Wanted.{Wanted}
 use Rattle.zone_resources.specs.declared.holds.Holds.{Holds}
-use Rattle.image_store.specs.Namespace.{ZonedNamespace, no_zone, zone_at, counted, records}
+use Rattle.image_store.specs.Namespace.{ZonedNamespace, no_zone, zone_at, counted, counted_zones}
 use Rattle.zone_state.specs.declared.status.Status.{Status}
 use Rattle.zone_state.specs.Checks.{unless_failed}
 
 -- a zone that may be closed is a zone, and implicitly opened
-pub closable_zone : (ns : ZonedNamespace) (holds : Holds) (z : ℕ) → IsClosable holds (records ns) z → z < length ns.zones
+pub closable_zone : (ns : ZonedNamespace) (holds : Holds) (z : ℕ) → IsClosable holds (counted_zones ns) z → z < length ns.zones
 closable_zone ns holds z h =
-    let within = slice_get_within (records ns) z h.zone h.there in
+    let within = slice_get_within (counted_zones ns) z h.zone h.there in
     omega (arith, length-map ns.zones (counted ns.capacity))
 
-pub closable_state : (ns : ZonedNamespace) (holds : Holds) (z : ℕ) → IsClosable holds (records ns) z → (zone_at ns z).state ≡ ImplicitlyOpened
+pub closable_state : (ns : ZonedNamespace) (holds : Holds) (z : ℕ) → IsClosable holds (counted_zones ns) z → (zone_at ns z).state ≡ ImplicitlyOpened
 closable_state ns holds z h =
     let inside = closable_zone ns holds z h in
-    let read = get_or_from_slice_get (records ns) z h.zone (counted ns.capacity no_zone) h.there in
+    let read = get_or_from_slice_get (counted_zones ns) z h.zone (counted ns.capacity no_zone) h.there in
     let mapped = get_or-map (counted ns.capacity) ns.zones z no_zone (counted ns.capacity no_zone) inside in
     ap (λ (r : CountedZone). r.state) (sym mapped ∙ read) ∙ h.implicitly_opened
 
@@ -37,7 +37,7 @@ wants_none Full wanted e = cc
 wants_none Offline wanted e = cc
 
 -- a zone that wants room isn't the one that gives way, which can be Closed
-pub other_zone : (ns : ZonedNamespace) (holds : Holds) (zone : ℕ) (wanted : Wanted) (z : ℕ) → wanted_of (zone_at ns zone).state ≡ Some wanted → IsClosable holds (records ns) z → z ≢ zone
+pub other_zone : (ns : ZonedNamespace) (holds : Holds) (zone : ℕ) (wanted : Wanted) (z : ℕ) → wanted_of (zone_at ns zone).state ≡ Some wanted → IsClosable holds (counted_zones ns) z → z ≢ zone
 other_zone ns holds zone wanted z wants closable = λ (same : z ≡ zone).
     wants_none (zone_at ns zone).state wanted wants (subst (λ (k : ℕ). (zone_at ns k).state ≡ ImplicitlyOpened) same (closable_state ns holds z closable))
 

@@ -8,7 +8,7 @@ use Rattle.zone_resources.specs.Admission.{HoldsNoMore, IsWithin}
 use Rattle.zone_resources.proofs.Proved.{release_keeps_limits}
 use Rattle.image_store.specs.Blocks.{AreBytes}
 use Rattle.image_store.specs.Geometry.{IsShape}
-use Rattle.image_store.specs.Namespace.{ZoneBlocks, ZonedNamespace, no_zone, zone_at, with_zone, counted, shape, records, IsNamespace, IsWithinLimits}
+use Rattle.image_store.specs.Namespace.{ZoneBlocks, ZonedNamespace, no_zone, zone_at, with_zone, counted, shape, counted_zones, IsNamespace, IsWithinLimits}
 use Rattle.zns_commands.specs.Address.{counted_zone_at}
 
 -- what holds of one zone: its state allows its blocks, and each of them is whole and of bytes
@@ -68,21 +68,21 @@ set_namespace ns z zone sound fits within =
     namespace_of_zones ns (set ns.zones z zone) sound.shape (length-set ns.zones z zone)
     (each_set (FitsIn ns.block ns.capacity) ns.zones z zone (λ y inside. zone_fits ns y sound inside) fits) within
 
-pub record_there : (ns : ZonedNamespace) (z : ℕ) → z < length ns.zones → slice_get (records ns) z ≡ Some (counted_zone_at ns z)
-record_there ns z inside =
+pub counted_zone_there : (ns : ZonedNamespace) (z : ℕ) → z < length ns.zones → slice_get (counted_zones ns) z ≡ Some (counted_zone_at ns z)
+counted_zone_there ns z inside =
     let c = ns.capacity in
-    let within : z < length (records ns) = omega (arith, length-map ns.zones (counted c)) in
-    slice_get-get_or (records ns) z (counted c no_zone) within ∙ ap Some (get_or-map (counted c) ns.zones z no_zone (counted c no_zone) inside)
+    let within : z < length (counted_zones ns) = omega (arith, length-map ns.zones (counted c)) in
+    slice_get-get_or (counted_zones ns) z (counted c no_zone) within ∙ ap Some (get_or-map (counted c) ns.zones z no_zone (counted c no_zone) inside)
 
-pub records_with : (ns : ZonedNamespace) (z : ℕ) (zone : ZoneBlocks) → records (with_zone ns z zone) ≡ slice_set (records ns) z (counted ns.capacity zone)
-records_with ns z zone = map-set (counted ns.capacity) ns.zones z zone
+pub counted_zones_with : (ns : ZonedNamespace) (z : ℕ) (zone : ZoneBlocks) → counted_zones (with_zone ns z zone) ≡ slice_set (counted_zones ns) z (counted ns.capacity zone)
+counted_zones_with ns z zone = map-set (counted ns.capacity) ns.zones z zone
 
 -- one zone that comes into a state which holds no more
 pub one_within : (ns : ZonedNamespace) (z : ℕ) (zone : ZoneBlocks) → z < length ns.zones → IsWithinLimits ns
     → HoldsNoMore zone.state (zone_at ns z).state → IsWithinLimits (with_zone ns z zone)
 one_within ns z zone inside within less =
-    subst (λ (zones : List CountedZone). IsWithin zones ns.limits) (sym (records_with ns z zone))
-    (release_keeps_limits (records ns) ns.limits z (counted_zone_at ns z) (counted ns.capacity zone) within (record_there ns z inside) less)
+    subst (λ (zones : List CountedZone). IsWithin zones ns.limits) (sym (counted_zones_with ns z zone))
+    (release_keeps_limits (counted_zones ns) ns.limits z (counted_zone_at ns z) (counted ns.capacity zone) within (counted_zone_there ns z inside) less)
 
 pub one_sound : (ns : ZonedNamespace) (z : ℕ) (zone : ZoneBlocks) → IsNamespace ns → z < length ns.zones
     → FitsIn ns.block ns.capacity zone → HoldsNoMore zone.state (zone_at ns z).state → IsNamespace (with_zone ns z zone)

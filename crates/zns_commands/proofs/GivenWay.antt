@@ -15,13 +15,13 @@ use Rattle.zone_resources.specs.declared.admission.Wanted.TheVariants.{OpenOnly,
 use Rattle.zone_resources.specs.declared.holds.Holds.{Holds}
 use Rattle.zone_resources.proofs.Proved.{closes_the_lowest, admission_keeps_limits}
 use Rattle.image_store.specs.Blocks.{as_blocks}
-use Rattle.image_store.specs.Namespace.{ZoneBlocks, ZonedNamespace, no_zone, zone_at, with_zone, counted, grown, records, IsNamespace, IsWithinLimits, arrived, with_state}
+use Rattle.image_store.specs.Namespace.{ZoneBlocks, ZonedNamespace, no_zone, zone_at, with_zone, counted, grown, counted_zones, IsNamespace, IsWithinLimits, arrived, with_state}
 use Rattle.zns_commands.specs.Address.{counted_zone_at}
 use Rattle.zns_commands.specs.Resources.{room_by, room_for, closed}
 use Rattle.zns_commands.specs.steps.Accepted.{CanGiveWay}
 use Rattle.zns_commands.specs.Write.{written}
 use Rattle.zns_commands.proofs.ClosableZones.{closable_zone, closable_state, other_zone, closed_fits}
-use Rattle.zns_commands.proofs.FittingZones.{FitsIn, set_namespace, record_there, records_with, one_within}
+use Rattle.zns_commands.proofs.FittingZones.{FitsIn, set_namespace, counted_zone_there, counted_zones_with, one_within}
 
 -- what is to be closed may be
 lowest_closable : (zones : List CountedZone) (holds : Holds) (lowest : ℕ) → zone_to_close holds zones ≡ Some lowest → IsClosable holds zones lowest
@@ -51,19 +51,19 @@ admitted_closable zones limits holds OpenAndActive closed e =
     closing_closable zones holds (nat_lt (open_count zones) limits.open_limit) (zone_to_close holds zones) closed refl
     (guarded (nat_lt (active_count zones) limits.active_limit) (open_admission zones limits holds) TOO_MANY_ACTIVE_ZONES closed e)
 
--- the records, once the zone that gives way is closed
+-- the counted zones, once the zone that gives way is closed
 closed_with_within : (ns : ZonedNamespace) (z : ℕ) (zone : ZoneBlocks) (gives : Option ℕ) → ForSome gives (λ k. k < length ns.zones)
-    → IsWithin (slice_set (after_closing gives (records ns)) z (counted ns.capacity zone)) ns.limits
-    → IsWithin (records (with_zone (closed ns gives) z zone)) (closed ns gives).limits
+    → IsWithin (slice_set (after_closing gives (counted_zones ns)) z (counted ns.capacity zone)) ns.limits
+    → IsWithin (counted_zones (with_zone (closed ns gives) z zone)) (closed ns gives).limits
 closed_with_within ns z zone None inside within =
-    subst (λ (zones : List CountedZone). IsWithin zones ns.limits) (sym (records_with ns z zone)) within
+    subst (λ (zones : List CountedZone). IsWithin zones ns.limits) (sym (counted_zones_with ns z zone)) within
 closed_with_within ns z zone (Some k) inside within =
     let given : ZoneBlocks = record { state = Closed; blocks = (zone_at ns k).blocks } in
-    let there = record_there ns k (inside k refl) in
+    let there = counted_zone_there ns k (inside k refl) in
     subst (λ (zones : List CountedZone). IsWithin zones ns.limits)
-    (ap (λ (r : Option CountedZone). slice_set (closed_in (records ns) k r) z (counted ns.capacity zone)) there
-    ∙ (ap (λ (zones : List CountedZone). slice_set zones z (counted ns.capacity zone)) (sym (records_with ns k given))
-    ∙ sym (records_with (with_zone ns k given) z zone)))
+    (ap (λ (r : Option CountedZone). slice_set (closed_in (counted_zones ns) k r) z (counted ns.capacity zone)) there
+    ∙ (ap (λ (zones : List CountedZone). slice_set zones z (counted ns.capacity zone)) (sym (counted_zones_with ns k given))
+    ∙ sym (counted_zones_with (with_zone ns k given) z zone)))
     within
 
 -- that zone holds no less open than Closed
@@ -77,7 +77,7 @@ closed_holds_no_more Full is = cc
 closed_holds_no_more Offline is = cc
 
 closed_limits : (ns : ZonedNamespace) (holds : Holds) (gives : Option ℕ) → IsNamespace ns
-    → ForSome gives (IsClosable holds (records ns)) → IsWithinLimits (closed ns gives)
+    → ForSome gives (IsClosable holds (counted_zones ns)) → IsWithinLimits (closed ns gives)
 closed_limits ns holds None sound closable = sound.within
 closed_limits ns holds (Some k) sound closable =
     let may = closable k refl in
@@ -85,7 +85,7 @@ closed_limits ns holds (Some k) sound closable =
     (closed_holds_no_more (zone_at ns k).state (closable_state ns holds k may))
 
 can_give_way : (ns : ZonedNamespace) (holds : Holds) (zone : ℕ) (wanted : Wanted) (gives : Option ℕ) → IsNamespace ns
-    → wanted_of (zone_at ns zone).state ≡ Some wanted → ForSome gives (IsClosable holds (records ns)) → CanGiveWay ns zone gives
+    → wanted_of (zone_at ns zone).state ≡ Some wanted → ForSome gives (IsClosable holds (counted_zones ns)) → CanGiveWay ns zone gives
 can_give_way ns holds zone wanted gives sound wants closable = record {
   inside = λ z is. closable_zone ns holds z (closable z is);
   fits = λ z is.
@@ -131,14 +131,14 @@ room_of_wanted ns holds z gives None sound inside wants room =
       limits = λ zone less. one_within ns z zone inside sound.within (less wants);
     })
 room_of_wanted ns holds z gives (Some wanted) sound inside wants room =
-    let closable = admitted_closable (records ns) ns.limits holds wanted gives room in
+    let closable = admitted_closable (counted_zones ns) ns.limits holds wanted gives room in
     let give = can_give_way ns holds z wanted gives sound wants closable in
-    let keeps = admission_keeps_limits (records ns) ns.limits holds wanted gives sound.within room in
+    let keeps = admission_keeps_limits (counted_zones ns) ns.limits holds wanted gives sound.within room in
     record {
       give = give;
       limits = λ zone less.
           closed_with_within ns z zone gives give.inside
-          (keeps.1 z (counted_zone_at ns z) (counted ns.capacity zone) (record_there ns z inside) wants);
+          (keeps.1 z (counted_zone_at ns z) (counted ns.capacity zone) (counted_zone_there ns z inside) wants);
     }
 
 pub has_room : (ns : ZonedNamespace) (holds : Holds) (z : ℕ) (gives : Option ℕ)

@@ -6,7 +6,7 @@ use Rattle.zone_state.specs.declared.status.TheConstants.Status.{ZONE_HELD}
 use Rattle.zone_resources.specs.Holds.{is_destination, refuses}
 use Rattle.zone_state.specs.Checks.{demand, first_failed}
 use Rattle.nvme_entry.specs.declared.command.StandardCommand.TheVariants.{Write, Read, Send, Receive, Append}
-use Rattle.image_store.specs.Namespace.{ZonedNamespace, records}
+use Rattle.image_store.specs.Namespace.{ZonedNamespace, counted_zones}
 use Rattle.zns_commands.specs.Address.{zone_number}
 use Rattle.zns_commands.specs.Answer.{Effect, refused_effect, concluded}
 use Rattle.zns_commands.specs.Held.{HeldCommandsAreRefused, checks_before_holds}
@@ -37,7 +37,7 @@ held_commands_are_refused ns holds (Append lba blocks) input held =
     ns (effect_of ns holds command input) held
 held_commands_are_refused ns holds (Send lba action true) input held =
     let command = Send lba action true in
-    held_decides (checks_before_holds ns command input) (drop 3 (checks_of ns holds command input)) (held_among (records ns) holds action)
+    held_decides (checks_before_holds ns command input) (drop 3 (checks_of ns holds command input)) (held_among (counted_zones ns) holds action)
     ns (effect_of ns holds command input) held
 held_commands_are_refused ns holds (Send lba action false) input held =
     let command = Send lba action false in

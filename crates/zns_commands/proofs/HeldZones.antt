@@ -19,7 +19,7 @@ use Rattle.zone_resources.specs.declared.holds.Holds.{Holds}
 use Rattle.zone_state.specs.Checks.{first_failed}
 use Rattle.nvme_entry.specs.declared.command.StandardCommand.{StandardCommand}
 use Rattle.nvme_entry.specs.declared.command.StandardCommand.TheVariants.{Write, Read, Send, Receive, Append}
-use Rattle.image_store.specs.Namespace.{ZoneBlocks, ZonedNamespace, no_zone, zone_at, counted, records}
+use Rattle.image_store.specs.Namespace.{ZoneBlocks, ZonedNamespace, no_zone, zone_at, counted, counted_zones}
 use Rattle.zns_commands.specs.Address.{zone_number}
 use Rattle.zns_commands.specs.Append.{append_checks}
 use Rattle.zns_commands.specs.Fault.{fault_answer}
@@ -41,13 +41,13 @@ not_true false e = refl
 
 -- the zone that gives way may be closed
 wanted_closable : (ns : ZonedNamespace) (holds : Holds) (wanted : Option Wanted) (gives : Option ℕ)
-    → room_by ns holds wanted ≡ Ok gives → ForSome gives (IsClosable holds (records ns))
+    → room_by ns holds wanted ≡ Ok gives → ForSome gives (IsClosable holds (counted_zones ns))
 wanted_closable ns holds None gives e = λ k is. cc
-wanted_closable ns holds (Some wanted) gives e = admitted_closable (records ns) ns.limits holds wanted gives e
+wanted_closable ns holds (Some wanted) gives e = admitted_closable (counted_zones ns) ns.limits holds wanted gives e
 
 room_closable : (ns : ZonedNamespace) (holds : Holds) (a : Action) (state : ZoneState)
     → room_of ns holds a state ≡ Ok (closing_of (room_of ns holds a state))
-    → ForSome (closing_of (room_of ns holds a state)) (IsClosable holds (records ns))
+    → ForSome (closing_of (room_of ns holds a state)) (IsClosable holds (counted_zones ns))
 room_closable ns holds action.Open state room = wanted_closable ns holds (wanted_of state) (closing_of (room_for ns holds state)) room
 room_closable ns holds action.Close state room = λ k is. cc
 room_closable ns holds action.Finish state room = λ k is. cc
@@ -88,8 +88,8 @@ pub not_taken : (ns : ZonedNamespace) (holds : Holds) (lba : ℕ) (a : Action) (
 not_taken ns holds lba a input z none held =
     let same : z ≡ 0 + z = omega arith in
     not_taken_from holds a ns.capacity 0 z ns.zones (subst (λ (k : ℕ). refuses holds a k ≡ true) same held)
-    (not_true (held_among (records ns) holds a)
-    (demanded (not (held_among (records ns) holds a)) ZONE_HELD (passed (send_checks ns holds lba a true input) 2 none)))
+    (not_true (held_among (counted_zones ns) holds a)
+    (demanded (not (held_among (counted_zones ns) holds a)) ZONE_HELD (passed (send_checks ns holds lba a true input) 2 none)))
 
 -- an action on one zone is on one that isn't held against it
 pub not_refused : (ns : ZonedNamespace) (holds : Holds) (lba : ℕ) (a : Action) (input : List ℕ)
@@ -115,11 +115,11 @@ module _ (ns : ZonedNamespace) (holds : Holds) (d : ℕ) (held : is_destination 
   other : (z : ℕ) → is_destination holds z ≡ false → nat_eq z d ≡ false
   other z free = other_by z (nat_eq z d) refl free
 
-  other_gives : (gives : Option ℕ) → ForSome gives (IsClosable holds (records ns)) → names d gives ≡ false
+  other_gives : (gives : Option ℕ) → ForSome gives (IsClosable holds (counted_zones ns)) → names d gives ≡ false
   other_gives None closable = refl
   other_gives (Some k) closable = other k (closable k refl).free
 
-  neither_is : (z : ℕ) (gives : Option ℕ) → is_destination holds z ≡ false → ForSome gives (IsClosable holds (records ns)) → is_either z gives d ≡ false
+  neither_is : (z : ℕ) (gives : Option ℕ) → is_destination holds z ≡ false → ForSome gives (IsClosable holds (counted_zones ns)) → is_either z gives d ≡ false
   neither_is z gives free closable = rw (other z free, other_gives gives closable) refl
 
   free_of : (z : ℕ) (checks : List (Option Status)) → first_failed checks ≡ None

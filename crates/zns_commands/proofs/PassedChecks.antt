@@ -17,7 +17,7 @@ use Rattle.zone_resources.specs.declared.holds.Holds.{Holds}
 use Rattle.nvme_entry.specs.declared.command.StandardCommand.TheVariants.{Write, Append}
 use Rattle.nvme_entry.specs.declared.command.TheConstants.{MOST_TRANSFER}
 use Rattle.zone_state.specs.Checks.{demand, or_else, first_failed}
-use Rattle.image_store.specs.Namespace.{ZonedNamespace, zone_at, records, IsNamespace}
+use Rattle.image_store.specs.Namespace.{ZonedNamespace, zone_at, counted_zones, IsNamespace}
 use Rattle.zns_commands.specs.Address.{counted_zone_at, zone_number, block_total}
 use Rattle.zns_commands.specs.Answer.{Effect, concluded}
 use Rattle.zns_commands.specs.Append.{append_checks, append_effect}
@@ -88,10 +88,10 @@ open_fails zones limits holds =
 
 wanted_fails : (ns : ZonedNamespace) (holds : Holds) (wanted : Option Wanted) → Fails (why_not (room_by ns holds wanted))
 wanted_fails ns holds None = none_fails
-wanted_fails ns holds (Some OpenOnly) = open_fails (records ns) ns.limits holds
+wanted_fails ns holds (Some OpenOnly) = open_fails (counted_zones ns) ns.limits holds
 wanted_fails ns holds (Some OpenAndActive) =
-    cond_fails (nat_lt (active_count (records ns)) ns.limits.active_limit) (open_admission (records ns) ns.limits holds) (Err TOO_MANY_ACTIVE_ZONES)
-    (open_fails (records ns) ns.limits holds) (err_fails TOO_MANY_ACTIVE_ZONES (omega arith))
+    cond_fails (nat_lt (active_count (counted_zones ns)) ns.limits.active_limit) (open_admission (counted_zones ns) ns.limits holds) (Err TOO_MANY_ACTIVE_ZONES)
+    (open_fails (counted_zones ns) ns.limits holds) (err_fails TOO_MANY_ACTIVE_ZONES (omega arith))
 
 all_fail : (a b c d e : Bool) (s : Status) (f g : Option Status) → 1 ≤ s.code → Fails f → Fails g
     → Fails (first_failed (demand a INVALID_FIELD_IN_COMMAND ∷ demand b INVALID_FIELD_IN_COMMAND ∷ demand c LBA_OUT_OF_RANGE

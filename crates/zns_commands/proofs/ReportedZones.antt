@@ -11,7 +11,7 @@ use Rattle.nvme_entry.specs.declared.filter.ZoneFilter.TheVariants as filter
 use Rattle.zone_state.specs.Checks.{demand, first_failed}
 use Rattle.nvme_entry.specs.ReportLaws.{number_in, descriptors_in}
 use Rattle.nvme_entry.specs.Report.{report, descriptor_at}
-use Rattle.image_store.specs.Namespace.{counted, records}
+use Rattle.image_store.specs.Namespace.{counted, counted_zones}
 use Rattle.zns_commands.specs.Address.{block_total}
 use Rattle.zns_commands.specs.Answer.{Effect, success_effect, concluded}
 use Rattle.zns_commands.specs.Receive.{receive_checks, receive_effect}
@@ -26,7 +26,7 @@ pub reports_every_zone : ReportsEveryZone
 reports_every_zone ns holds dwords partial sound room most =
     let shape = sound.shape in
     let size = ns.size in
-    let zones = records ns in
+    let zones = counted_zones ns in
     let count : length zones ≡ length ns.zones = length-map ns.zones (counted ns.capacity) in
     let product : 1 * size ≤ length ns.zones * size = mul-le-mul_right size shape.zones_some in
     let inside : 0 < block_total ns = omega (arith, shape.size_some) in

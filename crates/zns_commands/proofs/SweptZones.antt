@@ -12,7 +12,7 @@ use Rattle.zone_state.specs.declared.state.ZoneState.{ZoneState}
 use Rattle.zone_state.specs.declared.state.ZoneState.TheVariants.{Empty}
 use Rattle.zone_resources.specs.Admission.{IsWithin}
 use Rattle.zone_resources.specs.Counts.{open_count, one_if}
-use Rattle.image_store.specs.Namespace.{ZoneBlocks, ZonedNamespace, no_zone, zone_at, counted, records, IsNamespace, IsWithinLimits, arrived}
+use Rattle.image_store.specs.Namespace.{ZoneBlocks, ZonedNamespace, no_zone, zone_at, counted, counted_zones, IsNamespace, IsWithinLimits, arrived}
 use Rattle.zns_commands.specs.Send.{all_effect, all_fit, takes, taken_among, swept}
 use Rattle.zns_commands.specs.steps.Accepted.{swept_below}
 use Rattle.zns_commands.proofs.FittingZones.{FitsIn, zone_fits, namespace_of_zones}
@@ -82,13 +82,13 @@ count_none [] = refl
 count_none (zone ∷ zones) = count_none zones
 
 -- those that are opened have room
-opened_fit : (ns : ZonedNamespace) (a : Action) → IsWithin (records ns) ns.limits → all_fit ns a ≡ true
-    → open_count (records ns) + count_in (opens a) (records ns) ≤ ns.limits.open_limit
-opened_fit ns action.Open within fit = leb-true (open_count (records ns) + taken_among (records ns) action.Open) ns.limits.open_limit fit
-opened_fit ns action.Close within fit = omega (arith, count_none (records ns), within.opened)
-opened_fit ns action.Finish within fit = omega (arith, count_none (records ns), within.opened)
-opened_fit ns action.Reset within fit = omega (arith, count_none (records ns), within.opened)
-opened_fit ns action.Offline within fit = omega (arith, count_none (records ns), within.opened)
+opened_fit : (ns : ZonedNamespace) (a : Action) → IsWithin (counted_zones ns) ns.limits → all_fit ns a ≡ true
+    → open_count (counted_zones ns) + count_in (opens a) (counted_zones ns) ≤ ns.limits.open_limit
+opened_fit ns action.Open within fit = leb-true (open_count (counted_zones ns) + taken_among (counted_zones ns) action.Open) ns.limits.open_limit fit
+opened_fit ns action.Close within fit = omega (arith, count_none (counted_zones ns), within.opened)
+opened_fit ns action.Finish within fit = omega (arith, count_none (counted_zones ns), within.opened)
+opened_fit ns action.Reset within fit = omega (arith, count_none (counted_zones ns), within.opened)
+opened_fit ns action.Offline within fit = omega (arith, count_none (counted_zones ns), within.opened)
 
 -- the limits allow the first zones swept, and all of them
 pub swept_below_within : (ns : ZonedNamespace) (a : Action) (n : ℕ) → IsWithinLimits ns → all_fit ns a ≡ true → IsWithinLimits (swept_below ns a n)
@@ -99,7 +99,7 @@ swept_below_within ns a n within fit =
     (λ zone. subst (λ (s : ZoneState). one_if (is_active s) ≤ one_if (is_active zone.state) + one_if false) (sym (swept_state a zone)) (sweep_holds a zone.state).active) in
     record {
       opened = omega (arith, opened, opened_fit ns a within fit);
-      active = omega (arith, active, count_none (records ns), within.active);
+      active = omega (arith, active, count_none (counted_zones ns), within.active);
     }
 
 swept_within : (ns : ZonedNamespace) (a : Action) → IsWithinLimits ns → all_fit ns a ≡ true → IsWithinLimits (all_effect ns a)

@@ -7,7 +7,7 @@ use Rattle.zone_resources.specs.Holds.{is_destination, refuses}
 use Rattle.zone_resources.specs.declared.holds.Holds.{Holds}
 use Rattle.nvme_entry.specs.declared.command.StandardCommand.{StandardCommand}
 use Rattle.nvme_entry.specs.declared.command.StandardCommand.TheVariants.{Write, Read, Send, Receive, Append}
-use Rattle.image_store.specs.Namespace.{ZonedNamespace, records}
+use Rattle.image_store.specs.Namespace.{ZonedNamespace, counted_zones}
 use Rattle.zns_commands.specs.Address.{zone_number, lowest_checks, range_checks}
 use Rattle.zns_commands.specs.Answer.{refused_effect}
 use Rattle.zns_commands.specs.Meaning.{meaning}
@@ -18,7 +18,7 @@ use Rattle.zns_commands.specs.Transfer.{transfer_checks}
 abbrev pub is_held_against : ZonedNamespace → Holds → StandardCommand → Bool
 is_held_against ns holds (Write lba blocks) = is_destination holds (zone_number ns lba)
 is_held_against ns holds (Append lba blocks) = is_destination holds (zone_number ns lba)
-is_held_against ns holds (Send lba action true) = held_among (records ns) holds action
+is_held_against ns holds (Send lba action true) = held_among (counted_zones ns) holds action
 is_held_against ns holds (Send lba action false) = refuses holds action (zone_number ns lba)
 is_held_against ns holds (Read lba blocks) = false
 is_held_against ns holds (Receive lba dwords filter partial) = false

@@ -14,7 +14,7 @@ use Rattle.nvme_entry.specs.ReportLaws.{number_in, descriptors_in}
 use Rattle.nvme_entry.specs.Report.{descriptor_at}
 use Rattle.image_store.specs.Blocks.{AreBytes}
 use Rattle.image_store.specs.Geometry.{Shape, IsShape}
-use Rattle.image_store.specs.Namespace.{ZonedNamespace, zone_at, appended, IsNamespace, all_empty, records}
+use Rattle.image_store.specs.Namespace.{ZonedNamespace, zone_at, appended, IsNamespace, all_empty, counted_zones}
 use Rattle.zone_state.specs.State.{is_cleared}
 use Rattle.zns_commands.specs.Address.{zone_number}
 use Rattle.zns_commands.specs.Answer.{Effect, success_effect, refused_effect}
@@ -135,4 +135,4 @@ ReportsEveryZone =
     → let done = meaning ns holds (Receive 0 dwords filter.All partial) [] in
     (done.status ≡ SUCCESS)
     × (number_in done.output ≡ length ns.zones)
-    × (descriptors_in (length ns.zones) done.output ≡ map (descriptor_at ns.size) (enumerate_from 0 (records ns)))
+    × (descriptors_in (length ns.zones) done.output ≡ map (descriptor_at ns.size) (enumerate_from 0 (counted_zones ns)))

@@ -3,7 +3,7 @@ use Rattle.std.specs.Prelude.{ℕ, Bool, ◌*◌, ◌++◌, List, [], ◌∷◌,
 use Rattle.zone_state.specs.declared.status.Status.{Status}
 use Rattle.nvme_entry.specs.declared.filter.ZoneFilter.{ZoneFilter}
 use Rattle.nvme_entry.specs.Report.{report}
-use Rattle.image_store.specs.Namespace.{ZonedNamespace, records}
+use Rattle.image_store.specs.Namespace.{ZonedNamespace, counted_zones}
 use Rattle.zns_commands.specs.Address.{address_check, zone_number}
 use Rattle.zns_commands.specs.Answer.{Effect, success_effect}
 use Rattle.zns_commands.specs.Transfer.{transfer_checks}
@@ -18,4 +18,4 @@ receive_checks ns lba dwords input =
 -- the report begins at the zone that contains the address
 abbrev pub receive_effect : ZonedNamespace → ℕ → ℕ → ZoneFilter → Bool → Effect
 receive_effect ns lba dwords filter partial =
-    success_effect ns 0 (report (4 * dwords) (records ns) (zone_number ns lba) ns.size filter partial)
+    success_effect ns 0 (report (4 * dwords) (counted_zones ns) (zone_number ns lba) ns.size filter partial)

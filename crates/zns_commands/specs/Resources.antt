@@ -6,11 +6,11 @@ use Rattle.zone_state.specs.declared.status.Status.{Status}
 use Rattle.zone_resources.specs.Admission.{admission, wanted_of}
 use Rattle.zone_resources.specs.declared.admission.Wanted.{Wanted}
 use Rattle.zone_resources.specs.declared.holds.Holds.{Holds}
-use Rattle.image_store.specs.Namespace.{ZonedNamespace, with_state, records}
+use Rattle.image_store.specs.Namespace.{ZonedNamespace, with_state, counted_zones}
 
 abbrev pub room_by : ZonedNamespace → Holds → Option Wanted → Result (Option ℕ) Status
 room_by ns holds None = Ok None
-room_by ns holds (Some wanted) = admission (records ns) ns.limits holds wanted
+room_by ns holds (Some wanted) = admission (counted_zones ns) ns.limits holds wanted
 
 -- the zone to be closed so that one of this state can be open, if one has to be, or why none can
 abbrev pub room_for : ZonedNamespace → Holds → ZoneState → Result (Option ℕ) Status

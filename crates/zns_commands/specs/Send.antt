@@ -14,7 +14,7 @@ use Rattle.zone_resources.specs.Counts.{open_count}
 use Rattle.zone_resources.specs.Holds.{refuses}
 use Rattle.zone_resources.specs.declared.holds.Holds.{Holds}
 use Rattle.zone_state.specs.Checks.{demand}
-use Rattle.image_store.specs.Namespace.{ZoneBlocks, ZonedNamespace, zone_at, records, arrived, with_state}
+use Rattle.image_store.specs.Namespace.{ZoneBlocks, ZonedNamespace, zone_at, counted_zones, arrived, with_state}
 use Rattle.zns_commands.specs.Address.{zone_number, lowest_checks}
 use Rattle.zns_commands.specs.Resources.{room_for, why_not, closing_of, closed}
 use Rattle.zns_commands.specs.declared.send.ZonePlan.{ZonePlan}
@@ -72,13 +72,13 @@ taken_among zones action = count_by (λ zone. takes action zone.state) zones
 
 -- has each zone that would be opened an open resource? None is freed for it (profile)
 abbrev pub all_fit : ZonedNamespace → Action → Bool
-all_fit ns action.Open = nat_le (open_count (records ns) + taken_among (records ns) action.Open) ns.limits.open_limit
+all_fit ns action.Open = nat_le (open_count (counted_zones ns) + taken_among (counted_zones ns) action.Open) ns.limits.open_limit
 all_fit ns _ = true
 
 -- the checks of Select All, which is all or nothing (profile); the address is ignored
 abbrev pub all_checks : ZonedNamespace → Holds → Action → List (Option Status)
 all_checks ns holds action =
-    demand (not (held_among (records ns) holds action)) ZONE_HELD
+    demand (not (held_among (counted_zones ns) holds action)) ZONE_HELD
     ∷ demand (all_fit ns action) TOO_MANY_OPEN_ZONES
     ∷ []
 

@@ -6,7 +6,7 @@ ghost use Rattle.zone_resources.specs.declared.holds.Holds.{Holds};
 ghost use Rattle.nvme_entry.specs.Report.{report};
 ghost use Rattle.nvme_entry.specs.declared.command.StandardCommand.TheVariants.{Receive};
 ghost use Rattle.zns_commands.specs.Address.{zone_number};
-ghost use Rattle.image_store.specs.Namespace.{records};
+ghost use Rattle.image_store.specs.Namespace.{counted_zones};
 ghost use Rattle.zns_commands.specs.Answer.{effect_of_answer};
 ghost use Rattle.zns_commands.specs.Meaning.{meaning};
 ghost use Rattle.zns_commands.specs.Receive.{receive_checks};
@@ -47,7 +47,7 @@ fn give_report(
 ) -> usize
     requires { 4 * dwords ≤ length output.old }
     ensures length { result ≡ 4 * dwords }
-    ensures front { take result output.new ≡ report (4 * dwords) (records image.now) first image.now.size filter partial }
+    ensures front { take result output.new ≡ report (4 * dwords) (counted_zones image.now) first image.now.size filter partial }
     ensures rest { drop result output.new ≡ drop result output.old }
 {
     let zones = Report {

@@ -4,7 +4,7 @@ ghost use Rattle.std.specs.Prelude.{true, ◌≡◌, ◌<◌, ◌≤◌, ◌^◌
 ghost use Rattle.nvme_entry.specs.declared.command.StandardCommand.TheVariants.{Send};
 ghost use Rattle.zone_state.specs.Checks.{first_failed, unless_failed};
 ghost use Rattle.image_store.specs.declared.geometry.TheConstants.{MOST_ZONES};
-ghost use Rattle.image_store.specs.Namespace.{zone_at, with_zone, records, IsWithinLimits, with_state};
+ghost use Rattle.image_store.specs.Namespace.{zone_at, with_zone, counted_zones, IsWithinLimits, with_state};
 ghost use Rattle.zns_commands.specs.Answer.{effect_of_answer};
 ghost use Rattle.zns_commands.specs.Meaning.{meaning};
 ghost use Rattle.zns_commands.specs.Resources.{closed};
@@ -112,7 +112,7 @@ fn taken(zones: &[Zone], action: Action) -> usize
 
 /// The zones of an image, of which there are at most as many as a geometry allows.
 fn few_zones(image: &Image) -> &[Zone]
-    ensures value { result.now ≡ records image.now }
+    ensures value { result.now ≡ counted_zones image.now }
     ensures few { length result.now ≤ MOST_ZONES }
 {
     let _ = image.geometry();

@@ -6,7 +6,7 @@ use std::alloc::{AllocError, Global};
 use std::process::Abort;
 use std::test::Fail;
 
-/// Bytes of the header and of four records.
+/// Bytes of the header and of four zone rows.
 const FRONT: usize = 96;
 
 /// How many of the changed texts of a version load, as 0, and how many have the fault of a number, counted by the
@@ -82,7 +82,7 @@ fn flip(text: &mut [u8], place: usize) {
     }
 }
 
-/// What comes of a text with each bit of its header and records changed in turn.
+/// What comes of a text with each bit of its header and zone rows changed in turn.
 fn outcomes(alloc: Global, text: &mut [u8]) -> Result<Vec<u8>, Fail> {
     let mut numbers = Vec::new(alloc);
     for place in 0..8 * FRONT {
@@ -110,7 +110,7 @@ fn compare(
 }
 
 #[test]
-fn each_bit_of_header_and_records(rt: HostRuntime) -> Result<(), Fail> {
+fn each_bit_of_header_and_zone_rows(rt: HostRuntime) -> Result<(), Fail> {
     let mut new = at_its_limits(rt.alloc(), b'2', 2)?;
     compare(&rt, rt.alloc(), new.as_mut_slice(), &VERSION_2)?;
     let mut old = at_its_limits(rt.alloc(), b'1', 0)?;

@@ -8,12 +8,12 @@ overflow_add-start c =
     let g = c.args.geometry in
     let fits = part_fits g c.args.zones.now c.args.blocks.now c.args.zone c.args.first c.args.count c.requires.flat c.requires.inside c.requires.written in
     let small : c.args.zone * (g.capacity * g.block) + c.args.first * g.block < 2 ^ 64 = omega (arith, fits, c.requires.flat.room, c.requires.flat.shape.room) in
-    rw (c.slot.ensures, c.bytes-block.ensures.value, c.block.ensures.value) (Fits-of_lt small)
+    rw (c.zone_room.ensures, c.bytes-block.ensures.value, c.block.ensures.value) (Fits-of_lt small)
 
 pub part-requires : goal.part-requires
 part-requires c =
-    rw (c.slot.ensures, c.bytes-block.ensures.value, c.block.ensures.value) (part_fits c.args.geometry c.args.zones.now c.args.blocks.now c.args.zone c.args.first c.args.count c.requires.flat c.requires.inside c.requires.written)
+    rw (c.zone_room.ensures, c.bytes-block.ensures.value, c.block.ensures.value) (part_fits c.args.geometry c.args.zones.now c.args.blocks.now c.args.zone c.args.first c.args.count c.requires.flat c.requires.inside c.requires.written)
 
 pub returns-clause-value : goal.returns-clause-value
 returns-clause-value c =
-    rw (c.part.ensures.value, c.slot.ensures, c.bytes-block.ensures.value, c.block.ensures.value) (part_seen c.args.geometry c.args.zones.now c.args.blocks.now c.args.zone c.args.first c.args.count c.requires.inside c.requires.written)
+    rw (c.part.ensures.value, c.zone_room.ensures, c.bytes-block.ensures.value, c.block.ensures.value) (part_seen c.args.geometry c.args.zones.now c.args.blocks.now c.args.zone c.args.first c.args.count c.requires.inside c.requires.written)

@@ -1,7 +1,7 @@
 use Rattle.std.proofs.Common.{get_or, refl}
 use Rattle.std.proofs.lemmas.List.{get_or_default}
 use Rattle.zone_state.specs.Zone.{CountedZone, kept}
-use Rattle.image_store.specs.Flat.{no_counted_zone, IsFlat}
+use Rattle.image_store.specs.ImageInMemory.{no_counted_zone, IsFlat}
 use Rattle.image_store.proofs.KeptLimits.{limits_seen}
 use Rattle.image_store.proofs.ReplacedZones.{state_set, flat_set}
 use Rattle.image_store.proofs.image_fields.set_state.Goals as goal

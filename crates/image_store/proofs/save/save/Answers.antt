@@ -1,8 +1,8 @@
 use Rattle.std.proofs.Common.{◌++◌, ap, sym, subst, ◌∙◌}
 use Rattle.std.proofs.lemmas.Result.{err_from_is_err_and}
 use Rattle.image_store.specs.Streams.{IsBegun}
-use Rattle.image_store.specs.Flat.{namespace_of, zones_of}
-use Rattle.image_store.specs.Text.{records_text, blocks_text, text}
+use Rattle.image_store.specs.ImageInMemory.{namespace_of, zones_of}
+use Rattle.image_store.specs.Text.{zone_rows, blocks_text, text}
 use Rattle.image_store.proofs.Sinks.{begins, goes_on, stops, takes_last}
 use Rattle.image_store.proofs.Texts.{text_seen}
 use Rattle.image_store.proofs.save.save.Goals as goal
@@ -16,13 +16,13 @@ returns-in_err-write_all-clause-text g c =
     let before = g.W.Sink.taken c.args.sink.now in
     let all = text (namespace_of s zs xs) in
     let blocks = blocks_text (zones_of s.block s.capacity zs xs) in
-    let parts = sym (text_seen s zs xs c.requires.flat) ∙ ap (λ first. first ++ (records_text zs ++ blocks)) (sym (rw c.written_blocks-total.ensures at c.encode.ensures)) in
+    let parts = sym (text_seen s zs xs c.requires.flat) ∙ ap (λ first. first ++ (zone_rows zs ++ blocks)) (sym (rw c.written_blocks-total.ensures at c.encode.ensures)) in
     let begun = subst (IsBegun before before all) parts (begins before all) in
-    rw p.1 (λ told. stops before before (g.W.Sink.taken c.write_all.new.sink) all c.encode.result (records_text zs ++ blocks) begun (c.in_err-write_all.ensures.text told))
+    rw p.1 (λ told. stops before before (g.W.Sink.taken c.write_all.new.sink) all c.encode.result (zone_rows zs ++ blocks) begun (c.in_err-write_all.ensures.text told))
 
-pub returns-in_err-write_records-clause-text : goal.returns-in_err-write_records-clause-text
-returns-in_err-write_records-clause-text g c =
-    let p = err_from_is_err_and c.from_residual-in_err-write_records.result c.from_residual-in_err-write_records.ensures.1 in
+pub returns-in_err-write_zone_rows-clause-text : goal.returns-in_err-write_zone_rows-clause-text
+returns-in_err-write_zone_rows-clause-text g c =
+    let p = err_from_is_err_and c.from_residual-in_err-write_zone_rows.result c.from_residual-in_err-write_zone_rows.ensures.1 in
     let s = c.args.geometry in
     let zs = c.args.zones.now in
     let xs = c.args.blocks.now in
@@ -30,11 +30,11 @@ returns-in_err-write_records-clause-text g c =
     let mid = g.W.Sink.taken c.write_all.new.sink in
     let all = text (namespace_of s zs xs) in
     let blocks = blocks_text (zones_of s.block s.capacity zs xs) in
-    let parts = sym (text_seen s zs xs c.requires.flat) ∙ ap (λ first. first ++ (records_text zs ++ blocks)) (sym (rw c.written_blocks-total.ensures at c.encode.ensures)) in
+    let parts = sym (text_seen s zs xs c.requires.flat) ∙ ap (λ first. first ++ (zone_rows zs ++ blocks)) (sym (rw c.written_blocks-total.ensures at c.encode.ensures)) in
     let begun = subst (IsBegun before before all) parts (begins before all) in
     rw p.1 (λ told.
-    let next = goes_on before before mid all c.encode.result (records_text zs ++ blocks) begun (c.in_ok-write_all.ensures.text told) in
-    stops before mid (g.W.Sink.taken c.write_records.new.sink) all (records_text zs) blocks next (c.in_err-write_records.ensures.text told))
+    let next = goes_on before before mid all c.encode.result (zone_rows zs ++ blocks) begun (c.in_ok-write_all.ensures.text told) in
+    stops before mid (g.W.Sink.taken c.write_zone_rows.new.sink) all (zone_rows zs) blocks next (c.in_err-write_zone_rows.ensures.text told))
 
 pub returns-clause-text : goal.returns-clause-text
 returns-clause-text g c =
@@ -43,12 +43,12 @@ returns-clause-text g c =
     let xs = c.args.blocks.now in
     let before = g.W.Sink.taken c.args.sink.now in
     let mid = g.W.Sink.taken c.write_all.new.sink in
-    let later = g.W.Sink.taken c.write_records.new.sink in
+    let later = g.W.Sink.taken c.write_zone_rows.new.sink in
     let all = text (namespace_of s zs xs) in
     let blocks = blocks_text (zones_of s.block s.capacity zs xs) in
-    let parts = sym (text_seen s zs xs c.requires.flat) ∙ ap (λ first. first ++ (records_text zs ++ blocks)) (sym (rw c.written_blocks-total.ensures at c.encode.ensures)) in
+    let parts = sym (text_seen s zs xs c.requires.flat) ∙ ap (λ first. first ++ (zone_rows zs ++ blocks)) (sym (rw c.written_blocks-total.ensures at c.encode.ensures)) in
     let begun = subst (IsBegun before before all) parts (begins before all) in
     λ told.
-    let next = goes_on before before mid all c.encode.result (records_text zs ++ blocks) begun (c.in_ok-write_all.ensures.text told) in
-    let last = goes_on before mid later all (records_text zs) blocks next (c.in_ok-write_records.ensures.text told) in
+    let next = goes_on before before mid all c.encode.result (zone_rows zs ++ blocks) begun (c.in_ok-write_all.ensures.text told) in
+    let last = goes_on before mid later all (zone_rows zs) blocks next (c.in_ok-write_zone_rows.ensures.text told) in
     takes_last before later (g.W.Sink.taken c.write_blocks.new.sink) all blocks c.write_blocks.result last (c.write_blocks.ensures.text told)

@@ -2,11 +2,11 @@ use Rattle.std.proofs.Common.{◌≡◌, ◌+◌, [], drop, subst, ◌∙◌, ar
 use Rattle.std.proofs.lemmas.List.{drop_all}
 use Rattle.std.proofs.lemmas.Result.{err_from_is_err_and}
 use Rattle.image_store.specs.Streams.{IsBegun}
-use Rattle.image_store.specs.Flat.{zones_of}
+use Rattle.image_store.specs.ImageInMemory.{zones_of}
 use Rattle.image_store.specs.Text.{blocks_text}
 use Rattle.image_store.proofs.Sinks.{goes_on, stops, ends}
 use Rattle.image_store.proofs.Texts.{blocks_step}
-use Rattle.image_store.proofs.ZonesInSlots.{length-zones}
+use Rattle.image_store.proofs.ZonesInMemory.{length-zones}
 use Rattle.image_store.proofs.save.write_blocks.Goals as goal
 
 pub returns-in_err-write_all-clause-text : goal.returns-in_err-write_all-clause-text

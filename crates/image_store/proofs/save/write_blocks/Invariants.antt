@@ -1,6 +1,6 @@
 use Rattle.std.proofs.Common.{◌≡◌, drop}
 use Rattle.image_store.specs.Streams.{IsBegun}
-use Rattle.image_store.specs.Flat.{namespace_of}
+use Rattle.image_store.specs.ImageInMemory.{namespace_of}
 use Rattle.image_store.specs.Text.{blocks_text}
 use Rattle.image_store.proofs.save.write_blocks.Given as goal
 

@@ -8,9 +8,9 @@ use Rattle.zone_resources.specs.Counts.{open_count, active_count, one_if}
 use Rattle.zone_resources.specs.declared.admission.Limits.{Limits}
 use Rattle.zone_resources.specs.declared.counts.Counts.{Counts}
 use Rattle.zone_resources.proofs.Proved.{counts_follow_one}
-use Rattle.image_store.specs.Flat.{no_counted_zone}
+use Rattle.image_store.specs.ImageInMemory.{no_counted_zone}
 use Rattle.image_store.specs.Geometry.{Shape}
-use Rattle.image_store.specs.Namespace.{counted, records, zone_at}
+use Rattle.image_store.specs.Namespace.{counted, counted_zones, zone_at}
 use Rattle.image_store.proofs.tests.an_appended_block_is_saved.Goals as goal
 
 most_one : (counted : Bool) → one_if counted ≤ 1
@@ -31,13 +31,13 @@ one_more zs limits z is inside opened active =
 pub append-requires-clause-limits : goal.append-requires-clause-limits
 append-requires-clause-limits g c =
     let image = c.in_ok-image.image in
-    let zones : length c.zones.result.now ≡ length (records image) = ap length c.zones.ensures in
-    let inside : 1 < length (records image) = omega (arith, zones) in
-    let opened : open_count (records image) < image.limits.open_limit =
+    let zones : length c.zones.result.now ≡ length (counted_zones image) = ap length c.zones.ensures in
+    let inside : 1 < length (counted_zones image) = omega (arith, zones) in
+    let opened : open_count (counted_zones image) < image.limits.open_limit =
     omega (arith, ap (λ (x : Counts). x.opened) c.counts-counts.ensures, ap (λ (x : Limits). x.open_limit) c.limits-limits.ensures, ap (λ (x : Shape). x.limits.open_limit) c.geometry-3.ensures.value) in
-    let active : active_count (records image) < image.limits.active_limit =
+    let active : active_count (counted_zones image) < image.limits.active_limit =
     omega (arith, ap (λ (x : Counts). x.active) c.counts-counts.ensures, ap (λ (x : Limits). x.active_limit) c.limits-limits.ensures, ap (λ (x : Shape). x.limits.active_limit) c.geometry-3.ensures.value) in
-    rw map-set (one_more (records image) image.limits 1 _ inside opened active)
+    rw map-set (one_more (counted_zones image) image.limits 1 _ inside opened active)
 
 pub append-requires-clause-allowed : goal.append-requires-clause-allowed
 append-requires-clause-allowed g c =

@@ -117,7 +117,7 @@ const IMAGES: &[Act] = &[
     ),
     Act::Refuses(
         "zscli zones g1",
-        "g1: record of zone 3: Empty, with 1 of 6 blocks written\nimage refused 13\n",
+        "g1: row of zone 3: Empty, with 1 of 6 blocks written\nimage refused 13\n",
     ),
     Act::Put(
         "g1",
@@ -130,7 +130,7 @@ const IMAGES: &[Act] = &[
     ),
     Act::Refuses(
         "zscli zones g1",
-        "g1: record of zone 2: no state has code 5h\nimage refused 13\n",
+        "g1: row of zone 2: no state has code 5h\nimage refused 13\n",
     ),
     Act::Put(
         "g1",
@@ -138,7 +138,7 @@ const IMAGES: &[Act] = &[
     ),
     Act::Refuses(
         "zscli zones g1",
-        "g1: record of zone 0: bytes 1 to 3 are not zero\nimage refused 13\n",
+        "g1: row of zone 0: bytes 1 to 3 are not zero\nimage refused 13\n",
     ),
     Act::Put(
         "g1",
@@ -151,7 +151,7 @@ const IMAGES: &[Act] = &[
     ),
     Act::Refuses(
         "zscli zones g1",
-        "g1: the header tells of 0 written blocks, the records of 3\nimage refused 18\n",
+        "g1: the header tells of 0 written blocks, the zone rows of 3\nimage refused 18\n",
     ),
     Act::Put(
         "g1",

@@ -1,6 +1,6 @@
 use Rattle.std.proofs.Common.{sym, ◌∙◌}
 use Rattle.std.proofs.lemmas.List.{get_or_default}
-use Rattle.image_store.specs.Flat.{no_counted_zone}
+use Rattle.image_store.specs.ImageInMemory.{no_counted_zone}
 use Rattle.image_store.proofs.ImageFields.{inside_seen, counted_at}
 use Rattle.image_store.proofs.image.Image.zone.Goals as goal
 

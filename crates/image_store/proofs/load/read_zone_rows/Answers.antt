@@ -1,14 +1,14 @@
 use Rattle.std.proofs.Common.{rules}
 use Rattle.image_store.specs.Geometry.{IsShape}
 use Rattle.image_store.proofs.Faults.{counts_last}
-use Rattle.image_store.proofs.LoadedParts.{records_fit}
-use Rattle.image_store.proofs.load.read_records.Goals as goal
+use Rattle.image_store.proofs.LoadedParts.{rows_fit}
+use Rattle.image_store.proofs.load.read_zone_rows.Goals as goal
 
 pub returns-clause-fit : goal.returns-clause-fit
 returns-clause-fit g c =
     let known : IsShape c.args.geometry = search rules in
     let read = rw (c.capacity.ensures, c.zones-count.ensures) at c.decode_all.ensures.zones in
-    records_fit (λ zones. zones.items) c.args.geometry c.decode_all.result c.deref.result.now known read
+    rows_fit (λ zones. zones.items) c.args.geometry c.decode_all.result c.deref.result.now known read
 
 pub returns-clause-failures : goal.returns-clause-failures
 returns-clause-failures g c =

@@ -1,7 +1,7 @@
 use Rattle.std.proofs.Common.{◌≡◌, ◌*◌, ◌-◌, length}
 use Rattle.image_store.specs.Reading.{zones_in}
-use Rattle.image_store.proofs.RecordsRead.{with_front}
-use Rattle.image_store.proofs.record.decode_all.Given as goal
+use Rattle.image_store.proofs.ZoneRowsRead.{with_front}
+use Rattle.image_store.proofs.zone_row.decode_all.Given as goal
 
 abbrev pub invariant-loop-zone : goal.invariant-loop-zone
 invariant-loop-zone l = record {

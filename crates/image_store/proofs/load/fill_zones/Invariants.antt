@@ -1,8 +1,8 @@
 use Rattle.std.proofs.Common.{◌≡◌, take, drop}
-use Rattle.image_store.specs.Flat.{zones_of, IsFlat}
+use Rattle.image_store.specs.ImageInMemory.{zones_of, IsFlat}
 use Rattle.image_store.specs.Reading.{blocks_in}
-use Rattle.image_store.proofs.SlotsRead.{with_zones}
-use Rattle.image_store.proofs.load.fill_slots.Given as goal
+use Rattle.image_store.proofs.BlocksRead.{with_zones}
+use Rattle.image_store.proofs.load.fill_zones.Given as goal
 
 abbrev pub invariant-loop-number : goal.invariant-loop-number
 invariant-loop-number g l = record {

@@ -2,8 +2,8 @@ use Rattle.std.proofs.Common.{◌≡◌, take, Ok, Err, ap, sym, ◌∙◌, arit
 use Rattle.std.proofs.lemmas.Result.{err_from_is_err_and}
 use Rattle.image_store.specs.Reading.{zone_in, zones_in}
 use Rattle.image_store.proofs.Faults.{no_stream, zone_text_fault}
-use Rattle.image_store.proofs.RecordsRead.{goes_on, stops, fails_free}
-use Rattle.image_store.proofs.record.decode_all.Goals as goal
+use Rattle.image_store.proofs.ZoneRowsRead.{goes_on, stops, fails_free}
+use Rattle.image_store.proofs.zone_row.decode_all.Goals as goal
 
 pub returns-in_err-decode-clause-zones : goal.returns-in_err-decode-clause-zones
 returns-in_err-decode-clause-zones c =

@@ -1,19 +1,19 @@
-//! The records of an image's zones.
+//! The zone rows of an image: for each zone 8 bytes, with its state and how much of it is written.
 
 ghost use Rattle.std.specs.Prelude.{◌≡◌, ◌≤◌, ◌*◌, ◌<◌, ◌^◌, length};
 ghost use Rattle.image_store.specs.Loading.{Gives};
 ghost use Rattle.image_store.specs.steps.LoadedParts.{NoStreamFails};
 ghost use Rattle.image_store.specs.Reading.{zone_in, zone_with, zones_in};
-ghost use Rattle.image_store.specs.Text.{record_text, written_blocks};
+ghost use Rattle.image_store.specs.Text.{zone_row, written_blocks};
 
 use crate::bytes::are_zeros;
-use crate::fault::{LoadFault, RecordFault};
+use crate::fault::{LoadFault, ZoneRowFault};
 use byteorder::{ByteOrder, LittleEndian};
 use std::alloc::Global;
 use zone_state::{Zone, ZoneState};
 
-/// Bytes of a record.
-pub const RECORD: usize = 8;
+/// Bytes of a zone row.
+pub const ZONE_ROW_BYTES: usize = 8;
 
 /// How many blocks of the zones are written.
 pub fn written_blocks(zones: &[Zone]) -> u64
@@ -23,17 +23,17 @@ pub fn written_blocks(zones: &[Zone]) -> u64
     zones.iter().map(|zone| u64::from(zone.written())).sum()
 }
 
-/// The record of a zone.
-pub fn encode(zone: Zone) -> [u8; RECORD]
-    ensures { result ≡ record_text zone }
+/// The row of a zone.
+pub fn encode(zone: Zone) -> [u8; ZONE_ROW_BYTES]
+    ensures { result ≡ zone_row zone }
 {
-    let mut bytes = [0; RECORD];
+    let mut bytes = [0; ZONE_ROW_BYTES];
     LittleEndian::write_u32(&mut bytes[4..], zone.written());
     bytes[0] = zone.state().code();
     bytes
 }
 
-/// The zones that records tell, each of this capacity.
+/// The zones that rows tell, each of this capacity.
 pub fn decode_all(
     alloc: Global,
     bytes: &[u8],
@@ -48,28 +48,28 @@ pub fn decode_all(
     let mut zones = Vec::with_capacity(alloc, count as usize)?;
     let mut rest = bytes;
     for zone in 0..count {
-        let (record, after) = rest.split_at(RECORD);
-        zones.push(decode(zone, record, capacity)?)?;
+        let (row, after) = rest.split_at(ZONE_ROW_BYTES);
+        zones.push(decode(zone, row, capacity)?)?;
         rest = after;
     }
     Ok(zones)
 }
 
-/// What the record of a zone with this number tells.
+/// What the row of the zone with this number tells.
 fn decode(zone: u32, bytes: &[u8], capacity: u32) -> Result<Zone, LoadFault>
     requires size { length bytes.now ≡ 8 }
     requires some { 1 ≤ capacity }
     ensures { result ≡ zone_in zone capacity bytes.now }
 {
     if !are_zeros(&bytes[1..4]) {
-        let fault = RecordFault::Reserved;
+        let fault = ZoneRowFault::Reserved;
         return Err(LoadFault::BadZone { zone, fault });
     }
     let written = LittleEndian::read_u32(&bytes[4..]);
     match ZoneState::from_code(bytes[0]) {
         Some(state) => zone_of(zone, state, written, capacity),
         None => {
-            let fault = RecordFault::State(bytes[0]);
+            let fault = ZoneRowFault::State(bytes[0]);
             Err(LoadFault::BadZone { zone, fault })
         }
     }
@@ -83,7 +83,7 @@ fn zone_of(zone: u32, state: ZoneState, written: u32, capacity: u32) -> Result<Z
     match Zone::new(state, written, capacity) {
         Some(told) => Ok(told),
         None => {
-            let fault = RecordFault::Blocks {
+            let fault = ZoneRowFault::Blocks {
                 state,
                 written,
                 capacity,

@@ -1,4 +1,4 @@
--- Zones whose blocks lie in one list of bytes, in a slot of one size for each zone.
+-- An image in memory: counted zones, and one list of bytes with a room of one size for the blocks of each.
 use Rattle.std.specs.Prelude.{ℕ, ◌≡◌, ◌<◌, ◌*◌, List, [], ◌∷◌, length, get_or, drop}
 use Rattle.zone_state.specs.declared.state.ZoneState.TheVariants.{Empty, Offline}
 use Rattle.zone_resources.specs.Admission.{IsWithin}
@@ -7,20 +7,21 @@ use Rattle.zone_resources.specs.declared.counts.Counts.{Counts}
 use Rattle.zone_state.specs.Zone.{CountedZone, IsZone}
 use Rattle.image_store.specs.Blocks.{AreBytes, blocks_of}
 use Rattle.image_store.specs.Geometry.{Shape, IsShape}
-use Rattle.image_store.specs.Namespace.{ZoneBlocks, ZonedNamespace}
+use Rattle.image_store.specs.Namespace.{ZoneBlocks, ZonedNamespace, namespace_with}
 
--- the zone of a record whose blocks stand at the front of these bytes
+-- a counted zone with its blocks, which stand at the front of these bytes
 abbrev pub zone_seen : ℕ → CountedZone → List ℕ → ZoneBlocks
 zone_seen block z bytes = record { state = z.state; blocks = blocks_of block z.written bytes }
 
--- the zones of these slots, each of so many blocks of this many bytes
+-- the zones whose rooms these bytes are, each of so many blocks of this many bytes
 abbrev pub zones_of : ℕ → ℕ → List CountedZone → List ℕ → List ZoneBlocks
 zones_of block capacity [] bytes = []
 zones_of block capacity (z ∷ zs) bytes =
     zone_seen block z bytes ∷ zones_of block capacity zs (drop (capacity * block) bytes)
 
+-- the namespace that such an image is
 abbrev pub namespace_of : Shape → List CountedZone → List ℕ → ZonedNamespace
-namespace_of s zones bytes = record { block = s.block; size = s.size; capacity = s.capacity; limits = s.limits; zones = zones_of s.block s.capacity zones bytes }
+namespace_of s zones bytes = namespace_with s (zones_of s.block s.capacity zones bytes)
 
 abbrev pub no_counted_zone : CountedZone
 no_counted_zone = record { state = Offline; written = 0; capacity = 0 }
@@ -29,7 +30,7 @@ no_counted_zone = record { state = Offline; written = 0; capacity = 0 }
 abbrev pub empty_counted_zone : ℕ → CountedZone
 empty_counted_zone capacity = record { state = Empty; written = 0; capacity = capacity }
 
--- a slot for each zone, and each zone's state allows its written blocks
+-- a room for each zone, and each zone's state allows its written blocks
 pub record IsFlat (s : Shape) (zones : List CountedZone) (bytes : List ℕ) : Type 0 where
   pub shape : IsShape s
   pub count : length zones ≡ s.zones

@@ -1,10 +1,10 @@
--- Reading the blocks of one zone after another's, each zone's into its slot.
+-- Reading the blocks of one zone after another's, each zone's into its room.
 use Rattle.std.proofs.Common.{◌≡◌, ℕ, ◌+◌, ◌*◌, ◌<◌, ◌≤◌, zero, suc, List, [], ◌∷◌, ◌++◌, length, get_or, take, drop, Result, Ok, Err, refl, ap, sym, subst, ◌∙◌, append_assoc, arith, length-take}
 use Rattle.std.proofs.lemmas.List.{append-nil, take-take, drop-take, drop-drop, take_at, take_all, drop_all, drop_more, get_or-take}
 use Rattle.std.proofs.Math.Nat.{suc-mul, mul-le-mul_right}
 use Rattle.zone_state.specs.Zone.{CountedZone}
 use Rattle.image_store.specs.declared.fault.LoadFault.{LoadFault}
-use Rattle.image_store.specs.Flat.{zones_of, zone_seen, no_counted_zone, IsFlat}
+use Rattle.image_store.specs.ImageInMemory.{zones_of, zone_seen, no_counted_zone, IsFlat}
 use Rattle.image_store.specs.steps.Spliced.{spliced}
 use Rattle.image_store.specs.Geometry.{Shape}
 use Rattle.image_store.specs.Loading.{Fails}
@@ -13,7 +13,7 @@ use Rattle.image_store.specs.Namespace.{ZoneBlocks}
 use Rattle.image_store.specs.Reading.{◌>>=◌, bytes_in, blocks_in}
 use Rattle.image_store.proofs.ReadingCalls.{fails_then, fails_before, bind_ok, ok_is}
 use Rattle.image_store.proofs.FilledBuffers.{Split, bytes_size}
-use Rattle.image_store.proofs.ImageFields.{within, slot_end}
+use Rattle.image_store.proofs.ImageFields.{within, room_end}
 use Rattle.image_store.proofs.BlocksOfBytes.{blocks-same, take-spliced, drop-spliced}
 
 abbrev pub Zones : Type 0
@@ -23,7 +23,7 @@ Zones = List ZoneBlocks × List ℕ
 abbrev pub with_zones : List ZoneBlocks → Result Zones LoadFault → Result Zones LoadFault
 with_zones front read = read >>= λ x. Ok (front ++ x.0, x.1)
 
--- zones depend on the bytes of their slots alone
+-- zones depend on the bytes of their rooms alone
 zones-same : (b c : ℕ) (zs : List CountedZone) (xs ys : List ℕ) → ((z : ℕ) → z < length zs → (get_or zs z no_counted_zone).written ≤ c)
     → take (length zs * (c * b)) xs ≡ take (length zs * (c * b)) ys → zones_of b c zs xs ≡ zones_of b c zs ys
 zones-same b c [] xs ys within e = refl
@@ -52,14 +52,14 @@ zones-more b c (z ∷ zs) xs (suc i) h =
     ∙ ap (λ (ys : List ℕ). zone_seen b z xs ∷ (zones_of b c (take i zs) (drop (c * b) xs) ++ zone_seen b (get_or zs i no_counted_zone) ys ∷ []))
     (drop-drop (i * (c * b)) (c * b) xs ∙ ap (λ (m : ℕ). drop m xs) next)
 
--- bytes read into a slot are that zone's blocks, and leave the zones before it
+-- bytes read into a room are that zone's blocks, and leave the zones before it
 filled : (s : Shape) (zs : List CountedZone) (xs : List ℕ) (i : ℕ) (new : List ℕ) → IsFlat s zs xs → i < length zs → length new ≡ (get_or zs i no_counted_zone).written * s.block
     → zones_of s.block s.capacity (take (suc i) zs) (spliced (i * (s.capacity * s.block)) new xs)
     ≡ zones_of s.block s.capacity (take i zs) xs ++ zone_seen s.block (get_or zs i no_counted_zone) new ∷ []
 filled s zs xs i new flat inside size =
     let at = i * (s.capacity * s.block) in
     let z = get_or zs i no_counted_zone in
-    let end = slot_end s zs xs i flat inside in
+    let end = room_end s zs xs i flat inside in
     let in_list : at ≤ length xs = omega arith in
     let count : length (take i zs) ≡ i = omega (arith, length-take i zs) in
     let before : take (length (take i zs) * (s.capacity * s.block)) (spliced at new xs) ≡ take (length (take i zs) * (s.capacity * s.block)) xs =
@@ -76,11 +76,11 @@ filled s zs xs i new flat inside size =
     ∙ (ap (λ (ys : List ℕ). zones_of s.block s.capacity (take i zs) xs ++ zone_seen s.block z ys ∷ []) (drop-spliced at new xs in_list)
     ∙ ap (λ (bs : List (List ℕ)). let seen : ZoneBlocks = record { state = z.state; blocks = bs } in zones_of s.block s.capacity (take i zs) xs ++ seen ∷ []) here))
 
--- the blocks of a zone lie within its slot
-pub slot_holds : (s : Shape) (zs : List CountedZone) (xs : List ℕ) (i : ℕ) → IsFlat s zs xs → i < length zs
+-- the blocks of a zone lie within its room
+pub room_holds : (s : Shape) (zs : List CountedZone) (xs : List ℕ) (i : ℕ) → IsFlat s zs xs → i < length zs
     → i * (s.capacity * s.block) + (get_or zs i no_counted_zone).written * s.block ≤ length xs
-slot_holds s zs xs i flat inside =
-    let end = slot_end s zs xs i flat inside in
+room_holds s zs xs i flat inside =
+    let end = room_end s zs xs i flat inside in
     let low : (get_or zs i no_counted_zone).written * s.block ≤ s.capacity * s.block = mul-le-mul_right s.block (within s zs xs i flat inside) in
     omega arith
 

@@ -1,10 +1,10 @@
--- Zones in slots of a list of bytes.
+-- Zones that lie in one list of bytes, each in a room of the same size.
 use Rattle.std.proofs.Common.{◌≡◌, ℕ, ◌+◌, ◌*◌, ◌<◌, ◌≤◌, zero, suc, List, [], ◌∷◌, ◌++◌, length, get_or, set, take, drop, refl, ap, sym, ◌∙◌, arith, length-drop}
 use Rattle.std.proofs.lemmas.List.{drop-drop, take_at, take_all}
 use Rattle.std.proofs.Math.Nat.{suc-mul, mul-le-mul_right, add-mul}
 use Rattle.zone_state.specs.Zone.{CountedZone}
 use Rattle.image_store.specs.Blocks.{blocks_of}
-use Rattle.image_store.specs.Flat.{zones_of, zone_seen, no_counted_zone}
+use Rattle.image_store.specs.ImageInMemory.{zones_of, zone_seen, no_counted_zone}
 use Rattle.image_store.specs.steps.Spliced.{spliced}
 use Rattle.image_store.specs.Namespace.{ZoneBlocks, no_zone}
 use Rattle.image_store.proofs.BlocksOfBytes.{blocks-same, blocks-add, take-spliced, drop-spliced, drop-spliced-past, drop-spliced-later}
@@ -13,10 +13,10 @@ pub length-zones : (b c : ℕ) (zs : List CountedZone) (xs : List ℕ) → lengt
 length-zones b c [] xs = refl
 length-zones b c (z ∷ zs) xs = ap suc (length-zones b c zs (drop (c * b) xs))
 
-slot_next : (z s : ℕ) → s + z * s ≡ suc z * s
-slot_next z s = omega (arith, suc-mul z s)
+room_next : (z s : ℕ) → s + z * s ≡ suc z * s
+room_next z s = omega (arith, suc-mul z s)
 
--- a zone is what lies at the start of its slot
+-- a zone is what lies at the start of its room
 pub zone-at : (b c : ℕ) (zs : List CountedZone) (xs : List ℕ) (z : ℕ) → z < length zs → get_or (zones_of b c zs xs) z no_zone ≡ zone_seen b (get_or zs z no_counted_zone) (drop (z * (c * b)) xs)
 zone-at b c [] xs z h = absurd (omega arith)
 zone-at b c (r ∷ zs) xs zero h =
@@ -24,9 +24,9 @@ zone-at b c (r ∷ zs) xs zero h =
     ap (λ (m : ℕ). zone_seen b r (drop m xs)) (sym start)
 zone-at b c (r ∷ zs) xs (suc z) h =
     zone-at b c zs (drop (c * b) xs) z (omega arith)
-    ∙ ap (zone_seen b (get_or zs z no_counted_zone)) (drop-drop (z * (c * b)) (c * b) xs ∙ ap (λ (m : ℕ). drop m xs) (slot_next z (c * b)))
+    ∙ ap (zone_seen b (get_or zs z no_counted_zone)) (drop-drop (z * (c * b)) (c * b) xs ∙ ap (λ (m : ℕ). drop m xs) (room_next z (c * b)))
 
--- another record in one place changes that zone alone
+-- another counted zone in one place changes that zone alone
 pub zones-set : (b c : ℕ) (zs : List CountedZone) (xs : List ℕ) (z : ℕ) (r : CountedZone) → zones_of b c (set zs z r) xs ≡ set (zones_of b c zs xs) z (zone_seen b r (drop (z * (c * b)) xs))
 zones-set b c [] xs z r = refl
 zones-set b c (y ∷ zs) xs zero r =
@@ -34,9 +34,9 @@ zones-set b c (y ∷ zs) xs zero r =
     ap (λ (m : ℕ). zone_seen b r (drop m xs) ∷ zones_of b c zs (drop (c * b) xs)) start
 zones-set b c (y ∷ zs) xs (suc z) r =
     ap (λ (rest : List ZoneBlocks). zone_seen b y xs ∷ rest) (zones-set b c zs (drop (c * b) xs) z r)
-    ∙ ap (λ (ys : List ℕ). zone_seen b y xs ∷ set (zones_of b c zs (drop (c * b) xs)) z (zone_seen b r ys)) (drop-drop (z * (c * b)) (c * b) xs ∙ ap (λ (m : ℕ). drop m xs) (slot_next z (c * b)))
+    ∙ ap (λ (ys : List ℕ). zone_seen b y xs ∷ set (zones_of b c zs (drop (c * b) xs)) z (zone_seen b r ys)) (drop-drop (z * (c * b)) (c * b) xs ∙ ap (λ (m : ℕ). drop m xs) (room_next z (c * b)))
 
--- blocks put behind those that a slot has
+-- blocks put behind those that a room has
 blocks-grown : (b w n : ℕ) (new xs : List ℕ) → length new ≡ n * b → w * b ≤ length xs → blocks_of b (w + n) (spliced (w * b) new xs) ≡ blocks_of b w xs ++ blocks_of b n new
 blocks-grown b w n new xs size room =
     let before = blocks-same b w (w * b) (spliced (w * b) new xs) xs (omega arith) (take-spliced (w * b) (w * b) new xs (omega arith) room) in
@@ -67,7 +67,7 @@ zones-append b c (y ∷ zs) xs zero n r new h long within room grown =
     let start : zero * (c * b) + y.written * b ≡ y.written * b = omega arith in
     let none : 0 ≡ zero * (c * b) = omega arith in
     let reach = write_end b c y.written n new room in
-    let slot : c * b ≤ length xs = omega (arith, suc-mul (length zs) (c * b)) in
+    let room_of_one : c * b ≤ length xs = omega (arith, suc-mul (length zs) (c * b)) in
     let rest = drop-spliced-past (c * b) (y.written * b) new xs reach (omega arith) in
     ap (λ (m : ℕ). zones_of b c (r ∷ zs) (spliced m new xs)) start
     ∙ (ap (λ (m : ℕ). let bs : List (List ℕ) = blocks_of b m (spliced (y.written * b) new xs) in record { state = r.state; blocks = bs } ∷ zones_of b c zs (drop (c * b) (spliced (y.written * b) new xs))) grown
@@ -79,14 +79,14 @@ zones-append b c (y ∷ zs) xs (suc z) n r new h long within room grown =
     let place : suc z * (c * b) + (get_or zs z no_counted_zone).written * b ≡ c * b + at = omega (arith, suc-mul z (c * b)) in
     let inside : z < length zs = omega arith in
     let reach = write_end b c (get_or zs z no_counted_zone).written n new room in
-    let slots : suc z * (c * b) ≤ length zs * (c * b) = mul-le-mul_right (c * b) inside in
+    let rooms : suc z * (c * b) ≤ length zs * (c * b) = mul-le-mul_right (c * b) inside in
     let end : c * b + at ≤ length xs = omega (arith, suc-mul (length zs) (c * b), suc-mul z (c * b)) in
     let low : y.written * b ≤ c * b = mul-le-mul_right b (within 0 (omega arith)) in
     let first = blocks-same b y.written (c * b) (spliced (c * b + at) new xs) xs low (take-spliced (c * b) (c * b + at) new xs (omega arith) end) in
     let later = drop-spliced-later (c * b) at new xs end in
     let fewer : length zs * (c * b) ≤ length (drop (c * b) xs) = omega (arith, suc-mul (length zs) (c * b), length-drop (c * b) xs) in
     let next = zones-append b c zs (drop (c * b) xs) z n r new inside fewer (λ k in_list. within (suc k) (omega arith)) room grown in
-    let base = drop-drop (z * (c * b)) (c * b) xs ∙ ap (λ (m : ℕ). drop m xs) (slot_next z (c * b)) in
+    let base = drop-drop (z * (c * b)) (c * b) xs ∙ ap (λ (m : ℕ). drop m xs) (room_next z (c * b)) in
     ap (λ (m : ℕ). zones_of b c (y ∷ set zs z r) (spliced m new xs)) place
     ∙ (ap (λ (bs : List (List ℕ)). let seen : ZoneBlocks = record { state = y.state; blocks = bs } in seen ∷ zones_of b c (set zs z r) (drop (c * b) (spliced (c * b + at) new xs))) first
     ∙ (ap (λ (ys : List ℕ). zone_seen b y xs ∷ zones_of b c (set zs z r) ys) later
