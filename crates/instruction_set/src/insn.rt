@@ -1,13 +1,15 @@
 //! Instructions.
 
 ghost use Rattle.std.specs.Prelude.{◌≡◌, ◌<◌};
-ghost use Rattle.instruction_set.specs.Instruction.{distance_of, immediate_word, target, writes};
+ghost use Rattle.instruction_set.specs.Instruction.{access_of, distance_of, immediate_word, is_emit, target, writes};
+ghost use Rattle.instruction_set.specs.Program.{slots_taken};
 
+use crate::access::{Access, AccessKind};
 use crate::operation::{
     Operation, Relation, SignExtension, SignedSize, Size, Swap, SwapSize, Width,
 };
 use crate::register::Register;
-use program_interface::MOST_SLOTS;
+use program_interface::{EMIT, MOST_SLOTS};
 
 /// The second operand of an arithmetic or a compare (RFC 9669, 4.1).
 #[derive(Clone, Copy, Debug, PartialEq, Eq)]
@@ -79,11 +81,11 @@ pub enum Insn {
         size: SwapSize,
         dst: Register,
     },
-    /// A jump by a 16-bit distance (RFC 9669, 4.3: JA of class JMP).
+    /// A jump by a 16-bit distance (JA of class JMP; RFC 9669, 4.3).
     Jump {
         distance: i16,
     },
-    /// A jump by a 32-bit distance (RFC 9669, 4.3: JA of class JMP32).
+    /// A jump by a 32-bit distance (JA of class JMP32; RFC 9669, 4.3).
     JumpLong {
         distance: i32,
     },
@@ -104,6 +106,69 @@ pub enum Insn {
 }
 
 impl Insn {
+    /// How many slots of 8 bytes the instruction takes: two where it is the wide one (RFC 9669, 3.2).
+    #[inline(always)]
+    pub fn slots(&self) -> usize
+        ensures { result ≡ slots_taken self.now }
+    {
+        match *self {
+            Insn::LoadImmediate { .. } => 2,
+            _ => 1,
+        }
+    }
+
+    /// Is it a call of the helper that emits a record?
+    #[inline(always)]
+    pub fn is_emit(&self) -> bool
+        ensures { result ≡ is_emit self.now }
+    {
+        match *self {
+            Insn::Call { helper } => helper == EMIT,
+            _ => false,
+        }
+    }
+
+    /// The memory that the instruction accesses by its own, and `None` where it neither loads nor stores. What a
+    /// helper accesses isn't told.
+    #[inline(always)]
+    pub fn access(&self) -> Option<Access>
+        ensures { result ≡ access_of self.now }
+    {
+        let (kind, base, offset, size) = match *self {
+            Insn::Load {
+                size,
+                src,
+                offset,
+                ..
+            } => (AccessKind::Load, src, offset, size.bytes()),
+            Insn::LoadSigned {
+                size,
+                src,
+                offset,
+                ..
+            } => (AccessKind::Load, src, offset, size.bytes()),
+            Insn::StoreImmediate {
+                size,
+                dst,
+                offset,
+                ..
+            }
+            | Insn::StoreRegister {
+                size,
+                dst,
+                offset,
+                ..
+            } => (AccessKind::Store, dst, offset, size.bytes()),
+            _ => return None,
+        };
+        Some(Access {
+            kind,
+            base,
+            offset,
+            size,
+        })
+    }
+
     /// Is this register the instruction's destination?
     #[inline(always)]
     pub fn writes(&self, register: Register) -> bool
@@ -116,7 +181,7 @@ impl Insn {
             | Insn::Arithmetic { dst, .. }
             | Insn::Negate { dst, .. }
             | Insn::MoveSigned { dst, .. }
-            | Insn::SwapBytes { dst, .. } => dst.index() == register.index(),
+            | Insn::SwapBytes { dst, .. } => dst == register,
             _ => false,
         }
     }

@@ -2,6 +2,7 @@
 //! programs of them.
 #![tactic(auto)]
 
+mod access;
 mod codes;
 mod fields;
 mod insn;
@@ -10,6 +11,7 @@ mod operation;
 mod program;
 mod register;
 
+pub use access::{Access, AccessKind};
 pub use fields::Fields;
 pub use insn::{Insn, Source};
 pub use operation::{Operation, Relation, SignExtension, SignedSize, Size, Swap, SwapSize, Width};

@@ -2,6 +2,7 @@
 
 ghost use Rattle.std.specs.Prelude.{◌≡◌, ◌<◌, ◌↔◌, IsSome, IfSome};
 
+use program_interface::REGISTERS;
 use std::marker::Model;
 
 /// One of the eleven registers R0 to R10 (BPF ABI 1.0, Registers and calling convention). A clause sees its
@@ -24,6 +25,15 @@ impl Model for Register {
 }
 
 impl Register {
+    /// R0, where a helper and the program leave what they return (BPF ABI 1.0, Registers and calling convention).
+    pub const R0: Register = Register { number: 0 };
+
+    /// R1, a helper's first argument (BPF ABI 1.0, Registers and calling convention): of emit the address of a record.
+    pub const R1: Register = Register { number: 1 };
+
+    /// R2, a helper's second argument (BPF ABI 1.0, Registers and calling convention): of emit a record's number of bytes.
+    pub const R2: Register = Register { number: 2 };
+
     /// R10, the frame pointer, which programs only read (BPF ABI 1.0, Registers and calling convention).
     pub const FRAME_POINTER: Register = Register { number: 10 };
 
@@ -32,7 +42,7 @@ impl Register {
         ensures found { IsSome result ↔ (number < 11) }
         ensures value { IfSome result (λ r. r ≡ number) }
     {
-        if number < 11 {
+        if usize::from(number) < REGISTERS {
             Some(Register { number })
         } else {
             None

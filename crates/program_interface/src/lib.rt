@@ -8,6 +8,7 @@ mod area;
 mod block_size;
 mod context;
 mod entry;
+mod frame;
 mod run_sizes;
 #[cfg(test)]
 mod tests;
@@ -15,7 +16,8 @@ mod tests;
 pub use area::{Area, CONTEXT_BYTES, SCRATCH_BYTES, STACK_BYTES};
 pub use block_size::{BLOCK_SIZES, BlockSize, LARGEST_BLOCK};
 pub use context::Context;
-pub use entry::{REGISTERS, entry_registers};
+pub use entry::{CLEARED_REGISTERS, REGISTERS, entry_registers};
+pub use frame::{EMIT, FRAME_LENGTH_BYTES};
 pub use run_sizes::RunSizes;
 
 /// The most slots of 8 bytes that a program has (profile).
