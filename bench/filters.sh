@@ -1,8 +1,8 @@
 #!/bin/sh
 # Runs the filters of examples/ and of bench/filters, as examples/Makefile makes them for v2, over a block of 4096 bytes:
-# with every check, over their records, and in DPDK's interpreter (Debian's libdpdk-dev), which takes no 32-bit compares.
+# with every check, over their superinstructions, and in DPDK's interpreter (Debian's libdpdk-dev), which takes no 32-bit compares.
 # Prints the nanoseconds of a run, the best of several rounds and launches, with their ratios to DPDK's, and the geometric
-# mean of the ratios of records. A filter that DPDK doesn't load in 5 seconds has no ratio.
+# mean of the ratios of the second. A filter that DPDK doesn't load in 5 seconds has no ratio.
 set -eu
 here=$(cd "$(dirname "$0")" && pwd)
 . "$here/least.sh"
@@ -17,28 +17,28 @@ for folder in "$here/../examples" "$here/filters"; do
     make -s -f "$here/../examples/Makefile" FROM="$folder" TO="$work" CPU=v2
 done
 # builds the program where it has to
-(cd "$here/../crates/bench_programs" && rt run -- "$work/filter.bin" "$work/block.bin" 0 0 1 > /dev/null 2>&1)
+(cd "$here/../crates/bench_programs" && rt run -- "$work/filter.bin" "$work/block.bin" 0 0 checked > /dev/null 2>&1)
 for file in "$work"/*.bin; do
     name=$(basename "$file" .bin)
     if [ "$name" = block ]; then continue; fi
-    if ! wanted=$("$ours" "$file" "$work/block.bin" 0 0 1 2>&1); then
+    if ! wanted=$("$ours" "$file" "$work/block.bin" 0 0 prepared 2>&1); then
         echo "$name: $wanted"
         continue
     fi
-    if [ "$wanted" != "$("$ours" "$file" "$work/block.bin" 0 0 0)" ]; then
+    if [ "$wanted" != "$("$ours" "$file" "$work/block.bin" 0 0 checked)" ]; then
         echo "$name: the answers differ" >&2
         exit 1
     fi
-    checked=$(least 2 "$ours" "$file" "$work/block.bin" $rounds $repeats 0)
-    records=$(least 2 "$ours" "$file" "$work/block.bin" $rounds $repeats 1)
+    checked=$(least 2 "$ours" "$file" "$work/block.bin" $rounds $repeats checked)
+    prepared=$(least 2 "$ours" "$file" "$work/block.bin" $rounds $repeats prepared)
     if timeout 5 "$work/dpdk" "$file" "$work/block.bin" 0 0 > /dev/null 2>&1; then
         theirs=$(least 2 "$work/dpdk" "$file" "$work/block.bin" $rounds $repeats 2> /dev/null)
     else
         theirs=0
     fi
-    echo "$name $checked $records $theirs"
+    echo "$name $checked $prepared $theirs"
 done | awk 'NF == 4 {
-    printf "%s: checked %.1f ns, records %.1f ns", $1, $2 / 1000, $3 / 1000
+    printf "%s: checked %.1f ns, prepared %.1f ns", $1, $2 / 1000, $3 / 1000
     if ($4) {
         printf ", DPDK %.1f ns, ratios %.2f and %.2f", $4 / 1000, $2 / $4, $3 / $4
         sum += log($3 / $4); count++

@@ -7,7 +7,7 @@ use Rattle.instruction_set.specs.declared.insn.Insn.{Insn}
 use Rattle.program_meaning.proofs.Proved.{begins_at_instruction, keeps_group_limit, keeps_read_only, keeps_state, leads_to_instruction}
 use Rattle.program_meaning.specs.Cause.{is_exit, least_cause}
 use Rattle.program_meaning.specs.Effect.{register}
-use Rattle.program_meaning.specs.Run.{Run, continued, run_of}
+use Rattle.program_meaning.specs.BlockRun.{BlockRun, block_run_of, continued}
 use Rattle.program_meaning.specs.State.{IsState, State, entry}
 use Rattle.program_meaning.specs.Step.{Ends, Goes, IsAt, after, decided, step_at, step_of}
 use Rattle.program_meaning.specs.declared.cause.Cause.{Cause}
@@ -134,7 +134,7 @@ module _ {D : Type 0} {IsFact : D → Type 0} {contains : D → ℕ → Type 0} 
 
     -- ---- a run, after n steps of at most so many
     module _ (bound : ℕ) (bounds : Bounds bound) (most n : ℕ) (s : State) (holds : Holds s) (one_left : n < most)
-        (more : State → Run)
+        (more : State → BlockRun)
         (rest : (s' : State) → Holds s' → s.slot < s'.slot → Exits most bound (more s')) where
       abbrev Done : Option Insn → Type 0
       Done at = Exits most bound (continued n s more (step_at program sizes.limit s at))
@@ -162,12 +162,12 @@ module _ {D : Type 0} {IsFact : D → Type 0} {contains : D → ℕ → Type 0} 
 
     exits : (bound : ℕ) → Bounds bound → (most fuel n : ℕ) (s : State) → Holds s
         → count_by is_some (drop s.slot program) ≤ fuel → n + fuel ≤ most
-        → Exits most bound (run_of program sizes.limit fuel n s)
-    unfolding run_of
+        → Exits most bound (block_run_of program sizes.limit fuel n s)
+    unfolding block_run_of
     exits bound bounds most zero n s holds enough within =
         let some = some_left program s.slot holds.here in absurd (omega (arith, some, enough))
     exits bound bounds most (suc fuel) n s holds enough within =
-        done_at bound bounds most n s holds (omega (arith, within)) (λ s'. run_of program sizes.limit fuel (n + 1) s')
+        done_at bound bounds most n s holds (omega (arith, within)) (λ s'. block_run_of program sizes.limit fuel (n + 1) s')
         (λ s' holds' forward.
         let less = fewer program s.slot s'.slot holds.here forward in
         exits bound bounds most fuel (n + 1) s' holds' (omega (arith, less, enough)) (omega (arith, within)))
@@ -177,7 +177,7 @@ module _ {D : Type 0} {IsFact : D → Type 0} {contains : D → ℕ → Type 0} 
     starts : (bound : ℕ) → Bounds bound → is_some (instruction_at program 0) ≡ true → (bytes context scratch : List ℕ)
         → length bytes ≡ sizes.block → IsState (entry bytes context scratch)
         → Exits (instruction_count program) bound
-        (run_of program sizes.limit (instruction_count program) 0 (entry bytes context scratch))
+        (block_run_of program sizes.limit (instruction_count program) 0 (entry bytes context scratch))
     starts bound bounds here bytes context scratch long is =
         let count = instruction_count program in
         exits bound bounds count count 0 (entry bytes context scratch)

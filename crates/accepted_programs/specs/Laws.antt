@@ -2,7 +2,7 @@
 use Rattle.std.specs.Prelude.{ℕ, ◌≡◌, ◌<◌, ◌≤◌, true, false, is_some, List, length, Option, Some, None}
 use Rattle.instruction_set.specs.Program.{IsProgram, instruction_at, instruction_count}
 use Rattle.instruction_set.specs.declared.insn.Insn.{Insn}
-use Rattle.program_meaning.specs.Run.{run_of}
+use Rattle.program_meaning.specs.BlockRun.{block_run_of}
 use Rattle.program_meaning.specs.State.{IsState, entry}
 use Rattle.program_meaning.specs.TrapFree.{NeverTraps}
 use Rattle.program_interface.specs.RunSizes.{AreSizes, Sizes}
@@ -36,7 +36,7 @@ abbrev pub AcceptedEmitsNoMore : {D : Type 0} → Operations D → Type 0
 AcceptedEmitsNoMore operations = (program : List (Option Insn)) → IsProgram program → (sizes : Sizes) → AreSizes sizes
     → refusal operations program sizes ≡ None
     → (bytes context scratch : List ℕ) → length bytes ≡ sizes.block → IsState (entry bytes context scratch)
-    → length (run_of program sizes.limit (instruction_count program) 0 (entry bytes context scratch)).state.group
+    → length (block_run_of program sizes.limit (instruction_count program) 0 (entry bytes context scratch)).state.group
     ≤ most_emitted operations program sizes.block
 
 -- the slot of a refusal is one of the program's, and so below the most slots of a program

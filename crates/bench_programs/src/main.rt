@@ -1,7 +1,7 @@
 //! Loads a program and runs it over a block. Prints R0, the number of steps, the length of the group and its frames, and,
 //! after some rounds, the best time of a run in picoseconds.
 //!
-//! bench_programs PROGRAM BLOCK ROUNDS REPEATS FORM
+//! bench_programs PROGRAM BLOCK ROUNDS REPEATS FORM, which is `checked` or `prepared`
 #![tactic(auto)]
 
 mod timed;
@@ -14,7 +14,7 @@ use std::alloc::Global;
 use std::rt::{Clock, Env, Files};
 use std::time::Instant;
 use std::{env, fs};
-use timed::{repeat, run};
+use timed::{Form, repeat, run};
 use verified_run::Prepared;
 use verifier::{Verified, VerifyFault, verify};
 
@@ -29,18 +29,27 @@ fn load(alloc: Global, bytes: &[u8], sizes: RunSizes) -> Result<Verified<Interva
     }
 }
 
+/// The form that a word names.
+fn form_of(word: &str) -> Result<Form> {
+    match word {
+        "checked" => Ok(Form::Checked),
+        "prepared" => Ok(Form::Prepared),
+        _ => bail!("the form is checked or prepared"),
+    }
+}
+
 /// The nanoseconds of some runs.
 fn round(
     rt: &impl Clock,
     program: &Prepared<Verified<Intervals>>,
-    records: bool,
+    form: Form,
     block: &[u8],
     repeats: u32,
     scratch: &mut [u8; SCRATCH_BYTES],
     group: &mut [u8; LARGEST_BLOCK],
 ) -> Result<u128> {
     let start = Instant::now(rt)?;
-    let done = repeat(program, records, block, repeats, scratch, group);
+    let done = repeat(program, form, block, repeats, scratch, group);
     let spent = start.elapsed(rt)?.as_nanos();
     ensure!(done, "a block of another size");
     Ok(spent)
@@ -53,7 +62,7 @@ fn main(rt: HostRuntime) -> Result<()> {
     let block = args.next().context("no block")?;
     let rounds = args.next().context("no rounds")?.parse::<u32>()?;
     let repeats = args.next().context("no repeats")?.parse::<u32>()?;
-    let records = args.next().context("no form")?.parse::<u32>()? > 0;
+    let form = form_of(&args.next().context("no form")?)?;
     let bytes = fs::read(&rt, &program)?;
     let block = fs::read(&rt, &block)?;
     ensure!(block.len() <= LARGEST_BLOCK, "the block is too long");
@@ -63,15 +72,9 @@ fn main(rt: HostRuntime) -> Result<()> {
     let context = [0; CONTEXT_BYTES];
     let mut scratch = [0; SCRATCH_BYTES];
     let mut group = [0; LARGEST_BLOCK];
-    let exit = run(
-        &program,
-        records,
-        &block,
-        &context,
-        &mut scratch,
-        &mut group,
-    )
-    .context("a block of another size")?;
+    let exit = run(&program, form, &block, &context, &mut scratch, &mut group).context(
+        "a block of another size",
+    )?;
     println!(rt;
         "{} {} {} {}",
         exit.r0, exit.steps, exit.group_len, exit.frames
@@ -81,7 +84,7 @@ fn main(rt: HostRuntime) -> Result<()> {
         best = best.min(round(
             &rt,
             &program,
-            records,
+            form,
             &block,
             repeats,
             &mut scratch,

@@ -11,11 +11,20 @@ use program_meaning::End;
 use verified_run::Prepared;
 use verifier::Verified;
 
-/// One run, over its records or with every check; none over a block of another size.
+/// How an accepted program is run.
+#[derive(Clone, Copy)]
+pub enum Form {
+    /// With every check.
+    Checked,
+    /// Over its superinstructions.
+    Prepared,
+}
+
+/// One run; none over a block of another size.
 #[inline(always)]
 pub fn run(
     program: &Prepared<Verified<Intervals>>,
-    records: bool,
+    form: Form,
     block: &[u8],
     context: &[u8; CONTEXT_BYTES],
     scratch: &mut [u8; SCRATCH_BYTES],
@@ -27,10 +36,9 @@ pub fn run(
         return None;
     }
     let mut machine = Machine::new(block, context, scratch);
-    if records {
-        Some(program.run(&mut machine, group))
-    } else {
-        run_checked(verified, &mut machine, group)
+    match form {
+        Form::Checked => run_checked(verified, &mut machine, group),
+        Form::Prepared => Some(program.run(&mut machine, group)),
     }
 }
 
@@ -62,7 +70,7 @@ fn run_checked(
 #[inline(never)]
 pub fn repeat(
     program: &Prepared<Verified<Intervals>>,
-    records: bool,
+    form: Form,
     block: &[u8],
     repeats: u32,
     scratch: &mut [u8; SCRATCH_BYTES],
@@ -72,7 +80,7 @@ pub fn repeat(
     let mut done = true;
     for repeat in 0..repeats {
         context[0] = (repeat % 0x100) as u8;
-        done &= run(program, records, block, &context, scratch, group).is_some();
+        done &= run(program, form, block, &context, scratch, group).is_some();
     }
     done
 }

@@ -1,5 +1,6 @@
 mod Places
 mod Running
+mod Statements
 mod Stepping
 mod Verified
 mod Words

@@ -1,7 +1,6 @@
 //! The checked eBPF machine: it runs programs as they are meant to run.
 #![tactic(auto)]
 
-pub mod laws;
 mod machine;
 mod memory;
 

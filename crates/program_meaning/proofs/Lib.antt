@@ -6,5 +6,6 @@ mod MemoryLemmas
 mod Placed
 mod Running
 mod StateLemmas
+mod Statements
 mod WordLemmas
 pub mod Proved

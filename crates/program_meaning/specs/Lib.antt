@@ -4,6 +4,6 @@ pub mod Word
 pub mod Effect
 pub mod Cause
 pub mod Step
-pub mod Run
+pub mod BlockRun
 pub mod TrapFree
 pub mod Laws

@@ -3,26 +3,36 @@
 ghost use Rattle.std.specs.Prelude.{◌≡◌};
 ghost use Rattle.program_meaning.specs.Cause.{cause_number};
 
-/// Why an instruction can't be done. Where several causes hold, the one with the least number is
-/// told (profile).
-#[derive(Clone, Copy, Debug, PartialEq, Eq)]
+use thiserror::Error;
+
+/// Why an instruction can't be done, with the words that users are told. Where several causes hold, the one with the least
+/// number is told (profile).
+#[derive(Clone, Copy, Debug, PartialEq, Eq, Error)]
 pub enum Cause {
-    /// 1: the next slot is outside the program.
-    NextOutside,
-    /// 2: the next slot is a wide instruction's second.
-    NextInsideWide,
-    /// 3: a write to R10, the read-only frame pointer (BPF ABI 1.0, Registers and calling convention).
-    WriteToFramePointer,
-    /// 4: a load whose bytes aren't all in one area.
-    LoadOutside,
-    /// 5: a store whose bytes aren't all in one writable area.
-    StoreOutside,
-    /// 6: a helper other than emit.
-    UnknownHelper,
-    /// 7: an emit of at least one byte whose bytes aren't all in one area.
-    EmitOutside,
-    /// 8: an emit of no bytes, or of a frame that takes the group over its limit.
-    EmitLength,
+    /// The next slot is outside the program.
+    #[error("the next slot is outside the program")]
+    NextOutside = 1,
+    /// The next slot is a wide instruction's second.
+    #[error("the next slot is a wide instruction's second")]
+    NextInsideWide = 2,
+    /// A write to R10, the read-only frame pointer (BPF ABI 1.0, Registers and calling convention).
+    #[error("a write to R10")]
+    WriteToFramePointer = 3,
+    /// A load whose bytes aren't all in one area.
+    #[error("a load outside")]
+    LoadOutside = 4,
+    /// A store whose bytes aren't all in one writable area.
+    #[error("a store outside, or into the context or the block")]
+    StoreOutside = 5,
+    /// A helper other than emit.
+    #[error("a helper other than 1")]
+    UnknownHelper = 6,
+    /// An emit of at least one byte whose bytes aren't all in one area.
+    #[error("an emit from outside")]
+    EmitOutside = 7,
+    /// An emit of no bytes, or of a frame that takes the group over its limit.
+    #[error("an emit of no bytes, or over the limit")]
+    EmitLength = 8,
 }
 
 impl Cause {
@@ -30,15 +40,6 @@ impl Cause {
     pub fn number(self) -> u8
         ensures { result ≡ cause_number self }
     {
-        match self {
-            Cause::NextOutside => 1,
-            Cause::NextInsideWide => 2,
-            Cause::WriteToFramePointer => 3,
-            Cause::LoadOutside => 4,
-            Cause::StoreOutside => 5,
-            Cause::UnknownHelper => 6,
-            Cause::EmitOutside => 7,
-            Cause::EmitLength => 8,
-        }
+        self as u8
     }
 }

@@ -9,7 +9,7 @@ use Rattle.program_interface.specs.Frame.{frame, frames}
 use Rattle.program_interface.specs.RunSizes.{AreSizes}
 use Rattle.program_interface.specs.declared.area.Area.TheVariants.{Scratch}
 use Rattle.program_meaning.specs.Laws.{IsInRun}
-use Rattle.program_meaning.specs.Run.{Run}
+use Rattle.program_meaning.specs.BlockRun.{BlockRun}
 use Rattle.program_meaning.specs.State.{IsState, entry}
 use Rattle.program_meaning.specs.TrapFree.{Exits, NeverTraps}
 use Rattle.program_meaning.proofs.Proved.{ends_in_run, entry_is_in_run, entry_is_state}
@@ -49,7 +49,7 @@ pub record IsReady (task : Task) : Type 0 where
   pub small : task.sizes.block < 2 ^ 32
 
 -- a block run that ends by EXIT, with a group of whole frames, and scratch bytes for the next
-pub record IsDone (task : Task) (run : Run) : Type 0 where
+pub record IsDone (task : Task) (run : BlockRun) : Type 0 where
   pub exits : Exits (instruction_count task.program) task.sizes.limit run
   pub in_run : IsInRun task.sizes.limit run.state
   pub scratch : IsScratch (scratch_after run)
@@ -79,11 +79,11 @@ module _ (task : Task) (ready : IsReady task) where
       let done = one_done index scratch bytes is whole.0 in
       (done, all_done blocks (index + 1) (scratch_after (block_run task index scratch bytes)) done.scratch whole.1)
 
-  until_by : (on : Bool) (runs : List Run) → AllByRecursion (IsDone task) runs → AllByRecursion (IsDone task) (cond on runs [])
+  until_by : (on : Bool) (runs : List BlockRun) → AllByRecursion (IsDone task) runs → AllByRecursion (IsDone task) (cond on runs [])
   until_by true runs h = h
   until_by false runs h = tt
 
-  until : (runs : List Run) → AllByRecursion (IsDone task) runs → AllByRecursion (IsDone task) (until_ended runs)
+  until : (runs : List BlockRun) → AllByRecursion (IsDone task) runs → AllByRecursion (IsDone task) (until_ended runs)
   until [] h = tt
   until (run ∷ runs) h = (h.0, until_by (goes_on run.end) (until_ended runs) (until runs h.1))
 
@@ -92,11 +92,11 @@ module _ (task : Task) (ready : IsReady task) where
 
 -- ---- how many block runs
 
-fewer_by : (on : Bool) (runs : List Run) → length (cond on runs []) ≤ length runs
+fewer_by : (on : Bool) (runs : List BlockRun) → length (cond on runs []) ≤ length runs
 fewer_by true runs = omega arith
 fewer_by false runs = omega arith
 
-fewer : (runs : List Run) → length (until_ended runs) ≤ length runs
+fewer : (runs : List BlockRun) → length (until_ended runs) ≤ length runs
 fewer [] = omega arith
 fewer (run ∷ runs) =
     let tail = fewer_by (goes_on run.end) (until_ended runs) in
@@ -133,14 +133,14 @@ long_frames (bytes ∷ records) some =
     let front = length-append (little_bytes 2 (length bytes)) bytes in
     omega (arith, rest, joined, front, some.0)
 
-frames_fit : (task : Task) (run : Run) → IsDone task run → 3 * run.state.frames ≤ task.sizes.limit
+frames_fit : (task : Task) (run : BlockRun) → IsDone task run → 3 * run.state.frames ≤ task.sizes.limit
 frames_fit task run done =
     let group = done.in_run.group in
     let long = long_frames group.records group.some in
     let same : length run.state.group ≡ length (frames group.records) = ap length group.whole in
     omega (arith, long, same, group.number, group.within)
 
-pub few_frames : (task : Task) (runs : List Run) → AllByRecursion (IsDone task) runs → 3 * frames_of runs ≤ length runs * task.sizes.limit
+pub few_frames : (task : Task) (runs : List BlockRun) → AllByRecursion (IsDone task) runs → 3 * frames_of runs ≤ length runs * task.sizes.limit
 few_frames task [] done = omega arith
 few_frames task (run ∷ runs) done =
     let first = frames_fit task run done.0 in

@@ -2,7 +2,7 @@
 use Rattle.std.proofs.Common.{ℕ, ◌<◌, List, [], ◌∷◌, length, refl, ap, subst, ◌∙◌, arith, length-append}
 use Rattle.std.specs.List.{AllByRecursion, concat, flat_map}
 use Rattle.program_interface.specs.Frame.{frames}
-use Rattle.program_meaning.specs.Run.{Run}
+use Rattle.program_meaning.specs.BlockRun.{BlockRun}
 use Rattle.word_domain.specs.Domain.{Operations}
 use Rattle.accepted_programs.specs.Laws.{AcceptedNeverTraps}
 use Rattle.emit_append.specs.Unpacking.{unpacked}
@@ -18,12 +18,12 @@ use Rattle.pushdown.proofs.BlockRuns.{IsDone}
 use Rattle.pushdown.proofs.Outcomes.{outcome_is_packed}
 use Rattle.pushdown.proofs.States.{all_exit, groups_within, reached, ready, runs_all_done}
 
-record Emits (runs : List Run) : Type 0 where
+record Emits (runs : List BlockRun) : Type 0 where
   records : List (List (List ℕ))
   are : AreEmitted runs records
   some : AllByRecursion (λ group. AllByRecursion (λ bytes. 0 < length bytes) group) records
 
-emits : (task : Task) (runs : List Run) → AllByRecursion (IsDone task) runs → Emits runs
+emits : (task : Task) (runs : List BlockRun) → AllByRecursion (IsDone task) runs → Emits runs
 emits task [] done = record { records = []; are = record { groups = refl; counted = refl }; some = tt }
 emits task (run ∷ runs) done =
     let group = done.0.in_run.group in

@@ -5,7 +5,7 @@ use Rattle.zone_state.specs.declared.state.ZoneState.{ZoneState}
 use Rattle.zone_state.specs.declared.state.ZoneState.TheVariants as zone
 use Rattle.nvme_entry.specs.Entry.{decoded}
 use Rattle.instruction_set.specs.declared.insn.Insn.{Insn}
-use Rattle.program_meaning.specs.Run.{run_of}
+use Rattle.program_meaning.specs.BlockRun.{block_run_of}
 use Rattle.word_domain.specs.Domain.{Operations}
 use Rattle.image_store.specs.Namespace.{ZoneBlocks, ZonedNamespace, zone_at}
 use Rattle.pushdown.specs.Answers.{Happening, plain}
@@ -68,7 +68,7 @@ module _ {D : Type 0} (operations : Operations D) where
     run_is_admitted = refl
 
     pub turns_end_the_run : answers_to_turns (0 ∷ 0 ∷ 0 ∷ 0 ∷ []) admitted.state ≡ pending 0 ∷ pending 0 ∷ completes 7 0 0 ∷ plain Idle ∷ []
-    unfolding run_of
+    unfolding block_run_of
     turns_end_the_run = refl
 
   -- ---- a destination that lacks room for what 52 groups can come to
@@ -88,12 +88,12 @@ module _ {D : Type 0} (operations : Operations D) where
 
   pub turn_about : answers_to_turns (0 ∷ 1 ∷ 0 ∷ 1 ∷ []) two_runs
       ≡ pending 0 ∷ pending 1 ∷ completes_with 2 1 1 0 0 ∷ completes_with 2 1 2 0 0 ∷ []
-  unfolding run_of
+  unfolding block_run_of
   turn_about = refl
 
   pub one_before_the_other : answers_to_turns (1 ∷ 1 ∷ 0 ∷ 0 ∷ []) two_runs
       ≡ pending 1 ∷ completes_with 2 1 2 0 0 ∷ pending 0 ∷ completes_with 2 1 1 0 0 ∷ []
-  unfolding run_of
+  unfolding block_run_of
   one_before_the_other = refl
 
   -- the block that each run appends
@@ -101,15 +101,15 @@ module _ {D : Type 0} (operations : Operations D) where
   two_frames = frame ++ frame ++ replicate 492 0
 
   pub same_blocks : state_after_turns (0 ∷ 1 ∷ 0 ∷ 1 ∷ []) two_runs ≡ state_after_turns (1 ∷ 1 ∷ 0 ∷ 0 ∷ []) two_runs
-  unfolding run_of
+  unfolding block_run_of
   same_blocks = refl
 
   pub first_appends : blocks_in (state_after_turns (0 ∷ 1 ∷ 0 ∷ 1 ∷ []) two_runs) 1 ≡ block_of 7 ∷ block_of 7 ∷ two_frames ∷ []
-  unfolding run_of
+  unfolding block_run_of
   first_appends = refl
 
   pub second_appends : blocks_in (state_after_turns (0 ∷ 1 ∷ 0 ∷ 1 ∷ []) two_runs) 2 ≡ two_frames ∷ []
-  unfolding run_of
+  unfolding block_run_of
   second_appends = refl
 
   -- ---- what an active run holds
@@ -121,20 +121,20 @@ module _ {D : Type 0} (operations : Operations D) where
 
   -- Reset of its source, Append to its destination and a fault of its source are refused,
   pub source_is_kept : (asks (entry_of 0x79 5 0 (0 ∷ 0 ∷ 0 ∷ 0 ∷ 4 ∷ replicate 11 0)) [] holding).answer ≡ completes 5 0x80 0x0f
-  unfolding run_of
+  unfolding block_run_of
   source_is_kept = refl
 
   pub destination_is_kept : (asks (entry_of 0x7d 6 8 (replicate 16 0)) (block_of 1) holding).answer ≡ completes 6 0x80 0x0f
-  unfolding run_of
+  unfolding block_run_of
   destination_is_kept = refl
 
   pub source_cannot_fail : (failed holding 0 ReadOnly).answer ≡ plain FaultRefused
-  unfolding run_of
+  unfolding block_run_of
   source_cannot_fail = refl
 
   -- and so is a Load over its program
   pub program_is_kept : (asks (entry_of 0xc1 8 0 (replicate 16 0)) [] holding).answer ≡ completes 8 0x94 0x0f
-  unfolding run_of
+  unfolding block_run_of
   program_is_kept = refl
 
   -- a Write to an Empty zone succeeds; not the destination gives way to it, but the zone behind it
@@ -142,15 +142,15 @@ module _ {D : Type 0} (operations : Operations D) where
   opening = asks (entry_of 0x01 7 24 (replicate 16 0)) (block_of 1) holding
 
   pub write_succeeds : opening.answer ≡ completes 7 0 0
-  unfolding run_of
+  unfolding block_run_of
   write_succeeds = refl
 
   pub destination_stays_open : state_in opening.state 1 ≡ zone.ImplicitlyOpened
-  unfolding run_of
+  unfolding block_run_of
   destination_stays_open = refl
 
   pub another_gives_way : state_in opening.state 2 ≡ zone.Closed
-  unfolding run_of
+  unfolding block_run_of
   another_gives_way = refl
 
   -- ---- a last block that fills its zone
@@ -161,11 +161,11 @@ module _ {D : Type 0} (operations : Operations D) where
       ∷ zone_of zone.Empty [] ∷ zone_of zone.Empty [] ∷ [])) sevens 10)
 
   pub zone_is_filled : state_in (state_after_turns (0 ∷ 0 ∷ []) one_left) 1 ≡ zone.Full
-  unfolding run_of
+  unfolding block_run_of
   zone_is_filled = refl
 
   pub by_one_block : answers_to_turns (0 ∷ 0 ∷ []) one_left ≡ pending 0 ∷ completes_with 2 1 1 0 0 ∷ []
-  unfolding run_of
+  unfolding block_run_of
   by_one_block = refl
 
   -- ---- eight runs of one block, and no more
@@ -191,5 +191,5 @@ module _ {D : Type 0} (operations : Operations D) where
   -- the place of a run that ended is the next one's, but another run's destination is not
   pub a_place_is_free : answers_asked (run_entry 9 0 0 8 ∷ run_entry 9 0 0 72 ∷ []) (state_after_turns (2 ∷ []) (state_asked eight_runs nine_open))
       ≡ completes 9 0x80 0x0f ∷ pending 2 ∷ []
-  unfolding run_of
+  unfolding block_run_of
   a_place_is_free = refl

@@ -2,7 +2,7 @@
 use Rattle.std.proofs.Common.{◌≡◌, ℕ, true, List, [], ◌∷◌, ◌++◌, replicate, refl}
 use Rattle.zone_state.specs.declared.state.ZoneState.TheVariants as zone
 use Rattle.nvme_entry.specs.Entry.{decoded}
-use Rattle.program_meaning.specs.Run.{run_of}
+use Rattle.program_meaning.specs.BlockRun.{block_run_of}
 use Rattle.word_domain.specs.Domain.{Operations}
 use Rattle.pushdown.specs.Answers.{Happening, plain}
 use Rattle.device_events.specs.Replies.{ReplyWithData}
@@ -85,7 +85,7 @@ module _ {D : Type 0} (operations : Operations D) where
 
   pub sum_is_given : (asks operations (result_entry 5) [] summed).answer
       ≡ record { reply = Complete 1 (replicate 10 0 ++ 1 ∷ 0 ∷ 5 ∷ replicate 3 0) 1024; bytes = 6 ∷ replicate 1023 0 }
-  unfolding run_of
+  unfolding block_run_of
   sum_is_given = refl
 
   -- ---- Runs that are refused for their zones

@@ -4,7 +4,7 @@ use Rattle.std.specs.List.{concat}
 use Rattle.zone_state.specs.declared.status.TheConstants.Status.{PROGRAM_TRAPPED, SUCCESS}
 use Rattle.instruction_set.specs.declared.insn.Insn.{Insn}
 use Rattle.emit_append.specs.Need.{need}
-use Rattle.program_meaning.specs.Run.{Run, run_of}
+use Rattle.program_meaning.specs.BlockRun.{BlockRun, block_run_of}
 use Rattle.pushdown.specs.BlockRuns.{Task, no_scratch, runs_of}
 use Rattle.pushdown.specs.Outcome.{Turn, outcome}
 use Rattle.pushdown.proofs.Examples.{block_of, frame, loops, passes, sevens, sums, tells, traps, twice, waits}
@@ -19,7 +19,7 @@ ends blocks frames count result = record { blocks = blocks; ending = Some (recor
 
 -- the steps that a run's block runs take
 abbrev steps_of : Task → List (List ℕ) → List ℕ
-steps_of task blocks = map (λ (run : Run). run.steps) (runs_of task blocks)
+steps_of task blocks = map (λ (run : BlockRun). run.steps) (runs_of task blocks)
 
 -- a program that does nothing: three turns of two steps, of which the last ends the run, whatever the blocks are
 module _ (x y z : List ℕ) where
@@ -27,11 +27,11 @@ module _ (x y z : List ℕ) where
   idle = task_of passes 0 3
 
   pub passes_turns : outcome idle (x ∷ y ∷ z ∷ []) ≡ waits ∷ waits ∷ ends [] 0 0 no_scratch ∷ []
-  unfolding run_of
+  unfolding block_run_of
   passes_turns = refl
 
   pub passes_steps : steps_of idle (x ∷ y ∷ z ∷ []) ≡ 2 ∷ 2 ∷ 2 ∷ []
-  unfolding run_of
+  unfolding block_run_of
   passes_steps = refl
 
 -- 52 blocks, of each a frame: 51 fill a block but for two bytes, so that nothing is appended before the last
@@ -45,24 +45,24 @@ module _ where
 
   pub sevens_turns : outcome matching (replicate 52 (block_of 7))
       ≡ replicate 51 waits ++ ends ((concat (replicate 51 frame) ++ 0 ∷ 0 ∷ []) ∷ (frame ++ replicate 502 0) ∷ []) 52 2 no_scratch ∷ []
-  unfolding run_of
+  unfolding block_run_of
   sevens_turns = refl
 
   -- a block that begins with 7 takes seven steps, and another four
   pub sevens_steps : steps_of (task_of sevens 10 2) (block_of 7 ∷ block_of 8 ∷ []) ≡ 7 ∷ 4 ∷ []
-  unfolding run_of
+  unfolding block_run_of
   sevens_steps = refl
 
 -- ten blocks, of which three are read: the sum of their first bytes is the result
 pub sums_turns : outcome (task_of sums 0 10) (map block_of (1 ∷ 2 ∷ 3 ∷ 4 ∷ 5 ∷ 6 ∷ 7 ∷ 8 ∷ 9 ∷ 10 ∷ []))
     ≡ waits ∷ waits ∷ ends [] 0 0 (6 ∷ replicate 1023 0) ∷ []
-unfolding run_of
+unfolding block_run_of
 sums_turns = refl
 
 -- frames are told, not groups: two of each block
 pub twice_turns : outcome (task_of twice 6 2) (block_of 4 ∷ block_of 5 ∷ [])
     ≡ waits ∷ ends ((1 ∷ 0 ∷ 4 ∷ 1 ∷ 0 ∷ 4 ∷ 1 ∷ 0 ∷ 5 ∷ 1 ∷ 0 ∷ 5 ∷ replicate 500 0) ∷ []) 4 1 no_scratch ∷ []
-unfolding run_of
+unfolding block_run_of
 twice_turns = refl
 
 -- each block run is told the address of its block, its index, how many blocks there are, a block's size and
@@ -83,7 +83,7 @@ module _ where
 
   pub tells_turns : outcome telling (block_of 0 ∷ block_of 0 ∷ [])
       ≡ waits ∷ ends ((told 2 0 ++ told 3 1 ++ replicate 444 0) ∷ []) 2 1 no_scratch ∷ []
-  unfolding run_of
+  unfolding block_run_of
   tells_turns = refl
 
 -- a run whose program can't go on: the block that was filled stands, the pending one is dropped
@@ -93,9 +93,9 @@ module _ where
 
   pub traps_turns : outcome (task_of traps 512 3) (block_of 1 ∷ block_of 1 ∷ block_of 9 ∷ [])
       ≡ waits ∷ record { blocks = (0xfe ∷ 0x01 ∷ 1 ∷ replicate 509 0) ∷ []; ending = None } ∷ stopped 7 4 ∷ []
-  unfolding run_of
+  unfolding block_run_of
   traps_turns = refl
 
   pub loops_turns : outcome (task_of loops 0 1) (block_of 0 ∷ []) ≡ stopped 0 9 ∷ []
-  unfolding run_of
+  unfolding block_run_of
   loops_turns = refl

@@ -10,7 +10,7 @@ use Rattle.zone_state.specs.declared.status.TheConstants.Status.{DESTINATION_NOT
 use Rattle.nvme_entry.specs.declared.command.Command.TheVariants as command
 use Rattle.nvme_entry.specs.declared.command.RunCommand.{RunCommand}
 use Rattle.instruction_set.specs.Program.{instruction_count}
-use Rattle.program_meaning.specs.Run.{Run}
+use Rattle.program_meaning.specs.BlockRun.{BlockRun}
 use Rattle.word_domain.specs.Domain.{Operations}
 use Rattle.accepted_programs.specs.Laws.{AcceptedNeverTraps}
 use Rattle.image_store.specs.Namespace.{ZoneBlocks, ZonedNamespace, IsNamespace, no_zone, shape, zone_at}
@@ -194,7 +194,7 @@ pushdown operations never ns before is are queue entry input starved order run a
     let ends = (turns_are operations never ns.block sub s order fine none (decoded_has entry (command.Run order) admitted.asked)).ends in
     record {
       no_turn_traps = record { exits = all_exit operations never ns.block sub s order fine none; ends = ends };
-      few_steps = all_from (IsDone task) (λ (r : Run). r.steps ≤ instruction_count task.program) (λ r h. h.exits.steps) runs done;
+      few_steps = all_from (IsDone task) (λ (r : BlockRun). r.steps ≤ instruction_count task.program) (λ r h. h.exits.steps) runs done;
       changes_destination_alone = changes_destination_alone operations s queue entry input order run fine.apart starved admitted ends after;
       does_its_turns = does_its_turns operations s queue entry input order run fine.apart starved admitted ends after;
       tells_whole = tells_whole operations never ns.block s fine queue entry input starved order run after admitted;

@@ -3,7 +3,7 @@ use Rattle.std.proofs.Common.{◌≡◌, ℕ, ◌+◌, ◌≤◌, List, [], ◌�
 use Rattle.std.proofs.lemmas.List.{append-nil}
 use Rattle.std.specs.List.{AllByRecursion}
 use Rattle.zone_state.specs.declared.status.TheConstants.Status.{SUCCESS}
-use Rattle.program_meaning.specs.Run.{Run}
+use Rattle.program_meaning.specs.BlockRun.{BlockRun}
 use Rattle.program_meaning.specs.TrapFree.{IsExit}
 use Rattle.program_meaning.specs.declared.end.End.{End}
 use Rattle.program_meaning.specs.declared.end.End.TheVariants as end
@@ -21,12 +21,12 @@ use Rattle.pushdown.proofs.Rests.{one_each}
 
 -- ---- the last turn
 
-ends_by : (e : End) (block : ℕ) (output : Output) (run : Run) → IsExit e → Succeeds (last_turn_by e block output run).ending
+ends_by : (e : End) (block : ℕ) (output : Output) (run : BlockRun) → IsExit e → Succeeds (last_turn_by e block output run).ending
 ends_by (end.Exit r0) block output run exit = refl
 ends_by (end.Trap slot cause) block output run exit = absurd exit
 ends_by end.OutOfFuel block output run exit = absurd exit
 
-pub ends_with_last : (task : Task) (block : ℕ) (output : Output) (runs : List Run) → AllByRecursion (IsDone task) runs → 1 ≤ length runs
+pub ends_with_last : (task : Task) (block : ℕ) (output : Output) (runs : List BlockRun) → AllByRecursion (IsDone task) runs → 1 ≤ length runs
     → EndsWithLast (turns_after block output runs)
 ends_with_last task block output [] done some = absurd (omega (arith, some))
 ends_with_last task block output (run ∷ []) done some = ends_by run.end block output run done.0.exits.exit
@@ -59,7 +59,7 @@ module _ (block : ℕ) where
   abbrev pub HasWhole : Turn → Type 0
   HasWhole turn = AreBlocks block turn.blocks
 
-  last_whole : (e : End) (output : Output) (run : Run) → AreGroups block (with_group output run).groups
+  last_whole : (e : End) (output : Output) (run : BlockRun) → AreGroups block (with_group output run).groups
       → HasWhole (last_turn_by e block output run)
   last_whole (end.Trap slot cause) output run h = tt
   last_whole end.OutOfFuel output run h = tt
@@ -67,20 +67,20 @@ module _ (block : ℕ) where
       let groups = (with_group output run).groups in
       all_drop (IsBlock block) (length (released block output.groups)) (packed block groups) (packed_whole groups h)
 
-  middle_whole : (output : Output) (run : Run) → AreGroups block (with_group output run).groups → HasWhole (middle_turn block output run)
+  middle_whole : (output : Output) (run : BlockRun) → AreGroups block (with_group output run).groups → HasWhole (middle_turn block output run)
   middle_whole output run h =
       let groups = (with_group output run).groups in
       all_drop (IsBlock block) (length (released block output.groups)) (released block groups) (released_whole groups h)
 
   -- a block run's group, behind those before
-  grouped : (task : Task) (output : Output) (run : Run) → task.sizes.limit ≤ block → IsDone task run → AreGroups block output.groups
+  grouped : (task : Task) (output : Output) (run : BlockRun) → task.sizes.limit ≤ block → IsDone task run → AreGroups block output.groups
       → AreGroups block (with_group output run).groups
   grouped task output run less done h = record {
     fit = all_append (λ group. length group ≤ block) output.groups (run.state.group ∷ []) h.fit (omega (arith, less, done.exits.group), tt);
     are = all_append _ output.groups (run.state.group ∷ []) h.are (from_index run.state.group done.in_run.bytes, tt);
   }
 
-  pub turns_whole : (task : Task) (output : Output) (runs : List Run) → task.sizes.limit ≤ block → AllByRecursion (IsDone task) runs
+  pub turns_whole : (task : Task) (output : Output) (runs : List BlockRun) → task.sizes.limit ≤ block → AllByRecursion (IsDone task) runs
       → AreGroups block output.groups → AllByRecursion HasWhole (turns_after block output runs)
   turns_whole task output [] less done h = tt
   turns_whole task output (run ∷ []) less done h = (last_whole run.end output run (grouped task output run less done.0 h), tt)
@@ -90,7 +90,7 @@ module _ (block : ℕ) where
 
 -- ---- all blocks together
 
-abbrev AllExit : List Run → Type 0
+abbrev AllExit : List BlockRun → Type 0
 AllExit runs = AllByRecursion (λ run. IsExit run.end) runs
 
 -- what stood in front, and then what comes to it
@@ -102,30 +102,30 @@ whole_again : (first rest whole : List (List ℕ)) → whole ≡ first ++ rest �
 whole_again first rest whole is = ap (λ xs. first ++ behind first xs) is ∙ in_whole first rest ∙ sym is
 
 module _ (block : ℕ) where
-  abbrev later_groups : Output → Run → List (List ℕ)
+  abbrev later_groups : Output → BlockRun → List (List ℕ)
   later_groups output run = pending_of block output.groups ∷ run.state.group ∷ []
 
-  released_more : (output : Output) (run : Run)
+  released_more : (output : Output) (run : BlockRun)
       → released block output.groups ++ behind (released block output.groups) (released block (with_group output run).groups)
       ≡ released block (with_group output run).groups
   released_more output run =
       whole_again (released block output.groups) (released block (later_groups output run)) (released block (with_group output run).groups)
       (packing_goes_on block output.groups (run.state.group ∷ [])).released_blocks
 
-  packed_more : (output : Output) (run : Run)
+  packed_more : (output : Output) (run : BlockRun)
       → released block output.groups ++ behind (released block output.groups) (packed block (with_group output run).groups)
       ≡ packed block (with_group output run).groups
   packed_more output run =
       whole_again (released block output.groups) (packed block (later_groups output run)) (packed block (with_group output run).groups)
       (packing_goes_on block output.groups (run.state.group ∷ [])).blocks
 
-  last_blocks : (e : End) (output : Output) (run : Run) → IsExit e
+  last_blocks : (e : End) (output : Output) (run : BlockRun) → IsExit e
       → (last_turn_by e block output run).blocks ≡ behind (released block output.groups) (packed block (with_group output run).groups)
   last_blocks (end.Exit r0) output run exit = refl
   last_blocks (end.Trap slot cause) output run exit = absurd exit
   last_blocks end.OutOfFuel output run exit = absurd exit
 
-  all_blocks : (output : Output) (run : Run) (runs : List Run) → AllExit (run ∷ runs)
+  all_blocks : (output : Output) (run : BlockRun) (runs : List BlockRun) → AllExit (run ∷ runs)
       → released block output.groups ++ appended_by (turns_after block output (run ∷ runs)) ≡ packed block (output.groups ++ groups_of (run ∷ runs))
   all_blocks output run [] exit =
       let first = released block output.groups in
@@ -142,7 +142,7 @@ module _ (block : ℕ) where
       ∙ all_blocks then next runs exit.1
       ∙ ap (packed block) (append_assoc output.groups (run.state.group ∷ []) (groups_of (next ∷ runs)))
 
-  packed_by : (runs : List Run) → AllExit runs → appended_by (turns_after block no_output runs) ≡ packed block (groups_of runs)
+  packed_by : (runs : List BlockRun) → AllExit runs → appended_by (turns_after block no_output runs) ≡ packed block (groups_of runs)
   packed_by [] exit = refl
   packed_by (run ∷ runs) exit = all_blocks no_output run runs exit
 
@@ -151,14 +151,14 @@ module _ (block : ℕ) where
   abbrev told : ℕ → ℕ → List ℕ → Option Ending
   told frames blocks scratch = Some (record { status = SUCCESS; dw0 = frames; dw1 = blocks; result = Some scratch })
 
-  last_told : (e : End) (output : Output) (run : Run) → IsExit e
+  last_told : (e : End) (output : Output) (run : BlockRun) → IsExit e
       → (last_turn_by e block output run).ending
       ≡ told (output.frames + run.state.frames) (output.appended + length (packed block (with_group output run).groups)) (scratch_after run)
   last_told (end.Exit r0) output run exit = refl
   last_told (end.Trap slot cause) output run exit = absurd exit
   last_told end.OutOfFuel output run exit = absurd exit
 
-  more_told : (output : Output) (run next : Run) (runs : List Run)
+  more_told : (output : Output) (run next : BlockRun) (runs : List BlockRun)
       → ending_of (turns_after block (with_group output run) (next ∷ runs))
       ≡ told (output.frames + run.state.frames + frames_of (next ∷ runs))
       (output.appended + length (packed block ((output.groups ++ run.state.group ∷ []) ++ groups_of (next ∷ runs)))) (last_scratch (next ∷ runs))
@@ -172,7 +172,7 @@ module _ (block : ℕ) where
       ∙ ap (λ n. told n (output.appended + length (packed block ((output.groups ++ run.state.group ∷ []) ++ groups_of (next ∷ runs)))) (last_scratch (next ∷ runs))) sum
       ∙ ap (λ groups. told (output.frames + frames_of (run ∷ next ∷ runs)) (output.appended + length (packed block groups)) (last_scratch (next ∷ runs))) joined
 
-  all_told : (output : Output) (run : Run) (runs : List Run) → AllExit (run ∷ runs)
+  all_told : (output : Output) (run : BlockRun) (runs : List BlockRun) → AllExit (run ∷ runs)
       → ending_of (turns_after block output (run ∷ runs))
       ≡ told (output.frames + frames_of (run ∷ runs)) (output.appended + length (packed block (output.groups ++ groups_of (run ∷ runs)))) (last_scratch (run ∷ runs))
   all_told output run [] exit =
@@ -183,7 +183,7 @@ module _ (block : ℕ) where
   all_told output run (next ∷ third ∷ runs) exit =
       more_told output run next (third ∷ runs) (all_told (with_group output run) next (third ∷ runs) exit.1)
 
-  ended : (runs : List Run) → AllExit runs → 1 ≤ length runs → appended_by (turns_after block no_output runs) ≡ packed block (groups_of runs)
+  ended : (runs : List BlockRun) → AllExit runs → 1 ≤ length runs → appended_by (turns_after block no_output runs) ≡ packed block (groups_of runs)
       → ending_of (turns_after block no_output runs) ≡ Some (success_of runs (turns_after block no_output runs))
   ended [] exit some all = absurd (omega (arith, some))
   ended (run ∷ runs) exit some all =

@@ -1,7 +1,7 @@
 -- The rest of a run.
 use Rattle.std.proofs.Common.{◌≡◌, ℕ, suc, ◌+◌, Bool, true, false, cond, List, [], ◌∷◌, ◌++◌, length, Some, None, inl, inr, refl, ap, ◌∙◌, arith, append_assoc, length-append}
 use Rattle.zone_state.specs.declared.status.TheConstants.Status.{SUCCESS}
-use Rattle.program_meaning.specs.Run.{Run}
+use Rattle.program_meaning.specs.BlockRun.{BlockRun}
 use Rattle.program_meaning.specs.declared.end.End.{End}
 use Rattle.program_meaning.specs.declared.end.End.TheVariants as end
 use Rattle.emit_append.specs.Packing.{packed, released, pending_of}
@@ -16,13 +16,13 @@ out groups frames appended = record { groups = groups; frames = frames; appended
 
 -- ---- a first group of no bytes changes nothing
 
-last_empty : (block : ℕ) (groups : List (List ℕ)) (frames appended : ℕ) (run : Run) (e : End)
+last_empty : (block : ℕ) (groups : List (List ℕ)) (frames appended : ℕ) (run : BlockRun) (e : End)
     → last_turn_by e block (out ([] ∷ groups) frames appended) run ≡ last_turn_by e block (out groups frames appended) run
 last_empty block groups frames appended run (end.Exit r0) = refl
 last_empty block groups frames appended run (end.Trap slot cause) = refl
 last_empty block groups frames appended run end.OutOfFuel = refl
 
-turns_empty : (block : ℕ) (groups : List (List ℕ)) (frames appended : ℕ) (runs : List Run)
+turns_empty : (block : ℕ) (groups : List (List ℕ)) (frames appended : ℕ) (runs : List BlockRun)
     → turns_after block (out ([] ∷ groups) frames appended) runs ≡ turns_after block (out groups frames appended) runs
 turns_empty block groups frames appended [] = refl
 turns_empty block groups frames appended (run ∷ []) =
@@ -47,7 +47,7 @@ module _ (block : ℕ) (before : List (List ℕ)) where
   abbrev kept : List ℕ
   kept = pending_of block before
 
-  middle_on : (after : List (List ℕ)) (frames appended : ℕ) (run : Run)
+  middle_on : (after : List (List ℕ)) (frames appended : ℕ) (run : BlockRun)
       → middle_turn block (out (before ++ after) frames appended) run ≡ middle_turn block (out (kept ∷ after) frames (appended + sent)) run
   middle_on after frames appended run =
       let g = run.state.group ∷ [] in
@@ -65,7 +65,7 @@ module _ (block : ℕ) (before : List (List ℕ)) where
     ending = Some (record { status = SUCCESS; dw0 = frames; dw1 = all; result = Some scratch });
   }
 
-  finished_on : (after : List (List ℕ)) (frames appended : ℕ) (run : Run) (e : End)
+  finished_on : (after : List (List ℕ)) (frames appended : ℕ) (run : BlockRun) (e : End)
       → last_turn_by e block (out (before ++ after) frames appended) run ≡ last_turn_by e block (out (kept ∷ after) frames (appended + sent)) run
   finished_on after frames appended run (end.Trap slot cause) = refl
   finished_on after frames appended run end.OutOfFuel = refl
@@ -83,7 +83,7 @@ module _ (block : ℕ) (before : List (List ℕ)) where
       ∙ ap (λ blocks. turn blocks (appended + sent + length rest_packed))
       (behind_both (released block before) (released block (kept ∷ after)) rest_packed)
 
-  turns_on : (after : List (List ℕ)) (frames appended : ℕ) (runs : List Run)
+  turns_on : (after : List (List ℕ)) (frames appended : ℕ) (runs : List BlockRun)
       → turns_after block (out (before ++ after) frames appended) runs ≡ turns_after block (out (kept ∷ after) frames (appended + sent)) runs
   turns_on after frames appended [] = refl
   turns_on after frames appended (run ∷ []) = ap (λ (turn : Turn). turn ∷ []) (finished_on after frames appended run run.end)
@@ -97,7 +97,7 @@ module _ (block : ℕ) (before : List (List ℕ)) where
 
 -- one group alone releases nothing
 -- a block run after which the run goes on, before others
-goes : (task : Task) (so_far : Progress) (run next : Run) (runs : List Run)
+goes : (task : Task) (so_far : Progress) (run next : BlockRun) (runs : List BlockRun)
     → turns_after task.sizes.block (output_of so_far) (run ∷ next ∷ runs)
     ≡ next_turn task so_far run ∷ turns_after task.sizes.block (output_of (further task so_far run)) (next ∷ runs)
 goes task so_far run next runs =
@@ -108,17 +108,17 @@ goes task so_far run next runs =
     ap (λ first. record { blocks = behind first (released block groups); ending = None } ∷ later) (one_group_is_pending block so_far.pending).released_none
     ∙ ap (λ turns. next_turn task so_far run ∷ turns) (turns_on block groups [] frames so_far.appended (next ∷ runs))
 
-cut_not : (block : ℕ) (output : Output) (run : Run) (later : List Run) (on : Bool) → on ≡ true
+cut_not : (block : ℕ) (output : Output) (run : BlockRun) (later : List BlockRun) (on : Bool) → on ≡ true
     → turns_after block output (run ∷ cond on later []) ≡ turns_after block output (run ∷ later)
 cut_not block output run later true is = refl
 cut_not block output run later false is = cc
 
-cut : (block : ℕ) (output : Output) (run : Run) (later : List Run) (on : Bool) → on ≡ false
+cut : (block : ℕ) (output : Output) (run : BlockRun) (later : List BlockRun) (on : Bool) → on ≡ false
     → turns_after block output (run ∷ cond on later []) ≡ last_turn block output run ∷ []
 cut block output run later true is = cc
 cut block output run later false is = refl
 
-cut_none : (block : ℕ) (output : Output) (run : Run) (on : Bool) → turns_after block output (run ∷ cond on [] []) ≡ last_turn block output run ∷ []
+cut_none : (block : ℕ) (output : Output) (run : BlockRun) (on : Bool) → turns_after block output (run ∷ cond on [] []) ≡ last_turn block output run ∷ []
 cut_none block output run true = refl
 cut_none block output run false = refl
 
@@ -142,7 +142,7 @@ rest_ends task so_far bytes blocks (inr last) =
 
 -- ---- no more turns than source blocks
 
-pub one_each : (block : ℕ) (output : Output) (runs : List Run) → length (turns_after block output runs) ≡ length runs
+pub one_each : (block : ℕ) (output : Output) (runs : List BlockRun) → length (turns_after block output runs) ≡ length runs
 one_each block output [] = refl
 one_each block output (run ∷ []) = refl
 one_each block output (run ∷ next ∷ runs) = ap suc (one_each block (with_group output run) (next ∷ runs))

@@ -19,7 +19,7 @@ use Rattle.instruction_set.specs.Program.{IsProgram}
 use Rattle.ebpf_decode.proofs.Proved.{decoded_is_spelled}
 use Rattle.program_interface.specs.BlockSize.{IsBlockSize}
 use Rattle.program_interface.specs.RunSizes.{AreSizes, Sizes}
-use Rattle.program_meaning.specs.Run.{Run}
+use Rattle.program_meaning.specs.BlockRun.{BlockRun}
 use Rattle.program_meaning.specs.TrapFree.{IsExit, NeverTraps}
 use Rattle.word_domain.specs.Domain.{Operations}
 use Rattle.accepted_programs.specs.Accepted.{refusal}
@@ -75,12 +75,12 @@ few_source ns order =
 
 -- ---- groups
 
-pub groups_fit : (task : Task) (runs : List Run) → AllByRecursion (IsDone task) runs
+pub groups_fit : (task : Task) (runs : List BlockRun) → AllByRecursion (IsDone task) runs
     → AllByRecursion (λ group. length group ≤ task.sizes.limit) (groups_of runs)
 groups_fit task [] h = tt
 groups_fit task (run ∷ runs) h = (h.0.exits.group, groups_fit task runs h.1)
 
-pub groups_within : (task : Task) (runs : List Run) → task.sizes.limit ≤ task.sizes.block → AllByRecursion (IsDone task) runs
+pub groups_within : (task : Task) (runs : List BlockRun) → task.sizes.limit ≤ task.sizes.block → AllByRecursion (IsDone task) runs
     → FitBlock task.sizes.block (groups_of runs)
 groups_within task runs less h =
     all_from (λ group. length group ≤ task.sizes.limit) (λ group. length group ≤ task.sizes.block) (λ group fits. omega (arith, less, fits))
@@ -193,7 +193,7 @@ module _ {D : Type 0} (operations : Operations D) (never : AcceptedNeverTraps op
     abbrev pub source : List (List ℕ)
     source = source_blocks s.namespace order
 
-    abbrev pub runs : List Run
+    abbrev pub runs : List BlockRun
     runs = runs_of task source
 
     abbrev checks : List (Option Status)
@@ -208,8 +208,8 @@ module _ {D : Type 0} (operations : Operations D) (never : AcceptedNeverTraps op
     pub runs_all_done : AllByRecursion (IsDone task) runs
     runs_all_done = runs_done task ready source (source_are s.namespace order h.is)
 
-    pub all_exit : AllByRecursion (λ (run : Run). IsExit run.end) runs
-    all_exit = all_from (IsDone task) (λ (run : Run). IsExit run.end) (λ run done. done.exits.exit) runs runs_all_done
+    pub all_exit : AllByRecursion (λ (run : BlockRun). IsExit run.end) runs
+    all_exit = all_from (IsDone task) (λ (run : BlockRun). IsExit run.end) (λ run done. done.exits.exit) runs runs_all_done
 
     -- the range is written
     pub written : order.lba % s.namespace.size + order.blocks ≤ length (zone_at s.namespace (order.lba / s.namespace.size)).blocks
@@ -240,7 +240,7 @@ module _ {D : Type 0} (operations : Operations D) (never : AcceptedNeverTraps op
         let groups = groups_of runs in
         let whole = outcome_is_packed task source all_exit in
         let enough = need_is_enough task.sizes groups ready.sizes.fits (groups_fit task runs runs_all_done) in
-        let some_groups = length-map runs (λ (run : Run). run.state.group) in
+        let some_groups = length-map runs (λ (run : BlockRun). run.state.group) in
         let few = few_runs task 0 no_scratch source in
         let most : length groups ≤ order.blocks = omega (arith, some_groups, few, few_source s.namespace order) in
         let grows = need_grows task.sizes (length groups) order.blocks most in

@@ -5,7 +5,7 @@ use Rattle.instruction_set.specs.declared.insn.Insn.{Insn}
 use Rattle.program_interface.specs.Context.{context_bytes}
 use Rattle.program_interface.specs.RunSizes.{Sizes}
 use Rattle.program_interface.specs.declared.area.TheConstants.{SCRATCH_BYTES}
-use Rattle.program_meaning.specs.Run.{Run, run_of}
+use Rattle.program_meaning.specs.BlockRun.{BlockRun, block_run_of}
 use Rattle.program_meaning.specs.State.{entry}
 use Rattle.program_meaning.specs.declared.end.End.{End}
 use Rattle.program_meaning.specs.declared.end.End.TheVariants as end
@@ -30,19 +30,19 @@ context task index = context_bytes (record {
 })
 
 -- a program on one block, with as much fuel as it has instructions
-abbrev pub run_over : List (Option Insn) → ℕ → List ℕ → List ℕ → List ℕ → Run
-run_over program limit bytes context scratch = run_of program limit (instruction_count program) 0 (entry bytes context scratch)
+abbrev pub run_over : List (Option Insn) → ℕ → List ℕ → List ℕ → List ℕ → BlockRun
+run_over program limit bytes context scratch = block_run_of program limit (instruction_count program) 0 (entry bytes context scratch)
 
 -- the run's program on one block
-abbrev pub block_run : Task → ℕ → List ℕ → List ℕ → Run
+abbrev pub block_run : Task → ℕ → List ℕ → List ℕ → BlockRun
 block_run task index scratch bytes = run_over task.program task.sizes.limit bytes (context task index) scratch
 
 -- the scratch bytes that a block run leaves
-abbrev pub scratch_after : Run → List ℕ
+abbrev pub scratch_after : BlockRun → List ℕ
 scratch_after run = run.state.memory.scratch
 
 -- the program on each of these blocks, with the scratch bytes that the block run before left
-abbrev pub block_runs : Task → ℕ → List ℕ → List (List ℕ) → List Run
+abbrev pub block_runs : Task → ℕ → List ℕ → List (List ℕ) → List BlockRun
 block_runs task index scratch [] = []
 block_runs task index scratch (bytes ∷ blocks) =
     let run = block_run task index scratch bytes in run ∷ block_runs task (index + 1) (scratch_after run) blocks
@@ -54,7 +54,7 @@ goes_on (end.Trap slot cause) = false
 goes_on end.OutOfFuel = false
 
 -- these block runs up to the first after which the run doesn't go on, that one counted, or all of them
-abbrev pub until_ended : List Run → List Run
+abbrev pub until_ended : List BlockRun → List BlockRun
 until_ended [] = []
 until_ended (run ∷ runs) = run ∷ (if goes_on run.end then until_ended runs else [])
 
@@ -63,22 +63,22 @@ abbrev pub no_scratch : List ℕ
 no_scratch = replicate SCRATCH_BYTES 0
 
 -- the block runs that a run comes to, over its source blocks
-abbrev pub runs_of : Task → List (List ℕ) → List Run
+abbrev pub runs_of : Task → List (List ℕ) → List BlockRun
 runs_of task blocks = until_ended (block_runs task 0 no_scratch blocks)
 
 -- ---- what block runs leave
 
 -- their groups, in order
-abbrev pub groups_of : List Run → List (List ℕ)
+abbrev pub groups_of : List BlockRun → List (List ℕ)
 groups_of runs = map (λ run. run.state.group) runs
 
 -- the number of their frames
-abbrev pub frames_of : List Run → ℕ
+abbrev pub frames_of : List BlockRun → ℕ
 frames_of [] = 0
 frames_of (run ∷ runs) = run.state.frames + frames_of runs
 
 -- the scratch bytes that the last of them leaves
-abbrev pub last_scratch : List Run → List ℕ
+abbrev pub last_scratch : List BlockRun → List ℕ
 last_scratch [] = no_scratch
 last_scratch (run ∷ []) = scratch_after run
 last_scratch (run ∷ next ∷ runs) = last_scratch (next ∷ runs)

@@ -6,7 +6,7 @@ use Rattle.zone_state.specs.State.{is_open}
 use Rattle.zone_resources.specs.Holds.{no_holds}
 use Rattle.nvme_entry.specs.declared.command.RunCommand.{RunCommand}
 use Rattle.program_interface.specs.Frame.{frames}
-use Rattle.program_meaning.specs.Run.{Run}
+use Rattle.program_meaning.specs.BlockRun.{BlockRun}
 use Rattle.program_meaning.specs.TrapFree.{IsExit}
 use Rattle.word_domain.specs.Domain.{Operations}
 use Rattle.emit_append.specs.Unpacking.{unpacked}
@@ -34,7 +34,7 @@ abbrev pub RestAtAdmission : Type 0
 RestAtAdmission = (task : Task) (blocks : List (List ℕ)) → rest task at_admission blocks ≡ outcome task blocks
 
 -- how far a run has come after one more block run
-abbrev pub further : Task → Progress → Run → Progress
+abbrev pub further : Task → Progress → BlockRun → Progress
 further task so_far run =
     let groups = so_far.pending ∷ run.state.group ∷ [] in
     record {
@@ -46,7 +46,7 @@ further task so_far run =
     }
 
 -- the turn that is next, where the run goes on
-abbrev pub next_turn : Task → Progress → Run → Turn
+abbrev pub next_turn : Task → Progress → BlockRun → Turn
 next_turn task so_far run = record { blocks = released task.sizes.block (so_far.pending ∷ run.state.group ∷ []); ending = None }
 
 -- the rest of a run that goes on is its next turn, and the rest after it
@@ -75,7 +75,7 @@ RestIsFew = (task : Task) (so_far : Progress) (blocks : List (List ℕ)) → len
 
 -- All that the turns of a run append is the packing of the groups of all its block runs, and the last turn
 -- tells how many frames these hold and how many blocks they come to.
-pub record IsWholeOutcome (task : Task) (runs : List Run) (turns : List Turn) : Type 0 where
+pub record IsWholeOutcome (task : Task) (runs : List BlockRun) (turns : List Turn) : Type 0 where
   pub blocks : appended_by turns ≡ packed task.sizes.block (groups_of runs)
   pub one_each : length turns ≡ length runs
   pub ending : 1 ≤ length runs → ending_of turns ≡ Some (success_of runs turns)
@@ -197,7 +197,7 @@ TurnsLeaveFewer operations =
 -- ---- in a user's words
 
 -- the records of these groups are what block runs emitted, of which there are as many as they count frames
-pub record AreEmitted (runs : List Run) (records : List (List (List ℕ))) : Type 0 where
+pub record AreEmitted (runs : List BlockRun) (records : List (List (List ℕ))) : Type 0 where
   pub groups : groups_of runs ≡ map frames records
   pub counted : length (flat_map (λ group. group) records) ≡ frames_of runs
 

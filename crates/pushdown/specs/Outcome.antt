@@ -4,7 +4,7 @@ use Rattle.std.specs.Prelude.{ℕ, ◌+◌, List, [], ◌∷◌, ◌++◌, lengt
 use Rattle.zone_state.specs.declared.status.Status.{Status}
 use Rattle.zone_state.specs.declared.status.TheConstants.Status.{SUCCESS, PROGRAM_TRAPPED}
 use Rattle.program_meaning.specs.Cause.{cause_number}
-use Rattle.program_meaning.specs.Run.{Run}
+use Rattle.program_meaning.specs.BlockRun.{BlockRun}
 use Rattle.program_meaning.specs.declared.end.End.{End}
 use Rattle.program_meaning.specs.declared.end.End.TheVariants as end
 use Rattle.emit_append.specs.Packing.{packed, released}
@@ -35,7 +35,7 @@ abbrev pub no_output : Output
 no_output = record { groups = []; frames = 0; appended = 0 }
 
 -- the output with a block run's group behind it
-abbrev pub with_group : Output → Run → Output
+abbrev pub with_group : Output → BlockRun → Output
 with_group output run = record {
   groups = output.groups ++ run.state.group ∷ [];
   frames = output.frames + run.state.frames;
@@ -47,7 +47,7 @@ abbrev pub behind : List (List ℕ) → List (List ℕ) → List (List ℕ)
 behind first blocks = drop (length first) blocks
 
 -- a turn after which the run goes on appends the blocks that no later group can change
-abbrev pub middle_turn : ℕ → Output → Run → Turn
+abbrev pub middle_turn : ℕ → Output → BlockRun → Turn
 middle_turn block output run = record {
   blocks = behind (released block output.groups) (released block (with_group output run).groups);
   ending = None;
@@ -73,16 +73,16 @@ trapped slot cause = record {
 }
 
 -- the last turn; 9 tells that a block run had no fuel left (profile)
-abbrev pub last_turn_by : End → ℕ → Output → Run → Turn
+abbrev pub last_turn_by : End → ℕ → Output → BlockRun → Turn
 last_turn_by (end.Exit r0) block output run = finished block output (with_group output run) (scratch_after run)
 last_turn_by (end.Trap slot cause) block output run = trapped slot (cause_number cause)
 last_turn_by end.OutOfFuel block output run = trapped 0 9
 
-abbrev pub last_turn : ℕ → Output → Run → Turn
+abbrev pub last_turn : ℕ → Output → BlockRun → Turn
 last_turn block output run = last_turn_by run.end block output run
 
 -- the turns of these block runs, of which the last ends the run, after what was put out before
-abbrev pub turns_after : ℕ → Output → List Run → List Turn
+abbrev pub turns_after : ℕ → Output → List BlockRun → List Turn
 turns_after block output [] = []
 turns_after block output (run ∷ []) = last_turn block output run ∷ []
 turns_after block output (run ∷ next ∷ runs) = middle_turn block output run ∷ turns_after block (with_group output run) (next ∷ runs)

@@ -15,7 +15,7 @@ use Rattle.nvme_entry.specs.Entry.{decoded}
 use Rattle.nvme_entry.specs.declared.command.Command.TheVariants as command
 use Rattle.nvme_entry.specs.declared.command.RunCommand.{RunCommand}
 use Rattle.instruction_set.specs.Program.{instruction_count}
-use Rattle.program_meaning.specs.Run.{Run}
+use Rattle.program_meaning.specs.BlockRun.{BlockRun}
 use Rattle.program_meaning.specs.TrapFree.{IsExit}
 use Rattle.word_domain.specs.Domain.{Operations}
 use Rattle.image_store.specs.Blocks.{AreBytes}
@@ -81,7 +81,7 @@ EndsWithLast (turn ∷ next ∷ turns) = (turn.ending ≡ None) × EndsWithLast 
 
 -- a success that tells the frames of these block runs and the blocks of these turns; the scratch bytes that
 -- the last block run left are the result
-abbrev pub success_of : List Run → List Turn → Ending
+abbrev pub success_of : List BlockRun → List Turn → Ending
 success_of runs turns = record {
   status = SUCCESS;
   dw0 = frames_of runs;
@@ -102,7 +102,7 @@ module _ {D : Type 0} (operations : Operations D) where
     abbrev pub task : Task
     task = task_of s.namespace (program_at s order.slot) order
 
-    abbrev pub runs : List Run
+    abbrev pub runs : List BlockRun
     runs = runs_of task (source_blocks s.namespace order)
 
     abbrev pub place : Place

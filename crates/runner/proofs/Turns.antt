@@ -5,7 +5,7 @@ use Rattle.std.proofs.lemmas.Bool.Decides.{eqb_tells, leb_tells}
 use Rattle.std.proofs.lemmas.List.{length-take-le, length-drop}
 use Rattle.zone_state.specs.declared.status.TheConstants.Status.{SUCCESS}
 use Rattle.instruction_set.specs.declared.insn.Insn.{Insn}
-use Rattle.program_meaning.specs.Run.{Run}
+use Rattle.program_meaning.specs.BlockRun.{BlockRun}
 use Rattle.program_meaning.specs.declared.end.End.{End}
 use Rattle.program_meaning.specs.declared.end.End.TheVariants as end
 use Rattle.emit_append.specs.Packer.{after_put, given_by_finish, given_by_put, new_packer}
@@ -49,7 +49,7 @@ cut_first n (suc at) (x ∷ xs) less = cut_first n at xs (omega (arith, less))
 -- ---- the source blocks still to come
 
 module _ (ns : ZonedNamespace) (program : List (Option Insn)) (limit : ℕ) where
-  abbrev moved : Active → Run → Active
+  abbrev moved : Active → BlockRun → Active
   moved a run = record { queue = a.queue; cid = a.cid; order = a.order; so_far = further (task_by ns program limit a.order) a.so_far run }
 
   module _ (a : Active) (left : a.so_far.index < a.order.blocks)
@@ -74,7 +74,7 @@ module _ (ns : ZonedNamespace) (program : List (Option Insn)) (limit : ℕ) wher
     abbrev task : Task
     task = task_by ns program limit a.order
 
-    abbrev run : Run
+    abbrev run : BlockRun
     run = next_run ns program limit a
 
     on_by : (more : List (List ℕ)) → 1 ≤ length more → goes_on run.end ≡ true
@@ -103,7 +103,7 @@ module _ (ns : ZonedNamespace) (program : List (Option Insn)) (limit : ℕ) wher
 
 -- ---- what a last turn comes to
 
-module _ (block : ℕ) (so_far : Progress) (run : Run) where
+module _ (block : ℕ) (so_far : Progress) (run : BlockRun) where
   abbrev all : List (List ℕ)
   all = packed block (so_far.pending ∷ run.state.group ∷ [])
 
@@ -163,7 +163,7 @@ module _ (ns : ZonedNamespace) (z : ℕ) (ending : Option Ending) (turns : List 
 -- ---- a turn
 
 module _ (ns : ZonedNamespace) (program : List (Option Insn)) (limit : ℕ) (a : Held) (h : FitsOn ns program limit a) where
-  abbrev ran : Run
+  abbrev ran : BlockRun
   ran = next_run ns program limit (active_of a)
 
   abbrev sent : List (List ℕ)

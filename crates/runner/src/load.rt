@@ -102,7 +102,7 @@ fn uses(run: &Option<Active>, slot: ProgramSlot) -> bool
     }
 }
 
-/// The program that bytes spell, with its records, where it is accepted for runs of these sizes, or the
+/// The program that bytes spell, with its superinstructions, where it is accepted for runs of these sizes, or the
 /// answer that refuses it.
 fn read_program(
     alloc: Global,

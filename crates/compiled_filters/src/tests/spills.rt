@@ -1,6 +1,6 @@
 //! The filters of `examples/spills`, as clang makes them: each is accepted, and over a block or more it gives the answer that
-//! stands beside the block, over its records and with every check. The answers were worked out by hand, from the C and the
-//! block alone.
+//! stands beside the block, over its superinstructions and with every check. The answers were worked out by hand, from the C
+//! and the block alone.
 //!
 //! Each filter has a word on the stack that has to be known when it is loaded again, behind an emit or where branches meet:
 //! of an address of any bytes its first use is refused. Which slots load these words stands beside the filter, as `zscli
@@ -91,8 +91,8 @@ fn check_scene(
     let mut other_scratch = scratch;
     let context = context_of(scene)?;
     let expected = expected(alloc, scene, &scratch)?;
-    let left = over_records(rt, prepared, &block, &context, &mut scratch);
-    assert_eq!(rt; left, expected, "{name} over records");
+    let left = over_superinstructions(rt, prepared, &block, &context, &mut scratch);
+    assert_eq!(rt; left, expected, "{name} over superinstructions");
     let left = with_every_check(rt, prepared, &block, &context, &mut other_scratch)?;
     assert_eq!(rt; left, expected, "{name} with every check");
     Ok(())
@@ -135,8 +135,8 @@ fn expected(alloc: Global, scene: &Scene, before: &[u8; SCRATCH_BYTES]) -> Resul
     Ok(expected)
 }
 
-/// Runs a filter over its records.
-fn over_records(
+/// Runs a filter over its superinstructions.
+fn over_superinstructions(
     rt: &impl Abort,
     prepared: &Prepared<Verified<Intervals>>,
     block: &[u8; BLOCK],

@@ -2,7 +2,7 @@
 use Rattle.std.specs.Prelude.{ℕ, ◌≡◌, ◌+◌, ◌%◌, ◌≤◌, true, List, [], ◌∷◌, length, get_or, set, Option, Some, None}
 use Rattle.zone_state.specs.State.{is_open}
 use Rattle.instruction_set.specs.declared.insn.Insn.{Insn}
-use Rattle.program_meaning.specs.Run.{Run}
+use Rattle.program_meaning.specs.BlockRun.{BlockRun}
 use Rattle.emit_append.specs.Packer.{PackerState}
 use Rattle.verifier.specs.Verified.{program_of, sizes_of}
 use Rattle.image_store.specs.Namespace.{ZonedNamespace, zone_at}
@@ -31,7 +31,7 @@ with_packer a packer more = record a { packer = packer; appended = a.appended + 
 abbrev pub next_block : ZonedNamespace → Active → List ℕ
 next_block ns a = get_or (zone_at ns (zone_number ns a.order.lba)).blocks (a.order.lba % ns.size + a.so_far.index) []
 
-abbrev pub next_run : ZonedNamespace → List (Option Insn) → ℕ → Active → Run
+abbrev pub next_run : ZonedNamespace → List (Option Insn) → ℕ → Active → BlockRun
 next_run ns program limit a = block_run (task_by ns program limit a.order) a.so_far.index a.so_far.scratch (next_block ns a)
 
 -- a zone that takes so many blocks more

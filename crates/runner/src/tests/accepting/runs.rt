@@ -1,4 +1,4 @@
-//! Accepted programs end the same with every check and over their records.
+//! Accepted programs end the same with every check and over their superinstructions.
 
 use super::domains::{bounded, masked};
 use super::{EMIT, EXIT, GROWING, MATCHING, MOVE_ZERO, program, sizes, two_frames};
@@ -239,7 +239,7 @@ fn compare(
 }
 
 #[test]
-fn with_every_check_and_over_records(rt: HostRuntime) -> Result<(), Fail> {
+fn with_every_check_and_over_superinstructions(rt: HostRuntime) -> Result<(), Fail> {
     for scene in SCENES {
         let sizes = sizes(scene.limit, 512)?;
         compare(&rt, rt.alloc(), scene.slots, sizes, scene.firsts)?;
