@@ -13,7 +13,7 @@ use device_events::{NotTaken, Out, Reply};
 use std::alloc::{AllocError, Global};
 use std::io;
 use std::io::Write;
-use zns_commands::MOST_TRANSFER;
+use nvme_entry::MOST_TRANSFER;
 
 /// The most bytes in a line: `cpl 65535 `, the completion, a space, the data and the line's end.
 const LINE_BYTES: usize = 10 + 32 + 1 + 2 * MOST_TRANSFER + 1;
