@@ -2,6 +2,7 @@ mod Answered
 mod Continuing
 mod FramesRead
 mod Layouts
+mod LowestRefused
 mod Needs
 mod OnlyFrames
 mod Padding

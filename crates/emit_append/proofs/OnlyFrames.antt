@@ -1,6 +1,6 @@
 -- What reads as records is blocks of their frames and zeros, and such blocks read so.
 use Rattle.std.proofs.Common.{◌≡◌, ℕ, zero, suc, ◌+◌, ◌-◌, ◌*◌, ◌/◌, ◌%◌, ◌^◌, ◌≤◌, ◌<◌, List, [], ◌∷◌, ◌++◌, length, map, take, drop, replicate, Ok, Err, refl, ap, sym, ◌∙◌, arith, length-append, length-drop, append_assoc, take-append-drop, inl, inr, ⊎_elim}
-use Rattle.std.specs.List.{AllByRecursion, concat, flat_map}
+use Rattle.std.specs.List.{AllByRecursion, concat}
 use Rattle.std.proofs.Math.Nat.{div-add-mod', mul-div_cancel, suc-mul}
 use Rattle.std.proofs.lemmas.Bool.{cases_lt}
 use Rattle.std.proofs.lemmas.Bool.Decides.{eqb_tells}
@@ -10,25 +10,25 @@ use Rattle.program_interface.specs.Frame.{frame, frames}
 use Rattle.emit_append.specs.PackedLaw.{FitBlock}
 use Rattle.emit_append.specs.Packing.{padded}
 use Rattle.emit_append.specs.OutputBlocks.{AreBytes}
-use Rattle.emit_append.specs.Unpacking.{AreFrames, Reading, UnpackedIsFrames, after_frame, and_then, frame_length, frame_record, frames_at, output_block_at, output_blocks_at, then_read, unpacked, zeros_at}
+use Rattle.emit_append.specs.Unpacking.{AreFrames, Reading, UnpackedIsFrames, after_frame, and_then, frame_length, frame_record, frames_at, output_blocks_at, then_read, unpacked, zeros_at}
 use Rattle.emit_append.proofs.FramesRead.{step-frame, step-short, step-zeros}
 use Rattle.emit_append.proofs.ReadBack.{all_bounded, blocks-read, front_two, length-blocks}
 
-bytes_up_to : (n : ℕ) (xs : List ℕ) → AreBytes xs → AreBytes (take n xs)
+pub bytes_up_to : (n : ℕ) (xs : List ℕ) → AreBytes xs → AreBytes (take n xs)
 bytes_up_to zero xs are = tt
 bytes_up_to (suc n) [] are = tt
 bytes_up_to (suc n) (x ∷ xs) are = (are.0, bytes_up_to n xs are.1)
 
-bytes_from : (n : ℕ) (xs : List ℕ) → AreBytes xs → AreBytes (drop n xs)
+pub bytes_from : (n : ℕ) (xs : List ℕ) → AreBytes xs → AreBytes (drop n xs)
 bytes_from zero xs are = are
 bytes_from (suc n) [] are = tt
 bytes_from (suc n) (x ∷ xs) are = bytes_from n xs are.1
 
 -- records that none is without bytes, whose frames stand in front of zeros
-record IsFrames (rest : List ℕ) (records : List (List ℕ)) : Type 0 where
-  some : AllByRecursion (λ bytes. 0 < length bytes) records
-  fits : length (frames records) ≤ length rest
-  is : rest ≡ padded (length rest) (frames records)
+pub record IsFrames (rest : List ℕ) (records : List (List ℕ)) : Type 0 where
+  pub some : AllByRecursion (λ bytes. 0 < length bytes) records
+  pub fits : length (frames records) ≤ length rest
+  pub is : rest ≡ padded (length rest) (frames records)
 
 -- zeros alone are read to the end
 zeros-only : (at : ℕ) (rest : List ℕ) (records : List (List ℕ)) → zeros_at at rest ≡ Ok records → (records ≡ []) × (rest ≡ replicate (length rest) 0)
@@ -53,11 +53,11 @@ two_bytes low high rest low_fits high_fits =
     let second : (low + 256 * (high + 256 * 0)) / 256 ^ 1 % 256 ≡ high = omega arith in
     rw (first, second) refl
 
-record_length : (rest : List ℕ) → 2 + frame_length rest ≤ length rest → length (frame_record rest) ≡ frame_length rest
+pub record_length : (rest : List ℕ) → 2 + frame_length rest ≤ length rest → length (frame_record rest) ≡ frame_length rest
 record_length rest long = length-take-le (frame_length rest) (drop 2 rest) (omega (arith, long, length-drop 2 rest))
 
 -- a frame and what is behind it
-framed : (rest : List ℕ) → AreBytes rest → 2 + frame_length rest ≤ length rest → rest ≡ frame (frame_record rest) ++ after_frame rest
+pub framed : (rest : List ℕ) → AreBytes rest → 2 + frame_length rest ≤ length rest → rest ≡ frame (frame_record rest) ++ after_frame rest
 framed [] are long = absurd (omega (arith, long))
 framed (low ∷ []) are long = absurd (omega (arith, long))
 framed (low ∷ high ∷ more) are long =
@@ -96,7 +96,7 @@ after-frame rest records (Ok more) are some long is behind =
     rw all (frame-behind rest more are some long (behind more refl))
 after-frame rest records (Err at) are some long is behind = absurd cc
 
-only-frames : (steps at : ℕ) (rest : List ℕ) (records : List (List ℕ)) → length rest ≤ steps → AreBytes rest → frames_at steps at rest ≡ Ok records → IsFrames rest records
+pub only-frames : (steps at : ℕ) (rest : List ℕ) (records : List (List ℕ)) → length rest ≤ steps → AreBytes rest → frames_at steps at rest ≡ Ok records → IsFrames rest records
 unfolding frames_at
 only-frames zero at [] records few are is = only-zeros at [] records is
 only-frames zero at (x ∷ xs) records few are is = absurd (omega (arith, few))
@@ -154,7 +154,7 @@ parts_fit block [] fits = tt
 parts_fit block (part ∷ parts) fits = (fits.0, parts_fit block parts fits.1)
 
 -- blocks of frames and zeros read as the records
-frames-read : (block : ℕ) (bytes : List ℕ) (records : List (List ℕ)) → 0 < block → block < 2 ^ 16 → AreFrames block records bytes → unpacked block bytes ≡ Ok records
+pub frames-read : (block : ℕ) (bytes : List ℕ) (records : List (List ℕ)) → 0 < block → block < 2 ^ 16 → AreFrames block records bytes → unpacked block bytes ≡ Ok records
 frames-read block bytes records positive small d =
     let blocks = concat (map (padded block) (map frames d.parts)) in
     let count : length blocks / block ≡ length d.parts = ap (λ n. n / block) (length-blocks block d.parts d.fits) ∙ mul-div_cancel (length d.parts) positive in

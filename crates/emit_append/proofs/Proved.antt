@@ -1,11 +1,14 @@
 -- The laws of this crate, proved: all that the proofs of other crates cite of it.
-use Rattle.emit_append.specs.Unpacking.{PackedFramesReadBack, UnpackedIsFrames}
-use Rattle.emit_append.specs.GoingOn.{OneGroupIsPending, PackingGoesOn}
+use Rattle.std.specs.Prelude.{◌≡◌, ℕ, List, [], ◌∷◌}
+use Rattle.emit_append.specs.Packing.{pending_of, released}
+use Rattle.emit_append.specs.Unpacking.{PackedFramesReadBack, RefusedIsLowest, UnpackedIsFrames}
+use Rattle.emit_append.specs.GoingOn.{PackingGoesOn}
 use Rattle.emit_append.specs.Need.{NeedGrows, NeedIsEnough}
 use Rattle.emit_append.specs.OutputBlocks.{OutputBlocksAreBytes, OutputBlocksAreWhole}
 use Rattle.emit_append.specs.PackedLaw.{PackedAsDescribed}
 use Rattle.emit_append.specs.Packer.{LendingIsFinishing, LendingIsPutting, PuttingIsPacking}
 use Rattle.emit_append.proofs.Continuing as continuing
+use Rattle.emit_append.proofs.LowestRefused as lowest_refused
 use Rattle.emit_append.proofs.Needs as needs
 use Rattle.emit_append.proofs.OnlyFrames as only_frames
 use Rattle.emit_append.proofs.Parts as parts
@@ -22,8 +25,13 @@ output_blocks_are_whole = wholes.output_blocks_are_whole
 pub output_blocks_are_bytes : OutputBlocksAreBytes
 output_blocks_are_bytes = wholes.output_blocks_are_bytes
 
-pub one_group_is_pending : OneGroupIsPending
-one_group_is_pending = puts.one_group_is_pending
+-- what one group comes to: it releases no block, and all of it is pending
+pub record IsPendingAlone (block : ℕ) (group : List ℕ) : Type 0 where
+  pub released_none : released block (group ∷ []) ≡ []
+  pub pending_whole : pending_of block (group ∷ []) ≡ group
+
+pub one_group_is_pending : (block : ℕ) (group : List ℕ) → IsPendingAlone block group
+one_group_is_pending block group = record { released_none = puts.released-one block group; pending_whole = puts.pending-one block group }
 
 pub packing_goes_on : PackingGoesOn
 packing_goes_on = continuing.packing_goes_on
@@ -48,3 +56,6 @@ packed_frames_read_back = read_back.packed_frames_read_back
 
 pub unpacked_is_frames : UnpackedIsFrames
 unpacked_is_frames = only_frames.unpacked_is_frames
+
+pub refused_is_lowest : RefusedIsLowest
+refused_is_lowest = lowest_refused.refused_is_lowest

@@ -3,7 +3,6 @@ use Rattle.std.proofs.Common.{◌≡◌, ℕ, ◌+◌, ◌-◌, ◌<◌, ◌≤�
 use Rattle.std.proofs.lemmas.List.{append-nil}
 use Rattle.emit_append.specs.Packing.{block_fillings, packed, padded, released, pending_of, all_but_last, last_or_empty}
 use Rattle.emit_append.specs.Packer.{LendingIsFinishing, LendingIsPutting, PuttingIsPacking, after_put, after_puts, given_by_puts, new_packer}
-use Rattle.emit_append.specs.GoingOn.{OneGroupIsPending}
 use Rattle.emit_append.proofs.Continuing.{packing_goes_on}
 use Rattle.emit_append.proofs.Layouts.{filled-begins, filled-empty, laid-beginning, laid-behind}
 
@@ -11,16 +10,13 @@ use Rattle.emit_append.proofs.Layouts.{filled-begins, filled-empty, laid-beginni
 filled-one : (block x : ℕ) (xs : List ℕ) → block_fillings block ((x ∷ xs) ∷ []) ≡ (x ∷ xs) ∷ []
 filled-one block x xs = filled-begins block x xs [] ∙ simp append-nil
 
-released-one : (block : ℕ) (group : List ℕ) → released block (group ∷ []) ≡ []
+pub released-one : (block : ℕ) (group : List ℕ) → released block (group ∷ []) ≡ []
 released-one block [] = refl
 released-one block (x ∷ xs) = ap (λ bs. all_but_last (map (padded block) bs)) (filled-one block x xs)
 
-pending-one : (block : ℕ) (group : List ℕ) → pending_of block (group ∷ []) ≡ group
+pub pending-one : (block : ℕ) (group : List ℕ) → pending_of block (group ∷ []) ≡ group
 pending-one block [] = refl
 pending-one block (x ∷ xs) = ap last_or_empty (filled-one block x xs)
-
-pub one_group_is_pending : OneGroupIsPending
-one_group_is_pending block group = record { released_none = released-one block group; pending_whole = pending-one block group }
 
 puts-released : (block : ℕ) (pending : List ℕ) (groups : List (List ℕ)) → given_by_puts (record { block = block; pending = pending }) groups ≡ released block (pending ∷ groups)
 puts-released block pending [] = sym (released-one block pending)

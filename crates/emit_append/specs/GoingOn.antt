@@ -1,5 +1,5 @@
 -- How the packing of groups goes on from what is pending.
-use Rattle.std.specs.Prelude.{◌≡◌, ℕ, List, [], ◌∷◌, ◌++◌}
+use Rattle.std.specs.Prelude.{◌≡◌, ℕ, List, ◌∷◌, ◌++◌}
 use Rattle.emit_append.specs.Packing.{packed, pending_of, released}
 
 -- what the packing of groups goes on to, from the bytes that are pending of those before
@@ -11,12 +11,3 @@ pub record GoesOn (block : ℕ) (before after : List (List ℕ)) : Type 0 where
 -- Packing goes on from the pending bytes as from a first group, after the blocks released.
 abbrev pub PackingGoesOn : Type 0
 PackingGoesOn = (block : ℕ) (before after : List (List ℕ)) → GoesOn block before after
-
--- what one group comes to
-pub record IsPendingAlone (block : ℕ) (group : List ℕ) : Type 0 where
-  pub released_none : released block (group ∷ []) ≡ []
-  pub pending_whole : pending_of block (group ∷ []) ≡ group
-
--- One group alone releases no block, and all of it is pending.
-abbrev pub OneGroupIsPending : Type 0
-OneGroupIsPending = (block : ℕ) (group : List ℕ) → IsPendingAlone block group

@@ -1,5 +1,5 @@
 -- How frames in output blocks are read back (profile).
-use Rattle.std.specs.Prelude.{ℕ, zero, suc, ◌≡◌, ◌↔◌, ◌+◌, ◌/◌, ◌^◌, ◌<◌, ◌≤◌, ◌==◌, nat_lt, List, [], ◌∷◌, ◌++◌, length, map, take, drop, Result, Ok, Err, if◌then◌else◌, Vec}
+use Rattle.std.specs.Prelude.{ℕ, zero, suc, ◌≡◌, ◌↔◌, ◌+◌, ◌*◌, ◌/◌, ◌^◌, ◌<◌, ◌≤◌, ◌==◌, nat_lt, List, [], ◌∷◌, ◌++◌, length, map, take, drop, Result, Ok, Err, ◌⊎◌, if◌then◌else◌, Vec}
 use Rattle.std.specs.List.{AllByRecursion, concat, flat_map}
 use Rattle.std.specs.declared.alloc.Global.{Global}
 use Rattle.byteorder.specs.Endian.{little_number}
@@ -98,3 +98,22 @@ abbrev pub UnpackedIsFrames : Type 0
 UnpackedIsFrames =
     (block : ℕ) (bytes : List ℕ) (records : List (List ℕ)) → 0 < block → block < 2 ^ 16 → AreBytes bytes →
     (unpacked block bytes ≡ Ok records) ↔ AreFrames block records bytes
+
+-- bytes that output blocks of some records can begin with
+pub record CanBegin (block : ℕ) (front : List ℕ) : Type 0 where
+  pub behind : List ℕ
+  pub records : List (List ℕ)
+  pub are : AreFrames block records (front ++ behind)
+
+-- a byte up to which output blocks can begin so. With it and the byte behind it they can't: two, since the first byte of a
+-- frame's length is the one that is told. Or else no block is left, but bytes are.
+pub record IsLowestRefused (block : ℕ) (bytes : List ℕ) (at : ℕ) : Type 0 where
+  pub inside : at < length bytes
+  pub before : CanBegin block (take at bytes)
+  pub there : (CanBegin block (take (at + 2) bytes) → ⊥) ⊎ (at ≡ length bytes / block * block)
+
+-- The byte that is refused is the lowest one.
+abbrev pub RefusedIsLowest : Type 0
+RefusedIsLowest =
+    (block : ℕ) (bytes : List ℕ) (at : ℕ) → 0 < block → block < 2 ^ 16 → AreBytes bytes →
+    unpacked block bytes ≡ Err at → IsLowestRefused block bytes at

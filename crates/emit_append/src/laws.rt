@@ -1,7 +1,7 @@
 //! Laws of the definitions: what they mean, in words of their own.
 
-ghost use Rattle.emit_append.specs.Unpacking.{PackedFramesReadBack, UnpackedIsFrames};
-ghost use Rattle.emit_append.specs.GoingOn.{OneGroupIsPending, PackingGoesOn};
+ghost use Rattle.emit_append.specs.Unpacking.{PackedFramesReadBack, RefusedIsLowest, UnpackedIsFrames};
+ghost use Rattle.emit_append.specs.GoingOn.{PackingGoesOn};
 ghost use Rattle.emit_append.specs.Need.{NeedGrows, NeedIsEnough};
 ghost use Rattle.emit_append.specs.OutputBlocks.{OutputBlocksAreBytes, OutputBlocksAreWhole};
 ghost use Rattle.emit_append.specs.PackedLaw.{PackedAsDescribed};
@@ -22,11 +22,6 @@ pub fn output_blocks_are_whole()
 /// Groups of bytes come to blocks of bytes: what fills a block up is a byte too.
 pub fn output_blocks_are_bytes()
     ensures { OutputBlocksAreBytes }
-{}
-
-/// One group alone releases no block, and all of it is pending.
-pub fn one_group_is_pending()
-    ensures { OneGroupIsPending }
 {}
 
 /// Packing goes on from what is pending as from a first group: the blocks, those released, and what
@@ -71,4 +66,11 @@ pub fn packed_frames_read_back()
 /// Bytes unpack to records where they are blocks of the records' frames and zeros, and nowhere else.
 pub fn unpacked_is_frames()
     ensures { UnpackedIsFrames }
+{}
+
+/// The byte that is refused is the lowest one: output blocks can begin with the bytes before it, and
+/// not with those up to the byte behind it, as the two bytes of a length are told by the first. Where
+/// all blocks are read, it is the first byte of the part that is left.
+pub fn refused_is_lowest()
+    ensures { RefusedIsLowest }
 {}

@@ -12,7 +12,11 @@ use std::alloc::Global;
 ///
 /// Frames stand at the front of a block: two bytes of length, the lower first, and as many bytes.
 /// Where the length is 0, or fewer than two bytes are left, the rest of the block is zeros.
-/// Otherwise the fault tells the lowest byte that is refused, counted from the first of `bytes`.
+///
+/// # Errors
+///
+/// [`UnpackFault::At`] the lowest byte that is refused, counted from the first of `bytes`; [`UnpackFault::Memory`] where there
+/// was none for the records.
 pub fn unpack(alloc: Global, bytes: &[u8], block: BlockSize) -> Result<Vec<Vec<u8>>, UnpackFault>
     ensures { Gives (λ records. record_bytes records.items) result (unpacked block bytes.now) }
 {

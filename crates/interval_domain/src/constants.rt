@@ -32,11 +32,10 @@ impl Model for Constants {
 
 impl Domain for Constants {
     ghost use Rattle.interval_facts.proofs.Proved.{constants_sound};
-    ghost use Rattle.interval_facts.specs.Fact.{ContainsWord};
+    ghost use Rattle.interval_facts.specs.Fact.{ContainsWord, IsFact};
     ghost use Rattle.interval_facts.specs.Constants.{constants};
-    ghost use Rattle.interval_facts.specs.Intervals.{EachIsFact};
 
-    ghost is_fact = { EachIsFact };
+    ghost is_fact = { IsFact };
 
     ghost contains = { ContainsWord };
 

@@ -42,10 +42,10 @@ impl Intervals {
 
 impl Domain for Intervals {
     ghost use Rattle.interval_facts.proofs.Proved.{intervals_sound};
-    ghost use Rattle.interval_facts.specs.Fact.{ContainsWord};
-    ghost use Rattle.interval_facts.specs.Intervals.{EachIsFact, intervals};
+    ghost use Rattle.interval_facts.specs.Fact.{ContainsWord, IsFact};
+    ghost use Rattle.interval_facts.specs.Intervals.{intervals};
 
-    ghost is_fact = { EachIsFact };
+    ghost is_fact = { IsFact };
 
     ghost contains = { ContainsWord };
 

@@ -17,13 +17,14 @@ use Rattle.instruction_set.specs.declared.operation.SwapSize.TheVariants as kept
 use Rattle.instruction_set.specs.declared.operation.Width.{Width}
 use Rattle.instruction_set.specs.declared.operation.Width.TheVariants.{Bits32, Bits64}
 use Rattle.program_meaning.proofs.Proved.{words_are_computed}
+use Rattle.instruction_set.specs.Spelling.{extension_width}
 use Rattle.program_meaning.specs.Word.{bits, computed, extended, low_bits, reordered, reversed}
 use Rattle.program_meaning.specs.declared.word.Arithmetic.{Arithmetic}
 use Rattle.program_meaning.specs.declared.word.Arithmetic.TheVariants.{Binary, Negate, MoveSigned, SwapBytes}
 use Rattle.interval_facts.proofs.FactSound.{any_law, bounds_law, constant_law, either_fact, is_word}
 use Rattle.interval_facts.proofs.PointerSound.{moved_back_law, moved_on_law}
 use Rattle.interval_facts.proofs.RangeSound.{combined_law, either, top_law}
-use Rattle.interval_facts.specs.Arithmetic.{added, alu_of, are_known, combined_64, combined_of, cut, estimated, extended_of, is_known, operand_of, subtracted, swapped_of, unsigned_below, width_of}
+use Rattle.interval_facts.specs.Arithmetic.{added, alu_of, are_known, combined_64, combined_of, cut, estimated, extended_of, is_known, operand_of, subtracted, swapped_of, unsigned_below}
 use Rattle.interval_facts.specs.Fact.{ContainsWord, IsWithin, bounds_of, is_single, single}
 use Rattle.interval_facts.specs.Range.{combined, limit, top}
 use Rattle.word_domain.specs.declared.bounds.Bounds.{Bounds}
@@ -106,8 +107,8 @@ negated_law : (w : Width) (x : ℕ) → IsWithin (top w) (computed (Negate w) x 
 negated_law w x = top_law w ((limit w - low_bits w x) % limit w) (mod_below (limit w - low_bits w x) (limit w) (pow_pos (bits w)))
 
 -- a number without a sign is its own extension
-extended_is : (extension : SignExtension) (y : ℕ) → low_bits (width_of extension) y < unsigned_below extension
-    → extended extension y ≡ low_bits (width_of extension) y
+extended_is : (extension : SignExtension) (y : ℕ) → low_bits (extension_width extension) y < unsigned_below extension
+    → extended extension y ≡ low_bits (extension_width extension) y
 extended_is Bits8To32 y h =
     let e : y % 2 ^ 8 ≡ y % 2 ^ 32 = omega arith in
     rw (to_z_pos w8 (y % 2 ^ 8) (omega arith)) e
@@ -119,7 +120,7 @@ extended_is Bits16To64 y h = rw (to_z_pos w16 (y % 2 ^ 16) (omega arith)) (omega
 extended_is Bits32To64 y h = rw (to_z_pos w32 (y % 2 ^ 32) (omega arith)) (omega arith)
 
 -- an extension to 32 bits fits them
-extended_below : (extension : SignExtension) (y : ℕ) → y < 2 ^ 64 → extended extension y < limit (width_of extension)
+extended_below : (extension : SignExtension) (y : ℕ) → y < 2 ^ 64 → extended extension y < limit (extension_width extension)
 extended_below Bits8To32 y h = grind arith
 extended_below Bits16To32 y h = grind arith
 extended_below Bits8To64 y h = words_are_computed (MoveSigned Bits8To64) 0 y (omega arith) h
@@ -127,13 +128,13 @@ extended_below Bits16To64 y h = words_are_computed (MoveSigned Bits16To64) 0 y (
 extended_below Bits32To64 y h = words_are_computed (MoveSigned Bits32To64) 0 y (omega arith) h
 
 extended_of_law : (extension : SignExtension) (s : Bounds) (y : ℕ) → y < 2 ^ 64
-    → IsWithin s (low_bits (width_of extension) y) → IsWithin (extended_of extension s) (extended extension y)
+    → IsWithin s (low_bits (extension_width extension) y) → IsWithin (extended_of extension s) (extended extension y)
 extended_of_law extension s y fits within =
     either (nat_lt s.high (unsigned_below extension)) _ _ (extended extension y)
     (λ unsigned.
     let below = ltb-true s.high (unsigned_below extension) unsigned in
     rw (extended_is extension y (omega arith)) within)
-    (λ _. top_law (width_of extension) (extended extension y) (extended_below extension y fits))
+    (λ _. top_law (extension_width extension) (extended extension y) (extended_below extension y fits))
 
 reversed_law : (size : SwapSize) (x : ℕ) → x < 2 ^ 64 → IsWithin (swapped_of size) (reversed size x)
 reversed_law kept.Bits16 x h = (omega arith, omega arith)
@@ -154,7 +155,7 @@ estimated_law : (a : Arithmetic) (d s : Fact) (x y : ℕ) → ContainsWord d x �
 estimated_law (Binary w operation) d s x y hd hs = combined_of_law w operation d s x y hd hs
 estimated_law (Negate w) d s x y hd hs = (negated_law w x, words_are_computed (Negate w) x y (is_word d x hd) (is_word s y hs))
 estimated_law (MoveSigned extension) d s x y hd hs = (
-  extended_of_law extension (operand_of (width_of extension) s) y (is_word s y hs) (operand_law (width_of extension) s y hs),
+  extended_of_law extension (operand_of (extension_width extension) s) y (is_word s y hs) (operand_law (extension_width extension) s y hs),
   words_are_computed (MoveSigned extension) x y (is_word d x hd) (is_word s y hs),
 )
 estimated_law (SwapBytes swap size) d s x y hd hs =

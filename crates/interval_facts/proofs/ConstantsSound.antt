@@ -4,10 +4,11 @@ use Rattle.program_meaning.specs.Effect.{sign_extended}
 use Rattle.program_meaning.specs.Word.{computed}
 use Rattle.word_domain.specs.Domain.{BelongAfter, IsSound}
 use Rattle.interval_facts.proofs.FactSound.{widened_law}
-use Rattle.interval_facts.proofs.IntervalsSound.{each_is_fact, intervals_sound}
+use Rattle.interval_facts.proofs.FactsGiven.{constants_give}
+use Rattle.interval_facts.proofs.IntervalsSound.{intervals_sound}
 use Rattle.interval_facts.specs.Constants.{both_widened, constants}
-use Rattle.interval_facts.specs.Fact.{ContainsWord}
-use Rattle.interval_facts.specs.Intervals.{EachIsFact, intervals}
+use Rattle.interval_facts.specs.Fact.{ContainsWord, IsFact}
+use Rattle.interval_facts.specs.Intervals.{intervals}
 use Rattle.interval_facts.specs.declared.fact.Fact.{Fact}
 
 both_widened_law : (o : Option (Fact × Fact)) (x y : ℕ) → BelongAfter ContainsWord x y o
@@ -15,9 +16,9 @@ both_widened_law : (o : Option (Fact × Fact)) (x y : ℕ) → BelongAfter Conta
 both_widened_law None x y kept = kept
 both_widened_law (Some facts) x y kept = (widened_law facts.0 x kept.0, widened_law facts.1 y kept.1)
 
-pub constants_sound : IsSound EachIsFact ContainsWord constants
+pub constants_sound : IsSound IsFact ContainsWord constants
 constants_sound = record {
-  facts = each_is_fact constants;
+  facts = constants_give;
   constant = intervals_sound.constant;
   any = intervals_sound.any;
   pointer = intervals_sound.pointer;

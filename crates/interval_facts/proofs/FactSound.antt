@@ -20,7 +20,7 @@ use Rattle.interval_facts.specs.declared.fact.Fact.TheVariants.{Words, Pointer}
 
 pub is_word : (f : Fact) (w : ℕ) → ContainsWord f w → w < 2 ^ 64
 is_word (Words b) w is = is.1
-is_word (Pointer area low high) w is = is.2
+is_word (Pointer area low high) w is = is.1
 
 pub any_law : (w : ℕ) → w < 2 ^ 64 → ContainsWord (Words full) w
 any_law w fits = ((omega arith, omega arith), fits)
@@ -50,7 +50,7 @@ loaded_signed_law signed.Word n = any_law (sign_extended signed.Word n) (extensi
 
 pub widened_law : (f : Fact) (w : ℕ) → ContainsWord f w → ContainsWord (widened f) w
 widened_law (Words b) w is = either_fact (is_single b) _ _ w (λ _. is) (λ _. any_law w is.1)
-widened_law (Pointer area low high) w is = either_fact (int_eq low high) _ _ w (λ _. is) (λ _. any_law w is.2)
+widened_law (Pointer area low high) w is = either_fact (int_eq low high) _ _ w (λ _. is) (λ _. any_law w is.1)
 
 -- ---- join
 
@@ -64,19 +64,19 @@ same_address a b w low high low' high' same least most =
 pub join_first : (f g : Fact) (w : ℕ) → ContainsWord f w → ContainsWord (join_of f g) w
 join_first (Words b) (Words c) w is = ((omega arith, omega arith), is.1)
 join_first (Words b) (Pointer area low high) w is = any_law w is.1
-join_first (Pointer area low high) (Words b) w is = any_law w is.2
+join_first (Pointer area low high) (Words b) w is = any_law w is.1
 join_first (Pointer area low high) (Pointer area' low' high') w is =
     either_fact (address_of area == address_of area') _ _ w
-    (λ _. (grind (arith, ints), grind (arith, ints), is.2))
-    (λ _. any_law w is.2)
+    (λ _. ((grind (arith, ints), grind (arith, ints)), is.1))
+    (λ _. any_law w is.1)
 
 pub join_second : (f g : Fact) (w : ℕ) → ContainsWord g w → ContainsWord (join_of f g) w
 join_second (Words b) (Words c) w is = ((omega arith, omega arith), is.1)
-join_second (Words b) (Pointer area low high) w is = any_law w is.2
+join_second (Words b) (Pointer area low high) w is = any_law w is.1
 join_second (Pointer area low high) (Words b) w is = any_law w is.1
 join_second (Pointer area low high) (Pointer area' low' high') w is =
     either_fact (address_of area == address_of area') _ _ w
     (λ same.
-    let both = same_address (address_of area) (address_of area') w low high low' high' same is.0 is.1 in
-    (both.0, both.1, is.2))
-    (λ _. any_law w is.2)
+    let both = same_address (address_of area) (address_of area') w low high low' high' same is.0.0 is.0.1 in
+    (both, is.1))
+    (λ _. any_law w is.1)

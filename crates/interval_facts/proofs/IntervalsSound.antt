@@ -1,34 +1,17 @@
 -- The domain of intervals is sound.
-use Rattle.std.specs.Prelude.{Option, Some, None, IfSome}
 use Rattle.program_meaning.proofs.Proved.{blocks_are_short}
-use Rattle.word_domain.specs.Domain.{GiveFacts, IsSound, Operations}
+use Rattle.word_domain.specs.Domain.{IsSound}
 use Rattle.interval_facts.proofs.ArithmeticSound.{alu_law}
 use Rattle.interval_facts.proofs.EdgeSound.{refine_law}
 use Rattle.interval_facts.proofs.FactSound.{any_law, bounds_law, constant_law, join_first, join_second, loaded_law, loaded_signed_law}
+use Rattle.interval_facts.proofs.FactsGiven.{intervals_give}
 use Rattle.interval_facts.proofs.PointerSound.{access_law, offsets_law, pointer_law}
-use Rattle.interval_facts.specs.Fact.{ContainsWord}
-use Rattle.interval_facts.specs.Intervals.{EachIsFact, intervals}
-use Rattle.interval_facts.specs.declared.fact.Fact.{Fact}
+use Rattle.interval_facts.specs.Fact.{ContainsWord, IsFact}
+use Rattle.interval_facts.specs.Intervals.{intervals}
 
-refined_are_facts : (o : Option (Fact × Fact)) → IfSome o (λ facts. EachIsFact facts.0 × EachIsFact facts.1)
-refined_are_facts None = tt
-refined_are_facts (Some facts) = (tt, tt)
-
-pub each_is_fact : (operations : Operations Fact) → GiveFacts EachIsFact operations
-each_is_fact operations = record {
-  constant = λ w _. tt;
-  any = tt;
-  pointer = λ area k _. tt;
-  loaded = λ size. tt;
-  loaded_signed = λ size. tt;
-  join = λ d e _ _. tt;
-  alu = λ arithmetic d e _ _. tt;
-  refine = λ width relation taken d e same _ _. refined_are_facts (operations.refine width relation taken d e same);
-}
-
-pub intervals_sound : IsSound EachIsFact ContainsWord intervals
+pub intervals_sound : IsSound IsFact ContainsWord intervals
 intervals_sound = record {
-  facts = each_is_fact intervals;
+  facts = intervals_give;
   constant = constant_law;
   any = any_law;
   pointer = pointer_law;

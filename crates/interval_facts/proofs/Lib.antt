@@ -4,6 +4,7 @@ mod RangeSound
 mod PointerSound
 mod ArithmeticSound
 mod EdgeSound
+mod FactsGiven
 mod IntervalsSound
 mod ConstantsSound
 pub mod Proved

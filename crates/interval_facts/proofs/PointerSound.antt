@@ -29,7 +29,7 @@ far_in Block = record { above = omega arith; below = omega arith }
 far_in Stack = record { above = omega arith; below = omega arith }
 far_in Scratch = record { above = omega arith; below = omega arith }
 
-int_le-true : (a b : ℤ) → int_le a b ≡ true → a ≤ℤ b
+pub int_le-true : (a b : ℤ) → int_le a b ≡ true → a ≤ℤ b
 int_le-true a b h = grind (arith, ints)
 
 pub pointer_to_law : (area : Area) (low high : ℤ) (w : ℕ) → w < 2 ^ 64
@@ -40,8 +40,7 @@ pointer_to_law area low high w fits between =
     either_fact (int_le (pos 0 -ℤ farthest) low && int_le high farthest) _ _ w
     (λ near.
     let both = and_parts (int_le (pos 0 -ℤ farthest) low) (int_le high farthest) near in
-    let is = between (int_le-true (pos 0 -ℤ farthest) low both.0) (int_le-true high farthest both.1) in
-    (is.0, is.1, fits))
+    (between (int_le-true (pos 0 -ℤ farthest) low both.0) (int_le-true high farthest both.1), fits))
     (λ _. any_law w fits)
 
 pub pointer_law : (area : Area) (k : ℕ) → k < 2 ^ 32
@@ -54,7 +53,7 @@ pointer_law area k small =
 -- ---- moved by words
 
 -- the signed value of a word with a sign
-negative_is : (n : ℕ) → 2 ^ 63 ≤ n → cast_signed w64 n ≡ negsuc (2 ^ 64 - suc n)
+pub negative_is : (n : ℕ) → 2 ^ 63 ≤ n → cast_signed w64 n ≡ negsuc (2 ^ 64 - suc n)
 negative_is n h = rw (le-ltb n (2 ^ 63) h) refl
 
 -- a move on by words with no sign, and by words with one
@@ -104,8 +103,8 @@ moved_on_law area low high b x y hx hy =
     cond_both (nat_lt b.high (2 ^ 63) || nat_le (2 ^ 63) b.low) _ _ (λ by. ContainsWord (moved_on area low high by) n)
     (λ one_sign. pointer_to_law area (low +ℤ cast_signed w64 b.low) (high +ℤ cast_signed w64 b.high) n (mod_word (x + y))
     (λ least most. elim (or_cases (nat_lt b.high (2 ^ 63)) (nat_le (2 ^ 63) b.low) one_sign) [
-      | inl positive ↦ on_positive (address_of area) x y b.low b.high low high (far_in area) hx.2 hx.0 hx.1 hy.0.0 hy.0.1 (ltb-true b.high (2 ^ 63) positive) most
-      | inr negative ↦ on_negative (address_of area) x y b.low b.high low high (far_in area) hx.2 hy.1 hx.0 hx.1 hy.0.0 hy.0.1 (leb-true (2 ^ 63) b.low negative) least
+      | inl positive ↦ on_positive (address_of area) x y b.low b.high low high (far_in area) hx.1 hx.0.0 hx.0.1 hy.0.0 hy.0.1 (ltb-true b.high (2 ^ 63) positive) most
+      | inr negative ↦ on_negative (address_of area) x y b.low b.high low high (far_in area) hx.1 hy.1 hx.0.0 hx.0.1 hy.0.0 hy.0.1 (leb-true (2 ^ 63) b.low negative) least
     ]))
     (λ _. any_law n (mod_word (x + y)))
 
@@ -116,8 +115,8 @@ moved_back_law area low high b x y hx hy =
     cond_both (nat_lt b.high (2 ^ 63) || nat_le (2 ^ 63) b.low) _ _ (λ by. ContainsWord (moved_back area low high by) n)
     (λ one_sign. pointer_to_law area (low -ℤ cast_signed w64 b.high) (high -ℤ cast_signed w64 b.low) n (mod_word (x + (2 ^ 64 - y)))
     (λ least most. elim (or_cases (nat_lt b.high (2 ^ 63)) (nat_le (2 ^ 63) b.low) one_sign) [
-      | inl positive ↦ back_positive (address_of area) x y b.low b.high low high (far_in area) hx.2 hx.0 hx.1 hy.0.0 hy.0.1 (ltb-true b.high (2 ^ 63) positive) least
-      | inr negative ↦ back_negative (address_of area) x y b.low b.high low high (far_in area) hx.2 hy.1 hx.0 hx.1 hy.0.0 hy.0.1 (leb-true (2 ^ 63) b.low negative) most
+      | inl positive ↦ back_positive (address_of area) x y b.low b.high low high (far_in area) hx.1 hx.0.0 hx.0.1 hy.0.0 hy.0.1 (ltb-true b.high (2 ^ 63) positive) least
+      | inr negative ↦ back_negative (address_of area) x y b.low b.high low high (far_in area) hx.1 hy.1 hx.0.0 hx.0.1 hy.0.0 hy.0.1 (leb-true (2 ^ 63) b.low negative) most
     ]))
     (λ _. any_law n (mod_word (x + (2 ^ 64 - y))))
 
@@ -127,7 +126,7 @@ pub offsets_law : (f : Fact) (told : Offsets) (w : ℕ) → offsets_of f ≡ Som
 offsets_law (Words b) told w are_told is = cc
 offsets_law (Pointer area low high) told w are_told is =
     let same : record { area = area; low = low; high = high } ≡ told = cc in
-    subst (λ offsets. IsAtOffset offsets w) same (is.0, is.1)
+    subst (λ offsets. IsAtOffset offsets w) same is.0
 
 -- ---- access
 
@@ -152,7 +151,7 @@ access_law block (Pointer area' low high) offset size area w fits told is =
     let named = some_area {test = int_le (pos 0) (low +ℤ offset) && int_le ((high +ℤ offset) +ℤ pos size) (pos (length_of block area'))} {area = area'} told in
     let both = and_parts (int_le (pos 0) (low +ℤ offset)) (int_le ((high +ℤ offset) +ℤ pos size) (pos (length_of block area'))) named.0 in
     let inside = reached (address_of area') (length_of block area') size w low high offset (far_in area') (areas_are_short block area' fits)
-    is.2 is.0 is.1 (int_le-true _ _ both.0) (int_le-true _ _ both.1) in
+    is.1 is.0.0 is.0.1 (int_le-true _ _ both.0) (int_le-true _ _ both.1) in
     let address = (w + cast_unsigned w64 offset) % 2 ^ 64 in
     subst (λ a. lies_in block a address size ≡ true) named.1
     (and_from (nat_le (address_of area') address) (nat_le (address + size) (address_of area' + length_of block area'))

@@ -1,5 +1,6 @@
 -- Arithmetic on facts (profile).
 use Rattle.std.specs.Prelude.{ℕ, ℤ, Bool, Option, Some, None, ◌-◌, ◌%◌, ◌^◌, ◌+ℤ◌, ◌-ℤ◌, ◌&&◌, ◌||◌, nat_lt, nat_le, if◌then◌else◌}
+use Rattle.instruction_set.specs.Spelling.{extension_width}
 use Rattle.instruction_set.specs.declared.operation.Operation.{Operation}
 use Rattle.instruction_set.specs.declared.operation.Operation.TheVariants.{Add, Subtract, Move}
 use Rattle.instruction_set.specs.declared.operation.SignExtension.{SignExtension}
@@ -73,15 +74,7 @@ combined_of Bits64 operation d s = combined_64 operation d s
 
 -- ---- one operand
 
--- the width that a sign-extending move extends to, and the number of its source that it takes: those
--- below this have no sign
-abbrev pub width_of : SignExtension → Width
-width_of Bits8To32 = Bits32
-width_of Bits16To32 = Bits32
-width_of Bits8To64 = Bits64
-width_of Bits16To64 = Bits64
-width_of Bits32To64 = Bits64
-
+-- the numbers below this have no sign in what a sign-extending move takes of its source
 abbrev pub unsigned_below : SignExtension → ℕ
 unsigned_below Bits8To32 = 2 ^ 7
 unsigned_below Bits16To32 = 2 ^ 15
@@ -90,7 +83,7 @@ unsigned_below Bits16To64 = 2 ^ 15
 unsigned_below Bits32To64 = 2 ^ 31
 
 abbrev pub extended_of : SignExtension → Bounds → Bounds
-extended_of extension s = if nat_lt s.high (unsigned_below extension) then s else top (width_of extension)
+extended_of extension s = if nat_lt s.high (unsigned_below extension) then s else top (extension_width extension)
 
 -- the operand of a byte swap is not cut, in either class
 abbrev pub swapped_of : SwapSize → Bounds
@@ -115,7 +108,7 @@ are_known (SwapBytes swap size) d s = is_known d
 abbrev pub estimated : Arithmetic → Fact → Fact → Fact
 estimated (Binary width operation) d s = combined_of width operation d s
 estimated (Negate width) d s = Words (top width)
-estimated (MoveSigned extension) d s = Words (extended_of extension (operand_of (width_of extension) s))
+estimated (MoveSigned extension) d s = Words (extended_of extension (operand_of (extension_width extension) s))
 estimated (SwapBytes swap size) d s = Words (swapped_of size)
 
 -- the fact of the destination after an arithmetic instruction

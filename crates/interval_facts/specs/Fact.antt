@@ -7,6 +7,7 @@ use Rattle.instruction_set.specs.declared.operation.Size.{Size}
 use Rattle.instruction_set.specs.declared.operation.Size.TheVariants.{Byte, HalfWord, Word, DoubleWord}
 use Rattle.program_interface.specs.Area.{address_of, length_of}
 use Rattle.program_interface.specs.declared.area.Area.{Area}
+use Rattle.word_domain.specs.Domain.{IsAtOffset}
 use Rattle.word_domain.specs.declared.bounds.Bounds.{Bounds}
 use Rattle.word_domain.specs.declared.offsets.Offsets.{Offsets}
 use Rattle.interval_facts.specs.declared.fact.Fact.{Fact}
@@ -20,8 +21,7 @@ IsWithin b n = (b.low ≤ n) × (n ≤ b.high)
 -- address is within the bounds
 abbrev pub ContainsWord : Fact → ℕ → Type 0
 ContainsWord (Words b) w = IsWithin b w × (w < 2 ^ 64)
-ContainsWord (Pointer area low high) w =
-    (low ≤ℤ (pos w -ℤ pos (address_of area))) × ((pos w -ℤ pos (address_of area)) ≤ℤ high) × (w < 2 ^ 64)
+ContainsWord (Pointer area low high) w = IsAtOffset (record { area = area; low = low; high = high }) w × (w < 2 ^ 64)
 
 -- how far from its area a pointer is known, either way
 abbrev pub farthest : ℤ

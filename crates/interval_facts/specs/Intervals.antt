@@ -21,7 +21,3 @@ intervals = record {
   bounds = bounds_of;
   offsets = offsets_of;
 }
-
--- each value is a fact: the laws hold also of bounds out of order, to which no word belongs
-abbrev pub EachIsFact : Fact → Type 0
-EachIsFact f = Unit {0}

@@ -1,10 +1,11 @@
 //! Arithmetic on facts.
 
 ghost use Rattle.std.specs.Prelude.{◌≡◌, ◌≤◌, ◌≤ℤ◌, ◌+ℤ◌, ◌-ℤ◌, IfSome};
+ghost use Rattle.instruction_set.specs.Spelling.{extension_width};
 ghost use Rattle.program_meaning.specs.Word.{computed};
 ghost use Rattle.interval_facts.specs.Fact.{IsFact, bounds_of};
 ghost use Rattle.interval_facts.specs.steps.Bounds.{IsRange};
-ghost use Rattle.interval_facts.specs.Arithmetic.{signed_bounds, moved_on, moved_back, added, subtracted, cut, operand_of, combined_64, combined_of, width_of, unsigned_below, extended_of, swapped_of, is_known, are_known, estimated, alu_of};
+ghost use Rattle.interval_facts.specs.Arithmetic.{signed_bounds, moved_on, moved_back, added, subtracted, cut, operand_of, combined_64, combined_of, unsigned_below, extended_of, swapped_of, is_known, are_known, estimated, alu_of};
 
 use crate::fact::{Fact, is_one, one, pointer_between, words_of};
 use crate::range::{all, combine};
@@ -141,16 +142,15 @@ fn combine_facts(width: Width, operation: Operation, dst: Fact, source: Fact) ->
 /// A sign-extending move.
 fn extend(extension: SignExtension, source: Fact) -> Bounds
     requires { IsFact source }
-    ensures value { result ≡ extended_of extension (operand_of (width_of extension) source) }
+    ensures value { result ≡ extended_of extension (operand_of (extension_width extension) source) }
     ensures ordered { result.low ≤ result.high }
 {
-    let (width, signed_from) = match extension {
-        SignExtension::Bits8To32 => (Width::Bits32, 1 << 7),
-        SignExtension::Bits16To32 => (Width::Bits32, 1 << 15),
-        SignExtension::Bits8To64 => (Width::Bits64, 1 << 7),
-        SignExtension::Bits16To64 => (Width::Bits64, 1 << 15),
-        SignExtension::Bits32To64 => (Width::Bits64, 1 << 31),
+    let signed_from = match extension {
+        SignExtension::Bits8To32 | SignExtension::Bits8To64 => 1 << 7,
+        SignExtension::Bits16To32 | SignExtension::Bits16To64 => 1 << 15,
+        SignExtension::Bits32To64 => 1 << 31,
     };
+    let width = extension.width();
     let source = operand(width, source);
     if source.high < signed_from {
         source
