@@ -2,11 +2,13 @@ mod CellLaws
 mod Fitting
 mod Flow
 mod KnownFacts
+mod Meets
 mod Moves
 mod Progress
 pub mod Proved
 mod Refusals
 mod Registers
 mod Soundness
+mod Statements
 mod StoreLaws
 mod Unhindered

@@ -38,7 +38,7 @@ use Rattle.accepted_programs.proofs.KnownFacts.{AreFacts, immediate_fits}
 use Rattle.accepted_programs.proofs.StoreLaws.{cell_loaded, in_stack, stack_stays, stack_written, stored_belong}
 use Rattle.accepted_programs.proofs.Unhindered.{all_fail, of_all, size_fits}
 use Rattle.accepted_programs.specs.declared.reason.Reason.TheVariants as reason
-use Rattle.accepted_programs.specs.Meets.{Meets, MeetsSome, Moved}
+use Rattle.accepted_programs.proofs.Meets.{Meets, MeetsSome, Moved}
 use Rattle.accepted_programs.proofs.Registers.{belong_drop, belong_refined, belong_replicate, belong_set, belongs, compared, compared_belongs, compares_low, constant_belongs, one_register, source_belongs}
 use Rattle.accepted_programs.specs.declared.facts.Facts.{Facts}
 

@@ -1,7 +1,8 @@
 -- The laws of accepted programs that other crates cite.
 use Rattle.std.specs.Prelude.{ℕ}
 use Rattle.word_domain.specs.Domain.{IsSound, Operations}
-use Rattle.accepted_programs.specs.Laws.{AcceptedEmitsNoMore, AcceptedNeverTraps, AcceptedSlotsNeverTrap, NoReasonHolds, OffsetsAreShort, RefusalIsAtItsSlot, RefusalIsInside}
+use Rattle.accepted_programs.specs.Laws.{AcceptedEmitsNoMore, AcceptedNeverTraps, RefusalIsInside}
+use Rattle.accepted_programs.proofs.Statements.{AcceptedSlotsNeverTrap, NoReasonHolds, OffsetsAreShort, RefusalIsAtItsSlot}
 use Rattle.accepted_programs.proofs.Fitting as fitting
 use Rattle.accepted_programs.proofs.Refusals as refusals
 use Rattle.accepted_programs.proofs.Soundness as soundness

@@ -1,22 +1,24 @@
--- Why and where a program is refused_for.
+-- Why and where a program is refused.
 use Rattle.std.proofs.Common.{◌≡◌, ℕ, zero, suc, ◌<◌, List, length, Option, Some, None, arith}
+use Rattle.std.specs.Option.{option_map, option_or}
 use Rattle.instruction_set.specs.Program.{instruction_at}
 use Rattle.instruction_set.specs.declared.insn.Insn.{Insn}
 use Rattle.program_interface.specs.RunSizes.{Sizes}
 use Rattle.word_domain.specs.Domain.{Operations}
-use Rattle.accepted_programs.specs.Accepted.{all_reasons, fails, or_else, reason_of, refusal_at, refusal_below, refused_for}
-use Rattle.accepted_programs.specs.Laws.{NoReasonHolds, RefusalIsAtItsSlot, RefusalIsInside}
+use Rattle.accepted_programs.specs.Accepted.{all_reasons, fails, reason_of, refusal_at, refusal_below, refused_at}
+use Rattle.accepted_programs.specs.Laws.{RefusalIsInside}
 use Rattle.accepted_programs.specs.Facts.{facts_at}
 use Rattle.accepted_programs.specs.declared.reason.Reason.{Reason}
 use Rattle.accepted_programs.specs.declared.reason.Refusal.{Refusal}
+use Rattle.accepted_programs.proofs.Statements.{NoReasonHolds, RefusalIsAtItsSlot}
 use Rattle.accepted_programs.proofs.Unhindered.{all_fail, of_all}
 
-told_here : (slot : ℕ) (reason : Option Reason) (r : Refusal) → refused_for slot reason ≡ Some r → r.slot ≡ slot
+told_here : (slot : ℕ) (reason : Option Reason) (r : Refusal) → option_map (refused_at slot) reason ≡ Some r → r.slot ≡ slot
 told_here slot None r e = cc
 told_here slot (Some reason) r e = cc
 
 either_below : (n : ℕ) (before last : Option Refusal) (r : Refusal) → (before ≡ Some r → r.slot < n)
-    → (last ≡ Some r → r.slot ≡ n) → or_else before last ≡ Some r → r.slot < suc n
+    → (last ≡ Some r → r.slot ≡ n) → option_or before last ≡ Some r → r.slot < suc n
 either_below n (Some first) last r earlier here e = let less = earlier e in omega (arith, less)
 either_below n None last r earlier here e = let same = here e in omega (arith, same)
 

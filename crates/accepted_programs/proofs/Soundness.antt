@@ -1,6 +1,7 @@
 -- A program that is accepted over a sound domain never traps.
 use Rattle.std.specs.Prelude.{ℕ, zero, suc, ◌≡◌, ◌+◌, ◌<◌, ◌≤◌, Bool, true, false, List, length, drop, count_by, is_some, Option, Some, None}
 use Rattle.std.proofs.Common.{arith, inl, inr, lit<, refl, ap, subst, ◌∙◌}
+use Rattle.std.specs.Option.{option_map, option_or}
 use Rattle.std.proofs.lemmas.Bool.{cases_lt}
 use Rattle.instruction_set.specs.Program.{instruction_at, instruction_count}
 use Rattle.instruction_set.specs.declared.insn.Insn.{Insn}
@@ -14,19 +15,20 @@ use Rattle.program_meaning.specs.declared.cause.Cause.{Cause}
 use Rattle.program_interface.specs.declared.area.Area.TheVariants.{Context, Block, Stack, Scratch}
 use Rattle.program_interface.specs.RunSizes.{AreSizes, Sizes}
 use Rattle.word_domain.specs.Domain.{IsSound, Operations}
-use Rattle.accepted_programs.specs.Accepted.{or_else, reason_of, refusal, refusal_at, refusal_below, refused_for}
-use Rattle.accepted_programs.specs.ShortOffsets.{HasShortOffsets}
+use Rattle.accepted_programs.specs.Accepted.{reason_of, refusal, refusal_at, refusal_below, refused_at}
+use Rattle.accepted_programs.specs.steps.ShortOffsets.{HasShortOffsets}
 use Rattle.accepted_programs.proofs.CellLaws.{none_known}
 use Rattle.accepted_programs.specs.Facts.{entry_facts, facts_at}
 use Rattle.accepted_programs.proofs.Flow.{arrives}
 use Rattle.accepted_programs.proofs.Fitting.{short_offsets}
 use Rattle.accepted_programs.specs.Emitted.{group_in, most_below, most_emitted}
 use Rattle.accepted_programs.proofs.KnownFacts.{known_facts}
-use Rattle.accepted_programs.specs.Laws.{AcceptedEmitsNoMore, AcceptedNeverTraps, AcceptedSlotsNeverTrap}
-use Rattle.accepted_programs.specs.Meets.{Meets, MeetsSome, Moved}
+use Rattle.accepted_programs.specs.Laws.{AcceptedEmitsNoMore, AcceptedNeverTraps}
+use Rattle.accepted_programs.proofs.Meets.{Meets, MeetsSome, Moved}
 use Rattle.accepted_programs.proofs.Moves.{moved}
 use Rattle.accepted_programs.proofs.Progress.{begins_within, fewer, some_left}
 use Rattle.program_meaning.specs.TrapFree.{Exits}
+use Rattle.accepted_programs.proofs.Statements.{AcceptedSlotsNeverTrap}
 use Rattle.accepted_programs.proofs.Unhindered.{unhindered}
 use Rattle.accepted_programs.specs.declared.facts.Facts.{Facts}
 use Rattle.accepted_programs.specs.declared.facts.TheConstants.{CELLS}
@@ -76,12 +78,11 @@ module _ {D : Type 0} {IsFact : D → Type 0} {contains : D → ℕ → Type 0} 
   module _ (program : List (Option Insn)) (short : HasShortOffsets program) (sizes : Sizes) (are_sizes : AreSizes sizes)
       (accepted : refusal operations program sizes ≡ None) where
     -- ---- no refusal
-    refused_not : (slot : ℕ) (reason : Option Reason) → refused_for slot reason ≡ None
-        → reason ≡ None
-    refused_not slot None e = refl
-    refused_not slot (Some reason) e = cc
+    refused_not : (refuses : Reason → Refusal) (reason : Option Reason) → option_map refuses reason ≡ None → reason ≡ None
+    refused_not refuses None e = refl
+    refused_not refuses (Some reason) e = cc
 
-    both_none : (a b : Option Refusal) → or_else a b ≡ None → (a ≡ None) × (b ≡ None)
+    both_none : (a b : Option Refusal) → option_or a b ≡ None → (a ≡ None) × (b ≡ None)
     both_none None b e = (refl, e)
     both_none (Some first) b e = cc
 
@@ -108,7 +109,7 @@ module _ {D : Type 0} {IsFact : D → Type 0} {contains : D → ℕ → Type 0} 
         → known_at slot ≡ Some facts → reason_of operations program sizes slot facts i ≡ None
     no_reason i facts slot here begins known =
         let none = none_at (length program) slot accepted (begins_within program slot here) in
-        refused_not slot (reason_of operations program sizes slot facts i) (rw (begins, known) at none)
+        refused_not (refused_at slot) (reason_of operations program sizes slot facts i) (rw (begins, known) at none)
 
     -- ---- a step
     abbrev Holds : State → Type 0

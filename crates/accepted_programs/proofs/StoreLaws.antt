@@ -21,7 +21,7 @@ use Rattle.word_domain.specs.Domain.{IsAtOffset}
 use Rattle.word_domain.specs.declared.offsets.Offsets.{Offsets}
 use Rattle.accepted_programs.specs.Cells.{cell_from, cell_of, filled, has_byte, is_stack, no_cells, overwritten}
 use Rattle.accepted_programs.proofs.CellLaws.{if_some, left_known, none_known, set_known, word_kept, word_written}
-use Rattle.accepted_programs.specs.Meets.{BelongInCells, word_in}
+use Rattle.accepted_programs.proofs.Meets.{BelongInCells, word_in}
 use Rattle.accepted_programs.specs.declared.facts.TheConstants.{CELLS}
 
 -- ---- which bytes an access meets

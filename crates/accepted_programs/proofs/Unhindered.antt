@@ -27,10 +27,10 @@ use Rattle.program_interface.specs.declared.area.Area.{Area}
 use Rattle.program_interface.specs.RunSizes.{AreSizes, Sizes}
 use Rattle.word_domain.specs.Domain.{Belongs, IsSound, Operations}
 use Rattle.program_meaning.proofs.Proved.{areas_are_apart, blocks_are_short}
-use Rattle.accepted_programs.specs.Accepted.{all_reasons, begins_at, fails, is_unwritable, leads_nowhere, least_emitted, loads_outside, most_emitted, reason_of, stores_outside, turns_away}
+use Rattle.accepted_programs.specs.Accepted.{all_reasons, begins_at, fails, greatest_length, is_unwritable, leads_nowhere, least_length, loads_outside, reason_of, stores_outside, turns_away}
 use Rattle.accepted_programs.specs.Facts.{area_of, fact, slot_behind}
 use Rattle.accepted_programs.proofs.KnownFacts.{AreFacts}
-use Rattle.accepted_programs.specs.Meets.{Meets}
+use Rattle.accepted_programs.proofs.Meets.{Meets}
 use Rattle.accepted_programs.proofs.Registers.{belongs}
 use Rattle.accepted_programs.specs.declared.facts.Facts.{Facts}
 use Rattle.accepted_programs.specs.declared.reason.Reason.{Reason}
@@ -201,14 +201,14 @@ module _ {D : Type 0} {IsFact : D → Type 0} {contains : D → ℕ → Type 0} 
         and_right (nat_le 1 (register s 2)) _ (somewhere area (register s 1) (register s 2) inside)
 
     -- R2 is within its bounds
-    bounded : (least_emitted operations facts ≤ register s 2) × (register s 2 ≤ most_emitted operations facts)
+    bounded : (least_length operations facts ≤ register s 2) × (register s 2 ≤ greatest_length operations facts)
     bounded = sound.bounds (fact operations facts 2) (register s 2) (word_of 2)
 
     abbrev least : ℕ
-    least = least_emitted operations facts
+    least = least_length operations facts
 
     abbrev most : ℕ
-    most = most_emitted operations facts
+    most = greatest_length operations facts
 
     -- the bytes to emit are within the limit
     counted : nat_lt sizes.limit (facts.emitted + 2 + most) ≡ false → most < 2 ^ 64

@@ -1,5 +1,6 @@
 -- Which programs are accepted, and why others aren't (profile).
 use Rattle.std.specs.Prelude.{ℕ, ℤ, zero, suc, Bool, true, false, not, is_some, is_none, ◌+◌, ◌==◌, ◌&&◌, ◌||◌, nat_lt, List, [], ◌∷◌, length, find, Option, Some, None, if◌then◌else◌, pos, int_lt}
+use Rattle.std.specs.Option.{option_map, option_or}
 use Rattle.instruction_set.specs.Instruction.{distance_of, signed_size_of, size_of, target, writes}
 use Rattle.instruction_set.specs.Program.{instruction_at, instruction_in}
 use Rattle.instruction_set.specs.declared.insn.Insn.{Insn}
@@ -56,14 +57,8 @@ abbrev pub is_unwritable : Option Area → Bool
 is_unwritable None = true
 is_unwritable (Some area) = not (is_writable area)
 
-abbrev pub refused_for : ℕ → Option Reason → Option Refusal
-refused_for slot (Some reason) = Some (record { slot = slot; reason = reason })
-refused_for slot None = None
-
--- the first of two refusals
-abbrev pub or_else : Option Refusal → Option Refusal → Option Refusal
-or_else (Some refusal) _ = Some refusal
-or_else None refusal = refusal
+abbrev pub refused_at : ℕ → Reason → Refusal
+refused_at slot reason = record { slot = slot; reason = reason }
 
 module _ {D : Type 0} (operations : Operations D) where
   abbrev pub loads_outside : ℕ → Facts D → Insn → Bool
@@ -78,12 +73,12 @@ module _ {D : Type 0} (operations : Operations D) where
       is_unwritable (area_of operations block facts dst offset (size_of size))
   stores_outside block facts _ = false
 
-  -- the least and the most bytes that emit can take
-  abbrev pub least_emitted : Facts D → ℕ
-  least_emitted facts = (operations.bounds (fact operations facts 2)).low
+  -- the least and the greatest length that emit can be given
+  abbrev pub least_length : Facts D → ℕ
+  least_length facts = (operations.bounds (fact operations facts 2)).low
 
-  abbrev pub most_emitted : Facts D → ℕ
-  most_emitted facts = (operations.bounds (fact operations facts 2)).high
+  abbrev pub greatest_length : Facts D → ℕ
+  greatest_length facts = (operations.bounds (fact operations facts 2)).high
 
   module _ (program : List (Option Insn)) (sizes : Sizes) where
     -- the reasons, each for itself
@@ -97,8 +92,8 @@ module _ {D : Type 0} (operations : Operations D) where
     fails slot facts i UnknownHelper = calls_unknown i
     fails slot facts i EmitAddress = is_emit i && is_none (area_of operations sizes.block facts 1 (pos 0) 0)
     fails slot facts i EmitLength =
-        is_emit i && (least_emitted facts == 0 || is_none (area_of operations sizes.block facts 1 (pos 0) (most_emitted facts)))
-    fails slot facts i EmitBudget = is_emit i && nat_lt sizes.limit (facts.emitted + 2 + most_emitted facts)
+        is_emit i && (least_length facts == 0 || is_none (area_of operations sizes.block facts 1 (pos 0) (greatest_length facts)))
+    fails slot facts i EmitBudget = is_emit i && nat_lt sizes.limit (facts.emitted + 2 + greatest_length facts)
 
     -- the least reason to refuse an instruction at a slot with these facts
     abbrev pub reason_of : ℕ → Facts D → Insn → Option Reason
@@ -106,14 +101,14 @@ module _ {D : Type 0} (operations : Operations D) where
 
     -- the refusal of a slot; one with no facts isn't looked at
     abbrev pub refusal_at : ℕ → Option Insn → Option (Facts D) → Option Refusal
-    refusal_at slot (Some i) (Some facts) = refused_for slot (reason_of slot facts i)
+    refusal_at slot (Some i) (Some facts) = option_map (refused_at slot) (reason_of slot facts i)
     refusal_at slot _ _ = None
 
     -- the first refusal at the slots below this one
     abbrev pub refusal_below : ℕ → Option Refusal
     refusal_below zero = None
     refusal_below (suc slot) =
-        or_else (refusal_below slot) (refusal_at slot (instruction_at program slot) (facts_at operations sizes.block program slot))
+        option_or (refusal_below slot) (refusal_at slot (instruction_at program slot) (facts_at operations sizes.block program slot))
 
     -- the first refusal of a program, which is accepted if there is none
     abbrev pub refusal : Option Refusal

@@ -1,5 +1,5 @@
 -- How frames in output blocks are read back (profile).
-use Rattle.std.specs.Prelude.{ℕ, zero, suc, ◌≡◌, ◌↔◌, ◌+◌, ◌*◌, ◌/◌, ◌^◌, ◌<◌, ◌≤◌, ◌==◌, nat_lt, List, [], ◌∷◌, ◌++◌, length, map, take, drop, Result, Ok, Err, ◌⊎◌, if◌then◌else◌, Vec}
+use Rattle.std.specs.Prelude.{ℕ, zero, suc, ◌≡◌, ◌↔◌, ◌+◌, ◌*◌, ◌/◌, ◌^◌, ◌<◌, ◌≤◌, ◌==◌, nat_lt, List, [], ◌∷◌, ◌++◌, length, map, take, drop, Option, Some, None, Result, Ok, Err, ◌⊎◌, if◌then◌else◌, Vec}
 use Rattle.std.specs.List.{AllByRecursion, concat, flat_map}
 use Rattle.std.specs.declared.alloc.Global.{Global}
 use Rattle.byteorder.specs.Endian.{little_number}
@@ -66,15 +66,10 @@ unpacked block bytes = output_blocks_at (length bytes / block) block 0 bytes
 abbrev pub record_bytes : List (Vec ℕ Global) → List (List ℕ)
 record_bytes records = map (λ r. r.items) records
 
--- The place of a fault is the one that reading refuses; want of memory says nothing of the bytes.
-abbrev pub Fails : UnpackFault → Reading → Type 0
-Fails (At place) reading = reading ≡ Err place
-Fails Memory reading = Unit {0}
-
--- A call whose answer is seen by view gives what is read, unless memory ran out.
-abbrev pub Gives : {X : Type 0} → (X → List (List ℕ)) → Result X UnpackFault → Reading → Type 0
-Gives view (Ok x) reading = reading ≡ Ok (view x)
-Gives view (Err fault) reading = Fails fault reading
+-- the place that a fault tells; none where memory ran out
+abbrev pub place_told : UnpackFault → Option ℕ
+place_told (At place) = Some place
+place_told Memory = None
 
 -- What is packed of groups that hold frames reads back as the records of all of them, in order.
 abbrev pub PackedFramesReadBack : Type 0

@@ -9,10 +9,10 @@ use thiserror::Error;
 /// The lowest byte of output blocks that is refused, counted from 0, and what stands there.
 #[derive(Clone, Copy, Debug, PartialEq, Eq, Error)]
 pub enum FrameRefusal {
-    /// So many bytes stand behind the last whole block.
+    /// So many bytes, `left`, stand behind the last whole block, the first of them at this place.
     #[error("byte {at}: {left} of the {block} bytes of a block; whole blocks are expected")]
     Part { at: usize, left: usize, block: u32 },
-    /// A byte that begins neither a frame nor zeros.
+    /// A byte at this place that begins neither a frame nor zeros.
     #[error("byte {at}: {byte:02x}h; a frame that ends in its block, or zeros to its end, are expected")]
     Byte { at: usize, byte: u8 },
 }

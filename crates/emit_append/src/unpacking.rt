@@ -1,11 +1,12 @@
 //! Reading output blocks back.
 
 ghost use Rattle.std.specs.Prelude.{◌≡◌, ◌+◌, ◌^◌, ◌<◌, [], length};
-ghost use Rattle.emit_append.specs.Unpacking.{output_block_at, frame_length as length_in_front, then_read, unpacked, zeros_at, Gives, record_bytes};
+ghost use Rattle.program_interface.specs.Gives.{Gives};
+ghost use Rattle.emit_append.specs.Unpacking.{output_block_at, frame_length as length_in_front, place_told, record_bytes, then_read, unpacked, zeros_at};
 
 use crate::fault::UnpackFault;
 use byteorder::{ByteOrder, LittleEndian};
-use program_interface::BlockSize;
+use program_interface::{BlockSize, FRAME_LENGTH_BYTES};
 use std::alloc::Global;
 
 /// The records of the frames in output blocks of this size, in order.
@@ -18,7 +19,7 @@ use std::alloc::Global;
 /// [`UnpackFault::At`] the lowest byte that is refused, counted from the first of `bytes`; [`UnpackFault::Memory`] where there
 /// was none for the records.
 pub fn unpack(alloc: Global, bytes: &[u8], block: BlockSize) -> Result<Vec<Vec<u8>>, UnpackFault>
-    ensures { Gives (λ records. record_bytes records.items) result (unpacked block bytes.now) }
+    ensures { Gives place_told (λ records. record_bytes records.items) result (unpacked block bytes.now) }
 {
     let size = block.bytes() as usize;
     let mut records = Vec::new(alloc);
@@ -42,19 +43,19 @@ fn read_block(
     records: &mut Vec<Vec<u8>>,
 ) -> Result<(), UnpackFault>
     requires { at + length block.now < 2 ^ 64 }
-    ensures { Gives (λ _. record_bytes records.new.items) result (then_read (record_bytes records.old.items) (output_block_at at block.now)) }
+    ensures { Gives place_told (λ _. record_bytes records.new.items) result (then_read (record_bytes records.old.items) (output_block_at at block.now)) }
 {
     let mut rest = block;
     let mut place = at;
     let mut length = frame_length(rest);
     while length > 0 {
-        if rest.len() < 2 + length {
+        if rest.len() < FRAME_LENGTH_BYTES + length {
             return Err(UnpackFault::At(place));
         }
-        let (frame, after) = rest.split_at(2 + length);
-        records.push(Vec::from_slice(alloc, &frame[2..])?)?;
+        let (frame, after) = rest.split_at(FRAME_LENGTH_BYTES + length);
+        records.push(Vec::from_slice(alloc, &frame[FRAME_LENGTH_BYTES..])?)?;
         rest = after;
-        place += 2 + length;
+        place += FRAME_LENGTH_BYTES + length;
         length = frame_length(rest);
     }
     check_zeros(rest, place)
@@ -65,7 +66,7 @@ fn frame_length(rest: &[u8]) -> usize
     ensures value { result ≡ length_in_front rest.now }
     ensures small { result < 2 ^ 16 }
 {
-    if rest.len() < 2 {
+    if rest.len() < FRAME_LENGTH_BYTES {
         return 0;
     }
     usize::from(LittleEndian::read_u16(rest))
@@ -74,7 +75,7 @@ fn frame_length(rest: &[u8]) -> usize
 /// Refuses the first byte that isn't zero.
 fn check_zeros(rest: &[u8], at: usize) -> Result<(), UnpackFault>
     requires { at + length rest.now < 2 ^ 64 }
-    ensures { Gives (λ _. []) result (zeros_at at rest.now) }
+    ensures { Gives place_told (λ _. []) result (zeros_at at rest.now) }
 {
     for (i, byte) in rest.iter().enumerate() {
         if *byte != 0 {

@@ -11,7 +11,7 @@ use Rattle.program_meaning.specs.Cause.{is_emit}
 use Rattle.program_interface.specs.declared.block_size.TheConstants.{LARGEST_BLOCK}
 use Rattle.program_interface.specs.RunSizes.{Sizes}
 use Rattle.word_domain.specs.Domain.{Operations}
-use Rattle.accepted_programs.specs.Accepted.{begins_at, fails, leads_nowhere, most_emitted, reason_of, turns_away}
+use Rattle.accepted_programs.specs.Accepted.{begins_at, fails, greatest_length, leads_nowhere, reason_of, turns_away}
 use Rattle.verifier.specs.steps.Instructions.{HasRoom, StaysInside}
 use Rattle.accepted_programs.specs.Facts.{facts_behind, slot_behind}
 use Rattle.accepted_programs.proofs.Proved.{no_reason_holds}
@@ -93,7 +93,7 @@ module _ {D : Type 0} (operations : Operations D) where
   pub room_left : (program : List (Option Insn)) (sizes : Sizes) (slot : ℕ) (facts : Facts D) (i : Insn)
       → reason_of operations program sizes slot facts i ≡ None → sizes.limit ≤ LARGEST_BLOCK → HasRoom operations i facts
   room_left program sizes slot facts (Call helper) none fits =
-      within_limit (is_emit (Call helper)) sizes.limit (facts.emitted + 2 + most_emitted operations facts)
+      within_limit (is_emit (Call helper)) sizes.limit (facts.emitted + 2 + greatest_length operations facts)
       (free program sizes slot facts (Call helper) none UnknownHelper)
       (free program sizes slot facts (Call helper) none EmitBudget) fits
   room_left program sizes slot facts (LoadImmediate dst value) none fits = tt

@@ -1,11 +1,12 @@
 -- The first refusal of a program.
 use Rattle.std.proofs.Common.{◌≡◌, ℕ, zero, suc, ◌+◌, ◌-◌, ◌<◌, ◌≤◌, List, length, Option, Some, None, add-zero, add-one, add-suc, arith, subst, ap, ◌∙◌}
 use Rattle.std.specs.Prelude.{Box}
+use Rattle.std.specs.Option.{option_or}
 use Rattle.instruction_set.specs.Program.{instruction_at}
 use Rattle.instruction_set.specs.declared.insn.Insn.{Insn}
 use Rattle.program_interface.specs.RunSizes.{Sizes}
 use Rattle.word_domain.specs.Domain.{Operations}
-use Rattle.accepted_programs.specs.Accepted.{or_else, refusal_at, refusal_below}
+use Rattle.accepted_programs.specs.Accepted.{refusal_at, refusal_below}
 use Rattle.accepted_programs.specs.Facts.{facts_at, given_below, gives}
 use Rattle.verifier.specs.steps.Rows.{held_at}
 use Rattle.accepted_programs.specs.declared.facts.Facts.{Facts}
@@ -22,7 +23,7 @@ module _ {D : Type 0} (operations : Operations D) (program : List (Option Insn))
   found_stays : (k slot : ℕ) (refusal : Refusal) → below slot ≡ Some refusal → below (slot + k) ≡ Some refusal
   found_stays zero slot refusal h = rw add-zero h
   found_stays (suc k) slot refusal h =
-      rw add-suc (ap (λ o. or_else o (here (slot + k))) (found_stays k slot refusal h))
+      rw add-suc (ap (λ o. option_or o (here (slot + k))) (found_stays k slot refusal h))
 
   -- the refusal of a slot before which none is refused is the first of all
   pub first_found : (n slot : ℕ) (refusal : Refusal) → slot < n → below slot ≡ None → here slot ≡ Some refusal → below n ≡ Some refusal

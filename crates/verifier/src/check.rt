@@ -2,7 +2,7 @@
 
 ghost use Rattle.std.specs.Prelude.{◌≡◌, ◌<◌, ◌≤◌, ◌^◌, ◌+◌, nat_lt, ◌&&◌, ◌||◌, ◌==◌, is_none, pos, not, false, if◌then◌else◌, Option, Some, None};
 ghost use Rattle.program_meaning.specs.Cause.{calls_unknown as insn_calls_unknown, is_emit as insn_is_emit};
-ghost use Rattle.accepted_programs.specs.Accepted.{begins_at, fails, goes_back as distance_goes_back, leads_nowhere as distance_leads_nowhere, least_emitted, most_emitted, loads_outside as insn_loads_outside, reason_of, stores_outside as insn_stores_outside, is_unwritable, turns_away as insn_turns_away};
+ghost use Rattle.accepted_programs.specs.Accepted.{begins_at, fails, goes_back as distance_goes_back, greatest_length, is_unwritable, leads_nowhere as distance_leads_nowhere, least_length, loads_outside as insn_loads_outside, reason_of, stores_outside as insn_stores_outside, turns_away as insn_turns_away};
 ghost use Rattle.accepted_programs.specs.Facts.{area_of, slot_behind as insn_slot_behind};
 ghost use Rattle.accepted_programs.specs.declared.reason.Reason.TheVariants.{EmitAddress, EmitBudget, EmitLength, FallsOff};
 
@@ -57,10 +57,10 @@ fn leads_nowhere(program: &Program, slot: usize, distance: Option<i32>) -> bool
 fn turns_away(insn: &Insn) -> bool
     ensures { result ≡ insn_turns_away insn.now }
 {
-    match *insn {
-        Insn::Jump { .. } | Insn::JumpLong { .. } | Insn::Exit => true,
-        _ => false,
-    }
+    matches!(
+        *insn,
+        Insn::Jump { .. } | Insn::JumpLong { .. } | Insn::Exit
+    )
 }
 
 #[inline]
@@ -162,7 +162,7 @@ fn calls_unknown(insn: &Insn) -> bool
 /// May there be no bytes to emit, or more than the area has?
 #[inline]
 fn emits_amiss<D: Domain>(block: BlockSize, facts: &Facts<D>) -> bool
-    ensures { result ≡ (least_emitted D.operations facts.now == 0 || is_none (area_of D.operations block facts.now 1 (pos 0) (most_emitted D.operations facts.now))) }
+    ensures { result ≡ (least_length D.operations facts.now == 0 || is_none (area_of D.operations block facts.now 1 (pos 0) (greatest_length D.operations facts.now))) }
 {
     let bounds = facts.registers[2].bounds();
     bounds.low == 0 || facts.registers[1].access(block, 0, bounds.high).is_none()
@@ -171,7 +171,7 @@ fn emits_amiss<D: Domain>(block: BlockSize, facts: &Facts<D>) -> bool
 /// May a frame take the group over its limit?
 #[inline]
 fn passes_limit<D: Domain>(limit: u32, facts: &Facts<D>) -> bool
-    ensures { result ≡ nat_lt limit (facts.now.emitted + 2 + most_emitted D.operations facts.now) }
+    ensures { result ≡ nat_lt limit (facts.now.emitted + 2 + greatest_length D.operations facts.now) }
 {
     let most = u128::from(facts.registers[2].bounds().high);
     facts.emitted as u128 + 2 + most > u128::from(limit)

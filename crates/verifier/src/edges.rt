@@ -3,7 +3,7 @@
 ghost use Rattle.std.specs.Prelude.{◌≡◌, ◌+◌, ◌<◌, ◌^◌, None};
 ghost use Rattle.instruction_set.specs.Instruction.{distance_of};
 ghost use Rattle.accepted_programs.specs.Facts.{source_fact, compared_fact, after_emit, after_store, computed_word, enters_stack as area_is_stack, fact, facts_behind, is_register as source_is, kept as kept_fact, loaded_fact, loaded_word, with_fact, with_source};
-ghost use Rattle.accepted_programs.specs.Accepted.{most_emitted};
+ghost use Rattle.accepted_programs.specs.Accepted.{greatest_length};
 ghost use Rattle.verifier.specs.steps.Instructions.{HasRoom};
 ghost use Rattle.verifier.specs.steps.Rows.{where_it_goes_on};
 
@@ -80,7 +80,7 @@ pub fn set_both<D: Domain>(facts: &mut Facts<D>, dst: Register, source: &Source,
 /// Changes the facts to those after emit.
 #[tactic(auto, using(crate::proofs::Joins::filled_more))]
 fn emit<D: Domain>(facts: &mut Facts<D>)
-    requires { facts.old.emitted + 2 + most_emitted D.operations facts.old < 2 ^ 64 }
+    requires { facts.old.emitted + 2 + greatest_length D.operations facts.old < 2 ^ 64 }
     ensures { facts.new ≡ after_emit D.operations facts.old }
 {
     let zero = D::constant(0);

@@ -1,13 +1,13 @@
-//! What a verifier knows of a program, for those who want to be told more than whether it is accepted.
+//! What a verifier says of a program, and what it knows of it.
 
-ghost use Rattle.std.specs.Prelude.{◌≡◌, ◌<◌, ℕ, length, IfOk};
-ghost use Rattle.accepted_programs.specs.Facts.{given_below};
+ghost use Rattle.std.specs.Prelude.{◌≡◌, ◌<◌, ◌≤◌, ◌==◌, if◌then◌else◌, ℕ, length, get_or, None, Some, Option, IfOk};
+ghost use Rattle.accepted_programs.specs.Facts.{entry_facts, given_below};
 ghost use Rattle.verifier.specs.steps.Rows.{held, held_at};
 ghost use Rattle.accepted_programs.specs.Emitted.{group_in};
 ghost use Rattle.verifier.specs.Judged.{IsJudged};
 
+use crate::facts::entry;
 use crate::rows::{Refused, Row, visit};
-use crate::verifying::first_rows;
 use accepted_programs::{Facts, Refusal};
 use instruction_set::Program;
 use program_interface::RunSizes;
@@ -38,6 +38,37 @@ fn group<D: Domain>(row: &Row<D>) -> usize
     }
 }
 
+/// So many slots, of which nothing is known.
+#[tactic(auto, using(crate::proofs::Gifts::empty_more))]
+fn empty_rows<D: Domain>(alloc: Global, slots: usize) -> Result<Vec<Row<D>>, AllocError>
+    ensures len { IfOk result (λ rows. length rows.items ≡ slots) }
+    ensures rows { IfOk result (λ rows. (s : ℕ) → get_or rows.items s None ≡ None) }
+{
+    let mut rows = Vec::with_capacity(alloc, slots)?;
+    for _ in 0..slots {
+        rows.push(None)?;
+    }
+    Ok(rows)
+}
+
+/// What is known at the start of a block run, in a box.
+fn boxed_entry<D: Domain>(alloc: Global) -> Result<Box<Facts<D>>, AllocError>
+    ensures { IfOk result (λ entry. entry.value ≡ entry_facts D.operations) }
+{
+    Ok(Box::new(alloc, entry())?)
+}
+
+/// The facts for so many slots, before any is visited: those of the start at the first.
+fn first_rows<D: Domain>(alloc: Global, slots: usize) -> Result<Vec<Row<D>>, AllocError>
+    requires { 1 ≤ slots }
+    ensures len { IfOk result (λ rows. length rows.items ≡ slots) }
+    ensures rows { IfOk result (λ rows. (s : ℕ) → s < slots → held_at rows.items s ≡ (if s == 0 then Some (entry_facts D.operations) else None)) }
+{
+    let mut rows = empty_rows(alloc, slots)?;
+    rows[0] = Some(boxed_entry(alloc)?);
+    Ok(rows)
+}
+
 /// Judges a program over the facts before any slot is visited.
 fn judge_over<D: Domain>(
     alloc: Global,
@@ -63,6 +94,10 @@ fn judge_over<D: Domain>(
 
 /// Accepts a program as [`verify`](crate::verify) does, and says how much it emits; or refuses it, and says what is
 /// known at the slot that is refused.
+///
+/// # Errors
+///
+/// Where there was no memory for the facts.
 #[tactic(auto, using(crate::proofs::Sizes::facts_fit))]
 pub fn judge<D: Domain>(
     alloc: Global,

@@ -4,13 +4,13 @@ use Rattle.instruction_set.specs.Instruction.{distance_of, target}
 use Rattle.instruction_set.specs.declared.insn.Insn.{Insn}
 use Rattle.instruction_set.specs.declared.insn.Insn.TheVariants.{Call}
 use Rattle.word_domain.specs.Domain.{Operations}
-use Rattle.accepted_programs.specs.Accepted.{most_emitted, turns_away}
+use Rattle.accepted_programs.specs.Accepted.{greatest_length, turns_away}
 use Rattle.accepted_programs.specs.Facts.{slot_behind}
 use Rattle.accepted_programs.specs.declared.facts.Facts.{Facts}
 
 -- a call leaves the bound on the emitted bytes a number that can be counted
 abbrev pub HasRoom : {D : Type 0} → Operations D → Insn → Facts D → Type 0
-HasRoom operations (Call helper) facts = facts.emitted + 2 + most_emitted operations facts < 2 ^ 64
+HasRoom operations (Call helper) facts = facts.emitted + 2 + greatest_length operations facts < 2 ^ 64
 HasRoom operations _ facts = Unit {0}
 
 -- an instruction leads to slots of a program of this many, and to no others

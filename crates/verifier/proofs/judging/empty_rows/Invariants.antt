@@ -1,5 +1,5 @@
 use Rattle.std.proofs.Common.{◌≡◌, ℕ, length, get_or, None}
-use Rattle.verifier.proofs.verifying.empty_rows.Given as goal
+use Rattle.verifier.proofs.judging.empty_rows.Given as goal
 
 abbrev pub invariant-loop : goal.invariant-loop
 invariant-loop g l = record {

@@ -1,0 +1,2 @@
+-- What the crate above keeps to itself; no public contract speaks of it.
+pub mod ShortOffsets
