@@ -64,7 +64,7 @@ told_receive entry d cid lba dwords code which partial has is_lba is_dwords is_1
     ∙ (ap (λ (n : ℕ). Ok (command.Standard (Receive n dwords which (slice_index entry 54 % 2 == 1)))) start
     ∙ ap (λ (b : Bool). Ok (command.Standard (Receive lba dwords which b))) (flag_back partial (slice_index entry 54) third)))))
 
-slot_back : (number : ℕ) → number < 8 → program_slot_of number ≡ Some number
+pub slot_back : (number : ℕ) → number < 8 → program_slot_of number ≡ Some number
 slot_back number few = ap (λ (b : Bool). cond b (Some number) None) (lt-ltb number 8 few)
 
 le_back : (n most : ℕ) → n ≤ most → nat_le n most ≡ true

@@ -29,7 +29,7 @@ byte_is : (place n : ℕ) → byte_at place n ≡ n / 256 ^ place % 256
 byte_is place n = omega (arith, little_from-bytes 1 place n [])
 
 -- no check of all entries fails
-decoded_is : (entry : List ℕ) (opcode : Opcode) → opcode_of (slice_index entry 0) ≡ Some opcode → fuse_of entry ≡ 0 → namespace_of entry ≡ 1
+pub decoded_is : (entry : List ℕ) (opcode : Opcode) → opcode_of (slice_index entry 0) ≡ Some opcode → fuse_of entry ≡ 0 → namespace_of entry ≡ 1
     → decoded entry ≡ asked opcode entry
 decoded_is entry opcode is_opcode is_fuse is_namespace =
     ap (λ (found : Option Opcode). decoded_by found entry) is_opcode

@@ -7,11 +7,11 @@ use Rattle.zone_state.specs.declared.status.Status.{Status}
 use Rattle.nvme_entry.specs.declared.completion.Completion.{Completion}
 
 -- Dword 3: the command identifier in bits 15:0, the phase tag in bit 16, the status code in bits
--- 24:17 and the status code type in bits 27:25 (NVMe Base 2.0, figures 91 and 92)
+-- 24:17 and the status code type in bits 27:25 (NVMe Base 2.0, 3.3.3.2)
 abbrev pub status_dword : ℕ → Status → ℕ
 status_dword cid status = cid + status.code * 2 ^ 17 + type_number status.kind * 2 ^ 25
 
--- the four dwords; Dword 2 has the queue identifier in bits 31:16 (NVMe Base 2.0, figures 88 and 90)
+-- the four dwords; Dword 2 has the queue identifier in bits 31:16 (NVMe Base 2.0, 3.3.3.2)
 abbrev pub dwords : Completion → List ℕ
 dwords c = c.dw0 ∷ c.dw1 ∷ c.queue * 2 ^ 16 ∷ status_dword c.cid c.status ∷ []
 

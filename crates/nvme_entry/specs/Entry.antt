@@ -17,7 +17,7 @@ use Rattle.nvme_entry.specs.Fields.{field, dword}
 use Rattle.nvme_entry.specs.Filter.{filter_of}
 use Rattle.nvme_entry.specs.ProgramSlot.{program_slot_of}
 
--- Command Dword 0, bits 9:8: is the command part of a fused one? (NVMe Base 2.0, figure 86)
+-- Command Dword 0, bits 9:8: is the command part of a fused one? (NVMe Base 2.0, 3.3.3.1)
 abbrev pub fuse_of : List ℕ → ℕ
 fuse_of entry = slice_index entry 1 % 4
 
@@ -37,7 +37,7 @@ starting_lba entry = field entry 40 8
 abbrev pub asked_blocks : List ℕ → ℕ
 asked_blocks entry = field entry 48 2 + 1
 
--- Command Dword 0, bits 7:0 (NVM Command Set 1.0, figure 20; ZNS 1.1, figure 28). Those from 80h on are
+-- Command Dword 0, bits 7:0 (NVM Command Set 1.0, 3.2; ZNS 1.1, 3.4). Those from 80h on are
 -- left to vendors: the three here are profile.
 abbrev pub opcode_of : ℕ → Option Opcode
 opcode_of code =
@@ -50,7 +50,7 @@ opcode_of code =
     if code == 0xC1 then Some opcode.Load else
     if code == 0xC2 then Some opcode.Result else None
 
--- Command Dword 13, bits 7:0: the zone send action (ZNS 1.1, figure 46)
+-- Command Dword 13, bits 7:0: the zone send action (ZNS 1.1, 3.4.3)
 abbrev pub action_of : ℕ → Option Action
 action_of code =
     if code == 0x01 then Some action.Close else
@@ -63,7 +63,7 @@ action_of code =
 abbrev pub dwords_of : ℕ → Option ℕ
 dwords_of count = if nat_le (4 * (count + 1)) MOST_TRANSFER then Some (count + 1) else None
 
--- Command Dword 13: the zone send action in bits 7:0, Select All in bit 8 (ZNS 1.1, figure 46)
+-- Command Dword 13: the zone send action in bits 7:0, Select All in bit 8 (ZNS 1.1, 3.4.3)
 abbrev pub send_of : List ℕ → Option Command
 send_of entry = option_map
     (λ (what : Action). command.Standard (Send (starting_lba entry) what (slice_index entry 53 % 2 == 1)))

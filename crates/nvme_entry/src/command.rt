@@ -8,8 +8,8 @@ use crate::program_slot::ProgramSlot;
 use std::marker::Model;
 use zone_state::Action;
 
-/// The most bytes that one command moves (the Maximum Data Transfer Size of NVMe Base 2.0, figure
-/// 276; its value is profile).
+/// The most bytes that one command moves (the Maximum Data Transfer Size of NVMe Base 2.0, 5.17; its
+/// value is profile).
 pub const MOST_TRANSFER: usize = 131_072;
 
 /// The bytes of a dword.
@@ -32,7 +32,7 @@ pub enum Opcode {
     Run,
     /// C1h: loads a program into a slot.
     Load,
-    /// C2h: reads the scratch bytes that the last run of a slot's program left.
+    /// C2h: reads the scratch bytes that a slot's program left in its last run that ended.
     Result,
 }
 
@@ -172,7 +172,7 @@ pub enum Command {
     Run(RunCommand),
     /// Puts a program into a slot (profile).
     Load(LoadCommand),
-    /// Gives the scratch bytes that the last successful run of a slot's program left (profile).
+    /// Gives the scratch bytes that a slot's program left in its last run that ended (profile).
     Result(ProgramSlot),
 }
 

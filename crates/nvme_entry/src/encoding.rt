@@ -203,7 +203,7 @@ fn with_fields(opcode: Opcode, cid: u16, fields: CommandDwords) -> [u8; 64]
     entry
 }
 
-/// The code of an action in the field Zone Send Action (ZNS 1.1, figure 46).
+/// The code of an action in the field Zone Send Action (ZNS 1.1, 3.4.3).
 fn code_of(action: Action) -> u8
     ensures { action_of result ≡ Some action }
 {

@@ -180,7 +180,7 @@ impl Entry {
     }
 }
 
-/// The action with this code in the field Zone Send Action (ZNS 1.1, figure 46).
+/// The action with this code in the field Zone Send Action (ZNS 1.1, 3.4.3).
 fn action(code: u8) -> Option<Action>
     ensures { result ≡ action_of code }
 {

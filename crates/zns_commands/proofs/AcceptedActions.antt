@@ -13,9 +13,10 @@ use Rattle.image_store.specs.Namespace.{ZonedNamespace, zone_at, IsNamespace}
 use Rattle.zns_commands.specs.Address.{zone_number, block_total}
 use Rattle.zns_commands.specs.Resources.{room_for, why_not, closing_of}
 use Rattle.zns_commands.specs.steps.Accepted.{CanGiveWay}
-use Rattle.zns_commands.specs.Send.{room_of, led_to, zone_checks, zone_plan}
+use Rattle.zns_commands.specs.Send.{room_of, led_to, zone_checks}
 use Rattle.zns_commands.specs.steps.Accepted.{CanMove}
 use Rattle.zns_commands.specs.declared.send.ZonePlan.{ZonePlan}
+use Rattle.zns_commands.specs.steps.Plans.{zone_plan}
 use Rattle.zns_commands.proofs.GivenWay.{has_room, no_one_gives_way}
 use Rattle.zns_commands.proofs.MovedZones.{action_fits, moved_sound}
 use Rattle.nvme_entry.proofs.Proved.{passed, demanded}

@@ -19,7 +19,7 @@ use Rattle.image_store.specs.Namespace.{ZoneBlocks, ZonedNamespace, no_zone, zon
 use Rattle.zns_commands.specs.Address.{counted_zone_at}
 use Rattle.zns_commands.specs.Resources.{room_by, room_for, closed}
 use Rattle.zns_commands.specs.steps.Accepted.{CanGiveWay}
-use Rattle.zns_commands.specs.Write.{written}
+use Rattle.zns_commands.specs.steps.Plans.{written_by}
 use Rattle.zns_commands.proofs.ClosableZones.{closable_zone, closable_state, other_zone, closed_fits}
 use Rattle.zns_commands.proofs.FittingZones.{FitsIn, set_namespace, counted_zone_there, counted_zones_with, one_within}
 
@@ -160,7 +160,7 @@ closed_zone ns z (Some k) other =
     get_or-set_other ns.zones k z (record { state = Closed; blocks = (zone_at ns k).blocks }) no_zone (λ (same : z ≡ k). other (ap Some (sym same)))
 
 pub written_is : (ns : ZonedNamespace) (z : ℕ) (gives : Option ℕ) (input : List ℕ) → gives ≢ Some z
-    → written ns (record { zone = z; closing = gives }) input ≡ with_zone (closed ns gives) z (grown ns.capacity (zone_at ns z) (as_blocks ns.block input))
+    → written_by ns (record { zone = z; closing = gives }) input ≡ with_zone (closed ns gives) z (grown ns.capacity (zone_at ns z) (as_blocks ns.block input))
 written_is ns z None input other = refl
 written_is ns z (Some k) input other =
     ap (λ (zone : ZoneBlocks). with_zone (closed ns (Some k)) z (grown ns.capacity zone (as_blocks ns.block input))) (closed_zone ns z (Some k) other)

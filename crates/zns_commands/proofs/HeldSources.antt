@@ -22,8 +22,8 @@ use Rattle.zns_commands.specs.Left.{Grows, SourcesKeepBlocks}
 use Rattle.zns_commands.specs.Laws.{Commanded, Faulted}
 use Rattle.zns_commands.specs.Meaning.{checks_of, effect_of}
 use Rattle.zns_commands.specs.Resources.{why_not, closed}
-use Rattle.zns_commands.specs.Send.{send_checks, send_effect, zone_plan, takes, swept}
-use Rattle.zns_commands.specs.Write.{write_plan}
+use Rattle.zns_commands.specs.Send.{send_checks, send_effect, takes, swept}
+use Rattle.zns_commands.specs.steps.Plans.{write_plan, zone_plan}
 use Rattle.zns_commands.proofs.HeldZones.{not_taken, not_refused, not_held}
 use Rattle.zns_commands.proofs.KeptBlocks.{grows_by_none, grows_on, replaced_grows, closed_grows, written_grows}
 use Rattle.zns_commands.proofs.Meanings.{after_command}

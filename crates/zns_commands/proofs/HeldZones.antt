@@ -27,8 +27,9 @@ use Rattle.zns_commands.specs.Left.{is_either, touches, DestinationsAreLeft}
 use Rattle.zns_commands.specs.Laws.{Commanded, Faulted}
 use Rattle.zns_commands.specs.Meaning.{checks_of}
 use Rattle.zns_commands.specs.Resources.{room_by, room_for, closing_of}
-use Rattle.zns_commands.specs.Send.{send_checks, zone_plan, room_of, takes, held_among}
+use Rattle.zns_commands.specs.Send.{send_checks, room_of, takes, held_among}
 use Rattle.zns_commands.specs.Write.{write_checks}
+use Rattle.zns_commands.specs.steps.Plans.{zone_plan}
 use Rattle.zns_commands.proofs.GivenWay.{admitted_closable}
 use Rattle.zns_commands.proofs.Meanings.{after_command}
 use Rattle.nvme_entry.proofs.Proved.{passed, demanded}

@@ -23,10 +23,11 @@ use Rattle.zns_commands.specs.Fault.{fault_answer, faulted_by}
 use Rattle.zns_commands.specs.Read.{read_checks, read_effect, read_refusal}
 use Rattle.zns_commands.specs.Resources.{closed}
 use Rattle.zns_commands.specs.Receive.{receive_checks, receive_effect}
-use Rattle.zns_commands.specs.Send.{send_checks, send_effect, zone_plan, takes, swept}
-use Rattle.zns_commands.specs.Write.{write_checks, write_effect, write_plan, written}
+use Rattle.zns_commands.specs.Send.{send_checks, send_effect, takes, swept}
+use Rattle.zns_commands.specs.Write.{write_checks, write_effect}
 use Rattle.zns_commands.specs.Left.{Grows}
 use Rattle.zns_commands.specs.Laws.{NamespaceEvent, Commanded, Faulted, NoneClears, after, after_events}
+use Rattle.zns_commands.specs.steps.Plans.{write_plan, written_by, zone_plan}
 use Rattle.zns_commands.proofs.MovedZones.{after_action}
 
 -- a list of blocks grows by none,
@@ -68,7 +69,7 @@ closed_grows ns (Some k) z =
     set_grows (λ s. false) ns.zones k z (record { state = Closed; blocks = blocks }) (λ stays. grows_by_none blocks) refl
 
 pub written_grows : (ns : ZonedNamespace) (plan : WritePlan) (input : List ℕ) (z : ℕ)
-    → Grows (zone_at ns z).blocks (zone_at (written ns plan input) z).blocks
+    → Grows (zone_at ns z).blocks (zone_at (written_by ns plan input) z).blocks
 written_grows ns plan input z =
     let m = closed ns plan.closing in
     let zone = grown m.capacity (zone_at m plan.zone) (as_blocks m.block input) in
@@ -155,7 +156,7 @@ closed_shape : (ns : ZonedNamespace) (gives : Option ℕ) → shape (closed ns g
 closed_shape ns None = refl
 closed_shape ns (Some k) = with_zone_shape ns k (record { state = Closed; blocks = (zone_at ns k).blocks })
 
-pub written_shape : (ns : ZonedNamespace) (plan : WritePlan) (input : List ℕ) → shape (written ns plan input) ≡ shape ns
+pub written_shape : (ns : ZonedNamespace) (plan : WritePlan) (input : List ℕ) → shape (written_by ns plan input) ≡ shape ns
 written_shape ns plan input =
     let m = closed ns plan.closing in
     with_zone_shape m plan.zone (grown m.capacity (zone_at m plan.zone) (as_blocks m.block input)) ∙ closed_shape ns plan.closing

@@ -16,8 +16,8 @@ use Rattle.image_store.specs.Namespace.{ZoneBlocks, ZonedNamespace, no_zone, zon
 use Rattle.zns_commands.specs.Address.{counted_zone_at, zone_number}
 use Rattle.zns_commands.specs.Laws.{BlocksAreAppended, BlocksKeepNamespaces}
 use Rattle.zns_commands.specs.Resources.{room_by, closing_of}
-use Rattle.zns_commands.specs.Write.{write_plan, written}
 use Rattle.zns_commands.specs.declared.write.WritePlan.{WritePlan}
+use Rattle.zns_commands.specs.steps.Plans.{write_plan, written_by}
 use Rattle.zns_commands.proofs.FittingZones.{one_within}
 use Rattle.zns_commands.proofs.WrittenZones.{written_sound}
 
@@ -87,4 +87,4 @@ blocks_keep_namespaces ns z bytes sound takes are =
 
 pub blocks_are_appended : BlocksAreAppended
 blocks_are_appended ns z bytes sound takes =
-    ap (λ (plan : WritePlan). written ns plan bytes) (sym (open_plan ns no_holds z sound.shape.size_some takes.opened))
+    ap (λ (plan : WritePlan). written_by ns plan bytes) (sym (open_plan ns no_holds z sound.shape.size_some takes.opened))

@@ -23,9 +23,10 @@ use Rattle.zns_commands.specs.Answer.{Effect, success_effect, concluded}
 use Rattle.zns_commands.specs.Append.{append_checks, append_effect}
 use Rattle.zns_commands.specs.Read.{read_refusal, blocks_read, read_checks, read_effect}
 use Rattle.zns_commands.specs.Resources.{room_for, closing_of}
-use Rattle.zns_commands.specs.Write.{write_checks, write_effect, write_plan, written}
+use Rattle.zns_commands.specs.Write.{write_checks, write_effect}
 use Rattle.zns_commands.specs.Laws.{after_events, AreRead, AppendedReadsBack, WrittenReadsBack}
 use Rattle.zns_commands.specs.Meaning.{meaning}
+use Rattle.zns_commands.specs.steps.Plans.{write_plan, written_by}
 use Rattle.zns_commands.proofs.GivenWay.{has_room, written_is}
 use Rattle.zns_commands.proofs.WrittenZones.{brings, pointer_in}
 use Rattle.zns_commands.proofs.KeptBlocks.{KeepsZone, events_keep_zones, written_shape}
@@ -34,7 +35,7 @@ use Rattle.zns_commands.proofs.PassedChecks.{roomed, allowed, zone_inside, appen
 
 -- a namespace, once a zone is written
 written_zone : (ns : ZonedNamespace) (z : ℕ) (gives : Option ℕ) (input : List ℕ) → gives ≢ Some z → z < length ns.zones
-    → zone_at (written ns (record { zone = z; closing = gives }) input) z ≡ grown ns.capacity (zone_at ns z) (as_blocks ns.block input)
+    → zone_at (written_by ns (record { zone = z; closing = gives }) input) z ≡ grown ns.capacity (zone_at ns z) (as_blocks ns.block input)
 written_zone ns z None input other inside =
     get_or-set_same ns.zones z (grown ns.capacity (zone_at ns z) (as_blocks ns.block input)) no_zone inside
 written_zone ns z (Some k) input other inside =
@@ -135,12 +136,12 @@ record Writes (ns : ZonedNamespace) (holds : Holds) (z blocks : ℕ) (input : Li
   room : room_for ns holds (zone_at ns z).state ≡ Ok (closing_of (room_for ns holds (zone_at ns z).state))
 
 written_lie : (ns : ZonedNamespace) (holds : Holds) (z blocks : ℕ) (input : List ℕ) → IsNamespace ns → Writes ns holds z blocks input
-    → BlocksLieAt (written ns (write_plan ns holds z) input) z (length (zone_at ns z).blocks) blocks input
+    → BlocksLieAt (written_by ns (write_plan ns holds z) input) z (length (zone_at ns z).blocks) blocks input
 written_lie ns holds z blocks input sound writes =
     let zone = zone_at ns z in
     let more = as_blocks ns.block input in
     let plan = write_plan ns holds z in
-    let m = written ns plan input in
+    let m = written_by ns plan input in
     let has = has_room ns holds z plan.closing sound writes.inside writes.room in
     let block_some : 1 ≤ ns.block = omega (arith, sound.shape.block_some) in
     let bring = brings ns.block blocks input block_some writes.size in
@@ -168,12 +169,12 @@ written_lie ns holds z blocks input sound writes =
 -- what was written is read of each later namespace that keeps the zone
 reads_later : (ns : ZonedNamespace) (holds : Holds) (z blocks : ℕ) (input : List ℕ) (later : ZonedNamespace) → IsNamespace ns
     → Writes ns holds z blocks input
-    → let m = written ns (write_plan ns holds z) input in
+    → let m = written_by ns (write_plan ns holds z) input in
     KeepsZone m later z → AreRead later (write_pointer ns z) blocks input
 reads_later ns holds z blocks input later sound writes keeps any =
     let w = length (zone_at ns z).blocks in
     let plan = write_plan ns holds z in
-    let m = written ns plan input in
+    let m = written_by ns plan input in
     let lie = lie_on m later z w blocks input (written_lie ns holds z blocks input sound writes) keeps in
     let same_size : later.size ≡ ns.size = ap (λ (s : Shape). s.size) (keeps.same_shape ∙ written_shape ns plan input) in
     let address : z * ns.size + w ≡ z * later.size + w = ap (λ (k : ℕ). z * k + w) (sym same_size) in

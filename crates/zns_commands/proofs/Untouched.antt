@@ -21,9 +21,9 @@ use Rattle.zns_commands.specs.Left.{is_either, touches, OthersAreLeft}
 use Rattle.zns_commands.specs.Laws.{Commanded, Faulted}
 use Rattle.zns_commands.specs.Meaning.{effect_of}
 use Rattle.zns_commands.specs.Resources.{closed}
-use Rattle.zns_commands.specs.Send.{send_effect, zone_plan, takes, swept, led_to}
-use Rattle.zns_commands.specs.Write.{write_plan, written}
+use Rattle.zns_commands.specs.Send.{send_effect, takes, swept, led_to}
 use Rattle.zns_commands.specs.declared.write.WritePlan.{WritePlan}
+use Rattle.zns_commands.specs.steps.Plans.{write_plan, written_by, zone_plan}
 use Rattle.zns_commands.proofs.Meanings.{after_command}
 
 -- of two, neither
@@ -55,7 +55,7 @@ module _ (ns : ZonedNamespace) (d : ℕ) where
   set_left : (m : ZonedNamespace) (z : ℕ) (zone : ZoneBlocks) → nat_eq z d ≡ false → Left m → Left (with_zone m z zone)
   set_left m z zone other left = get_or-set_other m.zones z d zone no_zone (λ (same : d ≡ z). eqb-false z d other (sym same)) ∙ left
 
-  written_left : (plan : WritePlan) (input : List ℕ) → is_either plan.zone plan.closing d ≡ false → Left (written ns plan input)
+  written_left : (plan : WritePlan) (input : List ℕ) → is_either plan.zone plan.closing d ≡ false → Left (written_by ns plan input)
   written_left plan input other =
       let m = closed ns plan.closing in
       let none = neither (nat_eq plan.zone d) (names d plan.closing) other in

@@ -15,7 +15,7 @@ use Rattle.image_store.specs.Namespace.{ZoneBlocks, ZonedNamespace, zone_at, cou
 use Rattle.image_store.proofs.Proved.{block_is_a_part, blocks_are_bytes, blocks_are_counted, writes_keep_zones}
 use Rattle.zns_commands.specs.Address.{counted_zone_at}
 use Rattle.zns_commands.specs.Resources.{room_for}
-use Rattle.zns_commands.specs.Write.{written}
+use Rattle.zns_commands.specs.steps.Plans.{written_by}
 use Rattle.zns_commands.proofs.FittingZones.{FitsIn, zone_fits}
 use Rattle.zns_commands.proofs.GivenWay.{HasRoom, has_room, room_sound, written_is}
 
@@ -102,7 +102,7 @@ write_takes_none ExplicitlyOpened r at n false fits none = record { opened = ome
 
 -- the limits allow a write that isn't refused, whatever is written
 pub written_within : (ns : ZonedNamespace) (z at blocks : ℕ) (gives : Option ℕ) (input : List ℕ) → HasRoom ns z gives
-    → refusal (counted_zone_at ns z) at blocks ≡ Ok tt → IsWithinLimits (written ns (record { zone = z; closing = gives }) input)
+    → refusal (counted_zone_at ns z) at blocks ≡ Ok tt → IsWithinLimits (written_by ns (record { zone = z; closing = gives }) input)
 written_within ns z at blocks gives input has allowed =
     let zone = zone_at ns z in
     let more = as_blocks ns.block input in
@@ -113,7 +113,7 @@ written_within ns z at blocks gives input has allowed =
 pub written_sound : (ns : ZonedNamespace) (holds : Holds) (z at blocks : ℕ) (gives : Option ℕ) (input : List ℕ)
     → IsNamespace ns → z < length ns.zones → 1 ≤ blocks → length input ≡ blocks * ns.block → AreBytes input
     → refusal (counted_zone_at ns z) at blocks ≡ Ok tt → room_for ns holds (zone_at ns z).state ≡ Ok gives
-    → IsNamespace (written ns (record { zone = z; closing = gives }) input)
+    → IsNamespace (written_by ns (record { zone = z; closing = gives }) input)
 written_sound ns holds z at blocks gives input sound inside some size are allowed room =
     let has = has_room ns holds z gives sound inside room in
     let block_some : 1 ≤ ns.block = omega (arith, sound.shape.block_some) in

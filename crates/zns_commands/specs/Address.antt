@@ -19,6 +19,10 @@ zone_block_in ns lba = record { zone = lba / ns.size; offset = lba % ns.size }
 abbrev pub zone_number : ZonedNamespace → ℕ → ℕ
 zone_number ns lba = (zone_block_in ns lba).zone
 
+-- the block's place in that zone
+abbrev pub zone_offset : ZonedNamespace → ℕ → ℕ
+zone_offset ns lba = (zone_block_in ns lba).offset
+
 -- the logical block that a zone's next write goes to (ZNS 1.1, 2.1.1.2)
 abbrev pub write_pointer : ZonedNamespace → ℕ → ℕ
 write_pointer ns z = z * ns.size + length (zone_at ns z).blocks
@@ -38,7 +42,7 @@ address_check ns lba = demand (nat_lt lba (block_total ns)) LBA_OUT_OF_RANGE
 
 -- a logical block is the lowest of its zone
 abbrev pub lowest_check : ZonedNamespace → ℕ → Option Status
-lowest_check ns lba = demand (lba % ns.size == 0) INVALID_FIELD_IN_COMMAND
+lowest_check ns lba = demand (zone_offset ns lba == 0) INVALID_FIELD_IN_COMMAND
 
 -- a range of logical blocks is in the namespace
 abbrev pub range_check : ZonedNamespace → ℕ → ℕ → Option Status
@@ -46,7 +50,7 @@ range_check ns lba blocks = demand (nat_le (lba + blocks) (block_total ns)) LBA_
 
 -- a range of logical blocks is in one zone
 abbrev pub boundary_check : ZonedNamespace → ℕ → ℕ → Option Status
-boundary_check ns lba blocks = demand (nat_le (lba % ns.size + blocks) ns.size) ZONE_BOUNDARY_ERROR
+boundary_check ns lba blocks = demand (nat_le (zone_offset ns lba + blocks) ns.size) ZONE_BOUNDARY_ERROR
 
 -- a zone is named by its lowest logical block
 abbrev pub lowest_checks : ZonedNamespace → ℕ → List (Option Status)

@@ -8,21 +8,24 @@ use Rattle.image_store.specs.Namespace.{ZonedNamespace, zone_at}
 use Rattle.zns_commands.specs.Address.{zone_number, write_pointer, lowest_checks}
 use Rattle.zns_commands.specs.Answer.{Effect, success_effect}
 use Rattle.zns_commands.specs.Transfer.{transfer_checks}
-use Rattle.zns_commands.specs.Write.{zone_write_checks, write_plan, written}
+use Rattle.zns_commands.specs.Write.{zone_write_checks, with_written}
 
--- the checks, in order (the order is profile): the transfer, the address, the zone, which is written
--- from its write pointer on
+-- the checks that need no zone: the transfer, the address
+abbrev pub append_address_checks : ZonedNamespace → ℕ → ℕ → List ℕ → List (Option Status)
+append_address_checks ns lba blocks input = transfer_checks (blocks * ns.block) (blocks * ns.block) input ++ lowest_checks ns lba
+
+-- the checks, in order (the order is profile): those, and then those of the zone, which is written from its
+-- write pointer on
 abbrev pub append_checks : ZonedNamespace → Holds → ℕ → ℕ → List ℕ → List (Option Status)
 append_checks ns holds lba blocks input =
     let z = zone_number ns lba in
-    transfer_checks (blocks * ns.block) (blocks * ns.block) input
-    ++ lowest_checks ns lba
+    append_address_checks ns lba blocks input
     ++ zone_write_checks ns holds z (length (zone_at ns z).blocks) blocks
 
 -- the data is written at the zone's write pointer, which the completion tells
 abbrev pub append_effect : ZonedNamespace → Holds → ℕ → List ℕ → Effect
 append_effect ns holds lba input =
-    let z = zone_number ns lba in success_effect (written ns (write_plan ns holds z) input) (write_pointer ns z) []
+    let z = zone_number ns lba in success_effect (with_written ns holds z input) (write_pointer ns z) []
 
 -- a zone takes whole blocks, one or more, without a further check: it is open and has room for them
 pub record TakesBlocks (ns : ZonedNamespace) (z : ℕ) (bytes : List ℕ) : Type 0 where

@@ -1,5 +1,5 @@
 -- What is refused of the zones that runs use (profile).
-use Rattle.std.specs.Prelude.{ℕ, ◌≡◌, ◌*◌, ◌++◌, Bool, true, false, List, [], Option, unwrap_or}
+use Rattle.std.specs.Prelude.{ℕ, ◌≡◌, ◌++◌, Bool, true, false, List, [], Option, unwrap_or}
 use Rattle.zone_state.specs.declared.status.Status.{Status}
 use Rattle.zone_state.specs.declared.status.TheConstants.Status.{ZONE_HELD}
 use Rattle.zone_state.specs.Checks.{first_failed}
@@ -8,11 +8,13 @@ use Rattle.zone_resources.specs.declared.holds.Holds.{Holds}
 use Rattle.nvme_entry.specs.declared.command.StandardCommand.{StandardCommand}
 use Rattle.nvme_entry.specs.declared.command.StandardCommand.TheVariants.{Write, Read, Send, Receive, Append}
 use Rattle.image_store.specs.Namespace.{ZonedNamespace, counted_zones}
-use Rattle.zns_commands.specs.Address.{zone_number, lowest_checks, range_checks}
+use Rattle.zns_commands.specs.Address.{zone_number, lowest_checks}
 use Rattle.zns_commands.specs.Answer.{refused_effect}
+use Rattle.zns_commands.specs.Append.{append_address_checks}
 use Rattle.zns_commands.specs.Meaning.{meaning}
 use Rattle.zns_commands.specs.Send.{held_among}
 use Rattle.zns_commands.specs.Transfer.{transfer_checks}
+use Rattle.zns_commands.specs.Write.{write_address_checks}
 
 -- is a zone that the command would change held against it?
 abbrev pub is_held_against : ZonedNamespace → Holds → StandardCommand → Bool
@@ -25,8 +27,8 @@ is_held_against ns holds (Receive lba dwords filter partial) = false
 
 -- the checks that such a command meets before it meets the holds: those of its data and of its address
 abbrev pub checks_before_holds : ZonedNamespace → StandardCommand → List ℕ → List (Option Status)
-checks_before_holds ns (Write lba blocks) input = transfer_checks (blocks * ns.block) (blocks * ns.block) input ++ range_checks ns lba blocks
-checks_before_holds ns (Append lba blocks) input = transfer_checks (blocks * ns.block) (blocks * ns.block) input ++ lowest_checks ns lba
+checks_before_holds ns (Write lba blocks) input = write_address_checks ns lba blocks input
+checks_before_holds ns (Append lba blocks) input = append_address_checks ns lba blocks input
 checks_before_holds ns (Send lba action true) input = transfer_checks 0 0 input
 checks_before_holds ns (Send lba action false) input = transfer_checks 0 0 input ++ lowest_checks ns lba
 checks_before_holds ns (Read lba blocks) input = []

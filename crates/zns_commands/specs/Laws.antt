@@ -47,7 +47,7 @@ IsSpelled (Commanded holds (Receive lba dwords filter partial) input) = Unit {0}
 IsSpelled (Faulted holds zone fault) = Unit {0}
 
 -- a namespace stays one, its open and active zones within the limits, whatever commands and faults come
--- (ZNS 1.1, Zone State Machine and Zone Resources)
+-- (ZNS 1.1, 2.1.1)
 abbrev pub EventsKeepNamespaces : Type 0
 EventsKeepNamespaces = (events : List NamespaceEvent) (ns : ZonedNamespace) → IsNamespace ns → All IsSpelled events → IsNamespace (after_events events ns)
 

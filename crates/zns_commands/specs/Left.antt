@@ -1,13 +1,13 @@
 -- What commands and faults leave as it was.
-use Rattle.std.specs.Prelude.{ℕ, ◌≡◌, ◌≤◌, ◌+◌, ◌%◌, ◌++◌, ◌==◌, ◌||◌, Bool, true, false, List, length, take, drop, Option}
+use Rattle.std.specs.Prelude.{ℕ, ◌≡◌, ◌≤◌, ◌+◌, ◌++◌, ◌==◌, ◌||◌, Bool, true, false, List, length, take, drop, Option}
 use Rattle.zone_resources.specs.Holds.{names, is_source, is_destination}
 use Rattle.zone_resources.specs.declared.holds.Holds.{Holds}
 use Rattle.nvme_entry.specs.declared.command.StandardCommand.TheVariants.{Write, Read, Send, Receive, Append}
 use Rattle.image_store.specs.Namespace.{ZonedNamespace, zone_at, shape, IsNamespace}
-use Rattle.zns_commands.specs.Address.{zone_number, blocks_from}
+use Rattle.zns_commands.specs.Address.{zone_number, zone_offset, blocks_from}
 use Rattle.zns_commands.specs.Laws.{NamespaceEvent, Commanded, Faulted, after}
-use Rattle.zns_commands.specs.Send.{zone_plan, takes}
-use Rattle.zns_commands.specs.Write.{write_plan}
+use Rattle.zns_commands.specs.Send.{gives_way_to, takes}
+use Rattle.zns_commands.specs.Resources.{gives_way}
 
 -- the holds under which an event is taken
 abbrev pub holds_of : NamespaceEvent → Holds
@@ -22,12 +22,12 @@ is_either named gives z = named == z || names z gives
 -- those that Select All takes
 abbrev pub touches : ZonedNamespace → NamespaceEvent → ℕ → Bool
 touches ns (Commanded holds (Write lba blocks) input) z =
-    let plan = write_plan ns holds (zone_number ns lba) in is_either plan.zone plan.closing z
+    let named = zone_number ns lba in is_either named (gives_way ns holds (zone_at ns named).state) z
 touches ns (Commanded holds (Append lba blocks) input) z =
-    let plan = write_plan ns holds (zone_number ns lba) in is_either plan.zone plan.closing z
+    let named = zone_number ns lba in is_either named (gives_way ns holds (zone_at ns named).state) z
 touches ns (Commanded holds (Send lba action true) input) z = takes action (zone_at ns z).state
 touches ns (Commanded holds (Send lba action false) input) z =
-    let plan = zone_plan ns holds lba action in is_either plan.zone plan.closing z
+    let named = zone_number ns lba in is_either named (gives_way_to ns holds action (zone_at ns named).state) z
 touches ns (Commanded holds (Read lba blocks) input) z = false
 touches ns (Commanded holds (Receive lba dwords filter partial) input) z = false
 touches ns (Faulted holds zone fault) z = zone == z
@@ -61,5 +61,5 @@ abbrev pub BlocksAreAPart : Type 0
 BlocksAreAPart =
     (ns : ZonedNamespace) (lba count : ℕ) → IsNamespace ns
     → let blocks = (zone_at ns (zone_number ns lba)).blocks in
-    lba % ns.size + count ≤ length blocks
-    → blocks_from ns lba count ≡ take count (drop (lba % ns.size) blocks)
+    zone_offset ns lba + count ≤ length blocks
+    → blocks_from ns lba count ≡ take count (drop (zone_offset ns lba) blocks)

@@ -24,6 +24,10 @@ abbrev pub closing_of : Result (Option ℕ) Status → Option ℕ
 closing_of (Ok closing) = closing
 closing_of (Err status) = None
 
+-- the zone that gives way so that one of this state can be open, if one does
+abbrev pub gives_way : ZonedNamespace → Holds → ZoneState → Option ℕ
+gives_way ns holds state = closing_of (room_for ns holds state)
+
 -- the namespace once the zone that gives way, if one does, is closed
 abbrev pub closed : ZonedNamespace → Option ℕ → ZonedNamespace
 closed ns None = ns

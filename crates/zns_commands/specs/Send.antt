@@ -17,7 +17,6 @@ use Rattle.zone_state.specs.Checks.{demand}
 use Rattle.image_store.specs.Namespace.{ZoneBlocks, ZonedNamespace, zone_at, counted_zones, arrived, with_state}
 use Rattle.zns_commands.specs.Address.{zone_number, lowest_checks}
 use Rattle.zns_commands.specs.Resources.{room_for, why_not, closing_of, closed}
-use Rattle.zns_commands.specs.declared.send.ZonePlan.{ZonePlan}
 use Rattle.zns_commands.specs.Transfer.{transfer_checks}
 
 -- what an action on a zone of this state needs: only Open takes resources
@@ -40,18 +39,18 @@ abbrev pub led_to : Result ZoneState Status → ZoneState → ZoneState
 led_to (Ok to) from = to
 led_to (Err status) from = from
 
--- an action on one zone that isn't refused
-abbrev pub zone_plan : ZonedNamespace → Holds → ℕ → Action → ZonePlan
-zone_plan ns holds lba action =
-    let z = zone_number ns lba in
-    let from = (zone_at ns z).state in
-    record { zone = z; to = led_to (transition action from) from; closing = closing_of (room_of ns holds action from) }
+-- the zone that gives way to one of this state that the action opens, if one does
+abbrev pub gives_way_to : ZonedNamespace → Holds → Action → ZoneState → Option ℕ
+gives_way_to ns holds action state = closing_of (room_of ns holds action state)
 
+-- the zone comes into the state that the action leads to; the one that gives way is closed first
 abbrev pub zone_effect : ZonedNamespace → Holds → ℕ → Action → ZonedNamespace
 zone_effect ns holds lba action =
-    let plan = zone_plan ns holds lba action in with_state (closed ns plan.closing) plan.zone plan.to
+    let z = zone_number ns lba in
+    let from = (zone_at ns z).state in
+    with_state (closed ns (gives_way_to ns holds action from)) z (led_to (transition action from) from)
 
--- does Select All take a zone of this state? (ZNS 1.1, figure 46)
+-- does Select All take a zone of this state? (ZNS 1.1, 3.4.3)
 abbrev pub takes : Action → ZoneState → Bool
 takes action.Close state = is_open state
 takes action.Finish state = is_active state

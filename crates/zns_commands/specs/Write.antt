@@ -1,5 +1,5 @@
 -- Writing to a zone, and Write (NVM Command Set 1.0, 3.2.6; ZNS 1.1, 3.3.6).
-use Rattle.std.specs.Prelude.{ℕ, ◌*◌, ◌%◌, ◌++◌, not, List, [], ◌∷◌, Option}
+use Rattle.std.specs.Prelude.{ℕ, ◌*◌, ◌++◌, not, List, [], ◌∷◌, Option}
 use Rattle.zone_state.specs.Zone.{refusal}
 use Rattle.zone_state.specs.declared.status.Status.{Status}
 use Rattle.zone_state.specs.declared.status.TheConstants.Status.{ZONE_HELD}
@@ -7,10 +7,9 @@ use Rattle.zone_resources.specs.Holds.{is_destination}
 use Rattle.zone_resources.specs.declared.holds.Holds.{Holds}
 use Rattle.zone_state.specs.Checks.{demand}
 use Rattle.image_store.specs.Namespace.{ZonedNamespace, zone_at, appended}
-use Rattle.zns_commands.specs.declared.write.WritePlan.{WritePlan}
-use Rattle.zns_commands.specs.Address.{zone_number, counted_zone_at, range_checks}
+use Rattle.zns_commands.specs.Address.{zone_number, zone_offset, counted_zone_at, range_checks}
 use Rattle.zns_commands.specs.Answer.{Effect, success_effect}
-use Rattle.zns_commands.specs.Resources.{room_for, why_not, closing_of, closed}
+use Rattle.zns_commands.specs.Resources.{room_for, gives_way, why_not, closed}
 use Rattle.zns_commands.specs.Transfer.{transfer_checks}
 
 -- the checks of a write to a zone, from one of its blocks on, in order (the order is profile): the
@@ -23,20 +22,19 @@ zone_write_checks ns holds z at blocks =
     ∷ why_not (room_for ns holds (zone_at ns z).state)
     ∷ []
 
--- a write that isn't refused: the zone, and the one that gives way to it
-abbrev pub write_plan : ZonedNamespace → Holds → ℕ → WritePlan
-write_plan ns holds z = record { zone = z; closing = closing_of (room_for ns holds (zone_at ns z).state) }
-
 -- the bytes go, as blocks, to the zone's write pointer; the zone that gives way is closed first
-abbrev pub written : ZonedNamespace → WritePlan → List ℕ → ZonedNamespace
-written ns plan input = appended (closed ns plan.closing) plan.zone input
+abbrev pub with_written : ZonedNamespace → Holds → ℕ → List ℕ → ZonedNamespace
+with_written ns holds z input = appended (closed ns (gives_way ns holds (zone_at ns z).state)) z input
 
--- the checks of a Write, in order: the transfer, the range, the zone
+-- the checks of a Write that need no zone: the transfer, the range
+abbrev pub write_address_checks : ZonedNamespace → ℕ → ℕ → List ℕ → List (Option Status)
+write_address_checks ns lba blocks input = transfer_checks (blocks * ns.block) (blocks * ns.block) input ++ range_checks ns lba blocks
+
+-- the checks of a Write, in order
 abbrev pub write_checks : ZonedNamespace → Holds → ℕ → ℕ → List ℕ → List (Option Status)
 write_checks ns holds lba blocks input =
-    transfer_checks (blocks * ns.block) (blocks * ns.block) input
-    ++ range_checks ns lba blocks
-    ++ zone_write_checks ns holds (zone_number ns lba) (lba % ns.size) blocks
+    write_address_checks ns lba blocks input
+    ++ zone_write_checks ns holds (zone_number ns lba) (zone_offset ns lba) blocks
 
 abbrev pub write_effect : ZonedNamespace → Holds → ℕ → List ℕ → Effect
-write_effect ns holds lba input = success_effect (written ns (write_plan ns holds (zone_number ns lba)) input) 0 []
+write_effect ns holds lba input = success_effect (with_written ns holds (zone_number ns lba) input) 0 []

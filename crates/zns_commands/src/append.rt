@@ -7,7 +7,7 @@ ghost use Rattle.zns_commands.specs.Address.{IsZoneBlock, zone_number, write_poi
 ghost use Rattle.zns_commands.specs.Answer.{effect_of_answer};
 ghost use Rattle.zns_commands.specs.Append.{append_checks};
 ghost use Rattle.zns_commands.specs.Meaning.{meaning};
-ghost use Rattle.zns_commands.specs.Write.{write_plan, written};
+ghost use Rattle.zns_commands.specs.Write.{with_written};
 
 use crate::address::lowest;
 use crate::answer::Answer;
@@ -43,7 +43,7 @@ fn try_append(
     input: &[u8],
 ) -> Result<u64, Status>
     ensures value { let z = zone_number image.old lba in result ≡ unless_failed (first_failed (append_checks image.old holds.now lba blocks input.now)) (write_pointer image.old z) }
-    ensures ok { OnOk result (image.new ≡ written image.old (write_plan image.old holds.now (zone_number image.old lba)) input.now) }
+    ensures ok { OnOk result (image.new ≡ with_written image.old holds.now (zone_number image.old lba) input.now) }
     ensures err { OnErr result (image.new ≡ image.old) }
 {
     check_data(image, blocks, input)?;

@@ -8,8 +8,9 @@ ghost use Rattle.image_store.specs.Namespace.{zone_at, with_zone, counted_zones,
 ghost use Rattle.zns_commands.specs.Answer.{effect_of_answer};
 ghost use Rattle.zns_commands.specs.Meaning.{meaning};
 ghost use Rattle.zns_commands.specs.Resources.{closed};
-ghost use Rattle.zns_commands.specs.Send.{send_checks, send_effect, room_of, zone_checks, zone_plan, zone_effect, all_checks, all_effect, all_fit, swept, takes, held_among, taken_among};
+ghost use Rattle.zns_commands.specs.Send.{send_checks, send_effect, room_of, zone_checks, zone_effect, all_checks, all_effect, all_fit, swept, takes, held_among, taken_among};
 ghost use Rattle.zns_commands.specs.steps.Accepted.{CanMove};
+ghost use Rattle.zns_commands.specs.steps.Plans.{zone_plan};
 
 use crate::address::lowest;
 use crate::answer::Answer;

@@ -8,8 +8,9 @@ ghost use Rattle.zns_commands.specs.Address.{zone_number};
 ghost use Rattle.zns_commands.specs.Answer.{effect_of_answer};
 ghost use Rattle.zns_commands.specs.Meaning.{meaning};
 ghost use Rattle.zns_commands.specs.Transfer.{transfer_checks};
-ghost use Rattle.zns_commands.specs.Write.{zone_write_checks, write_checks, write_plan, written};
+ghost use Rattle.zns_commands.specs.Write.{zone_write_checks, write_checks, with_written};
 ghost use Rattle.zns_commands.specs.steps.Accepted.{CanWrite, IsWhole};
+ghost use Rattle.zns_commands.specs.steps.Plans.{write_plan, written_by};
 
 use crate::address::range;
 use crate::answer::Answer;
@@ -78,7 +79,7 @@ pub fn check_end(
 pub fn put(image: &mut Image, plan: WritePlan, blocks: BlockCount, input: &[u8])
     requires can { (at : ℕ) × CanWrite image.old at blocks plan }
     requires whole { IsWhole image.old blocks input.now }
-    ensures { image.new ≡ written image.old plan input.now }
+    ensures { image.new ≡ written_by image.old plan input.now }
 {
     give_way(image, plan.zone, plan.closing);
     image.append(plan.zone, input);
@@ -105,7 +106,7 @@ fn try_write(
     input: &[u8],
 ) -> Result<(), Status>
     ensures value { result ≡ unless_failed (first_failed (write_checks image.old holds.now lba blocks input.now)) tt }
-    ensures ok { OnOk result (image.new ≡ written image.old (write_plan image.old holds.now (zone_number image.old lba)) input.now) }
+    ensures ok { OnOk result (image.new ≡ with_written image.old holds.now (zone_number image.old lba) input.now) }
     ensures err { OnErr result (image.new ≡ image.old) }
 {
     check_data(image, blocks, input)?;

@@ -9,7 +9,7 @@ use Rattle.image_store.specs.Blocks.{block_count}
 use Rattle.zns_commands.specs.Resources.{closed}
 use Rattle.zns_commands.specs.declared.write.WritePlan.{WritePlan}
 use Rattle.zns_commands.specs.Address.{counted_zone_at}
-use Rattle.zns_commands.specs.Write.{written}
+use Rattle.zns_commands.specs.steps.Plans.{written_by}
 use Rattle.zns_commands.specs.declared.send.ZonePlan.{ZonePlan}
 use Rattle.zns_commands.specs.Send.{swept}
 
@@ -27,7 +27,7 @@ pub record CanWrite (ns : ZonedNamespace) (at blocks : ℕ) (plan : WritePlan) :
   pub some : 1 ≤ blocks
   pub fits : refusal (counted_zone_at ns plan.zone) at blocks ≡ Ok tt
   pub gives : CanGiveWay ns plan.zone plan.closing
-  pub limits : (bytes : List ℕ) → IsWithinLimits (written ns plan bytes)
+  pub limits : (bytes : List ℕ) → IsWithinLimits (written_by ns plan bytes)
 
 -- the data is whole blocks, as many as the command says
 pub record IsWhole (ns : ZonedNamespace) (blocks : ℕ) (input : List ℕ) : Type 0 where

@@ -2,8 +2,9 @@ use Rattle.std.proofs.Common.{ap, ◌∙◌}
 use Rattle.zone_state.specs.Checks.{first_failed}
 use Rattle.image_store.specs.declared.geometry.ZoneBlock.{ZoneBlock}
 use Rattle.zns_commands.specs.Address.{range_checks, zone_block_in}
-use Rattle.zns_commands.specs.Write.{zone_write_checks, write_plan, written}
+use Rattle.zns_commands.specs.Write.{zone_write_checks}
 use Rattle.zns_commands.specs.declared.write.WritePlan.{WritePlan}
+use Rattle.zns_commands.specs.steps.Plans.{write_plan, written_by}
 use Rattle.zns_commands.proofs.ClosableZones.{allowed_ok}
 use Rattle.zns_commands.proofs.write.try_write.Goals as goal
 
@@ -13,4 +14,4 @@ returns-clause-ok c =
     let place = allowed_ok (first_failed (range_checks ns c.args.lba c.args.blocks)) (zone_block_in ns c.args.lba) c.in_ok-place.place c.in_ok-place.ensures.value in
     let plan = allowed_ok (first_failed (zone_write_checks ns c.args.holds.now c.in_ok-place.place.zone c.in_ok-place.place.offset c.args.blocks)) (write_plan ns c.args.holds.now c.in_ok-place.place.zone) c.in_ok-plan.plan c.in_ok-plan.ensures.value in
     c.put.ensures
-    ∙ ap (λ (p : WritePlan). written ns p c.args.input.now) (plan ∙ ap (λ (p : ZoneBlock). write_plan ns c.args.holds.now p.zone) place)
+    ∙ ap (λ (p : WritePlan). written_by ns p c.args.input.now) (plan ∙ ap (λ (p : ZoneBlock). write_plan ns c.args.holds.now p.zone) place)

@@ -1,0 +1,26 @@
+-- The plans that the code makes of a write and of an action on one zone, before it carries them out.
+use Rattle.std.specs.Prelude.{ℕ, List}
+use Rattle.zone_state.specs.Transition.{transition}
+use Rattle.zone_state.specs.declared.action.Action.{Action}
+use Rattle.zone_resources.specs.declared.holds.Holds.{Holds}
+use Rattle.image_store.specs.Namespace.{ZonedNamespace, zone_at, appended}
+use Rattle.zns_commands.specs.Address.{zone_number}
+use Rattle.zns_commands.specs.Resources.{gives_way, closed}
+use Rattle.zns_commands.specs.Send.{gives_way_to, led_to}
+use Rattle.zns_commands.specs.declared.send.ZonePlan.{ZonePlan}
+use Rattle.zns_commands.specs.declared.write.WritePlan.{WritePlan}
+
+-- a write to a zone that isn't refused, with the zone that gives way to it
+abbrev pub write_plan : ZonedNamespace → Holds → ℕ → WritePlan
+write_plan ns holds z = record { zone = z; closing = gives_way ns holds (zone_at ns z).state }
+
+-- the namespace once the plan of a write is carried out
+abbrev pub written_by : ZonedNamespace → WritePlan → List ℕ → ZonedNamespace
+written_by ns plan input = appended (closed ns plan.closing) plan.zone input
+
+-- an action on one zone that isn't refused
+abbrev pub zone_plan : ZonedNamespace → Holds → ℕ → Action → ZonePlan
+zone_plan ns holds lba action =
+    let z = zone_number ns lba in
+    let from = (zone_at ns z).state in
+    record { zone = z; to = led_to (transition action from) from; closing = gives_way_to ns holds action from }
