@@ -21,7 +21,7 @@ Prints the line of a command file that submits an entry, made of words. Many suc
 which `exec` runs.
 
 An entry goes to queue 1 and has command identifier 1, where `--queue` and `--cid` say nothing else. \
-Numbers are in decimal. A file with data is whole blocks, of 512 bytes where `--block` says nothing else, \
+Numbers are in decimal, or behind `0x` in hexadecimal, as `explain` prints addresses. A file with data is whole blocks, of 512 bytes where `--block` says nothing else, \
 and has at most 131072 bytes; so has a program.";
 
 const EXAMPLE: &str = "\
@@ -32,6 +32,10 @@ Example: a command file that appends a block to the zone of block 8, and reads i
   zscli exec zoned.img work.cmd";
 
 /// How the command stands on the command line.
+///
+/// # Errors
+///
+/// Want of memory.
 pub fn subcommand<'a>(alloc: Global) -> Result<Command<'a>, AllocError> {
     let command = Command::new(alloc, NAME)
         .about("Prints a line of a command file, made of words")
@@ -50,6 +54,11 @@ pub fn subcommand<'a>(alloc: Global) -> Result<Command<'a>, AllocError> {
 }
 
 /// Runs the command.
+///
+/// # Errors
+///
+/// The words ask for no entry, a file can't be read or isn't what a command can move, standard output fails, or memory is
+/// wanting.
 pub fn entry<'a, F: Files, O: Write>(
     alloc: Global,
     line: &mut Command<'a>,

@@ -4,12 +4,12 @@ ghost use Rattle.std.specs.Prelude.{◌≡◌};
 
 use crate::asked::Asked;
 use crate::data_file::read_data;
-use crate::numbers::{address, blocks, slot};
+use crate::numbers::{address, blocks, number, slot};
 use crate::printing::and_target;
 use clap::{Arg, ArgMatches, Command};
 use command_failure::Failure;
 use command_files::Files;
-use command_files::arguments::{and_argument, number, option, required};
+use command_files::arguments::{and_argument, option, required};
 use nvme_entry::{LoadCommand, RunCommand};
 use std::alloc::{AllocError, Global};
 

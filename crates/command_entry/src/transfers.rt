@@ -4,12 +4,12 @@ ghost use Rattle.std.specs.Prelude.{◌≡◌};
 
 use crate::asked::Asked;
 use crate::data_file::{read_data, whole_blocks};
-use crate::numbers::{address, blocks};
+use crate::numbers::{address, blocks, number};
 use crate::printing::and_target;
 use clap::{Arg, ArgMatches, Command};
 use command_failure::Failure;
 use command_files::Files;
-use command_files::arguments::{and_argument, block_size, number, option, required};
+use command_files::arguments::{and_argument, block_option, block_size, option, required};
 use nvme_entry::{BlockCount, StandardCommand};
 use std::alloc::{AllocError, Global};
 
@@ -74,9 +74,9 @@ fn and_data<'a>(
     let data = option(alloc, DATA, "FILE")
         .required(true)
         .help("The file: whole blocks, at most 131072 bytes");
-    let block = option(alloc, BLOCK, "B")
-        .default_value("512")
-        .help("Bytes of a block: a power of 2 from 512 to 16384");
+    let block = block_option(alloc, BLOCK)
+        .required(false)
+        .default_value("512");
     let command = and_argument(Ok(command), lba_option(alloc, address));
     let command = and_argument(command, data);
     let command = and_argument(command, block);

@@ -32,6 +32,8 @@ const PARTIAL: &str = "partial";
 
 const DWORDS: &str = "dwords";
 
+/// The words of `--state`, in the order of the codes of the filters that they name. The states are as `zones`
+/// prints them.
 const STATES: &[&str] = &[
     "all", "empty", "implicit", "explicit", "closed", "full", "readonly", "offline",
 ];
@@ -164,22 +166,15 @@ pub(crate) fn report<'a>(alloc: Global, matches: &ArgMatches<'a>) -> Result<Aske
     let command = StandardCommand::Receive {
         lba: address(matches, LBA)?,
         dwords: dwords(matches, DWORDS)?,
-        filter: filter(required(matches, STATE)),
+        // A word that names no filter is refused before this.
+        filter: filter(required(matches, STATE)).unwrap_or(ZoneFilter::All),
         partial: matches.get_flag(PARTIAL),
     };
     Ok(Asked::alone(alloc, command))
 }
 
-/// The filter with this name, one of [`STATES`]. Another name is refused before this.
-fn filter(name: &str) -> ZoneFilter {
-    match name {
-        "empty" => ZoneFilter::Empty,
-        "implicit" => ZoneFilter::ImplicitlyOpened,
-        "explicit" => ZoneFilter::ExplicitlyOpened,
-        "closed" => ZoneFilter::Closed,
-        "full" => ZoneFilter::Full,
-        "readonly" => ZoneFilter::ReadOnly,
-        "offline" => ZoneFilter::Offline,
-        _ => ZoneFilter::All,
-    }
+/// The filter with this name, one of [`STATES`].
+fn filter(name: &str) -> Option<ZoneFilter> {
+    let code = STATES.iter().position(|state| *state == name)?;
+    ZoneFilter::from_code(u8::try_from(code).ok()?)
 }

@@ -1,6 +1,7 @@
--- What was done, and what was done where an answer is refused.
-use Rattle.std.proofs.Common.{◌≡◌, ℕ, List, Option, Result, Ok, Err, OnOk, OnErr, IfErr, ◌∙◌, subst}
+-- What was done, and what was done where a reply is refused.
+use Rattle.std.proofs.Common.{◌≡◌, ℕ, List, map, Option, Some, None, Result, Ok, Err, OnOk, OnErr, IfErr, IfSome, ◌∙◌, ap, sym, subst}
 use Rattle.image_store.specs.Namespace.{ZonedNamespace}
+use Rattle.image_store.specs.Reading.{namespace_in}
 use Rattle.image_store.specs.Text.{text}
 use Rattle.interval_domain.specs.Intervals.{intervals}
 use Rattle.device_events.specs.Printed.{Printed, Prints}
@@ -14,9 +15,10 @@ use Rattle.pushdown.specs.State.{State, new_state}
 use Rattle.device_events.specs.declared.event.Event.{Event}
 use Rattle.pushdown.proofs.Proved.{served_and_drained}
 use Rattle.runner.specs.declared.device.Stopped.{Stopped}
+use Rattle.event_text.specs.CommandFile.{events_in, told_of}
 use Rattle.event_text.specs.Lines.{line_of}
 use Rattle.command_files.specs.Made.{Made, then_made}
-use Rattle.command_exec.specs.Saved.{HasBegun, HasPrinted, InEvents, InTurns, PrintsAll, PrintsAnswers, SavesAll, SavesFirst, Untold}
+use Rattle.command_exec.specs.Saved.{AreInFiles, Executes, ExecutesFirst, HasBegun, HasPrinted, InEvents, InTurns, PrintsAll, PrintsReplies, SavesAll, SavesFirst, Untold}
 
 pub on_err : {T E fact : Type 0} (result : Result T E) → fact → OnErr result fact
 on_err (Ok value) holds = tt
@@ -89,10 +91,10 @@ prints_all events image old left held before holds after begins first last finis
     (subst (λ (bytes : Option (List ℕ)). HasFinished intervals events old left (HasPrinted bytes after)) first
     (subst (λ (bytes : Option (List ℕ)). HasFinished intervals events old left (HasPrinted held bytes)) last finished))
 
-pub prints_answers : {T E : Type 0} (result : Result T E) (events : List Event) (image : ZonedNamespace) (before after : Option (List ℕ))
-    → OnOk result (PrintsAll events image before after) → OnOk result (PrintsAnswers before after)
-prints_answers (Ok done) events image before after prints = record { events = events; image = image; prints = prints }
-prints_answers (Err error) events image before after prints = tt
+pub prints_replies : {T E : Type 0} (result : Result T E) (events : List Event) (image : ZonedNamespace) (before after : Option (List ℕ))
+    → OnOk result (PrintsAll events image before after) → OnOk result (PrintsReplies before after)
+prints_replies (Ok done) events image before after prints = record { events = events; image = image; prints = prints }
+prints_replies (Err error) events image before after prints = tt
 
 -- the image is saved that a device shows
 module _ (events : List Event) (image shown : ZonedNamespace) (path : List ℕ) (before after : Option (List Made)) (left : State)
@@ -109,4 +111,47 @@ module _ (events : List Event) (image shown : ZonedNamespace) (path : List ℕ) 
     left = left;
     begun = subst (λ (s : State). HasBegun events s left) begins begun;
     made = meant;
+  }
+
+-- the events of a file whose bytes are known
+tells_events : (known : Option (List ℕ)) (file : List ℕ) (events : List Event)
+    → IfSome known (λ bytes. file ≡ bytes) → events_in file ≡ Ok (map told_of events) → IfSome known (λ bytes. events_in bytes ≡ Ok (map told_of events))
+tells_events None file events is tells = tt
+tells_events (Some bytes) file events is tells = ap events_in (sym is) ∙ tells
+
+-- an image was loaded, and then a command file was read, of the files that the command line names; the contents of files
+-- stayed the same, and no file was made
+module _ (contents then : List ℕ → Option (List ℕ)) (path named commands named_commands file : List ℕ) (image : ZonedNamespace) (events : List Event)
+    (before loaded after : Option (List Made)) (same : then ≡ contents) (is_named : path ≡ named) (are_named : commands ≡ named_commands) (kept : loaded ≡ before)
+    (file_is : IfSome (then commands) (λ bytes. file ≡ bytes)) (events_are : events_in file ≡ Ok (map told_of events)) where
+  in_both : IfSome (contents path) (λ bytes. namespace_in bytes ≡ Ok image) → AreInFiles contents named named_commands image events
+  in_both image_is = record {
+    image_is = subst (λ (p : List ℕ). IfSome (contents p) (λ bytes. namespace_in bytes ≡ Ok image)) is_named image_is;
+    events_are = tells_events (contents named_commands) file events
+        (subst (λ (c : List ℕ). IfSome (contents c) (λ bytes. file ≡ bytes)) are_named
+        (subst (λ (c : List ℕ → Option (List ℕ)). IfSome (c commands) (λ bytes. file ≡ bytes)) same file_is)) events_are;
+  }
+
+  -- what `run` does of them is what the command does of the files
+  pub executes : {T E : Type 0} (reads makes : Type 0) (printed printed_after : Option (List ℕ)) (result : Result T E)
+      → (reads → IfSome (contents path) (λ bytes. namespace_in bytes ≡ Ok image))
+      → OnOk result (makes → SavesAll events image path loaded after printed printed_after)
+      → OnOk result (reads → makes → Executes contents named named_commands before after printed printed_after)
+  executes reads makes printed printed_after (Err error) image_is saves = tt
+  executes reads makes printed printed_after (Ok done) image_is saves = λ read make. record {
+    image = image;
+    events = events;
+    in_files = in_both (image_is read);
+    saves = subst (λ (p : List ℕ). SavesAll events image p before after printed printed_after) is_named
+        (subst (λ (made : Option (List Made)). SavesAll events image path made after printed printed_after) kept (saves make));
+  }
+
+  pub executes_first : IfSome (contents path) (λ bytes. namespace_in bytes ≡ Ok image) → SavesFirst events image path loaded after
+      → ExecutesFirst contents named named_commands before after
+  executes_first image_is saves = record {
+    image = image;
+    events = events;
+    in_files = in_both image_is;
+    saves = subst (λ (p : List ℕ). SavesFirst events image p before after) is_named
+        (subst (λ (made : Option (List Made)). SavesFirst events image path made after) kept saves);
   }

@@ -3,8 +3,9 @@
 ghost use Rattle.std.specs.Prelude.{◌≡◌, ◌≢◌, ◌≤◌, ◌<◌, ◌+◌, ◌^◌, length, OnOk, OnErr, IfErr};
 ghost use Rattle.interval_domain.specs.Intervals.{intervals};
 ghost use Rattle.pushdown.specs.Parts.{HasFinished};
+ghost use Rattle.command_files.specs.Arguments.{value_of};
 ghost use Rattle.command_files.specs.Made.{MakesOne};
-ghost use Rattle.command_exec.specs.Saved.{HasBegun, HasPrinted, PrintsAll, PrintsAnswers, SavesAll, SavesFirst};
+ghost use Rattle.command_exec.specs.Saved.{Executes, ExecutesFirst, HasBegun, HasPrinted, PrintsAll, PrintsReplies, SavesAll, SavesFirst};
 
 use clap::{Arg, ArgMatches, Command};
 use command_failure::Failure;
@@ -29,8 +30,8 @@ Runs the events of a command file on an image, one after another. Then it gives 
 are left, always to the one of the lowest number, until each has ended. It prints a line for each event \
 and for each of these turns, and writes the image back, as they left it.
 
-A command file is ASCII text with an event on each line. Words are separated by spaces or tabs, \
-and `;` begins a comment.
+A command file is ASCII text with an event on each line, which `entry` makes of words. Words are separated by \
+spaces or tabs, and `;` begins a comment.
 
   submit QUEUE ENTRY [DATA]   a submission queue entry, and the data that stands beside it
   turn RUN                    a turn for a run
@@ -40,7 +41,7 @@ and `;` begins a comment.
 QUEUE is from 0 to 65535, RUN from 0 to 255 and ZONE from 0 to 4294967295, in decimal. ENTRY is 64 bytes and DATA any number \
 of bytes, in hexadecimal. Where a line isn't of this form, no event happens.
 
-What is printed:
+What is printed, which `explain` says in words:
 
   cpl QUEUE ENTRY [DATA]      a completion queue entry, and the data that was read
   pending RUN                 the run was admitted, or has turns left
@@ -60,6 +61,10 @@ Example, in the folder of the sources:
   zscli exec zoned.img examples/pushdown.cmd";
 
 /// How the command stands on the command line.
+///
+/// # Errors
+///
+/// Want of memory.
 pub fn subcommand<'a>(alloc: Global) -> Result<Command<'a>, AllocError> {
     let image = Arg::new(alloc, IMAGE)
         .required(true)
@@ -76,15 +81,21 @@ pub fn subcommand<'a>(alloc: Global) -> Result<Command<'a>, AllocError> {
 }
 
 /// Runs the command. Of the failures, that of standard output alone leaves a new image.
+///
+/// # Errors
+///
+/// A file can't be read or is refused, the image can't be written, standard output fails, or memory is wanting.
 pub fn exec<'a, F: Files, O: Write>(
     alloc: Global,
     matches: &ArgMatches<'a>,
     files: &mut F,
     out: &mut O,
 ) -> Result<(), Failure<'a>>
-    ensures printed { OnOk result (PrintsAnswers (O.contents out.old) (O.contents out.new)) }
+    ensures executed { OnOk result (F.Reader.tells → F.Writer.tells → Executes (F.contents files.old) (value_of matches.now IMAGE.now) (value_of matches.now COMMANDS.now) (F.made files.old) (F.made files.new) (O.contents out.old) (O.contents out.new)) }
+    ensures stopped { result ≡ Err Failure.CannotPrint → F.Reader.tells → F.Writer.tells → ExecutesFirst (F.contents files.old) (value_of matches.now IMAGE.now) (value_of matches.now COMMANDS.now) (F.made files.old) (F.made files.new) }
+    ensures printed { OnOk result (PrintsReplies (O.contents out.old) (O.contents out.new)) }
     ensures made { OnOk result (MakesOne (F.made files.old) (F.made files.new)) }
-    ensures stopped { result ≡ Err Failure.CannotPrint → MakesOne (F.made files.old) (F.made files.new) }
+    ensures one { result ≡ Err Failure.CannotPrint → MakesOne (F.made files.old) (F.made files.new) }
     ensures kept { IfErr result (λ failure. failure ≢ Failure.CannotPrint → F.made files.new ≡ F.made files.old) }
 {
     let path = required(matches, IMAGE);

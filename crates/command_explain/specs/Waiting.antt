@@ -1,8 +1,16 @@
 -- The submissions that wait for their completions.
-use Rattle.std.specs.Prelude.{ℕ, ◌≡◌, Bool, ◌==◌, ◌&&◌, List, Option, None, MatchOption, position, remove, slice_get}
+use Rattle.std.specs.Prelude.{ℕ, ◌≡◌, Bool, ◌==◌, ◌&&◌, List, Option, Some, None, MatchOption, position, remove, slice_get}
 use Rattle.std.specs.Option.{option_map}
+use Rattle.device_events.specs.declared.event.Event.{Event}
+use Rattle.device_events.specs.declared.event.Event.TheVariants as event
 use Rattle.nvme_entry.specs.Entry.{identifier_of}
 use Rattle.command_explain.specs.declared.waiting.Submission.{Submission}
+
+-- the submission that an event is
+abbrev pub submission_of : Event → Option Submission
+submission_of (event.Submit queue entry input) = Some (record { queue = queue; entry = entry })
+submission_of (event.Turn run) = None
+submission_of (event.Fault zone state) = None
 
 -- is it from this queue, with this command identifier?
 abbrev pub is_of : ℕ → ℕ → Submission → Bool

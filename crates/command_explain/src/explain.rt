@@ -41,6 +41,10 @@ Example, in the folder of the sources:
   zscli explain replies --commands examples/pushdown.cmd";
 
 /// How the command stands on the command line.
+///
+/// # Errors
+///
+/// Want of memory.
 pub fn subcommand<'a>(alloc: Global) -> Result<Command<'a>, AllocError> {
     let file = Arg::new(alloc, FILE)
         .required(true)
@@ -57,6 +61,10 @@ pub fn subcommand<'a>(alloc: Global) -> Result<Command<'a>, AllocError> {
 }
 
 /// Runs the command.
+///
+/// # Errors
+///
+/// A file can't be read or is refused, standard output fails, or memory is wanting.
 pub fn explain<'a, F: Files, O: Write>(
     alloc: Global,
     matches: &ArgMatches<'a>,
@@ -67,12 +75,12 @@ pub fn explain<'a, F: Files, O: Write>(
 {
     let path = required(matches, FILE);
     let file = read(path, files)?;
-    let answers = replies(alloc, file.as_slice()).map_err(|error| no_replies(path, error))?;
+    let printed_replies = replies(alloc, file.as_slice()).map_err(|error| no_replies(path, error))?;
     let mut waiting = match matches.get_str(COMMANDS) {
         Some(path) => Some(submissions(alloc, path, files)?),
         None => None,
     };
-    printed(tell(answers.as_slice(), &mut waiting, out))
+    printed(tell(printed_replies.as_slice(), &mut waiting, out))
 }
 
 /// The submissions of a command file.
@@ -98,14 +106,14 @@ fn no_replies<'a>(path: &'a str, error: ReplyFileError) -> Failure<'a>
     }
 }
 
-/// Prints each answer in words.
+/// Prints each reply in words.
 fn tell<O: Write>(
-    answers: &[ReplyWithData],
+    replies: &[ReplyWithData],
     waiting: &mut Option<Waiting>,
     out: &mut O,
 ) -> io::Result<()> {
-    for answer in answers {
-        tell_one(answer.reply, answer.bytes.as_slice(), waiting, out)?;
+    for told in replies {
+        tell_one(told.reply, told.bytes.as_slice(), waiting, out)?;
     }
     Ok(())
 }

@@ -14,7 +14,7 @@ use Rattle.image_store.specs.Refusal.{fault_of}
 use Rattle.image_store.specs.declared.fault.LoadFault.{LoadFault}
 use Rattle.image_store.specs.declared.refusal.GeometryRefusal.{GeometryRefusal}
 use Rattle.command_failure.specs.declared.failure.Failure.{Failure}
-use Rattle.command_failure.specs.declared.failure.Failure.TheVariants.{CommandLine, NotText, NotNumber, NotInRange, CannotRead, CannotWrite, CannotPrint, NoMemory, LineRefused, ReplyRefused, GeometryRefused, ImageRefused, AssemblyRefused, ProgramRefused, FrameRefused, DataRefused, EmitExceedsBlock, NotAccepted}
+use Rattle.command_failure.specs.declared.failure.Failure.TheVariants.{CommandLine, NotText, NotInRange, CannotRead, CannotWrite, CannotPrint, NoMemory, LineRefused, ReplyRefused, GeometryRefused, ImageRefused, AssemblyRefused, ProgramRefused, FrameRefused, DataRefused, EmitExceedsBlock, NotAccepted}
 
 -- a text: one that is said here, one around words that another crate has, one that another crate has, or none
 pub data Text : Type 0 where
@@ -31,12 +31,10 @@ line text = Said (text ++ 10 ∷ [])
 abbrev pub sentence : List ℕ → List ℕ → Text
 sentence front behind = Around front (10 ∷ behind ++ 10 ∷ [])
 
--- a word of the command line that is no number, or not one from the lowest to the highest
-abbrev pub number_text : List ℕ → Text
-number_text word = line (codes "error: '" ++ word ++ codes "' is not a number from 0 to 4294967295")
-
-abbrev pub range_text : List ℕ → ℕ → ℕ → Text
-range_text word low high = line (codes "error: '" ++ word ++ codes "' is not a number from " ++ decimal low ++ codes " to " ++ decimal high)
+-- the word of an option that is no number from the least to the most
+abbrev pub range_text : List ℕ → List ℕ → ℕ → ℕ → Text
+range_text option word least most =
+    line (codes "error: '" ++ word ++ codes "' for --" ++ option ++ codes " is not a number from " ++ decimal least ++ codes " to " ++ decimal most)
 
 -- what is refused, by the file's name and the line or the refusal
 abbrev pub at_line : List ℕ → ℕ → List ℕ → List ℕ
@@ -72,8 +70,7 @@ data_text file = Around (file ++ codes " ") (10 ∷ [])
 abbrev pub text_of : Failure → Text
 text_of (CommandLine error) = Elsewhere
 text_of NotText = line (codes "error: a word of the command line isn't text")
-text_of (NotNumber text) = number_text text.now
-text_of (NotInRange text low high) = range_text text.now low high
+text_of (NotInRange option word least most) = range_text option.now word.now least most
 text_of (CannotRead path) = line (codes "cannot read " ++ path.now)
 text_of (CannotWrite path) = line (codes "cannot write " ++ path.now)
 text_of CannotPrint = line (codes "cannot write -")

@@ -22,8 +22,13 @@ use std::io::{self, ErrorKind, Write};
 pub enum Failure<'a> {
     CommandLine(clap::Error),
     NotText,
-    NotNumber(&'a str),
-    NotInRange(&'a str, u64, u64),
+    /// The word of an option is no number from the least to the most.
+    NotInRange {
+        option: &'a str,
+        word: &'a str,
+        least: u64,
+        most: u64,
+    },
     CannotRead(&'a str),
     CannotWrite(&'a str),
     /// Standard output failed.
@@ -107,8 +112,7 @@ impl<'a> Failure<'a> {
             | Failure::NoMemory => 1,
             Failure::CommandLine(_)
             | Failure::NotText
-            | Failure::NotNumber(_)
-            | Failure::NotInRange(..)
+            | Failure::NotInRange { .. }
             | Failure::EmitExceedsBlock => 2,
             Failure::LineRefused { .. }
             | Failure::ReplyRefused { .. }

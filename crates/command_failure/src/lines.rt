@@ -2,7 +2,7 @@
 
 ghost use Rattle.std.specs.Prelude.{◌++◌, ◌∷◌, [], codes, decimal, IfSome, OnOk};
 ghost use Rattle.std.specs.Io.KnownBytes.{Appends};
-ghost use Rattle.command_failure.specs.Lines.{IsPrinted, assembly_text, at_line, data_text, frame_text, geometry_text, image_text, line, line_text, number_text, program_text, range_text, reply_text, sentence, text_of};
+ghost use Rattle.command_failure.specs.Lines.{IsPrinted, assembly_text, at_line, data_text, frame_text, geometry_text, image_text, line, line_text, program_text, range_text, reply_text, sentence, text_of};
 
 use crate::data_fault::DataFault;
 use crate::failure::Failure;
@@ -30,8 +30,12 @@ impl Failure<'_> {
             // This text has a line end of its own.
             Failure::CommandLine(error) => write!(out, "{error}"),
             Failure::NotText => print_line(out, "error: a word of the command line isn't text"),
-            Failure::NotNumber(text) => print_number(out, text),
-            Failure::NotInRange(text, low, high) => print_range(out, text, *low, *high),
+            Failure::NotInRange {
+                option,
+                word,
+                least,
+                most,
+            } => print_range(out, option, word, *least, *most),
             Failure::CannotRead(path) => print_line(out, format_args!("cannot read {path}")),
             Failure::CannotWrite(path) => print_line(out, format_args!("cannot write {path}")),
             Failure::CannotPrint => print_line(out, "cannot write -"),
@@ -59,16 +63,19 @@ fn print_line<W: Write, D: Display + Drop>(out: &mut W, text: D) -> io::Result<(
     writeln!(out, "{text}")
 }
 
-fn print_number<W: Write>(out: &mut W, text: &str) -> io::Result<()>
-    ensures { OnOk result (IsPrinted (number_text text.now) (W.contents out.old) (W.contents out.new)) }
+fn print_range<W: Write>(
+    out: &mut W,
+    option: &str,
+    word: &str,
+    least: u64,
+    most: u64,
+) -> io::Result<()>
+    ensures { OnOk result (IsPrinted (range_text option.now word.now least most) (W.contents out.old) (W.contents out.new)) }
 {
-    writeln!(out, "error: '{text}' is not a number from 0 to 4294967295")
-}
-
-fn print_range<W: Write>(out: &mut W, text: &str, low: u64, high: u64) -> io::Result<()>
-    ensures { OnOk result (IsPrinted (range_text text.now low high) (W.contents out.old) (W.contents out.new)) }
-{
-    writeln!(out, "error: '{text}' is not a number from {low} to {high}")
+    writeln!(
+        out,
+        "error: '{word}' for --{option} is not a number from {least} to {most}"
+    )
 }
 
 fn print_line_fault<W: Write>(

@@ -62,13 +62,19 @@ pub fn required<'a>(matches: &ArgMatches<'a>, id: &str) -> &'a str
     }
 }
 
-/// The number that an argument spells, which is required or has a default: decimal digits alone.
-pub fn number<'a>(matches: &ArgMatches<'a>, id: &str) -> Result<u32, Failure<'a>> {
-    let text = required(matches, id);
-    match decimal(text.as_bytes()) {
-        Some(number) => Ok(number),
-        None => Err(Failure::NotNumber(text)),
-    }
+/// The number that the word of an option spells, which is required or has a default: decimal digits alone.
+///
+/// # Errors
+///
+/// [`Failure::NotInRange`] where the word spells no number of 32 bits.
+pub fn number<'a>(matches: &ArgMatches<'a>, option: &'a str) -> Result<u32, Failure<'a>> {
+    let word = required(matches, option);
+    decimal(word.as_bytes()).ok_or(Failure::NotInRange {
+        option,
+        word,
+        least: 0,
+        most: u64::from(u32::MAX),
+    })
 }
 
 /// The block size of so many bytes.

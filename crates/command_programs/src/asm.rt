@@ -1,7 +1,8 @@
 //! The command `asm`: text to a program.
 
-ghost use Rattle.std.specs.Prelude.{◌≡◌, OnOk, OnErr};
+ghost use Rattle.std.specs.Prelude.{◌≡◌, IfSome, OnOk, OnErr};
 ghost use Rattle.ebpf_asm.specs.Assembly.{assembled};
+ghost use Rattle.command_files.specs.Arguments.{value_of};
 ghost use Rattle.command_files.specs.Made.{MakesOne};
 ghost use Rattle.command_programs.specs.Made.{MakesProgram};
 ghost use Rattle.command_programs.specs.UserTold.{IsToldOfAssembly};
@@ -39,6 +40,10 @@ Example: a program that emits the first 8 bytes of each block whose first byte i
   done: exit";
 
 /// How the command stands on the command line.
+///
+/// # Errors
+///
+/// Want of memory.
 pub fn subcommand<'a>(alloc: Global) -> Result<Command<'a>, AllocError> {
     let text = Arg::new(alloc, TEXT)
         .required(true)
@@ -55,11 +60,16 @@ pub fn subcommand<'a>(alloc: Global) -> Result<Command<'a>, AllocError> {
 }
 
 /// Runs the command.
+///
+/// # Errors
+///
+/// The text can't be read or is refused, the program can't be written, or memory is wanting.
 pub fn asm<'a, F: Files>(
     alloc: Global,
     matches: &ArgMatches<'a>,
     files: &mut F,
 ) -> Result<(), Failure<'a>>
+    ensures program { OnOk result (IfSome (F.contents files.old (value_of matches.now TEXT.now)) (λ text. MakesProgram (F.made files.old) (F.made files.new) (value_of matches.now PROGRAM.now) (assembled text))) }
     ensures made { OnOk result (MakesOne (F.made files.old) (F.made files.new)) }
     ensures kept { OnErr result (F.made files.new ≡ F.made files.old) }
 {

@@ -39,6 +39,10 @@ Example: the program of the bytes b700000000000000 9500000000000000.
      1  exit";
 
 /// How the command stands on the command line.
+///
+/// # Errors
+///
+/// Want of memory.
 pub fn subcommand<'a>(alloc: Global) -> Result<Command<'a>, AllocError> {
     let program = Arg::new(alloc, PROGRAM)
         .required(true)
@@ -56,6 +60,10 @@ pub fn subcommand<'a>(alloc: Global) -> Result<Command<'a>, AllocError> {
 }
 
 /// Runs the command.
+///
+/// # Errors
+///
+/// The program can't be read or is refused, standard output fails, or memory is wanting.
 pub fn disasm<'a, F: Files, O: Write>(
     alloc: Global,
     matches: &ArgMatches<'a>,

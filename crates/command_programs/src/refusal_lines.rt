@@ -4,7 +4,7 @@ use accepted_programs::{Facts, Reason};
 use command_files::Counted;
 use instruction_set::{Insn, Operation, Register, Source};
 use interval_domain::{Fact, Intervals};
-use program_interface::{Area, RunSizes};
+use program_interface::{Area, EMIT, FRAME_LENGTH_BYTES, RunSizes};
 use std::io::{self, Write};
 use word_domain::{Domain, Offsets};
 
@@ -117,10 +117,11 @@ impl Refused<'_> {
         let most = self.facts.get(Register::from_number(2)).bounds().high;
         let before = Counted(emitted, "byte");
         let frame = Counted(most, "byte");
-        let after = u128::from(emitted) + 2 + u128::from(most);
+        let length = FRAME_LENGTH_BYTES as u64;
+        let after = u128::from(emitted) + u128::from(length) + u128::from(most);
         writeln!(
             out,
-            "behind {before}, 2 for its length and {frame} come to {after}, and {limit} may be emitted"
+            "behind {before}, {length} for its length and {frame} come to {after}, and {limit} may be emitted"
         )
     }
 
@@ -229,7 +230,7 @@ fn registers_read(insn: &Insn) -> [Option<Register>; 2] {
         Insn::Arithmetic { dst, source, .. } | Insn::Branch { dst, source, .. } => {
             both(dst, source)
         }
-        Insn::Call { helper: 1 } => [
+        Insn::Call { helper: EMIT } => [
             Some(Register::from_number(1)),
             Some(Register::from_number(2)),
         ],
@@ -242,7 +243,7 @@ fn registers_read(insn: &Insn) -> [Option<Register>; 2] {
 }
 
 fn both(register: Register, source: Source) -> [Option<Register>; 2] {
-    let other = register_in(source).filter(|other| other.index() != register.index());
+    let other = register_in(source).filter(|other| *other != register);
     [Some(register), other]
 }
 

@@ -6,6 +6,7 @@ use ebpf_asm::instruction_text;
 use instruction_set::{Insn, Register};
 use interp::Machine;
 use program_interface::{Area, REGISTERS};
+use program_meaning::Cause;
 use std::alloc::Global;
 use std::io::{self, Write};
 use word_domain::Offsets;
@@ -61,6 +62,18 @@ pub(crate) fn tell_changes<'a, O: Write>(
         printed(write!(out, "  r{number} = {word:#x}"))?;
     }
     printed(writeln!(out))
+}
+
+/// Prints an instruction that can't be done, behind its slot, and why.
+pub(crate) fn tell_cause<'a, O: Write>(
+    alloc: Global,
+    slot: usize,
+    insn: &Insn,
+    cause: Cause,
+    out: &mut O,
+) -> Result<(), Failure<'a>> {
+    let text = instruction_text(alloc, insn)?;
+    printed(writeln!(out, "{slot:4}  {text}: {cause}"))
 }
 
 /// Prints what was emitted.

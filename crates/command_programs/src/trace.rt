@@ -7,7 +7,7 @@ ghost use Rattle.program_interface.specs.Context.{context_bytes};
 
 use crate::program::read_program;
 use crate::sizes::run_sizes;
-use crate::step_lines::{Emitting, tell_changes};
+use crate::step_lines::{Emitting, tell_cause, tell_changes};
 use clap::{Arg, ArgAction, ArgMatches, Command};
 use command_failure::{Failure, printed};
 use command_files::arguments::{and_argument, block_size, number, option, required};
@@ -15,6 +15,7 @@ use command_files::{Files, read};
 use instruction_set::Program;
 use interp::{Machine, Step};
 use program_interface::{BlockSize, CONTEXT_BYTES, Context, LARGEST_BLOCK, SCRATCH_BYTES};
+use program_meaning::Cause;
 use std::alloc::{AllocError, Global};
 use std::io::{self, Write};
 
@@ -41,8 +42,17 @@ executes, and then how the run ended:
   trap SLOT CAUSE     at an instruction that can't be done
   fuel                after as many steps as it was given
 
+  1 the next slot is outside the program
+  2 the next slot is a wide instruction's second
+  3 a write to R10
+  4 a load outside
+  5 a store outside, or into the context or the block
+  6 a helper other than 1
+  7 an emit from outside
+  8 an emit of no bytes, or over the limit
+
 With --registers each slot has its instruction behind it, and what that changed: the register that it \
-writes, with its word, or for emit how many bytes were emitted, and from where.
+writes, with its word, or for emit how many bytes were emitted, and from where; or why it can't be done.
 
 The block is at LBA 0, the first and only one of its run. Its size is the file's length: a power of 2 \
 from 512 to 16384 bytes.";
@@ -62,14 +72,18 @@ Example: the program of `asm --help`, on a block that begins with a 7.
   exit 0 7 08000700000000000000";
 
 /// How the command stands on the command line.
+///
+/// # Errors
+///
+/// Want of memory.
 pub fn subcommand<'a>(alloc: Global) -> Result<Command<'a>, AllocError> {
     let program = Arg::new(alloc, PROGRAM)
         .required(true)
         .help("The program, as instruction bytes");
     let block = Arg::new(alloc, BLOCK).required(true).help("The block");
-    let emit = option(alloc, EMIT, "E")
-        .default_value("0")
-        .help("The most bytes that may be emitted");
+    let emit = option(alloc, EMIT, "E").help(
+        "The most bytes that may be emitted: all of a block's, where it says nothing",
+    );
     let argument = option(alloc, ARGUMENT, "A")
         .default_value("0")
         .help("The argument of the run");
@@ -92,7 +106,12 @@ pub fn subcommand<'a>(alloc: Global) -> Result<Command<'a>, AllocError> {
     and_argument(command, registers)
 }
 
-/// Runs the command.
+/// Runs the command. A trap is no failure.
+///
+/// # Errors
+///
+/// A word is no number, a file can't be read or is refused, the limit exceeds the block, standard output fails, or memory
+/// is wanting.
 pub fn trace<'a, F: Files, O: Write>(
     alloc: Global,
     matches: &ArgMatches<'a>,
@@ -110,7 +129,8 @@ pub fn trace<'a, F: Files, O: Write>(
 /// What a user asks for.
 #[derive(Clone, Copy)]
 struct Asked {
-    limit: u32,
+    /// The most bytes that may be emitted, where that is said.
+    limit: Option<u32>,
     argument: u32,
     fuel: u32,
     /// Each instruction, and the register that it changed.
@@ -118,8 +138,12 @@ struct Asked {
 }
 
 fn asked_for<'a>(matches: &ArgMatches<'a>) -> Result<Asked, Failure<'a>> {
+    let limit = match matches.get_str(EMIT) {
+        Some(_) => Some(number(matches, EMIT)?),
+        None => None,
+    };
     Ok(Asked {
-        limit: number(matches, EMIT)?,
+        limit,
         argument: number(matches, ARGUMENT)?,
         fuel: number(matches, FUEL)?,
         registers: matches.get_flag(REGISTERS),
@@ -135,7 +159,7 @@ fn run_asked<'a, O: Write>(
     out: &mut O,
 ) -> Result<(), Failure<'a>> {
     let size = block_size(block.len())?;
-    let sizes = run_sizes(size, asked.limit)?;
+    let sizes = run_sizes(size, asked.limit.unwrap_or(size.bytes()))?;
     let mut group = vec![in alloc; 0; sizes.limit() as usize]?;
     let context = first_and_only(size, asked.argument);
     let tracer = Tracer {
@@ -209,12 +233,10 @@ impl Tracer<'_> {
                 Step::Exit { r0 } => {
                     self.tell(slot, machine, emitting, out)?;
                     let steps = machine.steps();
-                    return printed(tell_exit(out, r0, steps, &group[..machine.group_len()]));
+                    let group = hex::encode(self.alloc, &group[..machine.group_len()])?;
+                    return printed(tell_exit(out, r0, steps, group.as_str()));
                 }
-                Step::Trap { slot, cause } => {
-                    let number = cause.number();
-                    return printed(writeln!(out, "trap {slot} {number}"));
-                }
+                Step::Trap { slot, cause } => return self.tell_trap(slot, cause, out),
             }
         }
         printed(writeln!(out, "fuel"))
@@ -235,16 +257,55 @@ impl Tracer<'_> {
             _ => printed(writeln!(out, "{slot}")),
         }
     }
+
+    /// Prints the end of a run by a trap: the slot of the instruction and the cause, and if that is asked for the
+    /// instruction before it.
+    fn tell_trap<'a, O: Write>(
+        &self,
+        slot: usize,
+        cause: Cause,
+        out: &mut O,
+    ) -> Result<(), Failure<'a>> {
+        match self.program.at(slot) {
+            Some(insn) if self.registers => tell_cause(self.alloc, slot, insn, cause, out)?,
+            _ => {}
+        }
+        let number = cause.number();
+        printed(writeln!(out, "trap {slot} {number}"))
+    }
 }
 
-/// Prints the end of a run by EXIT.
-fn tell_exit<O: Write>(out: &mut O, r0: u64, steps: u64, group: &[u8]) -> io::Result<()> {
-    write!(out, "exit {r0} {steps} ")?;
-    if group.is_empty() {
-        return writeln!(out, "-");
+/// Prints the end of a run by EXIT, with what it emitted in hexadecimal.
+fn tell_exit<O: Write>(out: &mut O, r0: u64, steps: u64, group: &str) -> io::Result<()> {
+    let group = if group.is_empty() { "-" } else { group };
+    writeln!(out, "exit {r0} {steps} {group}")
+}
+
+#[cfg(test)]
+mod tests {
+    use super::LONG_ABOUT;
+    use program_meaning::Cause;
+    use std::test::Fail;
+
+    const CAUSES: [Cause; 8] = [
+        Cause::NextOutside,
+        Cause::NextInsideWide,
+        Cause::WriteToFramePointer,
+        Cause::LoadOutside,
+        Cause::StoreOutside,
+        Cause::UnknownHelper,
+        Cause::EmitOutside,
+        Cause::EmitLength,
+    ];
+
+    /// The help lists each cause by its number, in the words that a trap is explained with.
+    #[test]
+    fn help_has_the_words_of_each_cause(rt: HostRuntime) -> Result<(), Fail> {
+        for cause in CAUSES {
+            let number = cause.number();
+            let line = format!(in rt.alloc(); "{number} {cause}")?;
+            assert!(rt; LONG_ABOUT.contains(line.as_str()), "{line}");
+        }
+        Ok(())
     }
-    for byte in group {
-        write!(out, "{byte:02x}")?;
-    }
-    writeln!(out)
 }

@@ -32,6 +32,10 @@ Example: a block that begins 0300616263 holds the record 616263.
   zscli unpack blocks.bin --block 512";
 
 /// How the command stands on the command line.
+///
+/// # Errors
+///
+/// Want of memory.
 pub fn subcommand<'a>(alloc: Global) -> Result<Command<'a>, AllocError> {
     let file = Arg::new(alloc, FILE)
         .required(true)
@@ -46,6 +50,11 @@ pub fn subcommand<'a>(alloc: Global) -> Result<Command<'a>, AllocError> {
 }
 
 /// Runs the command.
+///
+/// # Errors
+///
+/// A word is no number or no block size, the file can't be read or is refused, standard output fails, or memory is
+/// wanting.
 pub fn unpack<'a, F: Files, O: Write>(
     alloc: Global,
     matches: &ArgMatches<'a>,

@@ -16,7 +16,7 @@ use interval_domain::Intervals;
 use program_interface::RunSizes;
 use std::alloc::{AllocError, Global};
 use std::io::{self, Write};
-use verifier::{Judgement, VerifyFault, judge as judge_over, verify as verify_over};
+use verifier::{Judgement, judge};
 
 /// The command's name.
 pub const NAME: &str = "verify";
@@ -58,6 +58,10 @@ Example: the program of `asm --help`, with a limit that is too low.
   r2 is 8";
 
 /// How the command stands on the command line.
+///
+/// # Errors
+///
+/// Want of memory.
 pub fn subcommand<'a>(alloc: Global) -> Result<Command<'a>, AllocError> {
     let program = Arg::new(alloc, PROGRAM)
         .required(true)
@@ -81,6 +85,11 @@ pub fn subcommand<'a>(alloc: Global) -> Result<Command<'a>, AllocError> {
 }
 
 /// Runs the command.
+///
+/// # Errors
+///
+/// [`Failure::NotAccepted`] where the program isn't accepted. Else a word is no number or no block size, the file can't be
+/// read or is refused, the limit exceeds the block, standard output fails, or memory is wanting.
 pub fn verify<'a, F: Files, O: Write>(
     alloc: Global,
     matches: &ArgMatches<'a>,
@@ -93,60 +102,39 @@ pub fn verify<'a, F: Files, O: Write>(
     let limit = number(matches, EMIT)?;
     let program = read_program(alloc, required(matches, PROGRAM), files)?;
     let sizes = run_sizes(block_size(block as usize)?, limit)?;
-    if matches.get_flag(EXPLAIN) {
-        explain(alloc, &program, sizes, out)
-    } else {
-        answer(alloc, program, sizes, out)
-    }
-}
-
-/// Prints whether a program is accepted.
-fn answer<'a, O: Write>(
-    alloc: Global,
-    program: Program,
-    sizes: RunSizes,
-    out: &mut O,
-) -> Result<(), Failure<'a>> {
+    let judgement = judge::<Intervals>(alloc, &program, sizes)?;
     let instructions = program.len();
-    match verify_over::<Intervals>(alloc, program, sizes) {
-        Ok(_) => printed(tell_accepted(instructions, out)),
-        Err(VerifyFault::Refused(refusal)) => {
-            printed(tell_refused(refusal, out))?;
-            Err(Failure::NotAccepted)
-        }
-        Err(VerifyFault::Memory) => Err(Failure::NoMemory),
-    }
-}
-
-/// Prints whether a program is accepted, and what is known.
-fn explain<'a, O: Write>(
-    alloc: Global,
-    program: &Program,
-    sizes: RunSizes,
-    out: &mut O,
-) -> Result<(), Failure<'a>> {
-    match judge_over::<Intervals>(alloc, program, sizes)? {
+    match judgement {
         Judgement::Accepted { most_emitted } => {
-            printed(explain_accepted(program.len(), most_emitted, out))
+            let explained = matches.get_flag(EXPLAIN).then_some(most_emitted);
+            printed(tell_accepted(instructions, explained, out))
         }
         Judgement::Refused { refusal, facts } => {
-            explain_refused(alloc, program, sizes, refusal, &*facts, out)
+            printed(tell_refused(refusal, out))?;
+            if matches.get_flag(EXPLAIN) {
+                explain_refused(alloc, &program, sizes, refusal, &*facts, out)?;
+            }
+            Err(Failure::NotAccepted)
         }
     }
 }
 
-fn explain_accepted<O: Write>(
+/// Prints that a program of so many instructions is accepted and, if that is asked for, the most that a block can take.
+fn tell_accepted<O: Write>(
     instructions: usize,
-    most_emitted: usize,
+    most_emitted: Option<usize>,
     out: &mut O,
 ) -> io::Result<()> {
-    tell_accepted(instructions, out)?;
-    let taken = Counted(instructions as u64, "step");
-    let emitted = Counted(most_emitted as u64, "byte");
-    writeln!(out, "for a block at most {taken}, and {emitted} emitted")
+    writeln!(out, "accepted {instructions}")?;
+    if let Some(bytes) = most_emitted {
+        let taken = Counted(instructions as u64, "step");
+        let emitted = Counted(bytes as u64, "byte");
+        writeln!(out, "for a block at most {taken}, and {emitted} emitted")?;
+    }
+    Ok(())
 }
 
-/// Prints why a program isn't accepted, and gives the failure that this is.
+/// Prints why a program isn't accepted: the instruction, the reason and what is known there.
 fn explain_refused<'a, O: Write>(
     alloc: Global,
     program: &Program,
@@ -157,7 +145,7 @@ fn explain_refused<'a, O: Write>(
 ) -> Result<(), Failure<'a>> {
     let Refusal { slot, reason } = refusal;
     let Some(insn) = program.at(slot) else {
-        return Err(Failure::NotAccepted);
+        return Ok(());
     };
     let text = instruction_text(alloc, insn)?;
     let refused = Refused {
@@ -167,14 +155,8 @@ fn explain_refused<'a, O: Write>(
         sizes,
         facts,
     };
-    printed(tell_refused(refusal, out))?;
     printed(writeln!(out, "{slot:4}  {text}"))?;
-    printed(refused.tell(reason, out))?;
-    Err(Failure::NotAccepted)
-}
-
-fn tell_accepted<O: Write>(instructions: usize, out: &mut O) -> io::Result<()> {
-    writeln!(out, "accepted {instructions}")
+    printed(refused.tell(reason, out))
 }
 
 fn tell_refused<O: Write>(refusal: Refusal, out: &mut O) -> io::Result<()> {

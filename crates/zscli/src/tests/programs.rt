@@ -136,6 +136,11 @@ const TRACED: &[Act] = &[
         "zscli trace events block --emit 10",
         "0\n1\n2\n3\n4\n5\n6\nexit 0 7 08000700000000000000\n",
     ),
+    // With no limit said, it is the block's size.
+    Act::Prints(
+        "zscli trace events block",
+        "0\n1\n2\n3\n4\n5\n6\nexit 0 7 08000700000000000000\n",
+    ),
     // 8 bytes and their length are 10.
     Act::Prints(
         "zscli trace events block --emit 9",
@@ -212,7 +217,8 @@ const TRACED_WITH_REGISTERS: &[Act] = &[
     ),
     Act::Prints(
         "zscli trace made block --emit 9 --registers",
-        "   0  mov r1, r2  r1 = 0x200000000\n   1  add r1, 16  r1 = 0x200000010\n   2  mov r2, 8  r2 = 0x8\ntrap 3 8\n",
+        "   0  mov r1, r2  r1 = 0x200000000\n   1  add r1, 16  r1 = 0x200000010\n   2  mov r2, 8  r2 = 0x8\n\
+\x20  3  call 1: an emit of no bytes, or over the limit\ntrap 3 8\n",
     ),
 ];
 
