@@ -7,6 +7,10 @@ use Rattle.command_files.specs.declared.memory_files.NamedFile.{NamedFile}
 abbrev pub made_of : List NamedFile → List Made
 made_of files = map (λ file. record { path = string_bytes file.name; bytes = file.bytes.items }) files
 
--- the bytes of the last of these files that has this name, where one has it
+-- the last of these files that has this name
+abbrev pub last_named : List NamedFile → List ℕ → Option NamedFile
+last_named files path = find (λ file. bytes_eq (string_bytes file.name) path) (reverse files)
+
+-- its bytes
 abbrev pub bytes_named : List NamedFile → List ℕ → Option (List ℕ)
-bytes_named files path = option_map (λ file. file.bytes.items) (find (λ file. bytes_eq (string_bytes file.name) path) (reverse files))
+bytes_named files path = option_map (λ file. file.bytes.items) (last_named files path)

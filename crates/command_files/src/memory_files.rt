@@ -2,7 +2,7 @@
 
 ghost use Rattle.std.specs.Prelude.{◌≡◌, List, [], ◌∷◌, ◌++◌, drop, Some, OnOk, OnErr, option_copied};
 ghost use Rattle.command_files.specs.Made.{Made};
-ghost use Rattle.command_files.specs.MemoryFiles.{bytes_named, made_of};
+ghost use Rattle.command_files.specs.MemoryFiles.{bytes_named, last_named, made_of};
 
 use crate::files::{FileError, Files};
 use image_store::{Sink, Source, StreamFault};
@@ -77,12 +77,20 @@ impl MemoryFiles {
     pub fn bytes(&self, name: &str) -> Option<&[u8]>
         ensures { option_copied result ≡ bytes_named self.now.files.items name.now }
     {
-        let file = self
-            .files
+        match self.named(name) {
+            Some(file) => Some(file.bytes.as_slice()),
+            None => None,
+        }
+    }
+
+    /// The last file that was made with this name.
+    fn named(&self, name: &str) -> Option<&NamedFile>
+        ensures { option_copied result ≡ last_named self.now.files.items name.now }
+    {
+        self.files
             .iter()
             .rev()
-            .find(|file| file.name.as_str() == name)?;
-        Some(file.bytes.as_slice())
+            .find(|file| file.name.as_str() == name)
     }
 }
 

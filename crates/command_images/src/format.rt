@@ -1,8 +1,10 @@
 //! The command `format`: a new image.
 
-ghost use Rattle.std.specs.Prelude.{◌≡◌, OnOk, OnErr};
+ghost use Rattle.std.specs.Prelude.{◌≡◌, codes, IfOk, OnOk, OnErr};
+ghost use Rattle.command_files.specs.Arguments.{value_of};
 ghost use Rattle.command_files.specs.Made.{MakesOne};
-ghost use Rattle.image_store.specs.Geometry.{shape_of};
+ghost use Rattle.image_store.specs.Geometry.{shape_of, tested};
+ghost use Rattle.command_images.specs.Images.{MakesEmpty};
 ghost use Rattle.command_images.specs.UserTold.{told_of_geometry};
 
 use crate::image_file;
@@ -47,6 +49,10 @@ Example: 4 zones of 8 blocks, 6 of them writable, at most 2 of the zones open an
   zscli format zoned.img --block 512 --zones 4 --size 8 --capacity 6 --open 2 --active 3";
 
 /// How the command stands on the command line.
+///
+/// # Errors
+///
+/// Want of memory.
 pub fn subcommand<'a>(alloc: Global) -> Result<Command<'a>, AllocError> {
     let image = Arg::new(alloc, IMAGE)
         .required(true)
@@ -80,11 +86,17 @@ fn count<'a>(alloc: Global, name: &'a str, letter: &'a str, help: &'a str) -> Ar
 }
 
 /// Runs the command.
+///
+/// # Errors
+///
+/// A word is no number, the numbers are no geometry, the image can't be written, or memory is wanting. No file is
+/// made then.
 pub fn format<'a, F: Files>(
     alloc: Global,
     matches: &ArgMatches<'a>,
     files: &mut F,
 ) -> Result<(), Failure<'a>>
+    ensures empty { OnOk result (F.Writer.tells → MakesEmpty (value_of matches.now (codes "IMAGE")) (F.made files.old) (F.made files.new)) }
     ensures made { OnOk result (MakesOne (F.made files.old) (F.made files.new)) }
     ensures kept { OnErr result (F.made files.new ≡ F.made files.old) }
 {
@@ -94,7 +106,9 @@ pub fn format<'a, F: Files>(
 }
 
 /// The geometry that the options spell.
-fn geometry<'a>(matches: &ArgMatches<'a>) -> Result<Geometry, Failure<'a>> {
+fn geometry<'a>(matches: &ArgMatches<'a>) -> Result<Geometry, Failure<'a>>
+    ensures { IfOk result (λ shape. tested shape ≡ Ok shape) }
+{
     let block = number(matches, BLOCK)?;
     let zones = number(matches, ZONES)?;
     let size = number(matches, SIZE)?;

@@ -12,12 +12,16 @@ use image_store::{Image, LoadFault};
 use std::alloc::Global;
 
 /// The image that a file holds.
+///
+/// # Errors
+///
+/// The file can't be read, its first fault as an image, or want of memory.
 pub fn load<'a, F: Files>(alloc: Global, path: &'a str, files: &mut F) -> Result<Image, Failure<'a>>
     ensures made { F.made files.new ≡ F.made files.old }
     ensures contents { F.contents files.new ≡ F.contents files.old }
     ensures image { F.Reader.tells → IfOk result (λ image. IfSome (F.contents files.old path.now) (λ bytes. namespace_in bytes ≡ Ok image)) }
     ensures refused { F.Reader.tells → IfErr result (λ failure. IfSome (F.contents files.old path.now) (RefusesImage failure)) }
-    ensures elsewhere { result ≢ Err Failure.CannotPrint }
+    ensures not_printing { result ≢ Err Failure.CannotPrint }
 {
     let mut file = match files.open(path) {
         Ok(file) => file,
@@ -31,11 +35,7 @@ pub fn load<'a, F: Files>(alloc: Global, path: &'a str, files: &mut F) -> Result
 
 /// What the user is told of an image that was not loaded.
 fn refused<'a>(path: &'a str, fault: LoadFault) -> Failure<'a>
-    ensures told { result ≡ told_of_image path.entry fault }
-    ensures stream { fault ≡ LoadFault.Stream → result ≡ Failure.CannotRead path.entry }
-    ensures memory { fault ≡ LoadFault.Memory → result ≡ Failure.NoMemory }
-    ensures others { fault ≢ LoadFault.Stream → fault ≢ LoadFault.Memory → result ≡ Failure.ImageRefused path.entry fault }
-    ensures elsewhere { result ≢ Failure.CannotPrint }
+    ensures { result ≡ told_of_image path.entry fault }
 {
     match fault {
         LoadFault::Stream => Failure::CannotRead(path),
@@ -44,13 +44,16 @@ fn refused<'a>(path: &'a str, fault: LoadFault) -> Failure<'a>
     }
 }
 
-/// Makes a file of an image, in place of the one with this name. Where that fails, the file is as
-/// it was.
+/// Makes a file of an image, in place of the one with this name.
+///
+/// # Errors
+///
+/// The file can't be written, or memory is wanting. It is as it was then.
 pub fn save<'a, F: Files>(image: &Image, path: &'a str, files: &mut F) -> Result<(), Failure<'a>>
     ensures saved { OnOk result (F.Writer.tells → F.made files.new ≡ then_made (F.made files.old) path.now (text image.now)) }
     ensures made { OnOk result (MakesOne (F.made files.old) (F.made files.new)) }
     ensures kept { OnErr result (F.made files.new ≡ F.made files.old) }
-    ensures elsewhere { result ≢ Err Failure.CannotPrint }
+    ensures not_printing { result ≢ Err Failure.CannotPrint }
 {
     let mut file = match files.begin(path) {
         Ok(file) => file,

@@ -1,7 +1,9 @@
 //! The command `upgrade`: an image in the last version.
 
-ghost use Rattle.std.specs.Prelude.{◌≡◌, OnOk, OnErr};
+ghost use Rattle.std.specs.Prelude.{◌≡◌, codes, OnOk, OnErr};
+ghost use Rattle.command_files.specs.Arguments.{value_of};
 ghost use Rattle.command_files.specs.Made.{MakesOne};
+ghost use Rattle.command_images.specs.Images.{MakesAnew};
 
 use crate::image_file;
 use clap::{Arg, ArgMatches, Command};
@@ -29,6 +31,10 @@ Example:
   zscli upgrade zoned.img";
 
 /// How the command stands on the command line.
+///
+/// # Errors
+///
+/// Want of memory.
 pub fn subcommand<'a>(alloc: Global) -> Result<Command<'a>, AllocError> {
     let image = Arg::new(alloc, IMAGE)
         .required(true)
@@ -41,11 +47,16 @@ pub fn subcommand<'a>(alloc: Global) -> Result<Command<'a>, AllocError> {
 }
 
 /// Runs the command.
+///
+/// # Errors
+///
+/// The image can't be read, is refused, or can't be written, or memory is wanting. The file is as it was then.
 pub fn upgrade<'a, F: Files>(
     alloc: Global,
     matches: &ArgMatches<'a>,
     files: &mut F,
 ) -> Result<(), Failure<'a>>
+    ensures same { OnOk result (F.Reader.tells → F.Writer.tells → MakesAnew (F.contents files.old (value_of matches.now (codes "IMAGE"))) (value_of matches.now (codes "IMAGE")) (F.made files.old) (F.made files.new)) }
     ensures made { OnOk result (MakesOne (F.made files.old) (F.made files.new)) }
     ensures kept { OnErr result (F.made files.new ≡ F.made files.old) }
 {

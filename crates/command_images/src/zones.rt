@@ -31,6 +31,10 @@ Example:
   zscli zones zoned.img";
 
 /// How the command stands on the command line.
+///
+/// # Errors
+///
+/// Want of memory.
 pub fn subcommand<'a>(alloc: Global) -> Result<Command<'a>, AllocError> {
     let image = Arg::new(alloc, IMAGE).required(true).help("The image");
     Command::new(alloc, NAME)
@@ -41,6 +45,10 @@ pub fn subcommand<'a>(alloc: Global) -> Result<Command<'a>, AllocError> {
 }
 
 /// Runs the command.
+///
+/// # Errors
+///
+/// The image can't be read or is refused, standard output fails, or memory is wanting.
 pub fn zones<'a, F: Files, O: Write>(
     alloc: Global,
     matches: &ArgMatches<'a>,

@@ -1,0 +1,32 @@
+-- What is known of the images that commands make.
+use Rattle.std.proofs.Common.{◌≡◌, ℕ, List, Option, Result, Ok, Err, OnOk, IfSome, ap, subst, ◌∙◌}
+use Rattle.image_store.specs.Geometry.{Shape, tested}
+use Rattle.image_store.specs.Namespace.{ZonedNamespace, all_empty}
+use Rattle.image_store.specs.Reading.{namespace_in}
+use Rattle.image_store.specs.Text.{text}
+use Rattle.command_files.specs.Made.{Made, then_made}
+use Rattle.command_images.specs.Images.{MakesEmpty, MakesAnew}
+
+-- of an image that has nothing written, a file was made
+pub makes_empty : {T E : Type 0} (tells : Type 0) (result : Result T E) (image : ZonedNamespace) (shape : Shape) (path wanted : List ℕ) (before after : Option (List Made))
+    → tested shape ≡ Ok shape → image ≡ all_empty shape → path ≡ wanted
+    → OnOk result (tells → after ≡ then_made before path (text image)) → OnOk result (tells → MakesEmpty wanted before after)
+makes_empty tells (Err error) image shape path wanted before after passes empty same saved = tt
+makes_empty tells (Ok done) image shape path wanted before after passes empty same saved = λ told. record {
+  shape = shape;
+  passes = passes;
+  made = saved told ∙ ap (λ (p : List ℕ). then_made before p (text image)) same ∙ ap (λ (ns : ZonedNamespace). then_made before wanted (text ns)) empty;
+}
+
+-- an image was loaded of the files of before, and its file was made
+pub makes_anew : {T E : Type 0} (reads writes : Type 0) (result : Result T E) (contents : List ℕ → Option (List ℕ)) (image : ZonedNamespace) (path wanted : List ℕ)
+    (before loaded after : Option (List Made)) → path ≡ wanted → loaded ≡ before
+    → (reads → IfSome (contents path) (λ bytes. namespace_in bytes ≡ Ok image))
+    → OnOk result (writes → after ≡ then_made loaded path (text image))
+    → OnOk result (reads → writes → MakesAnew (contents wanted) wanted before after)
+makes_anew reads writes (Err error) contents image path wanted before loaded after same kept held saved = tt
+makes_anew reads writes (Ok done) contents image path wanted before loaded after same kept held saved = λ read write. record {
+  namespace = image;
+  held = subst (λ (p : List ℕ). IfSome (contents p) (λ bytes. namespace_in bytes ≡ Ok image)) same (held read);
+  made = saved write ∙ ap (λ (made : Option (List Made)). then_made made path (text image)) kept ∙ ap (λ (p : List ℕ). then_made before p (text image)) same;
+}
