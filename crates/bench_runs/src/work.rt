@@ -53,7 +53,7 @@ fn must(device: &mut Device, event: &Event, data: &mut [u8]) -> Result<()>
     requires { MOST_TRANSFER ≤ length data.old }
     ensures { MOST_TRANSFER ≤ length data.new }
 {
-    let reply = device.step(event, data);
+    let reply = device.apply(event, data);
     ensure!(is_done(&reply), "refused: {reply:?}");
     Ok(())
 }
@@ -95,7 +95,7 @@ fn start(
     must(device, &open(lowest, Vec::new(alloc)), data)?;
     let order = run(0, blocks, lowest, Vec::new(alloc));
     let begin = Instant::now(rt)?;
-    let reply = device.step(&order, data);
+    let reply = device.apply(&order, data);
     let spent = begin.elapsed(rt)?.as_nanos();
     ensure!(is_done(&reply), "refused: {reply:?}");
     Ok(spent)
@@ -109,7 +109,7 @@ fn repeat(device: &mut Device, event: &Event, times: u32, data: &mut [u8]) -> (b
     let mut done = true;
     let mut last = Reply::Idle;
     for _ in 0..times {
-        last = device.step(event, data);
+        last = device.apply(event, data);
         done &= is_done(&last);
     }
     (done, last)
@@ -179,7 +179,7 @@ pub fn refusal(
     let begin = Instant::now(rt)?;
     let mut admitted = false;
     for order in &orders {
-        admitted |= is_done(&device.step(order, data));
+        admitted |= is_done(&device.apply(order, data));
     }
     let spent = begin.elapsed(rt)?.as_nanos();
     ensure!(!admitted, "a Run was admitted");
@@ -208,7 +208,7 @@ pub fn events(
     let begin = Instant::now(rt)?;
     let mut done = true;
     for event in events {
-        done &= is_done(&device.step(event, data));
+        done &= is_done(&device.apply(event, data));
     }
     let spent = begin.elapsed(rt)?.as_nanos();
     ensure!(done, "a Read was refused");

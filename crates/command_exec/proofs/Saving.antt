@@ -40,7 +40,7 @@ stops_in_events events old new took done stopped = InEvents done (record {
   occurrences = stopped.occurrences;
   are = stopped.are;
   state = stopped.state;
-  answers = tt;
+  replies = tt;
 })
 
 module _ (events : List Event) (old between new : State) (before then after : ℕ × Printed) (served : HasServed intervals events old between (Took before then)) where
@@ -56,7 +56,7 @@ module _ (events : List Event) (old between new : State) (before then after : �
         runs = finished.runs;
         drains = finished.drains;
         state = finished.state;
-        answers = finished.answers.1.texts (count ∙ none);
+        replies = finished.replies.1.texts (count ∙ none);
         none_left = finished.none_left;
       }
 
@@ -65,7 +65,7 @@ module _ (events : List Event) (old between new : State) (before then after : �
       → OnErr result (HasBegun events old new)
   stops_in_turns (Ok done) stopped = tt
   stops_in_turns (Err error) stopped = InTurns between error.done
-      (record { occurrences = served.occurrences; are = served.are; state = served.state; answers = tt })
+      (record { occurrences = served.occurrences; are = served.are; state = served.state; replies = tt })
       (record {
         runs = stopped.runs;
         lowest = stopped.lowest;
@@ -73,14 +73,14 @@ module _ (events : List Event) (old between new : State) (before then after : �
         given = stopped.given;
         few = stopped.few;
         state = stopped.state;
-        answers = tt;
+        replies = tt;
       })
 
   -- it goes on printing to the same writer
   pub same_writer : (result : Result (Unit {0}) Stopped) → OnOk result (HasDrained between new (Took then after))
       → IfErr result (λ stopped. StopsDraining between new (Took then after) stopped.done) → after.0 ≡ before.0
-  same_writer (Ok done) drained stopped = drained.answers.0 ∙ served.answers.0
-  same_writer (Err error) drained stopped = stopped.answers.0 ∙ served.answers.0
+  same_writer (Ok done) drained stopped = drained.replies.0 ∙ served.replies.0
+  same_writer (Err error) drained stopped = stopped.replies.0 ∙ served.replies.0
 
 -- a device began with an image; its writer held so much before the lines were printed, and so much it holds now
 pub prints_all : (events : List Event) (image : ZonedNamespace) (old left : State) (held before holds after : Option (List ℕ))

@@ -10,7 +10,7 @@ use command_failure::{Failure, printed};
 use command_files::arguments::{and_argument, option, required};
 use command_files::{Files, read};
 use device_events::Reply;
-use event_text::{ReplyFileError, ReplyWithData, parse, replies};
+use event_text::{ReplyFileError, ToldReply, parse, replies};
 use nvme_entry::Completion;
 use std::alloc::{AllocError, Global};
 use std::io::{self, Write};
@@ -108,7 +108,7 @@ fn no_replies<'a>(path: &'a str, error: ReplyFileError) -> Failure<'a>
 
 /// Prints each reply in words.
 fn tell<O: Write>(
-    replies: &[ReplyWithData],
+    replies: &[ToldReply],
     waiting: &mut Option<Waiting>,
     out: &mut O,
 ) -> io::Result<()> {

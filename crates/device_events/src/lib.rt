@@ -1,4 +1,4 @@
-//! What happens to a device, what it answers, and what takes its answers.
+//! What happens to a device, what it replies, and what takes its replies.
 #![tactic(auto)]
 
 mod event;

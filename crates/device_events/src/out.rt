@@ -19,7 +19,11 @@ pub trait Out {
     /// How many replies it refused.
     ghost refused: { Self → ℕ };
 
-    /// Takes a reply with the bytes of its data, or refuses it.
+    /// Takes a reply with the bytes of its data.
+    ///
+    /// # Errors
+    ///
+    /// The reply is refused.
     fn take(&mut self, reply: Reply, bytes: &[u8]) -> Result<(), NotTaken>
         requires { refused self.old + 1 < 2 ^ 64 }
         ensures ok { OnOk result (took self.old self.new (record { reply = reply; bytes = bytes.now } ∷ [])) }

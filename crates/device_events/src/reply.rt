@@ -1,9 +1,9 @@
-//! What a device answers.
+//! What a device replies.
 
 ghost use Rattle.std.specs.Prelude.{◌≡◌};
 ghost use Rattle.device_events.specs.Replies.{data_length};
 
-/// The answer to an event.
+/// The reply to an event.
 #[derive(Clone, Copy, Debug, PartialEq, Eq)]
 pub enum Reply {
     /// The completion of a submitted entry, with `length` bytes of data.

@@ -18,8 +18,9 @@ reply_text Idle bytes = codes "idle"
 reply_text FaultTaken bytes = codes "done"
 reply_text FaultRefused bytes = codes "refused"
 
+-- with the end of its line
 abbrev pub line_text : Reply → List ℕ → List ℕ
 line_text reply bytes = reply_text reply bytes ++ 10 ∷ []
 
 abbrev pub line_of : ReplyWithData → List ℕ
-line_of answer = line_text answer.reply answer.bytes
+line_of given = line_text given.reply given.bytes

@@ -10,6 +10,7 @@
 ghost use Rattle.std.specs.Prelude.{◌≡◌, ◌^◌, map, option_and_then, Ok, IfOk, IfErr};
 ghost use Rattle.text_lines.specs.Number.{decimal_of};
 ghost use Rattle.event_text.specs.Words.{words_of};
+ghost use Rattle.event_text.specs.declared.command_file.LineError.TheVariants.{Refused};
 ghost use Rattle.event_text.specs.declared.command_file.ParseError.TheVariants.{OutOfMemory};
 ghost use Rattle.event_text.specs.CommandFile.{told_of, below, submission_of, turn_of, fault_of, state_named, event_named as named_event, line_told, events_in, RefusesFile};
 ghost use Rattle.event_text.specs.steps.ReadLines.{entry_reason, data_reason, GivesEvent, GivesLine};
@@ -25,8 +26,13 @@ use zone_state::FaultState;
 /// Why a command file has no events.
 #[derive(Clone, Copy, Debug, PartialEq, Eq)]
 pub enum ParseError {
-    /// The number of a line, the first being 1, and why it has no event.
-    Line { number: usize, fault: LineFault },
+    /// A line has no event.
+    Line {
+        /// The line's number, the first being 1.
+        number: usize,
+        /// Why it has none.
+        fault: LineFault,
+    },
     /// No memory for the events.
     OutOfMemory,
 }
@@ -70,7 +76,7 @@ fn event_of(alloc: Global, line: &[u8]) -> Result<Option<Event>, LineError>
     ensures { GivesLine result (line_told line.now) }
 {
     if !is_all_ascii(line) {
-        return Err(LineError::Refused(LineFault::NotAscii(other_bytes(line))));
+        return Err(LineFault::NotAscii(other_bytes(line)).into());
     }
     let mut words = Words::new(without_comment(line));
     let Some(name) = words.next() else {
@@ -94,7 +100,7 @@ fn event_named(alloc: Global, name: &[u8], words: Words<'_>) -> Result<Event, Li
         b"submit" => submit(alloc, words),
         b"turn" => turn(words),
         b"fault" => fault(words),
-        _ => Err(LineError::Refused(LineFault::NoSuchEvent(words.shown()))),
+        _ => Err(LineFault::NoSuchEvent(words.shown()).into()),
     }
 }
 
@@ -102,16 +108,12 @@ fn submit(alloc: Global, words: Words<'_>) -> Result<Event, LineError>
     ensures { GivesEvent result (submission_of (words_of words.entry.rest.now)) }
 {
     let line = words.shown();
-    let Some((queue, entry, input)) = words.three() else {
-        return Err(LineError::Refused(LineFault::SubmitWords(line)));
-    };
-    let Some(number) = queue_number(queue) else {
-        return Err(LineError::Refused(LineFault::Queue(Excerpt::of(queue))));
-    };
+    let (queue, entry, input) = words.three().ok_or(LineFault::SubmitWords(line))?;
+    let queue = queue_number(queue).ok_or(LineFault::Queue(Excerpt::of(queue)))?;
     let entry = <[u8; 64]>::from_hex(entry).map_err(|error| entry_error(error, entry.len()))?;
     let input = hex::decode(alloc, input).map_err(|error| data_error(error, input.len()))?;
     Ok(Event::Submit {
-        queue: number,
+        queue,
         entry,
         input,
     })
@@ -130,13 +132,12 @@ fn entry_error(error: FromHexError, characters: usize) -> LineError
 {
     match error {
         FromHexError::OutOfMemory => LineError::OutOfMemory,
-        FromHexError::InvalidHexCharacter { c, index } => LineError::Refused(
-            LineFault::EntryDigit {
-                character: c,
-                before: index,
-            },
-        ),
-        _ => LineError::Refused(LineFault::EntryLength(characters)),
+        FromHexError::InvalidHexCharacter { c, index } => LineFault::EntryDigit {
+            character: c,
+            before: index,
+        }
+        .into(),
+        _ => LineFault::EntryLength(characters).into(),
     }
 }
 
@@ -146,13 +147,12 @@ fn data_error(error: FromHexError, characters: usize) -> LineError
 {
     match error {
         FromHexError::OutOfMemory => LineError::OutOfMemory,
-        FromHexError::InvalidHexCharacter { c, index } => LineError::Refused(
-            LineFault::DataDigit {
-                character: c,
-                before: index,
-            },
-        ),
-        _ => LineError::Refused(LineFault::DataLength(characters)),
+        FromHexError::InvalidHexCharacter { c, index } => LineFault::DataDigit {
+            character: c,
+            before: index,
+        }
+        .into(),
+        _ => LineFault::DataLength(characters).into(),
     }
 }
 
@@ -160,13 +160,9 @@ fn turn(words: Words<'_>) -> Result<Event, LineError>
     ensures { GivesEvent result (turn_of (words_of words.entry.rest.now)) }
 {
     let line = words.shown();
-    let Some(word) = words.one() else {
-        return Err(LineError::Refused(LineFault::TurnWords(line)));
-    };
-    match run_number(word) {
-        Some(run) => Ok(Event::Turn { run }),
-        None => Err(LineError::Refused(LineFault::Run(Excerpt::of(word)))),
-    }
+    let word = words.one().ok_or(LineFault::TurnWords(line))?;
+    let run = run_number(word).ok_or(LineFault::Run(Excerpt::of(word)))?;
+    Ok(Event::Turn { run })
 }
 
 /// A number below 2^8.
@@ -180,19 +176,10 @@ fn fault(words: Words<'_>) -> Result<Event, LineError>
     ensures { GivesEvent result (fault_of (words_of words.entry.rest.now)) }
 {
     let line = words.shown();
-    let Some((zone, state)) = words.two() else {
-        return Err(LineError::Refused(LineFault::FaultWords(line)));
-    };
-    let Some(number) = decimal(zone) else {
-        return Err(LineError::Refused(LineFault::Zone(Excerpt::of(zone))));
-    };
-    match fault_state(state) {
-        Some(state) => Ok(Event::Fault {
-            zone: number,
-            state,
-        }),
-        None => Err(LineError::Refused(LineFault::State(Excerpt::of(state)))),
-    }
+    let (zone, state) = words.two().ok_or(LineFault::FaultWords(line))?;
+    let zone = decimal(zone).ok_or(LineFault::Zone(Excerpt::of(zone)))?;
+    let state = fault_state(state).ok_or(LineFault::State(Excerpt::of(state)))?;
+    Ok(Event::Fault { zone, state })
 }
 
 fn fault_state(word: &[u8]) -> Option<FaultState>
@@ -202,6 +189,14 @@ fn fault_state(word: &[u8]) -> Option<FaultState>
         b"readonly" => Some(FaultState::ReadOnly),
         b"offline" => Some(FaultState::Offline),
         _ => None,
+    }
+}
+
+impl From<LineFault> for LineError {
+    ghost from_gives = { λ fault error. error ≡ Refused fault };
+
+    fn from(fault: LineFault) -> LineError {
+        LineError::Refused(fault)
     }
 }
 

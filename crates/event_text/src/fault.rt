@@ -21,6 +21,7 @@ pub enum LineFault {
     /// The line without its comment.
     #[error("{0}: fault is expected with a zone and a state")]
     FaultWords(Excerpt),
+    /// The word that spells no queue.
     #[error("{0}: no queue; a number from 0 to 65535 is expected")]
     Queue(Excerpt),
     /// How many characters the entry has.
@@ -35,10 +36,13 @@ pub enum LineFault {
     /// A character of the data, and how many stand before it.
     #[error("character {} of the data: {character:?}; a hexadecimal digit is expected", .before.saturating_add(1))]
     DataDigit { character: char, before: usize },
+    /// The word that spells no run.
     #[error("{0}: no run; a number from 0 to 255 is expected")]
     Run(Excerpt),
+    /// The word that spells no zone.
     #[error("{0}: no zone; a number from 0 to 4294967295 is expected")]
     Zone(Excerpt),
+    /// The word that names no state into which a zone fails.
     #[error("{0}: no state of a fault; readonly or offline is expected")]
     State(Excerpt),
 }

@@ -15,5 +15,5 @@ mod words;
 pub use command_file::{ParseError, parse};
 pub use fault::LineFault;
 pub use lines::Lines;
-pub use reply_file::{ReplyFileError, ReplyWithData, replies};
+pub use reply_file::{ReplyFileError, ToldReply, replies};
 pub use submission::submission_line;

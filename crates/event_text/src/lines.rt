@@ -10,10 +10,10 @@ ghost use Rattle.device_events.proofs.Proved.{prints_in_parts, prints_none};
 ghost use Rattle.event_text.specs.Lines.{data_text, line_of, line_text, reply_text};
 
 use device_events::{NotTaken, Out, Reply};
+use nvme_entry::MOST_TRANSFER;
 use std::alloc::{AllocError, Global};
 use std::io;
 use std::io::Write;
-use nvme_entry::MOST_TRANSFER;
 
 /// The most bytes in a line: `cpl 65535 `, the completion, a space, the data and the line's end.
 const LINE_BYTES: usize = 10 + 32 + 1 + 2 * MOST_TRANSFER + 1;
@@ -31,6 +31,10 @@ pub struct Lines<'a, W> {
 
 impl<'a, W: Write> Lines<'a, W> {
     /// A printer of replies, with room for the longest line.
+    ///
+    /// # Errors
+    ///
+    /// No memory for that line.
     pub fn new(alloc: Global, out: &'a mut W) -> Result<Lines<'a, W>, AllocError>
         ensures same_writer { IfOk result (λ lines. (lines.out.ghost_name ≡ out.entry.ghost_name) × (lines.out.now ≡ out.old)) }
         ensures none_refused { IfOk result (λ lines. ⟦<Lines<'a, W> as Out>⟧.refused lines ≡ 0) }

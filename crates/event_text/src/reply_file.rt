@@ -2,7 +2,7 @@
 
 ghost use Rattle.std.specs.Prelude.{◌≡◌, map, length, IfOk};
 ghost use Rattle.std.specs.Str.Lines.{lines};
-ghost use Rattle.event_text.specs.ReplyFile.{answer_text};
+ghost use Rattle.event_text.specs.ReplyFile.{told_text};
 
 use crate::command_file::{queue_number, run_number};
 use crate::lines::push_reply;
@@ -23,17 +23,19 @@ pub enum ReplyFileError {
     OutOfMemory,
 }
 
-/// Why a line has no reply.
+/// Why a line tells no reply.
 #[derive(Clone, Copy, Debug, PartialEq, Eq)]
-enum LineError {
+enum NoReply {
     Malformed,
     OutOfMemory,
 }
 
-/// A reply with the bytes of its data.
+/// A reply that a line tells, with the bytes of its data.
 #[derive(Debug, PartialEq, Eq, Drop)]
-pub struct ReplyWithData {
+pub struct ToldReply {
+    /// The reply.
     pub reply: Reply,
+    /// Its data, in bytes; none where it has none.
     pub bytes: Vec<u8>,
 }
 
@@ -43,77 +45,74 @@ pub struct ReplyWithData {
 ///
 /// The lowest line that isn't the line of a reply, or want of memory for a line before it.
 #[tactic(auto, using(crate::proofs::ReplyLemmas::reply_read, crate::proofs::ReplyLemmas::replies_read))]
-pub fn replies(alloc: Global, file: &[u8]) -> Result<Vec<ReplyWithData>, ReplyFileError>
-    ensures spelled { IfOk result (λ answers. lines file.now ≡ map answer_text answers.items) }
+pub fn replies(alloc: Global, file: &[u8]) -> Result<Vec<ToldReply>, ReplyFileError>
+    ensures spelled { IfOk result (λ told. lines file.now ≡ map told_text told.items) }
 {
-    let mut answers = Vec::new(alloc);
+    let mut told = Vec::new(alloc);
     let mut rest = file;
     let mut number = 1;
     while !rest.is_empty() {
         let (line, behind) = first_line(rest);
-        match answer_of(alloc, line) {
-            Ok(answer) => answers.push(answer)?,
-            Err(LineError::Malformed) => return Err(ReplyFileError::Line(number)),
-            Err(LineError::OutOfMemory) => return Err(ReplyFileError::OutOfMemory),
+        match told_by(alloc, line) {
+            Ok(reply) => told.push(reply)?,
+            Err(NoReply::Malformed) => return Err(ReplyFileError::Line(number)),
+            Err(NoReply::OutOfMemory) => return Err(ReplyFileError::OutOfMemory),
         }
         rest = behind;
         number += 1;
     }
-    Ok(answers)
+    Ok(told)
 }
 
 /// The reply whose line this is.
-fn answer_of(alloc: Global, line: &[u8]) -> Result<ReplyWithData, LineError>
-    ensures { IfOk result (λ answer. line.now ≡ answer_text answer) }
+fn told_by(alloc: Global, line: &[u8]) -> Result<ToldReply, NoReply>
+    ensures { IfOk result (λ told. line.now ≡ told_text told) }
 {
-    let answer = candidate(alloc, line)?;
+    let told = candidate(alloc, line)?;
     let mut again = Vec::new(alloc);
-    match push_reply(&mut again, answer.reply, answer.bytes.as_slice()) {
-        Ok(()) if again.as_slice() == line => Ok(answer),
-        Ok(()) => Err(LineError::Malformed),
-        Err(_) => Err(LineError::OutOfMemory),
+    match push_reply(&mut again, told.reply, told.bytes.as_slice()) {
+        Ok(()) if again.as_slice() == line => Ok(told),
+        Ok(()) => Err(NoReply::Malformed),
+        Err(_) => Err(NoReply::OutOfMemory),
     }
 }
 
 /// The one reply whose line this can be.
-fn candidate(alloc: Global, line: &[u8]) -> Result<ReplyWithData, LineError> {
+fn candidate(alloc: Global, line: &[u8]) -> Result<ToldReply, NoReply> {
     match line {
         b"idle" => Ok(without_data(alloc, Reply::Idle)),
         b"done" => Ok(without_data(alloc, Reply::FaultTaken)),
         b"refused" => Ok(without_data(alloc, Reply::FaultRefused)),
         _ => match line.strip_prefix(b"pending ") {
             Some(run) => pending(alloc, run),
-            None => complete(
-                alloc,
-                line.strip_prefix(b"cpl ").ok_or(LineError::Malformed)?,
-            ),
+            None => complete(alloc, line.strip_prefix(b"cpl ").ok_or(NoReply::Malformed)?),
         },
     }
 }
 
-fn without_data(alloc: Global, reply: Reply) -> ReplyWithData {
-    ReplyWithData {
+fn without_data(alloc: Global, reply: Reply) -> ToldReply {
+    ToldReply {
         reply,
         bytes: Vec::new(alloc),
     }
 }
 
-fn pending(alloc: Global, run: &[u8]) -> Result<ReplyWithData, LineError> {
-    let run = run_number(run).ok_or(LineError::Malformed)?;
+fn pending(alloc: Global, run: &[u8]) -> Result<ToldReply, NoReply> {
+    let run = run_number(run).ok_or(NoReply::Malformed)?;
     Ok(without_data(alloc, Reply::Pending { run }))
 }
 
 /// A completion: the queue, the entry, and the data where there is any.
-fn complete(alloc: Global, words: &[u8]) -> Result<ReplyWithData, LineError> {
-    let (queue, behind) = cut(words, b' ').ok_or(LineError::Malformed)?;
+fn complete(alloc: Global, words: &[u8]) -> Result<ToldReply, NoReply> {
+    let (queue, behind) = cut(words, b' ').ok_or(NoReply::Malformed)?;
     let (entry, behind) = behind
         .split_at_checked(ENTRY_DIGITS)
-        .ok_or(LineError::Malformed)?;
-    let queue = queue_number(queue).ok_or(LineError::Malformed)?;
+        .ok_or(NoReply::Malformed)?;
+    let queue = queue_number(queue).ok_or(NoReply::Malformed)?;
     let entry = <[u8; 16]>::from_hex(entry)?;
     let bytes = hex::decode(alloc, behind.strip_prefix(b" ").unwrap_or(&[]))?;
     let length = bytes.len();
-    Ok(ReplyWithData {
+    Ok(ToldReply {
         reply: Reply::Complete {
             queue,
             entry,
@@ -123,11 +122,11 @@ fn complete(alloc: Global, words: &[u8]) -> Result<ReplyWithData, LineError> {
     })
 }
 
-impl From<FromHexError> for LineError {
-    fn from(error: FromHexError) -> LineError {
+impl From<FromHexError> for NoReply {
+    fn from(error: FromHexError) -> NoReply {
         match error {
-            FromHexError::OutOfMemory => LineError::OutOfMemory,
-            _ => LineError::Malformed,
+            FromHexError::OutOfMemory => NoReply::OutOfMemory,
+            _ => NoReply::Malformed,
         }
     }
 }

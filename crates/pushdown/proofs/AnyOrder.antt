@@ -8,15 +8,15 @@ use Rattle.std.proofs.lemmas.List.{append-nil}
 use Rattle.word_domain.specs.Domain.{Operations}
 use Rattle.accepted_programs.specs.Laws.{AcceptedNeverTraps}
 use Rattle.pushdown.specs.Admission.{Loaded}
-use Rattle.pushdown.specs.Answers.{Happening}
+use Rattle.pushdown.specs.EventReplies.{Happening}
 use Rattle.device_events.specs.Replies.{ReplyWithData}
-use Rattle.pushdown.specs.AnyOrder.{AreSameTurns, ComeToTheSame, IsUnshared, TurnsInAnyOrder, own_answers}
-use Rattle.pushdown.specs.Draining.{answers_to_turns, state_after_turns}
+use Rattle.pushdown.specs.AnyOrder.{AreSameTurns, ComeToTheSame, IsUnshared, TurnsInAnyOrder, own_replies}
+use Rattle.pushdown.specs.Draining.{replies_to_turns, state_after_turns}
 use Rattle.pushdown.specs.Events.{state_after}
 use Rattle.pushdown.specs.Machine.{slots_left, take_turn, turned, turned_at}
 use Rattle.pushdown.specs.Outcome.{Ending, Turn}
 use Rattle.pushdown.specs.State.{Place, State, new_state, place_at, program_at}
-use Rattle.pushdown.proofs.Commuting.{Empty, OwnAll, answer_after, kept, state_of_both, stays_own, turns_keep}
+use Rattle.pushdown.proofs.Commuting.{Empty, OwnAll, kept, reply_after, state_of_both, stays_own, turns_keep}
 use Rattle.pushdown.proofs.Places.{AreApart}
 use Rattle.pushdown.proofs.SameTurns.{after, in_any_order}
 use Rattle.pushdown.proofs.States.{reached}
@@ -62,7 +62,7 @@ module _ (view : List (Option Loaded) → List (Option Loaded)) where
     slots_seen s place (Some ending) = is.keeps s.slots place.slot ending.result
 
     abbrev happening_seen : Happening → Happening
-    happening_seen h = record { answer = h.answer; state = with_view h.state }
+    happening_seen h = record { reply = h.reply; state = with_view h.state }
 
     taken_seen : (s : State) (run : ℕ) (place : Place) (turns : List Turn)
         → happening_seen (take_turn s run place turns) ≡ take_turn (with_view s) run place turns
@@ -75,37 +75,37 @@ module _ (view : List (Option Loaded) → List (Option Loaded)) where
     turned_seen s run None = refl
     turned_seen s run (Some place) = taken_seen s run place place.turns
 
--- ---- a state, with the answers to the turns of one run so far
+-- ---- a state, with the replies to the turns of one run so far
 
 record Seen : Type 0 where
   state : State
-  answers : List ReplyWithData
+  replies : List ReplyWithData
 
 abbrev seen : State → List ReplyWithData → Seen
-seen s answers = record { state = s; answers = answers }
+seen s replies = record { state = s; replies = replies }
 
 same_seen : (s t : State) (xs ys : List ReplyWithData) → s ≡ t → xs ≡ ys → seen s xs ≡ seen t ys
-same_seen s t xs ys same_state same_answers = ap (λ (s : State). seen s xs) same_state ∙ ap (seen t) same_answers
+same_seen s t xs ys same_state same_replies = ap (λ (s : State). seen s xs) same_state ∙ ap (seen t) same_replies
 
 abbrev told_if : Bool → ReplyWithData → List ReplyWithData
-told_if true answer = answer ∷ []
-told_if false answer = []
+told_if true reply = reply ∷ []
+told_if false reply = []
 
 one_more : (mine : Bool) (x : ℕ × ReplyWithData) (xs : List (ℕ × ReplyWithData))
     → told_if mine x.1 ++ map (λ y. y.1) xs ≡ map (λ y. y.1) (cond mine (x ∷ xs) xs)
 one_more true x xs = refl
 one_more false x xs = refl
 
-answers_both : (a b : Bool) (before : List ReplyWithData) (x y : ReplyWithData) → (a ≡ true → b ≡ true → ⊥)
+replies_both : (a b : Bool) (before : List ReplyWithData) (x y : ReplyWithData) → (a ≡ true → b ≡ true → ⊥)
     → (before ++ told_if a x) ++ told_if b y ≡ (before ++ told_if b y) ++ told_if a x
-answers_both true true before x y differs = absurd (differs refl refl)
-answers_both true false before x y differs = append-nil (before ++ x ∷ []) ∙ ap (λ (xs : List ReplyWithData). xs ++ x ∷ []) (sym (append-nil before))
-answers_both false true before x y differs = ap (λ (xs : List ReplyWithData). xs ++ y ∷ []) (append-nil before) ∙ sym (append-nil (before ++ y ∷ []))
-answers_both false false before x y differs = refl
+replies_both true true before x y differs = absurd (differs refl refl)
+replies_both true false before x y differs = append-nil (before ++ x ∷ []) ∙ ap (λ (xs : List ReplyWithData). xs ++ x ∷ []) (sym (append-nil before))
+replies_both false true before x y differs = ap (λ (xs : List ReplyWithData). xs ++ y ∷ []) (append-nil before) ∙ sym (append-nil (before ++ y ∷ []))
+replies_both false false before x y differs = refl
 
 module _ (watched : ℕ) where
   abbrev step : ℕ → Seen → Seen
-  step run x = seen (turned x.state run).state (x.answers ++ told_if (run == watched) (turned x.state run).answer)
+  step run x = seen (turned x.state run).state (x.replies ++ told_if (run == watched) (turned x.state run).reply)
 
   abbrev Own : Seen → Type 0
   Own x = OwnAll x.state
@@ -113,33 +113,33 @@ module _ (watched : ℕ) where
   in_either_order : (x : Seen) (a b : ℕ) → Own x → a ≢ b → step b (step a x) ≡ step a (step b x)
   in_either_order x a b own differs =
       let s = x.state in
-      let first = told_if (a == watched) (turned s a).answer in
-      let second = told_if (b == watched) (turned s b).answer in
-      same_seen (step b (step a x)).state (step a (step b x)).state (step b (step a x)).answers (step a (step b x)).answers
+      let first = told_if (a == watched) (turned s a).reply in
+      let second = told_if (b == watched) (turned s b).reply in
+      same_seen (step b (step a x)).state (step a (step b x)).state (step b (step a x)).replies (step a (step b x)).replies
       (state_of_both s a b own differs)
-      (ap (λ (y : ReplyWithData). (x.answers ++ first) ++ told_if (b == watched) y) (answer_after s a b (λ same. differs (sym same)))
-      ∙ answers_both (a == watched) (b == watched) x.answers (turned s a).answer (turned s b).answer
+      (ap (λ (y : ReplyWithData). (x.replies ++ first) ++ told_if (b == watched) y) (reply_after s a b (λ same. differs (sym same)))
+      ∙ replies_both (a == watched) (b == watched) x.replies (turned s a).reply (turned s b).reply
       (λ at_a at_b. differs (eqb-true a watched at_a ∙ sym (eqb-true b watched at_b)))
-      ∙ ap (λ (y : ReplyWithData). (x.answers ++ second) ++ told_if (a == watched) y) (sym (answer_after s b a differs)))
+      ∙ ap (λ (y : ReplyWithData). (x.replies ++ second) ++ told_if (a == watched) y) (sym (reply_after s b a differs)))
 
   module _ (view : List (Option Loaded) → List (Option Loaded)) (is : IsView view) where
-    turns_seen : (runs : List ℕ) (s : State) (answers : List ReplyWithData)
-        → after step runs (seen (with_view view s) answers)
-        ≡ seen (with_view view (state_after_turns runs s)) (answers ++ own_answers watched runs (answers_to_turns runs s))
-    turns_seen [] s answers = ap (seen (with_view view s)) (sym (append-nil answers))
-    turns_seen (run ∷ runs) s answers =
+    turns_seen : (runs : List ℕ) (s : State) (replies : List ReplyWithData)
+        → after step runs (seen (with_view view s) replies)
+        ≡ seen (with_view view (state_after_turns runs s)) (replies ++ own_replies watched runs (replies_to_turns runs s))
+    turns_seen [] s replies = ap (seen (with_view view s)) (sym (append-nil replies))
+    turns_seen (run ∷ runs) s replies =
         let t = (turned s run).state in
-        let mine = told_if (run == watched) (turned s run).answer in
-        let rest = own_answers watched runs (answers_to_turns runs t) in
-        ap (λ (h : Happening). after step runs (seen h.state (answers ++ told_if (run == watched) h.answer)))
+        let mine = told_if (run == watched) (turned s run).reply in
+        let rest = own_replies watched runs (replies_to_turns runs t) in
+        ap (λ (h : Happening). after step runs (seen h.state (replies ++ told_if (run == watched) h.reply)))
         (sym (turned_seen view is s run (place_at s run)))
-        ∙ turns_seen runs t (answers ++ mine)
-        ∙ ap (seen (with_view view (state_after_turns runs t))) (append_assoc answers mine rest ∙ ap (λ (xs : List ReplyWithData). answers ++ xs)
-        (one_more (run == watched) (run, (turned s run).answer) (filter (λ x. x.0 == watched) (zip runs (answers_to_turns runs t)))))
+        ∙ turns_seen runs t (replies ++ mine)
+        ∙ ap (seen (with_view view (state_after_turns runs t))) (append_assoc replies mine rest ∙ ap (λ (xs : List ReplyWithData). replies ++ xs)
+        (one_more (run == watched) (run, (turned s run).reply) (filter (λ x. x.0 == watched) (zip runs (replies_to_turns runs t)))))
 
     same_after : (first second : List ℕ) (s : State) → OwnAll (with_view view s) → AreSameTurns first second
-        → seen (with_view view (state_after_turns first s)) (own_answers watched first (answers_to_turns first s))
-        ≡ seen (with_view view (state_after_turns second s)) (own_answers watched second (answers_to_turns second s))
+        → seen (with_view view (state_after_turns first s)) (own_replies watched first (replies_to_turns first s))
+        ≡ seen (with_view view (state_after_turns second s)) (own_replies watched second (replies_to_turns second s))
     same_after first second s own same =
         sym (turns_seen first s [])
         ∙ in_any_order step Own (λ x run. stays_own x.state run) in_either_order first second (seen (with_view view s) []) own same
@@ -189,7 +189,7 @@ module _ (s : State) (apart : AreApart s.places) (first second : List ℕ) (same
             record { loaded = other.loaded ∙ sym one.loaded; program = other.program ∙ sym one.program; limit = other.limit ∙ sym one.limit };
         results = same_result;
         whole = λ unshared. ap (λ (x : Seen). x.state) (same_after 0 (λ xs. xs) all_seen first second s (own_all unshared) same);
-        answers = λ run. ap (λ (x : Seen). x.answers) (all run);
+        replies = λ run. ap (λ (x : Seen). x.replies) (all run);
       }
 
 pub turns_in_any_order : {D : Type 0} (operations : Operations D) → AcceptedNeverTraps operations → TurnsInAnyOrder operations

@@ -114,19 +114,19 @@ both_turned s a b None q differs two = refl
 both_turned s a b (Some x) None differs two = refl
 both_turned s a b (Some x) (Some y) differs two = both_taken s a b x y x.turns y.turns differs (two x y refl refl)
 
--- an answer is the run's alone
-taken_answer : (s t : State) (run : ℕ) (place : Place) (turns : List Turn) → (take_turn s run place turns).answer ≡ (take_turn t run place turns).answer
-taken_answer s t run place [] = refl
-taken_answer s t run place (turn ∷ later) = refl
+-- a reply is the run's alone
+taken_reply : (s t : State) (run : ℕ) (place : Place) (turns : List Turn) → (take_turn s run place turns).reply ≡ (take_turn t run place turns).reply
+taken_reply s t run place [] = refl
+taken_reply s t run place (turn ∷ later) = refl
 
-turned_answer : (s t : State) (run : ℕ) (at : Option Place) → (turned_at s run at).answer ≡ (turned_at t run at).answer
-turned_answer s t run None = refl
-turned_answer s t run (Some place) = taken_answer s t run place place.turns
+turned_reply : (s t : State) (run : ℕ) (at : Option Place) → (turned_at s run at).reply ≡ (turned_at t run at).reply
+turned_reply s t run None = refl
+turned_reply s t run (Some place) = taken_reply s t run place place.turns
 
-pub answer_after : (s : State) (a b : ℕ) → b ≢ a → (turned (turned s a).state b).answer ≡ (turned s b).answer
-answer_after s a b differs =
+pub reply_after : (s : State) (a b : ℕ) → b ≢ a → (turned (turned s a).state b).reply ≡ (turned s b).reply
+reply_after s a b differs =
     let t = (turned s a).state in
-    ap (λ (at : Option Place). (turned_at t b at).answer) (turned_leaves s a b differs) ∙ turned_answer t s b (place_at s b)
+    ap (λ (at : Option Place). (turned_at t b at).reply) (turned_leaves s a b differs) ∙ turned_reply t s b (place_at s b)
 
 -- runs of destinations of their own, which share no slot that has a program
 pub record OwnAll (s : State) : Type 0 where

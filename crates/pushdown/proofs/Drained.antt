@@ -4,7 +4,7 @@ use Rattle.std.specs.Prelude.{is_some}
 use Rattle.std.proofs.lemmas.List.Quantifiers.{position-Some}
 use Rattle.word_domain.specs.Domain.{Operations}
 use Rattle.accepted_programs.specs.Laws.{AcceptedNeverTraps}
-use Rattle.pushdown.specs.Answers.{Happening}
+use Rattle.pushdown.specs.EventReplies.{Happening}
 use Rattle.pushdown.specs.Draining.{Drains, lowest_run, turns_left, turns_left_at}
 use Rattle.pushdown.specs.Events.{state_after}
 use Rattle.pushdown.specs.Laws.{DrainingEnds, TurnsLeaveFewer}

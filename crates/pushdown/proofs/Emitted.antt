@@ -12,7 +12,7 @@ use Rattle.emit_append.proofs.Proved.{packed_frames_read_back}
 use Rattle.pushdown.specs.Admission.{source_blocks, task_of}
 use Rattle.pushdown.specs.BlockRuns.{Task, groups_of, runs_of}
 use Rattle.pushdown.specs.Events.{state_after}
-use Rattle.pushdown.specs.Laws.{AreEmitted, EmittedReadsBack}
+use Rattle.pushdown.specs.Laws.{AreEmitted, OutcomeUnpacks}
 use Rattle.pushdown.specs.State.{new_state, program_at}
 use Rattle.pushdown.proofs.BlockRuns.{IsDone}
 use Rattle.pushdown.proofs.Outcomes.{outcome_is_packed}
@@ -38,7 +38,7 @@ emits task (run ∷ runs) done =
       some = (group.some, rest.some);
     }
 
-pub emitted_reads_back : {D : Type 0} (operations : Operations D) → AcceptedNeverTraps operations → EmittedReadsBack operations
+pub emitted_reads_back : {D : Type 0} (operations : Operations D) → AcceptedNeverTraps operations → OutcomeUnpacks operations
 emitted_reads_back operations never ns events is are sub order run admitted =
     let s = state_after operations events (new_state ns) in
     let fine = reached operations never ns events is are in

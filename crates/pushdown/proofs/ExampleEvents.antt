@@ -8,9 +8,9 @@ use Rattle.instruction_set.specs.declared.insn.Insn.{Insn}
 use Rattle.program_meaning.specs.BlockRun.{block_run_of}
 use Rattle.word_domain.specs.Domain.{Operations}
 use Rattle.image_store.specs.Namespace.{ZoneBlocks, ZonedNamespace, zone_at}
-use Rattle.pushdown.specs.Answers.{Happening, plain}
+use Rattle.pushdown.specs.EventReplies.{Happening, plain}
 use Rattle.device_events.specs.Replies.{ReplyWithData}
-use Rattle.pushdown.specs.Draining.{answers_to_turns, state_after_turns}
+use Rattle.pushdown.specs.Draining.{replies_to_turns, state_after_turns}
 use Rattle.pushdown.specs.Machine.{failed, submitted}
 use Rattle.pushdown.specs.State.{State, new_state}
 use Rattle.device_events.specs.declared.reply.Reply.TheVariants.{Complete, FaultRefused, Idle, Pending}
@@ -47,9 +47,9 @@ module _ {D : Type 0} (operations : Operations D) where
   asks entry input s = submitted operations false (record { queue = 1; entry = entry; input = input }) s (decoded entry)
 
   -- entries without data, one after another
-  abbrev answers_asked : List (List ℕ) → State → List ReplyWithData
-  answers_asked [] s = []
-  answers_asked (entry ∷ entries) s = (asks entry [] s).answer ∷ answers_asked entries (asks entry [] s).state
+  abbrev replies_asked : List (List ℕ) → State → List ReplyWithData
+  replies_asked [] s = []
+  replies_asked (entry ∷ entries) s = (asks entry [] s).reply ∷ replies_asked entries (asks entry [] s).state
 
   abbrev state_asked : List (List ℕ) → State → State
   state_asked [] s = s
@@ -64,10 +64,10 @@ module _ {D : Type 0} (operations : Operations D) where
     abbrev admitted : Happening
     admitted = asks (run_entry 7 0 2 8) [] three_blocks
 
-    pub run_is_admitted : admitted.answer ≡ pending 0
+    pub run_is_admitted : admitted.reply ≡ pending 0
     run_is_admitted = refl
 
-    pub turns_end_the_run : answers_to_turns (0 ∷ 0 ∷ 0 ∷ 0 ∷ []) admitted.state ≡ pending 0 ∷ pending 0 ∷ completes 7 0 0 ∷ plain Idle ∷ []
+    pub turns_end_the_run : replies_to_turns (0 ∷ 0 ∷ 0 ∷ 0 ∷ []) admitted.state ≡ pending 0 ∷ pending 0 ∷ completes 7 0 0 ∷ plain Idle ∷ []
     unfolding block_run_of
     turns_end_the_run = refl
 
@@ -76,7 +76,7 @@ module _ {D : Type 0} (operations : Operations D) where
   abbrev nearly_full : State
   nearly_full = device (two_zones (zone_of zone.Closed (replicate 52 (block_of 7)) ∷ zone_of zone.ExplicitlyOpened (replicate 63 (block_of 0)) ∷ [])) sevens 10
 
-  pub room_is_lacking : (asks (run_entry 9 0 51 64) [] nearly_full).answer ≡ completes 9 0x8c 0x0f
+  pub room_is_lacking : (asks (run_entry 9 0 51 64) [] nearly_full).reply ≡ completes 9 0x8c 0x0f
   room_is_lacking = refl
 
   -- ---- two runs, of which one reads from the zone that the other appends to
@@ -86,12 +86,12 @@ module _ {D : Type 0} (operations : Operations D) where
       zone_of zone.Closed (replicate 2 (block_of 7)) ∷ zone_of zone.ImplicitlyOpened (replicate 2 (block_of 7))
       ∷ zone_of zone.ExplicitlyOpened [] ∷ zone_of zone.Empty [] ∷ [])) sevens 10)
 
-  pub turn_about : answers_to_turns (0 ∷ 1 ∷ 0 ∷ 1 ∷ []) two_runs
+  pub turn_about : replies_to_turns (0 ∷ 1 ∷ 0 ∷ 1 ∷ []) two_runs
       ≡ pending 0 ∷ pending 1 ∷ completes_with 2 1 1 0 0 ∷ completes_with 2 1 2 0 0 ∷ []
   unfolding block_run_of
   turn_about = refl
 
-  pub one_before_the_other : answers_to_turns (1 ∷ 1 ∷ 0 ∷ 0 ∷ []) two_runs
+  pub one_before_the_other : replies_to_turns (1 ∷ 1 ∷ 0 ∷ 0 ∷ []) two_runs
       ≡ pending 1 ∷ completes_with 2 1 2 0 0 ∷ pending 0 ∷ completes_with 2 1 1 0 0 ∷ []
   unfolding block_run_of
   one_before_the_other = refl
@@ -120,20 +120,20 @@ module _ {D : Type 0} (operations : Operations D) where
       ∷ zone_of zone.ImplicitlyOpened (block_of 1 ∷ []) ∷ zone_of zone.Empty [] ∷ [])) sevens 10))
 
   -- Reset of its source, Append to its destination and a fault of its source are refused,
-  pub source_is_kept : (asks (entry_of 0x79 5 0 (0 ∷ 0 ∷ 0 ∷ 0 ∷ 4 ∷ replicate 11 0)) [] holding).answer ≡ completes 5 0x80 0x0f
+  pub source_is_kept : (asks (entry_of 0x79 5 0 (0 ∷ 0 ∷ 0 ∷ 0 ∷ 4 ∷ replicate 11 0)) [] holding).reply ≡ completes 5 0x80 0x0f
   unfolding block_run_of
   source_is_kept = refl
 
-  pub destination_is_kept : (asks (entry_of 0x7d 6 8 (replicate 16 0)) (block_of 1) holding).answer ≡ completes 6 0x80 0x0f
+  pub destination_is_kept : (asks (entry_of 0x7d 6 8 (replicate 16 0)) (block_of 1) holding).reply ≡ completes 6 0x80 0x0f
   unfolding block_run_of
   destination_is_kept = refl
 
-  pub source_cannot_fail : (failed holding 0 ReadOnly).answer ≡ plain FaultRefused
+  pub source_cannot_fail : (failed holding 0 ReadOnly).reply ≡ plain FaultRefused
   unfolding block_run_of
   source_cannot_fail = refl
 
   -- and so is a Load over its program
-  pub program_is_kept : (asks (entry_of 0xc1 8 0 (replicate 16 0)) [] holding).answer ≡ completes 8 0x94 0x0f
+  pub program_is_kept : (asks (entry_of 0xc1 8 0 (replicate 16 0)) [] holding).reply ≡ completes 8 0x94 0x0f
   unfolding block_run_of
   program_is_kept = refl
 
@@ -141,7 +141,7 @@ module _ {D : Type 0} (operations : Operations D) where
   abbrev opening : Happening
   opening = asks (entry_of 0x01 7 24 (replicate 16 0)) (block_of 1) holding
 
-  pub write_succeeds : opening.answer ≡ completes 7 0 0
+  pub write_succeeds : opening.reply ≡ completes 7 0 0
   unfolding block_run_of
   write_succeeds = refl
 
@@ -164,7 +164,7 @@ module _ {D : Type 0} (operations : Operations D) where
   unfolding block_run_of
   zone_is_filled = refl
 
-  pub by_one_block : answers_to_turns (0 ∷ 0 ∷ []) one_left ≡ pending 0 ∷ completes_with 2 1 1 0 0 ∷ []
+  pub by_one_block : replies_to_turns (0 ∷ 0 ∷ []) one_left ≡ pending 0 ∷ completes_with 2 1 1 0 0 ∷ []
   unfolding block_run_of
   by_one_block = refl
 
@@ -179,17 +179,17 @@ module _ {D : Type 0} (operations : Operations D) where
       run_entry 1 0 0 8 ∷ run_entry 2 0 0 16 ∷ run_entry 3 0 0 24 ∷ run_entry 4 0 0 32
       ∷ run_entry 5 0 0 40 ∷ run_entry 6 0 0 48 ∷ run_entry 7 0 0 56 ∷ run_entry 8 0 0 64 ∷ []
 
-  pub eight_are_admitted : answers_asked eight_runs nine_open
+  pub eight_are_admitted : replies_asked eight_runs nine_open
       ≡ pending 0 ∷ pending 1 ∷ pending 2 ∷ pending 3 ∷ pending 4 ∷ pending 5 ∷ pending 6 ∷ pending 7 ∷ []
   eight_are_admitted = refl
 
   -- a ninth finds no place; to its own source, or outside, it is refused before that
-  pub no_ninth : answers_asked (run_entry 9 0 0 72 ∷ run_entry 9 0 0 0 ∷ run_entry 9 0 0 96 ∷ []) (state_asked eight_runs nine_open)
+  pub no_ninth : replies_asked (run_entry 9 0 0 72 ∷ run_entry 9 0 0 0 ∷ run_entry 9 0 0 96 ∷ []) (state_asked eight_runs nine_open)
       ≡ completes 9 0x86 0x0f ∷ completes 9 0x92 0x0f ∷ completes 9 0x00 0x01 ∷ []
   no_ninth = refl
 
   -- the place of a run that ended is the next one's, but another run's destination is not
-  pub a_place_is_free : answers_asked (run_entry 9 0 0 8 ∷ run_entry 9 0 0 72 ∷ []) (state_after_turns (2 ∷ []) (state_asked eight_runs nine_open))
+  pub a_place_is_free : replies_asked (run_entry 9 0 0 8 ∷ run_entry 9 0 0 72 ∷ []) (state_after_turns (2 ∷ []) (state_asked eight_runs nine_open))
       ≡ completes 9 0x80 0x0f ∷ pending 2 ∷ []
   unfolding block_run_of
   a_place_is_free = refl

@@ -17,7 +17,7 @@ use Rattle.image_store.specs.Namespace.{ZoneBlocks, ZonedNamespace, IsNamespace,
 use Rattle.image_store.proofs.Proved.{written_is_within}
 use Rattle.nvme_entry.proofs.Proved.{demanded, passed}
 use Rattle.pushdown.specs.Admission.{admission_checks, source_blocks, task_of}
-use Rattle.pushdown.specs.Answers.{Happening, Submission, plain}
+use Rattle.pushdown.specs.EventReplies.{Happening, Submission, plain}
 use Rattle.pushdown.specs.BlockRuns.{no_scratch, runs_of}
 use Rattle.pushdown.specs.Events.{Occurrence, state_after}
 use Rattle.pushdown.specs.Laws.{AdmittedStarts, StartsRun}
@@ -50,7 +50,7 @@ module _ {D : Type 0} (operations : Operations D) (s : State) (queue : ℕ) (ent
   begun starved = happens operations s starved (event.Submit queue entry input)
 
   started : (starved : Bool) → IsAdmitted s sub order run
-      → begun starved ≡ record { answer = plain (reply.Pending run); state = with_place s run (Some place) }
+      → begun starved ≡ record { reply = plain (reply.Pending run); state = with_place s run (Some place) }
   started starved admitted =
       ap (submitted operations starved sub s) admitted.asked
       ∙ ap (λ (why : Option Status). start_by why (free_run s) sub s order) admitted.passed
@@ -63,7 +63,7 @@ module _ {D : Type 0} (operations : Operations D) (s : State) (queue : ℕ) (ent
   starts starved admitted =
       let is = started starved admitted in
       record {
-        answer = ap (λ (h : Happening). h.answer) is;
+        reply = ap (λ (h : Happening). h.reply) is;
         place = ap (λ (h : Happening). place_at h.state run) is ∙ placed admitted;
         namespace = ap (λ (h : Happening). h.state.namespace) is;
       }
@@ -109,7 +109,7 @@ module _ {D : Type 0} (operations : Operations D) (s : State) (queue : ℕ) (ent
     does_its_turns = record {
       left = stands.left;
       appended = rw same_blocks at stands.appended;
-      answer = next.answer;
+      reply = next.reply;
       then_appended = rw same_blocks at next.then_appended;
       then_namespace = next.namespace;
       then_left = next.then_left;

@@ -10,7 +10,7 @@ use Rattle.instruction_set.specs.declared.insn.Insn.{Insn}
 use Rattle.word_domain.specs.Domain.{Operations}
 use Rattle.accepted_programs.specs.Accepted.{refusal}
 use Rattle.accepted_programs.specs.declared.reason.Refusal.{Refusal}
-use Rattle.pushdown.specs.Answers.{Happening, Submission}
+use Rattle.pushdown.specs.EventReplies.{Happening, Submission}
 use Rattle.pushdown.specs.Machine.{judged, just_loaded, load_checks, load_unless, loading, read_program, sizes_for}
 use Rattle.pushdown.specs.State.{State, with_slot}
 use Rattle.device_events.specs.declared.reply.Reply.{Reply}
@@ -33,24 +33,24 @@ module _ {D : Type 0} (operations : Operations D) (sub : Submission) (s : State)
     pub taken : t ≡ with_slot s load.slot (Some (just_loaded program load.limit))
 
   pub record IsLoad (h : Happening) : Type 0 where
-    pub answered : is_pending h.answer.reply ≡ false
+    pub replied : is_pending h.reply.reply ≡ false
     pub state : (h.state ≡ s) ⊎ TakesSlot h.state
 
   judged_is : (program : List (Option Insn)) (why : Option Refusal) → first_failed (load_checks s load sub.input) ≡ None
       → program_in_bytes sub.input ≡ Ok program → refusal operations program (sizes_for s load) ≡ why → IsLoad (judged sub s load program why)
-  judged_is program (Some why) passed read e = record { answered = refl; state = inl refl }
+  judged_is program (Some why) passed read e = record { replied = refl; state = inl refl }
   judged_is program None passed read e =
-      record { answered = refl; state = inr (record { program = program; passed = passed; read = read; accepted = e; taken = refl }) }
+      record { replied = refl; state = inr (record { program = program; passed = passed; read = read; accepted = e; taken = refl }) }
 
   read_is : (read : Result (List (Option Insn)) Fault) → first_failed (load_checks s load sub.input) ≡ None
       → program_in_bytes sub.input ≡ read → IsLoad (read_program operations sub s load read)
-  read_is (Err fault) passed e = record { answered = refl; state = inl refl }
+  read_is (Err fault) passed e = record { replied = refl; state = inl refl }
   read_is (Ok program) passed e = judged_is program (refusal operations program (sizes_for s load)) passed e refl
 
   unless_is : (why : Option Status) (starved : Bool) → first_failed (load_checks s load sub.input) ≡ why
       → IsLoad (load_unless operations why starved sub s load)
-  unless_is (Some status) starved e = record { answered = refl; state = inl refl }
-  unless_is None true e = record { answered = refl; state = inl refl }
+  unless_is (Some status) starved e = record { replied = refl; state = inl refl }
+  unless_is None true e = record { replied = refl; state = inl refl }
   unless_is None false e = read_is (program_in_bytes sub.input) e refl
 
   pub loading_is : (starved : Bool) → IsLoad (loading operations starved sub s load)

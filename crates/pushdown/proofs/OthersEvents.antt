@@ -4,7 +4,7 @@ use Rattle.std.specs.Prelude.{is_none, position, nat_eq}
 use Rattle.std.proofs.lemmas.Bool.{eqb-false}
 use Rattle.std.proofs.lemmas.List.Quantifiers.{position-Some}
 use Rattle.word_domain.specs.Domain.{Operations}
-use Rattle.pushdown.specs.Answers.{Happening}
+use Rattle.pushdown.specs.EventReplies.{Happening}
 use Rattle.pushdown.specs.Laws.{ForeignLeavesTurns, TurnTakesFirst}
 use Rattle.pushdown.specs.Machine.{admitted_place, happens, place_left, take_turn, turned, turned_at}
 use Rattle.pushdown.specs.Outcome.{Turn}

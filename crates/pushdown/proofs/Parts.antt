@@ -3,10 +3,10 @@ use Rattle.std.proofs.Common.{suc, ◌≡◌, ℕ, List, [], ◌∷◌, ◌++◌
 use Rattle.std.proofs.lemmas.List.{map-append}
 use Rattle.word_domain.specs.Domain.{Operations}
 use Rattle.device_events.specs.Replies.{Joins, ReplyWithData}
-use Rattle.pushdown.specs.Draining.{AreLowest, Drains, answers_to_turns, lowest_run, state_after_turns}
-use Rattle.pushdown.specs.Events.{Occurrence, answers_to, state_after}
+use Rattle.pushdown.specs.Draining.{AreLowest, Drains, lowest_run, replies_to_turns, state_after_turns}
+use Rattle.pushdown.specs.Events.{Occurrence, replies_to, state_after}
 use Rattle.pushdown.specs.Machine.{happens, turned}
-use Rattle.pushdown.specs.Parts.{DrainedByTurns, DrainedInOneWay, EventsJoin, InParts, OneAnswerEach, ServedAndDrained, ServedInParts, turn_events}
+use Rattle.pushdown.specs.Parts.{DrainedByTurns, DrainedInOneWay, EventsJoin, InParts, OneReplyEach, ServedAndDrained, ServedInParts, turn_events}
 use Rattle.pushdown.specs.Pushdown.{HasBytes}
 use Rattle.pushdown.specs.State.{State}
 use Rattle.device_events.specs.declared.event.Event.{Event}
@@ -19,24 +19,24 @@ module _ {D : Type 0} (operations : Operations D) where
   abbrev next : Occurrence → State → State
   next o s = (happens operations s o.starved o.event).state
 
-  pub one_answer_each : OneAnswerEach operations
-  one_answer_each [] s = refl
-  one_answer_each (o ∷ os) s = ap suc (one_answer_each os (next o s))
+  pub one_reply_each : OneReplyEach operations
+  one_reply_each [] s = refl
+  one_reply_each (o ∷ os) s = ap suc (one_reply_each os (next o s))
 
   pub state_after-append : (first later : List Occurrence) (s : State)
       → state_after operations (first ++ later) s ≡ state_after operations later (state_after operations first s)
   state_after-append [] later s = refl
   state_after-append (o ∷ os) later s = state_after-append os later (next o s)
 
-  pub answers_to-append : (first later : List Occurrence) (s : State)
-      → answers_to operations (first ++ later) s
-      ≡ answers_to operations first s ++ answers_to operations later (state_after operations first s)
-  answers_to-append [] later s = refl
-  answers_to-append (o ∷ os) later s =
-      ap (λ (answers : List ReplyWithData). (happens operations s o.starved o.event).answer ∷ answers) (answers_to-append os later (next o s))
+  pub replies_to-append : (first later : List Occurrence) (s : State)
+      → replies_to operations (first ++ later) s
+      ≡ replies_to operations first s ++ replies_to operations later (state_after operations first s)
+  replies_to-append [] later s = refl
+  replies_to-append (o ∷ os) later s =
+      ap (λ (replies : List ReplyWithData). (happens operations s o.starved o.event).reply ∷ replies) (replies_to-append os later (next o s))
 
   pub in_parts : InParts operations
-  in_parts first later s = record { answers = answers_to-append first later s; state = state_after-append first later s }
+  in_parts first later s = record { replies = replies_to-append first later s; state = state_after-append first later s }
 
   state_in_parts : (first later : List Occurrence) (old between new : State)
       → between ≡ state_after operations first old → new ≡ state_after operations later between
@@ -50,25 +50,25 @@ module _ {D : Type 0} (operations : Operations D) where
   turns_state [] s = refl
   turns_state (run ∷ runs) s = turns_state runs (turned s run).state
 
-  pub turns_answers : (runs : List ℕ) (s : State) → answers_to_turns runs s ≡ answers_to operations (turn_events runs) s
-  turns_answers [] s = refl
-  turns_answers (run ∷ runs) s =
-      ap (λ (answers : List ReplyWithData). (turned s run).answer ∷ answers) (turns_answers runs (turned s run).state)
+  pub turns_replies : (runs : List ℕ) (s : State) → replies_to_turns runs s ≡ replies_to operations (turn_events runs) s
+  turns_replies [] s = refl
+  turns_replies (run ∷ runs) s =
+      ap (λ (replies : List ReplyWithData). (turned s run).reply ∷ replies) (turns_replies runs (turned s run).state)
 
   pub drained_by_turns : DrainedByTurns operations
-  drained_by_turns runs s = record { answers = turns_answers runs s; state = turns_state runs s }
+  drained_by_turns runs s = record { replies = turns_replies runs s; state = turns_state runs s }
 
-  -- ---- what takes the answers, in two parts
+  -- ---- what takes the replies, in two parts
 
   module _ {T : Type 0} (took : T → T → List ReplyWithData → Type 0) (joins : Joins took) where
     taken_in_parts : (first later : List Occurrence) (old between : State) (before then after : T) → between ≡ state_after operations first old
-        → took before then (answers_to operations first old) → took then after (answers_to operations later between)
-        → took before after (answers_to operations (first ++ later) old)
+        → took before then (replies_to operations first old) → took then after (replies_to operations later between)
+        → took before after (replies_to operations (first ++ later) old)
     taken_in_parts first later old between before then after state early late =
-        let done = answers_to operations first old in
-        subst (took before after) (sym (answers_to-append first later old))
-        (subst (λ (s : State). took before after (done ++ answers_to operations later s)) state
-        (joins before then after done (answers_to operations later between) early late))
+        let done = replies_to operations first old in
+        subst (took before after) (sym (replies_to-append first later old))
+        (subst (λ (s : State). took before after (done ++ replies_to operations later s)) state
+        (joins before then after done (replies_to operations later between) early late))
 
     pub served_in_parts : ServedInParts operations took
     served_in_parts first later old between new before then after a b = record {
@@ -78,7 +78,7 @@ module _ {D : Type 0} (operations : Operations D) where
           ∙ ap (λ (events : List Event). events ++ map (λ (o : Occurrence). o.event) b.occurrences) a.are
           ∙ ap (λ (events : List Event). first ++ events) b.are;
       state = state_in_parts a.occurrences b.occurrences old between new a.state b.state;
-      answers = taken_in_parts a.occurrences b.occurrences old between before then after a.state a.answers b.answers;
+      replies = taken_in_parts a.occurrences b.occurrences old between before then after a.state a.replies b.replies;
     }
 
     pub served_and_drained : ServedAndDrained operations took
@@ -91,8 +91,8 @@ module _ {D : Type 0} (operations : Operations D) where
           runs = runs;
           drains = subst (λ (s : State). Drains s runs) served.state drained.drains;
           state = state_in_parts served.occurrences turns old between new served.state (drained.state ∙ turns_state runs between);
-          answers = taken_in_parts served.occurrences turns old between before then after served.state served.answers
-              (subst (took then after) (turns_answers runs between) drained.answers);
+          replies = taken_in_parts served.occurrences turns old between before then after served.state served.replies
+              (subst (took then after) (turns_replies runs between) drained.replies);
           none_left = ap lowest_run drained.state ∙ drained.drains.none_left;
         }
 

@@ -1,4 +1,4 @@
--- An entry that is answered Pending is a Run that is admitted.
+-- An entry whose reply is Pending is a Run that is admitted.
 use Rattle.std.proofs.Common.{◌≡◌, ℕ, Bool, true, false, Option, Some, None, Result, Ok, Err, refl, ap}
 use Rattle.zone_state.specs.declared.status.Status.{Status}
 use Rattle.zone_state.specs.Checks.{first_failed}
@@ -9,7 +9,7 @@ use Rattle.nvme_entry.specs.declared.command.RunCommand.{RunCommand}
 use Rattle.word_domain.specs.Domain.{Operations}
 use Rattle.zns_commands.specs.Transfer.{transfer_checks}
 use Rattle.pushdown.specs.Admission.{Loaded}
-use Rattle.pushdown.specs.Answers.{Happening, Submission, plain}
+use Rattle.pushdown.specs.EventReplies.{Happening, Submission, plain}
 use Rattle.device_events.specs.Replies.{ReplyWithData}
 use Rattle.pushdown.specs.Laws.{PendingIsAdmitted}
 use Rattle.pushdown.specs.Machine.{result_by, start_by, submitted, why_not_run}
@@ -31,7 +31,7 @@ other_reply t run other is =
     let pends_so : is_pending t.reply ≡ true = ap (λ (x : ReplyWithData). is_pending x.reply) is in cc
 
 abbrev IsPending : ℕ → Happening → Type 0
-IsPending run h = h.answer ≡ plain (reply.Pending run)
+IsPending run h = h.reply ≡ plain (reply.Pending run)
 
 given_pends : (slot : Option Loaded) (why : Option Status) (sub : Submission) (s : State) (run : ℕ) → IsPending run (result_by slot why sub s) → ⊥
 given_pends slot (Some status) sub s run is = other_reply _ run refl is
@@ -50,7 +50,7 @@ module _ {D : Type 0} (operations : Operations D) where
   pends starved sub s (Err status) run e is = absurd (other_reply _ run refl is)
   pends starved sub s (Ok (command.Standard c)) run e is = absurd (other_reply _ run refl is)
   pends starved sub s (Ok (command.Load load)) run e is =
-      absurd (other_reply _ run (loading_is operations sub s load starved).answered is)
+      absurd (other_reply _ run (loading_is operations sub s load starved).replied is)
   pends starved sub s (Ok (command.Run order)) run e is =
       let both = start_pends (why_not_run sub s order) (free_run s) sub s order run is in
       (order, record { asked = e; passed = both.0; free = both.1 })

@@ -7,7 +7,7 @@ use Rattle.pushdown.specs.AnyOrder.{TurnsInAnyOrder}
 use Rattle.pushdown.specs.Laws.{BlocksLeaveOthers, DrainingEnds, EventsKeepForRuns, RestEnds, RestGoesOn, RestIsFew, RoomIsOpen, RoomStays, StatesAreSound, TurnsLeaveFewer}
 use Rattle.pushdown.specs.Parts.{DrainedByTurns, EventsJoin, InParts, ServedAndDrained}
 use Rattle.pushdown.specs.Pushdown.{Pushdown}
-use Rattle.pushdown.specs.ReadBack.{AppendedReadsBack, RunsReadBack, WrittenReadsBack}
+use Rattle.pushdown.specs.ReadBack.{AppendsReadBack, RunsReadBack, WritesReadBack}
 use Rattle.pushdown.specs.View.{SeenAtAdmission, SeenStays}
 use Rattle.pushdown.proofs.Added as added
 use Rattle.pushdown.proofs.AnyOrder as any_order
@@ -62,10 +62,10 @@ module _ {D : Type 0} (operations : Operations D) where
   pub events_keep_for_runs : EventsKeepForRuns operations
   events_keep_for_runs = kept.events_keep_for_runs operations
 
-  pub appended_reads_back : AppendedReadsBack operations
+  pub appended_reads_back : AppendsReadBack operations
   appended_reads_back = read_back.appended_reads_back operations
 
-  pub written_reads_back : WrittenReadsBack operations
+  pub written_reads_back : WritesReadBack operations
   written_reads_back = read_back.written_reads_back operations
 
   module _ (never : AcceptedNeverTraps operations) where

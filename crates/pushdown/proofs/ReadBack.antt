@@ -19,15 +19,15 @@ use Rattle.image_store.proofs.Proved.{written_is_within}
 use Rattle.zns_commands.specs.Address.{zone_number}
 use Rattle.zns_commands.specs.Answer.{Effect}
 use Rattle.zns_commands.specs.Meaning.{meaning}
-use Rattle.zns_commands.specs.Laws.{AreRead as GivesBlocks}
+use Rattle.zns_commands.specs.Laws.{AreRead}
 use Rattle.zns_commands.specs.Read.{read_refusal}
 use Rattle.zns_commands.proofs.Proved.{appended_stays, lying_is_read, written_stays}
 use Rattle.zns_commands.proofs.Proved.{BlocksLieAt, KeepsZone}
-use Rattle.pushdown.specs.Answers.{Happening, Submission}
+use Rattle.pushdown.specs.EventReplies.{Happening, Submission}
 use Rattle.pushdown.specs.Events.{Occurrence, state_after}
 use Rattle.pushdown.specs.Machine.{commanded, happens, submitted}
 use Rattle.pushdown.specs.Pushdown.{blocks_at}
-use Rattle.pushdown.specs.ReadBack.{AppendedReadsBack, AreRead, BlocksAreRead, IsCompleted, NoneClears, Submits, WrittenIsRead, WrittenReadsBack}
+use Rattle.pushdown.specs.ReadBack.{AppendsReadBack, BlocksAreRead, IsCompleted, NoEventClears, ReadsGive, Submits, WritesReadBack, WrittenIsRead}
 use Rattle.pushdown.specs.State.{State, holds_of}
 use Rattle.device_events.specs.declared.event.Event.{Event}
 use Rattle.device_events.specs.declared.event.Event.TheVariants as event
@@ -61,7 +61,7 @@ three front more behind = simp length-append
 -- some of a zone's blocks, behind others of them
 pub blocks_read : (ns : ZonedNamespace) (z : ℕ) (front more behind : List (List ℕ)) → IsNamespace ns
     → (zone_at ns z).blocks ≡ front ++ (more ++ behind) → 1 ≤ length more → length more * ns.block ≤ MOST_TRANSFER
-    → GivesBlocks ns (z * ns.size + length front) (length more) (bytes_of more)
+    → AreRead ns (z * ns.size + length front) (length more) (bytes_of more)
 blocks_read ns z front more behind is there some transfer =
     let all = ap length there ∙ three front more behind in
     let within = inside ns.zones z (omega (arith, all, some)) in
@@ -108,15 +108,15 @@ module _ {D : Type 0} (operations : Operations D) where
   has_blocks (event.Fault zone state) c input is = absurd is
 
   -- what is read of a namespace is read of a device
-  pub reads : (s : State) (lba blocks : ℕ) (bytes : List ℕ) → GivesBlocks s.namespace lba blocks bytes
-      → AreRead operations s lba blocks bytes
+  pub reads : (s : State) (lba blocks : ℕ) (bytes : List ℕ) → AreRead s.namespace lba blocks bytes
+      → ReadsGive operations s lba blocks bytes
   reads s lba blocks bytes is read submits =
       subst (λ (o : Effect). IsCompleted read.event s o (happens operations s read.starved read.event)) (is (holds_of s))
       (completed read.event (Read lba blocks) [] s read.starved submits)
 
   -- what is left of a zone after a command and after events that don't clear it
   lasts : (s : State) (o : Occurrence) (c : StandardCommand) (input : List ℕ) (events : List Occurrence) (z : ℕ) → Submits o.event c input
-      → NoneClears operations z events (happens operations s o.starved o.event).state
+      → NoEventClears operations z events (happens operations s o.starved o.event).state
       → KeepsZone (meaning s.namespace (holds_of s) c input).namespace
       (state_after operations events (happens operations s o.starved o.event).state).namespace z
   lasts s o c input events z is none =
@@ -124,7 +124,7 @@ module _ {D : Type 0} (operations : Operations D) where
       let last = state_after operations events then in
       subst (λ (ns : ZonedNamespace). KeepsZone ns last.namespace z) (leaves o.event c input s o.starved is) (events_keep operations events then z none)
 
-  pub appended_reads_back : AppendedReadsBack operations
+  pub appended_reads_back : AppendsReadBack operations
   appended_reads_back s sound o lba blocks input events is succeeded none =
       let ns = s.namespace in
       let c = Append lba blocks in
@@ -134,7 +134,7 @@ module _ {D : Type 0} (operations : Operations D) where
       let later = appended_stays ns (holds_of s) lba blocks input last.namespace sound (has_blocks o.event c input is) succeeded keeps in
       (completed o.event c input s o.starved is, reads last (done.dw0 + done.dw1 * 2 ^ 32) blocks input later)
 
-  pub written_reads_back : WrittenReadsBack operations
+  pub written_reads_back : WritesReadBack operations
   written_reads_back s sound o lba blocks input events is succeeded none =
       let ns = s.namespace in
       let c = Write lba blocks in
@@ -163,7 +163,7 @@ module _ {D : Type 0} (operations : Operations D) where
   -- a part of blocks that lie in a zone behind others
   pub part_is_read : (s : State) (z : ℕ) (front all behind : List (List ℕ)) (at blocks : ℕ) → IsNamespace s.namespace
       → blocks_at s z ≡ front ++ (all ++ behind) → at + blocks ≤ length all → 1 ≤ blocks → blocks * s.namespace.block ≤ MOST_TRANSFER
-      → AreRead operations s (z * s.namespace.size + length front + at) blocks (bytes_of (take blocks (drop at all)))
+      → ReadsGive operations s (z * s.namespace.size + length front + at) blocks (bytes_of (take blocks (drop at all)))
   part_is_read s z front all behind at blocks is there within some transfer =
       let ns = s.namespace in
       let part = is_part all at blocks within in
@@ -179,27 +179,27 @@ module _ {D : Type 0} (operations : Operations D) where
       let joined = length-append front before in
       let start : z * ns.size + length (front ++ before) ≡ z * ns.size + length front + at = omega (arith, joined, part.start) in
       reads operations s (z * ns.size + length front + at) blocks (bytes_of more)
-      (subst (λ (lba : ℕ). GivesBlocks ns lba blocks (bytes_of more)) start
-      (subst (λ (n : ℕ). GivesBlocks ns (z * ns.size + length (front ++ before)) n (bytes_of more)) part.count read))
+      (subst (λ (lba : ℕ). AreRead ns lba blocks (bytes_of more)) start
+      (subst (λ (n : ℕ). AreRead ns (z * ns.size + length (front ++ before)) n (bytes_of more)) part.count read))
 
   pub written_is_read : WrittenIsRead operations
   written_is_read s z at blocks is within some transfer =
       let all = blocks_at s z in
       let same : z * s.namespace.size + 0 + at ≡ z * s.namespace.size + at = omega arith in
-      subst (λ (lba : ℕ). AreRead operations s lba blocks (bytes_of (take blocks (drop at all)))) same
+      subst (λ (lba : ℕ). ReadsGive operations s lba blocks (bytes_of (take blocks (drop at all)))) same
       (part_is_read s z [] all [] at blocks is (sym (append-nil all)) within some transfer)
 
   -- blocks of which each is read are read one after another
   pub each_is_read : (s : State) (all : List (List ℕ)) (lba : ℕ)
-      → ((at : ℕ) → at + 1 ≤ length all → AreRead operations s (lba + at) 1 (bytes_of (take 1 (drop at all))))
+      → ((at : ℕ) → at + 1 ≤ length all → ReadsGive operations s (lba + at) 1 (bytes_of (take 1 (drop at all))))
       → BlocksAreRead operations s lba all
   each_is_read s [] lba each = tt
   each_is_read s (b ∷ bs) lba each =
       let first : lba + 0 ≡ lba = omega arith in (
-        subst (λ (n : ℕ). AreRead operations s n 1 b) first
-            (subst (λ (bytes : List ℕ). AreRead operations s (lba + 0) 1 bytes) (append-nil b) (each 0 (omega arith))),
+        subst (λ (n : ℕ). ReadsGive operations s n 1 b) first
+            (subst (λ (bytes : List ℕ). ReadsGive operations s (lba + 0) 1 bytes) (append-nil b) (each 0 (omega arith))),
         each_is_read s bs (lba + 1)
             (λ at within.
             let next : lba + suc at ≡ lba + 1 + at = omega arith in
-            subst (λ (n : ℕ). AreRead operations s n 1 (bytes_of (take 1 (drop at bs)))) next (each (suc at) (omega arith))),
+            subst (λ (n : ℕ). ReadsGive operations s n 1 (bytes_of (take 1 (drop at bs)))) next (each (suc at) (omega arith))),
       )

@@ -14,11 +14,11 @@ use Rattle.image_store.specs.Geometry.{Shape}
 use Rattle.image_store.specs.Namespace.{ZonedNamespace, shape, IsNamespace}
 use Rattle.nvme_entry.proofs.Proved.{demanded, passed}
 use Rattle.pushdown.specs.Admission.{admission_checks}
-use Rattle.pushdown.specs.Answers.{Submission}
+use Rattle.pushdown.specs.EventReplies.{Submission}
 use Rattle.pushdown.specs.Events.{Occurrence, state_after}
 use Rattle.pushdown.specs.Outcome.{Turn, appended_by}
 use Rattle.pushdown.specs.Pushdown.{AreEvents, IsAdmitted, blocks_at}
-use Rattle.pushdown.specs.ReadBack.{AppendedAreRead, AreRead, EmittedAreRead, NoneClears, RunsReadBack, after_turn, done, place, pointer, submitted}
+use Rattle.pushdown.specs.ReadBack.{AppendedAreRead, EmittedAreRead, NoEventClears, ReadsGive, RunsReadBack, after_turn, done, place, pointer, submitted}
 use Rattle.pushdown.specs.State.{State, free_run, holds_of, new_state, program_at}
 use Rattle.device_events.specs.declared.event.Event.TheVariants as event
 use Rattle.pushdown.proofs.Emitted.{emitted_reads_back}
@@ -82,10 +82,10 @@ module _ {D : Type 0} (operations : Operations D) (never : AcceptedNeverTraps op
   -- each part of these blocks is read
   abbrev PartsAreRead : List (List ℕ) → Type 0
   PartsAreRead all = (at blocks : ℕ) → at + blocks ≤ length all → 1 ≤ blocks → blocks * s.namespace.block ≤ MOST_TRANSFER
-      → AreRead operations last (start + at) blocks (bytes_of (take blocks (drop at all)))
+      → ReadsGive operations last (start + at) blocks (bytes_of (take blocks (drop at all)))
 
   module _ (admitted : IsAdmitted s sub order run) (fit : AreEvents events) (fit_later : AreEvents later) (less : so_far < length turns)
-      (none : NoneClears operations destination later next) where
+      (none : NoEventClears operations destination later next) where
     last_sound : IsNamespace last.namespace
     last_sound =
         let now_fine = events_fine operations never ns.block (asked ∷ events) s fine (admitted_bytes s sub order run admitted, fit) in
@@ -101,7 +101,7 @@ module _ {D : Type 0} (operations : Operations D) (never : AcceptedNeverTraps op
         let lie : blocks_at last destination ≡ held ++ (all ++ grows.more) =
         grows.is ∙ (ap (λ (xs : List (List ℕ)). xs ++ grows.more) (theorem.does_its_turns less).then_appended ∙ append_assoc held all grows.more) in
         let few = subst (λ (x : Shape). blocks * x.block ≤ MOST_TRANSFER) (sym last_shape) transfer in
-        subst (λ (x : Shape). AreRead operations last (destination * x.size + length held + at) blocks (bytes_of (take blocks (drop at all)))) last_shape
+        subst (λ (x : Shape). ReadsGive operations last (destination * x.size + length held + at) blocks (bytes_of (take blocks (drop at all)))) last_shape
         (part_is_read operations last destination held all grows.more at blocks last_sound lie within some few)
 
     emitted_are_read : so_far + 1 ≡ length turns → EmittedAreRead operations s queue entry input starved order run events later

@@ -36,7 +36,7 @@ use Rattle.zns_commands.specs.Laws.{IsSpelled, NamespaceEvent, after}
 use Rattle.zns_commands.proofs.Proved.{destinations_are_left, events_keep_namespaces, events_keep_shapes}
 use Rattle.nvme_entry.proofs.Proved.{demanded, passed}
 use Rattle.pushdown.specs.Admission.{Loaded, admission_checks, source_blocks, task_of}
-use Rattle.pushdown.specs.Answers.{Submission}
+use Rattle.pushdown.specs.EventReplies.{Submission}
 use Rattle.pushdown.specs.BlockRuns.{Task, groups_of, no_scratch, runs_of}
 use Rattle.pushdown.specs.Events.{Occurrence, state_after}
 use Rattle.pushdown.specs.Laws.{IsAppended, RoomIn, StatesAreSound}

@@ -9,11 +9,12 @@ use Rattle.word_domain.specs.Domain.{Operations}
 use Rattle.image_store.specs.Namespace.{ZoneBlocks, ZonedNamespace, zone_at}
 use Rattle.zns_commands.proofs.Proved.{destinations_are_left}
 use Rattle.pushdown.specs.Admission.{SameProgram}
-use Rattle.pushdown.specs.Answers.{Happening}
+use Rattle.pushdown.specs.EventReplies.{Happening}
 use Rattle.pushdown.specs.Events.{Occurrence, state_after}
-use Rattle.pushdown.specs.Machine.{added, happens, keeping, place_left, slots_left, turn_answer, turned}
+use Rattle.pushdown.specs.Machine.{added, happens, keeping, place_left, slots_left, turn_reply, turned}
 use Rattle.pushdown.specs.Outcome.{Ending, Turn, appended_by}
-use Rattle.pushdown.specs.Pushdown.{EndsWithLast, blocks_at, is_turn_of, no_turn, one_if, own_turns}
+use Rattle.zone_resources.specs.Counts.{one_if}
+use Rattle.pushdown.specs.Pushdown.{EndsWithLast, blocks_at, is_turn_of, no_turn, own_turns}
 use Rattle.pushdown.specs.State.{Place, State, place_at, program_at}
 use Rattle.device_events.specs.declared.event.Event.{Event}
 use Rattle.device_events.specs.declared.event.Event.TheVariants as event
@@ -173,7 +174,7 @@ slots_of s place turns (Some ending) = refl
 -- ---- what the next turn does
 
 pub record Next (s now : State) (run : ℕ) (place : Place) (turns : List Turn) (k : ℕ) : Type 0 where
-  pub answer : (turned now run).answer ≡ turn_answer run place (get_or turns k no_turn).ending
+  pub reply : (turned now run).reply ≡ turn_reply run place (get_or turns k no_turn).ending
   pub namespace : (turned now run).state.namespace ≡ added now.namespace place.destination (get_or turns k no_turn).blocks
   pub at_its_end : blocks_at (turned now run).state place.destination ≡ blocks_at now place.destination ++ (get_or turns k no_turn).blocks
   pub then_appended : blocks_at (turned now run).state place.destination
@@ -195,7 +196,7 @@ next_is s now run place turns k stands less =
     let same = ap (λ (h : Happening). h.state.namespace) took in
     let grown_by = ap (λ (ns : ZonedNamespace). (zone_at ns d).blocks) same ∙ (is_added now.namespace d turn.blocks stands.on).blocks_is in
     record {
-      answer = ap (λ (h : Happening). h.answer) took;
+      reply = ap (λ (h : Happening). h.reply) took;
       namespace = same;
       at_its_end = grown_by;
       then_appended = grown_by ∙ ap (λ (xs : List (List ℕ)). xs ++ turn.blocks) stands.appended

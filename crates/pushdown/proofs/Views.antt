@@ -7,7 +7,7 @@ use Rattle.image_store.specs.Namespace.{ZonedNamespace, zone_at}
 use Rattle.zns_commands.specs.Address.{zone_number}
 use Rattle.zns_commands.specs.Left.{Grows}
 use Rattle.pushdown.specs.Admission.{limit_in, program_in, source_blocks, task_of}
-use Rattle.pushdown.specs.Answers.{Submission}
+use Rattle.pushdown.specs.EventReplies.{Submission}
 use Rattle.pushdown.specs.BlockRuns.{Task}
 use Rattle.pushdown.specs.Machine.{admitted_place}
 use Rattle.pushdown.specs.Outcome.{Turn, at_admission, rest}

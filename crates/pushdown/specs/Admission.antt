@@ -90,9 +90,13 @@ admission_checks ns holds place_free slot order input =
 abbrev pub run_refusal : ZonedNamespace → Holds → Bool → Option Loaded → RunCommand → List ℕ → Option Status
 run_refusal ns holds place_free slot order input = first_failed (admission_checks ns holds place_free slot order input)
 
+-- so many blocks of a zone from one on, as far as they are written
+abbrev pub written_from : ZonedNamespace → ℕ → ℕ → ℕ → List (List ℕ)
+written_from ns z offset count = take count (drop offset (zone_at ns z).blocks)
+
 -- the blocks that a run reads, as they are when it is admitted
 abbrev pub source_blocks : ZonedNamespace → RunCommand → List (List ℕ)
-source_blocks ns order = take order.blocks (drop (order.lba % ns.size) (zone_at ns (source_zone ns order)).blocks)
+source_blocks ns order = written_from ns (source_zone ns order) (order.lba % ns.size) order.blocks
 
 -- what a run is about of this program, of whose groups so many bytes are the most
 abbrev pub task_by : ZonedNamespace → List (Option Insn) → ℕ → RunCommand → Task

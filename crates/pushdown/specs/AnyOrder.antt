@@ -5,7 +5,7 @@ use Rattle.word_domain.specs.Domain.{Operations}
 use Rattle.image_store.specs.Namespace.{ZonedNamespace, IsNamespace}
 use Rattle.pushdown.specs.Admission.{SameProgram}
 use Rattle.device_events.specs.Replies.{ReplyWithData}
-use Rattle.pushdown.specs.Draining.{answers_to_turns, state_after_turns}
+use Rattle.pushdown.specs.Draining.{replies_to_turns, state_after_turns}
 use Rattle.pushdown.specs.Events.{Occurrence, state_after}
 use Rattle.pushdown.specs.Pushdown.{AreEvents}
 use Rattle.pushdown.specs.State.{Place, State, new_state, place_at, program_at}
@@ -14,9 +14,9 @@ use Rattle.pushdown.specs.State.{Place, State, new_state, place_at, program_at}
 abbrev pub AreSameTurns : List ℕ → List ℕ → Type 0
 AreSameTurns first second = (run : ℕ) → count_by (λ r. r == run) first ≡ count_by (λ r. r == run) second
 
--- of the answers to turns of these runs, those to the turns of one run, in order
-abbrev pub own_answers : ℕ → List ℕ → List ReplyWithData → List ReplyWithData
-own_answers run runs answers = map (λ x. x.1) (filter (λ x. x.0 == run) (zip runs answers))
+-- of the replies to turns of these runs, those to the turns of one run, in order
+abbrev pub own_replies : ℕ → List ℕ → List ReplyWithData → List ReplyWithData
+own_replies run runs replies = map (λ x. x.1) (filter (λ x. x.0 == run) (zip runs replies))
 
 -- no two active runs have their program in this slot
 abbrev pub IsUnshared : State → ℕ → Type 0
@@ -24,7 +24,7 @@ IsUnshared s slot =
     (j k : ℕ) (p q : Place) → place_at s j ≡ Some p → place_at s k ≡ Some q → p.slot ≡ slot → q.slot ≡ slot → j ≡ k
 
 -- Turns of the one list and of the other leave states with the same namespace, the same runs and the same
--- programs, and give each run the same answers, in order. Of the results that two runs of one slot leave the
+-- programs, and give each run the same replies, in order. Of the results that two runs of one slot leave the
 -- later one is kept: a slot that no two runs share has the same result too, and where no slot is shared the
 -- states are the same.
 pub record ComeToTheSame (s : State) (first second : List ℕ) : Type 0 where
@@ -33,7 +33,7 @@ pub record ComeToTheSame (s : State) (first second : List ℕ) : Type 0 where
   pub programs : (slot : ℕ) → SameProgram (program_at (state_after_turns first s) slot) (program_at (state_after_turns second s) slot)
   pub results : (slot : ℕ) → IsUnshared s slot → program_at (state_after_turns first s) slot ≡ program_at (state_after_turns second s) slot
   pub whole : ((slot : ℕ) → IsUnshared s slot) → state_after_turns first s ≡ state_after_turns second s
-  pub answers : (run : ℕ) → own_answers run first (answers_to_turns first s) ≡ own_answers run second (answers_to_turns second s)
+  pub replies : (run : ℕ) → own_replies run first (replies_to_turns first s) ≡ own_replies run second (replies_to_turns second s)
 
 -- In each state that events leave, turns come to the same in any order: all runs there append to different
 -- zones.

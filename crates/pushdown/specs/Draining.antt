@@ -8,10 +8,10 @@ use Rattle.pushdown.specs.State.{Place, State}
 abbrev pub lowest_run : State → Option ℕ
 lowest_run s = position is_some s.places
 
--- the turns of these runs, one after another: their answers, and the state after them
-abbrev pub answers_to_turns : List ℕ → State → List ReplyWithData
-answers_to_turns [] s = []
-answers_to_turns (run ∷ runs) s = (turned s run).answer ∷ answers_to_turns runs (turned s run).state
+-- the turns of these runs, one after another: the replies to them, and the state after them
+abbrev pub replies_to_turns : List ℕ → State → List ReplyWithData
+replies_to_turns [] s = []
+replies_to_turns (run ∷ runs) s = (turned s run).reply ∷ replies_to_turns runs (turned s run).state
 
 abbrev pub state_after_turns : List ℕ → State → State
 state_after_turns [] s = s
@@ -37,14 +37,14 @@ pub record Drains (s : State) (runs : List ℕ) : Type 0 where
   pub none_left : lowest_run (state_after_turns runs s) ≡ None
   pub few : length runs ≤ turns_left s.places
 
--- what a device does that is drained; `took` says of its answers that they were taken
+-- what a device does that is drained; `took` says of its replies that they were taken
 pub record HasDrained (old new : State) (took : List ReplyWithData → Type 0) : Type 0 where
   pub runs : List ℕ
   pub drains : Drains old runs
   pub state : new ≡ state_after_turns runs old
-  pub answers : took (answers_to_turns runs old)
+  pub replies : took (replies_to_turns runs old)
 
--- so many turns are done, each of the lowest active run of then, and the answer to the last of them was
+-- so many turns are done, each of the lowest active run of then, and the reply to the last of them was
 -- refused; those before it were taken
 pub record StopsDraining (old new : State) (took : List ReplyWithData → Type 0) (done : ℕ) : Type 0 where
   pub runs : List ℕ
@@ -53,4 +53,4 @@ pub record StopsDraining (old new : State) (took : List ReplyWithData → Type 0
   pub given : length runs ≡ done
   pub few : done ≤ turns_left old.places
   pub state : new ≡ state_after_turns runs old
-  pub answers : took (answers_to_turns (take (done - 1) runs) old)
+  pub replies : took (replies_to_turns (take (done - 1) runs) old)

@@ -12,10 +12,10 @@ pub record Occurrence : Type 0 where
   pub starved : Bool
 
 module _ {D : Type 0} (operations : Operations D) where
-  -- the answers to events, in order
-  abbrev pub answers_to : List Occurrence → State → List ReplyWithData
-  answers_to [] s = []
-  answers_to (o ∷ os) s = (happens operations s o.starved o.event).answer ∷ answers_to os (happens operations s o.starved o.event).state
+  -- the replies to events, in order
+  abbrev pub replies_to : List Occurrence → State → List ReplyWithData
+  replies_to [] s = []
+  replies_to (o ∷ os) s = (happens operations s o.starved o.event).reply ∷ replies_to os (happens operations s o.starved o.event).state
 
   -- the state after events
   abbrev pub state_after : List Occurrence → State → State
@@ -30,24 +30,24 @@ abbrev pub AreOf : List Event → List Occurrence → Type 0
 AreOf events occurrences = map (λ o. o.event) occurrences ≡ events
 
 module _ {D : Type 0} (operations : Operations D) where
-  -- one event led from one state to the other, and was answered so
-  pub record HasHappened (e : Event) (old new : State) (answer : ReplyWithData) : Type 0 where
+  -- one event led from one state to the other, with this reply
+  pub record HasHappened (e : Event) (old new : State) (reply : ReplyWithData) : Type 0 where
     pub starved : Bool
     pub state : new ≡ (happens operations old starved e).state
-    pub answered : answer ≡ (happens operations old starved e).answer
+    pub replied : reply ≡ (happens operations old starved e).reply
 
-  -- events were done; `took` says of their answers that they were taken
+  -- events were done; `took` says of their replies that they were taken
   pub record HasServed (events : List Event) (old new : State) (took : List ReplyWithData → Type 0) : Type 0 where
     pub occurrences : List Occurrence
     pub are : AreOf events occurrences
     pub state : new ≡ state_after operations occurrences old
-    pub answers : took (answers_to operations occurrences old)
+    pub replies : took (replies_to operations occurrences old)
 
-  -- so many events are done, and the answer to the last of them was refused; those before it were taken
+  -- so many events are done, and the reply to the last of them was refused; those before it were taken
   pub record HasStopped (events : List Event) (old new : State) (took : List ReplyWithData → Type 0) (done : ℕ) : Type 0 where
     pub some : 1 ≤ done
     pub within : done ≤ length events
     pub occurrences : List Occurrence
     pub are : AreOf (take done events) occurrences
     pub state : new ≡ state_after operations occurrences old
-    pub answers : took (answers_to operations (take (done - 1) occurrences) old)
+    pub replies : took (replies_to operations (take (done - 1) occurrences) old)

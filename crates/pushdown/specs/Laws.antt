@@ -1,4 +1,4 @@
--- Laws of the definitions.
+-- Laws of runs: what is left of them, whose turns are fixed, the room for what they append, and what it is.
 use Rattle.std.specs.Prelude.{◌≤◌, ◌*◌, ℕ, Bool, true, false, ◌≡◌, ◌≢◌, ◌+◌, List, [], ◌∷◌, length, map, Vec, Option, Some, None, Ok, ◌⊎◌, is_some}
 use Rattle.std.specs.List.{AllByRecursion, concat, flat_map}
 use Rattle.std.specs.declared.alloc.Global.{Global}
@@ -16,7 +16,7 @@ use Rattle.image_store.specs.Namespace.{ZoneBlocks, ZonedNamespace, zone_at, sha
 use Rattle.zns_commands.specs.Append.{TakesBlocks, append_effect}
 use Rattle.zns_commands.specs.Left.{Grows}
 use Rattle.pushdown.specs.Admission.{SameProgram, source_blocks, task_of}
-use Rattle.pushdown.specs.Answers.{Happening, Submission, plain}
+use Rattle.pushdown.specs.EventReplies.{Happening, Submission, plain}
 use Rattle.pushdown.specs.BlockRuns.{Task, block_run, frames_of, goes_on, groups_of, runs_of, scratch_after}
 use Rattle.pushdown.specs.Draining.{Drains, turns_left}
 use Rattle.pushdown.specs.Events.{Occurrence, state_after}
@@ -87,9 +87,9 @@ OutcomeIsPacked =
 
 -- ---- admission and turns
 
--- a Run that is admitted is answered Pending with its number, and takes that place
+-- the reply to a Run that is admitted is Pending with its number, and it takes that place
 pub record StartsRun (s : State) (sub : Submission) (order : RunCommand) (run : ℕ) (h : Happening) : Type 0 where
-  pub answer : h.answer ≡ plain (reply.Pending run)
+  pub reply : h.reply ≡ plain (reply.Pending run)
   pub place : place_at h.state run ≡ Some (admitted_place sub s order)
   pub namespace : h.state.namespace ≡ s.namespace
 
@@ -99,11 +99,11 @@ AdmittedStarts operations =
     → let sub : Submission = record { queue = queue; entry = entry; input = input.items } in
     IsAdmitted s sub order run → StartsRun s sub order run (happens operations s starved (event.Submit queue entry input))
 
--- and where an entry is answered Pending, a Run was admitted
+-- and where the reply to an entry is Pending, a Run was admitted
 abbrev pub PendingIsAdmitted : {D : Type 0} → Operations D → Type 0
 PendingIsAdmitted operations =
     (s : State) (starved : Bool) (queue : ℕ) (entry : List ℕ) (input : Vec ℕ Global) (run : ℕ)
-    → (happens operations s starved (event.Submit queue entry input)).answer ≡ plain (reply.Pending run)
+    → (happens operations s starved (event.Submit queue entry input)).reply ≡ plain (reply.Pending run)
     → (order : RunCommand) × IsAdmitted s (record { queue = queue; entry = entry; input = input.items }) order run
 
 -- an event that is no turn of a run leaves its turns as they were
@@ -202,8 +202,8 @@ pub record AreEmitted (runs : List BlockRun) (records : List (List (List ℕ))) 
   pub counted : length (flat_map (λ group. group) records) ≡ frames_of runs
 
 -- what an admitted run appends reads back as the records that its block runs emit, in order
-abbrev pub EmittedReadsBack : {D : Type 0} → Operations D → Type 0
-EmittedReadsBack operations =
+abbrev pub OutcomeUnpacks : {D : Type 0} → Operations D → Type 0
+OutcomeUnpacks operations =
     (ns : ZonedNamespace) (events : List Occurrence) → IsNamespace ns → AreEvents events
     → let s = state_after operations events (new_state ns) in
     (sub : Submission) (order : RunCommand) (run : ℕ) → IsAdmitted s sub order run

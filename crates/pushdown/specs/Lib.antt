@@ -2,7 +2,7 @@ pub mod BlockRuns
 pub mod Admission
 pub mod Outcome
 pub mod State
-pub mod Answers
+pub mod EventReplies
 pub mod Machine
 pub mod Draining
 pub mod Events

@@ -1,4 +1,4 @@
--- The event machine: what an event does to a state, and what is answered.
+-- The event machine: what an event does to a state, and the reply to it.
 use Rattle.std.specs.Prelude.{ℕ, Bool, true, false, not, nat_le, List, [], ◌∷◌, ◌++◌, set, is_some, Option, Some, None, Result, Ok, Err}
 use Rattle.zone_state.specs.declared.state.FaultState.{FaultState}
 use Rattle.zone_state.specs.declared.status.Status.{Status}
@@ -25,7 +25,7 @@ use Rattle.zns_commands.specs.Meaning.{meaning}
 use Rattle.zns_commands.specs.Transfer.{transfer_checks}
 use Rattle.pushdown.specs.Admission.{Loaded, run_refusal, source_blocks, task_of, source_zone, destination_zone}
 use Rattle.device_events.specs.Replies.{ReplyWithData}
-use Rattle.pushdown.specs.Answers.{Happening, Submission, plain, completion, completed, refused, idle}
+use Rattle.pushdown.specs.EventReplies.{Happening, Submission, plain, completion, completed, refused, idle}
 use Rattle.pushdown.specs.BlockRuns.{no_scratch}
 use Rattle.pushdown.specs.Outcome.{Turn, Ending, outcome}
 use Rattle.pushdown.specs.State.{Place, State, holds_of, program_at, place_at, in_use, free_run, with_namespace, with_slot, with_place}
@@ -109,7 +109,7 @@ abbrev pub start_by : Option Status → Option ℕ → Submission → State → 
 start_by (Some status) free sub s order = refused sub status s
 start_by None None sub s order = idle s
 start_by None (Some run) sub s order =
-    record { answer = plain (reply.Pending run); state = with_place s run (Some (admitted_place sub s order)) }
+    record { reply = plain (reply.Pending run); state = with_place s run (Some (admitted_place sub s order)) }
 
 abbrev pub starting : Submission → State → RunCommand → Happening
 starting sub s order = start_by (why_not_run sub s order) (free_run s) sub s order
@@ -135,10 +135,10 @@ abbrev pub slots_left : State → Place → Option Ending → List (Option Loade
 slots_left s place None = s.slots
 slots_left s place (Some ending) = set s.slots place.slot (keeping (program_at s place.slot) ending.result)
 
--- the answer to a turn: the run's completion, where it ends the run
-abbrev pub turn_answer : ℕ → Place → Option Ending → ReplyWithData
-turn_answer run place None = plain (reply.Pending run)
-turn_answer run place (Some ending) = completion place.queue place.cid ending.status ending.dw0 ending.dw1 []
+-- the reply to a turn: the run's completion, where it ends the run
+abbrev pub turn_reply : ℕ → Place → Option Ending → ReplyWithData
+turn_reply run place None = plain (reply.Pending run)
+turn_reply run place (Some ending) = completion place.queue place.cid ending.status ending.dw0 ending.dw1 []
 
 -- the state after a turn of an active run
 abbrev pub turn_state : State → ℕ → Place → Turn → List Turn → State
@@ -152,7 +152,7 @@ turn_state s run place turn later = record {
 abbrev pub take_turn : State → ℕ → Place → List Turn → Happening
 take_turn s run place [] = idle s
 take_turn s run place (turn ∷ later) =
-    record { answer = turn_answer run place turn.ending; state = turn_state s run place turn later }
+    record { reply = turn_reply run place turn.ending; state = turn_state s run place turn later }
 
 abbrev pub turned_at : State → ℕ → Option Place → Happening
 turned_at s run None = idle s
@@ -169,7 +169,7 @@ fault_reply (Err refused) = reply.FaultRefused
 
 abbrev pub failed : State → ℕ → FaultState → Happening
 failed s zone state = record {
-  answer = plain (fault_reply (fault_answer s.namespace (holds_of s) zone state));
+  reply = plain (fault_reply (fault_answer s.namespace (holds_of s) zone state));
   state = with_namespace s (faulted s.namespace (holds_of s) zone state);
 }
 

@@ -2,16 +2,16 @@
 use Rattle.std.specs.Prelude.{ℕ, false, ◌≡◌, List, ◌++◌, length, map, None}
 use Rattle.word_domain.specs.Domain.{Operations}
 use Rattle.device_events.specs.Replies.{ReplyWithData}
-use Rattle.pushdown.specs.Draining.{Drains, HasDrained, answers_to_turns, lowest_run, state_after_turns}
-use Rattle.pushdown.specs.Events.{AreOf, HasServed, Occurrence, answers_to, state_after}
+use Rattle.pushdown.specs.Draining.{Drains, HasDrained, lowest_run, replies_to_turns, state_after_turns}
+use Rattle.pushdown.specs.Events.{AreOf, HasServed, Occurrence, replies_to, state_after}
 use Rattle.pushdown.specs.Pushdown.{AreEvents}
 use Rattle.pushdown.specs.State.{State}
 use Rattle.device_events.specs.declared.event.Event.{Event}
 use Rattle.device_events.specs.declared.event.Event.TheVariants as event
 
--- each event has one answer
-abbrev pub OneAnswerEach : {D : Type 0} → Operations D → Type 0
-OneAnswerEach operations = (events : List Occurrence) (s : State) → length (answers_to operations events s) ≡ length events
+-- each event has one reply
+abbrev pub OneReplyEach : {D : Type 0} → Operations D → Type 0
+OneReplyEach operations = (events : List Occurrence) (s : State) → length (replies_to operations events s) ≡ length events
 
 -- turns of these runs, as events; a turn asks for no memory
 abbrev pub turn_events : List ℕ → List Occurrence
@@ -20,24 +20,24 @@ turn_events runs = map (λ run. record { event = event.Turn run; starved = false
 module _ {D : Type 0} (operations : Operations D) where
   -- the later events happen to what the earlier ones leave
   pub record AreInParts (first later : List Occurrence) (s : State) : Type 0 where
-    pub answers : answers_to operations (first ++ later) s
-        ≡ answers_to operations first s ++ answers_to operations later (state_after operations first s)
+    pub replies : replies_to operations (first ++ later) s
+        ≡ replies_to operations first s ++ replies_to operations later (state_after operations first s)
     pub state : state_after operations (first ++ later) s ≡ state_after operations later (state_after operations first s)
 
   -- the turns of a device that is drained are events
   pub record AreTurns (runs : List ℕ) (s : State) : Type 0 where
-    pub answers : answers_to_turns runs s ≡ answers_to operations (turn_events runs) s
+    pub replies : replies_to_turns runs s ≡ replies_to operations (turn_events runs) s
     pub state : state_after_turns runs s ≡ state_after operations (turn_events runs) s
 
   -- events were done, and then turns of the lowest active run of then, until no run was left; `took` says of the
-  -- answers of both, in order, that they were taken
+  -- replies to both, in order, that they were taken
   pub record HasFinished (events : List Event) (old new : State) (took : List ReplyWithData → Type 0) : Type 0 where
     pub occurrences : List Occurrence
     pub are : AreOf events occurrences
     pub runs : List ℕ
     pub drains : Drains (state_after operations occurrences old) runs
     pub state : new ≡ state_after operations (occurrences ++ turn_events runs) old
-    pub answers : took (answers_to operations (occurrences ++ turn_events runs) old)
+    pub replies : took (replies_to operations (occurrences ++ turn_events runs) old)
     pub none_left : lowest_run new ≡ None
 
 -- the events of two lists that bytes can spell are so together

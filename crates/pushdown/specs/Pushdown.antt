@@ -7,10 +7,11 @@
 -- 4. each turn is the one that is fixed at admission: the blocks that it appends, the completion, and all that
 --    it leaves: the namespace, the run's place and the slots;
 -- 5. the completion's numbers are whole.
-use Rattle.std.specs.Prelude.{ℕ, Bool, true, false, ◌≡◌, ◌≢◌, ◌≤◌, ◌<◌, ◌+◌, ◌^◌, ◌==◌, List, [], ◌∷◌, ◌++◌, length, take, drop, get_or, Option, Some, None, Ok, Vec}
+use Rattle.std.specs.Prelude.{ℕ, Bool, false, ◌≡◌, ◌≢◌, ◌≤◌, ◌<◌, ◌+◌, ◌^◌, ◌==◌, List, [], ◌∷◌, ◌++◌, length, take, drop, get_or, Option, Some, None, Ok, Vec}
 use Rattle.std.specs.List.{AllByRecursion}
 use Rattle.std.specs.declared.alloc.Global.{Global}
 use Rattle.zone_state.specs.declared.status.TheConstants.Status.{SUCCESS}
+use Rattle.zone_resources.specs.Counts.{one_if}
 use Rattle.nvme_entry.specs.Entry.{decoded}
 use Rattle.nvme_entry.specs.declared.command.Command.TheVariants as command
 use Rattle.nvme_entry.specs.declared.command.RunCommand.{RunCommand}
@@ -21,10 +22,10 @@ use Rattle.word_domain.specs.Domain.{Operations}
 use Rattle.image_store.specs.Blocks.{AreBytes}
 use Rattle.image_store.specs.Namespace.{ZonedNamespace, zone_at, shape, IsNamespace}
 use Rattle.pushdown.specs.Admission.{SameProgram, source_blocks, task_of}
-use Rattle.pushdown.specs.Answers.{Happening, Submission}
+use Rattle.pushdown.specs.EventReplies.{Happening, Submission}
 use Rattle.pushdown.specs.BlockRuns.{Task, frames_of, last_scratch, runs_of}
 use Rattle.pushdown.specs.Events.{Occurrence, state_after}
-use Rattle.pushdown.specs.Machine.{added, admitted_place, place_left, slots_left, turn_answer, turned, why_not_run}
+use Rattle.pushdown.specs.Machine.{added, admitted_place, place_left, slots_left, turn_reply, turned, why_not_run}
 use Rattle.pushdown.specs.Outcome.{Ending, Turn, appended_by, ending_of, outcome}
 use Rattle.pushdown.specs.State.{Place, State, free_run, new_state, place_at, program_at}
 use Rattle.device_events.specs.declared.event.Event.{Event}
@@ -45,10 +46,6 @@ abbrev pub is_turn_of : ℕ → Event → Bool
 is_turn_of run (event.Turn other) = other == run
 is_turn_of run (event.Submit queue entry input) = false
 is_turn_of run (event.Fault zone state) = false
-
-abbrev pub one_if : Bool → ℕ
-one_if true = 1
-one_if false = 0
 
 -- how many of the events are turns of a run; all others are those of others
 abbrev pub own_turns : ℕ → List Occurrence → ℕ
@@ -146,14 +143,14 @@ module _ {D : Type 0} (operations : Operations D) where
           → outcome (task_of ns (program_at s order.slot) order) (source_blocks ns order) ≡ place.turns
 
     -- 4. After k own turns the first k turns of those fixed at admission are done: their blocks stand in order
-    -- directly behind what the destination held at admission, and the others are left. The next turn answers
-    -- what is fixed for it, and leaves the namespace as a Zone Append of its blocks does that meets no hold; the
-    -- last one posts the completion, to the queue and with the identifier of the Run, frees the place, and
-    -- leaves the last scratch bytes as the slot's result.
+    -- directly behind what the destination held at admission, and the others are left. The reply to the next
+    -- turn is what is fixed for it, and it leaves the namespace as a Zone Append of its blocks does that meets
+    -- no hold; the last one posts the completion, to the queue and with the identifier of the Run, frees the
+    -- place, and leaves the last scratch bytes as the slot's result.
     pub record DoesItsTurns : Type 0 where
       pub left : place_at now run ≡ Some (record place { turns = drop done place.turns })
       pub appended : blocks_at now place.destination ≡ blocks_at s place.destination ++ appended_by (take done place.turns)
-      pub answer : next.answer ≡ turn_answer run place turn.ending
+      pub reply : next.reply ≡ turn_reply run place turn.ending
       pub then_appended : blocks_at next.state place.destination
           ≡ blocks_at s place.destination ++ appended_by (take (done + 1) place.turns)
       pub then_namespace : next.state.namespace ≡ added now.namespace place.destination turn.blocks

@@ -19,7 +19,7 @@ use Rattle.zns_commands.specs.Answer.{Effect, success_effect}
 use Rattle.zns_commands.specs.Left.{Grows}
 use Rattle.zns_commands.specs.Meaning.{meaning}
 use Rattle.pushdown.specs.Admission.{source_blocks, task_of}
-use Rattle.pushdown.specs.Answers.{Happening}
+use Rattle.pushdown.specs.EventReplies.{Happening}
 use Rattle.pushdown.specs.BlockRuns.{runs_of}
 use Rattle.pushdown.specs.Events.{Occurrence, state_after}
 use Rattle.pushdown.specs.Laws.{AreEmitted}
@@ -45,22 +45,22 @@ IsCompleted (event.Fault zone state) s effect happening = ⊥
 
 module _ {D : Type 0} (operations : Operations D) where
   -- these bytes are read of so many blocks from an address on
-  abbrev pub AreRead : State → ℕ → ℕ → List ℕ → Type 0
-  AreRead s lba blocks bytes =
+  abbrev pub ReadsGive : State → ℕ → ℕ → List ℕ → Type 0
+  ReadsGive s lba blocks bytes =
       (read : Occurrence) → Submits read.event (Read lba blocks) []
       → IsCompleted read.event s (success_effect s.namespace 0 bytes) (happens operations s read.starved read.event)
 
   -- these blocks are read from an address on, one block after another
   abbrev pub BlocksAreRead : State → ℕ → List (List ℕ) → Type 0
   BlocksAreRead s lba [] = Unit {0}
-  BlocksAreRead s lba (block ∷ blocks) = AreRead s lba 1 block × BlocksAreRead s (lba + 1) blocks
+  BlocksAreRead s lba (block ∷ blocks) = ReadsGive s lba 1 block × BlocksAreRead s (lba + 1) blocks
 
   -- after none of the events is the zone Empty or Offline, so that nothing of what was written is left
-  abbrev pub NoneClears : ℕ → List Occurrence → State → Type 0
-  NoneClears z [] s = Unit {0}
-  NoneClears z (o ∷ os) s =
+  abbrev pub NoEventClears : ℕ → List Occurrence → State → Type 0
+  NoEventClears z [] s = Unit {0}
+  NoEventClears z (o ∷ os) s =
       let next = (happens operations s o.starved o.event).state in
-      (is_cleared (zone_at next.namespace z).state ≡ false) × NoneClears z os next
+      (is_cleared (zone_at next.namespace z).state ≡ false) × NoEventClears z os next
 
   -- an admitted Run, the events between it and a turn of it, and events after that turn
   module _ (s : State) (queue : ℕ) (entry : List ℕ) (input : Vec ℕ Global) (starved : Bool) (order : RunCommand) (run : ℕ)
@@ -87,7 +87,7 @@ module _ {D : Type 0} (operations : Operations D) where
     AppendedAreRead =
         let appended = appended_by (take (done + 1) place.turns) in
         (at blocks : ℕ) → at + blocks ≤ length appended → 1 ≤ blocks → blocks * s.namespace.block ≤ MOST_TRANSFER
-        → AreRead (state_after operations later after_turn) (pointer + at) blocks (bytes_of (take blocks (drop at appended)))
+        → ReadsGive (state_after operations later after_turn) (pointer + at) blocks (bytes_of (take blocks (drop at appended)))
 
     -- where that turn was the last, the blocks that are read there, one after another, unpack to the records
     -- that the program emitted, in order
@@ -102,18 +102,18 @@ module _ {D : Type 0} (operations : Operations D) where
     -- until the destination is reset, goes offline or is lost
     abbrev pub IsReadBack : Type 0
     IsReadBack =
-        done < length place.turns → NoneClears place.destination later after_turn
+        done < length place.turns → NoEventClears place.destination later after_turn
         → AppendedAreRead × (done + 1 ≡ length place.turns → EmittedAreRead)
 
 -- no event changes the shape of the namespace
-abbrev pub ShapesAreKept : {D : Type 0} → Operations D → Type 0
-ShapesAreKept operations =
+abbrev pub EventsKeepShapes : {D : Type 0} → Operations D → Type 0
+EventsKeepShapes operations =
     (s : State) (events : List Occurrence) → shape (state_after operations events s).namespace ≡ shape s.namespace
 
 -- a zone that isn't cleared keeps its blocks, and perhaps has some behind them
 abbrev pub UnclearedKeepBlocks : {D : Type 0} → Operations D → Type 0
 UnclearedKeepBlocks operations =
-    (s : State) (events : List Occurrence) (z : ℕ) → NoneClears operations z events s
+    (s : State) (events : List Occurrence) (z : ℕ) → NoEventClears operations z events s
     → Grows (blocks_at s z) (blocks_at (state_after operations events s) z)
 
 -- what is written in a zone is read
@@ -121,7 +121,7 @@ abbrev pub WrittenIsRead : {D : Type 0} → Operations D → Type 0
 WrittenIsRead operations =
     (s : State) (z at blocks : ℕ) → IsNamespace s.namespace
     → at + blocks ≤ length (blocks_at s z) → 1 ≤ blocks → blocks * s.namespace.block ≤ MOST_TRANSFER
-    → AreRead operations s (z * s.namespace.size + at) blocks (bytes_of (take blocks (drop at (blocks_at s z))))
+    → ReadsGive operations s (z * s.namespace.size + at) blocks (bytes_of (take blocks (drop at (blocks_at s z))))
 
 -- what an Append that succeeds put in is read from the address that its completion tells, whatever
 -- events happen in between, until the zone is reset, goes offline or is lost
@@ -130,9 +130,9 @@ AppendReadsBack operations s =
     (o : Occurrence) (lba blocks : ℕ) (input : List ℕ) (events : List Occurrence) → Submits o.event (Append lba blocks) input
     → let done = meaning s.namespace (holds_of s) (Append lba blocks) input in
     let happening = happens operations s o.starved o.event in
-    done.status ≡ SUCCESS → NoneClears operations (zone_number s.namespace lba) events happening.state
+    done.status ≡ SUCCESS → NoEventClears operations (zone_number s.namespace lba) events happening.state
     → IsCompleted o.event s done happening
-    × AreRead operations (state_after operations events happening.state) (done.dw0 + done.dw1 * 2 ^ 32) blocks input
+    × ReadsGive operations (state_after operations events happening.state) (done.dw0 + done.dw1 * 2 ^ 32) blocks input
 
 -- the same of a Write, which is read from its own address
 abbrev pub WriteReadsBack : {D : Type 0} → Operations D → State → Type 0
@@ -140,8 +140,8 @@ WriteReadsBack operations s =
     (o : Occurrence) (lba blocks : ℕ) (input : List ℕ) (events : List Occurrence) → Submits o.event (Write lba blocks) input
     → let done = meaning s.namespace (holds_of s) (Write lba blocks) input in
     let happening = happens operations s o.starved o.event in
-    done.status ≡ SUCCESS → NoneClears operations (zone_number s.namespace lba) events happening.state
-    → IsCompleted o.event s done happening × AreRead operations (state_after operations events happening.state) lba blocks input
+    done.status ≡ SUCCESS → NoEventClears operations (zone_number s.namespace lba) events happening.state
+    → IsCompleted o.event s done happening × ReadsGive operations (state_after operations events happening.state) lba blocks input
 
 -- the same of what a run appends: after each of its turns what it has appended so far, and after the last
 -- one all that its program emitted
@@ -152,11 +152,11 @@ RunReadsBack operations s =
     → AreEvents events → AreEvents later
     → IsReadBack operations s queue entry input starved order run events later
 
-abbrev pub AppendedReadsBack : {D : Type 0} → Operations D → Type 0
-AppendedReadsBack operations = (s : State) → IsNamespace s.namespace → AppendReadsBack operations s
+abbrev pub AppendsReadBack : {D : Type 0} → Operations D → Type 0
+AppendsReadBack operations = (s : State) → IsNamespace s.namespace → AppendReadsBack operations s
 
-abbrev pub WrittenReadsBack : {D : Type 0} → Operations D → Type 0
-WrittenReadsBack operations = (s : State) → IsNamespace s.namespace → WriteReadsBack operations s
+abbrev pub WritesReadBack : {D : Type 0} → Operations D → Type 0
+WritesReadBack operations = (s : State) → IsNamespace s.namespace → WriteReadsBack operations s
 
 -- in each state that events leave
 abbrev pub RunsReadBack : {D : Type 0} → Operations D → Type 0

@@ -1,13 +1,13 @@
 -- What a device holds of its runs, seen as the places of a state.
-use Rattle.std.specs.Prelude.{ℕ, ◌≡◌, ◌≤◌, ◌+◌, ◌-◌, ◌%◌, List, length, take, drop, get_or, map, Option, Some, None}
+use Rattle.std.specs.Prelude.{ℕ, ◌≡◌, ◌≤◌, ◌+◌, ◌-◌, ◌%◌, List, length, get_or, map, Option, Some, None}
 use Rattle.nvme_entry.specs.Entry.{identifier_of}
 use Rattle.nvme_entry.specs.declared.command.RunCommand.{RunCommand}
 use Rattle.instruction_set.specs.declared.insn.Insn.{Insn}
 use Rattle.image_store.specs.Namespace.{ZonedNamespace, zone_at}
 use Rattle.zns_commands.specs.Address.{zone_number}
 use Rattle.zns_commands.specs.Left.{Grows}
-use Rattle.pushdown.specs.Admission.{Loaded, SameProgram, limit_in, program_in, task_by}
-use Rattle.pushdown.specs.Answers.{Submission}
+use Rattle.pushdown.specs.Admission.{Loaded, SameProgram, limit_in, program_in, task_by, written_from}
+use Rattle.pushdown.specs.EventReplies.{Submission}
 use Rattle.pushdown.specs.Machine.{admitted_place}
 use Rattle.pushdown.specs.Outcome.{Progress, Turn, at_admission, rest}
 use Rattle.pushdown.specs.State.{State, Place}
@@ -22,8 +22,7 @@ pub record Active : Type 0 where
 -- the source blocks still to come, of the namespace as it is now
 abbrev pub to_come : ZonedNamespace → Active → List (List ℕ)
 to_come ns a =
-    take (a.order.blocks - a.so_far.index)
-    (drop (a.order.lba % ns.size + a.so_far.index) (zone_at ns (zone_number ns a.order.lba)).blocks)
+    written_from ns (zone_number ns a.order.lba) (a.order.lba % ns.size + a.so_far.index) (a.order.blocks - a.so_far.index)
 
 -- the turns that are left of a run of this program
 abbrev pub turns_of : ZonedNamespace → List (Option Insn) → ℕ → Active → List Turn

@@ -1,11 +1,11 @@
 //! Laws of the definitions. Each function does nothing: what it ensures is the law.
 
 ghost use Rattle.pushdown.specs.AnyOrder.{TurnsInAnyOrder};
-ghost use Rattle.pushdown.specs.Laws.{AdmittedStarts, BlocksLeaveOthers, DrainingEnds, EmittedReadsBack, EventsKeepForRuns, ForeignLeavesTurns, OutcomeIsPacked, PendingIsAdmitted, RestAtAdmission, RestEnds, RestGoesOn, RestIsFew, RoomIsOpen, RoomStays, StatesAreSound, TurnTakesFirst, TurnsLeaveFewer};
+ghost use Rattle.pushdown.specs.Laws.{AdmittedStarts, BlocksLeaveOthers, DrainingEnds, EventsKeepForRuns, ForeignLeavesTurns, OutcomeIsPacked, OutcomeUnpacks, PendingIsAdmitted, RestAtAdmission, RestEnds, RestGoesOn, RestIsFew, RoomIsOpen, RoomStays, StatesAreSound, TurnTakesFirst, TurnsLeaveFewer};
 ghost use Rattle.pushdown.specs.Memory.{OnlyLoadsWantMemory};
-ghost use Rattle.pushdown.specs.Parts.{DrainedByTurns, DrainedInOneWay, EventsJoin, InParts, OneAnswerEach, ServedAndDrained, ServedInParts};
+ghost use Rattle.pushdown.specs.Parts.{DrainedByTurns, DrainedInOneWay, EventsJoin, InParts, OneReplyEach, ServedAndDrained, ServedInParts};
 ghost use Rattle.pushdown.specs.Pushdown.{Pushdown};
-ghost use Rattle.pushdown.specs.ReadBack.{AppendedReadsBack, RunsReadBack, ShapesAreKept, UnclearedKeepBlocks, WrittenIsRead, WrittenReadsBack};
+ghost use Rattle.pushdown.specs.ReadBack.{AppendsReadBack, EventsKeepShapes, RunsReadBack, UnclearedKeepBlocks, WritesReadBack, WrittenIsRead};
 ghost use Rattle.pushdown.specs.View.{SeenAtAdmission, SeenStays};
 
 use device_events::Out;
@@ -25,7 +25,7 @@ pub fn outcomes_are_packed()
     ensures { OutcomeIsPacked }
 {}
 
-/// A Run that is admitted is answered Pending, and no other entry is. Every event that is no turn of it
+/// The reply to an entry is Pending exactly where a Run is admitted. Every event that is no turn of it
 /// leaves its turns as they are, and each turn of it takes the first.
 pub fn turns_are_fixed_at_admission<D: Domain>()
     ensures starts { AdmittedStarts D.operations }
@@ -65,9 +65,9 @@ pub fn only_loads_want_memory<D: Domain>()
     ensures { OnlyLoadsWantMemory D.operations }
 {}
 
-/// Each event has one answer.
-pub fn one_answer_each<D: Domain>()
-    ensures { OneAnswerEach D.operations }
+/// Each event has one reply.
+pub fn one_reply_each<D: Domain>()
+    ensures { OneReplyEach D.operations }
 {}
 
 /// Events can be served in parts: the later ones happen to what the earlier ones leave.
@@ -94,24 +94,24 @@ pub fn draining_ends<D: Domain>()
 
 /// What a run appends to its destination, unpacked, is the records that its program emitted, in order.
 pub fn emitted_records_read_back<D: Domain>()
-    ensures { EmittedReadsBack D.operations }
+    ensures { OutcomeUnpacks D.operations }
 {}
 
 /// No event changes the shape of the namespace, and a zone that isn't cleared keeps its blocks.
 pub fn uncleared_zones_keep_blocks<D: Domain>()
-    ensures shape { ShapesAreKept D.operations }
+    ensures shape { EventsKeepShapes D.operations }
     ensures blocks { UnclearedKeepBlocks D.operations }
 {}
 
 /// The data of an Append that succeeds is what a Read of the assigned address gives, whatever events
 /// happen in between, until the zone is reset, goes offline or is lost.
 pub fn appended_blocks_read_back<D: Domain>()
-    ensures { AppendedReadsBack D.operations }
+    ensures { AppendsReadBack D.operations }
 {}
 
 /// The same of a Write, at its own address; and whatever is written in a zone is read.
 pub fn written_blocks_read_back<D: Domain>()
-    ensures written { WrittenReadsBack D.operations }
+    ensures written { WritesReadBack D.operations }
     ensures there { WrittenIsRead D.operations }
 {}
 
@@ -123,7 +123,7 @@ pub fn appended_by_runs_reads_back<D: Domain>()
 {}
 
 /// In each state that events leave, turns come to the same in any order: the same namespace, runs, programs
-/// and answers to each run, and in each slot that no two runs share also the same result.
+/// and replies to each run, and in each slot that no two runs share also the same result.
 pub fn turns_in_any_order<D: Domain>()
     ensures { TurnsInAnyOrder D.operations }
 {}

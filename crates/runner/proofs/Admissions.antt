@@ -13,7 +13,7 @@ use Rattle.emit_append.specs.Need.{need}
 use Rattle.verifier.specs.Verified.{sizes_of}
 use Rattle.zns_commands.specs.Address.{zone_block_in}
 use Rattle.pushdown.specs.Admission.{Loaded, address_checks, destination_checks, destination_zone, run_refusal, sizes_in, source_checks}
-use Rattle.pushdown.specs.Answers.{Submission}
+use Rattle.pushdown.specs.EventReplies.{Submission}
 use Rattle.pushdown.specs.Machine.{why_not_run}
 use Rattle.pushdown.specs.State.{program_at}
 use Rattle.runner.specs.steps.Admitting.{ArePlaces}

@@ -13,9 +13,9 @@ use Rattle.zns_commands.specs.Address.{zone_number}
 use Rattle.zns_commands.specs.Left.{Grows}
 use Rattle.zns_commands.specs.declared.answer.Answer.{Answer}
 use Rattle.pushdown.specs.Admission.{Loaded, SameProgram, task_of}
-use Rattle.pushdown.specs.Answers.{Happening, idle}
+use Rattle.pushdown.specs.EventReplies.{Happening, idle}
 use Rattle.pushdown.specs.Laws.{KeepsFor, RoomIn}
-use Rattle.pushdown.specs.Machine.{added, keeping, place_left, slots_left, take_turn, turn_answer, turned, turned_at}
+use Rattle.pushdown.specs.Machine.{added, keeping, place_left, slots_left, take_turn, turn_reply, turned, turned_at}
 use Rattle.pushdown.specs.Outcome.{Turn, rest}
 use Rattle.pushdown.specs.State.{Place, State, place_at}
 use Rattle.pushdown.specs.View.{place_of, seen, to_come, turns_of}
@@ -154,14 +154,14 @@ module _ (ns : ZonedNamespace) (slots : List (Option LoadedProgram)) (runs : Lis
       ];
     }
 
-    is_turned : (answer : Reply) → answer ≡ (turn_answer k place turn.ending).reply
+    is_turned : (given : Reply) → given ≡ (turn_reply k place turn.ending).reply
         → seen new (map loaded_slot slots') (running r) ≡ place_left place later turn.ending → Where OwnFits r
-        → IsTurned s k new slots' (set runs k r) answer
-    is_turned answer told left own =
+        → IsTurned s k new slots' (set runs k r) given
+    is_turned given told left own =
         let with_places : List (Option Place) → State = λ places. record { namespace = new; slots = map loaded_slot slots'; places = places } in
         let places = set s.places k (place_left place later turn.ending) in
         record {
-          reply = told ∙ sym (ap (λ (h : Happening). h.answer.reply) comes);
+          reply = told ∙ sym (ap (λ (h : Happening). h.reply.reply) comes);
           state =
               ap with_places (others_stay ns new slots slots' runs k r (λ j b other there. stays j b there))
               ∙ ap (λ (o : Option Place). with_places (set s.places k o)) left
@@ -231,7 +231,7 @@ module _ (ns : ZonedNamespace) (slots : List (Option LoadedProgram)) (runs : Lis
         ∙ ap (λ (x : LoadedProgram). set (map loaded_slot slots) a.order.slot (loaded_slot (Some x))) (sym same)
         ∙ sym (map-set loaded_slot slots a.order.slot (Some q))
 
-    told : complete_reply b.queue b.cid answer ≡ (turn_answer k place last.ending).reply
+    told : complete_reply b.queue b.cid answer ≡ (turn_reply k place last.ending).reply
     told =
         ap (λ (queue : ℕ). complete_reply queue b.cid answer) kept.queue
         ∙ ap (λ (cid : ℕ). complete_reply a.queue cid answer) kept.cid
@@ -272,7 +272,7 @@ idles ns slots runs k ready none =
     get_or-map (seen ns (map loaded_slot slots)) (map running runs) k None
     ∙ ap (seen ns (map loaded_slot slots)) (get_or-map running runs k None ∙ ap running none) in
     let comes : turned s k ≡ idle s = ap (λ (o : Option Place). turned_at s k o) free in
-    record { reply = sym (ap (λ (h : Happening). h.answer.reply) comes); state = sym (ap (λ (h : Happening). h.state) comes); ready = ready }
+    record { reply = sym (ap (λ (h : Happening). h.reply.reply) comes); state = sym (ap (λ (h : Happening). h.state) comes); ready = ready }
 
 pub idles_there : (ns : ZonedNamespace) (slots : List (Option LoadedProgram)) (runs : List (Option Held)) (k : ℕ) (o : Option Held) → IsReady ns slots runs
     → get_or runs k None ≡ o → o ≡ None → IsTurned (device_state ns slots runs) k ns slots (set runs k o) reply.Idle
@@ -289,7 +289,7 @@ module _ (ns new : ZonedNamespace) (slots : List (Option LoadedProgram)) (k slot
   in_slot = found slots slot a.order.slot default own.program is_slot within own.loaded
 
   abbrev Comes : ℕ → Option Held → Reply → Type 0
-  Comes slot place answer = IsTurned (device_state ns slots runs) k new (set slots slot q) (set runs k place) answer
+  Comes slot place given = IsTurned (device_state ns slots runs) k new (set slots slot q) (set runs k place) given
 
   pub more_there : SlotTurned ns new (get_or slots slot default) q a b None → Comes slot (Some b) (reply.Pending k)
   more_there turn =

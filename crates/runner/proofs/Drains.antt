@@ -8,7 +8,7 @@ use Rattle.image_store.specs.Namespace.{ZonedNamespace, zone_at}
 use Rattle.zns_commands.specs.Address.{zone_number}
 use Rattle.pushdown.specs.Admission.{task_of}
 use Rattle.device_events.specs.Replies.{Joins, ReplyWithData}
-use Rattle.pushdown.specs.Draining.{AreLowest, HasDrained, StopsDraining, answers_to_turns, lowest_run, state_after_turns, turns_left}
+use Rattle.pushdown.specs.Draining.{AreLowest, HasDrained, StopsDraining, lowest_run, replies_to_turns, state_after_turns, turns_left}
 use Rattle.pushdown.specs.Machine.{turned}
 use Rattle.pushdown.specs.State.{State, place_at}
 use Rattle.pushdown.specs.View.{seen, to_come}
@@ -51,26 +51,26 @@ turns_state-append : (first later : List ℕ) (s : State) → state_after_turns 
 turns_state-append [] later s = refl
 turns_state-append (run ∷ runs) later s = turns_state-append runs later (turned s run).state
 
-turns_answers-append : (first later : List ℕ) (s : State)
-    → answers_to_turns (first ++ later) s ≡ answers_to_turns first s ++ answers_to_turns later (state_after_turns first s)
-turns_answers-append [] later s = refl
-turns_answers-append (run ∷ runs) later s =
-    ap (λ (answers : List ReplyWithData). (turned s run).answer ∷ answers) (turns_answers-append runs later (turned s run).state)
+turns_replies-append : (first later : List ℕ) (s : State)
+    → replies_to_turns (first ++ later) s ≡ replies_to_turns first s ++ replies_to_turns later (state_after_turns first s)
+turns_replies-append [] later s = refl
+turns_replies-append (run ∷ runs) later s =
+    ap (λ (replies : List ReplyWithData). (turned s run).reply ∷ replies) (turns_replies-append runs later (turned s run).state)
 
 lowest-append : (first later : List ℕ) (s : State) → AreLowest first s → AreLowest later (state_after_turns first s) → AreLowest (first ++ later) s
 lowest-append [] later s are more = more
 lowest-append (run ∷ runs) later s are more = (are.0, lowest-append runs later (turned s run).state are.1 more)
 
--- what is done so far: so many turns, each of the lowest active run, whose answers were taken
+-- what is done so far: so many turns, each of the lowest active run, whose replies were taken
 pub record IsDraining (old now : State) (took : List ReplyWithData → Type 0) (done : ℕ) : Type 0 where
   pub runs : List ℕ
   pub lowest : AreLowest runs old
   pub count : length runs ≡ done
   pub state : now ≡ state_after_turns runs old
-  pub answers : took (answers_to_turns runs old)
+  pub replies : took (replies_to_turns runs old)
   pub few : done + turns_left now.places ≤ turns_left old.places
 
-module _ {T : Type 0} (took : T → T → List ReplyWithData → Type 0) (joins : Joins took) (old now new : State) (first then after : T) (done run : ℕ) (answer : ReplyWithData) where
+module _ {T : Type 0} (took : T → T → List ReplyWithData → Type 0) (joins : Joins took) (old now new : State) (first then after : T) (done run : ℕ) (reply : ReplyWithData) where
   more_state : (d : IsDraining old now (took first then) done) → new ≡ (turned now run).state → new ≡ state_after_turns (d.runs ++ run ∷ []) old
   more_state d step = step ∙ ap (λ (s : State). (turned s run).state) d.state ∙ sym (turns_state-append d.runs (run ∷ []) old)
 
@@ -80,11 +80,11 @@ module _ {T : Type 0} (took : T → T → List ReplyWithData → Type 0) (joins 
   more_count : (d : IsDraining old now (took first then) done) → length (d.runs ++ run ∷ []) ≡ done + 1
   more_count d = omega (arith, length-append d.runs (run ∷ []), d.count)
 
-  more_answers : (d : IsDraining old now (took first then) done) → answer ≡ (turned now run).answer
-      → answers_to_turns (d.runs ++ run ∷ []) old ≡ answers_to_turns d.runs old ++ answer ∷ []
-  more_answers d answered =
-      turns_answers-append d.runs (run ∷ []) old
-      ∙ ap (λ (x : ReplyWithData). answers_to_turns d.runs old ++ x ∷ []) (sym (answered ∙ ap (λ (s : State). (turned s run).answer) d.state))
+  more_replies : (d : IsDraining old now (took first then) done) → reply ≡ (turned now run).reply
+      → replies_to_turns (d.runs ++ run ∷ []) old ≡ replies_to_turns d.runs old ++ reply ∷ []
+  more_replies d replied =
+      turns_replies-append d.runs (run ∷ []) old
+      ∙ ap (λ (x : ReplyWithData). replies_to_turns d.runs old ++ x ∷ []) (sym (replied ∙ ap (λ (s : State). (turned s run).reply) d.state))
 
   module _ (d : IsDraining old now (took first then) done) (reached : IsReached now) (low : lowest_run now ≡ Some run) (step : new ≡ (turned now run).state) where
     more_few : done + 1 + turns_left new.places ≤ turns_left old.places
@@ -92,13 +92,13 @@ module _ {T : Type 0} (took : T → T → List ReplyWithData → Type 0) (joins 
         let less = turn_less now run reached low in
         let left = ap (λ (s : State). turns_left s.places) step in omega (arith, d.few, less, left)
 
-    pub drained_more : answer ≡ (turned now run).answer → took then after (answer ∷ []) → IsDraining old new (took first after) (done + 1)
-    drained_more answered added = record {
+    pub drained_more : reply ≡ (turned now run).reply → took then after (reply ∷ []) → IsDraining old new (took first after) (done + 1)
+    drained_more replied added = record {
       runs = d.runs ++ run ∷ [];
       lowest = more_lowest d low;
       count = more_count d;
       state = more_state d step;
-      answers = subst (took first after) (sym (more_answers d answered)) (joins first then after (answers_to_turns d.runs old) (answer ∷ []) d.answers added);
+      replies = subst (took first after) (sym (more_replies d replied)) (joins first then after (replies_to_turns d.runs old) (reply ∷ []) d.replies added);
       few = more_few;
     }
 
@@ -107,7 +107,7 @@ module _ {T : Type 0} (took : T → T → List ReplyWithData → Type 0) (joins 
         let before : done + 1 - 1 ≡ length d.runs = omega (arith, d.count) in
         let those : take (done + 1 - 1) (d.runs ++ run ∷ []) ≡ d.runs =
         ap (λ (n : ℕ). take n (d.runs ++ run ∷ [])) before ∙ take_at d.runs (run ∷ []) (length d.runs) refl in
-        let answers = answers_to_turns d.runs old in
+        let replies = replies_to_turns d.runs old in
         record {
           runs = d.runs ++ run ∷ [];
           lowest = more_lowest d low;
@@ -115,13 +115,13 @@ module _ {T : Type 0} (took : T → T → List ReplyWithData → Type 0) (joins 
           given = more_count d;
           few = omega (arith, more_few);
           state = more_state d step;
-          answers = subst (took first after) (append-nil answers ∙ ap (λ (xs : List ℕ). answers_to_turns xs old) (sym those))
-              (joins first then after answers [] d.answers none);
+          replies = subst (took first after) (append-nil replies ∙ ap (λ (xs : List ℕ). replies_to_turns xs old) (sym those))
+              (joins first then after replies [] d.replies none);
         }
 
 -- before the first turn
 pub drained_none : {T : Type 0} (took : T → T → List ReplyWithData → Type 0) (first : T) (s : State) → took first first [] → IsDraining s s (took first first) 0
-drained_none took first s none = record { runs = []; lowest = tt; count = refl; state = refl; answers = none; few = omega arith }
+drained_none took first s none = record { runs = []; lowest = tt; count = refl; state = refl; replies = none; few = omega arith }
 
 -- no run is left
 pub drained : (old now : State) (took : List ReplyWithData → Type 0) (done : ℕ) → IsDraining old now took done → lowest_run now ≡ None
@@ -134,7 +134,7 @@ drained old now took done d none = record {
     few = omega (arith, d.count, d.few);
   };
   state = d.state;
-  answers = d.answers;
+  replies = d.replies;
 }
 
 none_done : (runs : List ℕ) (s : State) → length runs ≡ 0 → state_after_turns runs s ≡ s

@@ -16,7 +16,7 @@ use Rattle.zns_commands.specs.Answer.{refused_answer, success_answer}
 use Rattle.zns_commands.specs.declared.answer.Answer.{Answer}
 use Rattle.nvme_entry.proofs.Proved.{demanded, passed}
 use Rattle.pushdown.specs.Admission.{Loaded, task_of}
-use Rattle.pushdown.specs.Answers.{Submission, completed}
+use Rattle.pushdown.specs.EventReplies.{Submission, completed}
 use Rattle.pushdown.specs.BlockRuns.{no_scratch}
 use Rattle.pushdown.specs.Machine.{judged, just_loaded, load_checks, load_unless, read_program, sizes_for}
 use Rattle.pushdown.specs.Outcome.{rest}

@@ -4,7 +4,7 @@ use Rattle.std.specs.Prelude.{Vec}
 use Rattle.std.specs.declared.alloc.Global.{Global}
 use Rattle.nvme_entry.specs.Entry.{decoded}
 use Rattle.interval_domain.specs.Intervals.{intervals}
-use Rattle.pushdown.specs.Answers.{Happening, Submission}
+use Rattle.pushdown.specs.EventReplies.{Happening, Submission}
 use Rattle.device_events.specs.Replies.{ReplyWithData}
 use Rattle.pushdown.specs.Events.{HasHappened, Occurrence}
 use Rattle.pushdown.specs.Machine.{happens, submitted}
@@ -30,8 +30,8 @@ reached_more s t o reached has step = record {
 
 -- ---- one event
 
-pub reached_by : (e : Event) (old new : State) (answer : ReplyWithData) → IsReached old → HasBytes e → HasHappened intervals e old new answer → IsReached new
-reached_by e old new answer reached has happened =
+pub reached_by : (e : Event) (old new : State) (reply : ReplyWithData) → IsReached old → HasBytes e → HasHappened intervals e old new reply → IsReached new
+reached_by e old new reply reached has happened =
     let o : Occurrence = record { event = e; starved = happened.starved } in reached_more old new o reached has happened.state
 
 -- the entry of an event, as it was submitted
@@ -43,15 +43,15 @@ as_told sub queue entry input same_queue same_entry same_input =
     ∙ ap (λ (e : List ℕ). made queue e sub.input) same_entry
     ∙ ap (made queue entry) same_input
 
-pub submission_happened : (queue : ℕ) (entry : List ℕ) (input : Vec ℕ Global) (sub : Submission) (old new : State) (answer : ReplyWithData)
+pub submission_happened : (queue : ℕ) (entry : List ℕ) (input : Vec ℕ Global) (sub : Submission) (old new : State) (reply : ReplyWithData)
     → sub.queue ≡ queue → sub.entry ≡ entry → sub.input ≡ input.items
-    → HasSubmitted sub (decoded sub.entry) old new answer → HasHappened intervals (event.Submit queue entry input) old new answer
-submission_happened queue entry input sub old new answer same_queue same_entry same_input h =
+    → HasSubmitted sub (decoded sub.entry) old new reply → HasHappened intervals (event.Submit queue entry input) old new reply
+submission_happened queue entry input sub old new reply same_queue same_entry same_input h =
     let told = as_told sub queue entry input.items same_queue same_entry same_input in
-    let happening : happens intervals old h.starved (event.Submit queue entry input) ≡ record { answer = answer; state = new } =
+    let happening : happens intervals old h.starved (event.Submit queue entry input) ≡ record { reply = reply; state = new } =
     ap (λ (x : Submission). submitted intervals h.starved x old (decoded x.entry)) (sym told) ∙ h.happening in
     record {
       starved = h.starved;
       state = sym (ap (λ (x : Happening). x.state) happening);
-      answered = sym (ap (λ (x : Happening). x.answer) happening);
+      replied = sym (ap (λ (x : Happening). x.reply) happening);
     }

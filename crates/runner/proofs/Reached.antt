@@ -17,9 +17,9 @@ use Rattle.pushdown.specs.ReadBack.{RunReadsBack}
 use Rattle.pushdown.specs.State.{State, new_state}
 use Rattle.pushdown.proofs.Proved.{appended_reads_back, drained_by_turns, draining_ends, events_join, in_parts, pushdown, runs_read_back, states_are_sound, turns_in_any_order, written_reads_back}
 use Rattle.runner.specs.Laws.{EmptyIsReached, EventsKeepReached, LoadedIsReached, ReachedDrains, ReachedIsSound, SavedStatesLoad, TurnsKeepReached}
-use Rattle.runner.specs.ReadBack.{AppendedReadsBack, EmittedReadsBack, WrittenReadsBack}
+use Rattle.runner.specs.ReadBack.{ReachedAppendsReadBack, ReachedRunsReadBack, ReachedWritesReadBack}
 use Rattle.runner.specs.Ready.{IsReached}
-use Rattle.runner.specs.Runs.{RunsArePushedDown, TurnsInAnyOrder}
+use Rattle.runner.specs.Runs.{ReachedTurnsInAnyOrder, RunsArePushedDown}
 
 -- the programs that a device accepts never trap
 pub never : AcceptedNeverTraps intervals
@@ -71,18 +71,18 @@ runs_are_pushed_down s reached queue entry input starved order run after =
     (λ admitted.
     pushdown intervals never reached.first reached.events reached.namespace reached.bytes queue entry input starved order run after admitted)
 
-pub reached_in_any_order : TurnsInAnyOrder
+pub reached_in_any_order : ReachedTurnsInAnyOrder
 reached_in_any_order s reached first second same =
     subst (λ (t : State). ComeToTheSame t first second) (sym reached.leaves)
     (turns_in_any_order intervals never reached.first reached.events reached.namespace reached.bytes first second same)
 
-pub appended_blocks_read_back : AppendedReadsBack
+pub appended_blocks_read_back : ReachedAppendsReadBack
 appended_blocks_read_back s reached = appended_reads_back intervals s (reached_is_sound s reached).namespace
 
-pub written_blocks_read_back : WrittenReadsBack
+pub written_blocks_read_back : ReachedWritesReadBack
 written_blocks_read_back s reached = written_reads_back intervals s (reached_is_sound s reached).namespace
 
-pub emitted_records_read_back : EmittedReadsBack
+pub emitted_records_read_back : ReachedRunsReadBack
 emitted_records_read_back s reached =
     subst (RunReadsBack intervals) (sym reached.leaves)
     (runs_read_back intervals never reached.first reached.events reached.namespace reached.bytes)

@@ -8,7 +8,7 @@ use Rattle.nvme_entry.specs.declared.command.Command.{Command}
 use Rattle.interval_domain.specs.Intervals.{intervals}
 use Rattle.zns_commands.specs.Answer.{refused_answer}
 use Rattle.zns_commands.specs.declared.answer.Answer.{Answer}
-use Rattle.pushdown.specs.Answers.{Happening, Submission, completed, plain, refused}
+use Rattle.pushdown.specs.EventReplies.{Happening, Submission, completed, plain, refused}
 use Rattle.device_events.specs.Replies.{data_length}
 use Rattle.pushdown.specs.Machine.{submitted}
 use Rattle.pushdown.specs.State.{State}
@@ -24,8 +24,8 @@ module _ (sub : Submission) (asked : Result Command Status) (old new : State) (s
   replied bytes is as_reply within =
       let entry = completion_bytes (record { dw0 = answer.dw0; dw1 = answer.dw1; queue = sub.queue; cid = identifier_of sub.entry; status = answer.status }) in
       let counting : ℕ → Happening =
-      λ n. record { answer = record { reply = reply.Complete sub.queue entry n; bytes = take answer.length bytes }; state = new } in
-      let replying : Reply → Happening = λ x. record { answer = record { reply = x; bytes = take (data_length x) bytes }; state = new } in
+      λ n. record { reply = record { reply = reply.Complete sub.queue entry n; bytes = take answer.length bytes }; state = new } in
+      let replying : Reply → Happening = λ x. record { reply = record { reply = x; bytes = take (data_length x) bytes }; state = new } in
       record { starved = starved; happening = is ∙ ap counting (length-take-le answer.length bytes within) ∙ ap replying (sym as_reply) }
 
   -- an answer without data
@@ -40,8 +40,8 @@ module _ (sub : Submission) (asked : Result Command Status) (old new : State) (s
       → r ≡ complete_reply sub.queue (identifier_of sub.entry) answer → answer ≡ refused_answer status → new ≡ old
       → HasSubmitted sub asked old new (plain r)
   replied_refusal status is as_reply refusing same =
-      let replying : Reply → Happening = λ x. record { answer = plain x; state = old } in
-      let leaving : State → Happening = λ s. record { answer = plain r; state = s } in
+      let replying : Reply → Happening = λ x. record { reply = plain x; state = old } in
+      let leaving : State → Happening = λ s. record { reply = plain r; state = s } in
       record {
         starved = starved;
         happening = is ∙ ap replying (sym (as_reply ∙ ap (complete_reply sub.queue (identifier_of sub.entry)) refusing)) ∙ ap leaving (sym same);

@@ -3,7 +3,7 @@ use Rattle.std.proofs.Common.{◌≡◌, ℕ, ◌+◌, ◌-◌, ◌<◌, List, [
 use Rattle.std.proofs.lemmas.List.{length-map, length-take-le, map_push, take_at, take_more}
 use Rattle.interval_domain.specs.Intervals.{intervals}
 use Rattle.device_events.specs.Replies.{Joins, ReplyWithData, data_length}
-use Rattle.pushdown.specs.Events.{AreOf, HasHappened, HasServed, HasStopped, Occurrence, answers_to, state_after}
+use Rattle.pushdown.specs.Events.{AreOf, HasHappened, HasServed, HasStopped, Occurrence, replies_to, state_after}
 use Rattle.pushdown.specs.Machine.{happens}
 use Rattle.pushdown.specs.State.{State}
 use Rattle.device_events.specs.declared.event.Event.{Event}
@@ -18,7 +18,7 @@ with_data r n xs count =
 
 -- ---- the event at `i` happened, after those before it
 
-module _ (es : List Event) (i : ℕ) (e : Event) (old now new : State) (answer : ReplyWithData) where
+module _ (es : List Event) (i : ℕ) (e : Event) (old now new : State) (reply : ReplyWithData) where
   are_more : (os : List Occurrence) (o : Occurrence) → i < length es → e ≡ get_or es i e → o.event ≡ e → AreOf (take i es) os
       → AreOf (take (i + 1) es) (os ++ o ∷ [])
   are_more os o within item is are =
@@ -32,30 +32,30 @@ module _ (es : List Event) (i : ℕ) (e : Event) (old now new : State) (answer :
   state_more os o before step =
       step ∙ ap (λ (s : State). (happens intervals s o.starved o.event).state) before ∙ sym ((in_parts intervals os (o ∷ []) old).state)
 
-  answers_more : (os : List Occurrence) (o : Occurrence) → now ≡ state_after intervals os old → answer ≡ (happens intervals now o.starved o.event).answer
-      → answers_to intervals (os ++ o ∷ []) old ≡ answers_to intervals os old ++ answer ∷ []
-  answers_more os o before step =
-      (in_parts intervals os (o ∷ []) old).answers
-      ∙ ap (λ (x : ReplyWithData). answers_to intervals os old ++ x ∷ [])
-      (sym (step ∙ ap (λ (s : State). (happens intervals s o.starved o.event).answer) before))
+  replies_more : (os : List Occurrence) (o : Occurrence) → now ≡ state_after intervals os old → reply ≡ (happens intervals now o.starved o.event).reply
+      → replies_to intervals (os ++ o ∷ []) old ≡ replies_to intervals os old ++ reply ∷ []
+  replies_more os o before step =
+      (in_parts intervals os (o ∷ []) old).replies
+      ∙ ap (λ (x : ReplyWithData). replies_to intervals os old ++ x ∷ [])
+      (sym (step ∙ ap (λ (s : State). (happens intervals s o.starved o.event).reply) before))
 
   module _ {T : Type 0} (took : T → T → List ReplyWithData → Type 0) (joins : Joins took) (first then after : T) (within : i < length es) (item : e ≡ get_or es i e)
-      (served : HasServed intervals (take i es) old now (took first then)) (happened : HasHappened intervals e now new answer) where
+      (served : HasServed intervals (take i es) old now (took first then)) (happened : HasHappened intervals e now new reply) where
     o : Occurrence
     o = record { event = e; starved = happened.starved }
 
-    -- its answer was taken
-    pub served_more : took then after (answer ∷ []) → HasServed intervals (take (i + 1) es) old new (took first after)
+    -- its reply was taken
+    pub served_more : took then after (reply ∷ []) → HasServed intervals (take (i + 1) es) old new (took first after)
     unfolding o
     served_more added = record {
       occurrences = served.occurrences ++ o ∷ [];
       are = are_more served.occurrences o within item refl served.are;
       state = state_more served.occurrences o served.state happened.state;
-      answers = subst (took first after) (sym (answers_more served.occurrences o served.state happened.answered))
-          (joins first then after (answers_to intervals served.occurrences old) (answer ∷ []) served.answers added);
+      replies = subst (took first after) (sym (replies_more served.occurrences o served.state happened.replied))
+          (joins first then after (replies_to intervals served.occurrences old) (reply ∷ []) served.replies added);
     }
 
-    -- its answer was refused
+    -- its reply was refused
     pub served_stopped : took then after [] → HasStopped intervals es old new (took first after) (i + 1)
     unfolding o
     served_stopped none =
@@ -63,18 +63,18 @@ module _ (es : List Event) (i : ℕ) (e : Event) (old now new : State) (answer :
         let count : length os ≡ i = sym (length-map os (λ (x : Occurrence). x.event)) ∙ ap length served.are ∙ length-take-le i es (omega (arith, within)) in
         let done : i + 1 - 1 ≡ i = omega arith in
         let those : take (i + 1 - 1) (os ++ o ∷ []) ≡ os = ap (λ (n : ℕ). take n (os ++ o ∷ [])) done ∙ take_at os (o ∷ []) i count in
-        let answers = answers_to intervals os old in
+        let replies = replies_to intervals os old in
         record {
           some = omega arith;
           within = omega (arith, within);
           occurrences = os ++ o ∷ [];
           are = are_more os o within item refl served.are;
           state = state_more os o served.state happened.state;
-          answers = subst (took first after) (append-nil answers ∙ ap (λ (xs : List Occurrence). answers_to intervals xs old) (sym those))
-              (joins first then after answers [] served.answers none);
+          replies = subst (took first after) (append-nil replies ∙ ap (λ (xs : List Occurrence). replies_to intervals xs old) (sym those))
+              (joins first then after replies [] served.replies none);
         }
 
 -- before the first event
 pub served_none : {T : Type 0} (took : T → T → List ReplyWithData → Type 0) (first : T) (es : List Event) (s : State)
     → took first first [] → HasServed intervals (take 0 es) s s (took first first)
-served_none took first es s none = record { occurrences = []; are = refl; state = refl; answers = none }
+served_none took first es s none = record { occurrences = []; are = refl; state = refl; replies = none }

@@ -8,7 +8,7 @@ use Rattle.nvme_entry.specs.declared.command.RunCommand.{RunCommand}
 use Rattle.image_store.specs.Namespace.{ZonedNamespace}
 use Rattle.image_store.specs.declared.geometry.ZoneBlock.{ZoneBlock}
 use Rattle.pushdown.specs.Admission.{run_refusal}
-use Rattle.pushdown.specs.Answers.{Submission, plain}
+use Rattle.pushdown.specs.EventReplies.{Submission, plain}
 use Rattle.pushdown.specs.Machine.{start_by}
 use Rattle.pushdown.specs.Outcome.{at_admission}
 use Rattle.pushdown.specs.State.{Place, State, free_run, with_place}
@@ -48,9 +48,9 @@ module _ (ns : ZonedNamespace) (slots : List (Option LoadedProgram)) (runs : Lis
       ap (λ (n : ℕ). record { queue = queue; cid = n; order = order; so_far = at_admission }) (sym named) in
       ap (λ (why : Option Status). start_by why (free_run s) sub s order) (why_is ns slots runs sub order ready ∙ sym passes)
       ∙ ap (λ (number : Option ℕ). start_by None number sub s order) (free_is ns slots runs ∙ free)
-      ∙ ap (λ (place : Place). record { answer = plain (reply.Pending admitted.run); state = with_place s admitted.run (Some place) })
+      ∙ ap (λ (place : Place). record { reply = plain (reply.Pending admitted.run); state = with_place s admitted.run (Some place) })
       (sym (seen_at_admission sub s order) ∙ ap (place_of ns (map loaded_slot slots)) (sym begins))
-      ∙ ap (λ (t : State). record { answer = plain (reply.Pending admitted.run); state = t }) (sym (placed admitted.run a))
+      ∙ ap (λ (t : State). record { reply = plain (reply.Pending admitted.run); state = t }) (sym (placed admitted.run a))
 
   pub refuses : (order : RunCommand) (input : List ℕ) (status : Status) → IsReady ns slots runs
       → Some status ≡ run_refusal ns (held_by runs) (is_some (position is_none runs)) (loaded_slot (get_or slots order.slot None)) order input

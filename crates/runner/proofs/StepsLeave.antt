@@ -14,7 +14,7 @@ use Rattle.zns_commands.specs.Laws.{Commanded, Faulted, NamespaceEvent, after}
 use Rattle.zns_commands.specs.Meaning.{meaning}
 use Rattle.zns_commands.specs.declared.answer.Answer.{Answer}
 use Rattle.zns_commands.proofs.Proved.{sources_keep_blocks, events_keep_shapes}
-use Rattle.pushdown.specs.Answers.{Submission}
+use Rattle.pushdown.specs.EventReplies.{Submission}
 use Rattle.pushdown.specs.Machine.{commanded, failed}
 use Rattle.pushdown.specs.State.{Place, with_namespace}
 use Rattle.pushdown.specs.State.{holds_of as places_hold}

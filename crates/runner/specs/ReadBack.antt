@@ -5,13 +5,13 @@ use Rattle.pushdown.specs.State.{State}
 use Rattle.runner.specs.Ready.{IsReached}
 
 -- what an Append that succeeds puts in is read from the address that its completion tells
-abbrev pub AppendedReadsBack : Type 0
-AppendedReadsBack = (s : State) → IsReached s → AppendReadsBack intervals s
+abbrev pub ReachedAppendsReadBack : Type 0
+ReachedAppendsReadBack = (s : State) → IsReached s → AppendReadsBack intervals s
 
 -- what a Write that succeeds puts in is read from its own address
-abbrev pub WrittenReadsBack : Type 0
-WrittenReadsBack = (s : State) → IsReached s → WriteReadsBack intervals s
+abbrev pub ReachedWritesReadBack : Type 0
+ReachedWritesReadBack = (s : State) → IsReached s → WriteReadsBack intervals s
 
 -- what a run appends is read from where its destination ended, and unpacks to what its program emitted
-abbrev pub EmittedReadsBack : Type 0
-EmittedReadsBack = (s : State) → IsReached s → RunReadsBack intervals s
+abbrev pub ReachedRunsReadBack : Type 0
+ReachedRunsReadBack = (s : State) → IsReached s → RunReadsBack intervals s

@@ -18,5 +18,5 @@ RunsArePushedDown =
     → IsPushedDown intervals s queue entry input starved order run after
 
 -- turns come to the same in any order
-abbrev pub TurnsInAnyOrder : Type 0
-TurnsInAnyOrder = (s : State) → IsReached s → (first second : List ℕ) → AreSameTurns first second → ComeToTheSame s first second
+abbrev pub ReachedTurnsInAnyOrder : Type 0
+ReachedTurnsInAnyOrder = (s : State) → IsReached s → (first second : List ℕ) → AreSameTurns first second → ComeToTheSame s first second

@@ -34,7 +34,8 @@ pub struct Active {
 }
 
 impl Active {
-    /// A run before its first turn. Its few KiB are then moved to its place, which costs once for each run.
+    /// A run before its first turn. Its 17 KiB, most of them the pending block's, are then moved to its place,
+    /// which costs once for each run.
     pub fn new(
         queue: u16,
         cid: u16,

@@ -29,7 +29,11 @@ struct Admitted {
     destination: u32,
 }
 
-/// Starts a run under the lowest free number, where no check refuses it.
+/// Starts a run under the lowest free number, which it gives.
+///
+/// # Errors
+///
+/// The status of the first check that fails. Nothing is started then.
 pub fn start(
     namespace: &Namespace,
     slots: &[Option<LoadedProgram>; PROGRAM_SLOTS],

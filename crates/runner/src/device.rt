@@ -14,7 +14,8 @@ ghost use Rattle.device_events.specs.Refusals.{CountsRefusals};
 
 use crate::active_run::Active;
 use crate::loaded_program::LoadedProgram;
-use crate::places::{holds, lowest_run as lowest};
+use crate::places;
+use crate::places::holds;
 use crate::submission::{Submission, submit};
 use crate::turn::turn;
 use device_events::{Event, Out, Reply};
@@ -25,9 +26,10 @@ use std::marker::Model;
 use zns_commands::{FaultRefused, FaultState, Image, Namespace};
 use zone_resources::RUNS;
 
-/// A reply was refused. `done` events are done, the one that it answers being the last of them.
+/// A reply was refused.
 #[derive(Clone, Copy, Debug, PartialEq, Eq)]
 pub struct Stopped {
+    /// How many events are done, the one with the refused reply being the last of them.
     pub done: usize,
 }
 
@@ -81,7 +83,7 @@ impl Device {
     }
 
     /// Does one event. The data of the reply lies at the front of `output`.
-    pub fn step(&mut self, event: &Event, output: &mut [u8]) -> Reply
+    pub fn apply(&mut self, event: &Event, output: &mut [u8]) -> Reply
         requires { MOST_TRANSFER ≤ length output.old }
         ensures happened { HasHappened intervals event.now self.old self.new (record { reply = result; bytes = take (data_length result) output.new }) }
         ensures rest { drop (data_length result) output.new ≡ drop (data_length result) output.old }
@@ -119,7 +121,7 @@ impl Device {
 
     /// Brings a zone into the state of a fault.
     fn fault(&mut self, zone: u32, state: FaultState) -> Reply
-        ensures reply { result ≡ (failed self.old zone state).answer.reply }
+        ensures reply { result ≡ (failed self.old zone state).reply.reply }
         ensures state { self.new ≡ (failed self.old zone state).state }
         ensures no_data { data_length result ≡ 0 }
     {
@@ -147,7 +149,7 @@ impl Device {
         ensures refused { CountsRefusals (O.refused out.old) (O.refused out.new) result }
     {
         for (index, event) in events.iter().enumerate() {
-            let reply = self.step(event, output);
+            let reply = self.apply(event, output);
             let data = &output[..reply.data_length()];
             match out.take(reply, data) {
                 Ok(()) => {}
@@ -163,7 +165,7 @@ impl Device {
         ensures reached { IsReached self.now }
         ensures few { turns_left self.now.places ≤ 65536 * RUNS }
     {
-        lowest(&self.runs)
+        places::lowest_run(&self.runs)
     }
 
     /// Gives turns, always to the run of the lowest number, until no run is left, and hands out the reply
@@ -181,7 +183,7 @@ impl Device {
     {
         let mut done = 0;
         while let Some(run) = self.next_run() {
-            let reply = self.step(&Event::Turn { run }, output);
+            let reply = self.apply(&Event::Turn { run }, output);
             done += 1;
             let data = &output[..reply.data_length()];
             match out.take(reply, data) {

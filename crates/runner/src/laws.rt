@@ -2,8 +2,8 @@
 //! the law. Those of any state and of lists of events are laws of `pushdown`.
 
 ghost use Rattle.runner.specs.Laws.{EmptyIsReached, EventsKeepReached, LoadedIsReached, ReachedDrains, ReachedIsSound, SavedStatesLoad, TurnsKeepReached};
-ghost use Rattle.runner.specs.ReadBack.{AppendedReadsBack, EmittedReadsBack, WrittenReadsBack};
-ghost use Rattle.runner.specs.Runs.{RunsArePushedDown, TurnsInAnyOrder};
+ghost use Rattle.runner.specs.ReadBack.{ReachedAppendsReadBack, ReachedRunsReadBack, ReachedWritesReadBack};
+ghost use Rattle.runner.specs.Runs.{ReachedTurnsInAnyOrder, RunsArePushedDown};
 
 /// A device begins with an empty or a loaded image, and events lead on from there. In every state that they
 /// leave, the open and active zones are within the limits, each zone's state fits its written blocks, each
@@ -30,14 +30,14 @@ pub fn saved_devices_load()
 /// in between, until the zone is reset, goes offline or is lost; so is what a Write puts in, at its own
 /// address.
 pub fn written_blocks_read_back()
-    ensures appended { AppendedReadsBack }
-    ensures written { WrittenReadsBack }
+    ensures appended { ReachedAppendsReadBack }
+    ensures written { ReachedWritesReadBack }
 {}
 
 /// What a run appends is read back so from where its destination ended at admission. After its last turn the
 /// blocks that are read unpack to the records that its program emitted, in order.
 pub fn emitted_records_read_back()
-    ensures { EmittedReadsBack }
+    ensures { ReachedRunsReadBack }
 {}
 
 /// The pushdown theorem holds of each Run that a device admits: no turn traps, each takes at most as many
@@ -46,5 +46,5 @@ pub fn emitted_records_read_back()
 /// any order.
 pub fn runs_are_pushed_down()
     ensures theorem { RunsArePushedDown }
-    ensures order { TurnsInAnyOrder }
+    ensures order { ReachedTurnsInAnyOrder }
 {}

@@ -1,15 +1,16 @@
-//! The device: events happen to it, one after another, and each has its answer.
+//! The device: events happen to it, one after another, and it gives a reply for each.
 #![tactic(auto)]
 
 mod active_run;
 mod admission;
 mod block_run;
-mod commands;
+mod completion;
 mod device;
 pub mod laws;
 mod load;
 mod loaded_program;
 mod places;
+mod results;
 mod submission;
 #[cfg(test)]
 mod tests;

@@ -8,13 +8,13 @@ use program_interface::SCRATCH_BYTES;
 use verified_run::Prepared;
 use verifier::Verified;
 
-/// A program that a slot holds, and its result: the scratch bytes that its last run that succeeded left,
-/// zeros before there was one.
+/// A program that a slot holds, and its result: the scratch bytes that the last of its runs to end left,
+/// zeros before one ended.
 #[derive(Drop)]
 pub struct LoadedProgram {
     /// The accepted program, ready to run.
     pub prepared: Prepared<Verified<Intervals>>,
-    /// The scratch bytes that its last run left.
+    /// The scratch bytes that the last of its runs to end left.
     pub result: [u8; SCRATCH_BYTES],
 }
 

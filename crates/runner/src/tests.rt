@@ -2,14 +2,18 @@
 
 ghost use Rattle.std.proofs.Common.{◌∙◌, ap, append_assoc, rules};
 ghost use Rattle.std.specs.Prelude.{◌≡◌, ◌≤◌, ◌++◌, length, map};
+ghost use Rattle.nvme_entry.specs.Encoding.{program_length};
 
 use super::*;
+use nvme_entry::{
+    BlockCount, Command, Entry, LoadCommand, ProgramSlot, RunCommand, StandardCommand,
+};
 use std::alloc::Global;
 use std::process::Abort;
 use std::test::Fail;
 use zns_commands::{FaultState, Geometry, Image, Limits, MOST_TRANSFER};
 use zone_resources::RUNS;
-use zone_state::ZoneState;
+use zone_state::{Action, ZoneState};
 
 mod accepting;
 mod actions;
@@ -35,8 +39,8 @@ const EMITTING: [u8; 40] = [
     0, 0, 0, 0, 0, 0x95, 0, 0, 0, 0, 0, 0, 0,
 ];
 
-/// The limit of a run that emits 8 bytes with their length, as a Load has it in Command Dword 11.
-const LIMIT: u64 = 10 << 32;
+/// The limit of a run that emits 8 bytes with their length.
+const LIMIT: u32 = 10;
 
 /// A device of nine empty zones, which may all be open.
 fn device(rt: &impl Abort, alloc: Global) -> Device {
@@ -56,22 +60,24 @@ fn room(rt: &impl Abort, alloc: Global) -> Vec<u8>
     vec![in alloc; 0; MOST_TRANSFER].expect(rt, "memory")
 }
 
-/// A submission to queue 3 under the identifier 5: its opcode, Command Dwords 10 and 11, then 12 to 14,
-/// and the data beside it.
-fn submit(opcode: u8, address: u64, dwords: [u32; 3], input: Vec<u8>) -> Event {
-    let mut entry = [0; 64];
-    entry[0] = opcode;
-    entry[2] = 5;
-    entry[4] = 1;
-    entry[40..48].copy_from_slice(&address.to_le_bytes());
-    entry[48..52].copy_from_slice(&dwords[0].to_le_bytes());
-    entry[52..56].copy_from_slice(&dwords[1].to_le_bytes());
-    entry[56..60].copy_from_slice(&dwords[2].to_le_bytes());
+/// A submission of a command to queue 3 under the identifier 5, with the data beside it.
+fn submit(command: Command, input: Vec<u8>) -> Event
+    requires { program_length command ≤ MOST_TRANSFER }
+{
     Event::Submit {
         queue: 3,
-        entry,
+        entry: Entry::encode(command, 5),
         input,
     }
+}
+
+/// So many blocks, at least one.
+fn count(blocks: u8) -> BlockCount {
+    BlockCount::from_zero_based(u16::from(blocks.saturating_sub(1)))
+}
+
+fn program_slot(rt: &impl Abort, number: u8) -> ProgramSlot {
+    ProgramSlot::new(u32::from(number)).expect(rt, "a program slot")
 }
 
 /// Its completion, with these dwords and so many bytes of data.
@@ -88,31 +94,69 @@ fn sevens(rt: &impl Abort, alloc: Global, blocks: u8) -> Vec<u8> {
     vec![in alloc; 7; usize::from(blocks) * BLOCK].expect(rt, "memory")
 }
 
-/// An Append of two blocks of sevens to the first zone.
+/// An Append of blocks of sevens to the first zone.
+fn append_blocks(rt: &impl Abort, alloc: Global, blocks: u8) -> Event {
+    let command = StandardCommand::Append {
+        lba: 0,
+        blocks: count(blocks),
+    };
+    submit(Command::Standard(command), sevens(rt, alloc, blocks))
+}
+
+/// An Append of two of them.
 fn append(rt: &impl Abort, alloc: Global) -> Event {
-    submit(0x7D, 0, [1, 0, 0], sevens(rt, alloc, 2))
+    append_blocks(rt, alloc, 2)
+}
+
+/// A Write of one block of sevens.
+fn write(rt: &impl Abort, alloc: Global, lba: u64) -> Event {
+    let command = StandardCommand::Write {
+        lba,
+        blocks: count(1),
+    };
+    submit(Command::Standard(command), sevens(rt, alloc, 1))
 }
 
 /// Opens a zone.
 fn open(alloc: Global, zone: u8) -> Event {
-    submit(0x79, u64::from(zone) * ZONE, [0, 3, 0], Vec::new(alloc))
+    let command = StandardCommand::Send {
+        lba: u64::from(zone) * ZONE,
+        action: Action::Open,
+        select_all: false,
+    };
+    submit(Command::Standard(command), Vec::new(alloc))
 }
 
 /// Loads the program that emits.
 fn load(rt: &impl Abort, alloc: Global, slot: u8) -> Event {
     let program = Vec::from_slice(alloc, &EMITTING).expect(rt, "memory");
-    submit(0xC1, LIMIT + u64::from(slot), [40, 0, 0], program)
+    let command = LoadCommand {
+        slot: program_slot(rt, slot),
+        limit: LIMIT,
+        bytes: EMITTING.len() as u32,
+    };
+    submit(Command::Load(command), program)
 }
 
 /// Runs the program of a slot over the two blocks of the first zone, to a zone.
-fn run(alloc: Global, slot: u8, zone: u8) -> Event {
-    let dwords = [1 + 0x1_0000 * u32::from(slot), 0, 8 * u32::from(zone)];
-    submit(0xC0, 0, dwords, Vec::new(alloc))
+fn run(rt: &impl Abort, alloc: Global, slot: u8, zone: u8) -> Event {
+    let command = RunCommand {
+        lba: 0,
+        blocks: count(2),
+        slot: program_slot(rt, slot),
+        argument: 0,
+        destination: u64::from(zone) * ZONE,
+    };
+    submit(Command::Run(command), Vec::new(alloc))
 }
 
 /// Reads one block.
 fn read(alloc: Global, lba: u64) -> Event {
-    submit(0x02, lba, [0, 0, 0], Vec::new(alloc))
+    let command = StandardCommand::Read {
+        lba,
+        blocks: count(1),
+    };
+    submit(Command::Standard(command), Vec::new(alloc))
 }
 
 /// Does events, and compares the reply to each with the one beside it.
@@ -120,7 +164,7 @@ fn compare(rt: &impl Abort, device: &mut Device, output: &mut [u8], steps: &[(Ev
     requires { MOST_TRANSFER ≤ length output.old }
 {
     for (index, step) in steps.iter().enumerate() {
-        assert_eq!(rt; device.step(&step.0, output), step.1, "at {index}");
+        assert_eq!(rt; device.apply(&step.0, output), step.1, "at {index}");
     }
 }
 
@@ -135,7 +179,7 @@ fn a_load_that_has_memory_succeeds(rt: HostRuntime) {
     let alloc = rt.alloc();
     let mut device = device(&rt, alloc);
     let mut data = room(&rt, alloc);
-    let result = submit(0xC2, 0, [0, 0, 0], Vec::new(alloc));
+    let result = submit(Command::Result(program_slot(&rt, 0)), Vec::new(alloc));
     let steps = [
         (load(&rt, alloc, 0), success(0, 0, 0)),
         (result, success(0, 0, 1024)),
@@ -172,7 +216,7 @@ fn a_run_takes_a_turn_for_each_block(rt: HostRuntime) {
         (append(&rt, alloc), success(0, 0, 0)),
         (open(alloc, 1), success(0, 0, 0)),
         (load(&rt, alloc, 0), success(0, 0, 0)),
-        (run(alloc, 0, 1), Reply::Pending { run: 0 }),
+        (run(&rt, alloc, 0, 1), Reply::Pending { run: 0 }),
         (Event::Turn { run: 0 }, Reply::Pending { run: 0 }),
     ];
     compare(&rt, &mut device, &mut data, &first);
@@ -195,7 +239,7 @@ fn a_run_takes_a_turn_for_each_block(rt: HostRuntime) {
 struct Kept {
     alloc: Global,
     room: usize,
-    answers: Vec<(Reply, Vec<u8>)>,
+    replies: Vec<(Reply, Vec<u8>)>,
     refusals: u64,
 }
 
@@ -206,15 +250,15 @@ impl Kept {
         Kept {
             alloc,
             room,
-            answers: Vec::new(alloc),
+            replies: Vec::new(alloc),
             refusals: 0,
         }
     }
 }
 
 impl Out for Kept {
-    ghost took = { λ old new replies. map (λ answer. record { reply = answer.0; bytes = answer.1.items }) new.answers.items
-        ≡ map (λ answer. record { reply = answer.0; bytes = answer.1.items }) old.answers.items ++ replies };
+    ghost took = { λ old new replies. map (λ kept. record { reply = kept.0; bytes = kept.1.items }) new.replies.items
+        ≡ map (λ kept. record { reply = kept.0; bytes = kept.1.items }) old.replies.items ++ replies };
 
     ghost refused = { λ kept. kept.refusals };
 
@@ -223,9 +267,9 @@ impl Out for Kept {
     ghost joins = { λ _ _ _ first later early late. late ∙ ap (λ xs. xs ++ later) early ∙ append_assoc _ first later };
 
     fn take(&mut self, reply: Reply, bytes: &[u8]) -> Result<(), NotTaken> {
-        if self.answers.len() < self.room {
+        if self.replies.len() < self.room {
             if let Ok(bytes) = Vec::from_slice(self.alloc, bytes) {
-                if self.answers.push((reply, bytes)).is_ok() {
+                if self.replies.push((reply, bytes)).is_ok() {
                     return Ok(());
                 }
             }
@@ -241,10 +285,10 @@ impl Out for Kept {
 
 /// Compares the replies that were kept with these, also in how much data they have.
 fn compare_kept(rt: &impl Abort, out: &Kept, replies: &[Reply]) {
-    assert_eq!(rt; out.answers.len(), replies.len());
-    for (index, answer) in out.answers.iter().enumerate() {
-        assert_eq!(rt; answer.0, replies[index], "at {index}");
-        assert_eq!(rt; answer.1.len(), answer.0.data_length(), "at {index}");
+    assert_eq!(rt; out.replies.len(), replies.len());
+    for (index, kept) in out.replies.iter().enumerate() {
+        assert_eq!(rt; kept.0, replies[index], "at {index}");
+        assert_eq!(rt; kept.1.len(), kept.0.data_length(), "at {index}");
     }
 }
 
@@ -258,7 +302,7 @@ fn replies_are_handed_out_with_their_data(rt: HostRuntime) -> Result<(), Fail> {
         append(&rt, alloc),
         open(alloc, 1),
         load(&rt, alloc, 0),
-        run(alloc, 0, 1),
+        run(&rt, alloc, 0, 1),
         read(alloc, 1),
     ];
     device.serve(&events, &mut data, &mut out)?;
@@ -273,8 +317,8 @@ fn replies_are_handed_out_with_their_data(rt: HostRuntime) -> Result<(), Fail> {
         success(2, 1, 0),
     ];
     compare_kept(&rt, &out, &replies);
-    assert_eq!(rt; out.answers.len(), 7);
-    assert_eq!(rt; out.answers[4].1.as_slice(), [7; BLOCK].as_slice());
+    assert_eq!(rt; out.replies.len(), 7);
+    assert_eq!(rt; out.replies[4].1.as_slice(), [7; BLOCK].as_slice());
     Ok(())
 }
 
@@ -291,7 +335,7 @@ fn all_runs_are_drained(rt: HostRuntime) -> Result<(), Fail> {
             (load(&rt, alloc, number), success(0, 0, 0)),
             (open(alloc, number + 1), success(0, 0, 0)),
             (
-                run(alloc, number, number + 1),
+                run(&rt, alloc, number, number + 1),
                 Reply::Pending { run: number },
             ),
         ];
@@ -306,14 +350,8 @@ fn all_runs_are_drained(rt: HostRuntime) -> Result<(), Fail> {
     }
     compare_kept(&rt, &out, &replies);
     let last = [
-        (
-            submit(0x01, 2, [0, 0, 0], sevens(&rt, alloc, 1)),
-            success(0, 0, 0),
-        ),
-        (
-            submit(0x7D, 0, [0, 0, 0], sevens(&rt, alloc, 1)),
-            success(3, 0, 0),
-        ),
+        (write(&rt, alloc, 2), success(0, 0, 0)),
+        (append_blocks(&rt, alloc, 1), success(3, 0, 0)),
     ];
     compare(&rt, &mut device, data, &last);
     Ok(())

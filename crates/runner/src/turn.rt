@@ -14,7 +14,7 @@ ghost use Rattle.runner.specs.steps.Turning.{FitsAt, FitsIn, FitsOn, HasRoom, Is
 
 use crate::active_run::Active;
 use crate::block_run::run_block;
-use crate::commands::complete;
+use crate::completion::complete;
 use crate::loaded_program::LoadedProgram;
 use device_events::Reply;
 use interp::Exit;

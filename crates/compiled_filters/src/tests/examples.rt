@@ -240,7 +240,7 @@ fn expect(
     requires { MOST_TRANSFER ≤ length data.old }
     ensures { MOST_TRANSFER ≤ length data.new }
 {
-    assert_eq!(rt; device.step(event, data), reply, "{name}");
+    assert_eq!(rt; device.apply(event, data), reply, "{name}");
 }
 
 /// Bytes, or zeros where there are none.

@@ -1,6 +1,6 @@
 //! The line that each reply is printed as, and lines that no reply has.
 
-use crate::{Lines, ReplyFileError, ReplyWithData, replies};
+use crate::{Lines, ReplyFileError, ToldReply, replies};
 use device_events::{Out, Reply};
 use std::alloc::Global;
 use std::process::Abort;
@@ -49,14 +49,9 @@ fn check_read(rt: &impl Abort, alloc: Global, line: &str, reply: Reply) -> Resul
     Ok(())
 }
 
-fn print(
-    rt: &impl Abort,
-    alloc: Global,
-    out: &mut Vec<u8>,
-    answer: &ReplyWithData,
-) -> Result<(), Fail> {
+fn print(rt: &impl Abort, alloc: Global, out: &mut Vec<u8>, told: &ToldReply) -> Result<(), Fail> {
     let mut lines = Lines::new(alloc, out)?;
-    let taken = lines.take(answer.reply, answer.bytes.as_slice());
+    let taken = lines.take(told.reply, told.bytes.as_slice());
     assert!(rt; taken.is_ok());
     Ok(())
 }

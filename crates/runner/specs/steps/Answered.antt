@@ -10,7 +10,7 @@ use Rattle.interval_domain.specs.Intervals.{intervals}
 use Rattle.image_store.specs.Namespace.{ZonedNamespace}
 use Rattle.zns_commands.specs.Meaning.{meaning}
 use Rattle.zns_commands.specs.declared.answer.Answer.{Answer}
-use Rattle.pushdown.specs.Answers.{Happening, Submission, completed, completion_reply, plain, refused}
+use Rattle.pushdown.specs.EventReplies.{Happening, Submission, completed, completion_reply, plain, refused}
 use Rattle.device_events.specs.Replies.{ReplyWithData}
 use Rattle.pushdown.specs.Machine.{commanded, giving_result, loading, starting, submitted}
 use Rattle.pushdown.specs.State.{State, holds_of}
@@ -64,7 +64,7 @@ abbrev pub Starts : RunCommand → ℕ → ℕ → List ℕ → State → State 
 Starts order queue cid input old new run =
     (entry : List ℕ) → identifier_of entry ≡ cid
     → let sub : Submission = record { queue = queue; entry = entry; input = input } in
-    starting sub old order ≡ record { answer = plain (reply.Pending run); state = new }
+    starting sub old order ≡ record { reply = plain (reply.Pending run); state = new }
 
 -- no run is started, for this reason
 abbrev pub Refuses : RunCommand → List ℕ → State → Status → Type 0
@@ -73,7 +73,7 @@ Refuses order input s status =
     → let sub : Submission = record { queue = queue; entry = entry; input = input } in
     starting sub s order ≡ refused sub status s
 
--- an entry that asks for this led from one state to the other, and was answered so
-pub record HasSubmitted (sub : Submission) (asked : Result Command Status) (old new : State) (answer : ReplyWithData) : Type 0 where
+-- an entry that asks for this led from one state to the other, with this reply
+pub record HasSubmitted (sub : Submission) (asked : Result Command Status) (old new : State) (given : ReplyWithData) : Type 0 where
   pub starved : Bool
-  pub happening : submitted intervals starved sub old asked ≡ record { answer = answer; state = new }
+  pub happening : submitted intervals starved sub old asked ≡ record { reply = given; state = new }

@@ -96,13 +96,13 @@ FitsAt ns slots None = Unit {0}
 FitsAt ns slots (Some a) = FitsIn ns (get_or slots a.order.slot None) a
 
 -- what a turn in a state comes to
-pub record IsTurned (s : State) (run : ℕ) (ns : ZonedNamespace) (slots : List (Option LoadedProgram)) (runs : List (Option Held)) (answer : Reply) : Type 0 where
-  pub reply : answer ≡ (turned s run).answer.reply
+pub record IsTurned (s : State) (run : ℕ) (ns : ZonedNamespace) (slots : List (Option LoadedProgram)) (runs : List (Option Held)) (given : Reply) : Type 0 where
+  pub reply : given ≡ (turned s run).reply.reply
   pub state : device_state ns slots runs ≡ (turned s run).state
   pub ready : IsReady ns slots runs
 
 -- a turn at a place, whatever the other places hold
 abbrev pub PlaceTurned : ZonedNamespace → ZonedNamespace → List (Option LoadedProgram) → List (Option LoadedProgram) → ℕ → Option Held → Option Held → Reply → Type 0
-PlaceTurned old new slots slots' run place place' answer =
+PlaceTurned old new slots slots' run place place' given =
     (runs : List (Option Held)) → get_or runs run None ≡ place → IsReady old slots runs
-    → IsTurned (device_state old slots runs) run new slots' (set runs run place') answer
+    → IsTurned (device_state old slots runs) run new slots' (set runs run place') given

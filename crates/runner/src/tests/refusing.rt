@@ -10,7 +10,7 @@ use std::process::Abort;
 use std::test::Fail;
 use zns_commands::{FaultState, MOST_TRANSFER};
 
-/// What a device answers to all that it does, and the text of the image that it leaves.
+/// What a device replies to all that it does, and the text of the image that it leaves.
 #[derive(Drop)]
 struct Whole {
     out: Kept,
@@ -24,9 +24,9 @@ fn events(rt: &impl Abort, alloc: Global) -> [Event; 13] {
         open(alloc, 1),
         open(alloc, 2),
         super::load(rt, alloc, 0),
-        run(alloc, 0, 1),
+        run(rt, alloc, 0, 1),
         Event::Turn { run: 0 },
-        run(alloc, 0, 2),
+        run(rt, alloc, 0, 2),
         Event::Fault {
             zone: 3,
             state: FaultState::Offline,
@@ -95,13 +95,13 @@ fn check_refused(
     let left = events.get(done..).unwrap_or(&[]);
     let ended = serve_and_drain(&mut device, left, data.as_mut_slice(), &mut rest);
     assert_eq!(rt; ended, Ok(()));
-    let answers = whole.out.answers.as_slice();
+    let replies = whole.out.replies.as_slice();
     assert!(rt;
-        answers.get(..taken) == Some(first.answers.as_slice()),
+        replies.get(..taken) == Some(first.replies.as_slice()),
         "{taken} taken"
     );
     assert!(rt;
-        answers.get(done..) == Some(rest.answers.as_slice()),
+        replies.get(done..) == Some(rest.replies.as_slice()),
         "{taken} taken"
     );
     assert!(rt;
@@ -116,7 +116,7 @@ fn each_reply_is_refused_in_turn(rt: HostRuntime) -> Result<(), Fail> {
     let alloc = rt.alloc();
     let events = events(&rt, alloc);
     let whole = all_taken(&rt, alloc, &events)?;
-    assert_eq!(rt; whole.out.answers.len(), 14);
+    assert_eq!(rt; whole.out.replies.len(), 14);
     for taken in 0..14 {
         check_refused(&rt, alloc, &events, &whole, taken)?;
     }
@@ -137,11 +137,11 @@ fn turns_of_no_run(rt: HostRuntime) -> Result<(), Fail> {
     )?;
     let image = saved(alloc, &device)?;
     for run in 1..=255 {
-        let reply = device.step(&Event::Turn { run }, data.as_mut_slice());
+        let reply = device.apply(&Event::Turn { run }, data.as_mut_slice());
         assert_eq!(rt; reply, Reply::Idle, "run {run}");
     }
     assert!(rt; saved(alloc, &device)?.as_slice() == image.as_slice());
-    let reply = device.step(&Event::Turn { run: 0 }, data.as_mut_slice());
+    let reply = device.apply(&Event::Turn { run: 0 }, data.as_mut_slice());
     assert_eq!(rt; reply, Reply::Pending { run: 0 });
     Ok(())
 }

@@ -125,7 +125,7 @@ fn check_event(
     requires { MOST_TRANSFER ≤ length output.old }
     ensures { MOST_TRANSFER ≤ length output.new }
 {
-    assert_eq!(rt; device.step(event, output), reply, "{at:?}");
+    assert_eq!(rt; device.apply(event, output), reply, "{at:?}");
 }
 
 /// Gives all turns that are left, and compares what answers them.
@@ -140,9 +140,9 @@ fn check_drained(
 {
     let mut out = Kept::new(alloc, usize::MAX);
     device.drain(output, &mut out)?;
-    assert_eq!(rt; out.answers.len(), scene.drained.len(), "{}", scene.name);
-    for (answer, kept) in scene.drained.iter().zip(out.answers.iter()) {
-        assert_eq!(rt; kept.0, answer.reply(0), "{}", scene.name);
+    assert_eq!(rt; out.replies.len(), scene.drained.len(), "{}", scene.name);
+    for (expected, kept) in scene.drained.iter().zip(out.replies.iter()) {
+        assert_eq!(rt; kept.0, expected.reply(0), "{}", scene.name);
     }
     Ok(())
 }

@@ -4,7 +4,7 @@ use Rattle.command_exec.proofs.Saving.{finishes, on_err, same_writer, stops_in_e
 use Rattle.command_exec.proofs.exec.serve_and_drain.Goals as goal
 
 pub returns-in_err-serve-clause-same_writer : goal.returns-in_err-serve-clause-same_writer
-returns-in_err-serve-clause-same_writer g c = c.in_err-serve.ensures.stopped.answers.0
+returns-in_err-serve-clause-same_writer g c = c.in_err-serve.ensures.stopped.replies.0
 
 pub returns-in_err-serve-clause-stopped : goal.returns-in_err-serve-clause-stopped
 returns-in_err-serve-clause-stopped g c =

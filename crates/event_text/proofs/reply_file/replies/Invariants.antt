@@ -1,11 +1,11 @@
 use Rattle.std.proofs.Common.{◌≡◌, ◌+◌, ◌≤◌, ◌++◌, length, map}
 use Rattle.std.specs.Str.Lines.{lines}
-use Rattle.event_text.specs.ReplyFile.{answer_text}
+use Rattle.event_text.specs.ReplyFile.{told_text}
 use Rattle.event_text.proofs.reply_file.replies.Given as goal
 
 abbrev pub invariant-loop-rest : goal.invariant-loop-rest
 invariant-loop-rest l = record {
-  read : lines l.file ≡ map answer_text l.answers.items ++ lines l.rest;
+  read : lines l.file ≡ map told_text l.told.items ++ lines l.rest;
   counted : l.number + length l.rest ≤ length l.file + 1;
 }
 

@@ -1,4 +1,4 @@
-use Rattle.pushdown.specs.Answers.{Submission}
+use Rattle.pushdown.specs.EventReplies.{Submission}
 use Rattle.runner.proofs.StepsLeave.{command_leaves}
 use Rattle.runner.proofs.submission.execute.Goals as goal
 

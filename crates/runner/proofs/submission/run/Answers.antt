@@ -1,6 +1,6 @@
 use Rattle.std.proofs.Common.{false, List, Option, Ok, ap}
 use Rattle.nvme_entry.specs.declared.command.Command.TheVariants as command
-use Rattle.pushdown.specs.Answers.{Submission}
+use Rattle.pushdown.specs.EventReplies.{Submission}
 use Rattle.pushdown.specs.State.{State}
 use Rattle.runner.specs.Held.{device_state}
 use Rattle.runner.specs.declared.active_run.Active.{Active as Held}

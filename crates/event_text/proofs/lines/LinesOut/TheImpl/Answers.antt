@@ -8,14 +8,14 @@ use Rattle.event_text.proofs.lines.LinesOut.TheImpl.Goals as goal
 
 -- one writer, to which a line was printed, or one that failed
 module _ {T E : Type 0} (writer after : ℕ) (same : after ≡ writer) (old new : Printed) where
-  line_taken : (result : Result T E) (answer : ReplyWithData) → OnOk result (Appends old.bytes new.bytes (line_of answer))
-      → CountsRefusals old.refused new.refused result → OnOk result ((after ≡ writer) × Prints line_of old new (answer ∷ []))
-  line_taken (Err error) answer printed count = tt
-  line_taken (Ok value) answer printed count = (
+  line_taken : (result : Result T E) (given : ReplyWithData) → OnOk result (Appends old.bytes new.bytes (line_of given))
+      → CountsRefusals old.refused new.refused result → OnOk result ((after ≡ writer) × Prints line_of old new (given ∷ []))
+  line_taken (Err error) given printed count = tt
+  line_taken (Ok value) given printed count = (
     same,
     record {
       no_fewer = omega (arith, count);
-      texts = λ _. subst (Appends old.bytes new.bytes) (sym (append-nil (line_of answer))) printed;
+      texts = λ _. subst (Appends old.bytes new.bytes) (sym (append-nil (line_of given))) printed;
     },
   )
 
@@ -29,10 +29,10 @@ take-tells g c =
     let new = c.new.self.now in
     let before : Printed = record { refused = old.refusals; bytes = g.W.Write.contents old.out.now } in
     let after : Printed = record { refused = new.refusals; bytes = g.W.Write.contents new.out.now } in
-    let answer : ReplyWithData = record { reply = c.args.reply; bytes = c.args.bytes.now } in
+    let given : ReplyWithData = record { reply = c.args.reply; bytes = c.args.bytes.now } in
     let same = c.ensures.same_writer in
     record {
-      ok = line_taken old.out.ghost_name new.out.ghost_name same before after c.result answer c.ensures.printed c.ensures.count;
+      ok = line_taken old.out.ghost_name new.out.ghost_name same before after c.result given c.ensures.printed c.ensures.count;
       err = line_refused old.out.ghost_name new.out.ghost_name same before after c.result c.ensures.count;
       count = c.ensures.count;
     }

@@ -1,7 +1,7 @@
 use Rattle.std.proofs.Common.{◌++◌, ℕ, drop, ap, sym, ◌∙◌}
 use Rattle.std.proofs.Math.Seq.{drop-append_seam}
 use Rattle.program_interface.specs.declared.area.TheConstants.{SCRATCH_BYTES}
-use Rattle.runner.proofs.commands.give_result.Goals as goal
+use Rattle.runner.proofs.results.give_result.Goals as goal
 
 pub returns-in-Some-clause-rest : goal.returns-in-Some-clause-rest
 returns-in-Some-clause-rest c =

@@ -1,4 +1,4 @@
--- The answers to events.
+-- Replies to events, and what happens where an entry is answered at once or no run has a number.
 use Rattle.std.specs.Prelude.{ℕ, List, [], length}
 use Rattle.zone_state.specs.declared.status.Status.{Status}
 use Rattle.nvme_entry.specs.Completion.{completion_bytes}
@@ -8,12 +8,12 @@ use Rattle.device_events.specs.Replies.{ReplyWithData}
 use Rattle.device_events.specs.declared.reply.Reply.{Reply}
 use Rattle.device_events.specs.declared.reply.Reply.TheVariants as reply
 
--- the answer to an event, and the state after it
+-- the reply to an event, and the state after it
 pub record Happening : Type 0 where
-  pub answer : ReplyWithData
+  pub reply : ReplyWithData
   pub state : State
 
--- an answer without data
+-- a reply without data
 abbrev pub plain : Reply → ReplyWithData
 plain r = record { reply = r; bytes = [] }
 
@@ -36,7 +36,7 @@ pub record Submission : Type 0 where
 -- an entry that is answered at once goes back to its queue with its identifier (NVMe Base 2.0, 3.3.3.2)
 abbrev pub completed : Submission → Status → ℕ → ℕ → List ℕ → State → Happening
 completed sub status dw0 dw1 output s =
-    record { answer = completion sub.queue (identifier_of sub.entry) status dw0 dw1 output; state = s }
+    record { reply = completion sub.queue (identifier_of sub.entry) status dw0 dw1 output; state = s }
 
 -- a refused entry changes nothing
 abbrev pub refused : Submission → Status → State → Happening
@@ -44,4 +44,4 @@ refused sub status s = completed sub status 0 0 [] s
 
 -- no run has the number
 abbrev pub idle : State → Happening
-idle s = record { answer = plain reply.Idle; state = s }
+idle s = record { reply = plain reply.Idle; state = s }

@@ -1,14 +1,13 @@
-//! The commands that an entry names, over what a device has.
+//! The command Result, which gives the scratch bytes that a run left.
 
 ghost use Rattle.std.specs.Prelude.{◌≡◌, ◌≤◌, ◌++◌, drop, length, List, Option};
 ghost use Rattle.image_store.specs.Namespace.{ZonedNamespace};
-ghost use Rattle.runner.specs.steps.Answered.{GivesResult, complete_reply};
+ghost use Rattle.runner.specs.steps.Answered.{GivesResult};
 ghost use Rattle.runner.specs.Held.{device_state};
 ghost use Rattle.runner.specs.declared.active_run.Active.{Active as Held};
 
 use crate::loaded_program::LoadedProgram;
-use device_events::Reply;
-use nvme_entry::{Completion, PROGRAM_SLOTS, ProgramSlot, Status};
+use nvme_entry::{PROGRAM_SLOTS, ProgramSlot, Status};
 use program_interface::SCRATCH_BYTES;
 use zns_commands::{Answer, check_transfer};
 
@@ -42,23 +41,5 @@ pub fn give_result(
             put_front(output, &loaded.result);
             Answer::success(0, SCRATCH_BYTES)
         }
-    }
-}
-
-/// The reply to an entry that is answered at once.
-pub fn complete(queue: u16, cid: u16, answer: Answer) -> Reply
-    ensures { result ≡ complete_reply queue cid answer }
-{
-    let completion = Completion {
-        dw0: answer.dw0,
-        dw1: answer.dw1,
-        queue,
-        cid,
-        status: answer.status,
-    };
-    Reply::Complete {
-        queue,
-        entry: completion.encode(),
-        length: answer.length,
     }
 }

@@ -1,7 +1,7 @@
 use Rattle.std.proofs.Common.{false, take, subst, sym, ◌∙◌}
 use Rattle.image_store.specs.Blocks.{AreBytes}
 use Rattle.interval_domain.specs.Intervals.{intervals}
-use Rattle.pushdown.specs.Answers.{Submission}
+use Rattle.pushdown.specs.EventReplies.{Submission}
 use Rattle.device_events.specs.Replies.{ReplyWithData, data_length}
 use Rattle.pushdown.specs.Events.{HasHappened}
 use Rattle.pushdown.specs.Pushdown.{HasBytes}
@@ -10,7 +10,7 @@ use Rattle.device_events.specs.declared.event.Event.{Event}
 use Rattle.device_events.specs.declared.event.Event.TheVariants as event
 use Rattle.runner.specs.Held.{device_state}
 use Rattle.runner.proofs.Occurrences.{reached_by, reached_more, submission_happened}
-use Rattle.runner.proofs.device.Device.step.Goals as goal
+use Rattle.runner.proofs.device.Device.apply.Goals as goal
 
 pub invariant_of-self : goal.invariant_of-self
 invariant_of-self c =
@@ -20,13 +20,13 @@ invariant_of-self c =
     let old = device_state d.namespace d.slots d.runs in
     let new = device_state c.submit.new.namespace c.submit.new.slots c.submit.new.runs in
     let sub : Submission = record { queue = made.result.queue; entry = made.result.entry.now; input = made.result.input.now } in
-    let answer : ReplyWithData = record { reply = c.submit.result; bytes = take (data_length c.submit.result) c.submit.new.output } in
-    let happened = submission_happened e.queue e.entry e.input sub old new answer made.ensures.queue made.ensures.entry
+    let reply : ReplyWithData = record { reply = c.submit.result; bytes = take (data_length c.submit.result) c.submit.new.output } in
+    let happened = submission_happened e.queue e.entry e.input sub old new reply made.ensures.queue made.ensures.entry
     (made.ensures.input ∙ c.as_slice.ensures.value) c.submit.ensures.submitted in
     let bytes : AreBytes e.input.items = subst AreBytes c.as_slice.ensures.value made.ensures.bytes in
     record {
       ready = c.submit.ensures.ready;
-      reached = reached_by (event.Submit e.queue e.entry e.input) old new answer c.self.invariant.reached bytes happened;
+      reached = reached_by (event.Submit e.queue e.entry e.input) old new reply c.self.invariant.reached bytes happened;
     }
 
 pub invariant_of-self-in-Turn : goal.invariant_of-self-in-Turn
@@ -46,11 +46,11 @@ returns-in-Submit-clause-happened c =
     let old = device_state d.namespace d.slots d.runs in
     let new = device_state c.submit.new.namespace c.submit.new.slots c.submit.new.runs in
     let sub : Submission = record { queue = made.result.queue; entry = made.result.entry.now; input = made.result.input.now } in
-    let answer : ReplyWithData = record { reply = c.submit.result; bytes = take (data_length c.submit.result) c.submit.new.output } in
-    let happened = submission_happened e.queue e.entry e.input sub old new answer made.ensures.queue made.ensures.entry
+    let reply : ReplyWithData = record { reply = c.submit.result; bytes = take (data_length c.submit.result) c.submit.new.output } in
+    let happened = submission_happened e.queue e.entry e.input sub old new reply made.ensures.queue made.ensures.entry
     (made.ensures.input ∙ c.as_slice.ensures.value) c.submit.ensures.submitted in
-    subst (λ (x : Event). HasHappened intervals x c.args.self.now new answer) (sym e.is)
-    (subst (λ (s : State). HasHappened intervals (event.Submit e.queue e.entry e.input) s new answer) c.self.view_is happened)
+    subst (λ (x : Event). HasHappened intervals x c.args.self.now new reply) (sym e.is)
+    (subst (λ (s : State). HasHappened intervals (event.Submit e.queue e.entry e.input) s new reply) c.self.view_is happened)
 
 pub returns-in-Submit-clause-carried : goal.returns-in-Submit-clause-carried
 returns-in-Submit-clause-carried c = subst HasBytes (sym c.in-Submit.is) (subst AreBytes c.as_slice.ensures.value c.new-submission.ensures.bytes)
