@@ -72,9 +72,9 @@ fn print_range<W: Write>(
 ) -> io::Result<()>
     ensures { OnOk result (IsPrinted (range_text option.now word.now least most) (W.contents out.old) (W.contents out.new)) }
 {
-    writeln!(
+    print_line(
         out,
-        "error: '{word}' for --{option} is not a number from {least} to {most}"
+        format_args!("error: '{word}' for --{option} is not a number from {least} to {most}"),
     )
 }
 

@@ -8,7 +8,7 @@ returns-in-Ok-clause-executed g c =
     c.in_ok-file.file.items c.in_ok-image.image c.in-Ok.events.items
     (g.F.Files.made c.args.files.now) (g.F.Files.made c.read.new.files) (g.F.Files.made c.run.new.files)
     c.load.ensures.contents c.required-path.ensures c.required-commands.ensures (search rules) c.in_ok-file.ensures.bytes c.in-Ok.ensures.events
-    _ _ _ _ c.run.result c.in_ok-image.ensures.image c.run.ensures.saved
+    g.F.Reader.Source.tells g.F.Writer.Sink.tells _ _ c.run.result c.in_ok-image.ensures.image c.run.ensures.saved
 
 pub returns-in-Ok-clause-stopped : goal.returns-in-Ok-clause-stopped
 returns-in-Ok-clause-stopped g c = λ stops reads makes.
