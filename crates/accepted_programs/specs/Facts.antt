@@ -3,7 +3,7 @@ use Rattle.std.specs.Prelude.{ℕ, ℤ, zero, suc, Bool, true, false, ◌+◌, �
 use Rattle.std.specs.Option.{option_or}
 use Rattle.std.specs.Ordering.{int_eq}
 use Rattle.instruction_set.specs.Instruction.{distance_of, immediate_word, size_of, target}
-use Rattle.instruction_set.specs.Program.{instruction_at}
+use Rattle.instruction_set.specs.Program.{instruction_at, slots_taken}
 use Rattle.instruction_set.specs.declared.insn.Insn.{Insn}
 use Rattle.instruction_set.specs.declared.insn.Insn.TheVariants.{LoadImmediate, Load, LoadSigned, StoreImmediate, StoreRegister, Arithmetic, Negate, MoveSigned, SwapBytes, Jump, JumpLong, Branch, Call}
 use Rattle.instruction_set.specs.declared.insn.Source.{Source}
@@ -21,10 +21,9 @@ use Rattle.word_domain.specs.Domain.{Operations}
 use Rattle.accepted_programs.specs.Cells.{cell_of, filled, is_stack, join_cells, known_in, no_cells, overwritten}
 use Rattle.accepted_programs.specs.declared.facts.Facts.{Facts}
 
--- the slot behind an instruction, which takes two slots if it is wide (RFC 9669, 5.4)
+-- the slot behind an instruction
 abbrev pub slot_behind : ℕ → Insn → ℕ
-slot_behind slot (LoadImmediate dst value) = slot + 2
-slot_behind slot _ = slot + 1
+slot_behind slot i = slot + slots_taken i
 
 -- does a jump at one slot lead to another?
 abbrev pub leads : ℕ → Option ℤ → ℕ → Bool

@@ -13,6 +13,7 @@ pub const CELLS: usize = 64;
 
 /// A fact about each register, R0 to R10, and about words of the stack, and a bound on the bytes that were emitted.
 pub struct Facts<D> {
+    /// What is known of R0 to R10.
     pub registers: [D; REGISTERS],
     /// What is known of the words of the stack, from its first byte on.
     pub cells: [Option<D>; CELLS],

@@ -65,6 +65,8 @@ impl Reason {
 /// An instruction that is refused, by its first slot, and why.
 #[derive(Clone, Copy, Debug, PartialEq, Eq)]
 pub struct Refusal {
+    /// The first slot of the instruction.
     pub slot: usize,
+    /// The least reason to refuse it.
     pub reason: Reason,
 }

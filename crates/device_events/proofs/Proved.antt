@@ -1,10 +1,10 @@
 -- The laws of this crate, proved: what others cite of it.
-use Rattle.std.proofs.Common.{◌≡◌, ℕ, ◌≤◌, List, ◌++◌, refl, sym, ◌∙◌, subst, arith}
+use Rattle.std.proofs.Common.{◌≡◌, ℕ, List, sym, subst, arith}
 use Rattle.std.specs.Prelude.{flat_map}
 use Rattle.std.specs.Io.KnownBytes.{Appends}
 use Rattle.std.proofs.KnownBytes.{Appends-nil, Appends-trans}
 use Rattle.std.proofs.lemmas.List.Concat.{flat_map-append}
-use Rattle.device_events.specs.Printed.{Printed, PrintsInParts, PrintsNone}
+use Rattle.device_events.specs.Printed.{PrintsInParts, PrintsNone}
 use Rattle.device_events.specs.Replies.{ReplyWithData}
 
 module _ (text : ReplyWithData → List ℕ) where

@@ -1,5 +1,6 @@
 -- What is refused is the first fault.
-use Rattle.std.proofs.Common.{◌≡◌, ℕ, suc, ◌+◌, ◌/◌, ◌<◌, Bool, true, false, cond, find, option_map, List, [], ◌∷◌, ◌++◌, length, slice_index, take, Option, Some, None, Result, Ok, Err, is_none, refl, sym, ap, ◌∙◌, append_assoc, arith, inl, inr}
+use Rattle.std.proofs.Common.{◌≡◌, ℕ, suc, ◌+◌, ◌/◌, Bool, true, false, cond, find, option_map, List, [], ◌∷◌, ◌++◌, length, take, Option, Some, None, Result, Ok, Err, is_none, refl, sym, ap, ◌∙◌, append_assoc, arith, inl, inr}
+use Rattle.std.specs.Result.{result_map_both}
 use Rattle.std.specs.List.{AllByRecursion, flat_map, slice_get}
 use Rattle.ebpf_decode.specs.declared.fault.Fault.{Fault}
 use Rattle.ebpf_decode.specs.declared.fault.FaultKind.{FaultKind}
@@ -9,10 +10,11 @@ use Rattle.instruction_set.specs.declared.fields.Fields.{Fields}
 use Rattle.instruction_set.specs.declared.insn.Insn.{Insn}
 use Rattle.instruction_set.specs.Program.{is_wide}
 use Rattle.instruction_set.specs.Spelling.{Fits, slots_spelled}
+use Rattle.program_interface.specs.Bytes.{AreBytes}
 use Rattle.ebpf_decode.specs.FirstFault.{AllPass, Begins, IsFirst, IsFirstFault, IsOfSlot, IsTold}
 use Rattle.ebpf_decode.specs.Laws.{FaultIsFirst}
 use Rattle.ebpf_decode.specs.Opcodes.{opcode_named}
-use Rattle.ebpf_decode.specs.Reading.{checks, found_in, instruction, length_checks, length_fault, read, read_named, read_slots, slots_at, then_read, unless, unless_length}
+use Rattle.ebpf_decode.specs.Reading.{checks, instruction, length_checks, length_fault, read, read_named, read_slots, slots_at, then_read, unless, unless_length}
 use Rattle.ebpf_decode.proofs.Again.{read-again}
 use Rattle.ebpf_decode.proofs.Bytes.{slots-fields}
 use Rattle.ebpf_decode.proofs.FaultSlots.{fault_behind, same_slot}
@@ -151,7 +153,7 @@ unfolding kind_told
 same_kind slot kind fault e = ap kind_told e
 
 at-first : (f : Fields) (fs : List Fields) (s : ℕ) (fault : Fault) (found : Result Insn FaultKind) → read f (slice_get fs 0) ≡ found
-    → then_read (found_in found) s (λ wide. read_slots wide (s + 1) fs) ≡ Err fault → AreFields f → AreFieldsIn (slice_get fs 0)
+    → then_read (result_map_both Some (λ kind. kind) found) s (λ wide. read_slots wide (s + 1) fs) ≡ Err fault → AreFields f → AreFieldsIn (slice_get fs 0)
     → ((wide : Bool) → read_slots wide (s + 1) fs ≡ Err fault → BeforeFrom wide (s + 1) fs fault) → Before s (f ∷ fs) fault
 at-first f fs s fault (Err kind) is e fit fits later = record {
   place = 0;
@@ -195,7 +197,7 @@ of-slot fs fault all e =
       told = told (opcode_named b.fields.opcode) b.fields (slice_get fs (fault.slot + 1)) fault.kind failed;
     }
 
-by-length : (bytes : List ℕ) (fault : Fault) (found : Option FaultKind) → ((k : ℕ) → slice_index bytes k < 256) → length_fault (length bytes) ≡ found
+by-length : (bytes : List ℕ) (fault : Fault) (found : Option FaultKind) → AreBytes bytes → length_fault (length bytes) ≡ found
     → unless_length found (read_slots false 0 (slots_at (length bytes / 8) bytes)) ≡ Err fault → IsFirstFault bytes fault
 by-length bytes fault (Some kind) fits is e =
     inl (record {

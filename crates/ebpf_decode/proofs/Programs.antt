@@ -1,6 +1,7 @@
 -- What is read from slots is spelled by them.
 use Rattle.std.proofs.Common.{◌≡◌, ℕ, suc, ◌+◌, ◌*◌, ◌/◌, ◌%◌, ◌^◌, ◌≤◌, Bool, true, false, not, cond, eqb, ltb, find, option_map, List, [], ◌∷◌, ◌++◌, length, Option, Some, None, Result, Ok, Err, refl, sym, ap, ◌∙◌, arith}
 use Rattle.std.specs.Prelude.{IsSome, option_to_list}
+use Rattle.std.specs.Result.{result_map_both}
 use Rattle.std.specs.List.{AllByRecursion, flat_map, slice_get}
 use Rattle.ebpf_decode.specs.declared.fault.Fault.{Fault}
 use Rattle.ebpf_decode.specs.declared.fault.FaultKind.{FaultKind}
@@ -8,7 +9,7 @@ use Rattle.instruction_set.specs.declared.fields.Fields.{Fields}
 use Rattle.instruction_set.specs.declared.insn.Insn.{Insn}
 use Rattle.instruction_set.specs.declared.insn.Insn.TheVariants.{LoadImmediate}
 use Rattle.instruction_set.specs.Program.{IsProgram, is_wide, slots_of}
-use Rattle.ebpf_decode.specs.Reading.{decoded_program, found_in, length_fault, read, read_slots, slots_at, then_read, unless_length, with_front}
+use Rattle.ebpf_decode.specs.Reading.{decoded_program, length_fault, read, read_slots, slots_at, then_read, unless_length, with_front}
 use Rattle.instruction_set.specs.Spelling.{Fits, first_slot, instructions_of, program_bytes, second_slot, slot_bytes, slots_spelled, spelling}
 use Rattle.program_interface.specs.declared.TheConstants.{MOST_SLOTS}
 use Rattle.std.proofs.lemmas.Bool.{eq-eqb, eqb-false, eqb-true, le-ltb, ltb-false, ne_eqb, not-false, not_from_true}
@@ -43,7 +44,7 @@ front-ok : (front : List (Option Insn)) (read : Result (List (Option Insn)) Faul
 front-ok front (Ok rest) slots e = (rest, refl, cc)
 front-ok front (Err fault) slots e = absurd cc
 
-first-ok : (read : Result Insn FaultKind) (s : ℕ) (after : Bool → Result (List (Option Insn)) Fault) (slots : List (Option Insn)) → then_read (found_in read) s after ≡ Ok slots
+first-ok : (read : Result Insn FaultKind) (s : ℕ) (after : Bool → Result (List (Option Insn)) Fault) (slots : List (Option Insn)) → then_read (result_map_both Some (λ kind. kind) read) s after ≡ Ok slots
     → (i : Insn) × (read ≡ Ok i) × (with_front (Some i ∷ []) (after (is_wide i)) ≡ Ok slots)
 first-ok (Ok i) s after slots e = (i, refl, e)
 first-ok (Err kind) s after slots e = absurd cc
@@ -154,7 +155,7 @@ program-read bytes slots fits length_is e =
 read-first : (i : Insn) (s : ℕ) (fs : List Fields) → Fits i → second_slot i ≡ cond (is_wide i) (slice_get fs 0) None
     → read_slots false s (first_slot i ∷ fs) ≡ with_front (Some i ∷ []) (read_slots (is_wide i) (s + 1) fs)
 read-first i s fs fits second =
-    ap (λ r. then_read (found_in r) s (λ wide. read_slots wide (s + 1) fs)) (read-again i (slice_get fs 0) fits second)
+    ap (λ r. then_read (result_map_both Some (λ kind. kind) r) s (λ wide. read_slots wide (s + 1) fs)) (read-again i (slice_get fs 0) fits second)
 
 read-program : (is : List Insn) (s : ℕ) → AllByRecursion Fits is → read_slots false s (flat_map slots_spelled is) ≡ Ok (slots_of is)
 read-program [] s fits = refl

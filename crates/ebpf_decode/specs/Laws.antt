@@ -1,11 +1,12 @@
 -- Laws of spelling and decoding.
-use Rattle.std.specs.Prelude.{◌≡◌, ◌<◌, ℕ, List, Option, Ok, Err, slice_index}
+use Rattle.std.specs.Prelude.{◌≡◌, ◌<◌, ℕ, List, Option, Ok, Err}
 use Rattle.ebpf_decode.specs.declared.fault.Fault.{Fault}
 use Rattle.instruction_set.specs.declared.insn.Insn.{Insn}
 use Rattle.instruction_set.specs.Program.{IsProgram}
 use Rattle.ebpf_decode.specs.FirstFault.{IsFirstFault}
 use Rattle.ebpf_decode.specs.Reading.{decoded_program}
 use Rattle.instruction_set.specs.Spelling.{program_bytes}
+use Rattle.program_interface.specs.Bytes.{AreBytes}
 use Rattle.program_interface.specs.declared.TheConstants.{MOST_SLOTS}
 
 -- what a program spells decodes as the program
@@ -16,17 +17,17 @@ SpelledIsDecoded = (slots : List (Option Insn)) → IsProgram slots → decoded_
 abbrev pub HasOneProgram : Type 0
 HasOneProgram = (a b : List (Option Insn)) → IsProgram a → IsProgram b → program_bytes a ≡ program_bytes b → a ≡ b
 
--- what decodes, of numbers below 256, is a program spelled by the bytes
+-- what bytes decode as is a program that they spell
 abbrev pub DecodedIsSpelled : Type 0
 DecodedIsSpelled =
-    (bytes : List ℕ) (slots : List (Option Insn)) → ((k : ℕ) → slice_index bytes k < 256) → decoded_program bytes ≡ Ok slots
+    (bytes : List ℕ) (slots : List (Option Insn)) → AreBytes bytes → decoded_program bytes ≡ Ok slots
     → IsProgram slots × (bytes ≡ program_bytes slots)
 
 -- the slot of a fault is below the most slots of a program
 abbrev pub FaultIsInside : Type 0
 FaultIsInside = (bytes : List ℕ) (fault : Fault) → decoded_program bytes ≡ Err fault → fault.slot < MOST_SLOTS
 
--- What is refused, of numbers below 256, is the first fault: of the length, or else of the lowest slot that has one.
+-- What is told of bytes is the first fault: of the length, or else of the lowest slot that has one.
 abbrev pub FaultIsFirst : Type 0
 FaultIsFirst =
-    (bytes : List ℕ) (fault : Fault) → ((k : ℕ) → slice_index bytes k < 256) → decoded_program bytes ≡ Err fault → IsFirstFault bytes fault
+    (bytes : List ℕ) (fault : Fault) → AreBytes bytes → decoded_program bytes ≡ Err fault → IsFirstFault bytes fault

@@ -1,8 +1,9 @@
 -- Reading bytes: the program that they spell, or their first fault.
-use Rattle.std.specs.Prelude.{◌≡◌, ℕ, zero, suc, pos, ◌+◌, ◌*◌, ◌/◌, ◌%◌, ◌^◌, ◌==◌, nat_lt, Bool, true, false, not, ◌&&◌, ◌||◌, List, [], ◌∷◌, ◌++◌, length, drop, slice_get, slice_index, find, Option, Some, None, is_none, option_map, Result, Ok, Err, ok_or}
+use Rattle.std.specs.Prelude.{ℕ, zero, suc, pos, ◌+◌, ◌*◌, ◌/◌, ◌%◌, ◌^◌, ◌==◌, nat_lt, Bool, true, false, not, ◌&&◌, ◌||◌, List, [], ◌∷◌, ◌++◌, length, drop, slice_get, slice_index, find, Option, Some, None, is_none, option_map, Result, Ok, Err, ok_or}
 use Rattle.std.specs.Ordering.{int_eq}
 use Rattle.std.specs.Int.{w16, w32, cast_signed, cast_unsigned}
 use Rattle.std.specs.Option.{option_or}
+use Rattle.std.specs.Result.{result_map_both}
 use Rattle.byteorder.specs.Endian.{little_number}
 use Rattle.ebpf_decode.specs.declared.fault.DecodeFault.{DecodeFault}
 use Rattle.ebpf_decode.specs.declared.fault.DecodeFault.TheVariants as errors
@@ -140,14 +141,10 @@ abbrev pub with_front : List (Option Insn) → Result (List (Option Insn)) Fault
 with_front front (Ok slots) = Ok (front ++ slots)
 with_front front (Err fault) = Err fault
 
-abbrev pub found_in : Result Insn FaultKind → Result (Option Insn) FaultKind
-found_in (Ok i) = Ok (Some i)
-found_in (Err kind) = Err kind
-
 -- what begins at a slot: nothing at a wide instruction's second
 abbrev pub entry : Bool → Fields → Option Fields → Result (Option Insn) FaultKind
 entry true f next = Ok None
-entry false f next = found_in (read f next)
+entry false f next = result_map_both Some (λ kind. kind) (read f next)
 
 abbrev pub begins_wide : Option Insn → Bool
 begins_wide None = false
@@ -179,12 +176,9 @@ unless_length None slots = slots
 abbrev pub decoded_program : List ℕ → Result (List (Option Insn)) Fault
 decoded_program bytes = unless_length (length_fault (length bytes)) (read_slots false 0 (slots_at (length bytes / 8) bytes))
 
--- ---- what a function answers: what was read, unless memory ran out
+-- ---- what a function answers
 
-abbrev pub Fails : {X : Type 0} → DecodeFault → Result X Fault → Type 0
-Fails errors.Memory read = Unit {0}
-Fails (errors.Fault fault) read = read ≡ Err fault
-
-abbrev pub Gives : {X Y : Type 0} → (X → Y) → Result X DecodeFault → Result Y Fault → Type 0
-Gives view (Ok x) read = read ≡ Ok (view x)
-Gives view (Err e) read = Fails e read
+-- the fault that an error tells; want of memory tells none
+abbrev pub fault_in : DecodeFault → Option Fault
+fault_in errors.Memory = None
+fault_in (errors.Fault fault) = Some fault

@@ -3,7 +3,8 @@
 ghost use Rattle.std.specs.Prelude.{◌≡◌, ◌<◌, ◌≤◌, ◌+◌, ◌*◌, ◌/◌, ◌^◌, drop, length, slice_get, false, None, IfOk};
 ghost use Rattle.std.specs.Int.{w32, cast_unsigned};
 ghost use Rattle.instruction_set.specs.Spelling.{program_bytes};
-ghost use Rattle.ebpf_decode.specs.Reading.{Gives, begins_wide, decoded_program, entry, fields_at, first_fault, has_more, has_no_register, has_unused, immediate_of, instruction, is_left_out, jump, length_fault, load_or_store, read, read_slots, slots_at, source_of, signed_move};
+ghost use Rattle.program_interface.specs.Gives.{Gives};
+ghost use Rattle.ebpf_decode.specs.Reading.{begins_wide, decoded_program, entry, fault_in, fields_at, first_fault, has_more, has_no_register, has_unused, immediate_of, instruction, is_left_out, jump, length_fault, load_or_store, read, read_slots, slots_at, source_of, signed_move};
 
 use crate::fault::{DecodeFault, Fault, FaultKind};
 use crate::fields::from_bytes;
@@ -11,7 +12,7 @@ use crate::opcode::{Opcode, Operand, Uses};
 use instruction_set::{
     Fields, Insn, Operation, Program, Register, SignExtension, Source, SwapSize, Width,
 };
-use program_interface::MOST_SLOTS;
+use program_interface::{MOST_SLOTS, REGISTERS};
 use std::alloc::Global;
 
 /// Is the instruction one that this profile leaves out?
@@ -29,7 +30,8 @@ fn is_left_out(opcode: Opcode, fields: &Fields) -> bool
 fn has_no_register(used: Uses, fields: &Fields) -> bool
     ensures { result ≡ has_no_register used fields.now }
 {
-    (used.dst && fields.dst > 10) || (used.src && fields.src > 10)
+    (used.dst && usize::from(fields.dst) >= REGISTERS)
+        || (used.src && usize::from(fields.src) >= REGISTERS)
 }
 
 /// Is a field that the instruction doesn't use other than 0?
@@ -288,7 +290,7 @@ fn begins_wide(entry: &Option<Insn>) -> bool
 /// What begins at each slot, or the lowest slot with a fault.
 fn decode_slots(alloc: Global, bytes: &[u8]) -> Result<Vec<Option<Insn>>, DecodeFault>
     requires { length bytes.now / 8 ≤ MOST_SLOTS }
-    ensures { Gives (λ slots. slots.items) result (read_slots false 0 (slots_at (length bytes.now / 8) bytes.now)) }
+    ensures { Gives fault_in (λ slots. slots.items) result (read_slots false 0 (slots_at (length bytes.now / 8) bytes.now)) }
 {
     let count = bytes.len() / 8;
     let mut slots = Vec::with_capacity(alloc, count)?;
@@ -329,7 +331,7 @@ pub fn decode(alloc: Global, bytes: &[u8]) -> Result<Program, DecodeFault>
     // What is decoded is spelled by the bytes.
     ensures found { IfOk result (λ program. bytes.now ≡ program_bytes program) }
     // Which program or fault it is.
-    ensures exact { Gives (λ program. program) result (decoded_program bytes.now) }
+    ensures exact { Gives fault_in (λ program. program) result (decoded_program bytes.now) }
 {
     if let Some(kind) = length_fault(bytes.len()) {
         return Err(DecodeFault::Fault(Fault { slot: 0, kind }));

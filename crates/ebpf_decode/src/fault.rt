@@ -4,65 +4,68 @@ ghost use Rattle.std.specs.Prelude.{◌≡◌};
 ghost use Rattle.ebpf_decode.specs.Faults.{fault_number};
 ghost use Rattle.ebpf_decode.specs.declared.fault.DecodeFault.TheVariants.{Memory};
 
+use program_interface::{MOST_SLOTS, REGISTERS};
 use std::alloc::{AllocError, AllocFailed};
 use thiserror::Error;
 
-/// What is wrong with the bytes of a program.
+/// What is wrong with the bytes of a program, with the number by which users see it.
 #[derive(Clone, Copy, Debug, PartialEq, Eq, Error)]
 pub enum FaultKind {
+    /// The bytes aren't whole slots of 8 bytes (RFC 9669, 3).
     #[error("the length is no multiple of 8 bytes")]
-    Length,
+    Length = 20,
+    /// There are no bytes.
     #[error("there is no instruction")]
-    Empty,
-    #[error("there are more than 4096 slots")]
-    TooLong,
+    Empty = 21,
+    /// There are more than [`MOST_SLOTS`] slots (profile).
+    #[error("there are more than {most} slots", most = MOST_SLOTS)]
+    TooLong = 22,
+    /// The opcode names nothing (RFC 9669, 3.1).
     #[error("no instruction has this opcode")]
-    Opcode,
-    #[error("there are the registers 0 to 10 alone")]
-    Register,
+    Opcode = 23,
+    /// A field that has the number of a register has one over 10 (RFC 9669, 3.1).
+    #[error("there are the registers 0 to {last} alone", last = REGISTERS - 1)]
+    Register = 24,
+    /// A field that the instruction doesn't use isn't 0 (RFC 9669, 3.1).
     #[error("a field that the instruction does not use is not 0")]
-    UnusedField,
+    UnusedField = 25,
+    /// A wide instruction is the last slot (RFC 9669, 3.2).
     #[error("a wide instruction lacks its second slot")]
-    CutWide,
+    CutWide = 26,
+    /// The offset or the immediate, of which a part of the opcode is made, makes none.
     #[error("a field has a value that the instruction cannot have")]
-    Value,
+    Value = 27,
+    /// RFC 9669 has the instruction, and this profile doesn't.
     #[error("the instruction is left out here")]
-    NotInProfile,
+    NotInProfile = 28,
 }
 
 impl FaultKind {
-    /// The number that stands for the kind, 20 to 28.
+    /// The number by which users see it, 20 to 28.
     pub fn number(self) -> u8
         ensures { result ≡ fault_number self }
     {
-        match self {
-            FaultKind::Length => 20,
-            FaultKind::Empty => 21,
-            FaultKind::TooLong => 22,
-            FaultKind::Opcode => 23,
-            FaultKind::Register => 24,
-            FaultKind::UnusedField => 25,
-            FaultKind::CutWide => 26,
-            FaultKind::Value => 27,
-            FaultKind::NotInProfile => 28,
-        }
+        self as u8
     }
 }
 
-/// The first fault of the bytes of a program: the first slot of the instruction that has it, and 0
-/// for a fault of the length.
+/// The first fault of the bytes of a program.
 #[derive(Clone, Copy, Debug, PartialEq, Eq, Error)]
 #[error("slot {slot}: {kind}")]
 pub struct Fault {
+    /// The first slot of the instruction that has the fault, counted from 0; 0 for a fault of the length.
     pub slot: usize,
+    /// What is wrong there.
     pub kind: FaultKind,
 }
 
 /// Why [`decode`](crate::decode) gives no program.
 #[derive(Debug, Drop, Error)]
 pub enum DecodeFault {
+    /// Memory ran out.
     #[error("no memory")]
     Memory,
+    /// The bytes are no program.
     #[error(transparent)]
     Fault(Fault),
 }

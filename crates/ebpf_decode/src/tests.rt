@@ -3,45 +3,56 @@ use instruction_set::{Insn, Operation, Register, Size, Source, Width};
 use std::alloc::Global;
 use std::test::Fail;
 
-/// The slot and number of the bytes' fault; `None` where they decode.
-fn fault_of(alloc: Global, bytes: &[u8]) -> Result<Option<(usize, u8)>, Fail> {
+/// The bytes' fault; `None` where they decode.
+fn fault_of(alloc: Global, bytes: &[u8]) -> Result<Option<Fault>, Fail> {
     match decode(alloc, bytes) {
         Ok(_) => Ok(None),
-        Err(DecodeFault::Fault(fault)) => Ok(Some((fault.slot, fault.kind.number()))),
+        Err(DecodeFault::Fault(fault)) => Ok(Some(fault)),
         Err(DecodeFault::Memory) => Err(Fail::from("no memory")),
     }
 }
 
-const FAULTS: [([u8; 8], u8); 11] = [
-    ([0x07, 0x0b, 0, 0, 0, 0, 0, 0], 24),
-    ([0x0f, 0x21, 1, 0, 0, 0, 0, 0], 25),
-    ([0x3f, 0x21, 2, 0, 0, 0, 0, 0], 27),
-    ([0xdc, 0x01, 0, 0, 8, 0, 0, 0], 27),
-    ([0xbc, 0x21, 0x20, 0, 0, 0, 0, 0], 27),
-    ([0x99, 0, 0, 0, 0, 0, 0, 0], 23),
-    ([0x8c, 0, 0, 0, 0, 0, 0, 0], 23),
-    ([0xdf, 0, 0, 0, 0, 0, 0, 0], 23),
-    ([0xc3, 0, 0, 0, 0, 0, 0, 0], 28),
-    ([0x18, 0x11, 0, 0, 0, 0, 0, 0], 28),
-    ([0x18, 0x01, 0, 0, 0, 0, 0, 0], 26),
+/// A fault of the first slot.
+fn at_first(kind: FaultKind) -> Option<Fault> {
+    Some(Fault { slot: 0, kind })
+}
+
+const FAULTS: [([u8; 8], FaultKind); 11] = [
+    ([0x07, 0x0b, 0, 0, 0, 0, 0, 0], FaultKind::Register),
+    ([0x0f, 0x21, 1, 0, 0, 0, 0, 0], FaultKind::UnusedField),
+    ([0x3f, 0x21, 2, 0, 0, 0, 0, 0], FaultKind::Value),
+    ([0xdc, 0x01, 0, 0, 8, 0, 0, 0], FaultKind::Value),
+    ([0xbc, 0x21, 0x20, 0, 0, 0, 0, 0], FaultKind::Value),
+    ([0x99, 0, 0, 0, 0, 0, 0, 0], FaultKind::Opcode),
+    ([0x8c, 0, 0, 0, 0, 0, 0, 0], FaultKind::Opcode),
+    ([0xdf, 0, 0, 0, 0, 0, 0, 0], FaultKind::Opcode),
+    ([0xc3, 0, 0, 0, 0, 0, 0, 0], FaultKind::NotInProfile),
+    ([0x18, 0x11, 0, 0, 0, 0, 0, 0], FaultKind::NotInProfile),
+    ([0x18, 0x01, 0, 0, 0, 0, 0, 0], FaultKind::CutWide),
 ];
 
 #[test]
 fn a_lone_slot_with_a_fault(rt: HostRuntime) -> Result<(), Fail> {
-    for (bytes, number) in &FAULTS {
-        assert_eq!(rt; fault_of(rt.alloc(), bytes)?, Some((0, *number)));
+    for (bytes, kind) in &FAULTS {
+        assert_eq!(rt; fault_of(rt.alloc(), bytes)?, at_first(*kind));
     }
     Ok(())
+}
+
+#[test]
+fn each_kind_has_its_number(rt: HostRuntime) {
+    assert_eq!(rt; FaultKind::Length.number(), 20);
+    assert_eq!(rt; FaultKind::NotInProfile.number(), 28);
 }
 
 #[test]
 fn lengths(rt: HostRuntime) -> Result<(), Fail> {
     let zeros = vec![in rt.alloc(); 0u8; 32776]?;
     assert_eq!(rt; zeros.len(), 32776);
-    assert_eq!(rt; fault_of(rt.alloc(), &[])?, Some((0, 21)));
-    assert_eq!(rt; fault_of(rt.alloc(), &zeros[..9])?, Some((0, 20)));
-    assert_eq!(rt; fault_of(rt.alloc(), &zeros)?, Some((0, 22)));
-    assert_eq!(rt; fault_of(rt.alloc(), &zeros[..32768])?, Some((0, 23)));
+    assert_eq!(rt; fault_of(rt.alloc(), &[])?, at_first(FaultKind::Empty));
+    assert_eq!(rt; fault_of(rt.alloc(), &zeros[..9])?, at_first(FaultKind::Length));
+    assert_eq!(rt; fault_of(rt.alloc(), &zeros)?, at_first(FaultKind::TooLong));
+    assert_eq!(rt; fault_of(rt.alloc(), &zeros[..32768])?, at_first(FaultKind::Opcode));
     Ok(())
 }
 
@@ -59,8 +70,14 @@ fn each_opcode(rt: HostRuntime) -> Result<(), Fail> {
         let length = if opcode == 0x18 { 16 } else { 8 };
         match fault_of(rt.alloc(), &bytes[..length])? {
             None => decoded = decoded.wrapping_add(1),
-            Some((0, 28)) => left_out = left_out.wrapping_add(1),
-            Some((0, 23)) => unknown = unknown.wrapping_add(1),
+            Some(Fault {
+                slot: 0,
+                kind: FaultKind::NotInProfile,
+            }) => left_out = left_out.wrapping_add(1),
+            Some(Fault {
+                slot: 0,
+                kind: FaultKind::Opcode,
+            }) => unknown = unknown.wrapping_add(1),
             Some(_) => return Err(Fail::from("another fault")),
         }
     }

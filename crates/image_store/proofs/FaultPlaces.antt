@@ -13,7 +13,7 @@ use Rattle.zone_state.specs.Zone.{CountedZone, fits_state}
 use Rattle.zone_resources.specs.declared.admission.Limits.{Limits as ResourceLimits}
 use Rattle.zone_resources.specs.Counts.{open_count, active_count}
 use Rattle.image_store.specs.declared.fault.LoadFault.{LoadFault}
-use Rattle.image_store.specs.declared.fault.LoadFault.TheVariants.{Truncated, Magic, BadZone, Total, Limits, Trailing}
+use Rattle.image_store.specs.declared.fault.LoadFault.TheVariants.{Truncated, Magic, ZoneRow, Total, Limits, Trailing}
 use Rattle.image_store.specs.declared.fault.ZoneRowFault.{ZoneRowFault}
 use Rattle.image_store.specs.declared.fault.ZoneRowFault.TheVariants.{Reserved, State, Blocks}
 use Rattle.image_store.specs.declared.header.Header.{Header}
@@ -58,12 +58,12 @@ rest_of k n m xs ys e same =
 -- ---- the rows
 
 abbrev IsBad : ℕ → LoadFault → Type 0
-IsBad zone fault = (why : ZoneRowFault) × (fault ≡ BadZone zone why)
+IsBad zone fault = (why : ZoneRowFault) × (fault ≡ ZoneRow zone why)
 
-is_bad : (zone : ℕ) (why : ZoneRowFault) (fault : LoadFault) → (let r : Result CountedZone LoadFault = Err (BadZone zone why) in r) ≡ Err fault → IsBad zone fault
-is_bad zone why fault e = (why, sym (is_this {X = CountedZone} (BadZone zone why) fault e))
+is_bad : (zone : ℕ) (why : ZoneRowFault) (fault : LoadFault) → (let r : Result CountedZone LoadFault = Err (ZoneRow zone why) in r) ≡ Err fault → IsBad zone fault
+is_bad zone why fault e = (why, sym (is_this {X = CountedZone} (ZoneRow zone why) fault e))
 
-blocks_bad : (test : Bool) (zone : ℕ) (why : ZoneRowFault) (z : CountedZone) (fault : LoadFault) → cond test (Ok z) (Err (BadZone zone why)) ≡ Err fault → IsBad zone fault
+blocks_bad : (test : Bool) (zone : ℕ) (why : ZoneRowFault) (z : CountedZone) (fault : LoadFault) → cond test (Ok z) (Err (ZoneRow zone why)) ≡ Err fault → IsBad zone fault
 blocks_bad true zone why z fault e = absurd cc
 blocks_bad false zone why z fault e = is_bad zone why fault e
 
@@ -73,7 +73,7 @@ state_bad zone code (Some state) written capacity fault e =
     blocks_bad (fits_state state written capacity) zone (Blocks state written capacity) (record { state = state; written = written; capacity = capacity }) fault e
 
 padding_bad : (test : Bool) (zone code : ℕ) (told : Option ZoneState) (written capacity : ℕ) (fault : LoadFault)
-    → cond test (zone_told zone code told written capacity) (Err (BadZone zone Reserved)) ≡ Err fault → IsBad zone fault
+    → cond test (zone_told zone code told written capacity) (Err (ZoneRow zone Reserved)) ≡ Err fault → IsBad zone fault
 padding_bad true zone code told written capacity fault e = state_bad zone code told written capacity fault e
 padding_bad false zone code told written capacity fault e = is_bad zone Reserved fault e
 
@@ -85,7 +85,7 @@ zone_bad zone capacity bytes fault e =
 record IsFoundAt (zone capacity n : ℕ) (xs : List ℕ) (fault : LoadFault) : Type 0 where
   pub before : ℕ
   pub why : ZoneRowFault
-  pub is : fault ≡ BadZone (zone + before) why
+  pub is : fault ≡ ZoneRow (zone + before) why
   pub same : (ys : List ℕ) → take ((before + 1) * 8) ys ≡ take ((before + 1) * 8) xs → zones_in zone capacity n ys ≡ Err fault
 
 first_found : (zone capacity n : ℕ) (xs : List ℕ) (fault : LoadFault) → zone_in zone capacity (take 8 xs) ≡ Err fault → IsFoundAt zone capacity (suc n) xs fault
@@ -94,7 +94,7 @@ first_found zone capacity n xs fault e =
     record {
       before = 0;
       why = bad.0;
-      is = bad.1 ∙ ap (λ (k : ℕ). BadZone k bad.0) (let same : zone ≡ zone + 0 = omega arith in same);
+      is = bad.1 ∙ ap (λ (k : ℕ). ZoneRow k bad.0) (let same : zone ≡ zone + 0 = omega arith in same);
       same = λ ys same. ap (λ (r : Result CountedZone LoadFault). r >>= λ z. zones_in (zone + 1) capacity n (drop 8 ys) >>= λ zs. Ok (z ∷ zs)) (ap (zone_in zone capacity) same ∙ e);
     }
 
@@ -104,7 +104,7 @@ later_found zone capacity n xs z fault first found =
     record {
       before = k + 1;
       why = found.why;
-      is = found.is ∙ ap (λ (i : ℕ). BadZone i found.why) (let same : zone + 1 + k ≡ zone + (k + 1) = omega arith in same);
+      is = found.is ∙ ap (λ (i : ℕ). ZoneRow i found.why) (let same : zone + 1 + k ≡ zone + (k + 1) = omega arith in same);
       same = λ ys same.
           let front : take 8 ys ≡ take 8 xs = front_of 8 ((k + 1 + 1) * 8) xs ys (omega arith) same in
           let rest : take ((k + 1) * 8) (drop 8 ys) ≡ take ((k + 1) * 8) (drop 8 xs) = rest_of 8 ((k + 1) * 8) ((k + 1 + 1) * 8) xs ys (omega arith) same in
@@ -258,7 +258,7 @@ total_of_rows bytes (Some total) zs fault e = kept_fault (IsOfRows bytes) (total
 
 limits_of_rows : (bytes : List ℕ) (limits : ResourceLimits) (zs : List CountedZone) (fault : LoadFault) → limits_kept limits zs ≡ Err fault → IsOfRows bytes fault
 limits_of_rows bytes limits zs fault e =
-    kept_fault (IsOfRows bytes) (nat_le (open_count zs) limits.open_limit && nat_le (active_count zs) limits.active_limit) Limits fault refl e
+    kept_fault (IsOfRows bytes) (nat_le (open_count zs) limits.open_limit && nat_le (active_count zs) limits.active_limit) (Limits (open_count zs) (active_count zs) limits) fault refl e
 
 module _ (bytes other : List ℕ) (there : 64 ≤ length bytes) (longer : length bytes ≤ length other) (h : Header) (told : header_told (take 64 bytes) ≡ Ok h) where
   told_other : (n : ℕ) → 64 ≤ n → take n other ≡ take n bytes → namespace_in other ≡ after_header h (drop 64 other)

@@ -8,7 +8,7 @@ use Rattle.zone_state.specs.Zone.{CountedZone, fits_state}
 use Rattle.zone_resources.specs.declared.admission.Limits.{Limits}
 use Rattle.zone_resources.specs.Counts.{open_count, active_count}
 use Rattle.image_store.specs.declared.fault.LoadFault.{LoadFault}
-use Rattle.image_store.specs.declared.fault.LoadFault.TheVariants.{Truncated, Magic, Geometry, BadZone, Total, Limits as PastLimits, Trailing, Stream, Memory}
+use Rattle.image_store.specs.declared.fault.LoadFault.TheVariants.{Magic, Header as BadHeader, ZoneRow, Total, Limits as PastLimits, Stream, Memory}
 use Rattle.image_store.specs.declared.fault.ZoneRowFault.{ZoneRowFault}
 use Rattle.image_store.specs.declared.fault.ZoneRowFault.TheVariants.{Reserved, State, Blocks}
 use Rattle.image_store.specs.declared.fault.HeaderFault.{HeaderFault}
@@ -33,36 +33,16 @@ IsOfText _ = Unit {0}
 
 pub no_stream : (fault : LoadFault) → IsOfText fault → IsNoStream fault
 no_stream Stream h = h
-no_stream Memory h = tt
-no_stream Truncated h = tt
-no_stream Magic h = tt
-no_stream (Geometry first) h = tt
-no_stream (BadZone zone first) h = tt
-no_stream (Total told counted) h = tt
-no_stream PastLimits h = tt
-no_stream Trailing h = tt
+no_stream fault h = tt
 
 pub fails_text : {Y : Type 0} (wanted : Type 0) (fault : LoadFault) (reading : Result Y LoadFault) → IsOfText fault → reading ≡ Err fault → Fails wanted fault reading
 fails_text wanted Stream reading h e = absurd h
 fails_text wanted Memory reading h e = absurd h
-fails_text wanted Truncated reading h e = e
-fails_text wanted Magic reading h e = e
-fails_text wanted (Geometry first) reading h e = e
-fails_text wanted (BadZone zone first) reading h e = e
-fails_text wanted (Total told counted) reading h e = e
-fails_text wanted PastLimits reading h e = e
-fails_text wanted Trailing reading h e = e
+fails_text wanted fault reading h e = e
 
 counts_no_stream : (before after : ℕ) (fault : LoadFault) → IsNoStream fault → after ≡ before → CountsFault before after fault
 counts_no_stream before after Stream h e = absurd h
-counts_no_stream before after Memory h e = e
-counts_no_stream before after Truncated h e = e
-counts_no_stream before after Magic h e = e
-counts_no_stream before after (Geometry first) h e = e
-counts_no_stream before after (BadZone zone first) h e = e
-counts_no_stream before after (Total told counted) h e = e
-counts_no_stream before after PastLimits h e = e
-counts_no_stream before after Trailing h e = e
+counts_no_stream before after fault h e = e
 
 -- a last part in which no stream fails
 pub counts_last : {X : Type 0} (before after : ℕ) (result : Result X LoadFault) → NoStreamFails result → after ≡ before → CountsLoad before after result
@@ -82,16 +62,16 @@ magic_fault None fault e = subst IsOfText (is_this {X = Version} Magic fault e) 
 magic_fault (Some version) fault e = absurd cc
 
 -- what holds of each fault of a header behind its magic
-module _ (P : LoadFault → Type 0) (of_header : (why : HeaderFault) → P (Geometry why)) where
+module _ (P : LoadFault → Type 0) (of_header : (why : HeaderFault) → P (BadHeader why)) where
   numbers_text_fault : (check : Option GeometryFault) (s : Shape) (fault : LoadFault) → unless_failed (option_map (numbers_fault s) check) s ≡ Err fault → P fault
   numbers_text_fault None s fault e = absurd cc
   numbers_text_fault (Some first) s fault e = subst P (is_this {X = Shape} (numbers_fault s first) fault e) (of_header (Numbers (refusal_of first s)))
 
   version_text_fault : (a b : Bool) (f g : HeaderFault) (fault : LoadFault)
-      → (let r : Result (Unit {0}) LoadFault = unless_failed (first_failed (demand a (Geometry f) ∷ demand b (Geometry g) ∷ [])) tt in r) ≡ Err fault → P fault
+      → (let r : Result (Unit {0}) LoadFault = unless_failed (first_failed (demand a (BadHeader f) ∷ demand b (BadHeader g) ∷ [])) tt in r) ≡ Err fault → P fault
   version_text_fault true true f g fault e = absurd cc
-  version_text_fault true false f g fault e = subst P (is_this {X = Unit {0}} (Geometry g) fault e) (of_header g)
-  version_text_fault false b f g fault e = subst P (is_this {X = Unit {0}} (Geometry f) fault e) (of_header f)
+  version_text_fault true false f g fault e = subst P (is_this {X = Unit {0}} (BadHeader g) fault e) (of_header g)
+  version_text_fault false b f g fault e = subst P (is_this {X = Unit {0}} (BadHeader f) fault e) (of_header f)
 
   pub header_of_fault : (bytes : List ℕ) (version : Version) (fault : LoadFault) → header_of bytes version ≡ Err fault → P fault
   header_of_fault bytes version fault e =
@@ -102,25 +82,25 @@ module _ (P : LoadFault → Type 0) (of_header : (why : HeaderFault) → P (Geom
       bind_err P (version_kept version s) (λ k. zeros s) fault e2
       (version_text_fault (has_block version s.block) (nat_le s.zones (numbers version).most_zones) (VersionBlock version s.block) (VersionZones version s.zones)) (λ k e3.
       bind_err P (zeros_kept version bytes) (λ z. Ok (made s)) fault e3
-      (λ first. kept_fault P (are_zeros (drop (numbers version).zeros_from bytes)) (Geometry (ReservedHeader version)) first (of_header (ReservedHeader version))) (λ z e4. absurd cc)))
+      (λ first. kept_fault P (are_zeros (drop (numbers version).zeros_from bytes)) (BadHeader (ReservedHeader version)) first (of_header (ReservedHeader version))) (λ z e4. absurd cc)))
 
 pub header_text_fault : (bytes : List ℕ) (fault : LoadFault) → header_told bytes ≡ Err fault → IsOfText fault
 header_text_fault bytes fault e =
     bind_err IsOfText (ok_or (version_in bytes) Magic) (header_of bytes) fault e (magic_fault (version_in bytes)) (λ version. header_of_fault IsOfText (λ why. tt) bytes version fault)
 
-allowed_fault : (test : Bool) (zone : ℕ) (first : ZoneRowFault) (z : CountedZone) (fault : LoadFault) → cond test (Ok z) (Err (BadZone zone first)) ≡ Err fault → IsOfText fault
+allowed_fault : (test : Bool) (zone : ℕ) (first : ZoneRowFault) (z : CountedZone) (fault : LoadFault) → cond test (Ok z) (Err (ZoneRow zone first)) ≡ Err fault → IsOfText fault
 allowed_fault true zone first z fault e = absurd cc
-allowed_fault false zone first z fault e = subst IsOfText (is_this {X = CountedZone} (BadZone zone first) fault e) tt
+allowed_fault false zone first z fault e = subst IsOfText (is_this {X = CountedZone} (ZoneRow zone first) fault e) tt
 
 told_fault : (zone code : ℕ) (told : Option ZoneState) (written capacity : ℕ) (fault : LoadFault) → zone_told zone code told written capacity ≡ Err fault → IsOfText fault
-told_fault zone code None written capacity fault e = subst IsOfText (is_this {X = CountedZone} (BadZone zone (State code)) fault e) tt
+told_fault zone code None written capacity fault e = subst IsOfText (is_this {X = CountedZone} (ZoneRow zone (State code)) fault e) tt
 told_fault zone code (Some state) written capacity fault e =
     allowed_fault (fits_state state written capacity) zone (Blocks state written capacity) (record { state = state; written = written; capacity = capacity }) fault e
 
 padding_fault : (test : Bool) (zone code : ℕ) (told : Option ZoneState) (written capacity : ℕ) (fault : LoadFault)
-    → cond test (zone_told zone code told written capacity) (Err (BadZone zone Reserved)) ≡ Err fault → IsOfText fault
+    → cond test (zone_told zone code told written capacity) (Err (ZoneRow zone Reserved)) ≡ Err fault → IsOfText fault
 padding_fault true zone code told written capacity fault e = told_fault zone code told written capacity fault e
-padding_fault false zone code told written capacity fault e = subst IsOfText (is_this {X = CountedZone} (BadZone zone Reserved) fault e) tt
+padding_fault false zone code told written capacity fault e = subst IsOfText (is_this {X = CountedZone} (ZoneRow zone Reserved) fault e) tt
 
 pub zone_text_fault : (zone capacity : ℕ) (bytes : List ℕ) (fault : LoadFault) → zone_in zone capacity bytes ≡ Err fault → IsOfText fault
 zone_text_fault zone capacity bytes fault e =
@@ -132,4 +112,4 @@ total_text_fault (Some total) zs fault e = kept_fault IsOfText (total == written
 
 pub limits_text_fault : (limits : Limits) (zs : List CountedZone) (fault : LoadFault) → limits_kept limits zs ≡ Err fault → IsOfText fault
 limits_text_fault limits zs fault e =
-    kept_fault IsOfText (nat_le (open_count zs) limits.open_limit && nat_le (active_count zs) limits.active_limit) PastLimits fault tt e
+    kept_fault IsOfText (nat_le (open_count zs) limits.open_limit && nat_le (active_count zs) limits.active_limit) (PastLimits (open_count zs) (active_count zs) limits) fault tt e

@@ -52,9 +52,9 @@ passed told s e =
 
 version_has : (version : Version) (s : Shape) (done : Unit {0}) → version_kept version s ≡ Ok done → Has version s
 version_has version s done e =
-    let zones : Option LoadFault = first_failed (demand (nat_le s.zones (numbers version).most_zones) (fault.Geometry (header_fault.VersionZones version s.zones)) ∷ []) in
-    let a = both (has_block version s.block) (fault.Geometry (header_fault.VersionBlock version s.block)) zones (none_fails (first_failed (version_checks version s)) tt done e) in
-    let b = both (nat_le s.zones (numbers version).most_zones) (fault.Geometry (header_fault.VersionZones version s.zones)) None a.1 in
+    let zones : Option LoadFault = first_failed (demand (nat_le s.zones (numbers version).most_zones) (fault.Header (header_fault.VersionZones version s.zones)) ∷ []) in
+    let a = both (has_block version s.block) (fault.Header (header_fault.VersionBlock version s.block)) zones (none_fails (first_failed (version_checks version s)) tt done e) in
+    let b = both (nat_le s.zones (numbers version).most_zones) (fault.Header (header_fault.VersionZones version s.zones)) None a.1 in
     record { block = a.0; zones = leb-true s.zones (numbers version).most_zones b.0 }
 
 -- the version, and what holds of the shape
@@ -83,6 +83,6 @@ header_parts bytes header e =
       same = pass.same;
       known = subst IsShape pass.same pass.known;
       has = version_has version s.0 k.0 k.1;
-      zeros = (chosen (are_zeros (drop (numbers version).zeros_from bytes)) tt z.0 (fault.Geometry (header_fault.Reserved version)) z.1).0;
+      zeros = (chosen (are_zeros (drop (numbers version).zeros_from bytes)) tt z.0 (fault.Header (header_fault.Reserved version)) z.1).0;
       total = refl;
     })

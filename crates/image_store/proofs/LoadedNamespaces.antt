@@ -14,14 +14,13 @@ use Rattle.image_store.specs.ImageInMemory.{no_counted_zone, zone_seen}
 use Rattle.image_store.specs.Geometry.{Shape, IsShape}
 use Rattle.image_store.specs.Laws.{LoadedIsNamespace}
 use Rattle.image_store.specs.Namespace.{ZoneBlocks, no_zone, counted, IsNamespace, namespace_with}
-use Rattle.image_store.specs.Reading.{◌>>=◌, bytes_in, header_in, zone_rows_in, zones_in, total_kept, limits_kept, blocks_in, end_in, namespace_in}
-use Rattle.image_store.specs.Text.{header, zone_rows}
+use Rattle.image_store.specs.Reading.{◌>>=◌, bytes_in, zone_rows_in, zones_in, limits_kept, blocks_in}
 use Rattle.image_store.proofs.TextsReadBack.{at-counted}
 use Rattle.image_store.proofs.ReadingCalls.{bind_ok, ok_is, chosen}
 use Rattle.image_store.proofs.ByteParts.{front_fit, rest_fit, blocks_fit}
 use Rattle.image_store.proofs.FilledBuffers.{bytes_parts, bytes_size}
-use Rattle.image_store.proofs.LoadedParts.{after_header, after_rows, after_total, after_limits, after_blocks, zones_fit}
-use Rattle.image_store.proofs.OnlyTextsLoad.{header_only, rows_only, blocks_only}
+use Rattle.image_store.proofs.LoadedParts.{zones_fit}
+use Rattle.image_store.proofs.OnlyTextsLoad.{text_parts}
 use Rattle.image_store.proofs.BlocksOfBytes.{length-blocks}
 use Rattle.image_store.proofs.SoundImages.{block-at}
 
@@ -69,7 +68,7 @@ blocks_whole b (z ∷ zs) xs got fit e =
 
 kept_within : (limits : Limits) (zs : List CountedZone) (done : Unit {0}) → limits_kept limits zs ≡ Ok done → IsWithin zs limits
 kept_within limits zs done e =
-    let test = (chosen (nat_le (open_count zs) limits.open_limit && nat_le (active_count zs) limits.active_limit) tt done fault.Limits e).0 in
+    let test = (chosen (nat_le (open_count zs) limits.open_limit && nat_le (active_count zs) limits.active_limit) tt done (fault.Limits (open_count zs) (active_count zs) limits) e).0 in
     let p = and_parts (nat_le (open_count zs) limits.open_limit) (nat_le (active_count zs) limits.active_limit) test in
     record { opened = leb-true (open_count zs) limits.open_limit p.0; active = leb-true (active_count zs) limits.active_limit p.1 }
 
@@ -111,21 +110,9 @@ parts_are s zs zones known allowed within same whole =
     }
 
 pub loaded_is_namespace : LoadedIsNamespace
-unfolding namespace_in
 loaded_is_namespace bytes ns fit e =
-    let a = bind_ok (header_in bytes) (λ h. after_header h.0 h.1) ns e in
-    let h = a.0.0 in
-    let s = h.geometry in
-    let b = bind_ok (zone_rows_in s a.0.1) (λ rows. after_rows h rows.0 rows.1) ns a.2 in
-    let t = bind_ok (total_kept h.total b.0.0) (λ same. after_total s b.0.0 b.0.1) ns b.2 in
-    let c = bind_ok (limits_kept s.limits b.0.0) (λ kept. after_limits s b.0.0 b.0.1) ns t.2 in
-    let d = bind_ok (blocks_in s.block b.0.0 b.0.1) (λ blocks. after_blocks s blocks.0 blocks.1) ns c.2 in
-    let f = bind_ok (end_in d.0.1) (λ end. Ok (namespace_with s d.0.0)) ns d.2 in
-    let headed = header_only bytes h a.0.1 fit a.1 in
-    let later = rest_fit (header headed.version s headed.total) a.0.1 (subst AreBytes (sym headed.spelled) fit) in
-    let rows = rows_only s a.0.1 b.0 later b.1 in
-    let last = rest_fit (zone_rows b.0.0) b.0.1 (subst AreBytes (sym rows.spelled) later) in
-    let blocks = blocks_only s.block s.capacity b.0.0 b.0.1 d.0 rows.same d.1 in
-    subst IsNamespace (ok_is (namespace_with s d.0.0) ns f.2)
-    (parts_are s b.0.0 d.0.0 headed.known (rows_allowed s a.0.1 b.0 headed.known b.1) (kept_within s.limits b.0.0 c.0 c.1) blocks.counted
-    (blocks_whole s.block b.0.0 b.0.1 d.0 last d.1))
+    let p = text_parts bytes ns fit e in
+    let s = p.told.geometry in
+    subst IsNamespace p.is
+    (parts_are s p.zones p.blocks p.headed.known (rows_allowed s p.rest (p.zones, p.later) p.headed.known p.rows_read) (kept_within s.limits p.zones p.limited.0 p.limited.1) p.written.counted
+    (blocks_whole s.block p.zones p.later (p.blocks, p.last) p.later_fit p.blocks_read))

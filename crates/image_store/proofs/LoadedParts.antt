@@ -40,14 +40,14 @@ with_fits : (zone code : ℕ) (told : Option ZoneState) (written capacity : ℕ)
 with_fits zone code None written capacity z some e = absurd cc
 with_fits zone code (Some state) written capacity z some e =
     let made : CountedZone = record { state = state; written = written; capacity = capacity } in
-    let p = chosen (fits_state state written capacity) made z (fault.BadZone zone (row_fault.Blocks state written capacity)) e in
+    let p = chosen (fits_state state written capacity) made z (fault.ZoneRow zone (row_fault.Blocks state written capacity)) e in
     (sym (ap (λ (x : CountedZone). x.capacity) p.1), subst (λ (x : CountedZone). IsZone x.state x.written capacity) p.1 (some, p.0))
 
 zone_fits : (zone capacity : ℕ) (bytes : List ℕ) (z : CountedZone) → 1 ≤ capacity → zone_in zone capacity bytes ≡ Ok z → (z.capacity ≡ capacity) × IsZone z.state z.written capacity
 zone_fits zone capacity bytes z some e =
     let code = get_or bytes 0 0 in
     with_fits zone code (state_of code) (number_at bytes 4) capacity z some
-    (passed (are_zeros (take 3 (drop 1 bytes))) (zone_told zone code (state_of code) (number_at bytes 4) capacity) z (fault.BadZone zone row_fault.Reserved) e).1
+    (passed (are_zeros (take 3 (drop 1 bytes))) (zone_told zone code (state_of code) (number_at bytes 4) capacity) z (fault.ZoneRow zone row_fault.Reserved) e).1
 
 -- the zones of rows, as many as were wanted
 pub record HaveFit (capacity n : ℕ) (zs : List CountedZone) : Type 0 where

@@ -86,7 +86,7 @@ zone_told_only : (zone code : ℕ) (told : Option ZoneState) (written capacity :
 zone_told_only zone code None written capacity z e = absurd cc
 zone_told_only zone code (Some state) written capacity z e =
     let made : CountedZone = record { state = state; written = written; capacity = capacity } in
-    let same = (chosen (fits_state state written capacity) made z (fault.BadZone zone (row_fault.Blocks state written capacity)) e).1 in
+    let same = (chosen (fits_state state written capacity) made z (fault.ZoneRow zone (row_fault.Blocks state written capacity)) e).1 in
     (ap (λ (x : CountedZone). Some x.state) same, sym (ap (λ (x : CountedZone). x.written) same), sym (ap (λ (x : CountedZone). x.capacity) same))
 
 -- a row that is read is spelled so
@@ -97,7 +97,7 @@ row_only zone capacity (a ∷ p ∷ []) z size fit e = absurd (omega arith)
 row_only zone capacity (a ∷ p ∷ q ∷ []) z size fit e = absurd (omega arith)
 row_only zone capacity (a ∷ p ∷ q ∷ r ∷ xs) z size fit e =
     let few : length xs ≡ 4 = omega arith in
-    let tests = passed (are_zeros (p ∷ q ∷ r ∷ [])) (zone_told zone a (state_of a) (little_number 4 xs) capacity) z (fault.BadZone zone row_fault.Reserved) e in
+    let tests = passed (are_zeros (p ∷ q ∷ r ∷ [])) (zone_told zone a (state_of a) (little_number 4 xs) capacity) z (fault.ZoneRow zone row_fault.Reserved) e in
     let told = zone_told_only zone a (state_of a) (little_number 4 xs) capacity z tests.1 in
     let zeros = zeros_spelled (p ∷ q ∷ r ∷ []) tests.0 in
     let none : drop 4 xs ≡ [] = drop_all 4 xs (omega arith) in
@@ -207,10 +207,28 @@ text_with version s zs zones size same =
     ap (λ (read : List CountedZone). header version s (written_blocks read) ++ (zone_rows read ++ blocks_text zones)) (sym same)
     ∙ ap (λ (n : ℕ). header version (resized s n) (written_blocks all) ++ (zone_rows all ++ blocks_text zones)) size
 
-pub text_only : (bytes : List ℕ) (ns : ZonedNamespace) → AreBytes bytes → namespace_in bytes ≡ Ok ns
-    → (version : Version) × Has version (shape ns) × (bytes ≡ text_of version ns)
+-- a text that loads, taken apart: its header, its zone rows and its blocks, with what stands behind each of them
+pub record TextParts (bytes : List ℕ) (ns : ZonedNamespace) : Type 0 where
+  pub told : Header
+  pub rest : List ℕ
+  pub headed : IsHeaded bytes told rest
+  pub zones : List CountedZone
+  pub later : List ℕ
+  pub rows_read : zone_rows_in told.geometry rest ≡ Ok (zones, later)
+  pub rows : AreZoneRows told.geometry rest zones later
+  pub counted : (done : Unit {0}) × (total_kept told.total zones ≡ Ok done)
+  pub limited : (done : Unit {0}) × (limits_kept told.geometry.limits zones ≡ Ok done)
+  pub later_fit : AreBytes later
+  pub blocks : List ZoneBlocks
+  pub last : List ℕ
+  pub blocks_read : blocks_in told.geometry.block zones later ≡ Ok (blocks, last)
+  pub written : AreWritten told.geometry.capacity zones later (blocks, last)
+  pub ended : last ≡ []
+  pub is : namespace_with told.geometry blocks ≡ ns
+
+pub text_parts : (bytes : List ℕ) (ns : ZonedNamespace) → AreBytes bytes → namespace_in bytes ≡ Ok ns → TextParts bytes ns
 unfolding namespace_in
-text_only bytes ns fit e =
+text_parts bytes ns fit e =
     let a = bind_ok (header_in bytes) (λ h. after_header h.0 h.1) ns e in
     let h = a.0.0 in
     let s = h.geometry in
@@ -219,18 +237,40 @@ text_only bytes ns fit e =
     let c = bind_ok (limits_kept s.limits b.0.0) (λ kept. after_limits s b.0.0 b.0.1) ns t.2 in
     let d = bind_ok (blocks_in s.block b.0.0 b.0.1) (λ blocks. after_blocks s blocks.0 blocks.1) ns c.2 in
     let f = bind_ok (end_in d.0.1) (λ end. Ok (namespace_with s d.0.0)) ns d.2 in
-    let ended : d.0.1 ≡ [] = nil_from_length d.0.1 (eqb-true (length d.0.1) 0 (chosen (length d.0.1 == 0) tt f.0 fault.Trailing f.1).0) in
     let headed = header_only bytes h a.0.1 fit a.1 in
-    let version = headed.version in
-    let front = header version s headed.total in
-    let counts = header_counted version s headed.total b.0.0 t.0 (ap (λ (n : Option ℕ). total_kept n b.0.0) (sym headed.same) ∙ t.1) in
-    let rows = rows_only s a.0.1 b.0 (rest_fit front a.0.1 (subst AreBytes (sym headed.spelled) fit)) b.1 in
-    let blocks = blocks_only s.block s.capacity b.0.0 b.0.1 d.0 rows.same d.1 in
-    let size = size_read s b.0.0 d.0.0 rows.count blocks.counted in
-    let read = ok_is (namespace_with s d.0.0) ns f.2 in (
+    let rest_bytes = rest_fit (header headed.version s headed.total) a.0.1 (subst AreBytes (sym headed.spelled) fit) in
+    let rows = rows_only s a.0.1 b.0 rest_bytes b.1 in
+    record {
+      told = h;
+      rest = a.0.1;
+      headed = headed;
+      zones = b.0.0;
+      later = b.0.1;
+      rows_read = b.1;
+      rows = rows;
+      counted = (t.0, t.1);
+      limited = (c.0, c.1);
+      later_fit = rest_fit (zone_rows b.0.0) b.0.1 (subst AreBytes (sym rows.spelled) rest_bytes);
+      blocks = d.0.0;
+      last = d.0.1;
+      blocks_read = d.1;
+      written = blocks_only s.block s.capacity b.0.0 b.0.1 d.0 rows.same d.1;
+      ended = nil_from_length d.0.1 (eqb-true (length d.0.1) 0 (chosen (length d.0.1 == 0) tt f.0 fault.Trailing f.1).0);
+      is = ok_is (namespace_with s d.0.0) ns f.2;
+    }
+
+pub text_only : (bytes : List ℕ) (ns : ZonedNamespace) → AreBytes bytes → namespace_in bytes ≡ Ok ns
+    → (version : Version) × Has version (shape ns) × (bytes ≡ text_of version ns)
+text_only bytes ns fit e =
+    let p = text_parts bytes ns fit e in
+    let s = p.told.geometry in
+    let version = p.headed.version in
+    let total = p.headed.total in
+    let counts = header_counted version s total p.zones p.counted.0 (ap (λ (n : Option ℕ). total_kept n p.zones) (sym p.headed.same) ∙ p.counted.1) in
+    let size = size_read s p.zones p.blocks p.rows.count p.written.counted in (
       version,
-      subst (λ (x : ZonedNamespace). Has version (shape x)) read (subst (λ (n : ℕ). Has version (resized s n)) size headed.has),
-      joined front b.0.0 d.0.0 bytes a.0.1 b.0.1 d.0.1 headed.spelled rows.spelled blocks.spelled ended
-          ∙ (ap (λ (xs : List ℕ). xs ++ (zone_rows b.0.0 ++ blocks_text d.0.0)) counts
-          ∙ (text_with version s b.0.0 d.0.0 size blocks.counted ∙ ap (text_of version) read)),
+      subst (λ (x : ZonedNamespace). Has version (shape x)) p.is (subst (λ (n : ℕ). Has version (resized s n)) size p.headed.has),
+      joined (header version s total) p.zones p.blocks bytes p.rest p.later p.last p.headed.spelled p.rows.spelled p.written.spelled p.ended
+          ∙ (ap (λ (xs : List ℕ). xs ++ (zone_rows p.zones ++ blocks_text p.blocks)) counts
+          ∙ (text_with version s p.zones p.blocks size p.written.counted ∙ ap (text_of version) p.is)),
     )

@@ -1,7 +1,7 @@
 -- What calls that read answer, one after another.
 use Rattle.std.proofs.Common.{◌≡◌, Bool, true, false, cond, Result, Ok, Err, refl, ap, sym, subst}
 use Rattle.image_store.specs.declared.fault.LoadFault.{LoadFault}
-use Rattle.image_store.specs.declared.fault.LoadFault.TheVariants.{Truncated, Magic, Geometry, BadZone, Total, Limits, Trailing, Stream, Memory}
+use Rattle.image_store.specs.declared.fault.LoadFault.TheVariants.{Stream, Memory}
 use Rattle.image_store.specs.Loading.{Fails, Gives}
 use Rattle.image_store.specs.Reading.{◌>>=◌}
 
@@ -9,13 +9,7 @@ use Rattle.image_store.specs.Reading.{◌>>=◌}
 pub fails_then : {X Y : Type 0} (wanted may : Type 0) (fault : LoadFault) (read : Result X LoadFault) (next : X → Result Y LoadFault) → (wanted → may) → Fails wanted fault read → Fails may fault (read >>= next)
 fails_then wanted may Stream read next up h = tt
 fails_then wanted may Memory read next up h = up h
-fails_then wanted may Truncated read next up h = ap (λ r. r >>= next) h
-fails_then wanted may Magic read next up h = ap (λ r. r >>= next) h
-fails_then wanted may (Geometry first) read next up h = ap (λ r. r >>= next) h
-fails_then wanted may (BadZone zone first) read next up h = ap (λ r. r >>= next) h
-fails_then wanted may (Total told counted) read next up h = ap (λ r. r >>= next) h
-fails_then wanted may Limits read next up h = ap (λ r. r >>= next) h
-fails_then wanted may Trailing read next up h = ap (λ r. r >>= next) h
+fails_then wanted may fault read next up h = ap (λ r. r >>= next) h
 
 -- the second call's answer is that of both
 pub gives_then : {X Y Z : Type 0} (may : Type 0) (view : Z → Y) (result : Result Z LoadFault) (read : Result X LoadFault) (x : X) (next : X → Result Y LoadFault) → read ≡ Ok x → Gives may view result (next x) → Gives may view result (read >>= next)
@@ -26,20 +20,8 @@ gives_then may view result read x next e h =
 pub fails_before : {X Y : Type 0} (fault : LoadFault) (read : Result X LoadFault) (f : X → Y) → Fails ⊥ fault (read >>= λ x. Ok (f x)) → Fails ⊥ fault read
 fails_before Stream read f h = tt
 fails_before Memory read f h = h
-fails_before Truncated (Ok x) f h = absurd cc
-fails_before Truncated (Err first) f h = cc
-fails_before Magic (Ok x) f h = absurd cc
-fails_before Magic (Err first) f h = cc
-fails_before (Geometry why) (Ok x) f h = absurd cc
-fails_before (Geometry why) (Err first) f h = cc
-fails_before (BadZone zone why) (Ok x) f h = absurd cc
-fails_before (BadZone zone why) (Err first) f h = cc
-fails_before (Total told counted) (Ok x) f h = absurd cc
-fails_before (Total told counted) (Err first) f h = cc
-fails_before Limits (Ok x) f h = absurd cc
-fails_before Limits (Err first) f h = cc
-fails_before Trailing (Ok x) f h = absurd cc
-fails_before Trailing (Err first) f h = cc
+fails_before fault (Ok x) f h = absurd cc
+fails_before fault (Err first) f h = cc
 
 -- what succeeds has succeeded in each part
 pub bind_ok : {X Y : Type 0} (read : Result X LoadFault) (next : X → Result Y LoadFault) (y : Y) → (read >>= next) ≡ Ok y → (x : X) × (read ≡ Ok x) × (next x ≡ Ok y)

@@ -54,7 +54,7 @@ row_again zone capacity z can =
     let number = word_again z.written [] (omega arith) in
     ap (λ (n : ℕ). zone_told zone (code_of z.state) (state_of (code_of z.state)) n capacity) number
     ∙ (ap (λ state. zone_told zone (code_of z.state) state z.written capacity) (code_again z.state)
-    ∙ (ap (λ (test : Bool). let r : Result CountedZone LoadFault = cond test (Ok (record { state = z.state; written = z.written; capacity = capacity })) (Err (fault.BadZone zone (row_fault.Blocks z.state z.written capacity))) in r) can.fits.1
+    ∙ (ap (λ (test : Bool). let r : Result CountedZone LoadFault = cond test (Ok (record { state = z.state; written = z.written; capacity = capacity })) (Err (fault.ZoneRow zone (row_fault.Blocks z.state z.written capacity))) in r) can.fits.1
     ∙ ap (λ (n : ℕ). let same : CountedZone = record { state = z.state; written = z.written; capacity = n } in let r : Result CountedZone LoadFault = Ok same in r) (sym can.same)))
 
 rows_again : (zone capacity : ℕ) (zs : List CountedZone) → ((k : ℕ) → k < length zs → CanSpell capacity (get_or zs k no_counted_zone)) → zones_in zone capacity (length zs) (zone_rows zs) ≡ Ok zs

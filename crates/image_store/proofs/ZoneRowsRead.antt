@@ -3,7 +3,7 @@ use Rattle.std.proofs.Common.{◌≡◌, ℕ, suc, ◌-◌, ◌+◌, ◌≤◌, 
 use Rattle.std.proofs.lemmas.List.{append-nil}
 use Rattle.zone_state.specs.Zone.{CountedZone}
 use Rattle.image_store.specs.declared.fault.LoadFault.{LoadFault}
-use Rattle.image_store.specs.declared.fault.LoadFault.TheVariants.{Truncated, Magic, Geometry, BadZone, Total, Limits, Trailing, Stream, Memory}
+use Rattle.image_store.specs.declared.fault.LoadFault.TheVariants.{Stream, Memory}
 use Rattle.image_store.specs.Loading.{Fails}
 use Rattle.image_store.specs.Reading.{◌>>=◌, zone_in, zones_in}
 
@@ -40,10 +40,4 @@ is_done front capacity count i bytes total le so_far =
 pub fails_free : {Y : Type 0} (fault : LoadFault) (reading : Result Y LoadFault) → reading ≡ Err fault → Fails (Unit {0}) fault reading
 fails_free Stream reading h = tt
 fails_free Memory reading h = tt
-fails_free Truncated reading h = h
-fails_free Magic reading h = h
-fails_free (Geometry first) reading h = h
-fails_free (BadZone zone first) reading h = h
-fails_free (Total told counted) reading h = h
-fails_free Limits reading h = h
-fails_free Trailing reading h = h
+fails_free fault reading h = h

@@ -1,4 +1,4 @@
--- What the texts of a namespace are for.
+-- Laws of the texts of a namespace, of the tests of a shape, and of the versions.
 use Rattle.std.specs.Prelude.{ℕ, ◌≡◌, ◌≢◌, ◌↔◌, ◌<◌, ◌≤◌, ◌+◌, ◌*◌, true, List, [], ◌++◌, length, take, Result, Ok, Err}
 use Rattle.program_interface.specs.BlockSize.{IsBlockSize}
 use Rattle.image_store.specs.declared.fault.LoadFault.{LoadFault}
@@ -65,8 +65,8 @@ zones_told bytes = (shape_told (take 64 bytes)).zones
 -- up to the one that is told, or else of all rows
 abbrev pub fault_end : List ℕ → LoadFault → ℕ
 fault_end bytes fault.Magic = 8
-fault_end bytes (fault.Geometry first) = 64
-fault_end bytes (fault.BadZone zone first) = 64 + (zone + 1) * 8
+fault_end bytes (fault.Header first) = 64
+fault_end bytes (fault.ZoneRow zone first) = 64 + (zone + 1) * 8
 fault_end bytes _ = 64 + zones_told bytes * 8
 
 -- the fault that a text is refused with, other than one of its end, is that of each text that is no shorter and has

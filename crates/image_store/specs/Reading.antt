@@ -49,7 +49,7 @@ shape_told bytes =
 
 -- what is told of the numbers of a header that are none of a geometry
 abbrev pub numbers_fault : Shape → GeometryFault → LoadFault
-numbers_fault s first = fault.Geometry (header_fault.Numbers (refusal_of first s))
+numbers_fault s first = fault.Header (header_fault.Numbers (refusal_of first s))
 
 -- the first test of a geometry that they fail, so told
 abbrev pub numbers_check : Shape → Option LoadFault
@@ -65,8 +65,8 @@ version_in bytes = find (λ version. starts_with (λ a b. a == b) bytes (numbers
 -- the shapes that there are, but in no text of the version
 abbrev pub version_checks : Version → Shape → List (Option LoadFault)
 version_checks version s =
-    demand (has_block version s.block) (fault.Geometry (header_fault.VersionBlock version s.block))
-    ∷ demand (nat_le s.zones (numbers version).most_zones) (fault.Geometry (header_fault.VersionZones version s.zones))
+    demand (has_block version s.block) (fault.Header (header_fault.VersionBlock version s.block))
+    ∷ demand (nat_le s.zones (numbers version).most_zones) (fault.Header (header_fault.VersionZones version s.zones))
     ∷ []
 
 abbrev pub version_kept : Version → Shape → Result (Unit {0}) LoadFault
@@ -77,7 +77,7 @@ abbrev pub zeros_kept : Version → List ℕ → Result (Unit {0}) LoadFault
 zeros_kept version bytes =
     if are_zeros (drop (numbers version).zeros_from bytes)
     then Ok tt
-    else Err (fault.Geometry (header_fault.Reserved version))
+    else Err (fault.Header (header_fault.Reserved version))
 
 -- how many blocks are written in all, if the version tells it
 abbrev pub total_told : Version → List ℕ → Option ℕ
@@ -103,11 +103,11 @@ abbrev pub zone_with : ℕ → ZoneState → ℕ → ℕ → Result CountedZone 
 zone_with zone state written capacity =
     if fits_state state written capacity
     then Ok (record { state = state; written = written; capacity = capacity })
-    else Err (fault.BadZone zone (row_fault.Blocks state written capacity))
+    else Err (fault.ZoneRow zone (row_fault.Blocks state written capacity))
 
 -- the same in the state that a code tells, if it tells one
 abbrev pub zone_told : ℕ → ℕ → Option ZoneState → ℕ → ℕ → Result CountedZone LoadFault
-zone_told zone code None written capacity = Err (fault.BadZone zone (row_fault.State code))
+zone_told zone code None written capacity = Err (fault.ZoneRow zone (row_fault.State code))
 zone_told zone code (Some state) written capacity = zone_with zone state written capacity
 
 -- what the 8 bytes of the zone with this number tell
@@ -115,7 +115,7 @@ abbrev pub zone_in : ℕ → ℕ → List ℕ → Result CountedZone LoadFault
 zone_in zone capacity bytes =
     if are_zeros (take 3 (drop 1 bytes))
     then zone_told zone (get_or bytes 0 0) (state_of (get_or bytes 0 0)) (number_at bytes 4) capacity
-    else Err (fault.BadZone zone row_fault.Reserved)
+    else Err (fault.ZoneRow zone row_fault.Reserved)
 
 -- what the bytes of so many zones tell, from the one with this number on
 abbrev pub zones_in : ℕ → ℕ → ℕ → List ℕ → Result (List CountedZone) LoadFault
@@ -138,7 +138,7 @@ abbrev pub limits_kept : Limits → List CountedZone → Result Unit LoadFault
 limits_kept limits zs =
     if nat_le (open_count zs) limits.open_limit && nat_le (active_count zs) limits.active_limit
     then Ok tt
-    else Err fault.Limits
+    else Err (fault.Limits (open_count zs) (active_count zs) limits)
 
 -- the zones with their blocks, which lie one zone's behind another's
 abbrev pub blocks_in : ℕ → List CountedZone → List ℕ → Result (List ZoneBlocks × List ℕ) LoadFault

@@ -11,7 +11,7 @@ pub fn are_zeros(bytes: &[u8]) -> bool
     bytes.iter().all(|byte| *byte == 0)
 }
 
-/// Does nothing: what it ensures is that each of them is a byte.
+/// Does nothing, but says in a caller's proof what the type of these bytes says: that each is below 256.
 pub fn are_bytes(bytes: &[u8])
     ensures { AreBytes bytes.now }
 {}

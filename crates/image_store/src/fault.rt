@@ -10,6 +10,7 @@ use crate::streams::StreamFault;
 use crate::version::Version;
 use std::alloc::{AllocError, AllocFailed};
 use thiserror::Error;
+use zone_resources::Limits;
 use zone_state::ZoneState;
 
 /// Why a header tells no geometry.
@@ -54,15 +55,26 @@ pub enum LoadFault {
     #[error("the first 8 bytes are neither ZNSIMG01 nor ZNSIMG02")]
     Magic,
     #[error("header: {0}")]
-    Geometry(HeaderFault),
+    Header(HeaderFault),
     /// The lowest zone whose row tells none, and why.
     #[error("row of zone {zone}: {fault}")]
-    BadZone { zone: u32, fault: ZoneRowFault },
+    ZoneRow {
+        zone: u32,
+        fault: ZoneRowFault,
+    },
     /// The header tells another number of written blocks than the zone rows have in all.
     #[error("the header tells of {told} written blocks, the zone rows of {counted}")]
-    Total { told: u64, counted: u64 },
-    #[error("more zones are open or active than may be")]
-    Limits,
+    Total {
+        told: u64,
+        counted: u64,
+    },
+    /// More zones are open or active than may be.
+    #[error("{opened} open and {active} active zones, of at most {} and {}", .limits.open_limit, .limits.active_limit)]
+    Limits {
+        opened: usize,
+        active: usize,
+        limits: Limits,
+    },
     #[error("bytes follow the last block")]
     Trailing,
     #[error("the stream failed")]
@@ -79,17 +91,18 @@ pub enum SaveFault {
 }
 
 impl LoadFault {
-    /// The fault's number, from 10 to 18, by which a user is told of it (profile).
+    /// The fault's number (profile). A user is told those of a text's faults, 10 to 15 and 18; that the stream failed
+    /// or memory was wanting says nothing of the text, and is told in words alone.
     pub fn number(self) -> u8
         ensures { result ≡ load_number self }
     {
         match self {
             LoadFault::Truncated => 10,
             LoadFault::Magic => 11,
-            LoadFault::Geometry(_) => 12,
-            LoadFault::BadZone { .. } => 13,
+            LoadFault::Header(_) => 12,
+            LoadFault::ZoneRow { .. } => 13,
             LoadFault::Total { .. } => 18,
-            LoadFault::Limits => 14,
+            LoadFault::Limits { .. } => 14,
             LoadFault::Trailing => 15,
             LoadFault::Stream => 16,
             LoadFault::Memory => 17,

@@ -45,6 +45,10 @@ pub fn encode(geometry: Geometry, total: u64) -> [u8; HEADER_BYTES]
 }
 
 /// What a header of either version tells.
+///
+/// # Errors
+///
+/// [`LoadFault::Magic`] for other first bytes, or [`LoadFault::Header`] with the first test that the rest fails.
 pub fn decode(bytes: &[u8]) -> Result<Header, LoadFault>
     requires { length bytes.now ≡ 64 }
     ensures { result ≡ header_told bytes.now }
@@ -86,7 +90,7 @@ fn geometry_told(bytes: &[u8]) -> Result<Geometry, LoadFault>
         Ok(geometry) => Ok(geometry),
         Err(fault) => {
             let refusal = GeometryRefusal::of(fault, block, zones, size, capacity, limits);
-            Err(LoadFault::Geometry(HeaderFault::Numbers(refusal)))
+            Err(LoadFault::Header(HeaderFault::Numbers(refusal)))
         }
     }
 }
@@ -98,12 +102,12 @@ fn check_version(version: Version, geometry: Geometry) -> Result<(), LoadFault>
     let bytes = geometry.block().bytes();
     if !version.has_block(bytes) {
         let fault = HeaderFault::VersionBlock { version, bytes };
-        return Err(LoadFault::Geometry(fault));
+        return Err(LoadFault::Header(fault));
     }
     let zones = geometry.zones();
     if zones > version.most_zones() {
         let fault = HeaderFault::VersionZones { version, zones };
-        return Err(LoadFault::Geometry(fault));
+        return Err(LoadFault::Header(fault));
     }
     Ok(())
 }
@@ -116,7 +120,7 @@ fn check_zeros(version: Version, bytes: &[u8]) -> Result<(), LoadFault>
     if are_zeros(&bytes[version.zeros_from()..]) {
         Ok(())
     } else {
-        Err(LoadFault::Geometry(HeaderFault::Reserved(version)))
+        Err(LoadFault::Header(HeaderFault::Reserved(version)))
     }
 }
 

@@ -44,6 +44,10 @@ impl Model for Image {
 
 impl Image {
     /// An image of this geometry, of which nothing is written.
+    ///
+    /// # Errors
+    ///
+    /// [`AllocError`] where memory is refused.
     pub fn empty(alloc: Global, geometry: Geometry) -> Result<Image, AllocError>
         ensures { IfOk result (λ image. image ≡ all_empty geometry) }
     {
@@ -72,7 +76,6 @@ impl Image {
     {
         let (geometry, zones, blocks) = load::load(alloc, source)?;
         let counts = Counts::of(&zones);
-        // brings in that the blocks are of bytes
         are_bytes(&blocks);
         Ok(Image {
             geometry,

@@ -17,6 +17,10 @@ use zone_resources::{Counts, Limits};
 use zone_state::Zone;
 
 /// The geometry, zones and blocks of the image whose text comes from a source.
+///
+/// # Errors
+///
+/// Those of [`Image::load`](crate::Image::load).
 pub fn load<R: Source>(
     alloc: Global,
     source: &mut R,
@@ -86,12 +90,16 @@ fn check_limits(zones: &[Zone], limits: Limits) -> Result<(), LoadFault>
     ensures within { OnOk result (IsWithin zones.now limits) }
 {
     let counts = Counts::of(zones);
-    let opened = counts.opened <= limits.open_limit as usize;
-    let active = counts.active <= limits.active_limit as usize;
-    if opened && active {
+    let few_open = counts.opened <= limits.open_limit as usize;
+    let few_active = counts.active <= limits.active_limit as usize;
+    if few_open && few_active {
         Ok(())
     } else {
-        Err(LoadFault::Limits)
+        Err(LoadFault::Limits {
+            opened: counts.opened,
+            active: counts.active,
+            limits,
+        })
     }
 }
 

@@ -12,6 +12,10 @@ use crate::{header, image_fields, zone_row};
 use zone_state::Zone;
 
 /// Hands the text of an image to a sink.
+///
+/// # Errors
+///
+/// [`SaveFault::Stream`] where the sink fails.
 pub fn save<W: Sink>(
     geometry: Geometry,
     zones: &[Zone],

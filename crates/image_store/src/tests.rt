@@ -162,12 +162,12 @@ fn each_damage_has_its_fault(rt: HostRuntime) -> Result<(), Fail> {
 
 /// What is told of a header that has this fault.
 fn bad_header(fault: HeaderFault) -> Option<LoadFault> {
-    Some(LoadFault::Geometry(fault))
+    Some(LoadFault::Header(fault))
 }
 
 /// What is told of the row of a zone that has this fault.
 fn bad_row(zone: u32, fault: ZoneRowFault) -> Option<LoadFault> {
-    Some(LoadFault::BadZone { zone, fault })
+    Some(LoadFault::ZoneRow { zone, fault })
 }
 
 /// What is told of zone 0, in an implicitly opened state with so many of its 6 blocks written.
@@ -178,6 +178,19 @@ fn bad_count(written: u32) -> Option<LoadFault> {
         capacity: 6,
     };
     bad_row(0, fault)
+}
+
+/// What is told of three open zones, where two may be open and three active.
+fn too_many() -> Option<LoadFault> {
+    let limits = Limits {
+        open_limit: 2,
+        active_limit: 3,
+    };
+    Some(LoadFault::Limits {
+        opened: 3,
+        active: 3,
+        limits,
+    })
 }
 
 #[test]
@@ -196,7 +209,7 @@ fn each_bad_zone_row_has_its_fault(rt: HostRuntime) -> Result<(), Fail> {
         bad_row(3, ZoneRowFault::Reserved)
     );
     let many = changed(&[(64, 3), (72, 3), (80, 3)]);
-    assert_eq!(rt; fault_of(rt.alloc(), &many), Some(LoadFault::Limits));
+    assert_eq!(rt; fault_of(rt.alloc(), &many), too_many());
     Ok(())
 }
 
@@ -224,7 +237,7 @@ fn the_first_fault_decides(rt: HostRuntime) -> Result<(), Fail> {
         Some(LoadFault::Truncated)
     );
     let many = changed(&[(32, 1), (64, 3), (68, 1), (72, 3), (80, 3)]);
-    assert_eq!(rt; fault_of(rt.alloc(), &many), Some(LoadFault::Limits));
+    assert_eq!(rt; fault_of(rt.alloc(), &many), too_many());
     let miscounted = changed(&[(64, 3), (68, 1), (72, 3), (80, 3)]);
     let total = LoadFault::Total {
         told: 0,

@@ -34,6 +34,10 @@ pub fn encode(zone: Zone) -> [u8; ZONE_ROW_BYTES]
 }
 
 /// The zones that rows tell, each of this capacity.
+///
+/// # Errors
+///
+/// [`LoadFault::ZoneRow`] for the lowest zone whose row tells none, or [`LoadFault::Memory`].
 pub fn decode_all(
     alloc: Global,
     bytes: &[u8],
@@ -63,14 +67,14 @@ fn decode(zone: u32, bytes: &[u8], capacity: u32) -> Result<Zone, LoadFault>
 {
     if !are_zeros(&bytes[1..4]) {
         let fault = ZoneRowFault::Reserved;
-        return Err(LoadFault::BadZone { zone, fault });
+        return Err(LoadFault::ZoneRow { zone, fault });
     }
     let written = LittleEndian::read_u32(&bytes[4..]);
     match ZoneState::from_code(bytes[0]) {
         Some(state) => zone_of(zone, state, written, capacity),
         None => {
             let fault = ZoneRowFault::State(bytes[0]);
-            Err(LoadFault::BadZone { zone, fault })
+            Err(LoadFault::ZoneRow { zone, fault })
         }
     }
 }
@@ -88,7 +92,7 @@ fn zone_of(zone: u32, state: ZoneState, written: u32, capacity: u32) -> Result<Z
                 written,
                 capacity,
             };
-            Err(LoadFault::BadZone { zone, fault })
+            Err(LoadFault::ZoneRow { zone, fault })
         }
     }
 }

@@ -184,53 +184,44 @@ fn check_trap(
     rt: &(impl Abort + AllocGlobal),
     slots: &[u64],
     slot: usize,
-    cause: u8,
+    cause: Cause,
 ) -> Result<(), Fail> {
     let (end, steps) = run(rt, &program(rt.alloc(), slots)?, &[0; 512]);
-    match end {
-        End::Trap {
-            slot: at,
-            cause: told,
-        } => {
-            assert_eq!(rt; at, slot, "of {slots:?}");
-            assert_eq!(rt; told.number(), cause, "of {slots:?}");
-            assert_eq!(rt; steps, slot as u64, "of {slots:?}");
-        }
-        _ => assert!(rt; false, "{slots:?} did not trap"),
-    }
+    assert_eq!(rt; end, End::Trap { slot, cause }, "of {slots:?}");
+    assert_eq!(rt; steps, slot as u64, "of {slots:?}");
     Ok(())
 }
 
 #[test]
 fn the_least_cause_of_a_trap(rt: HostRuntime) -> Result<(), Fail> {
     // mov r10, 1, with and without an end
-    check_trap(&rt, &[MOVE_TO_R10], 0, 1)?;
-    check_trap(&rt, &[MOVE_TO_R10, EXIT], 0, 3)?;
+    check_trap(&rt, &[MOVE_TO_R10], 0, Cause::NextOutside)?;
+    check_trap(&rt, &[MOVE_TO_R10, EXIT], 0, Cause::WriteToFramePointer)?;
     // ja into the second slot of lddw
     check_trap(
         &rt,
         &[0x0500_0100_0000_0000, 0x1801_0000_0000_0000, 0, EXIT],
         0,
-        2,
+        Cause::NextInsideWide,
     )?;
     // stxdw [r1+0], r0
-    check_trap(&rt, &[0x7b01_0000_0000_0000, EXIT], 0, 5)?;
+    check_trap(&rt, &[0x7b01_0000_0000_0000, EXIT], 0, Cause::StoreOutside)?;
     // ldxb r0, [r10+0]
-    check_trap(&rt, &[0x71a0_0000_0000_0000, EXIT], 0, 4)?;
+    check_trap(&rt, &[0x71a0_0000_0000_0000, EXIT], 0, Cause::LoadOutside)?;
     // call 2
-    check_trap(&rt, &[0x8500_0000_0200_0000, EXIT], 0, 6)?;
+    check_trap(&rt, &[0x8500_0000_0200_0000, EXIT], 0, Cause::UnknownHelper)?;
     // mov r2, -1 and mov r2, 0 before call 1
     check_trap(
         &rt,
         &[0xb702_0000_ffff_ffff, 0x8500_0000_0100_0000, EXIT],
         1,
-        7,
+        Cause::EmitOutside,
     )?;
     check_trap(
         &rt,
         &[0xb702_0000_0000_0000, 0x8500_0000_0100_0000, EXIT],
         1,
-        8,
+        Cause::EmitLength,
     )
 }
 

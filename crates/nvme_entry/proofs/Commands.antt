@@ -6,7 +6,8 @@ use Rattle.std.specs.Option.{ok_or, option_and_then, option_map}
 use Rattle.zone_state.specs.declared.action.Action.{Action}
 use Rattle.zone_state.specs.declared.status.TheConstants.Status.{INVALID_FIELD_IN_COMMAND}
 use Rattle.nvme_entry.specs.steps.EntryFields.{HasFields}
-use Rattle.nvme_entry.specs.Entry.{action_of, asked_blocks, decoded, dwords_of, starting_lba}
+use Rattle.zone_state.specs.Transition.{action_of}
+use Rattle.nvme_entry.specs.Entry.{asked_blocks, decoded, dwords_of, starting_lba}
 use Rattle.nvme_entry.specs.Fields.{dword, field}
 use Rattle.nvme_entry.specs.Filter.{filter_of}
 use Rattle.nvme_entry.specs.ProgramSlot.{program_slot_of}

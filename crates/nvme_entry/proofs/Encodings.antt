@@ -1,5 +1,5 @@
 -- What the dwords of an entry tell a decoder.
-use Rattle.std.proofs.Common.{◌≡◌, ℕ, ◌+◌, ◌*◌, ◌/◌, ◌%◌, ◌^◌, ◌<◌, ◌==◌, List, [], ◌∷◌, ◌++◌, drop, Option, Some, slice_index, sym, ap, subst, ◌∙◌, arith}
+use Rattle.std.proofs.Common.{◌≡◌, ℕ, ◌+◌, ◌*◌, ◌/◌, ◌%◌, ◌^◌, ◌<◌, ◌==◌, List, [], ◌∷◌, ◌++◌, drop, Option, Some, slice_index, refl, sym, ap, subst, ◌∙◌, arith}
 use Rattle.std.specs.List.{flat_map}
 use Rattle.std.specs.Int.{byte_at}
 use Rattle.byteorder.specs.Endian.{little_bytes, little_number}
@@ -55,6 +55,8 @@ bytes_have first code cid opcode d is_first byte half is_opcode fit =
     record {
       command = decoded_is entry opcode (ap opcode_of lowest ∙ is_opcode) second (again 1 (drop 8 entry) (omega arith));
       identifier = high;
+      second_byte = little_from-bytes 1 1 first (drop 2 entry) ∙ omega arith;
+      pointers = refl;
       cdw10 = again d.cdw10 (drop 44 entry) fit.cdw10;
       cdw11 = again d.cdw11 (drop 48 entry) fit.cdw11;
       cdw12 = again d.cdw12 (drop 52 entry) fit.cdw12;
@@ -64,10 +66,14 @@ bytes_have first code cid opcode d is_first byte half is_opcode fit =
       starting_lba = two_again d.cdw10 d.cdw11 (drop 48 entry) fit.cdw10 fit.cdw11;
       destination = two_again d.cdw14 d.cdw15 [] fit.cdw14 fit.cdw15;
       low_half = little_from-bytes 2 0 d.cdw12 (drop 50 entry) ∙ omega arith;
+      high_half = little_from-bytes 2 2 d.cdw12 (drop 52 entry) ∙ omega (arith, fit.cdw12);
       third_byte = byte_is 2 d.cdw12;
+      fourth_byte = little_from-bytes 1 3 d.cdw12 (drop 52 entry) ∙ omega (arith, fit.cdw12);
       first_of_13 = byte_is 0 d.cdw13 ∙ omega arith;
       second_of_13 = byte_is 1 d.cdw13;
+      high_half_of_13 = little_from-bytes 2 2 d.cdw13 (drop 56 entry) ∙ omega (arith, fit.cdw13);
       third_of_13 = byte_is 2 d.cdw13;
+      fourth_of_13 = little_from-bytes 1 3 d.cdw13 (drop 56 entry) ∙ omega (arith, fit.cdw13);
     }
 
 pub dwords_have : (entry : List ℕ) (first code cid : ℕ) (opcode : Opcode) (d : CommandDwords) → entry ≡ bytes_of first d → first ≡ code + cid * 2 ^ 16 → code < 2 ^ 8 → cid < 2 ^ 16 → opcode_of code ≡ Some opcode → AreDwords d

@@ -6,6 +6,7 @@ mod Descriptors
 mod Listings
 mod Reports
 mod Spelled
+mod Unused
 mod CompletionFields
 mod Writes
 pub mod Proved

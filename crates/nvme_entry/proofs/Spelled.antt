@@ -6,8 +6,9 @@ use Rattle.std.proofs.lemmas.Bool.{eqb-true, leb-true, le-leb, ltb-true}
 use Rattle.zone_state.specs.declared.action.Action.{Action}
 use Rattle.zone_state.specs.declared.status.Status.{Status}
 use Rattle.zone_state.specs.declared.status.TheConstants.Status.{INVALID_FIELD_IN_COMMAND, INVALID_NAMESPACE_OR_FORMAT}
+use Rattle.zone_state.specs.Transition.{action_of}
 use Rattle.zone_state.specs.Checks.{demand, first_failed}
-use Rattle.nvme_entry.specs.Entry.{action_of, asked, asked_blocks, checked, command_of, decoded_by, dwords_of, fuse_of, namespace_of, opcode_of, starting_lba}
+use Rattle.nvme_entry.specs.Entry.{asked, asked_blocks, checked, command_of, decoded_by, dwords_of, fuse_of, namespace_of, opcode_of, starting_lba}
 use Rattle.nvme_entry.specs.EntryLaws.{AsksFor, FieldsAreSpelled, SpelledIsDecoded, Spells}
 use Rattle.nvme_entry.specs.Fields.{dword, field}
 use Rattle.nvme_entry.specs.Filter.{filter_of}

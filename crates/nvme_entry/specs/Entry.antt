@@ -2,10 +2,10 @@
 use Rattle.std.specs.Prelude.{ℕ, ◌+◌, ◌*◌, ◌%◌, ◌==◌, nat_le, List, [], ◌∷◌, Option, Some, None, Result, Err, if◌then◌else◌, slice_index}
 use Rattle.std.specs.Option.{ok_or, option_and_then, option_map}
 use Rattle.zone_state.specs.declared.action.Action.{Action}
-use Rattle.zone_state.specs.declared.action.Action.TheVariants as action
 use Rattle.zone_state.specs.declared.status.Status.{Status}
 use Rattle.zone_state.specs.declared.status.TheConstants.Status.{INVALID_COMMAND_OPCODE, INVALID_FIELD_IN_COMMAND, INVALID_NAMESPACE_OR_FORMAT}
 use Rattle.zone_state.specs.Checks.{demand, first_failed}
+use Rattle.zone_state.specs.Transition.{action_of}
 use Rattle.nvme_entry.specs.declared.command.Opcode.{Opcode}
 use Rattle.nvme_entry.specs.declared.command.Opcode.TheVariants as opcode
 use Rattle.nvme_entry.specs.declared.command.Command.{Command}
@@ -49,15 +49,6 @@ opcode_of code =
     if code == 0xC0 then Some opcode.Run else
     if code == 0xC1 then Some opcode.Load else
     if code == 0xC2 then Some opcode.Result else None
-
--- Command Dword 13, bits 7:0: the zone send action (ZNS 1.1, 3.4.3)
-abbrev pub action_of : ℕ → Option Action
-action_of code =
-    if code == 0x01 then Some action.Close else
-    if code == 0x02 then Some action.Finish else
-    if code == 0x03 then Some action.Open else
-    if code == 0x04 then Some action.Reset else
-    if code == 0x05 then Some action.Offline else None
 
 -- Command Dword 12: the number of dwords, which is zero-based (ZNS 1.1, 3.4.2); none where they are more than one command moves
 abbrev pub dwords_of : ℕ → Option ℕ

@@ -1,6 +1,7 @@
 -- Laws of entries: where the fields of a command stand, and that nothing else counts.
 use Rattle.std.specs.Prelude.{ℕ, ◌≡◌, ◌≤◌, ◌<◌, ◌+◌, ◌*◌, ◌%◌, ◌==◌, List, slice_index, Some, Ok}
-use Rattle.nvme_entry.specs.Entry.{action_of, decoded}
+use Rattle.zone_state.specs.Transition.{action_of}
+use Rattle.nvme_entry.specs.Entry.{decoded}
 use Rattle.nvme_entry.specs.Fields.{field}
 use Rattle.nvme_entry.specs.Filter.{filter_of}
 use Rattle.nvme_entry.specs.declared.command.Command.{Command}

@@ -1,8 +1,8 @@
 //! Submission queue entries, made of the commands that they are to ask for.
 
 ghost use Rattle.std.specs.Prelude.{◌≡◌, ◌+◌, ◌*◌, ◌^◌, ◌≤◌, ◌<◌};
-ghost use Rattle.nvme_entry.specs.Entry.{action_of, asked, asked_blocks, decoded, identifier_of, starting_lba};
-ghost use Rattle.nvme_entry.specs.Encoding.{program_length};
+ghost use Rattle.nvme_entry.specs.Entry.{asked, asked_blocks, decoded, identifier_of, starting_lba};
+ghost use Rattle.nvme_entry.specs.Encoding.{AreZero, program_length, unused};
 ghost use Rattle.nvme_entry.specs.steps.EntryFields.{HasFields};
 
 use crate::command::{
@@ -47,6 +47,7 @@ impl Entry {
         requires { program_length command ≤ MOST_TRANSFER }
         ensures command { decoded result ≡ Ok command }
         ensures identifier { identifier_of result ≡ cid }
+        ensures rest { AreZero result (unused command) }
     {
         match command {
             Command::Standard(command) => encode_standard(command, cid),
@@ -61,6 +62,7 @@ impl Entry {
 fn encode_standard(command: StandardCommand, cid: u16) -> [u8; 64]
     ensures command { decoded result ≡ Ok (Command.Standard command) }
     ensures identifier { identifier_of result ≡ cid }
+    ensures rest { AreZero result (unused (Command.Standard command)) }
 {
     match command {
         StandardCommand::Write { lba, blocks } => transfer(Opcode::Write, lba, blocks, cid),
@@ -86,6 +88,7 @@ fn transfer(opcode: Opcode, lba: u64, blocks: BlockCount, cid: u16) -> [u8; 64]
     ensures lba { starting_lba result ≡ lba }
     ensures blocks { asked_blocks result ≡ blocks }
     ensures identifier { identifier_of result ≡ cid }
+    ensures rest { AreZero result (unused (Command.Standard (StandardCommand.Write lba blocks))) }
 {
     let (low, high) = halves(lba);
     let fields = CommandDwords {
@@ -101,12 +104,13 @@ fn transfer(opcode: Opcode, lba: u64, blocks: BlockCount, cid: u16) -> [u8; 64]
 fn send(lba: u64, action: Action, select_all: bool, cid: u16) -> [u8; 64]
     ensures command { decoded result ≡ Ok (Command.Standard (StandardCommand.Send lba action select_all)) }
     ensures identifier { identifier_of result ≡ cid }
+    ensures rest { AreZero result (unused (Command.Standard (StandardCommand.Send lba action select_all))) }
 {
     let (low, high) = halves(lba);
     let fields = CommandDwords {
         cdw10: low,
         cdw11: high,
-        cdw13: u32::from(code_of(action)) + (u32::from(select_all) << 8),
+        cdw13: u32::from(action.code()) + (u32::from(select_all) << 8),
         ..CommandDwords::NONE
     };
     with_fields(Opcode::ZoneManagementSend, cid, fields)
@@ -116,6 +120,7 @@ fn send(lba: u64, action: Action, select_all: bool, cid: u16) -> [u8; 64]
 fn receive(lba: u64, dwords: DwordCount, filter: ZoneFilter, partial: bool, cid: u16) -> [u8; 64]
     ensures command { decoded result ≡ Ok (Command.Standard (StandardCommand.Receive lba dwords filter partial)) }
     ensures identifier { identifier_of result ≡ cid }
+    ensures rest { AreZero result (unused (Command.Standard (StandardCommand.Receive lba dwords filter partial))) }
 {
     let (low, high) = halves(lba);
     let fields = CommandDwords {
@@ -132,6 +137,7 @@ fn receive(lba: u64, dwords: DwordCount, filter: ZoneFilter, partial: bool, cid:
 fn encode_run(run: RunCommand, cid: u16) -> [u8; 64]
     ensures command { decoded result ≡ Ok (Command.Run run) }
     ensures identifier { identifier_of result ≡ cid }
+    ensures rest { AreZero result (unused (Command.Run run)) }
 {
     let (low, high) = halves(run.lba);
     let (low_destination, high_destination) = halves(run.destination);
@@ -151,6 +157,7 @@ fn encode_load(load: LoadCommand, cid: u16) -> [u8; 64]
     requires { load.bytes ≤ MOST_TRANSFER }
     ensures command { decoded result ≡ Ok (Command.Load load) }
     ensures identifier { identifier_of result ≡ cid }
+    ensures rest { AreZero result (unused (Command.Load load)) }
 {
     let fields = CommandDwords {
         cdw10: slot_field(load.slot),
@@ -165,6 +172,7 @@ fn encode_load(load: LoadCommand, cid: u16) -> [u8; 64]
 fn encode_result(slot: ProgramSlot, cid: u16) -> [u8; 64]
     ensures command { decoded result ≡ Ok (Command.Result slot) }
     ensures identifier { identifier_of result ≡ cid }
+    ensures rest { AreZero result (unused (Command.Result slot)) }
 {
     let fields = CommandDwords {
         cdw10: slot_field(slot),
@@ -201,19 +209,6 @@ fn with_fields(opcode: Opcode, cid: u16, fields: CommandDwords) -> [u8; 64]
         &mut entry,
     );
     entry
-}
-
-/// The code of an action in the field Zone Send Action (ZNS 1.1, 3.4.3).
-fn code_of(action: Action) -> u8
-    ensures { action_of result ≡ Some action }
-{
-    match action {
-        Action::Close => 0x01,
-        Action::Finish => 0x02,
-        Action::Open => 0x03,
-        Action::Reset => 0x04,
-        Action::Offline => 0x05,
-    }
 }
 
 /// The number of a slot, as a field has it.

@@ -1,7 +1,7 @@
 //! Submission queue entries.
 
 ghost use Rattle.std.specs.Prelude.{◌≡◌};
-ghost use Rattle.nvme_entry.specs.Entry.{decoded, asked, action_of, identifier_of, starting_lba, asked_blocks, fuse_of, namespace_of};
+ghost use Rattle.nvme_entry.specs.Entry.{decoded, asked, identifier_of, starting_lba, asked_blocks, fuse_of, namespace_of};
 
 use crate::command::{
     BlockCount, Command, DwordCount, LoadCommand, MOST_TRANSFER, Opcode, RunCommand,
@@ -37,9 +37,7 @@ impl Entry {
     pub fn decode(entry: &[u8; 64]) -> Result<Command, Status>
         ensures { result ≡ decoded entry.now }
     {
-        let Some(opcode) = Opcode::from_code(entry[0]) else {
-            return Err(Status::INVALID_COMMAND_OPCODE);
-        };
+        let opcode = Opcode::from_code(entry[0]).ok_or(Status::INVALID_COMMAND_OPCODE)?;
         if Entry::fuse(entry) != 0 {
             return Err(Status::INVALID_FIELD_IN_COMMAND);
         }
@@ -79,9 +77,7 @@ impl Entry {
         ensures { result ≡ asked Opcode.ZoneManagementSend entry.now }
     {
         let lba = Entry::lba(entry);
-        let Some(action) = action(entry[52]) else {
-            return Err(Status::INVALID_FIELD_IN_COMMAND);
-        };
+        let action = Action::from_code(entry[52]).ok_or(Status::INVALID_FIELD_IN_COMMAND)?;
         Ok(Command::Standard(StandardCommand::Send {
             lba,
             action,
@@ -94,15 +90,13 @@ impl Entry {
         ensures { result ≡ asked Opcode.ZoneManagementReceive entry.now }
     {
         let lba = Entry::lba(entry);
-        let Some(dwords) = DwordCount::from_zero_based(dword(entry, 12)) else {
-            return Err(Status::INVALID_FIELD_IN_COMMAND);
-        };
+        let dwords = DwordCount::from_zero_based(dword(entry, 12)).ok_or(
+            Status::INVALID_FIELD_IN_COMMAND,
+        )?;
         if entry[52] != REPORT_ZONES {
             return Err(Status::INVALID_FIELD_IN_COMMAND);
         }
-        let Some(filter) = ZoneFilter::from_code(entry[53]) else {
-            return Err(Status::INVALID_FIELD_IN_COMMAND);
-        };
+        let filter = ZoneFilter::from_code(entry[53]).ok_or(Status::INVALID_FIELD_IN_COMMAND)?;
         Ok(Command::Standard(StandardCommand::Receive {
             lba,
             dwords,
@@ -115,9 +109,7 @@ impl Entry {
     fn run(entry: &[u8; 64]) -> Result<Command, Status>
         ensures { result ≡ asked Opcode.Run entry.now }
     {
-        let Some(slot) = ProgramSlot::new(u32::from(entry[50])) else {
-            return Err(Status::INVALID_FIELD_IN_COMMAND);
-        };
+        let slot = ProgramSlot::new(u32::from(entry[50])).ok_or(Status::INVALID_FIELD_IN_COMMAND)?;
         Ok(Command::Run(RunCommand {
             lba: Entry::lba(entry),
             blocks: Entry::blocks(entry),
@@ -135,9 +127,7 @@ impl Entry {
         if bytes as usize > MOST_TRANSFER {
             return Err(Status::INVALID_FIELD_IN_COMMAND);
         }
-        let Some(slot) = ProgramSlot::new(dword(entry, 10)) else {
-            return Err(Status::INVALID_FIELD_IN_COMMAND);
-        };
+        let slot = ProgramSlot::new(dword(entry, 10)).ok_or(Status::INVALID_FIELD_IN_COMMAND)?;
         Ok(Command::Load(LoadCommand {
             slot,
             limit: dword(entry, 11),
@@ -149,9 +139,7 @@ impl Entry {
     fn result(entry: &[u8; 64]) -> Result<Command, Status>
         ensures { result ≡ asked Opcode.Result entry.now }
     {
-        let Some(slot) = ProgramSlot::new(dword(entry, 10)) else {
-            return Err(Status::INVALID_FIELD_IN_COMMAND);
-        };
+        let slot = ProgramSlot::new(dword(entry, 10)).ok_or(Status::INVALID_FIELD_IN_COMMAND)?;
         Ok(Command::Result(slot))
     }
 
@@ -177,19 +165,5 @@ impl Entry {
         ensures { result ≡ asked_blocks entry.now }
     {
         BlockCount::from_zero_based(LittleEndian::read_u16(&entry[48..]))
-    }
-}
-
-/// The action with this code in the field Zone Send Action (ZNS 1.1, 3.4.3).
-fn action(code: u8) -> Option<Action>
-    ensures { result ≡ action_of code }
-{
-    match code {
-        0x01 => Some(Action::Close),
-        0x02 => Some(Action::Finish),
-        0x03 => Some(Action::Open),
-        0x04 => Some(Action::Reset),
-        0x05 => Some(Action::Offline),
-        _ => None,
     }
 }

@@ -3,7 +3,9 @@
 /// The lowest and the greatest of some numbers.
 #[derive(Clone, Copy, Debug, PartialEq, Eq)]
 pub struct Bounds {
+    /// The lowest.
     pub low: u64,
+    /// The greatest.
     pub high: u64,
 }
 

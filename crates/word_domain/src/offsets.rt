@@ -8,6 +8,7 @@ use std::fmt;
 /// `block - 256 to block - 1`.
 #[derive(Clone, Copy, Debug, PartialEq, Eq)]
 pub struct Offsets {
+    /// The area that the distances are counted from.
     pub area: Area,
     /// The least distance, in bytes.
     pub low: i64,

@@ -8,7 +8,7 @@ use Rattle.zone_state.specs.State.{is_open, is_active}
 use Rattle.zone_state.specs.Zone.{CountedZone}
 use Rattle.zone_state.specs.declared.state.ZoneState.{ZoneState}
 use Rattle.zone_state.specs.declared.state.ZoneState.TheVariants.{Empty, ImplicitlyOpened, ExplicitlyOpened, Closed, ReadOnly, Full, Offline}
-use Rattle.zone_resources.specs.Counts.{one_if, CountsOne, MovesOne, CountsFollowOne, CountsAreFew}
+use Rattle.zone_resources.specs.Counts.{active_count, one_if, open_count, CountsOne, MovesOne, CountsAreFew}
 use Rattle.zone_resources.specs.declared.counts.Counts.{Counts}
 
 -- how many zones are of a state that passes a test
@@ -42,7 +42,10 @@ count_in-fits test zones number was to there =
     let few = count_by-le-length (λ (z : CountedZone). test z.state) (slice_set zones number is) in
     omega (arith, one_if-le-count_in test zones number was there, length-set zones number is)
 
-pub counts_follow_one : CountsFollowOne
+-- where one zone changes, the counts lose what it was and gain what it is
+pub counts_follow_one : (zones : List CountedZone) (number : ℕ) (was is : CountedZone) → slice_get zones number ≡ Some was
+    → (open_count (slice_set zones number is) + one_if (is_open was.state) ≡ open_count zones + one_if (is_open is.state))
+    × (active_count (slice_set zones number is) + one_if (is_active was.state) ≡ active_count zones + one_if (is_active is.state))
 counts_follow_one zones number was is there =
     (count_in-set is_open zones number was is there, count_in-set is_active zones number was is there)
 

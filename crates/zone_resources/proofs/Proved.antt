@@ -1,15 +1,13 @@
--- The laws of this crate, proved: all that the proofs of other crates cite of it.
+-- The laws of this crate, proved, and lemmas: all that the proofs of other crates cite of it.
 use Rattle.zone_resources.specs.Admission.{AdmissionKeepsLimits, ClosesTheLowest, IdleHoldsNoMore, ReleaseKeepsLimits}
-use Rattle.zone_resources.specs.Counts.{CountsAreFew, CountsFollowOne}
-use Rattle.zone_resources.specs.Holds.{HoldsRefuse, UsersNameZones}
+use Rattle.zone_resources.specs.Counts.{CountsAreFew}
+use Rattle.zone_resources.specs.Holds.{HoldsRefuse}
 use Rattle.zone_resources.proofs.AdmissionLemmas as admitted
 use Rattle.zone_resources.proofs.CountLemmas as counted
+pub use Rattle.zone_resources.proofs.CountLemmas.{counts_follow_one}
 use Rattle.zone_resources.proofs.HoldLemmas as held
 use Rattle.zone_resources.proofs.LimitLemmas as limited
-use Rattle.zone_resources.proofs.Users as users
-
-pub counts_follow_one : CountsFollowOne
-counts_follow_one = counted.counts_follow_one
+pub use Rattle.zone_resources.proofs.Users.{users_name_zones}
 
 pub counts_are_few : CountsAreFew
 counts_are_few = counted.counts_are_few
@@ -28,6 +26,3 @@ idle_holds_no_more = limited.idle_holds_no_more
 
 pub holds_refuse : HoldsRefuse
 holds_refuse = held.holds_refuse
-
-pub users_name_zones : {A : Type 0} → UsersNameZones A
-users_name_zones = users.users_name_zones

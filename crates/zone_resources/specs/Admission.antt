@@ -14,7 +14,7 @@ use Rattle.zone_state.specs.declared.state.ZoneState.TheVariants.{Empty, Implici
 use Rattle.zone_state.specs.declared.status.Status.{Status}
 use Rattle.zone_state.specs.declared.status.TheConstants.Status.{TOO_MANY_ACTIVE_ZONES, TOO_MANY_OPEN_ZONES}
 
--- what a zone of the state wants so that it can be open (ZNS 1.1, Zone Resources)
+-- what a zone of the state wants so that it can be open (ZNS 1.1, 2.1.1)
 abbrev pub wanted_of : ZoneState → Option Wanted
 wanted_of Empty = Some OpenAndActive
 wanted_of Closed = Some OpenOnly
@@ -24,7 +24,7 @@ abbrev pub is_implicitly_opened : ZoneState → Bool
 is_implicitly_opened ImplicitlyOpened = true
 is_implicitly_opened _ = false
 
--- may the zone of this number be closed to make room? (ZNS 1.1, Zone Resources: an
+-- may the zone of this number be closed to make room? (ZNS 1.1, 2.1.1: an
 -- implicitly opened one; that it is no run's destination: profile)
 abbrev pub may_close : Holds → ℕ → CountedZone → Bool
 may_close holds number zone = is_implicitly_opened zone.state && not (is_destination holds number)
@@ -43,7 +43,7 @@ abbrev pub open_admission : List CountedZone → Limits → Holds → Result (Op
 open_admission zones limits holds =
     if nat_lt (open_count zones) limits.open_limit then Ok None else closing (zone_to_close holds zones)
 
--- whether what is wanted can be had: an active resource first (ZNS 1.1, Zone Resources;
+-- whether what is wanted can be had: an active resource first (ZNS 1.1, 2.1.1;
 -- the order: profile)
 abbrev pub admission : List CountedZone → Limits → Holds → Wanted → Result (Option ℕ) Status
 admission zones limits holds OpenOnly = open_admission zones limits holds

@@ -5,7 +5,7 @@ use Rattle.zone_state.specs.State.{is_open, is_active}
 use Rattle.zone_state.specs.Zone.{CountedZone}
 use Rattle.zone_state.specs.declared.state.ZoneState.{ZoneState}
 
--- how many zones hold an open resource (ZNS 1.1, Zone Resources)
+-- how many zones hold an open resource (ZNS 1.1, 2.1.1)
 abbrev pub open_count : List CountedZone → ℕ
 open_count zones = count_by (λ z. is_open z.state) zones
 
@@ -37,13 +37,6 @@ MovesOne old new from to =
     (zones : List CountedZone) (number : ℕ) (was is : CountedZone)
     → old ≡ counts_of zones → slice_get zones number ≡ Some was → was.state ≡ from → is.state ≡ to
     → new ≡ counts_of (slice_set zones number is)
-
--- where one zone changes, the counts lose what it was and gain what it is
-abbrev pub CountsFollowOne : Type 0
-CountsFollowOne =
-    (zones : List CountedZone) (number : ℕ) (was is : CountedZone) → slice_get zones number ≡ Some was
-    → (open_count (slice_set zones number is) + one_if (is_open was.state) ≡ open_count zones + one_if (is_open is.state))
-    × (active_count (slice_set zones number is) + one_if (is_active was.state) ≡ active_count zones + one_if (is_active is.state))
 
 -- each open zone is active, and each active zone is a zone
 abbrev pub CountsAreFew : Type 0

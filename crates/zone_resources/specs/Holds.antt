@@ -1,5 +1,5 @@
 -- The zones that active runs use, and what is refused there (profile).
-use Rattle.std.specs.Prelude.{ℕ, ◌≡◌, Bool, true, false, List, map, get_or, Option, Some, None, ◌==◌, ◌||◌, ◌&&◌, replicate}
+use Rattle.std.specs.Prelude.{ℕ, ◌≡◌, Bool, true, false, List, Option, Some, None, ◌==◌, ◌||◌, ◌&&◌, replicate}
 use Rattle.std.specs.List.{list_any}
 use Rattle.zone_resources.specs.declared.holds.Holds.{Holds}
 use Rattle.zone_resources.specs.declared.holds.TheConstants.{RUNS}
@@ -29,12 +29,6 @@ forgets _ = false
 -- is the zone held against the action?
 abbrev pub refuses : Holds → Action → ℕ → Bool
 refuses holds action zone = is_destination holds zone || (forgets action && is_source holds zone)
-
--- where one of some users has a zone, that zone is named among what they have
-abbrev pub UsersNameZones : Type 0 → Type 0
-UsersNameZones A =
-    (of : Option A → Option ℕ) (zone : ℕ) (users : List (Option A)) (number : ℕ) (user : A) → get_or users number None ≡ Some user
-    → of (Some user) ≡ Some zone → list_any (names zone) (map of users) ≡ true
 
 -- the holds of no run
 abbrev pub no_holds : Holds

@@ -9,7 +9,7 @@ use crate::counts::Counts;
 use crate::holds::Holds;
 use zone_state::{Status, Zone, ZoneState};
 
-/// How many zones may hold resources at one time (ZNS 1.1, Zone Resources).
+/// How many zones may hold resources at one time (ZNS 1.1, 2.1.1).
 #[derive(Clone, Copy, Debug, PartialEq, Eq)]
 pub struct Limits {
     /// The most zones that may be open: Maximum Open Resources.

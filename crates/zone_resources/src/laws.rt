@@ -2,13 +2,8 @@
 //! it ensures is the law.
 
 ghost use Rattle.zone_resources.specs.Admission.{AdmissionKeepsLimits, ClosesTheLowest, IdleHoldsNoMore, ReleaseKeepsLimits};
-ghost use Rattle.zone_resources.specs.Counts.{CountsAreFew, CountsFollowOne};
+ghost use Rattle.zone_resources.specs.Counts.{CountsAreFew};
 ghost use Rattle.zone_resources.specs.Holds.{HoldsRefuse};
-
-/// Where one zone changes, the counts lose what it was and gain what it is.
-pub fn counts_follow_one()
-    ensures { CountsFollowOne }
-{}
 
 /// There are no more open zones than active ones, and no more of these than zones.
 pub fn counts_are_few()

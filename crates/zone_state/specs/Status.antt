@@ -3,7 +3,7 @@ use Rattle.std.specs.Prelude.{ℕ, ◌==◌, Option, List, [], ◌∷◌, find}
 use Rattle.zone_state.specs.declared.status.StatusType.{StatusType}
 use Rattle.zone_state.specs.declared.status.StatusType.TheVariants.{Generic, CommandSpecific, VendorSpecific}
 
--- the number of a type in the status field (NVMe Base 2.0, Status Code Type)
+-- the number of a type in the status field (NVMe Base 2.0, 3.3.3.2)
 abbrev pub type_number : StatusType → ℕ
 type_number Generic = 0
 type_number CommandSpecific = 1

@@ -159,7 +159,7 @@ impl fmt::Display for Status {
     }
 }
 
-/// The standard's name (ZNS 1.1, Zone State Machine): `Implicitly Opened`.
+/// The standard's name (ZNS 1.1, 2.1.1.3): `Implicitly Opened`.
 impl fmt::Display for ZoneState {
     fn fmt<W: fmt::Write>(&self, f: &mut fmt::Formatter<W>) -> fmt::Result {
         f.write_str(match self {

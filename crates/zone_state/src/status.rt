@@ -3,7 +3,7 @@
 ghost use Rattle.std.specs.Prelude.{◌≡◌, ◌<◌, ◌^◌};
 ghost use Rattle.zone_state.specs.Status.{type_number, type_of};
 
-/// Status code types (NVMe Base 2.0, Status Code Type).
+/// Status code types (NVMe Base 2.0, 3.3.3.2).
 #[derive(Clone, Copy, Debug, PartialEq, Eq)]
 pub enum StatusType {
     /// Generic command status.
@@ -40,7 +40,7 @@ impl StatusType {
     }
 }
 
-/// Status code type and status code (NVMe Base 2.0, Status Field Definition).
+/// Status code type and status code (NVMe Base 2.0, 3.3.3.2).
 #[derive(Clone, Copy, Debug, PartialEq, Eq)]
 pub struct Status {
     /// The status code type.
@@ -83,7 +83,7 @@ impl Status {
     };
 }
 
-/// Command specific status (ZNS 1.1, Command Specific Status Values).
+/// Command specific status (ZNS 1.1, 3).
 impl Status {
     /// The blocks are not all in one zone, or a write passes the zone's capacity.
     pub const ZONE_BOUNDARY_ERROR: Status = Status {

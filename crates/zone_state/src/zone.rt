@@ -12,7 +12,7 @@ use std::marker::Model;
 /// A zone: its state, its capacity in blocks, and the number of its written blocks.
 ///
 /// The written blocks are the zone's first, so its write pointer is its lowest LBA and that number
-/// (ZNS 1.1, Zone State Machine).
+/// (ZNS 1.1, 2.1.1.3).
 #[derive(Clone, Copy, Debug, PartialEq, Eq)]
 pub struct Zone {
     state: ZoneState,
@@ -38,7 +38,7 @@ impl Model for Zone {
 
 impl Zone {
     /// The zone of this state with `written` of its `capacity` blocks written; None where a zone
-    /// of that state has another number of them (ZNS 1.1, Zone State Machine), or
+    /// of that state has another number of them (ZNS 1.1, 2.1.1.3), or
     /// where the capacity is 0 blocks.
     pub fn new(state: ZoneState, written: u32, capacity: u32) -> Option<Zone>
         ensures found { IsSome result ↔ IsZone state written capacity }
@@ -83,7 +83,7 @@ impl Zone {
     }
 
     /// Whether `n` blocks, at least one, may be written from block `at` of the zone on (ZNS 1.1,
-    /// Zone State Machine and 3.4.1). The first check that fails decides.
+    /// 2.1.1.3 and 3.4.1). The first check that fails decides.
     ///
     /// # Errors
     ///
@@ -112,7 +112,7 @@ impl Zone {
 
     /// Notes that `n` blocks were written at the write pointer. The zone becomes Full where they
     /// reach its capacity; else it is open, and implicitly so unless the host had opened it (ZNS 1.1,
-    /// Zone State Machine).
+    /// 2.1.1.3).
     pub fn note_written(&mut self, n: u32)
         requires some { 1 ≤ n }
         requires fits { refusal self.old self.old.written n ≡ Ok tt }

@@ -19,12 +19,7 @@ fn main(rt: HostRuntime) -> ExitCode {
         Err(failure) => return ExitCode::from(conclude(Err(failure), &mut err).status),
     };
     let mut out = io::writer(&rt);
-    let outcome = command(
-        rt.alloc(),
-        words.as_slice(),
-        &mut Disk::new(&rt),
-        &mut out,
-    );
+    let outcome = command(rt.alloc(), words.as_slice(), &mut Disk::new(&rt), &mut out);
     // Where standard error fails, nobody can be told.
     ExitCode::from(conclude(outcome, &mut err).status)
 }

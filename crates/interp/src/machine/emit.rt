@@ -4,14 +4,15 @@ ghost use Rattle.std.specs.Prelude.{◌≡◌, ◌++◌, replicate, drop};
 
 use crate::machine::Machine;
 use crate::memory::write_frame;
-use program_interface::REGISTERS;
+use instruction_set::Register;
+use program_interface::{CLEARED_REGISTERS, FRAME_LENGTH_BYTES, REGISTERS};
 use program_meaning::{AreaOffset, Cause};
 
-/// R0 to R5 after a call.
+/// What a call leaves in the registers that it needn't keep.
 fn clear_scratched(registers: &mut [u64; REGISTERS])
-    ensures { registers.new ≡ replicate 6 0 ++ drop 6 registers.old }
+    ensures { registers.new ≡ replicate CLEARED_REGISTERS 0 ++ drop CLEARED_REGISTERS registers.old }
 {
-    registers[..6].copy_from_slice(&[0; 6]);
+    registers[..CLEARED_REGISTERS].copy_from_slice(&[0; CLEARED_REGISTERS]);
 }
 
 impl Machine<'_> {
@@ -23,6 +24,10 @@ impl Machine<'_> {
     ghost use Rattle.interp.specs.Answer.{unless, emit_hindrance};
 
     /// Adds the frame that R1 and R2 tell to the group, unless a cause hinders it.
+    ///
+    /// # Errors
+    ///
+    /// [`Cause::EmitOutside`] and [`Cause::EmitLength`].
     #[inline]
     pub fn emit(&mut self, limit: usize, group: &mut [u8]) -> Result<(), Cause>
         requires limit { limit < 2 ^ 16 }
@@ -32,14 +37,14 @@ impl Machine<'_> {
         ensures state { (slot : ℕ) → state_at self.new slot group.new ≡ (if is_ok result then emitted (state_at self.old slot group.old) else state_at self.old slot group.old) }
         ensures extends { Extends self.old self.new group.old group.new }
     {
-        let size = self.registers[2];
+        let size = self.register(Register::R2);
         if size == 0 {
             return Err(Cause::EmitLength);
         }
-        let Some(place) = self.area_offset(self.registers[1], size) else {
+        let Some(place) = self.area_offset(self.register(Register::R1), size) else {
             return Err(Cause::EmitOutside);
         };
-        if (self.group_len + 2) as u64 + size > limit as u64 {
+        if (self.group_len + FRAME_LENGTH_BYTES) as u64 + size > limit as u64 {
             return Err(Cause::EmitLength);
         }
         self.add_frame(place, size as usize, group);
@@ -56,7 +61,7 @@ impl Machine<'_> {
         let start = self.group_len;
         let bytes = self.bytes(place.area);
         write_frame(group, start, &bytes[place.offset..][..size]);
-        self.group_len = start + 2 + size;
+        self.group_len = start + FRAME_LENGTH_BYTES + size;
         self.frames += 1;
         clear_scratched(&mut self.registers);
     }

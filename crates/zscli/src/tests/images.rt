@@ -1,4 +1,4 @@
-//! Images in files: made, listed, changed and refused.
+//! Images in files: made, listed and changed, and files that fail.
 
 use super::scenes::{Act, EMPTY_IMAGE, EMPTY_ZONE, EXEC, MAGIC, NUMBERS, SHAPE, Scene, play};
 use super::stage::Parts;
@@ -14,58 +14,6 @@ const FORMATTED: &[Act] = &[
         "zscli zones new",
         "0 empty 0\n1 empty 0\n2 empty 0\n3 empty 0\n",
     ),
-];
-
-const NO_GEOMETRY: &[Act] = &[
-    Act::Fails(
-        "zscli format new --block 513 --zones 4 --size 8 --capacity 6 --open 2 --active 3",
-        3,
-        "",
-        "geometry refused 1\n",
-    ),
-    Act::HasNo("new"),
-    Act::Fails(
-        "zscli format new --block 512 --zones 0 --size 8 --capacity 6 --open 2 --active 3",
-        3,
-        "",
-        "geometry refused 2\n",
-    ),
-    Act::HasNo("new"),
-    Act::Fails(
-        "zscli format new --block 512 --zones 4 --size 0 --capacity 6 --open 2 --active 3",
-        3,
-        "",
-        "geometry refused 3\n",
-    ),
-    Act::HasNo("new"),
-    Act::Fails(
-        "zscli format new --block 512 --zones 4 --size 8 --capacity 9 --open 2 --active 3",
-        3,
-        "",
-        "geometry refused 4\n",
-    ),
-    Act::HasNo("new"),
-    Act::Fails(
-        "zscli format new --block 512 --zones 4 --size 8 --capacity 6 --open 3 --active 2",
-        3,
-        "",
-        "geometry refused 5\n",
-    ),
-    Act::HasNo("new"),
-    Act::Fails(
-        "zscli format new --block 4096 --zones 16 --size 8192 --capacity 8192 --open 1 --active 1",
-        3,
-        "",
-        "geometry refused 6\n",
-    ),
-    Act::HasNo("new"),
-    Act::Fails(
-        "zscli format new --block 4294967295 --zones 4 --size 8 --capacity 6 --open 2 --active 3",
-        3,
-        "",
-        "geometry refused 1\n",
-    ),
-    Act::HasNo("new"),
 ];
 
 const WRITTEN: &[Act] = &[
@@ -188,112 +136,6 @@ const NOT_SAVED: &[Act] = &[
     Act::Has("g1", EMPTY_IMAGE),
 ];
 
-/// The numbers for blocks of 513 bytes.
-const ODD_NUMBERS: &[u8] = b"\
-\x01\x02\0\0\x04\0\0\0\x08\0\0\0\x06\0\0\0\x02\0\0\0\x03\0\0\0\
-\0\0\0\0\0\0\0\0\0\0\0\0\0\0\0\0\0\0\0\0\0\0\0\0\0\0\0\0\0\0\0\0";
-
-const NO_IMAGE: &[Act] = &[
-    Act::Put("bad", &[]),
-    Act::Fails("zscli zones bad", 3, "", "image refused 10\n"),
-    Act::Fails("zscli exec bad missing", 3, "", "image refused 10\n"),
-    // No zones.
-    Act::Put("bad", &[(MAGIC, 1), (NUMBERS, 1)]),
-    Act::Fails("zscli zones bad", 3, "", "image refused 10\n"),
-    Act::Fails("zscli exec bad missing", 3, "", "image refused 10\n"),
-    // A byte too few.
-    Act::Put(
-        "bad",
-        &[
-            (MAGIC, 1),
-            (NUMBERS, 1),
-            (EMPTY_ZONE, 3),
-            (b"\x01\0\0\0\0\0\0", 1),
-        ],
-    ),
-    Act::Fails("zscli zones bad", 3, "", "image refused 10\n"),
-    Act::Fails("zscli exec bad missing", 3, "", "image refused 10\n"),
-    // A byte too many.
-    Act::Put(
-        "bad",
-        &[(MAGIC, 1), (NUMBERS, 1), (EMPTY_ZONE, 4), (b"\0", 1)],
-    ),
-    Act::Fails("zscli zones bad", 3, "", "image refused 15\n"),
-    Act::Fails("zscli exec bad missing", 3, "", "image refused 15\n"),
-    // Other first bytes.
-    Act::Put("bad", &[(b"\0NSIMG02", 1), (NUMBERS, 1), (EMPTY_ZONE, 4)]),
-    Act::Fails("zscli zones bad", 3, "", "image refused 11\n"),
-    Act::Fails("zscli exec bad missing", 3, "", "image refused 11\n"),
-    // Blocks of 513 bytes.
-    Act::Put("bad", &[(MAGIC, 1), (ODD_NUMBERS, 1)]),
-    Act::Fails("zscli zones bad", 3, "", "image refused 12\n"),
-    Act::Fails("zscli exec bad missing", 3, "", "image refused 12\n"),
-    // A zone that is implicitly opened, and has no block.
-    Act::Put(
-        "bad",
-        &[
-            (MAGIC, 1),
-            (NUMBERS, 1),
-            (EMPTY_ZONE, 1),
-            (b"\x02\0\0\0\0\0\0\0", 1),
-            (EMPTY_ZONE, 2),
-        ],
-    ),
-    Act::Fails("zscli zones bad", 3, "", "image refused 13\n"),
-    Act::Fails("zscli exec bad missing", 3, "", "image refused 13\n"),
-    // No state has this code.
-    Act::Put(
-        "bad",
-        &[
-            (MAGIC, 1),
-            (NUMBERS, 1),
-            (EMPTY_ZONE, 1),
-            (b"\x05\0\0\0\0\0\0\0", 1),
-            (EMPTY_ZONE, 2),
-        ],
-    ),
-    Act::Fails("zscli zones bad", 3, "", "image refused 13\n"),
-    Act::Fails("zscli exec bad missing", 3, "", "image refused 13\n"),
-    // One that is as full as it can be.
-    Act::Put(
-        "bad",
-        &[
-            (MAGIC, 1),
-            (NUMBERS, 1),
-            (EMPTY_ZONE, 1),
-            (b"\x02\0\0\0\x06\0\0\0", 1),
-            (EMPTY_ZONE, 2),
-        ],
-    ),
-    Act::Fails("zscli zones bad", 3, "", "image refused 13\n"),
-    Act::Fails("zscli exec bad missing", 3, "", "image refused 13\n"),
-    // A block that is written, of which the header doesn't tell.
-    Act::Put(
-        "bad",
-        &[
-            (MAGIC, 1),
-            (NUMBERS, 1),
-            (b"\x02\0\0\0\x01\0\0\0", 1),
-            (EMPTY_ZONE, 3),
-            (b"\0", 512),
-        ],
-    ),
-    Act::Fails("zscli zones bad", 3, "", "image refused 18\n"),
-    Act::Fails("zscli exec bad missing", 3, "", "image refused 18\n"),
-    // Three open zones.
-    Act::Put(
-        "bad",
-        &[
-            (MAGIC, 1),
-            (NUMBERS, 1),
-            (b"\x03\0\0\0\0\0\0\0", 3),
-            (EMPTY_ZONE, 1),
-        ],
-    ),
-    Act::Fails("zscli zones bad", 3, "", "image refused 14\n"),
-    Act::Fails("zscli exec bad missing", 3, "", "image refused 14\n"),
-];
-
 const FAILING: &[Act] = &[
     Act::Start(b"fault 0 offline"),
     Act::Room(80),
@@ -304,16 +146,10 @@ const FAILING: &[Act] = &[
     Act::Fails("zscli zones g1", 1, "", "cannot read g1\n"),
 ];
 
-const MADE: &[Scene] = &[
-    Scene {
-        name: "format makes an image",
-        acts: FORMATTED,
-    },
-    Scene {
-        name: "numbers that are no geometry",
-        acts: NO_GEOMETRY,
-    },
-];
+const MADE: &[Scene] = &[Scene {
+    name: "format makes an image",
+    acts: FORMATTED,
+}];
 
 #[test]
 fn images_that_are_made(rt: HostRuntime) -> Result<(), Fail> {
@@ -352,18 +188,12 @@ fn images_that_are_changed(rt: HostRuntime) -> Result<(), Fail> {
     play(&rt, rt.alloc(), CHANGED)
 }
 
-const OTHERS: &[Scene] = &[
-    Scene {
-        name: "files that are no image",
-        acts: NO_IMAGE,
-    },
-    Scene {
-        name: "files that fail",
-        acts: FAILING,
-    },
-];
+const FAILS: &[Scene] = &[Scene {
+    name: "files that fail",
+    acts: FAILING,
+}];
 
 #[test]
-fn files_that_are_no_image_or_fail(rt: HostRuntime) -> Result<(), Fail> {
-    play(&rt, rt.alloc(), OTHERS)
+fn files_that_fail(rt: HostRuntime) -> Result<(), Fail> {
+    play(&rt, rt.alloc(), FAILS)
 }

@@ -28,16 +28,12 @@ mov r0, 0
 exit
 ";
 
-/// An output block with one frame, and one whose last byte isn't zero.
+/// An output block with one frame.
 const FRAMED: Parts = &[(b"\x03\0abc", 1), (b"\0", 507)];
-
-const SPOILED: Parts = &[(b"\x03\0abc", 1), (b"\0", 506), (b"\x01", 1)];
 
 const LISTED: &[Act] = &[
     Act::Start(MATCHING),
     Act::Prints("zscli disasm events", LISTING),
-    Act::Start(b""),
-    Act::Fails("zscli disasm events", 3, "", "program refused 0 21\n"),
     Act::Fails("zscli disasm none", 1, "", "cannot read none\n"),
 ];
 
@@ -59,19 +55,6 @@ const UNPACKED: &[Act] = &[
     Act::Start(b""),
     Act::Put("events", FRAMED),
     Act::Prints("zscli unpack events --block 512", "616263\n"),
-    Act::Fails(
-        "zscli unpack events --block 513",
-        3,
-        "",
-        "geometry refused 1\n",
-    ),
-    Act::Put("events", SPOILED),
-    Act::Fails(
-        "zscli unpack events --block 512",
-        3,
-        "",
-        "frame refused 511\n",
-    ),
 ];
 
 const EXPLAINED: &str = "\

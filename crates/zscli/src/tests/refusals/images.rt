@@ -10,6 +10,15 @@ const GEOMETRIES: &[Act] = &[
          geometry refused 1\n",
     ),
     Act::Refuses(
+        "zscli format new --block 4294967295 --zones 4 --size 8 --capacity 6 --open 2 --active 3",
+        "a block of 4294967295 bytes: the block size is no power of 2 from 512 to 16384\n\
+         geometry refused 1\n",
+    ),
+    Act::Refuses(
+        "zscli format new --block 512 --zones 0 --size 8 --capacity 6 --open 2 --active 3",
+        "0 zones: the number of zones is not from 1 to 4096\ngeometry refused 2\n",
+    ),
+    Act::Refuses(
         "zscli format new --block 512 --zones 4097 --size 8 --capacity 6 --open 2 --active 3",
         "4097 zones: the number of zones is not from 1 to 4096\ngeometry refused 2\n",
     ),
@@ -32,6 +41,7 @@ const GEOMETRIES: &[Act] = &[
         "16 zones of 8192 writable blocks of 4096 bytes: the zones' capacity is more than 268435456 bytes in all\n\
          geometry refused 6\n",
     ),
+    Act::HasNo("new"),
 ];
 
 /// What a header says of zones: 4 of 8 blocks, of which 6 can be written, of 512 bytes.
@@ -44,6 +54,11 @@ const LARGE_BLOCKS: &[u8] = b"\0\x20\0\0\x04\0\0\0\x08\0\0\0\x06\0\0\0\x02\0\0\0
 const MANY_ZONES: &[u8] = b"\0\x02\0\0\x01\x04\0\0\x08\0\0\0\x06\0\0\0\x02\0\0\0\x03\0\0\0";
 
 const IMAGES: &[Act] = &[
+    Act::Put("g1", &[]),
+    Act::Refuses(
+        "zscli exec g1 missing",
+        "g1: the image ends before its last block\nimage refused 10\n",
+    ),
     Act::Put("g1", &[(MAGIC, 1), (NUMBERS, 1), (EMPTY_ZONE, 3)]),
     Act::Refuses(
         "zscli zones g1",
@@ -124,6 +139,34 @@ const IMAGES: &[Act] = &[
         &[
             (MAGIC, 1),
             (NUMBERS, 1),
+            (EMPTY_ZONE, 1),
+            (b"\x02\0\0\0\x00\0\0\0", 1),
+            (EMPTY_ZONE, 2),
+        ],
+    ),
+    Act::Refuses(
+        "zscli zones g1",
+        "g1: row of zone 1: Implicitly Opened, with 0 of 6 blocks written\nimage refused 13\n",
+    ),
+    Act::Put(
+        "g1",
+        &[
+            (MAGIC, 1),
+            (NUMBERS, 1),
+            (EMPTY_ZONE, 1),
+            (b"\x02\0\0\0\x06\0\0\0", 1),
+            (EMPTY_ZONE, 2),
+        ],
+    ),
+    Act::Refuses(
+        "zscli zones g1",
+        "g1: row of zone 1: Implicitly Opened, with 6 of 6 blocks written\nimage refused 13\n",
+    ),
+    Act::Put(
+        "g1",
+        &[
+            (MAGIC, 1),
+            (NUMBERS, 1),
             (EMPTY_ZONE, 2),
             (b"\x05\0\0\0\0\0\0\0", 2),
         ],
@@ -166,7 +209,7 @@ const IMAGES: &[Act] = &[
     ),
     Act::Refuses(
         "zscli zones g1",
-        "g1: more zones are open or active than may be\nimage refused 14\n",
+        "g1: 3 open and 3 active zones, of at most 2 and 3\nimage refused 14\n",
     ),
     Act::Put(
         "g1",

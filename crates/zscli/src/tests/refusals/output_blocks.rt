@@ -18,7 +18,7 @@ const BLOCKS: &[Act] = &[
         "b, byte 512: ffh; a frame that ends in its block, or zeros to its end, are expected\n\
          frame refused 512\n",
     ),
-    Act::Put("b", &[(b"\0", 511), (b"\x01", 1)]),
+    Act::Put("b", &[(b"\x03\0abc", 1), (b"\0", 506), (b"\x01", 1)]),
     Act::Refuses(
         "zscli unpack b --block 512",
         "b, byte 511: 01h; a frame that ends in its block, or zeros to its end, are expected\n\

@@ -10,9 +10,9 @@ returns-in-StoreImmediate-clause-answer c program slot = c.perform_store.ensures
 pub returns-in-Arithmetic-clause-answer : goal.returns-in-Arithmetic-clause-answer
 returns-in-Arithmetic-clause-answer c program slot = c.perform_arithmetic.ensures.answer program c.args.limit slot c.args.group.now
 
-pub returns-then-helper-eq1-clause-answer : goal.returns-then-helper-eq1-clause-answer
-returns-then-helper-eq1-clause-answer c program slot =
-    rw (c.in-Call.is, eq-eqb _ _ c.if-helper-eq1.true) (c.emit.ensures.answer slot)
+pub returns-then-helper-eq-EMIT-clause-answer : goal.returns-then-helper-eq-EMIT-clause-answer
+returns-then-helper-eq-EMIT-clause-answer c program slot =
+    rw (c.in-Call.is, eq-eqb _ _ c.if-helper-eq-EMIT.true) (c.emit.ensures.answer slot)
 
-pub returns-then-helper-eq1-clause-state : goal.returns-then-helper-eq1-clause-state
-returns-then-helper-eq1-clause-state c slot = rw c.in-Call.is (c.emit.ensures.state slot)
+pub returns-then-helper-eq-EMIT-clause-state : goal.returns-then-helper-eq-EMIT-clause-state
+returns-then-helper-eq-EMIT-clause-state c slot = rw c.in-Call.is (c.emit.ensures.state slot)
