@@ -51,7 +51,12 @@ pub(crate) fn dwords<'a>(
     option: &'a str,
 ) -> Result<DwordCount, Failure<'a>> {
     let dwords = number_in(matches, option, 1, MOST_DWORDS)?;
-    Ok(DwordCount::from_zero_based((dwords - 1) as u32).unwrap())
+    DwordCount::from_zero_based((dwords - 1) as u32).ok_or(not_in_range(
+        matches,
+        option,
+        1,
+        MOST_DWORDS,
+    ))
 }
 
 /// A slot for a program.
@@ -60,7 +65,7 @@ pub(crate) fn slot<'a>(
     option: &'a str,
 ) -> Result<ProgramSlot, Failure<'a>> {
     let slot = number_in(matches, option, 0, LAST_SLOT)?;
-    Ok(ProgramSlot::new(slot as u32).unwrap())
+    ProgramSlot::new(slot as u32).ok_or(not_in_range(matches, option, 0, LAST_SLOT))
 }
 
 /// So many blocks, where a command can have as many.
@@ -83,15 +88,26 @@ fn number_in<'a>(
     ensures low { IfOk result (λ number. least ≤ number) }
     ensures high { IfOk result (λ number. number ≤ most) }
 {
-    let word = required(matches, option);
-    match spelled(word) {
-        Some(number) if least <= number && number <= most => Ok(number),
-        _ => Err(Failure::NotInRange {
-            option,
-            word,
-            least,
-            most,
-        }),
+    if let Some(number) = spelled(required(matches, option)) {
+        if least <= number && number <= most {
+            return Ok(number);
+        }
+    }
+    Err(not_in_range(matches, option, least, most))
+}
+
+/// The failure of an option whose word spells no number from `least` to `most`.
+fn not_in_range<'a>(
+    matches: &ArgMatches<'a>,
+    option: &'a str,
+    least: u64,
+    most: u64,
+) -> Failure<'a> {
+    Failure::NotInRange {
+        option,
+        word: required(matches, option),
+        least,
+        most,
     }
 }
 
