@@ -121,37 +121,39 @@ tells_events (Some bytes) file events is tells = ap events_in (sym is) ∙ tells
 
 -- an image was loaded, and then a command file was read, of the files that the command line names; the contents of files
 -- stayed the same, and no file was made
-module _ (contents then : List ℕ → Option (List ℕ)) (path named commands named_commands file : List ℕ) (image : ZonedNamespace) (events : List Event)
+module _ (contents then : List ℕ → Option (List ℕ)) (path named commands named_commands file slice : List ℕ) (image : ZonedNamespace) (events : List Event)
     (before loaded after : Option (List Made)) (same : then ≡ contents) (is_named : path ≡ named) (are_named : commands ≡ named_commands) (kept : loaded ≡ before)
-    (file_is : IfSome (then commands) (λ bytes. file ≡ bytes)) (events_are : events_in file ≡ Ok (map told_of events)) where
+    (file_is : IfSome (then commands) (λ bytes. file ≡ bytes)) (slice_is : slice ≡ file) (events_are : events_in slice ≡ Ok (map told_of events)) where
   in_both : IfSome (contents path) (λ bytes. namespace_in bytes ≡ Ok image) → AreInFiles contents named named_commands image events
   in_both image_is = record {
     image_is = subst (λ (p : List ℕ). IfSome (contents p) (λ bytes. namespace_in bytes ≡ Ok image)) is_named image_is;
     events_are = tells_events (contents named_commands) file events
         (subst (λ (c : List ℕ). IfSome (contents c) (λ bytes. file ≡ bytes)) are_named
-        (subst (λ (c : List ℕ → Option (List ℕ)). IfSome (c commands) (λ bytes. file ≡ bytes)) same file_is)) events_are;
+        (subst (λ (c : List ℕ → Option (List ℕ)). IfSome (c commands) (λ bytes. file ≡ bytes)) same file_is)) (ap events_in (sym slice_is) ∙ events_are);
   }
 
   -- what `run` does of them is what the command does of the files
-  pub executes : {T E : Type 0} (reads makes : Type 0) (printed printed_after : Option (List ℕ)) (result : Result T E)
+  pub executes : {T E : Type 0} (reads makes : Type 0) (given : List Event) (printed printed_after : Option (List ℕ)) (result : Result T E)
       → (reads → IfSome (contents path) (λ bytes. namespace_in bytes ≡ Ok image))
-      → OnOk result (makes → SavesAll events image path loaded after printed printed_after)
+      → OnOk result (makes → SavesAll given image path loaded after printed printed_after) → given ≡ events
       → OnOk result (reads → makes → Executes contents named named_commands before after printed printed_after)
-  executes reads makes printed printed_after (Err error) image_is saves = tt
-  executes reads makes printed printed_after (Ok done) image_is saves = λ read make. record {
+  executes reads makes given printed printed_after (Err error) image_is saves are = tt
+  executes reads makes given printed printed_after (Ok done) image_is saves are = λ read make. record {
     image = image;
     events = events;
     in_files = in_both (image_is read);
     saves = subst (λ (p : List ℕ). SavesAll events image p before after printed printed_after) is_named
-        (subst (λ (made : Option (List Made)). SavesAll events image path made after printed printed_after) kept (saves make));
+        (subst (λ (made : Option (List Made)). SavesAll events image path made after printed printed_after) kept
+        (subst (λ (list : List Event). SavesAll list image path loaded after printed printed_after) are (saves make)));
   }
 
-  pub executes_first : IfSome (contents path) (λ bytes. namespace_in bytes ≡ Ok image) → SavesFirst events image path loaded after
-      → ExecutesFirst contents named named_commands before after
-  executes_first image_is saves = record {
+  pub executes_first : (given : List Event) → IfSome (contents path) (λ bytes. namespace_in bytes ≡ Ok image)
+      → SavesFirst given image path loaded after → given ≡ events → ExecutesFirst contents named named_commands before after
+  executes_first given image_is saves are = record {
     image = image;
     events = events;
     in_files = in_both image_is;
     saves = subst (λ (p : List ℕ). SavesFirst events image p before after) is_named
-        (subst (λ (made : Option (List Made)). SavesFirst events image path made after) kept saves);
+        (subst (λ (made : Option (List Made)). SavesFirst events image path made after) kept
+        (subst (λ (list : List Event). SavesFirst list image path loaded after) are saves));
   }

@@ -4,6 +4,6 @@ use Rattle.command_programs.proofs.asm.asm.Goals as goal
 
 pub returns-clause-program : goal.returns-clause-program
 returns-clause-program g c =
-    makes_program (g.F.Files.contents c.args.files.now) c.required-source.result.now c.required.result.now c.in_ok-text.text.items _ _
+    makes_program (g.F.Files.contents c.args.files.now) c.required-source.result.now c.required.result.now c.in_ok-text.text.items c.as_slice.result.now _ _
     (g.F.Files.made c.args.files.now) (g.F.Files.made c.read.new.files) (g.F.Files.made c.make.new.files)
-    c.required-source.ensures c.required.ensures (search rules) c.make.result c.in_ok-text.ensures.bytes c.make.ensures.program
+    c.required-source.ensures c.required.ensures c.as_slice.ensures.value (search rules) c.make.result c.in_ok-text.ensures.bytes c.make.ensures.program
