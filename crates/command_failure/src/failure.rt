@@ -20,7 +20,9 @@ use std::io::{self, ErrorKind, Write};
 /// line for programs.
 #[derive(Debug, Drop)]
 pub enum Failure<'a> {
+    /// The words of the command line are no command's.
     CommandLine(clap::Error),
+    /// A word of the command line isn't text.
     NotText,
     /// The word of an option is no number from the least to the most.
     NotInRange {
@@ -29,10 +31,13 @@ pub enum Failure<'a> {
         least: u64,
         most: u64,
     },
+    /// The file with this name can't be read.
     CannotRead(&'a str),
+    /// The file with this name can't be written.
     CannotWrite(&'a str),
     /// Standard output failed.
     CannotPrint,
+    /// Memory is wanting.
     NoMemory,
     /// A line of a command file that has no event.
     LineRefused {
@@ -69,6 +74,7 @@ pub enum Failure<'a> {
     },
     /// A file isn't what a command can move.
     DataRefused(&'a str, DataFault),
+    /// More may be emitted for a block than the block's bytes.
     EmitExceedsBlock,
     /// What a verifier says of a program stands on standard output alone.
     NotAccepted,
@@ -88,7 +94,7 @@ impl<'a> Failure<'a> {
     /// That of a file with this name that is no command file.
     pub fn of_commands(path: &'a str, error: ParseError) -> Failure<'a>
         ensures told { result ≡ told_of_commands path.entry error }
-        ensures elsewhere { result ≢ Failure.CannotPrint }
+        ensures not_printing { result ≢ Failure.CannotPrint }
     {
         match error {
             ParseError::Line { number, fault } => Failure::LineRefused {

@@ -1,8 +1,8 @@
 //! The words that follow a command's name.
 
-ghost use Rattle.std.specs.Prelude.{◌≡◌, ◌≤◌, IfErr, IfOk, None, OnErr, OnOk};
+ghost use Rattle.std.specs.Prelude.{◌≡◌, ◌≤◌, IfErr, IfOk, None, OnErr, OnOk, Some};
 ghost use Rattle.program_interface.specs.BlockSize.{block_size as size_of_bytes};
-ghost use Rattle.command_files.specs.Arguments.{value_of};
+ghost use Rattle.command_files.specs.Arguments.{number_of, value_of};
 
 use clap::error::ErrorKind;
 use clap::{Arg, ArgAction, ArgMatches, Command};
@@ -27,8 +27,12 @@ pub fn block_option<'a>(alloc: Global, name: &'a str) -> Arg<'a> {
         .help("Bytes of a block: a power of 2 from 512 to 16384")
 }
 
-/// A command that takes this argument too. Want of memory passes through, so that what adds arguments
-/// one after another has one way out.
+/// A command that takes this argument too.
+///
+/// # Errors
+///
+/// Want of memory, also that of the command: it passes through, so that what adds arguments one after another has one
+/// way out.
 pub fn and_argument<'a>(
     command: Result<Command<'a>, AllocError>,
     argument: Arg<'a>,
@@ -36,7 +40,11 @@ pub fn and_argument<'a>(
     command?.arg(argument)
 }
 
-/// A command that has this one below it too. Want of memory passes through, as with [`and_argument`].
+/// A command that has this one below it too.
+///
+/// # Errors
+///
+/// Want of memory, which passes through as with [`and_argument`].
 pub fn and_command<'a>(
     command: Result<Command<'a>, AllocError>,
     below: Result<Command<'a>, AllocError>,
@@ -67,7 +75,9 @@ pub fn required<'a>(matches: &ArgMatches<'a>, id: &str) -> &'a str
 /// # Errors
 ///
 /// [`Failure::NotInRange`] where the word spells no number of 32 bits.
-pub fn number<'a>(matches: &ArgMatches<'a>, option: &'a str) -> Result<u32, Failure<'a>> {
+pub fn number<'a>(matches: &ArgMatches<'a>, option: &'a str) -> Result<u32, Failure<'a>>
+    ensures { IfOk result (λ number. number_of matches.now option.now ≡ Some number) }
+{
     let word = required(matches, option);
     decimal(word.as_bytes()).ok_or(Failure::NotInRange {
         option,

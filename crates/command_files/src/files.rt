@@ -34,17 +34,29 @@ pub trait Files {
     ghost contents: { Self → List ℕ → Option (List ℕ) } = { λ _ _. None };
 
     /// All bytes of a file.
+    ///
+    /// # Errors
+    ///
+    /// It can't be read, or there is no memory for its bytes.
     fn read(&mut self, path: &str) -> Result<Vec<u8>, FileError>
         ensures made { made self.new ≡ made self.old }
         ensures contents { contents self.new ≡ contents self.old }
         ensures bytes { IfOk result (λ file. IfSome (contents self.old path.now) (λ bytes. file.items ≡ bytes)) };
 
     /// Makes a file of these bytes, in place of the one with this name.
+    ///
+    /// # Errors
+    ///
+    /// It can't be written, and isn't made then.
     fn write(&mut self, path: &str, bytes: &[u8]) -> Result<(), FileError>
         ensures ok { OnOk result (made self.new ≡ then_made (made self.old) path.now bytes.now) }
         ensures err { OnErr result (made self.new ≡ made self.old) };
 
     /// A file, from its first byte on.
+    ///
+    /// # Errors
+    ///
+    /// It can't be opened, or memory is wanting.
     fn open(&mut self, path: &str) -> Result<Self::Reader, FileError>
         ensures made { made self.new ≡ made self.old }
         ensures contents { contents self.new ≡ contents self.old }
@@ -53,12 +65,20 @@ pub trait Files {
 
     /// A file of no bytes yet. It has its name once it is finished: the file with this name is as
     /// it was until then.
+    ///
+    /// # Errors
+    ///
+    /// It can't be begun, or memory is wanting.
     fn begin(&mut self, path: &str) -> Result<Self::Writer, FileError>
         ensures made { made self.new ≡ made self.old }
         ensures healthy { IfOk result (λ file. Self.Writer.failures file ≡ 0) }
         ensures empty { Self.Writer.tells → IfOk result (λ file. Self.Writer.taken file ≡ []) };
 
     /// Gives a file that was begun its name, in place of the file with this name.
+    ///
+    /// # Errors
+    ///
+    /// It can't be finished. It is forgotten then, and the file with this name is as it was.
     fn finish(&mut self, path: &str, file: Self::Writer) -> Result<(), FileError>
         ensures ok { OnOk result (made self.new ≡ then_made (made self.old) path.now (Self.Writer.taken file)) }
         ensures err { OnErr result (made self.new ≡ made self.old) };

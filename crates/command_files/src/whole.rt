@@ -7,11 +7,15 @@ use crate::files::{FileError, Files};
 use command_failure::Failure;
 
 /// All bytes of a file.
+///
+/// # Errors
+///
+/// [`Failure::CannotRead`] with its name, or [`Failure::NoMemory`].
 pub fn read<'a, F: Files>(path: &'a str, files: &mut F) -> Result<Vec<u8>, Failure<'a>>
     ensures made { F.made files.new ≡ F.made files.old }
     ensures contents { F.contents files.new ≡ F.contents files.old }
     ensures bytes { IfOk result (λ file. IfSome (F.contents files.old path.now) (λ bytes. file.items ≡ bytes)) }
-    ensures elsewhere { result ≢ Err Failure.CannotPrint }
+    ensures not_printing { result ≢ Err Failure.CannotPrint }
 {
     match files.read(path) {
         Ok(bytes) => Ok(bytes),
@@ -20,6 +24,10 @@ pub fn read<'a, F: Files>(path: &'a str, files: &mut F) -> Result<Vec<u8>, Failu
 }
 
 /// Makes a file of these bytes, in place of the one with this name.
+///
+/// # Errors
+///
+/// [`Failure::CannotWrite`] with its name, or [`Failure::NoMemory`].
 pub fn write<'a, F: Files>(path: &'a str, bytes: &[u8], files: &mut F) -> Result<(), Failure<'a>>
     ensures made { OnOk result (F.made files.new ≡ then_made (F.made files.old) path.now bytes.now) }
     ensures kept { OnErr result (F.made files.new ≡ F.made files.old) }
@@ -34,7 +42,7 @@ pub fn write<'a, F: Files>(path: &'a str, bytes: &[u8], files: &mut F) -> Result
 pub fn cannot_read<'a>(path: &'a str, error: FileError) -> Failure<'a>
     ensures failed { error ≡ FileError.Failed → result ≡ Failure.CannotRead path.entry }
     ensures memory { error ≡ FileError.OutOfMemory → result ≡ Failure.NoMemory }
-    ensures elsewhere { result ≢ Failure.CannotPrint }
+    ensures not_printing { result ≢ Failure.CannotPrint }
 {
     match error {
         FileError::Failed => Failure::CannotRead(path),
@@ -46,7 +54,7 @@ pub fn cannot_read<'a>(path: &'a str, error: FileError) -> Failure<'a>
 pub fn cannot_write<'a>(path: &'a str, error: FileError) -> Failure<'a>
     ensures failed { error ≡ FileError.Failed → result ≡ Failure.CannotWrite path.entry }
     ensures memory { error ≡ FileError.OutOfMemory → result ≡ Failure.NoMemory }
-    ensures elsewhere { result ≢ Failure.CannotPrint }
+    ensures not_printing { result ≢ Failure.CannotPrint }
 {
     match error {
         FileError::Failed => Failure::CannotWrite(path),

@@ -1,19 +1,31 @@
 -- What is known of the images that commands make.
-use Rattle.std.proofs.Common.{◌≡◌, ℕ, List, Option, Result, Ok, Err, OnOk, IfSome, ap, subst, ◌∙◌}
-use Rattle.image_store.specs.Geometry.{Shape, tested}
+use Rattle.std.proofs.Common.{◌≡◌, ℕ, List, Option, Some, None, Result, Ok, Err, OnOk, IfSome, ap, subst, ◌∙◌}
+use Rattle.clap.specs.declared.parser.matches.ArgMatches.{ArgMatches}
+use Rattle.image_store.specs.Geometry.{Shape, shape_checks, tested}
 use Rattle.image_store.specs.Namespace.{ZonedNamespace, all_empty}
 use Rattle.image_store.specs.Reading.{namespace_in}
 use Rattle.image_store.specs.Text.{text}
+use Rattle.image_store.specs.declared.geometry.GeometryFault.{GeometryFault}
+use Rattle.zone_state.specs.Checks.{first_failed, unless_failed}
 use Rattle.command_files.specs.Made.{Made, then_made}
-use Rattle.command_images.specs.Images.{MakesEmpty, MakesAnew}
+use Rattle.command_images.specs.Images.{IsAskedFor, MakesEmpty, MakesAnew}
+
+passed : (failed : Option GeometryFault) (s g : Shape) → Ok g ≡ unless_failed failed s → s ≡ g
+passed None s g is = cc
+passed (Some fault) s g is = cc
+
+-- the shape that tests give is the one that they are made of
+pub same_shape : (s g : Shape) → Ok g ≡ tested s → s ≡ g
+same_shape s g is = passed (first_failed (shape_checks s)) s g is
 
 -- of an image that has nothing written, a file was made
-pub makes_empty : {T E : Type 0} (tells : Type 0) (result : Result T E) (image : ZonedNamespace) (shape : Shape) (path wanted : List ℕ) (before after : Option (List Made))
-    → tested shape ≡ Ok shape → image ≡ all_empty shape → path ≡ wanted
-    → OnOk result (tells → after ≡ then_made before path (text image)) → OnOk result (tells → MakesEmpty wanted before after)
-makes_empty tells (Err error) image shape path wanted before after passes empty same saved = tt
-makes_empty tells (Ok done) image shape path wanted before after passes empty same saved = λ told. record {
+pub makes_empty : {T E : Type 0} (tells : Type 0) (result : Result T E) (image : ZonedNamespace) (shape : Shape) (matches : ArgMatches) (path wanted : List ℕ) (before after : Option (List Made))
+    → IsAskedFor matches shape → tested shape ≡ Ok shape → image ≡ all_empty shape → path ≡ wanted
+    → OnOk result (tells → after ≡ then_made before path (text image)) → OnOk result (tells → MakesEmpty matches wanted before after)
+makes_empty tells (Err error) image shape matches path wanted before after asked passes empty same saved = tt
+makes_empty tells (Ok done) image shape matches path wanted before after asked passes empty same saved = λ told. record {
   shape = shape;
+  asked = asked;
   passes = passes;
   made = saved told ∙ ap (λ (p : List ℕ). then_made before p (text image)) same ∙ ap (λ (ns : ZonedNamespace). then_made before wanted (text ns)) empty;
 }

@@ -4,7 +4,7 @@ ghost use Rattle.std.specs.Prelude.{◌≡◌, codes, IfOk, OnOk, OnErr};
 ghost use Rattle.command_files.specs.Arguments.{value_of};
 ghost use Rattle.command_files.specs.Made.{MakesOne};
 ghost use Rattle.image_store.specs.Geometry.{shape_of, tested};
-ghost use Rattle.command_images.specs.Images.{MakesEmpty};
+ghost use Rattle.command_images.specs.Images.{IsAskedFor, MakesEmpty};
 ghost use Rattle.command_images.specs.UserTold.{told_of_geometry};
 
 use crate::image_file;
@@ -96,7 +96,7 @@ pub fn format<'a, F: Files>(
     matches: &ArgMatches<'a>,
     files: &mut F,
 ) -> Result<(), Failure<'a>>
-    ensures empty { OnOk result (F.Writer.tells → MakesEmpty (value_of matches.now (codes "IMAGE")) (F.made files.old) (F.made files.new)) }
+    ensures empty { OnOk result (F.Writer.tells → MakesEmpty matches.now (value_of matches.now (codes "IMAGE")) (F.made files.old) (F.made files.new)) }
     ensures made { OnOk result (MakesOne (F.made files.old) (F.made files.new)) }
     ensures kept { OnErr result (F.made files.new ≡ F.made files.old) }
 {
@@ -107,7 +107,8 @@ pub fn format<'a, F: Files>(
 
 /// The geometry that the options spell.
 fn geometry<'a>(matches: &ArgMatches<'a>) -> Result<Geometry, Failure<'a>>
-    ensures { IfOk result (λ shape. tested shape ≡ Ok shape) }
+    ensures asked { IfOk result (λ shape. IsAskedFor matches.now shape) }
+    ensures passes { IfOk result (λ shape. tested shape ≡ Ok shape) }
 {
     let block = number(matches, BLOCK)?;
     let zones = number(matches, ZONES)?;
@@ -117,9 +118,10 @@ fn geometry<'a>(matches: &ArgMatches<'a>) -> Result<Geometry, Failure<'a>>
         open_limit: number(matches, OPEN)?,
         active_limit: number(matches, ACTIVE)?,
     };
-    Geometry::new(block, zones, size, capacity, limits).map_err(|fault| refused(
-        fault, block, zones, size, capacity, limits,
-    ))
+    match Geometry::new(block, zones, size, capacity, limits) {
+        Ok(geometry) => Ok(geometry),
+        Err(fault) => Err(refused(fault, block, zones, size, capacity, limits)),
+    }
 }
 
 /// What the user is told of numbers that are no geometry.

@@ -1,9 +1,13 @@
--- The listing of one more slot, with slots.
+-- The listing of one more slot, with slots and without.
 use Rattle.std.proofs.Common.{◌≡◌, ℕ, zero, suc, ◌+◌, ◌<◌, List, [], ◌∷◌, ◌++◌, length, take, Option, Some, None, refl, sym, ap, ◌∙◌, arith, add-zero, add-one}
 use Rattle.std.proofs.lemmas.List.{append-nil, append_assoc}
 use Rattle.instruction_set.specs.declared.insn.Insn.{Insn}
 use Rattle.instruction_set.specs.Program.{instruction_at}
+use Rattle.ebpf_asm.specs.declared.listing.Slots.{Slots}
+use Rattle.ebpf_asm.specs.declared.listing.Slots.TheVariants.{Without, With}
 use Rattle.ebpf_asm.specs.Listing.{line_with_slot, lines_from, listing_with_slots}
+use Rattle.ebpf_asm.specs.steps.Listed.{listed, listed_line}
+use Rattle.ebpf_asm.proofs.Listings.{listing-instruction, listing-no_instruction}
 
 line_in : ℕ → Option Insn → List ℕ
 line_in slot None = []
@@ -34,15 +38,27 @@ lines-more slots i lt =
     ap (λ n. listing_with_slots (take n slots)) (add-one i) ∙ lines-suc 0 slots i lt
     ∙ ap (λ n. listing_with_slots (take i slots) ++ line_in n (instruction_at slots i)) first
 
-pub lines-instruction : (slots : List (Option Insn)) (i : ℕ) (insn : Insn) → i < length slots → Some insn ≡ instruction_at slots i
+lines-instruction : (slots : List (Option Insn)) (i : ℕ) (insn : Insn) → i < length slots → Some insn ≡ instruction_at slots i
     → listing_with_slots (take (i + 1) slots) ≡ listing_with_slots (take i slots) ++ line_with_slot i insn
 unfolding line_in
 lines-instruction slots i insn lt e =
     lines-more slots i lt ∙ ap (λ o. listing_with_slots (take i slots) ++ line_in i o) (sym e)
 
-pub lines-no_instruction : (slots : List (Option Insn)) (i : ℕ) → i < length slots → None ≡ instruction_at slots i
+lines-no_instruction : (slots : List (Option Insn)) (i : ℕ) → i < length slots → None ≡ instruction_at slots i
     → listing_with_slots (take (i + 1) slots) ≡ listing_with_slots (take i slots)
 unfolding line_in
 lines-no_instruction slots i lt e =
     lines-more slots i lt ∙ ap (λ o. listing_with_slots (take i slots) ++ line_in i o) (sym e)
     ∙ append-nil (listing_with_slots (take i slots))
+
+-- ---- both listings
+
+pub listed-instruction : (how : Slots) (slots : List (Option Insn)) (i : ℕ) (insn : Insn) → i < length slots → Some insn ≡ instruction_at slots i
+    → listed how (take (i + 1) slots) ≡ listed how (take i slots) ++ listed_line how i insn
+listed-instruction Without slots i insn lt e = listing-instruction slots i insn lt e
+listed-instruction With slots i insn lt e = lines-instruction slots i insn lt e
+
+pub listed-no_instruction : (how : Slots) (slots : List (Option Insn)) (i : ℕ) → i < length slots → None ≡ instruction_at slots i
+    → listed how (take (i + 1) slots) ≡ listed how (take i slots)
+listed-no_instruction Without slots i lt e = listing-no_instruction slots i lt e
+listed-no_instruction With slots i lt e = lines-no_instruction slots i lt e

@@ -1,5 +1,5 @@
 -- The assembly of a text (profile): labels, faults and bytes.
-use Rattle.std.specs.Prelude.{◌≡◌, ℕ, ℤ, pos, ◌-ℤ◌, ◌+◌, nat_lt, if◌then◌else◌, Bool, List, [], ◌∷◌, ◌++◌, length, map, Option, Some, None, is_some, option_and_then, Result, Ok, Err}
+use Rattle.std.specs.Prelude.{ℕ, ℤ, pos, ◌-ℤ◌, ◌+◌, nat_lt, if◌then◌else◌, Bool, List, [], ◌∷◌, ◌++◌, length, map, Option, Some, None, is_some, option_and_then, Result, Ok, Err}
 use Rattle.std.specs.Map.{lookup}
 use Rattle.std.specs.Str.{bytes_eq}
 use Rattle.std.specs.Str.Lines.{lines}
@@ -114,16 +114,7 @@ assembled_lines all = unless_faulty (first_fault [] all) (bytes_from (label_map 
 abbrev pub assembled : List ℕ → Result (List ℕ) AsmFault
 assembled text = assembled_lines (lines_of text)
 
--- what the assembler answers is what the text gives, unless memory ran out
-abbrev pub FailsAs : {Y : Type 0} → AssembleError → Result Y AsmFault → Type 0
-FailsAs errors.Memory meant = Unit {0}
-FailsAs (errors.Fault fault) meant = meant ≡ Err fault
-
-abbrev pub Gives : {X Y : Type 0} → (X → Y) → Result X AssembleError → Result Y AsmFault → Type 0
-Gives view (Ok x) meant = meant ≡ Ok (view x)
-Gives view (Err error) meant = FailsAs error meant
-
--- an error is this fault, or that memory ran out
-abbrev pub FaultIs : Option AsmFault → AssembleError → Type 0
-FaultIs fault errors.Memory = Unit {0}
-FaultIs fault (errors.Fault told) = fault ≡ Some told
+-- the fault that an error tells; want of memory tells none
+abbrev pub fault_in : AssembleError → Option AsmFault
+fault_in errors.Memory = None
+fault_in (errors.Fault fault) = Some fault

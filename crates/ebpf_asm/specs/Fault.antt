@@ -25,8 +25,3 @@ read_both (Ok a) (Ok b) = Ok (a, b)
 read_both (Ok a) (Err fault) = Err fault
 read_both (Err OutOfRange) (Err fault) = Err fault
 read_both (Err fault) _ = Err fault
-
--- a reading, its value seen as `view` sees it
-abbrev pub seen : {A B E : Type 0} → (A → B) → Result A E → Result B E
-seen view (Ok x) = Ok (view x)
-seen view (Err fault) = Err fault

@@ -3,7 +3,7 @@ use Rattle.std.specs.Prelude.{ℕ, ◌==◌, if◌then◌else◌, List, length, 
 use Rattle.std.specs.List.{list_all}
 use Rattle.std.specs.Char.{is_ascii}
 use Rattle.instruction_set.specs.declared.insn.Insn.{Insn}
-use Rattle.instruction_set.specs.Program.{is_wide}
+use Rattle.instruction_set.specs.Program.{slots_taken}
 use Rattle.ebpf_asm.specs.declared.fault.FaultKind.{FaultKind}
 use Rattle.ebpf_asm.specs.declared.fault.FaultKind.TheVariants.{NotAscii}
 use Rattle.text_lines.specs.Cut.{cut_at, trimmed, uncommented}
@@ -43,7 +43,7 @@ line_of bytes =
     else record { label = None; insn = Err NotAscii; target = None }
 
 abbrev pub slots_of_insn : Result (Option Insn) FaultKind → ℕ
-slots_of_insn (Ok (Some insn)) = if is_wide insn then 2 else 1
+slots_of_insn (Ok (Some insn)) = slots_taken insn
 slots_of_insn (Ok None) = 0
 slots_of_insn (Err kind) = 0
 

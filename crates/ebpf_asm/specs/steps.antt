@@ -2,3 +2,4 @@
 pub mod Labels
 pub mod LineView
 pub mod Number
+pub mod Listed

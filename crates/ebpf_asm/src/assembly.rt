@@ -1,7 +1,8 @@
 //! The assembler: labels in a first pass over the lines, bytes in a second.
 
-ghost use Rattle.std.specs.Prelude.{◌≡◌, ◌≤◌, ◌<◌, ◌+◌, ◌-ℤ◌, ◌^◌, ℕ, pos, List, [], None, IfOk, OnOk, IfErr, option_copied};
-ghost use Rattle.ebpf_asm.specs.Assembly.{assembled, first_fault, label_map, line_fault, jump_by as jumping_by, resolved, bytes_from, slot_count, Gives, FaultIs};
+ghost use Rattle.std.specs.Prelude.{◌≡◌, ◌≤◌, ◌<◌, ◌+◌, ◌-ℤ◌, ◌^◌, ℕ, pos, List, [], None, IfOk, OnOk, IfErr, IfSome, Some, option_copied};
+ghost use Rattle.ebpf_asm.specs.Assembly.{assembled, first_fault, label_map, line_fault, jump_by as jumping_by, resolved, bytes_from, slot_count, fault_in};
+ghost use Rattle.program_interface.specs.Gives.{Gives};
 ghost use Rattle.ebpf_asm.specs.steps.Labels.{label_in};
 ghost use Rattle.ebpf_asm.specs.steps.LineView.{line_views};
 
@@ -23,7 +24,7 @@ use std::collections::BTreeMap;
 /// That of the lowest line that can't be read, has the label of an earlier line, or ends behind slot 4095; else that of the
 /// lowest line that jumps to an unknown label or too far. Or want of memory.
 pub fn assemble(alloc: Global, text: &[u8]) -> Result<Vec<u8>, AssembleError>
-    ensures { Gives (λ bytes. bytes.items) result (assembled text.now) }
+    ensures { Gives fault_in (λ bytes. bytes.items) result (assembled text.now) }
 {
     let lines = read_lines(alloc, text)?;
     let labels = labels_of(alloc, &lines)?;
@@ -32,7 +33,7 @@ pub fn assemble(alloc: Global, text: &[u8]) -> Result<Vec<u8>, AssembleError>
 
 /// The first pass: the labels, unless a line has a fault of its own.
 fn labels_of<'a>(alloc: Global, lines: &[Line<'a>]) -> Result<Labels<'a>, AssembleError>
-    ensures fault { IfErr result (FaultIs (first_fault [] (line_views lines.now))) }
+    ensures fault { IfErr result (λ error. IfSome (fault_in error) (λ fault. first_fault [] (line_views lines.now) ≡ Some fault)) }
     ensures none { OnOk result (first_fault [] (line_views lines.now) ≡ None) }
     ensures labels { IfOk result (λ labels. (name : List ℕ) → label_in labels name ≡ label_map (line_views lines.now) name) }
     ensures most { OnOk result (slot_count (line_views lines.now) ≤ MOST_SLOTS) }
@@ -89,7 +90,7 @@ fn bytes_of(
     labels: &Labels<'_>,
 ) -> Result<Vec<u8>, AssembleError>
     requires { slot_count (line_views lines.now) ≤ MOST_SLOTS }
-    ensures { Gives (λ bytes. bytes.items) result (bytes_from (label_in labels.now) 1 0 (line_views lines.now)) }
+    ensures { Gives fault_in (λ bytes. bytes.items) result (bytes_from (label_in labels.now) 1 0 (line_views lines.now)) }
 {
     let mut bytes = Vec::new(alloc);
     let mut slot = 0;

@@ -3,26 +3,35 @@
 ghost use Rattle.std.specs.Prelude.{◌≡◌};
 ghost use Rattle.ebpf_asm.specs.declared.fault.AssembleError.TheVariants.{Memory};
 
+use program_interface::MOST_SLOTS;
 use std::alloc::{AllocError, AllocFailed};
 use thiserror::Error;
 
 /// Why a line can't be assembled.
 #[derive(Clone, Copy, Debug, PartialEq, Eq, Error)]
 pub enum FaultKind {
+    /// Its first word, or that behind its label, is no mnemonic.
     #[error("a mnemonic is expected as the first word, or behind the label")]
     UnknownMnemonic = 1,
+    /// Its operands aren't those of its mnemonic.
     #[error("the mnemonic takes other operands")]
     Operand = 2,
+    /// A number doesn't fit its field.
     #[error("a number is too small or too great for its field")]
     OutOfRange = 3,
+    /// It jumps to a label that no line has.
     #[error("no line has the label that is jumped to")]
     UnknownLabel = 4,
+    /// An earlier line has its label.
     #[error("an earlier line has the same label")]
     LabelTwice = 5,
+    /// It jumps to a label farther away than its field can say (RFC 9669, 4.3).
     #[error("the label that is jumped to is too far away")]
     LabelTooFar = 6,
-    #[error("the instruction ends behind slot 4095, the last that a program can have")]
+    /// Its instruction ends behind the last slot of a program (profile).
+    #[error("the instruction ends behind slot {last}, the last that a program can have", last = MOST_SLOTS - 1)]
     TooLong = 7,
+    /// A byte of it isn't ASCII.
     #[error("only ASCII text is expected")]
     NotAscii = 8,
 }
@@ -42,15 +51,19 @@ impl FaultKind {
 #[derive(Clone, Copy, Debug, PartialEq, Eq, Error)]
 #[error("line {line}: {kind}")]
 pub struct AsmFault {
+    /// The line's number.
     pub line: usize,
+    /// What is wrong with it.
     pub kind: FaultKind,
 }
 
 /// Why a text gave no bytes.
 #[derive(Debug, Drop, Error)]
 pub enum AssembleError {
-    #[error("out of memory")]
+    /// Memory ran out.
+    #[error("no memory")]
     Memory,
+    /// A line can't be assembled.
     #[error(transparent)]
     Fault(AsmFault),
 }

@@ -14,6 +14,7 @@ use text_lines::{cut, is_all_ascii, trim, without_comment};
 /// What a line has.
 #[derive(Clone, Copy, Debug, PartialEq, Eq)]
 pub struct Line<'a> {
+    /// The label that it begins with.
     pub label: Option<&'a [u8]>,
     /// Its instruction, or why it has none.
     pub insn: Result<Option<Insn>, FaultKind>,
@@ -79,8 +80,7 @@ pub(crate) fn slots_of(insn: &Result<Option<Insn>, FaultKind>) -> usize
     ensures { result ≡ slots_of_insn insn.now }
 {
     match insn {
-        Ok(Some(Insn::LoadImmediate { .. })) => 2,
-        Ok(Some(_)) => 1,
+        Ok(Some(insn)) => insn.slots(),
         Ok(None) | Err(_) => 0,
     }
 }

@@ -3,7 +3,8 @@
 ghost use Rattle.std.specs.Prelude.{◌≡◌, ◌++◌, ◌∷◌, [], IfOk, OnOk, OnErr, take, drop, slice_get, option_map, option_to_list, codes};
 ghost use Rattle.std.specs.String.{string_bytes};
 ghost use Rattle.std.specs.Fmt.{signed_decimal};
-ghost use Rattle.ebpf_asm.specs.Listing.{register_text, signed_text, memory_text, wide_text, source_text, mnemonic_of, operand_text, operand_texts, operands_text, text_behind, insn_text, line_text, slot_text, line_with_slot, listing, listing_with_slots};
+ghost use Rattle.ebpf_asm.specs.Listing.{register_text, signed_text, memory_text, wide_text, source_text, mnemonic_of, operand_text, operand_texts, operands_text, text_behind, insn_text, line_text, slot_text, listing, listing_with_slots};
+ghost use Rattle.ebpf_asm.specs.steps.Listed.{listed, listed_line};
 
 use crate::mnemonic::Mnemonic;
 use instruction_set::{Insn, Program, Register, Source};
@@ -22,28 +23,43 @@ enum Operand {
     Distance(i32),
 }
 
+/// Does the slot of each instruction stand before it in a listing?
+#[derive(Clone, Copy)]
+enum Slots {
+    Without,
+    With,
+}
+
 /// Adds the listing of a program at the end of a text: each instruction on a line, its mnemonic, a
 /// space, and its operands with `, ` between them. Immediates are signed decimal numbers, offsets
 /// and distances have their sign always, a wide value is `0x` and 16 digits, and there are no
-/// labels. Where memory runs out, the text is as before.
+/// labels.
+///
+/// # Errors
+///
+/// Want of memory. The text is as before then.
 pub fn disassemble(program: &Program, out: &mut String) -> Result<(), AllocError>
     ensures ok { OnOk result (string_bytes out.new ≡ string_bytes out.old ++ listing program.now) }
     ensures err { OnErr result (string_bytes out.new ≡ string_bytes out.old) }
 {
-    let mut text = String::new(*out.allocator());
-    for slot in 0..program.slots() {
-        let Some(insn) = program.at(slot) else {
-            continue;
-        };
-        push_line(&mut text, insn)?;
-    }
-    out.push_str(&text)
+    list(program, Slots::Without, out)
 }
 
 /// As [`disassemble`], with each instruction's slot before it: a decimal number in four columns, and two
 /// spaces. A wide instruction takes two slots, so that the slot behind it is missing.
+///
+/// # Errors
+///
+/// Want of memory. The text is as before then.
 pub fn disassemble_with_slots(program: &Program, out: &mut String) -> Result<(), AllocError>
     ensures ok { OnOk result (string_bytes out.new ≡ string_bytes out.old ++ listing_with_slots program.now) }
+    ensures err { OnErr result (string_bytes out.new ≡ string_bytes out.old) }
+{
+    list(program, Slots::With, out)
+}
+
+fn list(program: &Program, slots: Slots, out: &mut String) -> Result<(), AllocError>
+    ensures ok { OnOk result (string_bytes out.new ≡ string_bytes out.old ++ listed slots program.now) }
     ensures err { OnErr result (string_bytes out.new ≡ string_bytes out.old) }
 {
     let mut text = String::new(*out.allocator());
@@ -51,12 +67,16 @@ pub fn disassemble_with_slots(program: &Program, out: &mut String) -> Result<(),
         let Some(insn) = program.at(slot) else {
             continue;
         };
-        push_line_with_slot(&mut text, slot, insn)?;
+        push_listed(&mut text, slots, slot, insn)?;
     }
     out.push_str(&text)
 }
 
 /// The text of an instruction, as it stands in listings, without a line end.
+///
+/// # Errors
+///
+/// Want of memory.
 pub fn instruction_text(alloc: Global, insn: &Insn) -> Result<String, AllocError>
     ensures { IfOk result (λ text. string_bytes text ≡ insn_text insn.now) }
 {
@@ -72,11 +92,16 @@ fn push_line(out: &mut String, insn: &Insn) -> Result<(), AllocError>
     out.push_str("\n")
 }
 
-fn push_line_with_slot(out: &mut String, slot: usize, insn: &Insn) -> Result<(), AllocError>
-    ensures { OnOk result (string_bytes out.new ≡ string_bytes out.old ++ line_with_slot slot insn.now) }
+fn push_listed(out: &mut String, slots: Slots, slot: usize, insn: &Insn) -> Result<(), AllocError>
+    ensures { OnOk result (string_bytes out.new ≡ string_bytes out.old ++ listed_line slots slot insn.now) }
 {
-    push_slot(out, slot)?;
-    push_line(out, insn)
+    match slots {
+        Slots::Without => push_line(out, insn),
+        Slots::With => {
+            push_slot(out, slot)?;
+            push_line(out, insn)
+        }
+    }
 }
 
 /// A slot in four columns, and two spaces.

@@ -2,7 +2,8 @@
 
 ghost use Rattle.std.specs.Prelude.{◌≡◌, ◌<◌, length, drop, position, slice_index, option_copied, IfSome};
 ghost use Rattle.std.specs.List.{position_or_len, before_first, list_all};
-ghost use Rattle.ebpf_asm.specs.Fault.{read_both, seen};
+ghost use Rattle.std.specs.Result.{result_map_both};
+ghost use Rattle.ebpf_asm.specs.Fault.{read_both};
 ghost use Rattle.ebpf_asm.specs.Operand.{inside_brackets, register_of, source_of, offset_of, memory_of, is_sign_byte, is_label_name, is_label_byte, begins_label, distance_of, label_of, short_of, long_of};
 
 use crate::fault::FaultKind;
@@ -59,7 +60,7 @@ pub(crate) fn memory(text: &[u8]) -> Result<(Register, i16), FaultKind>
 
 /// What stands between brackets.
 fn bracketed(text: &[u8]) -> Result<&[u8], FaultKind>
-    ensures { seen (λ inside. inside.now) result ≡ inside_brackets text.now }
+    ensures { result_map_both (λ inside. inside.now) (λ fault. fault) result ≡ inside_brackets text.now }
 {
     match text {
         [b'[', inside @ .., b']'] => Ok(inside),

@@ -2,7 +2,7 @@
 
 ghost use Rattle.std.specs.Prelude.{◌≡◌, option_copied, None};
 ghost use Rattle.ebpf_asm.specs.declared.mnemonic.Mnemonic.TheVariants as mnemonics;
-ghost use Rattle.ebpf_asm.specs.Fault.{seen};
+ghost use Rattle.std.specs.Result.{result_map_both};
 ghost use Rattle.ebpf_asm.specs.Statement.{operands_of, none_of, one_of, two_of, three_of, statement_with, statement_of};
 
 use crate::fault::FaultKind;
@@ -31,7 +31,7 @@ fn plain<'a>(insn: Insn) -> Statement<'a>
 /// The statement that a text without blanks at its ends is.
 #[tactic(auto, unfolding(crate::specs::Statement::statement_of))]
 pub(crate) fn read(text: &[u8]) -> Result<Statement<'_>, FaultKind>
-    ensures { seen (λ s. (s.insn, option_copied s.label)) result ≡ statement_of text.now }
+    ensures { result_map_both (λ s. (s.insn, option_copied s.label)) (λ fault. fault) result ≡ statement_of text.now }
 {
     let (name, operands) = word(text);
     let mnemonic = Mnemonic::named(name).ok_or(FaultKind::UnknownMnemonic)?;
@@ -39,7 +39,7 @@ pub(crate) fn read(text: &[u8]) -> Result<Statement<'_>, FaultKind>
 }
 
 fn with_operands(mnemonic: Mnemonic, operands: &[u8]) -> Result<Statement<'_>, FaultKind>
-    ensures { seen (λ s. (s.insn, option_copied s.label)) result ≡ statement_with mnemonic (operands_of operands.now) }
+    ensures { result_map_both (λ s. (s.insn, option_copied s.label)) (λ fault. fault) result ≡ statement_with mnemonic (operands_of operands.now) }
 {
     match mnemonic {
         Mnemonic::LoadImmediate => load_immediate(operands),
@@ -61,7 +61,7 @@ fn with_operands(mnemonic: Mnemonic, operands: &[u8]) -> Result<Statement<'_>, F
 
 #[tactic(auto, unfolding(crate::specs::Statement::statement_with))]
 fn load_immediate(operands: &[u8]) -> Result<Statement<'_>, FaultKind>
-    ensures { seen (λ s. (s.insn, option_copied s.label)) result ≡ statement_with mnemonics.LoadImmediate (operands_of operands.now) }
+    ensures { result_map_both (λ s. (s.insn, option_copied s.label)) (λ fault. fault) result ≡ statement_with mnemonics.LoadImmediate (operands_of operands.now) }
 {
     let (dst, value) = two(operands)?;
     let (dst, value) = both(register(dst), wide(value))?;
@@ -70,7 +70,7 @@ fn load_immediate(operands: &[u8]) -> Result<Statement<'_>, FaultKind>
 
 #[tactic(auto, unfolding(crate::specs::Statement::statement_with))]
 fn load(size: Size, operands: &[u8]) -> Result<Statement<'_>, FaultKind>
-    ensures { seen (λ s. (s.insn, option_copied s.label)) result ≡ statement_with (mnemonics.Load size) (operands_of operands.now) }
+    ensures { result_map_both (λ s. (s.insn, option_copied s.label)) (λ fault. fault) result ≡ statement_with (mnemonics.Load size) (operands_of operands.now) }
 {
     let (dst, src) = two(operands)?;
     let (dst, (src, offset)) = both(register(dst), memory(src))?;
@@ -84,7 +84,7 @@ fn load(size: Size, operands: &[u8]) -> Result<Statement<'_>, FaultKind>
 
 #[tactic(auto, unfolding(crate::specs::Statement::statement_with))]
 fn load_signed(size: SignedSize, operands: &[u8]) -> Result<Statement<'_>, FaultKind>
-    ensures { seen (λ s. (s.insn, option_copied s.label)) result ≡ statement_with (mnemonics.LoadSigned size) (operands_of operands.now) }
+    ensures { result_map_both (λ s. (s.insn, option_copied s.label)) (λ fault. fault) result ≡ statement_with (mnemonics.LoadSigned size) (operands_of operands.now) }
 {
     let (dst, src) = two(operands)?;
     let (dst, (src, offset)) = both(register(dst), memory(src))?;
@@ -98,7 +98,7 @@ fn load_signed(size: SignedSize, operands: &[u8]) -> Result<Statement<'_>, Fault
 
 #[tactic(auto, unfolding(crate::specs::Statement::statement_with))]
 fn store_immediate(size: Size, operands: &[u8]) -> Result<Statement<'_>, FaultKind>
-    ensures { seen (λ s. (s.insn, option_copied s.label)) result ≡ statement_with (mnemonics.StoreImmediate size) (operands_of operands.now) }
+    ensures { result_map_both (λ s. (s.insn, option_copied s.label)) (λ fault. fault) result ≡ statement_with (mnemonics.StoreImmediate size) (operands_of operands.now) }
 {
     let (dst, value) = two(operands)?;
     let ((dst, offset), value) = both(memory(dst), immediate(value))?;
@@ -112,7 +112,7 @@ fn store_immediate(size: Size, operands: &[u8]) -> Result<Statement<'_>, FaultKi
 
 #[tactic(auto, unfolding(crate::specs::Statement::statement_with))]
 fn store_register(size: Size, operands: &[u8]) -> Result<Statement<'_>, FaultKind>
-    ensures { seen (λ s. (s.insn, option_copied s.label)) result ≡ statement_with (mnemonics.StoreRegister size) (operands_of operands.now) }
+    ensures { result_map_both (λ s. (s.insn, option_copied s.label)) (λ fault. fault) result ≡ statement_with (mnemonics.StoreRegister size) (operands_of operands.now) }
 {
     let (dst, src) = two(operands)?;
     let ((dst, offset), src) = both(memory(dst), register(src))?;
@@ -130,7 +130,7 @@ fn arithmetic(
     operation: Operation,
     operands: &[u8],
 ) -> Result<Statement<'_>, FaultKind>
-    ensures { seen (λ s. (s.insn, option_copied s.label)) result ≡ statement_with (mnemonics.Arithmetic width operation) (operands_of operands.now) }
+    ensures { result_map_both (λ s. (s.insn, option_copied s.label)) (λ fault. fault) result ≡ statement_with (mnemonics.Arithmetic width operation) (operands_of operands.now) }
 {
     let (dst, value) = two(operands)?;
     let (dst, source) = both(register(dst), source(value))?;
@@ -144,7 +144,7 @@ fn arithmetic(
 
 #[tactic(auto, unfolding(crate::specs::Statement::statement_with))]
 fn negate(width: Width, operands: &[u8]) -> Result<Statement<'_>, FaultKind>
-    ensures { seen (λ s. (s.insn, option_copied s.label)) result ≡ statement_with (mnemonics.Negate width) (operands_of operands.now) }
+    ensures { result_map_both (λ s. (s.insn, option_copied s.label)) (λ fault. fault) result ≡ statement_with (mnemonics.Negate width) (operands_of operands.now) }
 {
     let dst = register(one(operands)?)?;
     Ok(plain(Insn::Negate { width, dst }))
@@ -152,7 +152,7 @@ fn negate(width: Width, operands: &[u8]) -> Result<Statement<'_>, FaultKind>
 
 #[tactic(auto, unfolding(crate::specs::Statement::statement_with))]
 fn move_signed(extension: SignExtension, operands: &[u8]) -> Result<Statement<'_>, FaultKind>
-    ensures { seen (λ s. (s.insn, option_copied s.label)) result ≡ statement_with (mnemonics.MoveSigned extension) (operands_of operands.now) }
+    ensures { result_map_both (λ s. (s.insn, option_copied s.label)) (λ fault. fault) result ≡ statement_with (mnemonics.MoveSigned extension) (operands_of operands.now) }
 {
     let (dst, src) = two(operands)?;
     let (dst, src) = both(register(dst), register(src))?;
@@ -165,7 +165,7 @@ fn move_signed(extension: SignExtension, operands: &[u8]) -> Result<Statement<'_
 
 #[tactic(auto, unfolding(crate::specs::Statement::statement_with))]
 fn swap_bytes(swap: Swap, size: SwapSize, operands: &[u8]) -> Result<Statement<'_>, FaultKind>
-    ensures { seen (λ s. (s.insn, option_copied s.label)) result ≡ statement_with (mnemonics.SwapBytes swap size) (operands_of operands.now) }
+    ensures { result_map_both (λ s. (s.insn, option_copied s.label)) (λ fault. fault) result ≡ statement_with (mnemonics.SwapBytes swap size) (operands_of operands.now) }
 {
     let dst = register(one(operands)?)?;
     Ok(plain(Insn::SwapBytes { swap, size, dst }))
@@ -173,7 +173,7 @@ fn swap_bytes(swap: Swap, size: SwapSize, operands: &[u8]) -> Result<Statement<'
 
 #[tactic(auto, unfolding(crate::specs::Statement::statement_with))]
 fn jump(operands: &[u8]) -> Result<Statement<'_>, FaultKind>
-    ensures { seen (λ s. (s.insn, option_copied s.label)) result ≡ statement_with mnemonics.Jump (operands_of operands.now) }
+    ensures { result_map_both (λ s. (s.insn, option_copied s.label)) (λ fault. fault) result ≡ statement_with mnemonics.Jump (operands_of operands.now) }
 {
     let target = one(operands)?;
     let distance = short_distance(target)?;
@@ -185,7 +185,7 @@ fn jump(operands: &[u8]) -> Result<Statement<'_>, FaultKind>
 
 #[tactic(auto, unfolding(crate::specs::Statement::statement_with))]
 fn jump_long(operands: &[u8]) -> Result<Statement<'_>, FaultKind>
-    ensures { seen (λ s. (s.insn, option_copied s.label)) result ≡ statement_with mnemonics.JumpLong (operands_of operands.now) }
+    ensures { result_map_both (λ s. (s.insn, option_copied s.label)) (λ fault. fault) result ≡ statement_with mnemonics.JumpLong (operands_of operands.now) }
 {
     let target = one(operands)?;
     let distance = long_distance(target)?;
@@ -197,7 +197,7 @@ fn jump_long(operands: &[u8]) -> Result<Statement<'_>, FaultKind>
 
 #[tactic(auto, unfolding(crate::specs::Statement::statement_with))]
 fn branch(width: Width, relation: Relation, operands: &[u8]) -> Result<Statement<'_>, FaultKind>
-    ensures { seen (λ s. (s.insn, option_copied s.label)) result ≡ statement_with (mnemonics.Branch width relation) (operands_of operands.now) }
+    ensures { result_map_both (λ s. (s.insn, option_copied s.label)) (λ fault. fault) result ≡ statement_with (mnemonics.Branch width relation) (operands_of operands.now) }
 {
     let (dst, value, target) = three(operands)?;
     let ((dst, source), distance) = both(
@@ -218,7 +218,7 @@ fn branch(width: Width, relation: Relation, operands: &[u8]) -> Result<Statement
 
 #[tactic(auto, unfolding(crate::specs::Statement::statement_with))]
 fn call(operands: &[u8]) -> Result<Statement<'_>, FaultKind>
-    ensures { seen (λ s. (s.insn, option_copied s.label)) result ≡ statement_with mnemonics.Call (operands_of operands.now) }
+    ensures { result_map_both (λ s. (s.insn, option_copied s.label)) (λ fault. fault) result ≡ statement_with mnemonics.Call (operands_of operands.now) }
 {
     let helper = immediate(one(operands)?)?;
     Ok(plain(Insn::Call { helper }))
@@ -226,7 +226,7 @@ fn call(operands: &[u8]) -> Result<Statement<'_>, FaultKind>
 
 #[tactic(auto, unfolding(crate::specs::Statement::statement_with))]
 fn exit(operands: &[u8]) -> Result<Statement<'_>, FaultKind>
-    ensures { seen (λ s. (s.insn, option_copied s.label)) result ≡ statement_with mnemonics.Exit (operands_of operands.now) }
+    ensures { result_map_both (λ s. (s.insn, option_copied s.label)) (λ fault. fault) result ≡ statement_with mnemonics.Exit (operands_of operands.now) }
 {
     none(operands)?;
     Ok(plain(Insn::Exit))
@@ -234,7 +234,7 @@ fn exit(operands: &[u8]) -> Result<Statement<'_>, FaultKind>
 
 /// No operand.
 fn none(operands: &[u8]) -> Result<(), FaultKind>
-    ensures { seen (λ _. None) result ≡ none_of (operands_of operands.now) }
+    ensures { result_map_both (λ _. None) (λ fault. fault) result ≡ none_of (operands_of operands.now) }
 {
     if one(operands)?.is_empty() {
         Ok(())
@@ -245,7 +245,7 @@ fn none(operands: &[u8]) -> Result<(), FaultKind>
 
 /// The one operand.
 fn one(operands: &[u8]) -> Result<&[u8], FaultKind>
-    ensures { seen (λ text. text.now) result ≡ one_of (operands_of operands.now) }
+    ensures { result_map_both (λ text. text.now) (λ fault. fault) result ≡ one_of (operands_of operands.now) }
 {
     match cut(operands, b',') {
         None => Ok(trim(operands)),
@@ -255,7 +255,7 @@ fn one(operands: &[u8]) -> Result<&[u8], FaultKind>
 
 /// The two operands.
 fn two(operands: &[u8]) -> Result<(&[u8], &[u8]), FaultKind>
-    ensures { seen (λ texts. (texts.0.now, texts.1.now)) result ≡ two_of (operands_of operands.now) }
+    ensures { result_map_both (λ texts. (texts.0.now, texts.1.now)) (λ fault. fault) result ≡ two_of (operands_of operands.now) }
 {
     let Some((first, rest)) = cut(operands, b',') else {
         return Err(FaultKind::Operand);
@@ -265,7 +265,7 @@ fn two(operands: &[u8]) -> Result<(&[u8], &[u8]), FaultKind>
 
 /// The three operands.
 fn three(operands: &[u8]) -> Result<(&[u8], &[u8], &[u8]), FaultKind>
-    ensures { seen (λ texts. (texts.0.now, texts.1.now, texts.2.now)) result ≡ three_of (operands_of operands.now) }
+    ensures { result_map_both (λ texts. (texts.0.now, texts.1.now, texts.2.now)) (λ fault. fault) result ≡ three_of (operands_of operands.now) }
 {
     let Some((first, rest)) = cut(operands, b',') else {
         return Err(FaultKind::Operand);

@@ -205,32 +205,32 @@ const LISTED: [(&str, &str, &str); 3] = [
     ("an immediate", "07010000ffffffff", "add r1, -1\n"),
 ];
 
-/// Texts that are refused, with the line and the number of the fault.
-const REFUSED: [(&str, usize, u8); 24] = [
-    ("mov r0, 0\nfrob r1\n", 2, 1),
-    ("top : exit", 1, 1),
-    ("a: b: exit", 1, 1),
-    ("exit\r", 1, 1),
-    ("MOV r1, 1", 1, 1),
-    ("mov r11, 1", 1, 2),
-    ("mov r1", 1, 2),
-    ("mov r1, 2, 3", 1, 2),
-    ("mov r1, +3", 1, 2),
-    ("mov r1, 0X3", 1, 2),
-    ("mov r1, -0x3", 1, 2),
-    ("mov r1, 0x", 1, 2),
-    ("ldxb r1, [r2+-8]", 1, 2),
-    ("ldxb r1, [r2 +8]", 1, 2),
-    ("ja 3", 1, 2),
-    ("mov r1, 4294967296", 1, 3),
-    ("stw [r1+32768], 5", 1, 3),
-    ("lddw r1, 18446744073709551616", 1, 3),
-    ("jeq r1, 0, nowhere\nmov r11, 1", 2, 2),
-    ("jeq r1, 0, nowhere", 1, 4),
-    ("a:\nexit ; twice\n\ta: frob", 3, 5),
-    ("ja nowhere\nexit ; \u{e9}\nfrob", 2, 8),
-    ("stw [r1+32768], r5", 1, 2),
-    ("jaw +2147483648", 1, 3),
+/// Texts that are refused, with the line and the kind of the fault.
+const REFUSED: [(&str, usize, FaultKind); 24] = [
+    ("mov r0, 0\nfrob r1\n", 2, FaultKind::UnknownMnemonic),
+    ("top : exit", 1, FaultKind::UnknownMnemonic),
+    ("a: b: exit", 1, FaultKind::UnknownMnemonic),
+    ("exit\r", 1, FaultKind::UnknownMnemonic),
+    ("MOV r1, 1", 1, FaultKind::UnknownMnemonic),
+    ("mov r11, 1", 1, FaultKind::Operand),
+    ("mov r1", 1, FaultKind::Operand),
+    ("mov r1, 2, 3", 1, FaultKind::Operand),
+    ("mov r1, +3", 1, FaultKind::Operand),
+    ("mov r1, 0X3", 1, FaultKind::Operand),
+    ("mov r1, -0x3", 1, FaultKind::Operand),
+    ("mov r1, 0x", 1, FaultKind::Operand),
+    ("ldxb r1, [r2+-8]", 1, FaultKind::Operand),
+    ("ldxb r1, [r2 +8]", 1, FaultKind::Operand),
+    ("ja 3", 1, FaultKind::Operand),
+    ("mov r1, 4294967296", 1, FaultKind::OutOfRange),
+    ("stw [r1+32768], 5", 1, FaultKind::OutOfRange),
+    ("lddw r1, 18446744073709551616", 1, FaultKind::OutOfRange),
+    ("jeq r1, 0, nowhere\nmov r11, 1", 2, FaultKind::Operand),
+    ("jeq r1, 0, nowhere", 1, FaultKind::UnknownLabel),
+    ("a:\nexit ; twice\n\ta: frob", 3, FaultKind::LabelTwice),
+    ("ja nowhere\nexit ; \u{e9}\nfrob", 2, FaultKind::NotAscii),
+    ("stw [r1+32768], r5", 1, FaultKind::Operand),
+    ("jaw +2147483648", 1, FaultKind::OutOfRange),
 ];
 
 /// Texts with labels, comments, blanks and line ends, and their bytes.
@@ -279,19 +279,25 @@ fn texts_assemble_to_their_bytes(rt: HostRuntime) -> Result<(), Fail> {
     Ok(())
 }
 
-/// The line and the number of a text's fault.
-fn fault_of(alloc: Global, text: &str) -> Result<(usize, u8), Fail> {
+/// The line and the kind of a text's fault.
+fn fault_of(alloc: Global, text: &str) -> Result<(usize, FaultKind), Fail> {
     match assemble(alloc, text.as_bytes()) {
         Ok(_) => Err(Fail::from("it assembles")),
-        Err(AssembleError::Fault(fault)) => Ok((fault.line, fault.kind.number())),
+        Err(AssembleError::Fault(fault)) => Ok((fault.line, fault.kind)),
         Err(AssembleError::Memory) => Err(Fail::from("no memory")),
     }
 }
 
 #[test]
+fn each_kind_has_its_number(rt: HostRuntime) {
+    assert_eq!(rt; FaultKind::UnknownMnemonic.number(), 1);
+    assert_eq!(rt; FaultKind::NotAscii.number(), 8);
+}
+
+#[test]
 fn the_lowest_fault_is_told(rt: HostRuntime) -> Result<(), Fail> {
-    for (text, line, number) in REFUSED {
-        assert_eq!(rt; fault_of(rt.alloc(), text)?, (line, number), "{text}");
+    for (text, line, kind) in REFUSED {
+        assert_eq!(rt; fault_of(rt.alloc(), text)?, (line, kind), "{text}");
     }
     Ok(())
 }
@@ -303,7 +309,10 @@ fn more_than_4096_slots_are_refused(rt: HostRuntime) -> Result<(), Fail> {
         text.push_str("exit\n")?;
     }
     text.push_str("lddw r1, 1\n")?;
-    assert_eq!(rt; fault_of(rt.alloc(), text.as_str())?, (4096, 7));
+    assert_eq!(rt;
+        fault_of(rt.alloc(), text.as_str())?,
+        (4096, FaultKind::TooLong)
+    );
     Ok(())
 }
 

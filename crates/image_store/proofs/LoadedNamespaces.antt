@@ -9,7 +9,8 @@ use Rattle.zone_resources.specs.Admission.{IsWithin}
 use Rattle.zone_resources.specs.Counts.{open_count, active_count}
 use Rattle.zone_resources.specs.declared.admission.Limits.{Limits}
 use Rattle.image_store.specs.declared.fault.LoadFault.TheVariants as fault
-use Rattle.image_store.specs.Blocks.{AreBytes, blocks_of}
+use Rattle.program_interface.specs.Bytes.{AreBytes}
+use Rattle.image_store.specs.Blocks.{blocks_of}
 use Rattle.image_store.specs.ImageInMemory.{no_counted_zone, zone_seen}
 use Rattle.image_store.specs.Geometry.{Shape, IsShape}
 use Rattle.image_store.specs.Laws.{LoadedIsNamespace}

@@ -11,7 +11,8 @@ use Rattle.zone_state.specs.Zone.{CountedZone, fits_state}
 use Rattle.byteorder.specs.Endian.{little_number}
 use Rattle.image_store.specs.declared.fault.LoadFault.TheVariants as fault
 use Rattle.image_store.specs.declared.fault.ZoneRowFault.TheVariants as row_fault
-use Rattle.image_store.specs.Blocks.{AreBytes, blocks_of, bytes_of}
+use Rattle.program_interface.specs.Bytes.{AreBytes}
+use Rattle.image_store.specs.Blocks.{blocks_of, bytes_of}
 use Rattle.image_store.specs.ImageInMemory.{no_counted_zone, zone_seen}
 use Rattle.image_store.specs.declared.header.Header.{Header}
 use Rattle.image_store.specs.declared.version.Version.{Version}

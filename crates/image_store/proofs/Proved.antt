@@ -2,7 +2,8 @@
 use Rattle.std.proofs.Common.{ℕ, ◌≡◌, ◌+◌, ◌*◌, ◌<◌, ◌≤◌, List, [], length, get_or, take, drop, Ok}
 use Rattle.zone_state.specs.Zone.{CountedZone, IsZone, refusal, after_write}
 use Rattle.zone_state.specs.declared.state.ZoneState.{ZoneState}
-use Rattle.image_store.specs.Blocks.{AreBytes, blocks_of, bytes_of}
+use Rattle.program_interface.specs.Bytes.{AreBytes}
+use Rattle.image_store.specs.Blocks.{blocks_of, bytes_of}
 use Rattle.image_store.specs.Namespace.{ZoneBlocks, no_zone}
 use Rattle.image_store.specs.Laws.{LoadedIsNamespace, SavedTextsLoad}
 use Rattle.image_store.proofs.TextsReadBack.{saved_again}

@@ -1,10 +1,6 @@
 -- Blocks, as pieces of bytes.
-use Rattle.std.specs.Prelude.{ℕ, zero, suc, ◌<◌, ◌/◌, List, [], ◌∷◌, length, get_or, take, drop}
+use Rattle.std.specs.Prelude.{ℕ, zero, suc, ◌/◌, List, [], ◌∷◌, length, take, drop}
 use Rattle.std.specs.List.{flat_map}
-
--- the numbers are bytes
-abbrev pub AreBytes : List ℕ → Type 0
-AreBytes bytes = (i : ℕ) → get_or bytes i 0 < 256
 
 -- so many blocks of this many bytes each, from the front of these bytes
 abbrev pub blocks_of : ℕ → ℕ → List ℕ → List (List ℕ)

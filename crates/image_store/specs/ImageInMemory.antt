@@ -5,7 +5,8 @@ use Rattle.zone_resources.specs.Admission.{IsWithin}
 use Rattle.zone_resources.specs.Counts.{counts_of}
 use Rattle.zone_resources.specs.declared.counts.Counts.{Counts}
 use Rattle.zone_state.specs.Zone.{CountedZone, IsZone}
-use Rattle.image_store.specs.Blocks.{AreBytes, blocks_of}
+use Rattle.program_interface.specs.Bytes.{AreBytes}
+use Rattle.image_store.specs.Blocks.{blocks_of}
 use Rattle.image_store.specs.Geometry.{Shape, IsShape}
 use Rattle.image_store.specs.Namespace.{ZoneBlocks, ZonedNamespace, namespace_with}
 

@@ -1,7 +1,7 @@
 //! What is said of bytes.
 
 ghost use Rattle.std.specs.Prelude.{◌≡◌};
-ghost use Rattle.image_store.specs.Blocks.{AreBytes};
+ghost use Rattle.program_interface.specs.Bytes.{AreBytes};
 ghost use Rattle.image_store.specs.Reading.{are_zeros};
 
 /// Is each of these bytes zero?

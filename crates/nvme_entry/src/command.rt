@@ -182,33 +182,46 @@ pub enum StandardCommand {
     /// Writes blocks from `lba` on, which is the write pointer of its zone
     /// (NVM Command Set 1.0, 3.2.6; ZNS 1.1, 3.3.6).
     Write {
+        /// The first block that is written.
         lba: u64,
+        /// How many are written.
         blocks: BlockCount,
     },
     /// Reads blocks from `lba` on (NVM Command Set 1.0, 3.2.4).
     Read {
+        /// The first block that is read.
         lba: u64,
+        /// How many are read.
         blocks: BlockCount,
     },
     /// Takes an action on the zone whose lowest address is `lba`, or on all zones that the action
     /// takes (ZNS 1.1, 3.4.3).
     Send {
+        /// The lowest block of the zone; ignored where all are taken.
         lba: u64,
+        /// The action.
         action: Action,
+        /// Is it taken on all zones that it takes?
         select_all: bool,
     },
     /// Reports the zones that `filter` takes from the one that contains `lba` on; with `partial`
     /// the number of zones told is that of the descriptors given (ZNS 1.1, 3.4.2).
     Receive {
+        /// A block of the zone that the report begins with.
         lba: u64,
+        /// The length of the report.
         dwords: DwordCount,
+        /// The zones that are reported.
         filter: ZoneFilter,
+        /// Are only the zones told whose descriptors are given?
         partial: bool,
     },
     /// Writes blocks at the write pointer of the zone whose lowest address is `lba`
     /// (ZNS 1.1, 3.4.1).
     Append {
+        /// The lowest block of the zone.
         lba: u64,
+        /// How many are written.
         blocks: BlockCount,
     },
 }

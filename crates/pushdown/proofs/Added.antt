@@ -8,7 +8,8 @@ use Rattle.zone_state.specs.Zone.{written_state}
 use Rattle.zone_state.specs.declared.state.ZoneState.{ZoneState}
 use Rattle.zone_state.specs.declared.state.ZoneState.TheVariants.{Full, Offline}
 use Rattle.emit_append.specs.OutputBlocks.{AreBytes as AllAreBytes}
-use Rattle.image_store.specs.Blocks.{AreBytes, as_blocks, block_count, blocks_of, bytes_of}
+use Rattle.program_interface.specs.Bytes.{AreBytes}
+use Rattle.image_store.specs.Blocks.{as_blocks, block_count, blocks_of, bytes_of}
 use Rattle.image_store.specs.Geometry.{Shape}
 use Rattle.image_store.specs.Namespace.{ZoneBlocks, ZonedNamespace, appended, grown, no_zone, shape, with_zone, zone_at}
 use Rattle.zns_commands.specs.Left.{Grows}

@@ -14,7 +14,7 @@ use Rattle.program_meaning.specs.State.{IsState, entry}
 use Rattle.program_meaning.specs.TrapFree.{Exits, NeverTraps}
 use Rattle.program_meaning.proofs.Proved.{ends_in_run, entry_is_in_run, entry_is_state}
 use Rattle.emit_append.specs.OutputBlocks.{AreBytes as AllAreBytes}
-use Rattle.image_store.specs.Blocks.{AreBytes}
+use Rattle.program_interface.specs.Bytes.{AreBytes}
 use Rattle.pushdown.specs.BlockRuns.{Task, block_run, block_runs, context, frames_of, goes_on, no_scratch, runs_of, scratch_after, until_ended}
 use Rattle.pushdown.proofs.Bytes.{AreBlocks, IsBlock, all_append, all_same, by_index, little_are}
 

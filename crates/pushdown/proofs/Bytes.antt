@@ -5,7 +5,7 @@ use Rattle.std.specs.Int.{bytes_low_first}
 use Rattle.byteorder.specs.Endian.{little_bytes}
 use Rattle.emit_append.specs.OutputBlocks.{AreAllBytes, AreWhole}
 use Rattle.emit_append.specs.OutputBlocks.{AreBytes as AllAreBytes}
-use Rattle.image_store.specs.Blocks.{AreBytes}
+use Rattle.program_interface.specs.Bytes.{AreBytes}
 
 module _ {X : Type 0} (P : X → Type 0) where
   pub all_append : (xs ys : List X) → AllByRecursion P xs → AllByRecursion P ys → AllByRecursion P (xs ++ ys)

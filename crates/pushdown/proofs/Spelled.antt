@@ -9,7 +9,7 @@ use Rattle.nvme_entry.specs.declared.command.Command.TheVariants as command
 use Rattle.nvme_entry.specs.declared.command.StandardCommand.{StandardCommand}
 use Rattle.nvme_entry.specs.declared.command.StandardCommand.TheVariants.{Write, Read, Send, Receive, Append}
 use Rattle.nvme_entry.proofs.Proved.{fields_are_spelled}
-use Rattle.image_store.specs.Blocks.{AreBytes}
+use Rattle.program_interface.specs.Bytes.{AreBytes}
 use Rattle.zns_commands.specs.Laws.{Commanded, IsSpelled, NamespaceEvent}
 
 abbrev pub HasBlocks : Command → Type 0

@@ -28,7 +28,7 @@ use Rattle.accepted_programs.specs.declared.reason.Refusal.{Refusal}
 use Rattle.emit_append.specs.Need.{need}
 use Rattle.emit_append.specs.PackedLaw.{FitBlock}
 use Rattle.emit_append.proofs.Proved.{need_grows, need_is_enough}
-use Rattle.image_store.specs.Blocks.{AreBytes}
+use Rattle.program_interface.specs.Bytes.{AreBytes}
 use Rattle.image_store.specs.Geometry.{Shape}
 use Rattle.image_store.specs.Namespace.{ZonedNamespace, IsNamespace, zone_at}
 use Rattle.zns_commands.specs.Left as kept

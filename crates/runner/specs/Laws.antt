@@ -1,7 +1,7 @@
 -- Laws of the states that events leave.
 use Rattle.std.specs.Prelude.{ℕ, ◌≡◌, List, Ok}
 use Rattle.interval_domain.specs.Intervals.{intervals}
-use Rattle.image_store.specs.Blocks.{AreBytes}
+use Rattle.program_interface.specs.Bytes.{AreBytes}
 use Rattle.image_store.specs.Geometry.{Shape, IsShape}
 use Rattle.image_store.specs.Namespace.{ZonedNamespace, all_empty}
 use Rattle.image_store.specs.Reading.{namespace_in}

@@ -1,7 +1,7 @@
 //! Entries that hosts submit.
 
 ghost use Rattle.std.specs.Prelude.{◌≡◌, ◌≤◌, drop, length, take, List, Ok, Option};
-ghost use Rattle.image_store.specs.Blocks.{AreBytes};
+ghost use Rattle.program_interface.specs.Bytes.{AreBytes};
 ghost use Rattle.nvme_entry.specs.Entry.{decoded, identifier_of};
 ghost use Rattle.nvme_entry.specs.declared.command.Command.TheVariants as command;
 ghost use Rattle.device_events.specs.Replies.{data_length};

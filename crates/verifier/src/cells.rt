@@ -14,10 +14,7 @@ const CELL_BYTES: usize = 8;
 pub(crate) fn is_stack(area: Area) -> bool
     ensures { result ≡ is_the_stack area }
 {
-    match area {
-        Area::Stack => true,
-        _ => false,
-    }
+    matches!(area, Area::Stack)
 }
 
 /// The cell that the eight bytes from this distance on are.

@@ -8,7 +8,7 @@ ghost use Rattle.accepted_programs.specs.declared.reason.Reason.TheVariants.{Emi
 
 use accepted_programs::{Facts, Reason};
 use instruction_set::{Insn, Program, Register};
-use program_interface::{Area, BlockSize, MOST_SLOTS, RunSizes};
+use program_interface::{Area, BlockSize, EMIT, FRAME_LENGTH_BYTES, MOST_SLOTS, RunSizes};
 use word_domain::Domain;
 
 /// The slot behind an instruction.
@@ -17,10 +17,7 @@ pub fn slot_behind(slot: usize, insn: &Insn) -> usize
     requires { slot < MOST_SLOTS }
     ensures { result ≡ insn_slot_behind slot insn.now }
 {
-    match *insn {
-        Insn::LoadImmediate { .. } => slot + 2,
-        _ => slot + 1,
-    }
+    slot + insn.slots()
 }
 
 /// Does an instruction begin at this slot of a program?
@@ -138,13 +135,13 @@ fn stores_outside<D: Domain>(block: BlockSize, facts: &Facts<D>, insn: &Insn) ->
     }
 }
 
-/// Is this a call of helper 1, emit?
+/// Is this a call of the helper that emits a record?
 #[inline]
 fn is_emit(insn: &Insn) -> bool
     ensures { result ≡ insn_is_emit insn.now }
 {
     match *insn {
-        Insn::Call { helper } => helper == 1,
+        Insn::Call { helper } => helper == EMIT,
         _ => false,
     }
 }
@@ -154,7 +151,7 @@ fn calls_unknown(insn: &Insn) -> bool
     ensures { result ≡ insn_calls_unknown insn.now }
 {
     match *insn {
-        Insn::Call { helper } => helper != 1,
+        Insn::Call { helper } => helper != EMIT,
         _ => false,
     }
 }
@@ -174,7 +171,7 @@ fn passes_limit<D: Domain>(limit: u32, facts: &Facts<D>) -> bool
     ensures { result ≡ nat_lt limit (facts.now.emitted + 2 + greatest_length D.operations facts.now) }
 {
     let most = u128::from(facts.registers[2].bounds().high);
-    facts.emitted as u128 + 2 + most > u128::from(limit)
+    facts.emitted as u128 + FRAME_LENGTH_BYTES as u128 + most > u128::from(limit)
 }
 
 /// The least reason to refuse an instruction at a slot with these facts.

@@ -10,7 +10,7 @@ ghost use Rattle.verifier.specs.steps.Rows.{where_it_goes_on};
 use crate::cells::{cell_of, is_stack, known, store_into};
 use accepted_programs::Facts;
 use instruction_set::{Insn, Register, Relation, Size, Source, Width};
-use program_interface::{Area, BlockSize};
+use program_interface::{Area, BlockSize, CLEARED_REGISTERS, FRAME_LENGTH_BYTES};
 use program_meaning::Arithmetic;
 use word_domain::Domain;
 
@@ -45,7 +45,7 @@ fn is_register(register: Register, source: &Source) -> bool
     ensures { result ≡ source_is register source.now }
 {
     match *source {
-        Source::Register(other) => register.index() == other.index(),
+        Source::Register(other) => register == other,
         Source::Immediate(_) => false,
     }
 }
@@ -85,10 +85,10 @@ fn emit<D: Domain>(facts: &mut Facts<D>)
 {
     let zero = D::constant(0);
     let most = facts.registers[2].bounds().high;
-    for i in 0..6 {
+    for i in 0..CLEARED_REGISTERS {
         facts.registers[i] = zero;
     }
-    facts.emitted = facts.emitted + 2 + most as usize;
+    facts.emitted = facts.emitted + FRAME_LENGTH_BYTES + most as usize;
 }
 
 /// What a cell keeps of a store: whole words, of R1 to R9.

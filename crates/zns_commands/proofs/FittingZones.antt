@@ -6,7 +6,7 @@ use Rattle.std.proofs.lemmas.Option.{slice_get-get_or}
 use Rattle.zone_state.specs.Zone.{CountedZone, IsZone}
 use Rattle.zone_resources.specs.Admission.{HoldsNoMore, IsWithin}
 use Rattle.zone_resources.proofs.Proved.{release_keeps_limits}
-use Rattle.image_store.specs.Blocks.{AreBytes}
+use Rattle.program_interface.specs.Bytes.{AreBytes}
 use Rattle.image_store.specs.Geometry.{IsShape}
 use Rattle.image_store.specs.Namespace.{ZoneBlocks, ZonedNamespace, no_zone, zone_at, with_zone, counted, shape, counted_zones, IsNamespace, IsWithinLimits}
 use Rattle.zns_commands.specs.Address.{counted_zone_at}

@@ -14,7 +14,7 @@ use Rattle.zone_resources.specs.Counts.{one_if}
 use Rattle.zone_resources.specs.declared.holds.Holds.{Holds}
 use Rattle.nvme_entry.specs.declared.command.StandardCommand.TheVariants.{Write, Read, Send, Receive, Append}
 use Rattle.zone_state.specs.Checks.{first_failed}
-use Rattle.image_store.specs.Blocks.{AreBytes}
+use Rattle.program_interface.specs.Bytes.{AreBytes}
 use Rattle.image_store.specs.Geometry.{IsShape}
 use Rattle.image_store.specs.Namespace.{ZoneBlocks, ZonedNamespace, no_zone, zone_at, counted, IsNamespace, all_empty}
 use Rattle.zns_commands.specs.Address.{counted_zone_at, zone_number, block_total}

@@ -10,7 +10,8 @@ use Rattle.zone_state.specs.declared.status.Status.{Status}
 use Rattle.zone_state.specs.declared.status.TheConstants.Status.{ZONE_BOUNDARY_ERROR, ZONE_INVALID_WRITE}
 use Rattle.zone_resources.specs.Admission.{wanted_of, HoldsNoMore}
 use Rattle.zone_resources.specs.declared.holds.Holds.{Holds}
-use Rattle.image_store.specs.Blocks.{AreBytes, as_blocks, block_count, blocks_of}
+use Rattle.program_interface.specs.Bytes.{AreBytes}
+use Rattle.image_store.specs.Blocks.{as_blocks, block_count, blocks_of}
 use Rattle.image_store.specs.Namespace.{ZoneBlocks, ZonedNamespace, zone_at, counted, grown, IsNamespace, IsWithinLimits}
 use Rattle.image_store.proofs.Proved.{block_is_a_part, blocks_are_bytes, blocks_are_counted, writes_keep_zones}
 use Rattle.zns_commands.specs.Address.{counted_zone_at}

@@ -12,7 +12,7 @@ use Rattle.nvme_entry.specs.declared.command.TheConstants.{MOST_TRANSFER}
 use Rattle.nvme_entry.specs.declared.filter.ZoneFilter.TheVariants as filter
 use Rattle.nvme_entry.specs.ReportLaws.{number_in, descriptors_in}
 use Rattle.nvme_entry.specs.Report.{descriptor_at}
-use Rattle.image_store.specs.Blocks.{AreBytes}
+use Rattle.program_interface.specs.Bytes.{AreBytes}
 use Rattle.image_store.specs.Geometry.{Shape, IsShape}
 use Rattle.image_store.specs.Namespace.{ZonedNamespace, zone_at, appended, IsNamespace, all_empty, counted_zones}
 use Rattle.zone_state.specs.State.{is_cleared}

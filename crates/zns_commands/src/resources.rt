@@ -11,6 +11,10 @@ use zone_resources::{Holds, Wanted, admit};
 use zone_state::ZoneState;
 
 /// The zone to be closed so that this one can be open, if one has to be.
+///
+/// # Errors
+///
+/// [`Status::TOO_MANY_ACTIVE_ZONES`] and [`Status::TOO_MANY_OPEN_ZONES`], as [`admit`] tells them.
 pub fn room_for(image: &Image, holds: &Holds, zone: u32) -> Result<Option<u32>, Status>
     requires { zone < length image.now.zones }
     ensures { result ≡ room_for image.now holds.now (zone_at image.now zone).state }

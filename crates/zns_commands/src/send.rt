@@ -27,6 +27,7 @@ use zone_state::{Action, ZoneState};
 pub struct ZonePlan {
     /// The zone's number.
     pub zone: u32,
+    /// The state that it comes into.
     pub to: ZoneState,
     /// The number of the zone that is closed before, for the open resource that it has.
     pub closing: Option<u32>,

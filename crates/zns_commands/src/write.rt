@@ -30,6 +30,10 @@ pub struct WritePlan {
 }
 
 /// The checks of the data of a write: whole blocks, as many as the command says.
+///
+/// # Errors
+///
+/// [`Status::INVALID_FIELD_IN_COMMAND`] for other data, and for more than a transfer may have.
 pub fn check_data(image: &Image, blocks: BlockCount, input: &[u8]) -> Result<(), Status>
     ensures value { let bytes = blocks * image.now.block in result ≡ unless_failed (first_failed (transfer_checks bytes bytes input.now)) tt }
     ensures whole { OnOk result (IsWhole image.now blocks input.now) }
@@ -39,6 +43,13 @@ pub fn check_data(image: &Image, blocks: BlockCount, input: &[u8]) -> Result<(),
 }
 
 /// The checks of a write to a zone, from its block `at` on.
+///
+/// # Errors
+///
+/// The first that applies: [`Status::ZONE_HELD`] where a run appends to the zone; those of [`Zone::check_write`]; those of
+/// [`room_for`].
+///
+/// [`Zone::check_write`]: zone_state::Zone::check_write
 pub fn check_write(
     image: &Image,
     holds: &Holds,
@@ -60,6 +71,10 @@ pub fn check_write(
 }
 
 /// The checks of a write to a zone from its write pointer on.
+///
+/// # Errors
+///
+/// Those of [`check_write`].
 pub fn check_end(
     image: &Image,
     holds: &Holds,

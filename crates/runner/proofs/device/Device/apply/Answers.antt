@@ -1,5 +1,5 @@
 use Rattle.std.proofs.Common.{false, take, subst, sym, ◌∙◌}
-use Rattle.image_store.specs.Blocks.{AreBytes}
+use Rattle.program_interface.specs.Bytes.{AreBytes}
 use Rattle.interval_domain.specs.Intervals.{intervals}
 use Rattle.pushdown.specs.EventReplies.{Submission}
 use Rattle.device_events.specs.Replies.{ReplyWithData, data_length}

@@ -1,7 +1,0 @@
-use Rattle.std.proofs.Common.{◌≡◌, take}
-use Rattle.std.specs.String.{string_bytes}
-use Rattle.ebpf_asm.specs.Listing.{listing}
-use Rattle.ebpf_asm.proofs.listing.disassemble.Given as goal
-
-abbrev pub invariant-loop-slot : goal.invariant-loop-slot
-invariant-loop-slot l = string_bytes l.text ≡ listing (take l.slot l.program)
