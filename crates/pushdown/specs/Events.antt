@@ -1,4 +1,4 @@
--- Lists of events.
+-- Lists of events: the replies to them and the state behind them, and that a device did them.
 use Rattle.std.specs.Prelude.{ℕ, Bool, ◌≡◌, ◌≤◌, ◌-◌, List, [], ◌∷◌, length, map, take}
 use Rattle.word_domain.specs.Domain.{Operations}
 use Rattle.device_events.specs.Replies.{ReplyWithData}

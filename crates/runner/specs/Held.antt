@@ -1,4 +1,4 @@
--- What a device holds, seen as a state.
+-- What a device holds, seen as a state: each run has the turns that are left of it.
 use Rattle.std.specs.Prelude.{List, map, Option, Some, None}
 use Rattle.image_store.specs.Namespace.{ZonedNamespace}
 use Rattle.verifier.specs.Verified.{program_of, sizes_of}

@@ -1,4 +1,4 @@
--- Laws of the states that events leave.
+-- Laws of the states that events leave: they are sound, can be drained, and load again when they were saved.
 use Rattle.std.specs.Prelude.{ℕ, ◌≡◌, List, Ok}
 use Rattle.interval_domain.specs.Intervals.{intervals}
 use Rattle.program_interface.specs.Bytes.{AreBytes}
