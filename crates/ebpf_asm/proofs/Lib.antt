@@ -9,3 +9,6 @@ pub mod RoundLines
 pub mod RoundProgram
 pub mod Listings
 pub mod SlotListings
+pub mod Fitting
+pub mod Programs
+pub mod LowestFaults

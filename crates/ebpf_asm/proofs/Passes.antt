@@ -84,7 +84,7 @@ pub record HasRead (before rest all : List Line) (labels : LabelMap) (slots : �
 pub HasRead-start : (all : List Line) (labels : LabelMap) → ((name : List ℕ) → labels name ≡ None) → HasRead [] all all labels 0
 HasRead-start all labels empty = record { named = empty; counted = refl; room = omega arith; fault = refl }
 
-fits_if : (slots n : ℕ) (insn : Result (Option Insn) FaultKind) (twice : Bool) → line_fault twice slots insn ≡ None → n ≡ slots_of_insn insn → (twice ≡ false) × (slots + n ≤ 4096)
+pub fits_if : (slots n : ℕ) (insn : Result (Option Insn) FaultKind) (twice : Bool) → line_fault twice slots insn ≡ None → n ≡ slots_of_insn insn → (twice ≡ false) × (slots + n ≤ 4096)
 fits_if slots n insn true e same = absurd cc
 fits_if slots n (Err kind) false e same = absurd cc
 fits_if slots n (Ok insn) false e same = (refl, fits (ltb 4096 (slots + slots_of_insn (Ok insn))) refl e)

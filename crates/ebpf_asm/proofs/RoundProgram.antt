@@ -257,7 +257,7 @@ slots_counted (insn ∷ insns) = one (is_wide insn) (slots_counted insns)
     one true e = omega (arith, e)
     one false e = omega (arith, e)
 
-instructions_again : (insns : List Insn) → instructions_of (slots_of insns) ≡ insns
+pub instructions_again : (insns : List Insn) → instructions_of (slots_of insns) ≡ insns
 instructions_again [] = refl
 instructions_again (insn ∷ insns) = one (is_wide insn) ∙ ap (λ is. insn ∷ is) (instructions_again insns)
   where

@@ -1,12 +1,14 @@
 -- Laws of assembly text.
-use Rattle.std.specs.Prelude.{◌≡◌, ◌<◌, ◌^◌, ℕ, ℤ, FitsSigned, List, Option, Some, Ok}
+use Rattle.std.specs.Prelude.{◌≡◌, ◌<◌, ◌^◌, ℕ, ℤ, FitsSigned, List, [], Option, Some, Ok, Err, ◌⊎◌}
 use Rattle.std.specs.Int.{w16, w32}
 use Rattle.std.specs.Fmt.{signed_decimal}
 use Rattle.instruction_set.specs.declared.insn.Insn.{Insn}
 use Rattle.instruction_set.specs.Program.{IsProgram}
 use Rattle.instruction_set.specs.Spelling.{program_bytes}
+use Rattle.ebpf_asm.specs.declared.fault.AsmFault.{AsmFault}
 use Rattle.ebpf_asm.specs.declared.mnemonic.Mnemonic.{Mnemonic}
-use Rattle.ebpf_asm.specs.Assembly.{assembled}
+use Rattle.ebpf_asm.specs.Assembly.{assembled, lines_of}
+use Rattle.ebpf_asm.specs.LowestFault.{IsLowestFault}
 use Rattle.ebpf_asm.specs.Mnemonic.{mnemonic_text, mnemonic_named}
 use Rattle.ebpf_asm.specs.Operand.{register_of, immediate_of, wide_of, memory_of}
 use Rattle.ebpf_asm.specs.Listing.{register_text, wide_text, memory_text, listing}
@@ -34,3 +36,13 @@ MemoryOperandsReadBack = (base : ℕ) (offset : ℤ) → base < 11 → FitsSigne
 -- the listing of a program assembles to its bytes
 abbrev pub ListingsAssemble : Type 0
 ListingsAssemble = (slots : List (Option Insn)) → IsProgram slots → assembled (listing slots) ≡ Ok (program_bytes slots)
+
+-- what a text assembles to is nothing, where it has no instructions, or the bytes of a program
+abbrev pub AssembledIsProgram : Type 0
+AssembledIsProgram =
+    (text bytes : List ℕ) → assembled text ≡ Ok bytes
+    → (bytes ≡ []) ⊎ ((slots : List (Option Insn)) × IsProgram slots × (bytes ≡ program_bytes slots))
+
+-- the fault of a text is that of the lowest line that has one by itself, or where none has, of the lowest that jumps amiss
+abbrev pub FaultIsLowest : Type 0
+FaultIsLowest = (text : List ℕ) (fault : AsmFault) → assembled text ≡ Err fault → IsLowestFault (lines_of text) fault

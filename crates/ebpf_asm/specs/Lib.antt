@@ -5,5 +5,6 @@ pub mod Statement
 pub mod Listing
 pub mod Line
 pub mod Assembly
+pub mod LowestFault
 pub mod Laws
 pub mod steps

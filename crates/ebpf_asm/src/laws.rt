@@ -1,6 +1,16 @@
 //! Laws of assembly text.
 
-ghost use Rattle.ebpf_asm.specs.Laws.{MnemonicsReadBack, RegistersReadBack, ImmediatesReadBack, WideValuesReadBack, MemoryOperandsReadBack, ListingsAssemble};
+ghost use Rattle.ebpf_asm.specs.Laws.{MnemonicsReadBack, RegistersReadBack, ImmediatesReadBack, WideValuesReadBack, MemoryOperandsReadBack, ListingsAssemble, AssembledIsProgram, FaultIsLowest};
+
+/// What a text assembles to is nothing, where it has no instructions, or the bytes of a program.
+pub fn assembled_is_program()
+    ensures { AssembledIsProgram }
+{}
+
+/// The fault of a text is that of the lowest line that has one by itself, or where none has, of the lowest that jumps amiss.
+pub fn fault_is_lowest()
+    ensures { FaultIsLowest }
+{}
 
 /// The listing of a program assembles to its bytes.
 pub fn listings_assemble()

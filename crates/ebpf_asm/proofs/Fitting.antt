@@ -1,0 +1,358 @@
+-- What a line is read as fits the fields of an instruction.
+use Rattle.std.proofs.Common.{◌≡◌, ℕ, ℤ, pos, negsuc, ◌-ℤ◌, ◌+◌, ◌-◌, ◌%◌, ◌<◌, ◌^◌, Bool, true, false, ◌&&◌, cond, eqb, leb, List, [], ◌∷◌, length, get_or, drop, map, Option, Some, None, Result, Ok, Err, refl, arith}
+use Rattle.std.specs.Prelude.{FitsSigned, IfOk, IfSome, ok_or, codes}
+use Rattle.std.specs.Int.{w16, w32, w64, cast_signed, cast_unsigned}
+use Rattle.std.specs.List.{AllByRecursion, list_all, before_first, position_or_len}
+use Rattle.std.specs.Char.{is_ascii, is_ascii_digit}
+use Rattle.std.specs.Str.{bytes_eq}
+use Rattle.std.proofs.lemmas.Bool.{and_parts, leb-true}
+use Rattle.std.proofs.lemmas.Int.{ints}
+use Rattle.instruction_set.specs.declared.insn.Insn.{Insn}
+use Rattle.instruction_set.specs.declared.insn.Insn.TheVariants as insns
+use Rattle.instruction_set.specs.declared.insn.Source.{Source}
+use Rattle.instruction_set.specs.declared.insn.Source.TheVariants as sources
+use Rattle.instruction_set.specs.declared.operation.Operation.{Operation}
+use Rattle.instruction_set.specs.declared.operation.Operation.TheVariants.{SignedDivide, SignedModulo}
+use Rattle.instruction_set.specs.declared.operation.SignExtension.{SignExtension}
+use Rattle.instruction_set.specs.declared.operation.SignExtension.TheVariants.{Bits8To32, Bits16To32, Bits8To64, Bits16To64, Bits32To64}
+use Rattle.instruction_set.specs.declared.operation.SwapSize.{SwapSize}
+use Rattle.instruction_set.specs.declared.operation.SwapSize.TheVariants as kept
+use Rattle.instruction_set.specs.Program.{slots_taken}
+use Rattle.instruction_set.specs.Spelling.{Fits, source_register, source_immediate, operation_offset, extension_offset, kept_bits}
+use Rattle.ebpf_asm.specs.declared.mnemonic.Mnemonic.{Mnemonic}
+use Rattle.ebpf_asm.specs.declared.mnemonic.Mnemonic.TheVariants.{LoadImmediate, Load, LoadSigned, StoreImmediate, StoreRegister, Arithmetic, Negate, MoveSigned, SwapBytes, Jump, JumpLong, Branch, Call, Exit}
+use Rattle.ebpf_asm.specs.declared.fault.FaultKind.{FaultKind}
+use Rattle.ebpf_asm.specs.declared.fault.FaultKind.TheVariants.{UnknownMnemonic, Operand, OutOfRange, UnknownLabel, LabelTwice, LabelTooFar, TooLong, NotAscii}
+use Rattle.ebpf_asm.specs.Fault.{◌>>=◌, read_both}
+use Rattle.ebpf_asm.specs.Mnemonic.{mnemonic_named}
+use Rattle.ebpf_asm.specs.Operand.{register_of, literal_of, in_range, short_of, long_of, immediate_of, wide_of, source_of, inside_brackets, offset_of, memory_of, distance_of, signed_of, is_label_name, is_sign_byte}
+use Rattle.ebpf_asm.specs.Statement.{Statement, statement_of, statement_with, operands_of, one_of, two_of, three_of, none_of}
+use Rattle.ebpf_asm.specs.Line.{Line, line_of, line_in, labelled, split_label, with_statement}
+use Rattle.ebpf_asm.specs.Assembly.{LabelMap, fitting, jump_by, jump_to, resolved}
+use Rattle.text_lines.specs.Cut.{is_blank_byte, cut_at, trimmed, uncommented}
+
+-- ---- readings that follow one another
+
+then_fits : {A B : Type 0} (m : Result A FaultKind) (f : A → Result B FaultKind) (P : A → Type 0) (Q : B → Type 0)
+    → IfOk m P → ((x : A) → P x → IfOk (f x) Q) → IfOk (m >>= f) Q
+then_fits (Ok x) f P Q h next = next x h
+then_fits (Err fault) f P Q h next = tt
+
+any : {A : Type 0} (m : Result A FaultKind) → IfOk m (λ _. Unit {0})
+any (Ok x) = tt
+any (Err fault) = tt
+
+both_fit : {A B : Type 0} (a : Result A FaultKind) (b : Result B FaultKind) (P : A → Type 0) (Q : B → Type 0)
+    → IfOk a P → IfOk b Q → IfOk (read_both a b) (λ p. P p.0 × Q p.1)
+both_fit (Ok a) (Ok b) P Q p q = (p, q)
+both_fit (Ok a) (Err fault) P Q p q = tt
+both_fit (Err OutOfRange) (Ok b) P Q p q = tt
+both_fit (Err OutOfRange) (Err fault) P Q p q = tt
+both_fit (Err UnknownMnemonic) b P Q p q = tt
+both_fit (Err Operand) b P Q p q = tt
+both_fit (Err UnknownLabel) b P Q p q = tt
+both_fit (Err LabelTwice) b P Q p q = tt
+both_fit (Err LabelTooFar) b P Q p q = tt
+both_fit (Err TooLong) b P Q p q = tt
+both_fit (Err NotAscii) b P Q p q = tt
+
+-- ---- numbers
+
+short_fits : (z : ℤ) → IfOk (short_of z) (FitsSigned w16)
+short_fits (pos n) = by_test (leb n 32767) refl
+  where
+    by_test : (b : Bool) → leb n 32767 ≡ b → IfOk (cond b (Ok (pos n)) (Err OutOfRange)) (FitsSigned w16)
+    by_test true is = let low = leb-true n 32767 is in omega (arith, ints)
+    by_test false is = tt
+short_fits (negsuc n) = by_test (leb n 32767) refl
+  where
+    by_test : (b : Bool) → leb n 32767 ≡ b → IfOk (cond (b && true) (Ok (negsuc n)) (Err OutOfRange)) (FitsSigned w16)
+    by_test true is = let low = leb-true n 32767 is in omega (arith, ints)
+    by_test false is = tt
+
+long_fits : (z : ℤ) → IfOk (long_of z) (FitsSigned w32)
+long_fits (pos n) = by_test (leb n 2147483647) refl
+  where
+    by_test : (b : Bool) → leb n 2147483647 ≡ b → IfOk (cond b (Ok (pos n)) (Err OutOfRange)) (FitsSigned w32)
+    by_test true is = let low = leb-true n 2147483647 is in omega (arith, ints)
+    by_test false is = tt
+long_fits (negsuc n) = by_test (leb n 2147483647) refl
+  where
+    by_test : (b : Bool) → leb n 2147483647 ≡ b → IfOk (cond (b && true) (Ok (negsuc n)) (Err OutOfRange)) (FitsSigned w32)
+    by_test true is = let low = leb-true n 2147483647 is in omega (arith, ints)
+    by_test false is = tt
+
+wide_in_range : (z : ℤ) → IfOk (in_range (negsuc 9223372036854775807) (pos 18446744073709551615) z) (λ x. cast_unsigned w64 x < 2 ^ 64)
+wide_in_range (pos n) = by_test (leb n 18446744073709551615) refl
+  where
+    by_test : (b : Bool) → leb n 18446744073709551615 ≡ b → IfOk (cond b (Ok (pos n)) (Err OutOfRange)) (λ x. cast_unsigned w64 x < 2 ^ 64)
+    by_test true is = let low = leb-true n 18446744073709551615 is in omega (arith, ints)
+    by_test false is = tt
+wide_in_range (negsuc n) = by_test (leb n 9223372036854775807) refl
+  where
+    by_test : (b : Bool) → leb n 9223372036854775807 ≡ b → IfOk (cond (b && true) (Ok (negsuc n)) (Err OutOfRange)) (λ x. cast_unsigned w64 x < 2 ^ 64)
+    by_test true is = let low = leb-true n 9223372036854775807 is in omega (arith, ints)
+    by_test false is = tt
+
+word_in_range : (z : ℤ) → IfOk (in_range (negsuc 2147483647) (pos 4294967295) z) (λ x. cast_unsigned w32 x < 2 ^ 32)
+word_in_range (pos n) = by_test (leb n 4294967295) refl
+  where
+    by_test : (b : Bool) → leb n 4294967295 ≡ b → IfOk (cond b (Ok (pos n)) (Err OutOfRange)) (λ x. cast_unsigned w32 x < 2 ^ 32)
+    by_test true is = let low = leb-true n 4294967295 is in omega (arith, ints)
+    by_test false is = tt
+word_in_range (negsuc n) = by_test (leb n 2147483647) refl
+  where
+    by_test : (b : Bool) → leb n 2147483647 ≡ b → IfOk (cond (b && true) (Ok (negsuc n)) (Err OutOfRange)) (λ x. cast_unsigned w32 x < 2 ^ 32)
+    by_test true is = let low = leb-true n 2147483647 is in omega (arith, ints)
+    by_test false is = tt
+
+fits-32 : (n : ℕ) → n < 2 ^ 32 → FitsSigned w32 (cast_signed w32 n)
+fits-32 n h = omega (arith, ints)
+
+immediate_fits : (text : List ℕ) → IfOk (immediate_of text) (FitsSigned w32)
+unfolding immediate_of
+immediate_fits text =
+    then_fits (literal_of text) _ (λ _. Unit {0}) (FitsSigned w32) (any (literal_of text)) (λ number known.
+    then_fits (in_range (negsuc 2147483647) (pos 4294967295) number) _ (λ x. cast_unsigned w32 x < 2 ^ 32) (FitsSigned w32) (word_in_range number) (λ x small.
+    fits-32 (cast_unsigned w32 x) small))
+
+wide_fits : (text : List ℕ) → IfOk (wide_of text) (λ value. value < 2 ^ 64)
+unfolding wide_of
+wide_fits text =
+    then_fits (literal_of text) _ (λ _. Unit {0}) (λ value. value < 2 ^ 64) (any (literal_of text)) (λ number known.
+    then_fits (in_range (negsuc 9223372036854775807) (pos 18446744073709551615) number) _ (λ x. cast_unsigned w64 x < 2 ^ 64) (λ value. value < 2 ^ 64) (wide_in_range number) (λ x small. small))
+
+-- ---- operands
+
+register_fits : (text : List ℕ) → IfOk (register_of text) (λ n. n < 11)
+register_fits text = by_tests (bytes_eq text (codes "r10")) (eqb (length text) 2) (eqb (get_or text 0 0) 114) (is_ascii_digit (get_or text 1 0)) (get_or text 1 0) refl
+  where
+    by_tests : (ten two first digit : Bool) (d : ℕ) → is_ascii_digit d ≡ digit
+        → IfOk (cond ten (Ok 10) (cond (two && (first && digit)) (Ok (d - 48)) (Err Operand))) (λ n. n < 11)
+    by_tests true two first digit d is = omega arith
+    by_tests false true true true d is =
+        let range = and_parts (leb 48 d) (leb d 57) is in
+        let high = leb-true d 57 range.1 in
+        omega (arith, high)
+    by_tests false true true false d is = tt
+    by_tests false true false digit d is = tt
+    by_tests false false first digit d is = tt
+
+abbrev IsSource : Source → Type 0
+IsSource (sources.Immediate z) = FitsSigned w32 z
+IsSource (sources.Register n) = n < 11
+
+source_fits : (text : List ℕ) → IfOk (source_of text) IsSource
+unfolding source_of
+source_fits text = by_first (eqb (get_or text 0 0) 114)
+  where
+    by_first : (b : Bool) → IfOk (cond b (register_of text >>= λ register. Ok (sources.Register register)) (immediate_of text >>= λ value. Ok (sources.Immediate value))) IsSource
+    by_first true = then_fits (register_of text) _ (λ n. n < 11) IsSource (register_fits text) (λ n h. h)
+    by_first false = then_fits (immediate_of text) _ (FitsSigned w32) IsSource (immediate_fits text) (λ z h. h)
+
+offset_fits : (text : List ℕ) → IfOk (offset_of text) (FitsSigned w16)
+unfolding offset_of
+offset_fits text = by_length (eqb (length text) 0)
+  where
+    by_length : (b : Bool) → IfOk (cond b (Ok (pos 0)) (signed_of text >>= short_of)) (FitsSigned w16)
+    by_length true = omega arith
+    by_length false = then_fits (signed_of text) short_of (λ _. Unit {0}) (FitsSigned w16) (any (signed_of text)) (λ z known. short_fits z)
+
+-- a memory operand's register and offset fit
+abbrev IsPlace : ℕ × ℤ → Type 0
+IsPlace place = (place.0 < 11) × FitsSigned w16 place.1
+
+memory_fits : (text : List ℕ) → IfOk (memory_of text) IsPlace
+unfolding memory_of
+memory_fits text =
+    then_fits (inside_brackets text) _ (λ _. Unit {0}) IsPlace (any (inside_brackets text)) (λ inside known.
+    both_fit (register_of (before_first is_sign_byte inside)) (offset_of (drop (position_or_len is_sign_byte inside) inside)) (λ n. n < 11) (FitsSigned w16)
+    (register_fits (before_first is_sign_byte inside)) (offset_fits (drop (position_or_len is_sign_byte inside) inside)))
+
+distance_fits : (in_field : ℤ → Result ℤ FaultKind) (P : ℤ → Type 0) → P (pos 0) → ((z : ℤ) → IfOk (in_field z) P) → (text : List ℕ) → IfOk (distance_of in_field text) P
+unfolding distance_of
+distance_fits in_field P none fit text = by_tests (is_sign_byte (get_or text 0 0)) (is_label_name text)
+  where
+    by_tests : (sign name : Bool) → IfOk (cond sign (signed_of text >>= in_field) (cond name (Ok (pos 0)) (Err Operand))) P
+    by_tests true name = then_fits (signed_of text) in_field (λ _. Unit {0}) P (any (signed_of text)) (λ z known. fit z)
+    by_tests false true = none
+    by_tests false false = tt
+
+-- ---- statements
+
+abbrev StatementFits : Statement → Type 0
+StatementFits s = Fits s.0
+
+no_register : 0 < 11
+no_register = omega arith
+
+no_offset : FitsSigned w16 (pos 0)
+no_offset = omega arith
+
+no_immediate : FitsSigned w32 (pos 0)
+no_immediate = omega arith
+
+low_half : (value : ℕ) → FitsSigned w32 (cast_signed w32 (value % 2 ^ 32))
+low_half value = fits-32 (value % 2 ^ 32) (omega arith)
+
+source_low : (source : Source) → IsSource source → source_register source < 11
+source_low (sources.Immediate z) h = omega arith
+source_low (sources.Register n) h = h
+
+source_number : (source : Source) → IsSource source → FitsSigned w32 (source_immediate source)
+source_number (sources.Immediate z) h = h
+source_number (sources.Register n) h = no_immediate
+
+operation_fits : (operation : Operation) → FitsSigned w16 (operation_offset operation)
+operation_fits SignedDivide = omega arith
+operation_fits SignedModulo = omega arith
+operation_fits operation = no_offset
+
+extension_fits : (extension : SignExtension) → FitsSigned w16 (extension_offset extension)
+extension_fits Bits8To32 = omega arith
+extension_fits Bits16To32 = omega arith
+extension_fits Bits8To64 = omega arith
+extension_fits Bits16To64 = omega arith
+extension_fits Bits32To64 = omega arith
+
+kept_fits : (size : SwapSize) → FitsSigned w32 (kept_bits size)
+kept_fits kept.Bits16 = omega arith
+kept_fits kept.Bits32 = omega arith
+kept_fits kept.Bits64 = omega arith
+
+statement_with_fits : (mnemonic : Mnemonic) (texts : List (List ℕ)) → IfOk (statement_with mnemonic texts) StatementFits
+unfolding statement_with
+statement_with_fits LoadImmediate texts =
+    then_fits (two_of texts) _ (λ _. Unit {0}) StatementFits (any (two_of texts)) (λ t known.
+    then_fits (read_both (register_of t.0) (wide_of t.1)) _ (λ x. (x.0 < 11) × (x.1 < 2 ^ 64)) StatementFits
+    (both_fit (register_of t.0) (wide_of t.1) (λ n. n < 11) (λ v. v < 2 ^ 64) (register_fits t.0) (wide_fits t.1))
+    (λ x h. record { dst = h.0; src = no_register; offset = no_offset; immediate = low_half x.1; value = h.1 }))
+statement_with_fits (Load size) texts =
+    then_fits (two_of texts) _ (λ _. Unit {0}) StatementFits (any (two_of texts)) (λ t known.
+    then_fits (read_both (register_of t.0) (memory_of t.1)) _ (λ x. (x.0 < 11) × IsPlace x.1) StatementFits
+    (both_fit (register_of t.0) (memory_of t.1) (λ n. n < 11) IsPlace (register_fits t.0) (memory_fits t.1))
+    (λ x h. record { dst = h.0; src = h.1.0; offset = h.1.1; immediate = no_immediate; value = tt }))
+statement_with_fits (LoadSigned size) texts =
+    then_fits (two_of texts) _ (λ _. Unit {0}) StatementFits (any (two_of texts)) (λ t known.
+    then_fits (read_both (register_of t.0) (memory_of t.1)) _ (λ x. (x.0 < 11) × IsPlace x.1) StatementFits
+    (both_fit (register_of t.0) (memory_of t.1) (λ n. n < 11) IsPlace (register_fits t.0) (memory_fits t.1))
+    (λ x h. record { dst = h.0; src = h.1.0; offset = h.1.1; immediate = no_immediate; value = tt }))
+statement_with_fits (StoreImmediate size) texts =
+    then_fits (two_of texts) _ (λ _. Unit {0}) StatementFits (any (two_of texts)) (λ t known.
+    then_fits (read_both (memory_of t.0) (immediate_of t.1)) _ (λ x. IsPlace x.0 × FitsSigned w32 x.1) StatementFits
+    (both_fit (memory_of t.0) (immediate_of t.1) IsPlace (FitsSigned w32) (memory_fits t.0) (immediate_fits t.1))
+    (λ x h. record { dst = h.0.0; src = no_register; offset = h.0.1; immediate = h.1; value = tt }))
+statement_with_fits (StoreRegister size) texts =
+    then_fits (two_of texts) _ (λ _. Unit {0}) StatementFits (any (two_of texts)) (λ t known.
+    then_fits (read_both (memory_of t.0) (register_of t.1)) _ (λ x. IsPlace x.0 × (x.1 < 11)) StatementFits
+    (both_fit (memory_of t.0) (register_of t.1) IsPlace (λ n. n < 11) (memory_fits t.0) (register_fits t.1))
+    (λ x h. record { dst = h.0.0; src = h.1; offset = h.0.1; immediate = no_immediate; value = tt }))
+statement_with_fits (Arithmetic width operation) texts =
+    then_fits (two_of texts) _ (λ _. Unit {0}) StatementFits (any (two_of texts)) (λ t known.
+    then_fits (read_both (register_of t.0) (source_of t.1)) _ (λ x. (x.0 < 11) × IsSource x.1) StatementFits
+    (both_fit (register_of t.0) (source_of t.1) (λ n. n < 11) IsSource (register_fits t.0) (source_fits t.1))
+    (λ x h. record { dst = h.0; src = source_low x.1 h.1; offset = operation_fits operation; immediate = source_number x.1 h.1; value = tt }))
+statement_with_fits (Negate width) texts =
+    then_fits (one_of texts) _ (λ _. Unit {0}) StatementFits (any (one_of texts)) (λ t known.
+    then_fits (register_of t) _ (λ n. n < 11) StatementFits (register_fits t)
+    (λ x h. record { dst = h; src = no_register; offset = no_offset; immediate = no_immediate; value = tt }))
+statement_with_fits (MoveSigned extension) texts =
+    then_fits (two_of texts) _ (λ _. Unit {0}) StatementFits (any (two_of texts)) (λ t known.
+    then_fits (read_both (register_of t.0) (register_of t.1)) _ (λ x. (x.0 < 11) × (x.1 < 11)) StatementFits
+    (both_fit (register_of t.0) (register_of t.1) (λ n. n < 11) (λ n. n < 11) (register_fits t.0) (register_fits t.1))
+    (λ x h. record { dst = h.0; src = h.1; offset = extension_fits extension; immediate = no_immediate; value = tt }))
+statement_with_fits (SwapBytes swap size) texts =
+    then_fits (one_of texts) _ (λ _. Unit {0}) StatementFits (any (one_of texts)) (λ t known.
+    then_fits (register_of t) _ (λ n. n < 11) StatementFits (register_fits t)
+    (λ x h. record { dst = h; src = no_register; offset = no_offset; immediate = kept_fits size; value = tt }))
+statement_with_fits Jump texts =
+    then_fits (one_of texts) _ (λ _. Unit {0}) StatementFits (any (one_of texts)) (λ t known.
+    then_fits (distance_of short_of t) _ (FitsSigned w16) StatementFits (distance_fits short_of (FitsSigned w16) no_offset short_fits t)
+    (λ z h. record { dst = no_register; src = no_register; offset = h; immediate = no_immediate; value = tt }))
+statement_with_fits JumpLong texts =
+    then_fits (one_of texts) _ (λ _. Unit {0}) StatementFits (any (one_of texts)) (λ t known.
+    then_fits (distance_of long_of t) _ (FitsSigned w32) StatementFits (distance_fits long_of (FitsSigned w32) no_immediate long_fits t)
+    (λ z h. record { dst = no_register; src = no_register; offset = no_offset; immediate = h; value = tt }))
+statement_with_fits (Branch width relation) texts =
+    then_fits (three_of texts) _ (λ _. Unit {0}) StatementFits (any (three_of texts)) (λ t known.
+    then_fits (read_both (read_both (register_of t.0) (source_of t.1)) (distance_of short_of t.2)) _ (λ x. ((x.0.0 < 11) × IsSource x.0.1) × FitsSigned w16 x.1) StatementFits
+    (both_fit (read_both (register_of t.0) (source_of t.1)) (distance_of short_of t.2) (λ y. (y.0 < 11) × IsSource y.1) (FitsSigned w16)
+    (both_fit (register_of t.0) (source_of t.1) (λ n. n < 11) IsSource (register_fits t.0) (source_fits t.1))
+    (distance_fits short_of (FitsSigned w16) no_offset short_fits t.2))
+    (λ x h. record { dst = h.0.0; src = source_low x.0.1 h.0.1; offset = h.1; immediate = source_number x.0.1 h.0.1; value = tt }))
+statement_with_fits Call texts =
+    then_fits (one_of texts) _ (λ _. Unit {0}) StatementFits (any (one_of texts)) (λ t known.
+    then_fits (immediate_of t) _ (FitsSigned w32) StatementFits (immediate_fits t)
+    (λ z h. record { dst = no_register; src = no_register; offset = no_offset; immediate = h; value = tt }))
+statement_with_fits Exit texts =
+    then_fits (none_of texts) _ (λ _. Unit {0}) StatementFits (any (none_of texts))
+    (λ none known. record { dst = no_register; src = no_register; offset = no_offset; immediate = no_immediate; value = tt })
+
+statement_fits : (text : List ℕ) → IfOk (statement_of text) StatementFits
+unfolding statement_of
+statement_fits text =
+    let named = ok_or (mnemonic_named (before_first is_blank_byte text)) UnknownMnemonic in
+    then_fits named _ (λ _. Unit {0}) StatementFits (any named) (λ mnemonic known.
+    statement_with_fits mnemonic (operands_of (drop (position_or_len is_blank_byte text) text)))
+
+-- ---- lines
+
+-- an instruction, if there is one, fits
+abbrev pub LineFits : Line → Type 0
+LineFits line = IfOk line.insn (λ insn. IfSome insn Fits)
+
+with_fits : (label : Option (List ℕ)) (read : Result Statement FaultKind) → IfOk read StatementFits → LineFits (with_statement label read)
+with_fits label (Ok statement) h = h
+with_fits label (Err kind) h = tt
+
+labelled_fits : (label : Option (List ℕ)) (text : List ℕ) → LineFits (labelled label text)
+labelled_fits label text = by_length (eqb (length text) 0)
+  where
+    by_length : (b : Bool) → LineFits (cond b (record { label = label; insn = Ok None; target = None }) (with_statement label (statement_of text)))
+    by_length true = tt
+    by_length false = with_fits label (statement_of text) (statement_fits text)
+
+line_fits : (bytes : List ℕ) → LineFits (line_of bytes)
+unfolding line_of
+line_fits bytes = by_ascii (list_all is_ascii bytes)
+  where
+    text : List ℕ
+    text = trimmed (uncommented bytes)
+
+    by_ascii : (b : Bool) → LineFits (cond b (line_in text) (record { label = None; insn = Err NotAscii; target = None }))
+    by_ascii true = let parts = split_label text (cut_at 58 text) in labelled_fits parts.0 (trimmed parts.1)
+    by_ascii false = tt
+
+pub lines_fit : (all : List (List ℕ)) → AllByRecursion LineFits (map line_of all)
+lines_fit [] = tt
+lines_fit (bytes ∷ all) = (line_fits bytes, lines_fit all)
+
+-- ---- jumps
+
+-- an instruction that fits and takes as many slots as another
+abbrev pub Fills : Insn → Insn → Type 0
+Fills insn made = Fits made × (slots_taken made ≡ slots_taken insn)
+
+fitting_fits : (jump : ℤ → Insn) (distance : Result ℤ FaultKind) (P : ℤ → Type 0) (Q : Insn → Type 0) → IfOk distance P → ((z : ℤ) → P z → Q (jump z)) → IfOk (fitting jump distance) Q
+fitting_fits jump (Ok z) P Q h made = made z h
+fitting_fits jump (Err fault) P Q h made = tt
+
+jump_by_fits : (insn : Insn) (distance : ℤ) → Fits insn → IfOk (jump_by insn distance) (Fills insn)
+jump_by_fits (insns.Jump unknown) distance fits =
+    fitting_fits insns.Jump (short_of distance) (FitsSigned w16) (Fills (insns.Jump unknown)) (short_fits distance)
+    (λ z h. (record { dst = fits.dst; src = fits.src; offset = h; immediate = fits.immediate; value = tt }, refl))
+jump_by_fits (insns.JumpLong unknown) distance fits =
+    fitting_fits insns.JumpLong (long_of distance) (FitsSigned w32) (Fills (insns.JumpLong unknown)) (long_fits distance)
+    (λ z h. (record { dst = fits.dst; src = fits.src; offset = fits.offset; immediate = h; value = tt }, refl))
+jump_by_fits (insns.Branch width relation dst source unknown) distance fits =
+    fitting_fits (insns.Branch width relation dst source) (short_of distance) (FitsSigned w16) (Fills (insns.Branch width relation dst source unknown)) (short_fits distance)
+    (λ z h. (record { dst = fits.dst; src = fits.src; offset = h; immediate = fits.immediate; value = tt }, refl))
+jump_by_fits insn distance fits = (fits, refl)
+
+pub resolved_fits : (labels : LabelMap) (slot : ℕ) (insn : Insn) (target : Option (List ℕ)) → Fits insn → IfOk (resolved labels slot insn target) (Fills insn)
+resolved_fits labels slot insn None fits = (fits, refl)
+resolved_fits labels slot insn (Some name) fits = by_label (labels name)
+  where
+    by_label : (to : Option ℕ) → IfOk (jump_to insn slot to) (Fills insn)
+    by_label None = tt
+    by_label (Some to) = jump_by_fits insn (pos to -ℤ pos (slot + 1)) fits
