@@ -43,8 +43,11 @@ fn open<F: Files, W: Write>(files: &mut F, path: &str, out: &mut W) -> io::Resul
     }
 }
 
-/// Reads at most 6 bytes.
+/// Reads at most 6 bytes of a file of which no read has failed.
 fn piece<S: Source, W: Write>(file: &mut S, out: &mut W) -> io::Result<()> {
+    if file.failures() > 0 {
+        return Ok(());
+    }
     let mut bytes = [0; 6];
     match file.read(&mut bytes) {
         Ok(count) => {
