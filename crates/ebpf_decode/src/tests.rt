@@ -50,9 +50,15 @@ fn lengths(rt: HostRuntime) -> Result<(), Fail> {
     let zeros = vec![in rt.alloc(); 0u8; 32776]?;
     assert_eq!(rt; zeros.len(), 32776);
     assert_eq!(rt; fault_of(rt.alloc(), &[])?, at_first(FaultKind::Empty));
-    assert_eq!(rt; fault_of(rt.alloc(), &zeros[..9])?, at_first(FaultKind::Length));
+    assert_eq!(rt;
+        fault_of(rt.alloc(), &zeros[..9])?,
+        at_first(FaultKind::Length)
+    );
     assert_eq!(rt; fault_of(rt.alloc(), &zeros)?, at_first(FaultKind::TooLong));
-    assert_eq!(rt; fault_of(rt.alloc(), &zeros[..32768])?, at_first(FaultKind::Opcode));
+    assert_eq!(rt;
+        fault_of(rt.alloc(), &zeros[..32768])?,
+        at_first(FaultKind::Opcode)
+    );
     Ok(())
 }
 
@@ -70,14 +76,18 @@ fn each_opcode(rt: HostRuntime) -> Result<(), Fail> {
         let length = if opcode == 0x18 { 16 } else { 8 };
         match fault_of(rt.alloc(), &bytes[..length])? {
             None => decoded = decoded.wrapping_add(1),
-            Some(Fault {
-                slot: 0,
-                kind: FaultKind::NotInProfile,
-            }) => left_out = left_out.wrapping_add(1),
-            Some(Fault {
-                slot: 0,
-                kind: FaultKind::Opcode,
-            }) => unknown = unknown.wrapping_add(1),
+            Some(
+                Fault {
+                    slot: 0,
+                    kind: FaultKind::NotInProfile,
+                },
+            ) => left_out = left_out.wrapping_add(1),
+            Some(
+                Fault {
+                    slot: 0,
+                    kind: FaultKind::Opcode,
+                },
+            ) => unknown = unknown.wrapping_add(1),
             Some(_) => return Err(Fail::from("another fault")),
         }
     }
