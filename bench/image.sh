@@ -1,8 +1,7 @@
 #!/bin/sh
 # Loading and saving an image of 256 MiB beside copies of it, all between files in memory, and
 # formatting the largest geometry beside one fill of its room, by a C program in memory and by head
-# into a file in memory. Prints five ratios, each of the best of ROUNDS rounds: at least 0.5 is
-# wanted of the first three, at least 1 of the fourth.
+# into a file in memory. Prints five ratios, each of the best of ROUNDS rounds.
 set -eu
 cd "$(dirname "$0")/.."
 . bench/best.sh
@@ -15,7 +14,7 @@ geometry="--block 4096 --zones 16 --size 4096 --capacity 4096 --open 1 --active 
 ./zscli --help > /dev/null
 zscli=crates/zscli/out/zscli
 
-# the zones Full: the header with the number of their blocks, a record of each, and the blocks
+# the zones Full: the header with the number of their blocks, a row of each, and the blocks
 "$zscli" format "$work/empty.img" $geometry
 {
     head -c 32 "$work/empty.img"

@@ -1,7 +1,6 @@
 #!/bin/sh
 # Decoding and listing a program, and assembling its listing, against LLVM's tools on the same
-# bytes and lines. Prints two ratios, LLVM's time by ours, each with the best of ROUNDS rounds: at
-# least 1 is wanted.
+# bytes and lines. Prints two ratios, LLVM's time by ours, each with the best of ROUNDS rounds.
 set -eu
 cd "$(dirname "$0")/.."
 . bench/best.sh

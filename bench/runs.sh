@@ -1,10 +1,10 @@
 #!/bin/sh
 # Times a turn of a run, through the device, of a filter of 11 instructions over blocks of 4096 bytes: beside a
-# Read of such a block through the device (at most 1 is wanted), and beside DPDK's interpreter (Debian's
-# libdpdk-dev) on the same filter and blocks alone (at most 2), over 4096 blocks, which come from memory, and over
-# 64, which stay in a cache. Then the rate of Appends beside plain copies of the same bytes (at least 50 %), the
+# Read of such a block through the device, and beside DPDK's interpreter (Debian's
+# libdpdk-dev) on the same filter and blocks alone, over 4096 blocks, which come from memory, and over
+# 64, which stay in a cache. Then the rate of Appends beside plain copies of the same bytes, the
 # time to admit and to refuse runs of one and of 4096 blocks, on a large image and on a small one, and `exec` of a
-# command file of 64 MiB beside `xxd`, which turns its data to bytes, and as many bytes to text (at least 1). Each
+# command file of 64 MiB beside `xxd`, which turns its data to bytes, and as many bytes to text. Each
 # is the best of several rounds.
 set -eu
 here=$(cd "$(dirname "$0")" && pwd)
