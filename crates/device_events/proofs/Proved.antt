@@ -1,17 +1,19 @@
--- The laws of this crate, proved: what others cite of it.
-use Rattle.std.proofs.Common.{◌≡◌, ℕ, List, sym, subst, arith}
+-- What others cite of this crate: what is printed fits the laws of an `Out`.
+use Rattle.std.proofs.Common.{◌≡◌, ℕ, List, [], sym, subst, arith}
 use Rattle.std.specs.Prelude.{flat_map}
 use Rattle.std.specs.Io.KnownBytes.{Appends}
 use Rattle.std.proofs.KnownBytes.{Appends-nil, Appends-trans}
 use Rattle.std.proofs.lemmas.List.Concat.{flat_map-append}
-use Rattle.device_events.specs.Printed.{PrintsInParts, PrintsNone}
-use Rattle.device_events.specs.Replies.{ReplyWithData}
+use Rattle.device_events.specs.Printed.{Printed, Prints}
+use Rattle.device_events.specs.Replies.{Joins, ReplyWithData}
 
 module _ (text : ReplyWithData → List ℕ) where
-  pub prints_none : PrintsNone text
+  -- as long as nothing is printed, it is the texts of no replies
+  pub prints_none : (printed : Printed) → Prints text printed printed []
   prints_none printed = record { no_fewer = omega arith; texts = λ same. Appends-nil printed.bytes }
 
-  pub prints_in_parts : PrintsInParts text
+  -- what is printed in two parts is printed in order
+  pub prints_in_parts : Joins (Prints text)
   prints_in_parts a b c first later early late = record {
     no_fewer = omega (arith, early.no_fewer, late.no_fewer);
     texts = λ same.

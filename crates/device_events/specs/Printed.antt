@@ -1,7 +1,7 @@
 -- What an `Out` tells that prints the replies that it takes.
-use Rattle.std.specs.Prelude.{ℕ, ◌≡◌, ◌≤◌, List, [], Option, flat_map}
+use Rattle.std.specs.Prelude.{ℕ, ◌≡◌, ◌≤◌, List, Option, flat_map}
 use Rattle.std.specs.Io.KnownBytes.{Appends}
-use Rattle.device_events.specs.Replies.{Joins, ReplyWithData}
+use Rattle.device_events.specs.Replies.{ReplyWithData}
 
 -- how many replies were refused, and the bytes that were printed, where these are known
 pub record Printed : Type 0 where
@@ -13,11 +13,3 @@ pub record Printed : Type 0 where
 pub record Prints (text : ReplyWithData → List ℕ) (old new : Printed) (replies : List ReplyWithData) : Type 0 where
   pub no_fewer : old.refused ≤ new.refused
   pub texts : new.refused ≡ old.refused → Appends old.bytes new.bytes (flat_map text replies)
-
--- as long as nothing is printed, it is the texts of no replies
-abbrev pub PrintsNone : (ReplyWithData → List ℕ) → Type 0
-PrintsNone text = (printed : Printed) → Prints text printed printed []
-
--- what is printed in two parts is printed in order
-abbrev pub PrintsInParts : (ReplyWithData → List ℕ) → Type 0
-PrintsInParts text = Joins (Prints text)

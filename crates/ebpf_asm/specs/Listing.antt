@@ -7,8 +7,6 @@ use Rattle.instruction_set.specs.declared.insn.Insn.TheVariants.{LoadImmediate, 
 use Rattle.instruction_set.specs.declared.insn.Source.{Source}
 use Rattle.instruction_set.specs.declared.insn.Source.TheVariants as sources
 use Rattle.instruction_set.specs.Spelling.{instructions_of}
-use Rattle.ebpf_asm.specs.declared.listing.Operand.{Operand}
-use Rattle.ebpf_asm.specs.declared.listing.Operand.TheVariants as operands
 use Rattle.ebpf_asm.specs.declared.mnemonic.Mnemonic.{Mnemonic}
 use Rattle.ebpf_asm.specs.declared.mnemonic.Mnemonic.TheVariants as mnemonics
 use Rattle.ebpf_asm.specs.Mnemonic.{mnemonic_text}
@@ -47,13 +45,6 @@ mnemonic_of (Branch width relation dst source distance) = mnemonics.Branch width
 mnemonic_of (Call helper) = mnemonics.Call
 mnemonic_of Exit = mnemonics.Exit
 
--- an operand as listings have it
-abbrev pub operand_text : Operand → List ℕ
-operand_text (operands.Source source) = source_text source
-operand_text (operands.Wide value) = wide_text value
-operand_text (operands.Memory base offset) = memory_text base offset
-operand_text (operands.Distance distance) = signed_text distance
-
 abbrev pub operand_texts : Insn → List (List ℕ)
 operand_texts (LoadImmediate dst value) = register_text dst ∷ wide_text value ∷ []
 operand_texts (Load size dst src offset) = register_text dst ∷ memory_text src offset ∷ []
@@ -78,11 +69,6 @@ further_texts texts = flat_map (λ text. codes ", " ++ text) texts
 abbrev pub operands_text : List (List ℕ) → List ℕ
 operands_text [] = []
 operands_text (first ∷ others) = codes " " ++ (first ++ further_texts others)
-
--- a text behind what stands before it, or neither
-abbrev pub text_behind : List ℕ → Option (List ℕ) → List ℕ
-text_behind before None = []
-text_behind before (Some text) = before ++ text
 
 abbrev pub insn_text : Insn → List ℕ
 insn_text insn = mnemonic_text (mnemonic_of insn) ++ operands_text (operand_texts insn)

@@ -3,3 +3,4 @@ pub mod Labels
 pub mod LineView
 pub mod Number
 pub mod Listed
+pub mod ListedOperands

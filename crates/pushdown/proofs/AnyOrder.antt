@@ -12,14 +12,13 @@ use Rattle.pushdown.specs.EventReplies.{Happening}
 use Rattle.device_events.specs.Replies.{ReplyWithData}
 use Rattle.pushdown.specs.AnyOrder.{AreSameTurns, ComeToTheSame, IsUnshared, TurnsInAnyOrder, own_replies}
 use Rattle.pushdown.specs.Draining.{replies_to_turns, state_after_turns}
-use Rattle.pushdown.specs.Events.{state_after}
-use Rattle.pushdown.specs.Machine.{slots_left, take_turn, turned, turned_at}
+use Rattle.pushdown.specs.EventEffects.{slots_left, take_turn, turned, turned_at}
 use Rattle.pushdown.specs.Outcome.{Ending, Turn}
-use Rattle.pushdown.specs.State.{Place, State, new_state, place_at, program_at}
+use Rattle.pushdown.specs.State.{Place, State, place_at, program_at}
 use Rattle.pushdown.proofs.Commuting.{Empty, OwnAll, kept, reply_after, state_of_both, stays_own, turns_keep}
 use Rattle.pushdown.proofs.Places.{AreApart}
 use Rattle.pushdown.proofs.SameTurns.{after, in_any_order}
-use Rattle.pushdown.proofs.States.{reached}
+use Rattle.pushdown.proofs.States.{reached_fine}
 
 -- ---- slots of which all are emptied but one
 
@@ -193,5 +192,4 @@ module _ (s : State) (apart : AreApart s.places) (first second : List ℕ) (same
       }
 
 pub turns_in_any_order : {D : Type 0} (operations : Operations D) → AcceptedNeverTraps operations → TurnsInAnyOrder operations
-turns_in_any_order operations never ns events is are first second same =
-    any_order (state_after operations events (new_state ns)) (reached operations never ns events is are).apart first second same
+turns_in_any_order operations never s reached first second same = any_order s (reached_fine operations never s reached).apart first second same

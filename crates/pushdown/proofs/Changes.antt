@@ -14,10 +14,10 @@ use Rattle.zns_commands.specs.Laws.{Commanded, Faulted, IsSpelled, NamespaceEven
 use Rattle.zns_commands.specs.Transfer.{transfer_checks}
 use Rattle.pushdown.specs.Admission.{Loaded}
 use Rattle.pushdown.specs.EventReplies.{Submission}
-use Rattle.pushdown.specs.Machine.{admitted_place, happens, just_loaded, loading, result_by, start_by, submitted, take_turn, turn_state, turned, turned_at, why_not_run}
+use Rattle.pushdown.specs.EventEffects.{admitted_place, happens, just_loaded, loading, result_by, start_by, submitted, take_turn, turn_state, turned, turned_at, why_not_run}
 use Rattle.pushdown.specs.Outcome.{Turn}
-use Rattle.pushdown.specs.Pushdown.{HasBytes}
-use Rattle.pushdown.specs.State.{Place, State, free_run, holds_of, place_at, program_at, with_namespace, with_place, with_slot}
+use Rattle.pushdown.specs.Events.{HasBytes}
+use Rattle.pushdown.specs.State.{Place, State, free_place, holds_of, place_at, program_at, with_namespace, with_place, with_slot}
 use Rattle.device_events.specs.declared.event.Event.{Event}
 use Rattle.device_events.specs.declared.event.Event.TheVariants as event
 use Rattle.pushdown.proofs.Loads.{TakesSlot, loading_is}
@@ -49,7 +49,7 @@ module _ {D : Type 0} (operations : Operations D) (P : State → Type 0) (s : St
     pub step : (step : NamespaceEvent) → kept.holds_of step ≡ holds_of s → (HasBytes e → IsSpelled step) → P (with_namespace s (after step s.namespace))
     pub load : (sub : Submission) (load : LoadCommand) (t : State) → (HasBytes e → AreBytes sub.input)
         → (takes : TakesSlot operations sub s load t) → P (with_slot s load.slot (Some (just_loaded takes.program load.limit)))
-    pub start : (sub : Submission) (order : RunCommand) (run : ℕ) → why_not_run sub s order ≡ None → free_run s ≡ Some run → 1 ≤ order.blocks
+    pub start : (sub : Submission) (order : RunCommand) (run : ℕ) → why_not_run sub s order ≡ None → free_place s ≡ Some run → 1 ≤ order.blocks
         → P (with_place s run (Some (admitted_place sub s order)))
     pub turn : (run : ℕ) (place : Place) (turn : Turn) (later : List Turn) → e ≡ event.Turn run → place_at s run ≡ Some place
         → place.turns ≡ turn ∷ later → P (turn_state s run place turn later)
@@ -63,7 +63,7 @@ module _ {D : Type 0} (operations : Operations D) (P : State → Type 0) (s : St
     ]
 
     after_start : (why : Option Status) (free : Option ℕ) (sub : Submission) (order : RunCommand) → why_not_run sub s order ≡ why
-        → free_run s ≡ free → 1 ≤ order.blocks → P (start_by why free sub s order).state
+        → free_place s ≡ free → 1 ≤ order.blocks → P (start_by why free sub s order).state
     after_start (Some status) free sub order is at some = holds.same
     after_start None None sub order is at some = holds.same
     after_start None (Some run) sub order is at some = holds.start sub order run is at some
@@ -81,7 +81,7 @@ module _ {D : Type 0} (operations : Operations D) (P : State → Type 0) (s : St
         (λ has. spelled (holds_of s) c sub.input (decoded_has sub.entry (command.Standard c) is) (are has))
     after_entry starved sub (Ok (command.Load load)) is are = after_load starved sub load are
     after_entry starved sub (Ok (command.Run order)) is are =
-        after_start (why_not_run sub s order) (free_run s) sub order refl refl (decoded_has sub.entry (command.Run order) is)
+        after_start (why_not_run sub s order) (free_place s) sub order refl refl (decoded_has sub.entry (command.Run order) is)
     after_entry starved sub (Ok (command.Result slot)) is are =
         after_result (program_at s slot) (first_failed (transfer_checks 0 0 sub.input)) sub
 

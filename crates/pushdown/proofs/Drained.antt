@@ -6,13 +6,12 @@ use Rattle.word_domain.specs.Domain.{Operations}
 use Rattle.accepted_programs.specs.Laws.{AcceptedNeverTraps}
 use Rattle.pushdown.specs.EventReplies.{Happening}
 use Rattle.pushdown.specs.Draining.{Drains, lowest_run, turns_left, turns_left_at}
-use Rattle.pushdown.specs.Events.{state_after}
 use Rattle.pushdown.specs.Laws.{DrainingEnds, TurnsLeaveFewer}
-use Rattle.pushdown.specs.Machine.{place_left, turned}
+use Rattle.pushdown.specs.EventEffects.{place_left, turned}
 use Rattle.pushdown.specs.Outcome.{Ending, Turn}
-use Rattle.pushdown.specs.State.{Place, State, new_state, place_at}
+use Rattle.pushdown.specs.State.{Place, State, place_at}
 use Rattle.pushdown.proofs.OthersEvents.{turned_is}
-use Rattle.pushdown.proofs.States.{AreTurns, IsFine, PlaceIsFine, place_fine, reached, turn_fine}
+use Rattle.pushdown.proofs.States.{AreTurns, IsFine, PlaceIsFine, place_fine, reached_fine, turn_fine}
 
 less_left : (place : Place) (later : List Turn) (ending : Option Ending) → turns_left_at (place_left place later ending) ≤ length later
 less_left place later None = omega arith
@@ -65,11 +64,9 @@ module _ {D : Type 0} (operations : Operations D) (never : AcceptedNeverTraps op
   drains (suc n) s h few = by_lowest (suc n) s (lowest_run s) h few refl (λ t fine less. drains n t fine (omega (arith, less)))
 
 pub draining_ends : {D : Type 0} (operations : Operations D) → AcceptedNeverTraps operations → DrainingEnds operations
-draining_ends operations never ns events is are =
-    let s = state_after operations events (new_state ns) in
-    drains operations never ns.block (turns_left s.places) s (reached operations never ns events is are) (omega arith)
+draining_ends operations never s reached =
+    drains operations never reached.first.block (turns_left s.places) s (reached_fine operations never s reached) (omega arith)
 
 pub turns_leave_fewer : {D : Type 0} (operations : Operations D) → AcceptedNeverTraps operations → TurnsLeaveFewer operations
-turns_leave_fewer operations never ns events run is are some =
-    let s = state_after operations events (new_state ns) in
-    found_less operations never ns.block s run (place_at s run) (reached operations never ns events is are) refl some
+turns_leave_fewer operations never s run reached some =
+    found_less operations never reached.first.block s run (place_at s run) (reached_fine operations never s reached) refl some

@@ -11,12 +11,11 @@ use Rattle.emit_append.specs.Packing.{packed}
 use Rattle.emit_append.proofs.Proved.{packed_frames_read_back}
 use Rattle.pushdown.specs.Admission.{source_blocks, task_of}
 use Rattle.pushdown.specs.BlockRuns.{Task, groups_of, runs_of}
-use Rattle.pushdown.specs.Events.{state_after}
 use Rattle.pushdown.specs.Laws.{AreEmitted, OutcomeUnpacks}
-use Rattle.pushdown.specs.State.{new_state, program_at}
+use Rattle.pushdown.specs.State.{program_at}
 use Rattle.pushdown.proofs.BlockRuns.{IsDone}
 use Rattle.pushdown.proofs.Outcomes.{outcome_is_packed}
-use Rattle.pushdown.proofs.States.{all_exit, groups_within, reached, ready, runs_all_done}
+use Rattle.pushdown.proofs.States.{all_exit, groups_within, reached_fine, ready, runs_all_done}
 
 record Emits (runs : List BlockRun) : Type 0 where
   records : List (List (List ℕ))
@@ -39,18 +38,17 @@ emits task (run ∷ runs) done =
     }
 
 pub emitted_reads_back : {D : Type 0} (operations : Operations D) → AcceptedNeverTraps operations → OutcomeUnpacks operations
-emitted_reads_back operations never ns events is are sub order run admitted =
-    let s = state_after operations events (new_state ns) in
-    let fine = reached operations never ns events is are in
+emitted_reads_back operations never s reached sub order run admitted =
+    let fine = reached_fine operations never s reached in
     let none = admitted.passed in
     let task = task_of s.namespace (program_at s order.slot) order in
     let source = source_blocks s.namespace order in
     let runs = runs_of task source in
     let block = task.sizes.block in
-    let done = runs_all_done operations never ns.block sub s order fine none in
+    let done = runs_all_done operations never reached.first.block sub s order fine none in
     let given = emits task runs done in
-    let sizes = (ready operations never ns.block sub s order fine none).sizes in
-    let whole = (outcome_is_packed task source (all_exit operations never ns.block sub s order fine none)).blocks in
+    let sizes = (ready operations never reached.first.block sub s order fine none).sizes in
+    let whole = (outcome_is_packed task source (all_exit operations never reached.first.block sub s order fine none)).blocks in
     let fit = subst (FitBlock block) given.are.groups (groups_within task runs sizes.fits done) in
     let back = packed_frames_read_back block given.records
     (omega (arith, fine.is.shape.block_some)) (omega (arith, fine.is.shape.block_most)) given.some fit in (

@@ -21,10 +21,10 @@ use Rattle.pushdown.specs.EventReplies.{Happening, Submission, plain}
 use Rattle.pushdown.specs.BlockRuns.{no_scratch, runs_of}
 use Rattle.pushdown.specs.Events.{Occurrence, state_after}
 use Rattle.pushdown.specs.Laws.{AdmittedStarts, StartsRun}
-use Rattle.pushdown.specs.Machine.{admitted_place, happens, start_by, submitted}
+use Rattle.pushdown.specs.EventEffects.{admitted_place, happens, start_by, submitted}
 use Rattle.pushdown.specs.Outcome.{Turn, outcome}
-use Rattle.pushdown.specs.Pushdown.{ChangesDestinationAlone, DoesItsTurns, EndsWithLast, IsAdmitted, Pushdown, TellsWhole, blocks_at, no_turn, own_turns}
-use Rattle.pushdown.specs.State.{Place, State, free_run, holds_of, new_state, place_at, program_at, with_place}
+use Rattle.pushdown.specs.Pushdown.{ChangesDestinationAlone, DoesItsTurns, EndsWithLast, IsAdmitted, Pushdown, TellsFramesAndBlocks, blocks_at, no_turn, own_turns}
+use Rattle.pushdown.specs.State.{Place, State, free_place, holds_of, place_at, program_at, with_place}
 use Rattle.device_events.specs.declared.event.Event.TheVariants as event
 use Rattle.device_events.specs.declared.reply.Reply.TheVariants as reply
 use Rattle.pushdown.proofs.Added.{added_leaves, added_shape, open_on}
@@ -35,7 +35,7 @@ use Rattle.pushdown.proofs.OthersEvents.{free_within}
 use Rattle.pushdown.proofs.Outcomes.{outcome_is_packed}
 use Rattle.pushdown.proofs.Places.{AreApart, event_apart}
 use Rattle.pushdown.proofs.Spelled.{decoded_has}
-use Rattle.pushdown.proofs.States.{IsFine, admitted_room, all_exit, few_source, reached, ready as is_ready, runs_all_done, some_run, turns_are, written}
+use Rattle.pushdown.proofs.States.{IsFine, admitted_room, all_exit, few_source, reached_fine, ready as is_ready, runs_all_done, some_run, turns_are, written}
 
 -- ---- a run that is admitted, and the events after it
 
@@ -53,7 +53,7 @@ module _ {D : Type 0} (operations : Operations D) (s : State) (queue : ℕ) (ent
       → begun starved ≡ record { reply = plain (reply.Pending run); state = with_place s run (Some place) }
   started starved admitted =
       ap (submitted operations starved sub s) admitted.asked
-      ∙ ap (λ (why : Option Status). start_by why (free_run s) sub s order) admitted.passed
+      ∙ ap (λ (why : Option Status). start_by why (free_place s) sub s order) admitted.passed
       ∙ ap (λ (free : Option ℕ). start_by None free sub s order) admitted.free
 
   placed : IsAdmitted s sub order run → get_or (set s.places run (Some place)) run None ≡ Some place
@@ -70,7 +70,7 @@ module _ {D : Type 0} (operations : Operations D) (s : State) (queue : ℕ) (ent
 
   destination_on : IsAdmitted s sub order run → (zone_at s.namespace place.destination).state ≢ Offline
   destination_on admitted =
-      let checks = admission_checks s.namespace (holds_of s) (is_some (free_run s)) (program_at s order.slot) order sub.input in
+      let checks = admission_checks s.namespace (holds_of s) (is_some (free_place s)) (program_at s order.slot) order sub.input in
       let state = (zone_at s.namespace place.destination).state in
       open_on state (demanded (is_open state) DESTINATION_NOT_OPEN (passed checks 12 admitted.passed))
 
@@ -158,8 +158,8 @@ module _ {D : Type 0} (operations : Operations D) (never : AcceptedNeverTraps op
   abbrev given : Submission
   given = record { queue = queue; entry = entry; input = input.items }
 
-  tells_whole : IsAdmitted s given order run → TellsWhole operations s queue entry input starved order run events
-  tells_whole admitted =
+  tells_frames_and_blocks : IsAdmitted s given order run → TellsFramesAndBlocks operations s queue entry input starved order run events
+  tells_frames_and_blocks admitted =
       let none = admitted.passed in
       let ns = s.namespace in
       let task = task_of ns (program_at s order.slot) order in
@@ -183,19 +183,19 @@ module _ {D : Type 0} (operations : Operations D) (never : AcceptedNeverTraps op
       }
 
 pub pushdown : {D : Type 0} (operations : Operations D) → AcceptedNeverTraps operations → Pushdown operations
-pushdown operations never ns before is are queue entry input starved order run after admitted =
+pushdown operations never s reached queue entry input starved order run after admitted =
     let sub : Submission = record { queue = queue; entry = entry; input = input.items } in
-    let s = state_after operations before (new_state ns) in
-    let fine = reached operations never ns before is are in
+    let fine = reached_fine operations never s reached in
+    let block = reached.first.block in
     let task = task_of s.namespace (program_at s order.slot) order in
     let runs = runs_of task (source_blocks s.namespace order) in
     let none = admitted.passed in
-    let done = runs_all_done operations never ns.block sub s order fine none in
-    let ends = (turns_are operations never ns.block sub s order fine none (decoded_has entry (command.Run order) admitted.asked)).ends in
+    let done = runs_all_done operations never block sub s order fine none in
+    let ends = (turns_are operations never block sub s order fine none (decoded_has entry (command.Run order) admitted.asked)).ends in
     record {
-      no_turn_traps = record { exits = all_exit operations never ns.block sub s order fine none; ends = ends };
+      no_turn_traps = record { exits = all_exit operations never block sub s order fine none; ends = ends };
       few_steps = all_from (IsDone task) (λ (r : BlockRun). r.steps ≤ instruction_count task.program) (λ r h. h.exits.steps) runs done;
       changes_destination_alone = changes_destination_alone operations s queue entry input order run fine.apart starved admitted ends after;
       does_its_turns = does_its_turns operations s queue entry input order run fine.apart starved admitted ends after;
-      tells_whole = tells_whole operations never ns.block s fine queue entry input starved order run after admitted;
+      tells_frames_and_blocks = tells_frames_and_blocks operations never block s fine queue entry input starved order run after admitted;
     }

@@ -21,6 +21,7 @@ mod Parts
 mod Pending
 mod Places
 pub mod Proved
+mod Reached
 mod ReadBack
 mod Rests
 mod RunsFit

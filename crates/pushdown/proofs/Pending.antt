@@ -12,9 +12,9 @@ use Rattle.pushdown.specs.Admission.{Loaded}
 use Rattle.pushdown.specs.EventReplies.{Happening, Submission, plain}
 use Rattle.device_events.specs.Replies.{ReplyWithData}
 use Rattle.pushdown.specs.Laws.{PendingIsAdmitted}
-use Rattle.pushdown.specs.Machine.{result_by, start_by, submitted, why_not_run}
+use Rattle.pushdown.specs.EventEffects.{result_by, start_by, submitted, why_not_run}
 use Rattle.pushdown.specs.Pushdown.{IsAdmitted}
-use Rattle.pushdown.specs.State.{State, free_run, program_at}
+use Rattle.pushdown.specs.State.{State, free_place, program_at}
 use Rattle.device_events.specs.declared.reply.Reply.{Reply}
 use Rattle.device_events.specs.declared.reply.Reply.TheVariants as reply
 use Rattle.pushdown.proofs.Loads.{is_pending, loading_is}
@@ -52,7 +52,7 @@ module _ {D : Type 0} (operations : Operations D) where
   pends starved sub s (Ok (command.Load load)) run e is =
       absurd (other_reply _ run (loading_is operations sub s load starved).replied is)
   pends starved sub s (Ok (command.Run order)) run e is =
-      let both = start_pends (why_not_run sub s order) (free_run s) sub s order run is in
+      let both = start_pends (why_not_run sub s order) (free_place s) sub s order run is in
       (order, record { asked = e; passed = both.0; free = both.1 })
   pends starved sub s (Ok (command.Result slot)) run e is =
       absurd (given_pends (program_at s slot) (first_failed (transfer_checks 0 0 sub.input)) sub s run is)

@@ -13,9 +13,9 @@ use Rattle.nvme_entry.proofs.Proved.{passed, demanded}
 use Rattle.zone_resources.proofs.Proved.{users_name_zones}
 use Rattle.pushdown.specs.Admission.{admission_checks, destination_zone}
 use Rattle.pushdown.specs.EventReplies.{Submission}
-use Rattle.pushdown.specs.Machine.{admitted_place, happens, place_left, turned, why_not_run}
+use Rattle.pushdown.specs.EventEffects.{admitted_place, happens, place_left, turned, why_not_run}
 use Rattle.pushdown.specs.Outcome.{Ending, Turn}
-use Rattle.pushdown.specs.State.{Place, State, destination_of, free_run, holds_of, new_state, place_at, program_at}
+use Rattle.pushdown.specs.State.{Place, State, destination_of, free_place, holds_of, new_state, place_at, program_at}
 use Rattle.device_events.specs.declared.event.Event.{Event}
 use Rattle.pushdown.proofs.Changes.{after_event, after_turn}
 use Rattle.pushdown.proofs.OthersEvents.{free_within, there}
@@ -92,7 +92,7 @@ pub admitted_free : (sub : Submission) (s : State) (order : RunCommand) → why_
 admitted_free sub s order none =
     let holds = holds_of s in
     let z = destination_zone s.namespace order in
-    let checks = admission_checks s.namespace holds (is_some (free_run s)) (program_at s order.slot) order sub.input in
+    let checks = admission_checks s.namespace holds (is_some (free_place s)) (program_at s order.slot) order sub.input in
     not_true (is_destination holds z) (demanded (not (is_destination holds z)) ZONE_HELD (passed checks 11 none))
 
 -- a run to a zone that no other has
@@ -134,7 +134,7 @@ module _ (places : List (Option Place)) (run : ℕ) (new : Place) (h : AreApart 
 -- ---- events
 
 -- a run that starts
-pub started_apart : (sub : Submission) (s : State) (order : RunCommand) (run : ℕ) → why_not_run sub s order ≡ None → free_run s ≡ Some run
+pub started_apart : (sub : Submission) (s : State) (order : RunCommand) (run : ℕ) → why_not_run sub s order ≡ None → free_place s ≡ Some run
     → AreApart s.places → AreApart (set s.places run (Some (admitted_place sub s order)))
 started_apart sub s order run passed free h =
     placed_apart s.places run (admitted_place sub s order) h (free_within s.places run free) (admitted_free sub s order passed)

@@ -8,6 +8,7 @@ use Rattle.pushdown.specs.Laws.{BlocksLeaveOthers, DrainingEnds, EventsKeepForRu
 use Rattle.pushdown.specs.Parts.{DrainedByTurns, EventsJoin, InParts, ServedAndDrained}
 use Rattle.pushdown.specs.Pushdown.{Pushdown}
 use Rattle.pushdown.specs.ReadBack.{AppendsReadBack, RunsReadBack, WritesReadBack}
+use Rattle.pushdown.specs.Reached.{EventsKeepReached, NewIsReached, TurnsKeepReached}
 use Rattle.pushdown.specs.View.{SeenAtAdmission, SeenStays}
 use Rattle.pushdown.proofs.Added as added
 use Rattle.pushdown.proofs.AnyOrder as any_order
@@ -15,6 +16,7 @@ use Rattle.pushdown.proofs.Drained as drained
 use Rattle.pushdown.proofs.Headline as headline
 use Rattle.pushdown.proofs.KeptForRuns as kept
 use Rattle.pushdown.proofs.Parts as parts
+use Rattle.pushdown.proofs.Reached as reached
 use Rattle.pushdown.proofs.ReadBack as read_back
 use Rattle.pushdown.proofs.Rests as rests
 use Rattle.pushdown.proofs.RunsRead as runs_read
@@ -50,6 +52,15 @@ pub events_join : EventsJoin
 events_join = parts.events_join
 
 module _ {D : Type 0} (operations : Operations D) where
+  pub new_is_reached : NewIsReached operations
+  new_is_reached = reached.new_is_reached operations
+
+  pub events_keep_reached : EventsKeepReached operations
+  events_keep_reached = reached.events_keep_reached operations
+
+  pub turns_keep_reached : TurnsKeepReached operations
+  turns_keep_reached = reached.turns_keep_reached operations
+
   pub in_parts : InParts operations
   in_parts = parts.in_parts operations
 

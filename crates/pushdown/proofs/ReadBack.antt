@@ -25,9 +25,9 @@ use Rattle.zns_commands.proofs.Proved.{appended_stays, lying_is_read, written_st
 use Rattle.zns_commands.proofs.Proved.{BlocksLieAt, KeepsZone}
 use Rattle.pushdown.specs.EventReplies.{Happening, Submission}
 use Rattle.pushdown.specs.Events.{Occurrence, state_after}
-use Rattle.pushdown.specs.Machine.{commanded, happens, submitted}
+use Rattle.pushdown.specs.EventEffects.{commanded, happens, submitted}
 use Rattle.pushdown.specs.Pushdown.{blocks_at}
-use Rattle.pushdown.specs.ReadBack.{AppendsReadBack, BlocksAreRead, IsCompleted, NoEventClears, ReadsGive, Submits, WritesReadBack, WrittenIsRead}
+use Rattle.pushdown.specs.ReadBack.{AppendsReadBack, BlocksAreRead, IsCompleted, NoneClears, ReadsGive, Submits, WritesReadBack, WrittenIsRead}
 use Rattle.pushdown.specs.State.{State, holds_of}
 use Rattle.device_events.specs.declared.event.Event.{Event}
 use Rattle.device_events.specs.declared.event.Event.TheVariants as event
@@ -116,7 +116,7 @@ module _ {D : Type 0} (operations : Operations D) where
 
   -- what is left of a zone after a command and after events that don't clear it
   lasts : (s : State) (o : Occurrence) (c : StandardCommand) (input : List ℕ) (events : List Occurrence) (z : ℕ) → Submits o.event c input
-      → NoEventClears operations z events (happens operations s o.starved o.event).state
+      → NoneClears operations z events (happens operations s o.starved o.event).state
       → KeepsZone (meaning s.namespace (holds_of s) c input).namespace
       (state_after operations events (happens operations s o.starved o.event).state).namespace z
   lasts s o c input events z is none =

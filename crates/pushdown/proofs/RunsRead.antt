@@ -12,21 +12,22 @@ use Rattle.accepted_programs.specs.Laws.{AcceptedNeverTraps}
 use Rattle.program_interface.specs.Bytes.{AreBytes}
 use Rattle.image_store.specs.Blocks.{bytes_of}
 use Rattle.image_store.specs.Geometry.{Shape}
-use Rattle.image_store.specs.Namespace.{ZonedNamespace, shape, IsNamespace}
+use Rattle.image_store.specs.Namespace.{shape, IsNamespace}
 use Rattle.nvme_entry.proofs.Proved.{demanded, passed}
 use Rattle.pushdown.specs.Admission.{admission_checks}
 use Rattle.pushdown.specs.EventReplies.{Submission}
-use Rattle.pushdown.specs.Events.{Occurrence, state_after}
+use Rattle.pushdown.specs.Events.{AreEvents, Occurrence, state_after}
 use Rattle.pushdown.specs.Outcome.{Turn, appended_by}
-use Rattle.pushdown.specs.Pushdown.{AreEvents, IsAdmitted, blocks_at}
-use Rattle.pushdown.specs.ReadBack.{AppendedAreRead, EmittedAreRead, NoEventClears, ReadsGive, RunsReadBack, after_turn, done, place, pointer, submitted}
-use Rattle.pushdown.specs.State.{State, free_run, holds_of, new_state, program_at}
+use Rattle.pushdown.specs.Pushdown.{IsAdmitted, blocks_at}
+use Rattle.pushdown.specs.ReadBack.{AppendedAreRead, EmittedAreRead, NoneClears, ReadsGive, RunsReadBack, after_turn, before, destination, pointer, turns}
+use Rattle.pushdown.specs.Reached.{IsReached}
+use Rattle.pushdown.specs.State.{State, free_place, holds_of, program_at}
 use Rattle.device_events.specs.declared.event.Event.TheVariants as event
 use Rattle.pushdown.proofs.Emitted.{emitted_reads_back}
 use Rattle.pushdown.proofs.Headline.{pushdown}
 use Rattle.pushdown.proofs.Lasting.{events_keep, shapes_are_kept}
 use Rattle.pushdown.proofs.ReadBack.{each_is_read, part_is_read}
-use Rattle.pushdown.proofs.States.{IsFine, events_fine, reached, turn_fine}
+use Rattle.pushdown.proofs.States.{IsFine, events_fine, reached_fine, turn_fine}
 
 none_beside : (xs : List ℕ) → length xs ≡ 0 → AreBytes xs
 none_beside [] none = λ i. omega arith
@@ -35,94 +36,93 @@ none_beside (x ∷ xs) none = absurd (omega (arith, none))
 -- no data stands beside a Run
 admitted_bytes : (s : State) (sub : Submission) (order : RunCommand) (run : ℕ) → IsAdmitted s sub order run → AreBytes sub.input
 admitted_bytes s sub order run admitted =
-    let checks = admission_checks s.namespace (holds_of s) (is_some (free_run s)) (program_at s order.slot) order sub.input in
+    let checks = admission_checks s.namespace (holds_of s) (is_some (free_place s)) (program_at s order.slot) order sub.input in
     let test = nat_eq (length sub.input) 0 in
     none_beside sub.input (eqb-true (length sub.input) 0 (demanded test INVALID_FIELD_IN_COMMAND (passed checks 1 admitted.passed)))
 
-module _ {D : Type 0} (operations : Operations D) (never : AcceptedNeverTraps operations) (ns : ZonedNamespace) (before : List Occurrence)
-    (is : IsNamespace ns) (are : AreEvents before) (queue : ℕ) (entry : List ℕ) (input : Vec ℕ Global) (starved : Bool) (order : RunCommand) (run : ℕ)
-    (events later : List Occurrence) where
-  abbrev s : State
-  s = state_after operations before (new_state ns)
+module _ {D : Type 0} (operations : Operations D) (never : AcceptedNeverTraps operations) (s : State) (reached : IsReached operations s)
+    (queue : ℕ) (entry : List ℕ) (input : Vec ℕ Global) (starved : Bool) (order : RunCommand) (run : ℕ) (events later : List Occurrence) where
+  abbrev block : ℕ
+  block = reached.first.block
 
   abbrev sub : Submission
   sub = record { queue = queue; entry = entry; input = input.items }
 
-  abbrev turns : List Turn
-  turns = (place operations s queue entry input starved order run events later).turns
+  abbrev all_turns : List Turn
+  all_turns = turns operations s queue entry input starved order run events later
 
-  abbrev destination : ℕ
-  destination = (place operations s queue entry input starved order run events later).destination
+  abbrev to : ℕ
+  to = destination operations s queue entry input starved order run events later
 
   abbrev start : ℕ
   start = pointer operations s queue entry input starved order run events later
 
   abbrev so_far : ℕ
-  so_far = done operations s queue entry input starved order run events later
+  so_far = before operations s queue entry input starved order run events later
 
   abbrev asked : Occurrence
-  asked = submitted operations s queue entry input starved order run events later
+  asked = record { event = event.Submit queue entry input; starved = starved }
 
   abbrev now : State
   now = state_after operations (asked ∷ events) s
 
-  abbrev next : State
-  next = after_turn operations s queue entry input starved order run events later
+  abbrev then : State
+  then = after_turn operations s queue entry input starved order run events later
 
   abbrev last : State
-  last = state_after operations later next
+  last = state_after operations later then
 
-  fine : IsFine operations never ns.block s
-  fine = reached operations never ns before is are
+  fine : IsFine operations never block s
+  fine = reached_fine operations never s reached
 
   last_shape : shape last.namespace ≡ shape s.namespace
   last_shape =
       let turn : Occurrence = record { event = event.Turn run; starved = false } in
-      shapes_are_kept operations next later ∙ shapes_are_kept operations now (turn ∷ []) ∙ shapes_are_kept operations s (asked ∷ events)
+      shapes_are_kept operations then later ∙ shapes_are_kept operations now (turn ∷ []) ∙ shapes_are_kept operations s (asked ∷ events)
 
   -- each part of these blocks is read
   abbrev PartsAreRead : List (List ℕ) → Type 0
   PartsAreRead all = (at blocks : ℕ) → at + blocks ≤ length all → 1 ≤ blocks → blocks * s.namespace.block ≤ MOST_TRANSFER
       → ReadsGive operations last (start + at) blocks (bytes_of (take blocks (drop at all)))
 
-  module _ (admitted : IsAdmitted s sub order run) (fit : AreEvents events) (fit_later : AreEvents later) (less : so_far < length turns)
-      (none : NoEventClears operations destination later next) where
+  module _ (admitted : IsAdmitted s sub order run) (fit : AreEvents events) (fit_later : AreEvents later) (less : so_far < length all_turns)
+      (none : NoneClears operations to later then) where
     last_sound : IsNamespace last.namespace
     last_sound =
-        let now_fine = events_fine operations never ns.block (asked ∷ events) s fine (admitted_bytes s sub order run admitted, fit) in
-        let next_fine = turn_fine operations never ns.block now run now_fine in
-        (events_fine operations never ns.block later next next_fine fit_later).is
+        let now_fine = events_fine operations never block (asked ∷ events) s fine (admitted_bytes s sub order run admitted, fit) in
+        let next_fine = turn_fine operations never block now run now_fine in
+        (events_fine operations never block later then next_fine fit_later).is
 
     appended_are_read : AppendedAreRead operations s queue entry input starved order run events later
     appended_are_read at blocks within some transfer =
-        let held = blocks_at s destination in
-        let all = appended_by (take (so_far + 1) turns) in
-        let theorem = pushdown operations never ns before is are queue entry input starved order run events admitted in
-        let grows = (events_keep operations later next destination none).blocks in
-        let lie : blocks_at last destination ≡ held ++ (all ++ grows.more) =
+        let held = blocks_at s to in
+        let all = appended_by (take (so_far + 1) all_turns) in
+        let theorem = pushdown operations never s reached queue entry input starved order run events admitted in
+        let grows = (events_keep operations later then to none).blocks in
+        let lie : blocks_at last to ≡ held ++ (all ++ grows.more) =
         grows.is ∙ (ap (λ (xs : List (List ℕ)). xs ++ grows.more) (theorem.does_its_turns less).then_appended ∙ append_assoc held all grows.more) in
         let few = subst (λ (x : Shape). blocks * x.block ≤ MOST_TRANSFER) (sym last_shape) transfer in
-        subst (λ (x : Shape). ReadsGive operations last (destination * x.size + length held + at) blocks (bytes_of (take blocks (drop at all)))) last_shape
-        (part_is_read operations last destination held all grows.more at blocks last_sound lie within some few)
+        subst (λ (x : Shape). ReadsGive operations last (to * x.size + length held + at) blocks (bytes_of (take blocks (drop at all)))) last_shape
+        (part_is_read operations last to held all grows.more at blocks last_sound lie within some few)
 
-    emitted_are_read : so_far + 1 ≡ length turns → EmittedAreRead operations s queue entry input starved order run events later
+    emitted_are_read : so_far + 1 ≡ length all_turns → EmittedAreRead operations s queue entry input starved order run events later
     emitted_are_read ended =
-        let whole : appended_by (take (so_far + 1) turns) ≡ appended_by turns = ap appended_by (take_all (so_far + 1) turns (omega (arith, ended))) in
+        let whole : appended_by (take (so_far + 1) all_turns) ≡ appended_by all_turns = ap appended_by (take_all (so_far + 1) all_turns (omega (arith, ended))) in
         let parts = subst PartsAreRead whole appended_are_read in
-        let back = emitted_reads_back operations never ns before is are sub order run admitted in
+        let back = emitted_reads_back operations never s reached sub order run admitted in
         let small : 1 * s.namespace.block ≤ MOST_TRANSFER = omega (arith, fine.is.shape.block_most) in (
           back.0,
           (
             back.1.0,
             (
-              each_is_read operations last (appended_by turns) start (λ at within. parts at 1 within (omega arith) small),
+              each_is_read operations last (appended_by all_turns) start (λ at within. parts at 1 within (omega arith) small),
               back.1.1,
             ),
           ),
         )
 
 pub runs_read_back : {D : Type 0} (operations : Operations D) → AcceptedNeverTraps operations → RunsReadBack operations
-runs_read_back operations never ns before is are queue entry input starved order run events later admitted fit fit_later less none = (
-  appended_are_read operations never ns before is are queue entry input starved order run events later admitted fit fit_later less none,
-  emitted_are_read operations never ns before is are queue entry input starved order run events later admitted fit fit_later less none,
+runs_read_back operations never s reached queue entry input starved order run events later admitted fit fit_later less none = (
+  appended_are_read operations never s reached queue entry input starved order run events later admitted fit fit_later less none,
+  emitted_are_read operations never s reached queue entry input starved order run events later admitted fit fit_later less none,
 )

@@ -38,12 +38,13 @@ use Rattle.nvme_entry.proofs.Proved.{demanded, passed}
 use Rattle.pushdown.specs.Admission.{Loaded, admission_checks, source_blocks, task_of}
 use Rattle.pushdown.specs.EventReplies.{Submission}
 use Rattle.pushdown.specs.BlockRuns.{Task, groups_of, no_scratch, runs_of}
-use Rattle.pushdown.specs.Events.{Occurrence, state_after}
+use Rattle.pushdown.specs.Events.{AreEvents, HasBytes, Occurrence, state_after}
 use Rattle.pushdown.specs.Laws.{IsAppended, RoomIn, StatesAreSound}
-use Rattle.pushdown.specs.Machine.{admitted_place, happens, just_loaded, keeping, load_checks, place_left, slots_left, turn_state, turned, why_not_run}
+use Rattle.pushdown.specs.EventEffects.{admitted_place, happens, just_loaded, keeping, load_checks, place_left, slots_left, turn_state, turned, why_not_run}
 use Rattle.pushdown.specs.Outcome.{Ending, Turn, appended_by, no_output, outcome}
-use Rattle.pushdown.specs.Pushdown.{AreEvents, EndsWithLast, HasBytes, Succeeds}
-use Rattle.pushdown.specs.State.{Place, State, free_run, holds_of, new_state, place_at, program_at, with_namespace, with_place, with_slot}
+use Rattle.pushdown.specs.Pushdown.{EndsWithLast, Succeeds}
+use Rattle.pushdown.specs.Reached.{IsReached}
+use Rattle.pushdown.specs.State.{Place, State, free_place, holds_of, new_state, place_at, program_at, with_namespace, with_place, with_slot}
 use Rattle.device_events.specs.declared.event.Event.{Event}
 use Rattle.pushdown.proofs.Added.{added_block}
 use Rattle.pushdown.proofs.BlockRuns.{IsDone, IsReady, few_runs, runs_done, some_runs}
@@ -197,7 +198,7 @@ module _ {D : Type 0} (operations : Operations D) (never : AcceptedNeverTraps op
     runs = runs_of task source
 
     abbrev checks : List (Option Status)
-    checks = admission_checks s.namespace (holds_of s) (is_some (free_run s)) (program_at s order.slot) order sub.input
+    checks = admission_checks s.namespace (holds_of s) (is_some (free_place s)) (program_at s order.slot) order sub.input
 
     pub ready : IsReady task
     ready =
@@ -257,7 +258,7 @@ module _ {D : Type 0} (operations : Operations D) (never : AcceptedNeverTraps op
           opened = inl (demanded (is_open zone.state) DESTINATION_NOT_OPEN (passed checks 12 none));
         }
 
-  start_rooms : (sub : Submission) (s : State) (order : RunCommand) (run : ℕ) → IsFine s → why_not_run sub s order ≡ None → free_run s ≡ Some run
+  start_rooms : (sub : Submission) (s : State) (order : RunCommand) (run : ℕ) → IsFine s → why_not_run sub s order ≡ None → free_place s ≡ Some run
       → Rooms (with_place s run (Some (admitted_place sub s order)))
   start_rooms sub s order run h e is j p at = elim (eqb_tells j run) [
     | inl same ↦
@@ -269,7 +270,7 @@ module _ {D : Type 0} (operations : Operations D) (never : AcceptedNeverTraps op
     | inr differs ↦ h.rooms j p (sym (get_or-set_other s.places run j (Some (admitted_place sub s order)) None differs.1) ∙ at)
   ]
 
-  start_fine : (sub : Submission) (s : State) (order : RunCommand) (run : ℕ) → IsFine s → why_not_run sub s order ≡ None → free_run s ≡ Some run
+  start_fine : (sub : Submission) (s : State) (order : RunCommand) (run : ℕ) → IsFine s → why_not_run sub s order ≡ None → free_place s ≡ Some run
       → 1 ≤ order.blocks → IsFine (with_place s run (Some (admitted_place sub s order)))
   start_fine sub s order run h passed free some = record {
     is = h.is;
@@ -345,13 +346,14 @@ module _ {D : Type 0} (operations : Operations D) (never : AcceptedNeverTraps op
       (now_room s run place turn later h.apart h.rooms here first) some
 
 -- each state that events leave is such a state
-pub reached : {D : Type 0} (operations : Operations D) (never : AcceptedNeverTraps operations) (ns : ZonedNamespace) (events : List Occurrence)
-    → IsNamespace ns → AreEvents events → IsFine operations never ns.block (state_after operations events (new_state ns))
-reached operations never ns events is are =
-    events_fine operations never ns.block events (new_state ns) (new_fine operations never ns.block ns is refl) are
+pub reached_fine : {D : Type 0} (operations : Operations D) (never : AcceptedNeverTraps operations) (s : State) (reached : IsReached operations s)
+    → IsFine operations never reached.first.block s
+reached_fine operations never s reached =
+    let ns = reached.first in
+    subst (IsFine operations never ns.block) (sym reached.leaves)
+    (events_fine operations never ns.block reached.events (new_state ns) (new_fine operations never ns.block ns reached.namespace refl) reached.bytes)
 
 pub states_are_sound : {D : Type 0} (operations : Operations D) → AcceptedNeverTraps operations → StatesAreSound operations
-states_are_sound operations never ns events is are =
-    let s = state_after operations events (new_state ns) in
-    let h = reached operations never ns events is are in
-    record { namespace = h.is; rooms = h.rooms; appends = appends operations never ns.block s h }
+states_are_sound operations never s reached =
+    let h = reached_fine operations never s reached in
+    record { namespace = h.is; rooms = h.rooms; appends = appends operations never reached.first.block s h }

@@ -2,13 +2,11 @@
 use Rattle.std.specs.Prelude.{ℕ, ◌≡◌, ◌==◌, List, map, count_by, Some}
 use Rattle.std.specs.List.{filter, zip}
 use Rattle.word_domain.specs.Domain.{Operations}
-use Rattle.image_store.specs.Namespace.{ZonedNamespace, IsNamespace}
 use Rattle.pushdown.specs.Admission.{SameProgram}
 use Rattle.device_events.specs.Replies.{ReplyWithData}
 use Rattle.pushdown.specs.Draining.{replies_to_turns, state_after_turns}
-use Rattle.pushdown.specs.Events.{Occurrence, state_after}
-use Rattle.pushdown.specs.Pushdown.{AreEvents}
-use Rattle.pushdown.specs.State.{Place, State, new_state, place_at, program_at}
+use Rattle.pushdown.specs.Reached.{IsReached}
+use Rattle.pushdown.specs.State.{Place, State, place_at, program_at}
 
 -- each run has as many turns in the one list as in the other
 abbrev pub AreSameTurns : List ℕ → List ℕ → Type 0
@@ -38,6 +36,4 @@ pub record ComeToTheSame (s : State) (first second : List ℕ) : Type 0 where
 -- In each state that events leave, turns come to the same in any order: all runs there append to different
 -- zones.
 abbrev pub TurnsInAnyOrder : {D : Type 0} → Operations D → Type 0
-TurnsInAnyOrder operations =
-    (ns : ZonedNamespace) (events : List Occurrence) → IsNamespace ns → AreEvents events
-    → (first second : List ℕ) → AreSameTurns first second → ComeToTheSame (state_after operations events (new_state ns)) first second
+TurnsInAnyOrder operations = (s : State) → IsReached operations s → (first second : List ℕ) → AreSameTurns first second → ComeToTheSame s first second

@@ -1,15 +1,27 @@
 -- Lists of events: the replies to them and the state behind them, and that a device did them.
 use Rattle.std.specs.Prelude.{ℕ, Bool, ◌≡◌, ◌≤◌, ◌-◌, List, [], ◌∷◌, length, map, take}
+use Rattle.std.specs.List.{AllByRecursion}
+use Rattle.program_interface.specs.Bytes.{AreBytes}
 use Rattle.word_domain.specs.Domain.{Operations}
 use Rattle.device_events.specs.Replies.{ReplyWithData}
-use Rattle.pushdown.specs.Machine.{happens}
+use Rattle.pushdown.specs.EventEffects.{happens}
 use Rattle.pushdown.specs.State.{State}
 use Rattle.device_events.specs.declared.event.Event.{Event}
+use Rattle.device_events.specs.declared.event.Event.TheVariants as event
 
 -- an event, and whether memory is refused while it is done
 pub record Occurrence : Type 0 where
   pub event : Event
   pub starved : Bool
+
+-- the data beside an entry is bytes
+abbrev pub HasBytes : Event → Type 0
+HasBytes (event.Submit queue entry input) = AreBytes input.items
+HasBytes (event.Turn run) = Unit {0}
+HasBytes (event.Fault zone state) = Unit {0}
+
+abbrev pub AreEvents : List Occurrence → Type 0
+AreEvents events = AllByRecursion (λ o. HasBytes o.event) events
 
 module _ {D : Type 0} (operations : Operations D) where
   -- the replies to events, in order

@@ -19,11 +19,12 @@ use Rattle.pushdown.specs.Admission.{SameProgram, source_blocks, task_of}
 use Rattle.pushdown.specs.EventReplies.{Happening, Submission, plain}
 use Rattle.pushdown.specs.BlockRuns.{Task, block_run, frames_of, goes_on, groups_of, runs_of, scratch_after}
 use Rattle.pushdown.specs.Draining.{Drains, turns_left}
-use Rattle.pushdown.specs.Events.{Occurrence, state_after}
-use Rattle.pushdown.specs.Machine.{added, admitted_place, happens, turned}
+use Rattle.pushdown.specs.Events.{Occurrence}
+use Rattle.pushdown.specs.EventEffects.{added, admitted_place, happens, turned}
 use Rattle.pushdown.specs.Outcome.{Ending, Progress, Turn, appended_by, at_admission, ending_of, last_turn, outcome, output_of, rest}
-use Rattle.pushdown.specs.Pushdown.{AreEvents, IsAdmitted, is_turn_of, success_of}
-use Rattle.pushdown.specs.State.{Place, State, new_state, place_at, program_at}
+use Rattle.pushdown.specs.Pushdown.{IsAdmitted, is_turn_of, success_of}
+use Rattle.pushdown.specs.Reached.{IsReached}
+use Rattle.pushdown.specs.State.{Place, State, place_at, program_at}
 use Rattle.device_events.specs.declared.event.Event.TheVariants as event
 use Rattle.device_events.specs.declared.reply.Reply.TheVariants as reply
 
@@ -154,15 +155,11 @@ pub record IsSoundState (s : State) : Type 0 where
       → place.turns ≡ turn ∷ later → turn.blocks ≢ [] → IsAppended s.namespace place.destination turn.blocks
 
 abbrev pub StatesAreSound : {D : Type 0} → Operations D → Type 0
-StatesAreSound operations =
-    (ns : ZonedNamespace) (events : List Occurrence) → IsNamespace ns → AreEvents events
-    → IsSoundState (state_after operations events (new_state ns))
+StatesAreSound operations = (s : State) → IsReached operations s → IsSoundState s
 
 -- in each state that events leave, turns of the lowest active run come to an end
 abbrev pub DrainingEnds : {D : Type 0} → Operations D → Type 0
-DrainingEnds operations =
-    (ns : ZonedNamespace) (events : List Occurrence) → IsNamespace ns → AreEvents events
-    → (runs : List ℕ) × Drains (state_after operations events (new_state ns)) runs
+DrainingEnds operations = (s : State) → IsReached operations s → (runs : List ℕ) × Drains s runs
 
 -- ---- what the blocks of a turn leave
 
@@ -190,9 +187,8 @@ RoomStays =
 -- in each state that events leave, a turn of an active run leaves fewer turns
 abbrev pub TurnsLeaveFewer : {D : Type 0} → Operations D → Type 0
 TurnsLeaveFewer operations =
-    (ns : ZonedNamespace) (events : List Occurrence) (run : ℕ) → IsNamespace ns → AreEvents events
-    → let s = state_after operations events (new_state ns) in
-    is_some (place_at s run) ≡ true → turns_left (turned s run).state.places + 1 ≤ turns_left s.places
+    (s : State) (run : ℕ) → IsReached operations s → is_some (place_at s run) ≡ true
+    → turns_left (turned s run).state.places + 1 ≤ turns_left s.places
 
 -- ---- in a user's words
 
@@ -204,9 +200,8 @@ pub record AreEmitted (runs : List BlockRun) (records : List (List (List ℕ))) 
 -- what an admitted run appends reads back as the records that its block runs emit, in order
 abbrev pub OutcomeUnpacks : {D : Type 0} → Operations D → Type 0
 OutcomeUnpacks operations =
-    (ns : ZonedNamespace) (events : List Occurrence) → IsNamespace ns → AreEvents events
-    → let s = state_after operations events (new_state ns) in
-    (sub : Submission) (order : RunCommand) (run : ℕ) → IsAdmitted s sub order run
+    (s : State) → IsReached operations s
+    → (sub : Submission) (order : RunCommand) (run : ℕ) → IsAdmitted s sub order run
     → let task = task_of s.namespace (program_at s order.slot) order in
     let source = source_blocks s.namespace order in
     (records : List (List (List ℕ))) × (AreEmitted (runs_of task source) records

@@ -3,9 +3,10 @@ pub mod Admission
 pub mod Outcome
 pub mod State
 pub mod EventReplies
-pub mod Machine
+pub mod EventEffects
 pub mod Draining
 pub mod Events
+pub mod Reached
 pub mod Memory
 pub mod Pushdown
 pub mod AnyOrder

@@ -3,8 +3,7 @@ use Rattle.std.specs.Prelude.{ℕ, false, ◌≡◌, List, ◌++◌, length, map
 use Rattle.word_domain.specs.Domain.{Operations}
 use Rattle.device_events.specs.Replies.{ReplyWithData}
 use Rattle.pushdown.specs.Draining.{Drains, HasDrained, lowest_run, replies_to_turns, state_after_turns}
-use Rattle.pushdown.specs.Events.{AreOf, HasServed, Occurrence, replies_to, state_after}
-use Rattle.pushdown.specs.Pushdown.{AreEvents}
+use Rattle.pushdown.specs.Events.{AreEvents, AreOf, HasServed, Occurrence, replies_to, state_after}
 use Rattle.pushdown.specs.State.{State}
 use Rattle.device_events.specs.declared.event.Event.{Event}
 use Rattle.device_events.specs.declared.event.Event.TheVariants as event

@@ -6,7 +6,7 @@
 --    places and other slots, and reads nothing but source blocks;
 -- 4. each turn is the one that is fixed at admission: the blocks that it appends, the completion, and all that
 --    it leaves: the namespace, the run's place and the slots;
--- 5. the completion's numbers are whole.
+-- 5. the completion tells how many frames were emitted and how many blocks were appended; both fit into its 32 bits.
 use Rattle.std.specs.Prelude.{ℕ, Bool, false, ◌≡◌, ◌≢◌, ◌≤◌, ◌<◌, ◌+◌, ◌^◌, ◌==◌, List, [], ◌∷◌, ◌++◌, length, take, drop, get_or, Option, Some, None, Ok, Vec}
 use Rattle.std.specs.List.{AllByRecursion}
 use Rattle.std.specs.declared.alloc.Global.{Global}
@@ -19,29 +19,21 @@ use Rattle.instruction_set.specs.Program.{instruction_count}
 use Rattle.program_meaning.specs.BlockRun.{BlockRun}
 use Rattle.program_meaning.specs.TrapFree.{IsExit}
 use Rattle.word_domain.specs.Domain.{Operations}
-use Rattle.program_interface.specs.Bytes.{AreBytes}
-use Rattle.image_store.specs.Namespace.{ZonedNamespace, zone_at, shape, IsNamespace}
+use Rattle.image_store.specs.Namespace.{ZonedNamespace, zone_at, shape}
 use Rattle.pushdown.specs.Admission.{SameProgram, source_blocks, task_of}
 use Rattle.pushdown.specs.EventReplies.{Happening, Submission}
 use Rattle.pushdown.specs.BlockRuns.{Task, frames_of, last_scratch, runs_of}
 use Rattle.pushdown.specs.Events.{Occurrence, state_after}
-use Rattle.pushdown.specs.Machine.{added, admitted_place, place_left, slots_left, turn_reply, turned, why_not_run}
+use Rattle.pushdown.specs.EventEffects.{added, admitted_place, place_left, slots_left, turn_reply, turned, why_not_run}
 use Rattle.pushdown.specs.Outcome.{Ending, Turn, appended_by, ending_of, outcome}
-use Rattle.pushdown.specs.State.{Place, State, free_run, new_state, place_at, program_at}
+use Rattle.pushdown.specs.Reached.{IsReached}
+use Rattle.pushdown.specs.State.{Place, State, free_place, place_at, program_at}
 use Rattle.device_events.specs.declared.event.Event.{Event}
 use Rattle.device_events.specs.declared.event.Event.TheVariants as event
 
 -- ---- events
 
--- the data beside an entry is bytes
-abbrev pub HasBytes : Event → Type 0
-HasBytes (event.Submit queue entry input) = AreBytes input.items
-HasBytes (event.Turn run) = Unit {0}
-HasBytes (event.Fault zone state) = Unit {0}
-
-abbrev pub AreEvents : List Occurrence → Type 0
-AreEvents events = AllByRecursion (λ o. HasBytes o.event) events
-
+-- is the event a turn of this run?
 abbrev pub is_turn_of : ℕ → Event → Bool
 is_turn_of run (event.Turn other) = other == run
 is_turn_of run (event.Submit queue entry input) = false
@@ -54,11 +46,11 @@ own_turns run (o ∷ os) = one_if (is_turn_of run o.event) + own_turns run os
 
 -- ---- turns
 
--- a Run is admitted: no check refuses it, and the lowest free run number is its own
+-- a Run is admitted: no check refuses it, and the lowest free place is its own, with this number
 pub record IsAdmitted (s : State) (sub : Submission) (order : RunCommand) (run : ℕ) : Type 0 where
   pub asked : decoded sub.entry ≡ Ok (command.Run order)
   pub passed : why_not_run sub s order ≡ None
-  pub free : free_run s ≡ Some run
+  pub free : free_place s ≡ Some run
 
 abbrev pub blocks_at : State → ℕ → List (List ℕ)
 blocks_at s z = (zone_at s.namespace z).blocks
@@ -157,8 +149,9 @@ module _ {D : Type 0} (operations : Operations D) where
       pub then_left : place_at next.state run ≡ place_left place (drop (done + 1) place.turns) turn.ending
       pub then_slots : next.state.slots ≡ slots_left now place turn.ending
 
-    -- 5. The completion tells the frames that were emitted and the blocks that were appended, both whole.
-    pub record TellsWhole : Type 0 where
+    -- 5. The completion tells how many frames were emitted and how many blocks were appended, which fit into the
+    -- 32 bits of its dwords.
+    pub record TellsFramesAndBlocks : Type 0 where
       pub ending : ending_of place.turns ≡ Some (success_of runs place.turns)
       pub frames : frames_of runs < 2 ^ 32
       pub blocks : length (appended_by place.turns) < 2 ^ 32
@@ -168,14 +161,13 @@ module _ {D : Type 0} (operations : Operations D) where
       pub few_steps : FewSteps
       pub changes_destination_alone : done < length place.turns → ChangesDestinationAlone
       pub does_its_turns : done < length place.turns → DoesItsTurns
-      pub tells_whole : TellsWhole
+      pub tells_frames_and_blocks : TellsFramesAndBlocks
 
--- Whatever events came before, whatever Run is admitted then, and whatever events follow, of which any
+-- In each state that events leave, whatever Run is admitted there, and whatever events follow, of which any
 -- number are the run's own turns. It holds for the operations of every sound domain.
 abbrev pub Pushdown : {D : Type 0} → Operations D → Type 0
 Pushdown operations =
-    (ns : ZonedNamespace) (before : List Occurrence) → IsNamespace ns → AreEvents before
-    → let s = state_after operations before (new_state ns) in
-    (queue : ℕ) (entry : List ℕ) (input : Vec ℕ Global) (starved : Bool) (order : RunCommand) (run : ℕ) (after : List Occurrence)
+    (s : State) → IsReached operations s
+    → (queue : ℕ) (entry : List ℕ) (input : Vec ℕ Global) (starved : Bool) (order : RunCommand) (run : ℕ) (after : List Occurrence)
     → IsAdmitted s (record { queue = queue; entry = entry; input = input.items }) order run
     → IsPushedDown operations s queue entry input starved order run after

@@ -12,21 +12,20 @@ use Rattle.nvme_entry.specs.declared.command.TheConstants.{MOST_TRANSFER}
 use Rattle.word_domain.specs.Domain.{Operations}
 use Rattle.emit_append.specs.Unpacking.{unpacked}
 use Rattle.image_store.specs.Blocks.{bytes_of}
-use Rattle.image_store.specs.Namespace.{ZonedNamespace, zone_at, shape, IsNamespace}
+use Rattle.image_store.specs.Namespace.{zone_at, shape, IsNamespace}
 use Rattle.zone_state.specs.State.{is_cleared}
 use Rattle.zns_commands.specs.Address.{write_pointer, zone_number}
 use Rattle.zns_commands.specs.Answer.{Effect, success_effect}
 use Rattle.zns_commands.specs.Left.{Grows}
 use Rattle.zns_commands.specs.Meaning.{meaning}
-use Rattle.pushdown.specs.Admission.{source_blocks, task_of}
 use Rattle.pushdown.specs.EventReplies.{Happening}
-use Rattle.pushdown.specs.BlockRuns.{runs_of}
-use Rattle.pushdown.specs.Events.{Occurrence, state_after}
+use Rattle.pushdown.specs.Events.{AreEvents, Occurrence, state_after}
 use Rattle.pushdown.specs.Laws.{AreEmitted}
-use Rattle.pushdown.specs.Machine.{admitted_place, commanded, happens, turned}
-use Rattle.pushdown.specs.Outcome.{appended_by}
-use Rattle.pushdown.specs.Pushdown.{AreEvents, IsAdmitted, blocks_at, own_turns}
-use Rattle.pushdown.specs.State.{Place, State, holds_of, new_state, program_at}
+use Rattle.pushdown.specs.EventEffects.{commanded, happens}
+use Rattle.pushdown.specs.Outcome.{Turn, appended_by}
+use Rattle.pushdown.specs.Pushdown.{IsAdmitted, blocks_at, done, next, place, runs}
+use Rattle.pushdown.specs.Reached.{IsReached}
+use Rattle.pushdown.specs.State.{State, holds_of}
 use Rattle.device_events.specs.declared.event.Event.{Event}
 use Rattle.device_events.specs.declared.event.Event.TheVariants as event
 
@@ -56,36 +55,37 @@ module _ {D : Type 0} (operations : Operations D) where
   BlocksAreRead s lba (block ∷ blocks) = ReadsGive s lba 1 block × BlocksAreRead s (lba + 1) blocks
 
   -- after none of the events is the zone Empty or Offline, so that nothing of what was written is left
-  abbrev pub NoEventClears : ℕ → List Occurrence → State → Type 0
-  NoEventClears z [] s = Unit {0}
-  NoEventClears z (o ∷ os) s =
+  abbrev pub NoneClears : ℕ → List Occurrence → State → Type 0
+  NoneClears z [] s = Unit {0}
+  NoneClears z (o ∷ os) s =
       let next = (happens operations s o.starved o.event).state in
-      (is_cleared (zone_at next.namespace z).state ≡ false) × NoEventClears z os next
+      (is_cleared (zone_at next.namespace z).state ≡ false) × NoneClears z os next
 
   -- an admitted Run, the events between it and a turn of it, and events after that turn
   module _ (s : State) (queue : ℕ) (entry : List ℕ) (input : Vec ℕ Global) (starved : Bool) (order : RunCommand) (run : ℕ)
       (events later : List Occurrence) where
-    abbrev pub place : Place
-    place = admitted_place (record { queue = queue; entry = entry; input = input.items }) s order
+    -- as the theorem has them: the zone that it appends to, the turns that are fixed at its admission, and how
+    -- many of them came before that turn
+    abbrev pub destination : ℕ
+    destination = (place operations s queue entry input starved order run events).destination
 
-    -- how many of its turns came before that turn
-    abbrev pub done : ℕ
-    done = own_turns run events
+    abbrev pub turns : List Turn
+    turns = (place operations s queue entry input starved order run events).turns
 
-    abbrev pub submitted : Occurrence
-    submitted = record { event = event.Submit queue entry input; starved = starved }
+    abbrev pub before : ℕ
+    before = done operations s queue entry input starved order run events
 
     abbrev pub after_turn : State
-    after_turn = (turned (state_after operations (submitted ∷ events) s) run).state
+    after_turn = (next operations s queue entry input starved order run events).state
 
     -- the logical block that the first of its blocks goes to
     abbrev pub pointer : ℕ
-    pointer = write_pointer s.namespace place.destination
+    pointer = write_pointer s.namespace destination
 
     -- each part of what its turns have appended is read, from where the destination's end was at admission
     abbrev pub AppendedAreRead : Type 0
     AppendedAreRead =
-        let appended = appended_by (take (done + 1) place.turns) in
+        let appended = appended_by (take (before + 1) turns) in
         (at blocks : ℕ) → at + blocks ≤ length appended → 1 ≤ blocks → blocks * s.namespace.block ≤ MOST_TRANSFER
         → ReadsGive (state_after operations later after_turn) (pointer + at) blocks (bytes_of (take blocks (drop at appended)))
 
@@ -93,17 +93,16 @@ module _ {D : Type 0} (operations : Operations D) where
     -- that the program emitted, in order
     abbrev pub EmittedAreRead : Type 0
     EmittedAreRead =
-        let task = task_of s.namespace (program_at s order.slot) order in
-        let blocks = appended_by place.turns in
-        (records : List (List (List ℕ))) × (AreEmitted (runs_of task (source_blocks s.namespace order)) records
+        let blocks = appended_by turns in
+        (records : List (List (List ℕ))) × (AreEmitted (runs operations s queue entry input starved order run events) records
         × (BlocksAreRead (state_after operations later after_turn) pointer blocks
         × (unpacked s.namespace.block (concat blocks) ≡ Ok (flat_map (λ group. group) records))))
 
     -- until the destination is reset, goes offline or is lost
     abbrev pub IsReadBack : Type 0
     IsReadBack =
-        done < length place.turns → NoEventClears place.destination later after_turn
-        → AppendedAreRead × (done + 1 ≡ length place.turns → EmittedAreRead)
+        before < length turns → NoneClears destination later after_turn
+        → AppendedAreRead × (before + 1 ≡ length turns → EmittedAreRead)
 
 -- no event changes the shape of the namespace
 abbrev pub EventsKeepShapes : {D : Type 0} → Operations D → Type 0
@@ -113,7 +112,7 @@ EventsKeepShapes operations =
 -- a zone that isn't cleared keeps its blocks, and perhaps has some behind them
 abbrev pub UnclearedKeepBlocks : {D : Type 0} → Operations D → Type 0
 UnclearedKeepBlocks operations =
-    (s : State) (events : List Occurrence) (z : ℕ) → NoEventClears operations z events s
+    (s : State) (events : List Occurrence) (z : ℕ) → NoneClears operations z events s
     → Grows (blocks_at s z) (blocks_at (state_after operations events s) z)
 
 -- what is written in a zone is read
@@ -125,41 +124,32 @@ WrittenIsRead operations =
 
 -- what an Append that succeeds put in is read from the address that its completion tells, whatever
 -- events happen in between, until the zone is reset, goes offline or is lost
-abbrev pub AppendReadsBack : {D : Type 0} → Operations D → State → Type 0
-AppendReadsBack operations s =
-    (o : Occurrence) (lba blocks : ℕ) (input : List ℕ) (events : List Occurrence) → Submits o.event (Append lba blocks) input
+abbrev pub AppendsReadBack : {D : Type 0} → Operations D → Type 0
+AppendsReadBack operations =
+    (s : State) → IsNamespace s.namespace
+    → (o : Occurrence) (lba blocks : ℕ) (input : List ℕ) (events : List Occurrence) → Submits o.event (Append lba blocks) input
     → let done = meaning s.namespace (holds_of s) (Append lba blocks) input in
     let happening = happens operations s o.starved o.event in
-    done.status ≡ SUCCESS → NoEventClears operations (zone_number s.namespace lba) events happening.state
+    done.status ≡ SUCCESS → NoneClears operations (zone_number s.namespace lba) events happening.state
     → IsCompleted o.event s done happening
     × ReadsGive operations (state_after operations events happening.state) (done.dw0 + done.dw1 * 2 ^ 32) blocks input
 
 -- the same of a Write, which is read from its own address
-abbrev pub WriteReadsBack : {D : Type 0} → Operations D → State → Type 0
-WriteReadsBack operations s =
-    (o : Occurrence) (lba blocks : ℕ) (input : List ℕ) (events : List Occurrence) → Submits o.event (Write lba blocks) input
+abbrev pub WritesReadBack : {D : Type 0} → Operations D → Type 0
+WritesReadBack operations =
+    (s : State) → IsNamespace s.namespace
+    → (o : Occurrence) (lba blocks : ℕ) (input : List ℕ) (events : List Occurrence) → Submits o.event (Write lba blocks) input
     → let done = meaning s.namespace (holds_of s) (Write lba blocks) input in
     let happening = happens operations s o.starved o.event in
-    done.status ≡ SUCCESS → NoEventClears operations (zone_number s.namespace lba) events happening.state
+    done.status ≡ SUCCESS → NoneClears operations (zone_number s.namespace lba) events happening.state
     → IsCompleted o.event s done happening × ReadsGive operations (state_after operations events happening.state) lba blocks input
 
--- the same of what a run appends: after each of its turns what it has appended so far, and after the last
--- one all that its program emitted
-abbrev pub RunReadsBack : {D : Type 0} → Operations D → State → Type 0
-RunReadsBack operations s =
-    (queue : ℕ) (entry : List ℕ) (input : Vec ℕ Global) (starved : Bool) (order : RunCommand) (run : ℕ) (events later : List Occurrence)
+-- the same of what a run appends, in each state that events leave: after each of its turns what it has
+-- appended so far, and after the last one all that its program emitted
+abbrev pub RunsReadBack : {D : Type 0} → Operations D → Type 0
+RunsReadBack operations =
+    (s : State) → IsReached operations s
+    → (queue : ℕ) (entry : List ℕ) (input : Vec ℕ Global) (starved : Bool) (order : RunCommand) (run : ℕ) (events later : List Occurrence)
     → IsAdmitted s (record { queue = queue; entry = entry; input = input.items }) order run
     → AreEvents events → AreEvents later
     → IsReadBack operations s queue entry input starved order run events later
-
-abbrev pub AppendsReadBack : {D : Type 0} → Operations D → Type 0
-AppendsReadBack operations = (s : State) → IsNamespace s.namespace → AppendReadsBack operations s
-
-abbrev pub WritesReadBack : {D : Type 0} → Operations D → Type 0
-WritesReadBack operations = (s : State) → IsNamespace s.namespace → WriteReadsBack operations s
-
--- in each state that events leave
-abbrev pub RunsReadBack : {D : Type 0} → Operations D → Type 0
-RunsReadBack operations =
-    (ns : ZonedNamespace) (before : List Occurrence) → IsNamespace ns → AreEvents before
-    → RunReadsBack operations (state_after operations before (new_state ns))

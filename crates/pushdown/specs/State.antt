@@ -34,9 +34,9 @@ program_at s slot = get_or s.slots slot None
 abbrev pub place_at : State → ℕ → Option Place
 place_at s run = get_or s.places run None
 
--- the lowest run number that is free
-abbrev pub free_run : State → Option ℕ
-free_run s = position is_none s.places
+-- the number of the lowest place that is free
+abbrev pub free_place : State → Option ℕ
+free_place s = position is_none s.places
 
 -- ---- what the active runs hold
 

@@ -8,7 +8,7 @@ use Rattle.zns_commands.specs.Address.{zone_number}
 use Rattle.zns_commands.specs.Left.{Grows}
 use Rattle.pushdown.specs.Admission.{Loaded, SameProgram, limit_in, program_in, task_by, written_from}
 use Rattle.pushdown.specs.EventReplies.{Submission}
-use Rattle.pushdown.specs.Machine.{admitted_place}
+use Rattle.pushdown.specs.EventEffects.{admitted_place}
 use Rattle.pushdown.specs.Outcome.{Progress, Turn, at_admission, rest}
 use Rattle.pushdown.specs.State.{State, Place}
 

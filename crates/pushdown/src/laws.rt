@@ -5,6 +5,7 @@ ghost use Rattle.pushdown.specs.Laws.{AdmittedStarts, BlocksLeaveOthers, Drainin
 ghost use Rattle.pushdown.specs.Memory.{OnlyLoadsWantMemory};
 ghost use Rattle.pushdown.specs.Parts.{DrainedByTurns, DrainedInOneWay, EventsJoin, InParts, OneReplyEach, ServedAndDrained, ServedInParts};
 ghost use Rattle.pushdown.specs.Pushdown.{Pushdown};
+ghost use Rattle.pushdown.specs.Reached.{EventsKeepReached, NewIsReached, TurnsKeepReached};
 ghost use Rattle.pushdown.specs.ReadBack.{AppendsReadBack, EventsKeepShapes, RunsReadBack, UnclearedKeepBlocks, WritesReadBack, WrittenIsRead};
 ghost use Rattle.pushdown.specs.View.{SeenAtAdmission, SeenStays};
 
@@ -43,6 +44,14 @@ pub fn runs_are_seen_as_places()
 /// Every event keeps, for each active run, the blocks of its source, its program and the namespace's shape.
 pub fn events_keep_for_runs<D: Domain>()
     ensures { EventsKeepForRuns D.operations }
+{}
+
+/// A device that was just made is in a state that events leave. From each such state events lead to another,
+/// and so do the turns that drain it.
+pub fn events_lead_on<D: Domain>()
+    ensures first { NewIsReached D.operations }
+    ensures events { EventsKeepReached D.operations }
+    ensures turns { TurnsKeepReached D.operations }
 {}
 
 /// In each state that events leave, the namespace is sound, and what is left of each run fits into its
@@ -128,12 +137,12 @@ pub fn turns_in_any_order<D: Domain>()
     ensures { TurnsInAnyOrder D.operations }
 {}
 
-/// The pushdown theorem, for every domain: whatever events came before, whatever Run is admitted then, and
+/// The pushdown theorem, for every domain: in each state that events leave, whatever Run is admitted there, and
 /// whatever events follow, no turn traps; each takes at most as many steps as the program has instructions;
 /// each changes no zone but its destination, and that one by blocks at its end, as a Zone Append does that meets
 /// no hold, leaves other runs' places and other slots, and reads nothing but source blocks; the appended blocks,
 /// the completion, and what a turn leaves at the run's place and in the slots are those that are fixed at
-/// admission; and the completion's numbers are whole.
+/// admission; and the numbers of frames and of blocks that the completion tells fit into its 32 bits.
 pub fn pushdown<D: Domain>()
     ensures { Pushdown D.operations }
 {}

@@ -14,13 +14,13 @@ use Rattle.verifier.specs.Verified.{sizes_of}
 use Rattle.zns_commands.specs.Address.{zone_block_in}
 use Rattle.pushdown.specs.Admission.{Loaded, address_checks, destination_checks, destination_zone, run_refusal, sizes_in, source_checks}
 use Rattle.pushdown.specs.EventReplies.{Submission}
-use Rattle.pushdown.specs.Machine.{why_not_run}
+use Rattle.pushdown.specs.EventEffects.{why_not_run}
 use Rattle.pushdown.specs.State.{program_at}
 use Rattle.runner.specs.steps.Admitting.{ArePlaces}
-use Rattle.runner.specs.Held.{loaded_slot, device_state}
-use Rattle.runner.specs.steps.HeldRuns.{held_by}
+use Rattle.runner.specs.DeviceState.{loaded_slot, device_state}
+use Rattle.runner.specs.steps.ActiveRuns.{held_by}
 use Rattle.runner.specs.Ready.{IsReady}
-use Rattle.runner.specs.declared.active_run.Active.{Active as Held}
+use Rattle.runner.specs.declared.active_run.Active.{Active as ActiveRun}
 use Rattle.runner.specs.declared.loaded_program.LoadedProgram.{LoadedProgram}
 use Rattle.runner.proofs.Checked.{joined}
 use Rattle.runner.proofs.Holding.{holds_are}
@@ -59,7 +59,7 @@ last_decides ns holds place_free slot order input source destination blocks no_i
     ∙ passes from to from_none)
 
 -- what a device tests is what is said of its state
-module _ (ns : ZonedNamespace) (slots : List (Option LoadedProgram)) (runs : List (Option Held)) where
+module _ (ns : ZonedNamespace) (slots : List (Option LoadedProgram)) (runs : List (Option ActiveRun)) where
   pub program_is : (slot : ℕ) → program_at (device_state ns slots runs) slot ≡ loaded_slot (get_or slots slot None)
   program_is slot = get_or-map loaded_slot slots slot None
 

@@ -15,7 +15,7 @@ use Rattle.zns_commands.specs.declared.answer.Answer.{Answer}
 use Rattle.pushdown.specs.Admission.{Loaded, SameProgram, task_of}
 use Rattle.pushdown.specs.EventReplies.{Happening, idle}
 use Rattle.pushdown.specs.Laws.{KeepsFor, RoomIn}
-use Rattle.pushdown.specs.Machine.{added, keeping, place_left, slots_left, take_turn, turn_reply, turned, turned_at}
+use Rattle.pushdown.specs.EventEffects.{added, keeping, place_left, slots_left, take_turn, turn_reply, turned, turned_at}
 use Rattle.pushdown.specs.Outcome.{Turn, rest}
 use Rattle.pushdown.specs.State.{Place, State, place_at}
 use Rattle.pushdown.specs.View.{place_of, seen, to_come, turns_of}
@@ -24,17 +24,18 @@ use Rattle.device_events.specs.declared.reply.Reply.{Reply}
 use Rattle.device_events.specs.declared.reply.Reply.TheVariants as reply
 use Rattle.pushdown.proofs.Proved.{events_keep_for_runs}
 use Rattle.runner.specs.steps.Answered.{complete_reply}
-use Rattle.runner.specs.Held.{active_of, loaded_slot, loaded_of, running, device_state}
-use Rattle.runner.specs.Ready.{Fits, IsFor, IsReached, IsReady, IsRunning}
+use Rattle.runner.specs.DeviceState.{active_of, loaded_slot, loaded_of, running, device_state}
+use Rattle.runner.specs.Ready.{Fits, IsFor, IsReady, IsRunning}
+use Rattle.pushdown.specs.Reached.{IsReached}
 use Rattle.runner.specs.steps.Turning.{FitsAt, FitsIn, FitsOn, GoesOn, HasEnded, IsTurned, Keeps, SlotTurned}
-use Rattle.runner.specs.declared.active_run.Active.{Active as Held}
+use Rattle.runner.specs.declared.active_run.Active.{Active as ActiveRun}
 use Rattle.runner.specs.declared.loaded_program.LoadedProgram.{LoadedProgram}
 use Rattle.runner.proofs.MayBeThere.{Where, found, still_some, was_set}
 use Rattle.runner.proofs.Reached.{reached_is_sound}
 use Rattle.runner.proofs.Staying.{Stays, grows_there, keeps_source, others_stay, placed_at, still_fits}
 
-module _ (ns : ZonedNamespace) (slots : List (Option LoadedProgram)) (runs : List (Option Held)) (ready : IsReady ns slots runs)
-    (k : ℕ) (a : Held) (at : get_or runs k None ≡ Some a) (p : LoadedProgram) (loaded : get_or slots a.order.slot None ≡ Some p) where
+module _ (ns : ZonedNamespace) (slots : List (Option LoadedProgram)) (runs : List (Option ActiveRun)) (ready : IsReady ns slots runs)
+    (k : ℕ) (a : ActiveRun) (at : get_or runs k None ≡ Some a) (p : LoadedProgram) (loaded : get_or slots a.order.slot None ≡ Some p) where
   abbrev s : State
   s = device_state ns slots runs
 
@@ -65,7 +66,7 @@ module _ (ns : ZonedNamespace) (slots : List (Option LoadedProgram)) (runs : Lis
   turns_are : place.turns ≡ turns_of ns code limit (active_of a)
   turns_are = ap (λ (o : Option Loaded). rest (task_of ns o a.order) (active_of a).so_far (to_come ns (active_of a))) slot_is
 
-  fits_on : IsReached s → FitsOn ns code limit a
+  fits_on : IsReached intervals s → FitsOn ns code limit a
   fits_on reached =
       let sound = reached_is_sound s reached in
       record {
@@ -77,12 +78,12 @@ module _ (ns : ZonedNamespace) (slots : List (Option LoadedProgram)) (runs : Lis
             (subst (RoomIn ns.capacity (zone_at ns (zone_number ns a.order.destination))) turns_are (sound.rooms k place here));
       }
 
-  fits_in : IsReached s → FitsIn ns (get_or slots a.order.slot None) a
+  fits_in : IsReached intervals s → FitsIn ns (get_or slots a.order.slot None) a
   fits_in reached = subst (λ (o : Option LoadedProgram). FitsIn ns o a) (sym loaded) (accepted, fits_on reached)
 
   -- ---- the first of its turns is done, and its program and its place are these
 
-  module _ (new : ZonedNamespace) (q : LoadedProgram) (r : Option Held) (turn : Turn) (later : List Turn)
+  module _ (new : ZonedNamespace) (q : LoadedProgram) (r : Option ActiveRun) (turn : Turn) (later : List Turn)
       (first : turns_of ns code limit (active_of a) ≡ turn ∷ later) (written : new ≡ added ns a.destination turn.blocks)
       (same : q.prepared ≡ p.prepared) (programs : slots_left s place turn.ending ≡ map loaded_slot (set slots a.order.slot (Some q))) where
     abbrev slots' : List (Option LoadedProgram)
@@ -102,7 +103,7 @@ module _ (ns : ZonedNamespace) (slots : List (Option LoadedProgram)) (runs : Lis
     programs_are : after.slots ≡ map loaded_slot slots'
     programs_are = ap (λ (h : Happening). h.state.slots) comes ∙ programs
 
-    keeps : (j : ℕ) (b : Held) → get_or runs j None ≡ Some b → KeepsFor (place_of ns (map loaded_slot slots) (active_of b)) s after
+    keeps : (j : ℕ) (b : ActiveRun) → get_or runs j None ≡ Some b → KeepsFor (place_of ns (map loaded_slot slots) (active_of b)) s after
     keeps j b there =
         events_keep_for_runs intervals s (record { event = event.Turn k; starved = false }) j (place_of ns (map loaded_slot slots) (active_of b))
         (placed_at ns slots runs j b there)
@@ -113,13 +114,13 @@ module _ (ns : ZonedNamespace) (slots : List (Option LoadedProgram)) (runs : Lis
     same_block : ns.block ≡ new.block
     same_block = ap (λ (x : Shape). x.block) (sym same_shape)
 
-    grows : (j : ℕ) (b : Held) → get_or runs j None ≡ Some b → Grows (zone_at ns b.source.zone).blocks (zone_at new b.source.zone).blocks
+    grows : (j : ℕ) (b : ActiveRun) → get_or runs j None ≡ Some b → Grows (zone_at ns b.source.zone).blocks (zone_at new b.source.zone).blocks
     grows j b there =
         grows_there ns new b (ready.running j b there).fits
         (subst (λ (m : ZonedNamespace). Grows (zone_at ns (zone_number ns b.order.lba)).blocks (zone_at m (zone_number ns b.order.lba)).blocks) namespace_is
         (keeps j b there).source)
 
-    stays : (j : ℕ) (b : Held) → get_or runs j None ≡ Some b → Stays ns new slots slots' b
+    stays : (j : ℕ) (b : ActiveRun) → get_or runs j None ≡ Some b → Stays ns new slots slots' b
     stays j b there = record {
       source = keeps_source ns new b (ready.running j b there).fits same_shape (grows j b there);
       program = subst (λ (xs : List (Option Loaded)). SameProgram (get_or (map loaded_slot slots) b.order.slot None) (get_or xs b.order.slot None)) programs_are
@@ -133,12 +134,12 @@ module _ (ns : ZonedNamespace) (slots : List (Option LoadedProgram)) (runs : Lis
     ]
 
     -- a run whose program was in its slot, and is
-    is_running : (b : Held) (x : LoadedProgram) → get_or slots b.order.slot None ≡ Some x → Fits new b → IsRunning new slots' b
+    is_running : (b : ActiveRun) (x : LoadedProgram) → get_or slots b.order.slot None ≡ Some x → Fits new b → IsRunning new slots' b
     is_running b x was fit =
         let z = still_some slots a.order.slot b.order.slot q x was in
         record { program = z.0; loaded = z.1; accepted = still_for b.order.slot z.0 z.1; fits = fit }
 
-    abbrev OwnFits : Held → Type 0
+    abbrev OwnFits : ActiveRun → Type 0
     OwnFits b = (b.order ≡ a.order) × Fits new b
 
     all_ready : Where OwnFits r → IsReady new slots' (set runs k r)
@@ -173,7 +174,7 @@ module _ (ns : ZonedNamespace) (slots : List (Option LoadedProgram)) (runs : Lis
 
   -- ---- a turn after which it goes on
 
-  module _ (new : ZonedNamespace) (q : LoadedProgram) (b : Held) (same : q ≡ p) (g : GoesOn ns new code limit a b) (kept : Keeps a b) where
+  module _ (new : ZonedNamespace) (q : LoadedProgram) (b : ActiveRun) (same : q ≡ p) (g : GoesOn ns new code limit a b) (kept : Keeps a b) where
     abbrev later : List Turn
     later = turns_of new code limit (active_of b)
 
@@ -217,7 +218,7 @@ module _ (ns : ZonedNamespace) (slots : List (Option LoadedProgram)) (runs : Lis
 
   -- ---- a turn that ends it
 
-  module _ (new : ZonedNamespace) (q : LoadedProgram) (b : Held) (answer : Answer) (same : q ≡ record p { result = b.scratch })
+  module _ (new : ZonedNamespace) (q : LoadedProgram) (b : ActiveRun) (answer : Answer) (same : q ≡ record p { result = b.scratch })
       (e : HasEnded ns new code limit a b answer) (kept : Keeps a b) where
     abbrev last : Turn
     last = record {
@@ -244,12 +245,12 @@ module _ (ns : ZonedNamespace) (slots : List (Option LoadedProgram)) (runs : Lis
 
   -- ---- what its program and its run are afterwards
 
-  given_more : (new : ZonedNamespace) (q : Option LoadedProgram) (b : Held) → SlotTurned ns new (Some p) q a b None
+  given_more : (new : ZonedNamespace) (q : Option LoadedProgram) (b : ActiveRun) → SlotTurned ns new (Some p) q a b None
       → IsTurned s k new (set slots a.order.slot q) (set runs k (Some b)) (reply.Pending k)
   given_more new None b done = absurd done
   given_more new (Some q) b done = goes_turned new q b done.0 done.1 done.2 done.3
 
-  given_last : (new : ZonedNamespace) (q : Option LoadedProgram) (b : Held) (answer : Answer) → SlotTurned ns new (Some p) q a b (Some answer)
+  given_last : (new : ZonedNamespace) (q : Option LoadedProgram) (b : ActiveRun) (answer : Answer) → SlotTurned ns new (Some p) q a b (Some answer)
       → IsTurned s k new (set slots a.order.slot q) (set runs k None) (complete_reply b.queue b.cid answer)
   given_last new None b answer done = absurd done
   given_last new (Some q) b answer done = ends_turned new q b answer done.0 done.1 done.2
@@ -257,14 +258,14 @@ module _ (ns : ZonedNamespace) (slots : List (Option LoadedProgram)) (runs : Lis
 -- ---- at any place
 
 -- the run at a place fits, with the program of its slot
-pub fits_at : (ns : ZonedNamespace) (slots : List (Option LoadedProgram)) (runs : List (Option Held)) (k : ℕ) (place : Option Held)
-    → IsReady ns slots runs → IsReached (device_state ns slots runs) → get_or runs k None ≡ place → FitsAt ns slots place
+pub fits_at : (ns : ZonedNamespace) (slots : List (Option LoadedProgram)) (runs : List (Option ActiveRun)) (k : ℕ) (place : Option ActiveRun)
+    → IsReady ns slots runs → IsReached intervals (device_state ns slots runs) → get_or runs k None ≡ place → FitsAt ns slots place
 fits_at ns slots runs k None ready reached at = tt
 fits_at ns slots runs k (Some a) ready reached at =
     let own = ready.running k a at in fits_in ns slots runs ready k a at own.program own.loaded reached
 
 -- no run is there
-idles : (ns : ZonedNamespace) (slots : List (Option LoadedProgram)) (runs : List (Option Held)) (k : ℕ) → IsReady ns slots runs
+idles : (ns : ZonedNamespace) (slots : List (Option LoadedProgram)) (runs : List (Option ActiveRun)) (k : ℕ) → IsReady ns slots runs
     → get_or runs k None ≡ None → IsTurned (device_state ns slots runs) k ns slots runs reply.Idle
 idles ns slots runs k ready none =
     let s = device_state ns slots runs in
@@ -274,21 +275,21 @@ idles ns slots runs k ready none =
     let comes : turned s k ≡ idle s = ap (λ (o : Option Place). turned_at s k o) free in
     record { reply = sym (ap (λ (h : Happening). h.reply.reply) comes); state = sym (ap (λ (h : Happening). h.state) comes); ready = ready }
 
-pub idles_there : (ns : ZonedNamespace) (slots : List (Option LoadedProgram)) (runs : List (Option Held)) (k : ℕ) (o : Option Held) → IsReady ns slots runs
+pub idles_there : (ns : ZonedNamespace) (slots : List (Option LoadedProgram)) (runs : List (Option ActiveRun)) (k : ℕ) (o : Option ActiveRun) → IsReady ns slots runs
     → get_or runs k None ≡ o → o ≡ None → IsTurned (device_state ns slots runs) k ns slots (set runs k o) reply.Idle
 idles_there ns slots runs k o ready at none =
-    subst (λ (xs : List (Option Held)). IsTurned (device_state ns slots runs) k ns slots xs reply.Idle)
+    subst (λ (xs : List (Option ActiveRun)). IsTurned (device_state ns slots runs) k ns slots xs reply.Idle)
     (sym (ap (set runs k) (sym at) ∙ set-get_or runs k None)) (idles ns slots runs k ready (at ∙ none))
 
-module _ (ns new : ZonedNamespace) (slots : List (Option LoadedProgram)) (k slot : ℕ) (a b : Held) (default q : Option LoadedProgram) (is_slot : slot ≡ a.order.slot)
-    (within : slot < length slots) (runs : List (Option Held)) (at : get_or runs k None ≡ Some a) (ready : IsReady ns slots runs) where
+module _ (ns new : ZonedNamespace) (slots : List (Option LoadedProgram)) (k slot : ℕ) (a b : ActiveRun) (default q : Option LoadedProgram) (is_slot : slot ≡ a.order.slot)
+    (within : slot < length slots) (runs : List (Option ActiveRun)) (at : get_or runs k None ≡ Some a) (ready : IsReady ns slots runs) where
   abbrev own : IsRunning ns slots a
   own = ready.running k a at
 
   in_slot : get_or slots slot default ≡ Some own.program
   in_slot = found slots slot a.order.slot default own.program is_slot within own.loaded
 
-  abbrev Comes : ℕ → Option Held → Reply → Type 0
+  abbrev Comes : ℕ → Option ActiveRun → Reply → Type 0
   Comes slot place given = IsTurned (device_state ns slots runs) k new (set slots slot q) (set runs k place) given
 
   pub more_there : SlotTurned ns new (get_or slots slot default) q a b None → Comes slot (Some b) (reply.Pending k)

@@ -9,25 +9,24 @@ use Rattle.zns_commands.specs.Address.{zone_number}
 use Rattle.pushdown.specs.Admission.{task_of}
 use Rattle.device_events.specs.Replies.{Joins, ReplyWithData}
 use Rattle.pushdown.specs.Draining.{AreLowest, HasDrained, StopsDraining, lowest_run, replies_to_turns, state_after_turns, turns_left}
-use Rattle.pushdown.specs.Machine.{turned}
+use Rattle.pushdown.specs.EventEffects.{turned}
 use Rattle.pushdown.specs.State.{State, place_at}
 use Rattle.pushdown.specs.View.{seen, to_come}
 use Rattle.pushdown.proofs.Proved.{rest_is_few, turns_leave_fewer}
-use Rattle.runner.specs.Held.{active_of, loaded_slot, device_state}
-use Rattle.runner.specs.Ready.{Fits, IsReached}
-use Rattle.runner.specs.declared.active_run.Active.{Active as Held}
+use Rattle.runner.specs.DeviceState.{active_of, loaded_slot, device_state}
+use Rattle.runner.specs.Ready.{Fits}
+use Rattle.pushdown.specs.Reached.{IsReached}
+use Rattle.runner.specs.declared.active_run.Active.{Active as ActiveRun}
 use Rattle.runner.specs.declared.loaded_program.LoadedProgram.{LoadedProgram}
 use Rattle.runner.proofs.Reached.{never}
 
 -- ---- fewer turns are left
 
-pub turn_less : (s : State) (run : ℕ) → IsReached s → lowest_run s ≡ Some run → turns_left (turned s run).state.places + 1 ≤ turns_left s.places
-turn_less s run reached low =
-    subst (λ (t : State). is_some (place_at t run) ≡ true → turns_left (turned t run).state.places + 1 ≤ turns_left t.places) (sym reached.leaves)
-    (turns_leave_fewer intervals never reached.first reached.events run reached.namespace reached.bytes) ((position-Some is_some s.places run None low).1)
+pub turn_less : (s : State) (run : ℕ) → IsReached intervals s → lowest_run s ≡ Some run → turns_left (turned s run).state.places + 1 ≤ turns_left s.places
+turn_less s run reached low = turns_leave_fewer intervals never s run reached ((position-Some is_some s.places run None low).1)
 
 -- a run has at most as many turns left as it has source blocks
-few_of : (ns : ZonedNamespace) (slots : List (Option LoadedProgram)) (a : Held) → Fits ns a
+few_of : (ns : ZonedNamespace) (slots : List (Option LoadedProgram)) (a : ActiveRun) → Fits ns a
     → turns_left (seen ns (map loaded_slot slots) (Some (active_of a)) ∷ []) ≤ 65536
 few_of ns slots a fits =
     let b = active_of a in
@@ -36,8 +35,8 @@ few_of ns slots a fits =
     let left = length-take (a.order.blocks - a.index) blocks in
     omega (arith, few, left, fits.most)
 
-pub few_left : (ns : ZonedNamespace) (slots : List (Option LoadedProgram)) (runs : List (Option Held))
-    → ((k : ℕ) (a : Held) → get_or runs k None ≡ Some a → Fits ns a)
+pub few_left : (ns : ZonedNamespace) (slots : List (Option LoadedProgram)) (runs : List (Option ActiveRun))
+    → ((k : ℕ) (a : ActiveRun) → get_or runs k None ≡ Some a → Fits ns a)
     → turns_left (device_state ns slots runs).places ≤ 65536 * length runs
 few_left ns slots [] fit = omega arith
 few_left ns slots (None ∷ runs) fit = let rest = few_left ns slots runs (λ k. fit (suc k)) in omega (arith, rest)
@@ -86,7 +85,7 @@ module _ {T : Type 0} (took : T → T → List ReplyWithData → Type 0) (joins 
       turns_replies-append d.runs (run ∷ []) old
       ∙ ap (λ (x : ReplyWithData). replies_to_turns d.runs old ++ x ∷ []) (sym (replied ∙ ap (λ (s : State). (turned s run).reply) d.state))
 
-  module _ (d : IsDraining old now (took first then) done) (reached : IsReached now) (low : lowest_run now ≡ Some run) (step : new ≡ (turned now run).state) where
+  module _ (d : IsDraining old now (took first then) done) (reached : IsReached intervals now) (low : lowest_run now ≡ Some run) (step : new ≡ (turned now run).state) where
     more_few : done + 1 + turns_left new.places ≤ turns_left old.places
     more_few =
         let less = turn_less now run reached low in

@@ -6,24 +6,24 @@ use Rattle.zns_commands.specs.Address.{zone_number}
 use Rattle.pushdown.specs.Admission.{Loaded}
 use Rattle.pushdown.specs.State.{destination_of, holds_of, source_of}
 use Rattle.pushdown.specs.View.{seen}
-use Rattle.runner.specs.Held.{loaded_slot, running, device_state}
-use Rattle.runner.specs.steps.HeldRuns.{destination_held, held_by, source_held}
+use Rattle.runner.specs.DeviceState.{loaded_slot, running, device_state}
+use Rattle.runner.specs.steps.ActiveRuns.{destination_held, held_by, source_held}
 use Rattle.runner.specs.Ready.{Fits, IsReady}
-use Rattle.runner.specs.declared.active_run.Active.{Active as Held}
+use Rattle.runner.specs.declared.active_run.Active.{Active as ActiveRun}
 use Rattle.runner.specs.declared.loaded_program.LoadedProgram.{LoadedProgram}
 
-abbrev AllFit : ZonedNamespace → List (Option Held) → Type 0
-AllFit ns runs = (k : ℕ) (a : Held) → get_or runs k None ≡ Some a → Fits ns a
+abbrev AllFit : ZonedNamespace → List (Option ActiveRun) → Type 0
+AllFit ns runs = (k : ℕ) (a : ActiveRun) → get_or runs k None ≡ Some a → Fits ns a
 
 module _ (ns : ZonedNamespace) (slots : List (Option Loaded)) where
-  sources_are : (runs : List (Option Held)) → AllFit ns runs → map source_held runs ≡ map source_of (map (seen ns slots) (map running runs))
+  sources_are : (runs : List (Option ActiveRun)) → AllFit ns runs → map source_held runs ≡ map source_of (map (seen ns slots) (map running runs))
   sources_are [] fit = refl
   sources_are (None ∷ runs) fit = ap (λ (held : List (Option ℕ)). None ∷ held) (sources_are runs (λ k. fit (suc k)))
   sources_are (Some a ∷ runs) fit =
       ap (λ (place : ZoneBlock). Some place.zone ∷ map source_held runs) (fit zero a refl).source
       ∙ ap (λ (held : List (Option ℕ)). Some (zone_number ns a.order.lba) ∷ held) (sources_are runs (λ k. fit (suc k)))
 
-  destinations_are : (runs : List (Option Held)) → AllFit ns runs
+  destinations_are : (runs : List (Option ActiveRun)) → AllFit ns runs
       → map destination_held runs ≡ map destination_of (map (seen ns slots) (map running runs))
   destinations_are [] fit = refl
   destinations_are (None ∷ runs) fit = ap (λ (held : List (Option ℕ)). None ∷ held) (destinations_are runs (λ k. fit (suc k)))
@@ -31,7 +31,7 @@ module _ (ns : ZonedNamespace) (slots : List (Option Loaded)) where
       ap (λ (zone : ℕ). Some zone ∷ map destination_held runs) (fit zero a refl).destination
       ∙ ap (λ (held : List (Option ℕ)). Some (zone_number ns a.order.destination) ∷ held) (destinations_are runs (λ k. fit (suc k)))
 
-pub holds_are : (ns : ZonedNamespace) (slots : List (Option LoadedProgram)) (runs : List (Option Held)) → IsReady ns slots runs
+pub holds_are : (ns : ZonedNamespace) (slots : List (Option LoadedProgram)) (runs : List (Option ActiveRun)) → IsReady ns slots runs
     → held_by runs ≡ holds_of (device_state ns slots runs)
 holds_are ns slots runs ready =
     let fit : AllFit ns runs = λ k a at. (ready.running k a at).fits in

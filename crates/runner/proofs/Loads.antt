@@ -18,15 +18,15 @@ use Rattle.nvme_entry.proofs.Proved.{demanded, passed}
 use Rattle.pushdown.specs.Admission.{Loaded, task_of}
 use Rattle.pushdown.specs.EventReplies.{Submission, completed}
 use Rattle.pushdown.specs.BlockRuns.{no_scratch}
-use Rattle.pushdown.specs.Machine.{judged, just_loaded, load_checks, load_unless, read_program, sizes_for}
+use Rattle.pushdown.specs.EventEffects.{judged, just_loaded, load_checks, load_unless, read_program, sizes_for}
 use Rattle.pushdown.specs.Outcome.{rest}
 use Rattle.pushdown.specs.State.{Place, State, in_use, uses, with_slot}
 use Rattle.pushdown.specs.View.{Active, place_of, seen, to_come}
 use Rattle.runner.specs.steps.Answered.{HasLoaded}
-use Rattle.runner.specs.Held.{loaded_slot, running, device_state}
+use Rattle.runner.specs.DeviceState.{loaded_slot, running, device_state}
 use Rattle.runner.specs.steps.Loading.{IsLoadable, IsNotAccepted, uses_slot}
 use Rattle.runner.specs.Ready.{IsFor, IsReady}
-use Rattle.runner.specs.declared.active_run.Active.{Active as Held}
+use Rattle.runner.specs.declared.active_run.Active.{Active as ActiveRun}
 use Rattle.runner.specs.declared.loaded_program.LoadedProgram.{LoadedProgram}
 
 -- ---- which slots are used
@@ -45,13 +45,13 @@ not_true : (b : Bool) → not b ≡ true → b ≡ false
 not_true true e = cc
 not_true false e = refl
 
-pub used_is : (ns : ZonedNamespace) (slots : List (Option LoadedProgram)) (runs : List (Option Held)) (slot : ℕ)
+pub used_is : (ns : ZonedNamespace) (slots : List (Option LoadedProgram)) (runs : List (Option ActiveRun)) (slot : ℕ)
     → in_use (device_state ns slots runs) slot ≡ list_any (uses_slot slot) runs
 used_is ns slots [] slot = refl
 used_is ns slots (None ∷ runs) slot = used_is ns slots runs slot
 used_is ns slots (Some a ∷ runs) slot = ap (λ (b : Bool). (a.order.slot == slot) || b) (used_is ns slots runs slot)
 
-not_at : (runs : List (Option Held)) (slot k : ℕ) (a : Held) → list_any (uses_slot slot) runs ≡ false → get_or runs k None ≡ Some a → (a.order.slot == slot) ≡ false
+not_at : (runs : List (Option ActiveRun)) (slot k : ℕ) (a : ActiveRun) → list_any (uses_slot slot) runs ≡ false → get_or runs k None ≡ Some a → (a.order.slot == slot) ≡ false
 not_at [] slot k a none at = cc
 not_at (r ∷ runs) slot zero a none at =
     sym (ap (uses_slot slot) at) ∙ (either_false (uses_slot slot r) (list_any (uses_slot slot) runs) none).0
@@ -76,7 +76,7 @@ module _ (ns : ZonedNamespace) (slots : List (Option Loaded)) (slot : ℕ) (new 
 
 -- ---- the program is put there
 
-module _ (ns : ZonedNamespace) (slots : List (Option LoadedProgram)) (runs : List (Option Held)) (load : LoadCommand) (input : List ℕ)
+module _ (ns : ZonedNamespace) (slots : List (Option LoadedProgram)) (runs : List (Option ActiveRun)) (load : LoadCommand) (input : List ℕ)
     (new : LoadedProgram) (ready : IsReady ns slots runs) (inside : load.slot < length slots)
     (loadable : IsLoadable load input (device_state ns slots runs) (program_of new.prepared) (sizes_of new.prepared)) where
   abbrev s : State

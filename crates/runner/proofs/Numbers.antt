@@ -6,10 +6,10 @@ use Rattle.std.proofs.lemmas.List.{length-map}
 use Rattle.image_store.specs.Namespace.{ZonedNamespace}
 use Rattle.pushdown.specs.Admission.{Loaded}
 use Rattle.pushdown.specs.Draining.{lowest_run}
-use Rattle.pushdown.specs.State.{free_run}
+use Rattle.pushdown.specs.State.{free_place}
 use Rattle.pushdown.specs.View.{Active, seen}
-use Rattle.runner.specs.Held.{loaded_slot, running, device_state}
-use Rattle.runner.specs.declared.active_run.Active.{Active as Held}
+use Rattle.runner.specs.DeviceState.{loaded_slot, running, device_state}
+use Rattle.runner.specs.declared.active_run.Active.{Active as ActiveRun}
 use Rattle.runner.specs.declared.loaded_program.LoadedProgram.{LoadedProgram}
 
 -- the first that passes is at the same index in a mapped list, for tests that are the same
@@ -34,16 +34,16 @@ module _ (ns : ZonedNamespace) (slots : List (Option Loaded)) where
   seen_some None = refl
   seen_some (Some a) = refl
 
-running_none : (run : Option Held) → is_none (running run) ≡ is_none run
+running_none : (run : Option ActiveRun) → is_none (running run) ≡ is_none run
 running_none None = refl
 running_none (Some a) = refl
 
-running_some : (run : Option Held) → is_some (running run) ≡ is_some run
+running_some : (run : Option ActiveRun) → is_some (running run) ≡ is_some run
 running_some None = refl
 running_some (Some a) = refl
 
-module _ (ns : ZonedNamespace) (slots : List (Option LoadedProgram)) (runs : List (Option Held)) where
-  pub free_is : free_run (device_state ns slots runs) ≡ position is_none runs
+module _ (ns : ZonedNamespace) (slots : List (Option LoadedProgram)) (runs : List (Option ActiveRun)) where
+  pub free_is : free_place (device_state ns slots runs) ≡ position is_none runs
   free_is =
       position_mapped (seen ns (map loaded_slot slots)) is_none is_none (seen_none ns (map loaded_slot slots)) (map running runs)
       ∙ position_mapped running is_none is_none running_none runs

@@ -1,36 +1,27 @@
 -- Lists of occurrences, one longer.
-use Rattle.std.proofs.Common.{◌≡◌, ℕ, List, [], ◌∷◌, ◌++◌, ap, sym, ◌∙◌}
+use Rattle.std.proofs.Common.{◌≡◌, ℕ, List, [], ◌∷◌, ap, sym, subst, ◌∙◌}
 use Rattle.std.specs.Prelude.{Vec}
 use Rattle.std.specs.declared.alloc.Global.{Global}
 use Rattle.nvme_entry.specs.Entry.{decoded}
 use Rattle.interval_domain.specs.Intervals.{intervals}
 use Rattle.pushdown.specs.EventReplies.{Happening, Submission}
 use Rattle.device_events.specs.Replies.{ReplyWithData}
-use Rattle.pushdown.specs.Events.{HasHappened, Occurrence}
-use Rattle.pushdown.specs.Machine.{happens, submitted}
-use Rattle.pushdown.specs.Pushdown.{HasBytes}
-use Rattle.pushdown.specs.State.{State, new_state}
+use Rattle.pushdown.specs.Events.{HasBytes, HasHappened, Occurrence}
+use Rattle.pushdown.specs.EventEffects.{happens, submitted}
+use Rattle.pushdown.specs.State.{State}
 use Rattle.device_events.specs.declared.event.Event.{Event}
 use Rattle.device_events.specs.declared.event.Event.TheVariants as event
-use Rattle.pushdown.proofs.Proved.{events_join, in_parts}
+use Rattle.pushdown.proofs.Proved.{events_keep_reached}
 use Rattle.runner.specs.steps.Answered.{HasSubmitted}
-use Rattle.runner.specs.Ready.{IsReached}
+use Rattle.pushdown.specs.Reached.{IsReached}
 
 -- one more event leaves a state that events leave
-pub reached_more : (s t : State) (o : Occurrence) → IsReached s → HasBytes o.event → t ≡ (happens intervals s o.starved o.event).state → IsReached t
-reached_more s t o reached has step = record {
-  first = reached.first;
-  events = reached.events ++ o ∷ [];
-  namespace = reached.namespace;
-  bytes = events_join reached.events (o ∷ []) reached.bytes (has, tt);
-  leaves =
-      step ∙ ap (λ (x : State). (happens intervals x o.starved o.event).state) reached.leaves
-      ∙ sym ((in_parts intervals reached.events (o ∷ []) (new_state reached.first)).state);
-}
+pub reached_more : (s t : State) (o : Occurrence) → IsReached intervals s → HasBytes o.event → t ≡ (happens intervals s o.starved o.event).state → IsReached intervals t
+reached_more s t o reached has step = subst (IsReached intervals) (sym step) (events_keep_reached intervals s (o ∷ []) reached (has, tt))
 
 -- ---- one event
 
-pub reached_by : (e : Event) (old new : State) (reply : ReplyWithData) → IsReached old → HasBytes e → HasHappened intervals e old new reply → IsReached new
+pub reached_by : (e : Event) (old new : State) (reply : ReplyWithData) → IsReached intervals old → HasBytes e → HasHappened intervals e old new reply → IsReached intervals new
 reached_by e old new reply reached has happened =
     let o : Occurrence = record { event = e; starved = happened.starved } in reached_more old new o reached has happened.state
 

@@ -9,26 +9,26 @@ use Rattle.image_store.specs.Namespace.{ZonedNamespace}
 use Rattle.image_store.specs.declared.geometry.ZoneBlock.{ZoneBlock}
 use Rattle.pushdown.specs.Admission.{run_refusal}
 use Rattle.pushdown.specs.EventReplies.{Submission, plain}
-use Rattle.pushdown.specs.Machine.{start_by}
+use Rattle.pushdown.specs.EventEffects.{start_by}
 use Rattle.pushdown.specs.Outcome.{at_admission}
-use Rattle.pushdown.specs.State.{Place, State, free_run, with_place}
+use Rattle.pushdown.specs.State.{Place, State, free_place, with_place}
 use Rattle.pushdown.specs.View.{begun, place_of, seen}
 use Rattle.device_events.specs.declared.reply.Reply.TheVariants as reply
 use Rattle.pushdown.proofs.Proved.{seen_at_admission}
 use Rattle.runner.specs.steps.Admitting.{IsAdmission}
 use Rattle.runner.specs.steps.Answered.{Refuses, Starts}
-use Rattle.runner.specs.Held.{active_of, loaded_slot, running, device_state}
-use Rattle.runner.specs.steps.HeldRuns.{held_by, new_active}
+use Rattle.runner.specs.DeviceState.{active_of, loaded_slot, running, device_state}
+use Rattle.runner.specs.steps.ActiveRuns.{held_by, new_active}
 use Rattle.runner.specs.Ready.{IsReady, IsRunning}
-use Rattle.runner.specs.declared.active_run.Active.{Active as Held}
+use Rattle.runner.specs.declared.active_run.Active.{Active as ActiveRun}
 use Rattle.runner.specs.declared.admission.Admitted.{Admitted}
 use Rattle.runner.specs.declared.loaded_program.LoadedProgram.{LoadedProgram}
 use Rattle.runner.proofs.Admissions.{why_is}
 use Rattle.runner.proofs.Numbers.{free_is}
 
-module _ (ns : ZonedNamespace) (slots : List (Option LoadedProgram)) (runs : List (Option Held)) where
+module _ (ns : ZonedNamespace) (slots : List (Option LoadedProgram)) (runs : List (Option ActiveRun)) where
   -- a run put at a place, seen
-  placed : (run : ℕ) (a : Held)
+  placed : (run : ℕ) (a : ActiveRun)
       → device_state ns slots (set runs run (Some a)) ≡ with_place (device_state ns slots runs) run (Some (place_of ns (map loaded_slot slots) (active_of a)))
   placed run a =
       ap (λ (places : List (Option Place)). record { namespace = ns; slots = map loaded_slot slots; places = places })
@@ -46,7 +46,7 @@ module _ (ns : ZonedNamespace) (slots : List (Option LoadedProgram)) (runs : Lis
       let a = new_active queue cid order admitted.source admitted.destination block in
       let begins : active_of a ≡ begun sub order =
       ap (λ (n : ℕ). record { queue = queue; cid = n; order = order; so_far = at_admission }) (sym named) in
-      ap (λ (why : Option Status). start_by why (free_run s) sub s order) (why_is ns slots runs sub order ready ∙ sym passes)
+      ap (λ (why : Option Status). start_by why (free_place s) sub s order) (why_is ns slots runs sub order ready ∙ sym passes)
       ∙ ap (λ (number : Option ℕ). start_by None number sub s order) (free_is ns slots runs ∙ free)
       ∙ ap (λ (place : Place). record { reply = plain (reply.Pending admitted.run); state = with_place s admitted.run (Some place) })
       (sym (seen_at_admission sub s order) ∙ ap (place_of ns (map loaded_slot slots)) (sym begins))
@@ -58,7 +58,7 @@ module _ (ns : ZonedNamespace) (slots : List (Option LoadedProgram)) (runs : Lis
   refuses order input status ready fails queue entry =
       let s = device_state ns slots runs in
       let sub : Submission = record { queue = queue; entry = entry; input = input } in
-      ap (λ (why : Option Status). start_by why (free_run s) sub s order) (why_is ns slots runs sub order ready ∙ sym fails)
+      ap (λ (why : Option Status). start_by why (free_place s) sub s order) (why_is ns slots runs sub order ready ∙ sym fails)
 
   loaded_there : (o : Option LoadedProgram) → is_some o ≡ true → (p : LoadedProgram) × (o ≡ Some p)
   loaded_there None some = cc
@@ -89,7 +89,7 @@ module _ (ns : ZonedNamespace) (slots : List (Option LoadedProgram)) (runs : Lis
       }
 
   -- and all is ready with it
-  pub still_ready : (run : ℕ) (a : Held) → IsReady ns slots runs → IsRunning ns slots a → run < length runs → IsReady ns slots (set runs run (Some a))
+  pub still_ready : (run : ℕ) (a : ActiveRun) → IsReady ns slots runs → IsRunning ns slots a → run < length runs → IsReady ns slots (set runs run (Some a))
   still_ready run a ready is inside = record {
     programs = ready.programs;
     running = λ k b at. elim (eqb_tells k run) [

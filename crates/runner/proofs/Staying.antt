@@ -9,19 +9,19 @@ use Rattle.pushdown.specs.Admission.{SameProgram}
 use Rattle.pushdown.specs.State.{Place, place_at}
 use Rattle.pushdown.specs.View.{KeepsSource, place_of, seen}
 use Rattle.pushdown.proofs.Proved.{seen_stays}
-use Rattle.runner.specs.Held.{active_of, loaded_slot, running, device_state}
+use Rattle.runner.specs.DeviceState.{active_of, loaded_slot, running, device_state}
 use Rattle.runner.specs.Ready.{Fits}
-use Rattle.runner.specs.declared.active_run.Active.{Active as Held}
+use Rattle.runner.specs.declared.active_run.Active.{Active as ActiveRun}
 use Rattle.runner.specs.declared.loaded_program.LoadedProgram.{LoadedProgram}
 
 -- what a run needs to be seen as before: its source blocks and its program
-pub record Stays (ns later : ZonedNamespace) (slots slots' : List (Option LoadedProgram)) (a : Held) : Type 0 where
+pub record Stays (ns later : ZonedNamespace) (slots slots' : List (Option LoadedProgram)) (a : ActiveRun) : Type 0 where
   pub source : KeepsSource ns later (active_of a)
   pub program : SameProgram (get_or (map loaded_slot slots) a.order.slot None) (get_or (map loaded_slot slots') a.order.slot None)
 
 -- ---- a run
 
-pub still_fits : (ns later : ZonedNamespace) (a : Held) → Fits ns a → shape later ≡ shape ns
+pub still_fits : (ns later : ZonedNamespace) (a : ActiveRun) → Fits ns a → shape later ≡ shape ns
     → Grows (zone_at ns a.source.zone).blocks (zone_at later a.source.zone).blocks → Fits later a
 still_fits ns later a fits same grows =
     let size : ns.size ≡ later.size = ap (λ (s : Shape). s.size) (sym same) in
@@ -43,7 +43,7 @@ still_fits ns later a fits same grows =
     }
 
 -- the source blocks of a run that fits are kept where they grow
-pub keeps_source : (ns later : ZonedNamespace) (a : Held) → Fits ns a → shape later ≡ shape ns
+pub keeps_source : (ns later : ZonedNamespace) (a : ActiveRun) → Fits ns a → shape later ≡ shape ns
     → Grows (zone_at ns a.source.zone).blocks (zone_at later a.source.zone).blocks → KeepsSource ns later (active_of a)
 keeps_source ns later a fits same grows =
     let zone : a.source.zone ≡ zone_number ns a.order.lba = ap (λ (p : ZoneBlock). p.zone) fits.source in
@@ -57,7 +57,7 @@ keeps_source ns later a fits same grows =
     }
 
 -- the source blocks of a run that fits are kept where its source grows, as it is found by its first address
-pub grows_there : (ns later : ZonedNamespace) (a : Held) → Fits ns a
+pub grows_there : (ns later : ZonedNamespace) (a : ActiveRun) → Fits ns a
     → Grows (zone_at ns (zone_number ns a.order.lba)).blocks (zone_at later (zone_number ns a.order.lba)).blocks
     → Grows (zone_at ns a.source.zone).blocks (zone_at later a.source.zone).blocks
 grows_there ns later a fits grows =
@@ -66,31 +66,31 @@ grows_there ns later a fits grows =
 -- ---- all runs
 
 -- the place of a run
-pub placed_at : (ns : ZonedNamespace) (slots : List (Option LoadedProgram)) (runs : List (Option Held)) (k : ℕ) (a : Held)
+pub placed_at : (ns : ZonedNamespace) (slots : List (Option LoadedProgram)) (runs : List (Option ActiveRun)) (k : ℕ) (a : ActiveRun)
     → get_or runs k None ≡ Some a → place_at (device_state ns slots runs) k ≡ Some (place_of ns (map loaded_slot slots) (active_of a))
 placed_at ns slots [] k a at = cc
-placed_at ns slots (r ∷ rs) zero a at = ap (λ (o : Option Held). seen ns (map loaded_slot slots) (running o)) at
+placed_at ns slots (r ∷ rs) zero a at = ap (λ (o : Option ActiveRun). seen ns (map loaded_slot slots) (running o)) at
 placed_at ns slots (r ∷ rs) (suc k) a at = placed_at ns slots rs k a at
 
 module _ (ns later : ZonedNamespace) (slots slots' : List (Option LoadedProgram)) where
-  abbrev StayAll : List (Option Held) → Type 0
-  StayAll runs = (k : ℕ) (a : Held) → get_or runs k None ≡ Some a → Stays ns later slots slots' a
+  abbrev StayAll : List (Option ActiveRun) → Type 0
+  StayAll runs = (k : ℕ) (a : ActiveRun) → get_or runs k None ≡ Some a → Stays ns later slots slots' a
 
-  stays_seen : (r : Option Held) → ((a : Held) → r ≡ Some a → Stays ns later slots slots' a)
+  stays_seen : (r : Option ActiveRun) → ((a : ActiveRun) → r ≡ Some a → Stays ns later slots slots' a)
       → seen later (map loaded_slot slots') (running r) ≡ seen ns (map loaded_slot slots) (running r)
   stays_seen None stays = refl
   stays_seen (Some a) stays =
       let s = stays a refl in ap Some (seen_stays ns later (map loaded_slot slots) (map loaded_slot slots') (active_of a) s.source s.program)
 
-  pub places_stay : (runs : List (Option Held)) → StayAll runs → (device_state later slots' runs).places ≡ (device_state ns slots runs).places
+  pub places_stay : (runs : List (Option ActiveRun)) → StayAll runs → (device_state later slots' runs).places ≡ (device_state ns slots runs).places
   places_stay [] stays = refl
   places_stay (r ∷ rs) stays =
       ap (λ (p : Option Place). p ∷ (device_state later slots' rs).places) (stays_seen r (stays zero))
       ∙ ap (λ (ps : List (Option Place)). seen ns (map loaded_slot slots) (running r) ∷ ps) (places_stay rs (λ k. stays (suc k)))
 
   -- the same, where another run, or none, takes one of the places
-  pub others_stay : (runs : List (Option Held)) (i : ℕ) (r : Option Held)
-      → ((k : ℕ) (a : Held) → k ≢ i → get_or runs k None ≡ Some a → Stays ns later slots slots' a)
+  pub others_stay : (runs : List (Option ActiveRun)) (i : ℕ) (r : Option ActiveRun)
+      → ((k : ℕ) (a : ActiveRun) → k ≢ i → get_or runs k None ≡ Some a → Stays ns later slots slots' a)
       → (device_state later slots' (set runs i r)).places ≡ set (device_state ns slots runs).places i (seen later (map loaded_slot slots') (running r))
   others_stay [] i r stays = refl
   others_stay (x ∷ xs) zero r stays =

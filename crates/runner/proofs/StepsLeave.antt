@@ -15,29 +15,29 @@ use Rattle.zns_commands.specs.Meaning.{meaning}
 use Rattle.zns_commands.specs.declared.answer.Answer.{Answer}
 use Rattle.zns_commands.proofs.Proved.{sources_keep_blocks, events_keep_shapes}
 use Rattle.pushdown.specs.EventReplies.{Submission}
-use Rattle.pushdown.specs.Machine.{commanded, failed}
+use Rattle.pushdown.specs.EventEffects.{commanded, failed}
 use Rattle.pushdown.specs.State.{Place, with_namespace}
 use Rattle.pushdown.specs.State.{holds_of as places_hold}
 use Rattle.zone_resources.proofs.Proved.{users_name_zones}
 use Rattle.runner.specs.steps.Answered.{answered}
-use Rattle.runner.specs.Held.{loaded_slot, device_state}
-use Rattle.runner.specs.steps.HeldRuns.{held_by, source_held}
+use Rattle.runner.specs.DeviceState.{loaded_slot, device_state}
+use Rattle.runner.specs.steps.ActiveRuns.{held_by, source_held}
 use Rattle.runner.specs.Ready.{IsReady}
-use Rattle.runner.specs.declared.active_run.Active.{Active as Held}
+use Rattle.runner.specs.declared.active_run.Active.{Active as ActiveRun}
 use Rattle.runner.specs.declared.loaded_program.LoadedProgram.{LoadedProgram}
 use Rattle.runner.proofs.Holding.{holds_are}
 use Rattle.runner.proofs.Staying.{keeps_source, places_stay, still_fits}
 
 -- a later namespace, in which what a device has is ready, and is seen as before
-pub record IsLeft (ns later : ZonedNamespace) (slots : List (Option LoadedProgram)) (runs : List (Option Held)) : Type 0 where
+pub record IsLeft (ns later : ZonedNamespace) (slots : List (Option LoadedProgram)) (runs : List (Option ActiveRun)) : Type 0 where
   pub ready : IsReady later slots runs
   pub state : device_state later slots runs ≡ with_namespace (device_state ns slots runs) later
 
-abbrev SourcesGrow : ZonedNamespace → ZonedNamespace → List (Option Held) → Type 0
+abbrev SourcesGrow : ZonedNamespace → ZonedNamespace → List (Option ActiveRun) → Type 0
 SourcesGrow ns later runs =
-    (k : ℕ) (a : Held) → get_or runs k None ≡ Some a → Grows (zone_at ns a.source.zone).blocks (zone_at later a.source.zone).blocks
+    (k : ℕ) (a : ActiveRun) → get_or runs k None ≡ Some a → Grows (zone_at ns a.source.zone).blocks (zone_at later a.source.zone).blocks
 
-is_left : (ns later : ZonedNamespace) (slots : List (Option LoadedProgram)) (runs : List (Option Held)) → IsReady ns slots runs
+is_left : (ns later : ZonedNamespace) (slots : List (Option LoadedProgram)) (runs : List (Option ActiveRun)) → IsReady ns slots runs
     → shape later ≡ shape ns → SourcesGrow ns later runs → IsLeft ns later slots runs
 is_left ns later slots runs ready same grow =
     let block : ns.block ≡ later.block = ap (λ (s : Shape). s.block) (sym same) in
@@ -62,12 +62,12 @@ is_left ns later slots runs ready same grow =
     }
 
 -- the zone that an active run reads from is held
-source_there : (runs : List (Option Held)) (k : ℕ) (a : Held) → get_or runs k None ≡ Some a
+source_there : (runs : List (Option ActiveRun)) (k : ℕ) (a : ActiveRun) → get_or runs k None ≡ Some a
     → list_any (names a.source.zone) (map source_held runs) ≡ true
 source_there runs k a at = users_name_zones source_held a.source.zone runs k a at refl
 
 -- where a step heeds what the active runs hold
-step_leaves : (ns : ZonedNamespace) (slots : List (Option LoadedProgram)) (runs : List (Option Held)) (step : NamespaceEvent) → IsReady ns slots runs
+step_leaves : (ns : ZonedNamespace) (slots : List (Option LoadedProgram)) (runs : List (Option ActiveRun)) (step : NamespaceEvent) → IsReady ns slots runs
     → holds_of step ≡ held_by runs → IsLeft ns (after step ns) slots runs
 step_leaves ns slots runs step ready heeds =
     is_left ns (after step ns) slots runs ready (events_keep_shapes step ns)
@@ -77,7 +77,7 @@ step_leaves ns slots runs step ready heeds =
 
 -- ---- a fault
 
-pub fault_leaves : (ns new : ZonedNamespace) (slots : List (Option LoadedProgram)) (runs : List (Option Held)) (holds : Holds) (zone : ℕ) (fault : FaultState)
+pub fault_leaves : (ns new : ZonedNamespace) (slots : List (Option LoadedProgram)) (runs : List (Option ActiveRun)) (holds : Holds) (zone : ℕ) (fault : FaultState)
     → IsReady ns slots runs → holds ≡ held_by runs → new ≡ faulted ns holds zone fault
     → IsReady new slots runs × (device_state new slots runs ≡ (failed (device_state ns slots runs) zone fault).state)
 fault_leaves ns new slots runs holds zone fault ready heeds is =
@@ -90,7 +90,7 @@ fault_leaves ns new slots runs holds zone fault ready heeds is =
 
 -- ---- a standard command
 
-pub command_leaves : (ns new : ZonedNamespace) (slots : List (Option LoadedProgram)) (runs : List (Option Held)) (holds : Holds) (command : StandardCommand)
+pub command_leaves : (ns new : ZonedNamespace) (slots : List (Option LoadedProgram)) (runs : List (Option ActiveRun)) (holds : Holds) (command : StandardCommand)
     (input bytes : List ℕ) (answer : Answer) → IsReady ns slots runs → holds ≡ held_by runs
     → effect_of_answer answer new bytes ≡ meaning ns holds command input
     → IsReady new slots runs

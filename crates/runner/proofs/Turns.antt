@@ -19,14 +19,14 @@ use Rattle.zns_commands.proofs.Proved.{open_is_there}
 use Rattle.pushdown.specs.Admission.{task_by}
 use Rattle.pushdown.specs.BlockRuns.{Task, goes_on, scratch_after}
 use Rattle.pushdown.specs.Laws.{Ends, RoomIn, further, next_turn}
-use Rattle.pushdown.specs.Machine.{added}
+use Rattle.pushdown.specs.EventEffects.{added}
 use Rattle.pushdown.specs.Outcome.{Ending, Progress, Turn, appended_by, behind, last_turn, last_turn_by, output_of, rest}
 use Rattle.pushdown.specs.View.{Active, to_come, turns_of}
 use Rattle.pushdown.proofs.Proved.{blocks_leave_others, rest_ends, rest_goes_on, room_is_open, room_stays}
-use Rattle.runner.specs.Held.{active_of}
+use Rattle.runner.specs.DeviceState.{active_of}
 use Rattle.runner.specs.steps.Ran.{HasRun}
 use Rattle.runner.specs.steps.Turning.{FitsOn, GoesOn, HasEnded, HasRoom, next_block, next_run, with_packer, with_scratch}
-use Rattle.runner.specs.declared.active_run.Active.{Active as Held}
+use Rattle.runner.specs.declared.active_run.Active.{Active as ActiveRun}
 use Rattle.runner.proofs.Appends.{added_both}
 
 lt_or_le : (a b : ℕ) → (a < b) ⊎ (b ≤ a)
@@ -162,7 +162,7 @@ module _ (ns : ZonedNamespace) (z : ℕ) (ending : Option Ending) (turns : List 
 
 -- ---- a turn
 
-module _ (ns : ZonedNamespace) (program : List (Option Insn)) (limit : ℕ) (a : Held) (h : FitsOn ns program limit a) where
+module _ (ns : ZonedNamespace) (program : List (Option Insn)) (limit : ℕ) (a : ActiveRun) (h : FitsOn ns program limit a) where
   abbrev ran : BlockRun
   ran = next_run ns program limit (active_of a)
 
@@ -173,7 +173,7 @@ module _ (ns : ZonedNamespace) (program : List (Option Insn)) (limit : ℕ) (a :
   closing = given_by_finish (after_put a.packer ran.state.group)
 
   -- the run once its group is packed
-  abbrev stepped : Held
+  abbrev stepped : ActiveRun
   stepped = record {
     queue = a.queue;
     cid = a.cid;
@@ -264,7 +264,7 @@ module _ (ns : ZonedNamespace) (program : List (Option Insn)) (limit : ℕ) (a :
   last_room : (r0 : ℕ) → ran.end ≡ end.Exit r0 → Over → HasRoom (added ns a.destination sent) a.destination closing
   last_room r0 exit over = room_second ns a.destination ending [] h.some sent closing (end_room r0 exit over)
 
-  ended_is : (r0 : ℕ) → ran.end ≡ end.Exit r0 → Over → (b : Held) → b.scratch ≡ scratch_after ran
+  ended_is : (r0 : ℕ) → ran.end ≡ end.Exit r0 → Over → (b : ActiveRun) → b.scratch ≡ scratch_after ran
       → HasEnded ns (added (added ns a.destination sent) a.destination closing) program limit a b
       (record { status = SUCCESS; dw0 = a.frames + ran.state.frames; dw1 = a.appended + length sent + length closing; length = 0 })
   ended_is r0 exit over b same =
@@ -284,24 +284,24 @@ module _ (ns : ZonedNamespace) (program : List (Option Insn)) (limit : ℕ) (a :
 
   -- ---- as the code has them: the run once its program has run, and once the group of that is packed
 
-  module _ (ran_on : Held) (r0 count : ℕ) (group : List ℕ) (run : HasRun ran r0 count group ran_on.scratch) (same : ran_on ≡ with_scratch a (scratch_after ran)) where
+  module _ (ran_on : ActiveRun) (r0 count : ℕ) (group : List ℕ) (run : HasRun ran r0 count group ran_on.scratch) (same : ran_on ≡ with_scratch a (scratch_after ran)) where
     abbrev given : List (List ℕ)
     given = given_by_put ran_on.packer group
 
     pub room_for_put : HasRoom ns ran_on.destination given
     room_for_put = rw (same, sym run.group) (first_room r0 run.exit)
 
-    module _ (then : ZonedNamespace) (put : Held) (written : then ≡ added ns ran_on.destination given)
+    module _ (then : ZonedNamespace) (put : ActiveRun) (written : then ≡ added ns ran_on.destination given)
         (put_is : put ≡ with_packer ran_on (after_put ran_on.packer group) (length given)) where
       -- the same, once the block is counted
-      abbrev counted : Held
+      abbrev counted : ActiveRun
       counted = record put { index = put.index + 1; frames = put.frames + count }
 
       index_is : put.index ≡ a.index
-      index_is = ap (λ (x : Held). x.index) put_is ∙ ap (λ (x : Held). x.index) same
+      index_is = ap (λ (x : ActiveRun). x.index) put_is ∙ ap (λ (x : ActiveRun). x.index) same
 
       blocks_are : put.order.blocks ≡ a.order.blocks
-      blocks_are = ap (λ (x : Held). x.order.blocks) put_is ∙ ap (λ (x : Held). x.order.blocks) same
+      blocks_are = ap (λ (x : ActiveRun). x.order.blocks) put_is ∙ ap (λ (x : ActiveRun). x.order.blocks) same
 
       pub goes : r0 ≡ 0 → counted.index < counted.order.blocks → GoesOn ns then program limit a counted
       goes none more =
@@ -315,7 +315,7 @@ module _ (ns : ZonedNamespace) (program : List (Option Insn)) (limit : ℕ) (a :
       pub room_for_finish : (r0 ≢ 0) ⊎ (counted.order.blocks ≤ counted.index) → HasRoom then counted.destination (given_by_finish counted.packer)
       room_for_finish over = rw (written, put_is, same, sym run.group) (last_room r0 run.exit (is_over over))
 
-      pub ends_there : (r0 ≢ 0) ⊎ (counted.order.blocks ≤ counted.index) → (last : ZonedNamespace) (finished : Held)
+      pub ends_there : (r0 ≢ 0) ⊎ (counted.order.blocks ≤ counted.index) → (last : ZonedNamespace) (finished : ActiveRun)
           → last ≡ added then counted.destination (given_by_finish counted.packer)
           → finished ≡ with_packer counted (new_packer counted.packer.block) (length (given_by_finish counted.packer))
           → HasEnded ns last program limit a finished (record { status = SUCCESS; dw0 = finished.frames; dw1 = finished.appended; length = 0 })

@@ -1,6 +1,4 @@
-pub mod Held
+pub mod DeviceState
 pub mod Ready
-pub mod Runs
-pub mod ReadBack
 pub mod Laws
 pub mod steps

@@ -3,17 +3,15 @@ use Rattle.std.specs.Prelude.{ℕ, ◌≡◌, ◌≢◌, ◌<◌, ◌≤◌, ◌
 use Rattle.program_interface.specs.declared.block_size.TheConstants.{LARGEST_BLOCK}
 use Rattle.interval_domain.specs.Intervals.{intervals}
 use Rattle.verifier.specs.Verified.{sizes_of}
-use Rattle.image_store.specs.Namespace.{ZonedNamespace, zone_at, IsNamespace}
+use Rattle.image_store.specs.Namespace.{ZonedNamespace, zone_at}
 use Rattle.zns_commands.specs.Address.{zone_number, zone_block_in}
-use Rattle.pushdown.specs.Events.{Occurrence, state_after}
-use Rattle.pushdown.specs.Pushdown.{AreEvents}
-use Rattle.pushdown.specs.State.{State, new_state}
-use Rattle.runner.specs.Held.{device_state}
-use Rattle.runner.specs.declared.active_run.Active.{Active as Held}
+use Rattle.pushdown.specs.Reached.{IsReached}
+use Rattle.runner.specs.DeviceState.{device_state}
+use Rattle.runner.specs.declared.active_run.Active.{Active as ActiveRun}
 use Rattle.runner.specs.declared.loaded_program.LoadedProgram.{LoadedProgram}
 
 -- what holds of each active run, whatever its program
-pub record Fits (ns : ZonedNamespace) (a : Held) : Type 0 where
+pub record Fits (ns : ZonedNamespace) (a : ActiveRun) : Type 0 where
   pub source : a.source ≡ zone_block_in ns a.order.lba
   pub destination : a.destination ≡ zone_number ns a.order.destination
   pub other : a.source.zone ≢ a.destination
@@ -31,24 +29,17 @@ abbrev pub IsFor : ZonedNamespace → LoadedProgram → Type 0
 IsFor ns p = (sizes_of p.prepared).block ≡ ns.block
 
 -- an active run, and the program in its slot
-pub record IsRunning (ns : ZonedNamespace) (slots : List (Option LoadedProgram)) (a : Held) : Type 0 where
+pub record IsRunning (ns : ZonedNamespace) (slots : List (Option LoadedProgram)) (a : ActiveRun) : Type 0 where
   pub program : LoadedProgram
   pub loaded : get_or slots a.order.slot None ≡ Some program
   pub accepted : IsFor ns program
   pub fits : Fits ns a
 
-pub record IsReady (ns : ZonedNamespace) (slots : List (Option LoadedProgram)) (runs : List (Option Held)) : Type 0 where
+pub record IsReady (ns : ZonedNamespace) (slots : List (Option LoadedProgram)) (runs : List (Option ActiveRun)) : Type 0 where
   pub programs : (k : ℕ) (p : LoadedProgram) → get_or slots k None ≡ Some p → IsFor ns p
-  pub running : (k : ℕ) (a : Held) → get_or runs k None ≡ Some a → IsRunning ns slots a
+  pub running : (k : ℕ) (a : ActiveRun) → get_or runs k None ≡ Some a → IsRunning ns slots a
 
--- a state that events leave, from some image on
-pub record IsReached (s : State) : Type 0 where
-  pub first : ZonedNamespace
-  pub events : List Occurrence
-  pub namespace : IsNamespace first
-  pub bytes : AreEvents events
-  pub leaves : s ≡ state_after intervals events (new_state first)
-
-pub record IsDevice (ns : ZonedNamespace) (slots : List (Option LoadedProgram)) (runs : List (Option Held)) : Type 0 where
+-- what holds of each device that there is: events led to its state
+pub record IsDevice (ns : ZonedNamespace) (slots : List (Option LoadedProgram)) (runs : List (Option ActiveRun)) : Type 0 where
   pub ready : IsReady ns slots runs
-  pub reached : IsReached (device_state ns slots runs)
+  pub reached : IsReached intervals (device_state ns slots runs)

@@ -4,4 +4,4 @@ pub mod Answered
 pub mod Loading
 pub mod Ran
 pub mod Turning
-pub mod HeldRuns
+pub mod ActiveRuns

@@ -1,7 +1,7 @@
 //! Active runs.
 
 ghost use Rattle.std.specs.Prelude.{◌≡◌};
-ghost use Rattle.runner.specs.steps.HeldRuns.{new_active};
+ghost use Rattle.runner.specs.steps.ActiveRuns.{new_active};
 
 use emit_append::Packer;
 use image_store::ZoneBlock;

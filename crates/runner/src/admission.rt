@@ -5,14 +5,14 @@ ghost use Rattle.zone_state.specs.Checks.{first_failed};
 ghost use Rattle.pushdown.specs.Admission.{address_checks, destination_checks, run_refusal, source_checks};
 ghost use Rattle.runner.specs.steps.Admitting.{ArePlaces, AreWritten, IsAdmission};
 ghost use Rattle.runner.specs.steps.Answered.{Refuses, Starts};
-ghost use Rattle.runner.specs.Held.{loaded_slot, device_state};
-ghost use Rattle.runner.specs.steps.HeldRuns.{held_by};
+ghost use Rattle.runner.specs.DeviceState.{loaded_slot, device_state};
+ghost use Rattle.runner.specs.steps.ActiveRuns.{held_by};
 ghost use Rattle.runner.specs.Ready.{IsReady};
 ghost use Rattle.zns_commands.specs.Resources.{why_not};
 
 use crate::active_run::Active;
 use crate::loaded_program::LoadedProgram;
-use crate::places::{free_run, holds};
+use crate::places::{free_place, holds};
 use emit_append::need;
 use image_store::ZoneBlock;
 use nvme_entry::{BlockCount, PROGRAM_SLOTS, RunCommand, Status};
@@ -79,7 +79,7 @@ fn admit(
         return Err(Status::NO_SUCH_PROGRAM);
     };
     let (source, destination) = places(namespace, order)?;
-    let Some(run) = free_run(runs) else {
+    let Some(run) = free_place(runs) else {
         return Err(Status::NO_RUN_FREE);
     };
     check_source(namespace, source, order.blocks)?;

@@ -5,11 +5,10 @@ ghost use Rattle.interval_domain.specs.Intervals.{intervals};
 ghost use Rattle.program_interface.specs.Bytes.{AreBytes};
 ghost use Rattle.device_events.specs.Replies.{data_length};
 ghost use Rattle.pushdown.specs.Draining.{HasDrained, StopsDraining, lowest_run, turns_left};
-ghost use Rattle.pushdown.specs.Events.{HasHappened, HasServed, HasStopped};
-ghost use Rattle.pushdown.specs.Machine.{failed};
-ghost use Rattle.pushdown.specs.Pushdown.{HasBytes};
+ghost use Rattle.pushdown.specs.Events.{HasBytes, HasHappened, HasServed, HasStopped};
+ghost use Rattle.pushdown.specs.EventEffects.{failed};
 ghost use Rattle.pushdown.specs.State.{new_state};
-ghost use Rattle.runner.specs.Ready.{IsReached};
+ghost use Rattle.pushdown.specs.Reached.{IsReached};
 ghost use Rattle.device_events.specs.Refusals.{CountsRefusals};
 
 use crate::active_run::Active;
@@ -47,7 +46,7 @@ pub struct Device {
 
 impl Model for Device {
     ghost use Rattle.pushdown.specs.State.{State};
-    ghost use Rattle.runner.specs.Held.{device_state};
+    ghost use Rattle.runner.specs.DeviceState.{device_state};
     ghost use Rattle.runner.specs.Ready.{IsDevice};
 
     ghost Value = { State };
@@ -77,7 +76,7 @@ impl Device {
     /// The namespace as an image.
     pub fn image(&self) -> &Image
         ensures value { result.now ≡ self.now.namespace }
-        ensures reached { IsReached self.now }
+        ensures reached { IsReached intervals self.now }
     {
         self.namespace.image()
     }
@@ -162,7 +161,7 @@ impl Device {
     /// The number of the run that a turn is given next, where all runs are to end: the lowest.
     fn next_run(&self) -> Option<u8>
         ensures lowest { result ≡ lowest_run self.now }
-        ensures reached { IsReached self.now }
+        ensures reached { IsReached intervals self.now }
         ensures few { turns_left self.now.places ≤ 65536 * RUNS }
     {
         places::lowest_run(&self.runs)

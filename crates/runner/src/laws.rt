@@ -1,9 +1,14 @@
-//! Laws of the states that events leave from an image on. Each function does nothing: what it ensures is
-//! the law. Those of any state and of lists of events are laws of `pushdown`.
+//! Laws of the states that events leave from an image on, by which a device judges programs with intervals.
+//! Each function does nothing: what it ensures is the law. What `pushdown` states of every domain is ensured
+//! here of that one; its laws of any state and of lists of events hold as they stand.
 
-ghost use Rattle.runner.specs.Laws.{EmptyIsReached, EventsKeepReached, LoadedIsReached, ReachedDrains, ReachedIsSound, SavedStatesLoad, TurnsKeepReached};
-ghost use Rattle.runner.specs.ReadBack.{ReachedAppendsReadBack, ReachedRunsReadBack, ReachedWritesReadBack};
-ghost use Rattle.runner.specs.Runs.{ReachedTurnsInAnyOrder, RunsArePushedDown};
+ghost use Rattle.interval_domain.specs.Intervals.{intervals};
+ghost use Rattle.pushdown.specs.AnyOrder.{TurnsInAnyOrder};
+ghost use Rattle.pushdown.specs.Laws.{DrainingEnds, StatesAreSound};
+ghost use Rattle.pushdown.specs.Pushdown.{Pushdown};
+ghost use Rattle.pushdown.specs.Reached.{EventsKeepReached, TurnsKeepReached};
+ghost use Rattle.pushdown.specs.ReadBack.{AppendsReadBack, RunsReadBack, WritesReadBack};
+ghost use Rattle.runner.specs.Laws.{EmptyIsReached, LoadedIsReached, SavedStatesLoad};
 
 /// A device begins with an empty or a loaded image, and events lead on from there. In every state that they
 /// leave, the open and active zones are within the limits, each zone's state fits its written blocks, each
@@ -11,14 +16,14 @@ ghost use Rattle.runner.specs.Runs.{ReachedTurnsInAnyOrder, RunsArePushedDown};
 pub fn events_keep_devices_sound()
     ensures empty { EmptyIsReached }
     ensures loaded { LoadedIsReached }
-    ensures events { EventsKeepReached }
-    ensures turns { TurnsKeepReached }
-    ensures sound { ReachedIsSound }
+    ensures events { EventsKeepReached intervals }
+    ensures turns { TurnsKeepReached intervals }
+    ensures sound { StatesAreSound intervals }
 {}
 
 /// In every state that events leave, turns of the lowest active run come to an end.
 pub fn devices_can_be_drained()
-    ensures { ReachedDrains }
+    ensures { DrainingEnds intervals }
 {}
 
 /// What is saved loads again as the same namespace, whatever events happened before.
@@ -28,16 +33,16 @@ pub fn saved_devices_load()
 
 /// What an Append that succeeds puts in is what a Read of the assigned address gives, whatever events happen
 /// in between, until the zone is reset, goes offline or is lost; so is what a Write puts in, at its own
-/// address.
+/// address. It holds in every state with a sound namespace, as those are that events leave.
 pub fn written_blocks_read_back()
-    ensures appended { ReachedAppendsReadBack }
-    ensures written { ReachedWritesReadBack }
+    ensures appended { AppendsReadBack intervals }
+    ensures written { WritesReadBack intervals }
 {}
 
 /// What a run appends is read back so from where its destination ended at admission. After its last turn the
 /// blocks that are read unpack to the records that its program emitted, in order.
 pub fn emitted_records_read_back()
-    ensures { ReachedRunsReadBack }
+    ensures { RunsReadBack intervals }
 {}
 
 /// The pushdown theorem holds of each Run that a device admits: no turn traps, each takes at most as many
@@ -45,6 +50,6 @@ pub fn emitted_records_read_back()
 /// the appended blocks and the completion are those that are fixed at admission. Turns come to the same in
 /// any order.
 pub fn runs_are_pushed_down()
-    ensures theorem { RunsArePushedDown }
-    ensures order { ReachedTurnsInAnyOrder }
+    ensures theorem { Pushdown intervals }
+    ensures order { TurnsInAnyOrder intervals }
 {}

@@ -3,9 +3,9 @@
 ghost use Rattle.std.specs.Prelude.{◌≡◌, ◌<◌, List, Option, IfOk, IfErr};
 ghost use Rattle.std.specs.List.{list_any};
 ghost use Rattle.zone_state.specs.Checks.{first_failed};
-ghost use Rattle.pushdown.specs.Machine.{load_checks};
+ghost use Rattle.pushdown.specs.EventEffects.{load_checks};
 ghost use Rattle.runner.specs.steps.Answered.{HasLoaded};
-ghost use Rattle.runner.specs.Held.{device_state};
+ghost use Rattle.runner.specs.DeviceState.{device_state};
 ghost use Rattle.runner.specs.steps.Loading.{uses_slot, refused_program, IsAccepted, IsLoadable, IsNotAccepted};
 ghost use Rattle.runner.specs.Ready.{IsReady};
 ghost use Rattle.verifier.specs.Verified.{program_of, sizes_of};

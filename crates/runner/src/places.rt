@@ -1,7 +1,7 @@
 //! The places for active runs.
 
 ghost use Rattle.std.specs.Prelude.{◌≡◌, is_none, is_some, length, position};
-ghost use Rattle.runner.specs.steps.HeldRuns.{destination_held, held_by, source_held};
+ghost use Rattle.runner.specs.steps.ActiveRuns.{destination_held, held_by, source_held};
 
 use crate::active_run::Active;
 use zns_commands::Holds;
@@ -16,8 +16,8 @@ pub fn lowest_run(runs: &[Option<Active>; RUNS]) -> Option<u8>
     Some(run as u8)
 }
 
-/// The lowest number that no active run has.
-pub fn free_run(runs: &[Option<Active>; RUNS]) -> Option<u8>
+/// The number of the lowest place that is free.
+pub fn free_place(runs: &[Option<Active>; RUNS]) -> Option<u8>
     ensures { result ≡ position is_none runs.now }
 {
     let run = runs.iter().position(|run| run.is_none())?;

@@ -3,8 +3,8 @@
 ghost use Rattle.std.specs.Prelude.{◌≡◌, ◌≤◌, ◌++◌, drop, length, List, Option};
 ghost use Rattle.image_store.specs.Namespace.{ZonedNamespace};
 ghost use Rattle.runner.specs.steps.Answered.{GivesResult};
-ghost use Rattle.runner.specs.Held.{device_state};
-ghost use Rattle.runner.specs.declared.active_run.Active.{Active as Held};
+ghost use Rattle.runner.specs.DeviceState.{device_state};
+ghost use Rattle.runner.specs.declared.active_run.Active.{Active as ActiveRun};
 
 use crate::loaded_program::LoadedProgram;
 use nvme_entry::{PROGRAM_SLOTS, ProgramSlot, Status};
@@ -28,7 +28,7 @@ pub fn give_result(
     output: &mut [u8],
 ) -> Answer
     requires { SCRATCH_BYTES ≤ length output.old }
-    ensures gives { (ns : ZonedNamespace) (runs : List (Option Held)) → GivesResult slot input.now (device_state ns slots.now runs) result output.new }
+    ensures gives { (ns : ZonedNamespace) (runs : List (Option ActiveRun)) → GivesResult slot input.now (device_state ns slots.now runs) result output.new }
     ensures rest { drop result.length output.new ≡ drop result.length output.old }
     ensures within { result.length ≤ length output.new }
 {

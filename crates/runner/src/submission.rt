@@ -7,7 +7,7 @@ ghost use Rattle.nvme_entry.specs.declared.command.Command.TheVariants as comman
 ghost use Rattle.device_events.specs.Replies.{data_length};
 ghost use Rattle.pushdown.specs.EventReplies.{plain};
 ghost use Rattle.runner.specs.steps.Answered.{HasExecuted, HasSubmitted, complete_reply, told_by};
-ghost use Rattle.runner.specs.Held.{device_state};
+ghost use Rattle.runner.specs.DeviceState.{device_state};
 ghost use Rattle.runner.specs.Ready.{IsReady};
 
 use crate::active_run::Active;

@@ -1,15 +1,17 @@
 //! Turns.
 
 ghost use Rattle.std.specs.Prelude.{◌≡◌, ◌<◌, ◌≤◌, ◌+◌, ◌^◌, [], ◌∷◌, length, take, IsNone};
+ghost use Rattle.interval_domain.specs.Intervals.{intervals};
 ghost use Rattle.program_interface.specs.declared.block_size.TheConstants.{LARGEST_BLOCK};
 ghost use Rattle.emit_append.specs.Packer.{after_put, given_by_finish, given_by_put, new_packer};
 ghost use Rattle.emit_append.specs.Packing.{padded};
 ghost use Rattle.device_events.specs.Replies.{data_length};
 ghost use Rattle.pushdown.specs.BlockRuns.{scratch_after};
-ghost use Rattle.pushdown.specs.Machine.{added};
-ghost use Rattle.runner.specs.Held.{active_of, device_state};
+ghost use Rattle.pushdown.specs.EventEffects.{added};
+ghost use Rattle.runner.specs.DeviceState.{active_of, device_state};
 ghost use Rattle.runner.specs.steps.Ran.{HasRun};
-ghost use Rattle.runner.specs.Ready.{Fits, IsReady, IsReached};
+ghost use Rattle.runner.specs.Ready.{Fits, IsReady};
+ghost use Rattle.pushdown.specs.Reached.{IsReached};
 ghost use Rattle.runner.specs.steps.Turning.{FitsAt, FitsIn, FitsOn, HasRoom, IsTaking, IsTurned, Keeps, PlaceTurned, SlotTurned, Turned, next_block, next_run, with_packer, with_scratch};
 
 use crate::active_run::Active;
@@ -195,7 +197,7 @@ pub fn turn(
     run: u8,
 ) -> Reply
     requires ready { IsReady namespace.old slots.old runs.old }
-    requires reached { IsReached (device_state namespace.old slots.old runs.old) }
+    requires reached { IsReached intervals (device_state namespace.old slots.old runs.old) }
     ensures turned { IsTurned (device_state namespace.old slots.old runs.old) run namespace.new slots.new runs.new result }
     ensures no_data { data_length result ≡ 0 }
 {

@@ -21,7 +21,7 @@ impl Machine<'_> {
     ghost use Rattle.program_meaning.specs.Memory.{bytes_of, bytes_from, area_offset_of};
     ghost use Rattle.program_interface.specs.Area.{length_of};
     ghost use Rattle.interp.specs.Machine.{state_at, memory_of, group_length, Extends};
-    ghost use Rattle.interp.specs.Answer.{unless, emit_hindrance};
+    ghost use Rattle.interp.specs.StepEnds.{unless, emit_hindrance};
 
     /// Adds the frame that R1 and R2 tell to the group, unless a cause hinders it.
     ///

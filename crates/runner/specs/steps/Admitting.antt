@@ -4,7 +4,7 @@ use Rattle.nvme_entry.specs.declared.command.RunCommand.{RunCommand}
 use Rattle.image_store.specs.Namespace.{ZonedNamespace, zone_at}
 use Rattle.image_store.specs.declared.geometry.ZoneBlock.{ZoneBlock}
 use Rattle.zns_commands.specs.Address.{IsZoneBlock}
-use Rattle.runner.specs.declared.active_run.Active.{Active as Held}
+use Rattle.runner.specs.declared.active_run.Active.{Active as ActiveRun}
 use Rattle.runner.specs.declared.admission.Admitted.{Admitted}
 use Rattle.runner.specs.declared.loaded_program.LoadedProgram.{LoadedProgram}
 
@@ -19,7 +19,7 @@ abbrev pub AreWritten : ZonedNamespace → ZoneBlock → ℕ → Type 0
 AreWritten ns first blocks = first.offset + blocks ≤ length (zone_at ns first.zone).blocks
 
 -- what an admitted run is given, of its order
-pub record IsAdmission (ns : ZonedNamespace) (slots : List (Option LoadedProgram)) (runs : List (Option Held)) (order : RunCommand) (admitted : Admitted)
+pub record IsAdmission (ns : ZonedNamespace) (slots : List (Option LoadedProgram)) (runs : List (Option ActiveRun)) (order : RunCommand) (admitted : Admitted)
     : Type 0 where
   pub free : position is_none runs ≡ Some admitted.run
   pub loaded : is_some (get_or slots order.slot None) ≡ true

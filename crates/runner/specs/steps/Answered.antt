@@ -12,13 +12,13 @@ use Rattle.zns_commands.specs.Meaning.{meaning}
 use Rattle.zns_commands.specs.declared.answer.Answer.{Answer}
 use Rattle.pushdown.specs.EventReplies.{Happening, Submission, completed, completion_reply, plain, refused}
 use Rattle.device_events.specs.Replies.{ReplyWithData}
-use Rattle.pushdown.specs.Machine.{commanded, giving_result, loading, starting, submitted}
+use Rattle.pushdown.specs.EventEffects.{commanded, giving_result, loading, starting, submitted}
 use Rattle.pushdown.specs.State.{State, holds_of}
 use Rattle.device_events.specs.declared.reply.Reply.{Reply}
 use Rattle.device_events.specs.declared.reply.Reply.TheVariants as reply
-use Rattle.runner.specs.Held.{device_state}
+use Rattle.runner.specs.DeviceState.{device_state}
 use Rattle.runner.specs.Ready.{IsReady}
-use Rattle.runner.specs.declared.active_run.Active.{Active as Held}
+use Rattle.runner.specs.declared.active_run.Active.{Active as ActiveRun}
 use Rattle.runner.specs.declared.loaded_program.LoadedProgram.{LoadedProgram}
 use Rattle.runner.specs.declared.submission.Submission.{Submission as Told}
 
@@ -37,7 +37,7 @@ complete_reply queue cid answer = completion_reply queue cid answer.status answe
 -- a standard command led from one namespace to the other, and was answered so; all that a device has
 -- besides is left
 pub record HasExecuted (asked : StandardCommand) (input : List ℕ) (ns later : ZonedNamespace) (slots : List (Option LoadedProgram))
-    (runs : List (Option Held)) (answer : Answer) (bytes : List ℕ) : Type 0 where
+    (runs : List (Option ActiveRun)) (answer : Answer) (bytes : List ℕ) : Type 0 where
   pub ready : IsReady later slots runs
   pub happening : (queue : ℕ) (entry : List ℕ)
       → let sub : Submission = record { queue = queue; entry = entry; input = input } in

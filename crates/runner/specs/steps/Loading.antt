@@ -10,13 +10,13 @@ use Rattle.interval_domain.specs.Intervals.{intervals}
 use Rattle.accepted_programs.specs.Accepted.{refusal}
 use Rattle.zns_commands.specs.declared.answer.Answer.{Answer}
 use Rattle.pushdown.specs.EventReplies.{Submission}
-use Rattle.pushdown.specs.Machine.{load_checks, load_unless, sizes_for}
+use Rattle.pushdown.specs.EventEffects.{load_checks, load_unless, sizes_for}
 use Rattle.pushdown.specs.State.{State}
 use Rattle.runner.specs.steps.Answered.{answered}
-use Rattle.runner.specs.declared.active_run.Active.{Active as Held}
+use Rattle.runner.specs.declared.active_run.Active.{Active as ActiveRun}
 
 -- does an active run use the program of a slot?
-abbrev pub uses_slot : ℕ → Option Held → Bool
+abbrev pub uses_slot : ℕ → Option ActiveRun → Bool
 uses_slot slot None = false
 uses_slot slot (Some a) = a.order.slot == slot
 

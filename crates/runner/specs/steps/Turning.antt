@@ -11,20 +11,20 @@ use Rattle.zns_commands.specs.declared.answer.Answer.{Answer}
 use Rattle.pushdown.specs.Admission.{task_by}
 use Rattle.pushdown.specs.BlockRuns.{block_run}
 use Rattle.pushdown.specs.Laws.{RoomIn}
-use Rattle.pushdown.specs.Machine.{added, turned}
+use Rattle.pushdown.specs.EventEffects.{added, turned}
 use Rattle.pushdown.specs.State.{State}
 use Rattle.pushdown.specs.View.{Active, turns_of}
 use Rattle.device_events.specs.declared.reply.Reply.{Reply}
-use Rattle.runner.specs.Held.{active_of, device_state}
+use Rattle.runner.specs.DeviceState.{active_of, device_state}
 use Rattle.runner.specs.Ready.{Fits, IsFor, IsReady}
-use Rattle.runner.specs.declared.active_run.Active.{Active as Held}
+use Rattle.runner.specs.declared.active_run.Active.{Active as ActiveRun}
 use Rattle.runner.specs.declared.loaded_program.LoadedProgram.{LoadedProgram}
 
-abbrev pub with_scratch : Held → List ℕ → Held
+abbrev pub with_scratch : ActiveRun → List ℕ → ActiveRun
 with_scratch a bytes = record a { scratch = bytes }
 
 -- a run that has this pending block, and has appended so many blocks more
-abbrev pub with_packer : Held → PackerState → ℕ → Held
+abbrev pub with_packer : ActiveRun → PackerState → ℕ → ActiveRun
 with_packer a packer more = record a { packer = packer; appended = a.appended + more }
 
 -- the block that a run reads next, and its program on it
@@ -47,43 +47,43 @@ HasRoom ns z (b ∷ bs) = IsTaking ns z (length (b ∷ bs))
 
 -- what holds of an active run with its program: a group fits a block, and what is left of the run fits into
 -- its destination
-pub record FitsOn (ns : ZonedNamespace) (program : List (Option Insn)) (limit : ℕ) (a : Held) : Type 0 where
+pub record FitsOn (ns : ZonedNamespace) (program : List (Option Insn)) (limit : ℕ) (a : ActiveRun) : Type 0 where
   pub run : Fits ns a
   pub some : 1 ≤ ns.block
   pub limits : limit ≤ ns.block
   pub room : RoomIn ns.capacity (zone_at ns a.destination) (turns_of ns program limit (active_of a))
 
 -- a turn after which the run goes on
-pub record GoesOn (old new : ZonedNamespace) (program : List (Option Insn)) (limit : ℕ) (a b : Held) : Type 0 where
+pub record GoesOn (old new : ZonedNamespace) (program : List (Option Insn)) (limit : ℕ) (a b : ActiveRun) : Type 0 where
   pub blocks : List (List ℕ)
   pub turns : turns_of old program limit (active_of a) ≡ record { blocks = blocks; ending = None } ∷ turns_of new program limit (active_of b)
   pub namespace : new ≡ added old a.destination blocks
 
 -- a turn that ends the run
-pub record HasEnded (old new : ZonedNamespace) (program : List (Option Insn)) (limit : ℕ) (a b : Held) (answer : Answer) : Type 0 where
+pub record HasEnded (old new : ZonedNamespace) (program : List (Option Insn)) (limit : ℕ) (a b : ActiveRun) (answer : Answer) : Type 0 where
   pub blocks : List (List ℕ)
   pub turns : turns_of old program limit (active_of a)
       ≡ record { blocks = blocks; ending = Some (record { status = answer.status; dw0 = answer.dw0; dw1 = answer.dw1; result = Some b.scratch }) } ∷ []
   pub no_data : answer.length ≡ 0
   pub namespace : new ≡ added old a.destination blocks
 
-abbrev pub Turned : ZonedNamespace → ZonedNamespace → List (Option Insn) → ℕ → Held → Held → Option Answer → Type 0
+abbrev pub Turned : ZonedNamespace → ZonedNamespace → List (Option Insn) → ℕ → ActiveRun → ActiveRun → Option Answer → Type 0
 Turned old new program limit a b None = GoesOn old new program limit a b
 Turned old new program limit a b (Some answer) = HasEnded old new program limit a b answer
 
 -- what no turn changes in a run
-pub record Keeps (a b : Held) : Type 0 where
+pub record Keeps (a b : ActiveRun) : Type 0 where
   pub queue : b.queue ≡ a.queue
   pub cid : b.cid ≡ a.cid
   pub order : b.order ≡ a.order
 
 -- a run that fits, with the program of its slot
-abbrev pub FitsIn : ZonedNamespace → Option LoadedProgram → Held → Type 0
+abbrev pub FitsIn : ZonedNamespace → Option LoadedProgram → ActiveRun → Type 0
 FitsIn ns None a = ⊥
 FitsIn ns (Some p) a = IsFor ns p × FitsOn ns (program_of p.prepared) (sizes_of p.prepared).limit a
 
 -- a turn of a run, by the program of a slot, which has the scratch bytes as its result once the run has ended
-abbrev pub SlotTurned : ZonedNamespace → ZonedNamespace → Option LoadedProgram → Option LoadedProgram → Held → Held → Option Answer → Type 0
+abbrev pub SlotTurned : ZonedNamespace → ZonedNamespace → Option LoadedProgram → Option LoadedProgram → ActiveRun → ActiveRun → Option Answer → Type 0
 SlotTurned old new (Some p) (Some q) a b None =
     (q ≡ p) × GoesOn old new (program_of p.prepared) (sizes_of p.prepared).limit a b × Keeps a b × Fits new b
 SlotTurned old new (Some p) (Some q) a b (Some answer) =
@@ -91,18 +91,18 @@ SlotTurned old new (Some p) (Some q) a b (Some answer) =
 SlotTurned old new _ _ a b answer = ⊥
 
 -- a place at which no run is, or one that fits
-abbrev pub FitsAt : ZonedNamespace → List (Option LoadedProgram) → Option Held → Type 0
+abbrev pub FitsAt : ZonedNamespace → List (Option LoadedProgram) → Option ActiveRun → Type 0
 FitsAt ns slots None = Unit {0}
 FitsAt ns slots (Some a) = FitsIn ns (get_or slots a.order.slot None) a
 
 -- what a turn in a state comes to
-pub record IsTurned (s : State) (run : ℕ) (ns : ZonedNamespace) (slots : List (Option LoadedProgram)) (runs : List (Option Held)) (given : Reply) : Type 0 where
+pub record IsTurned (s : State) (run : ℕ) (ns : ZonedNamespace) (slots : List (Option LoadedProgram)) (runs : List (Option ActiveRun)) (given : Reply) : Type 0 where
   pub reply : given ≡ (turned s run).reply.reply
   pub state : device_state ns slots runs ≡ (turned s run).state
   pub ready : IsReady ns slots runs
 
 -- a turn at a place, whatever the other places hold
-abbrev pub PlaceTurned : ZonedNamespace → ZonedNamespace → List (Option LoadedProgram) → List (Option LoadedProgram) → ℕ → Option Held → Option Held → Reply → Type 0
+abbrev pub PlaceTurned : ZonedNamespace → ZonedNamespace → List (Option LoadedProgram) → List (Option LoadedProgram) → ℕ → Option ActiveRun → Option ActiveRun → Reply → Type 0
 PlaceTurned old new slots slots' run place place' given =
-    (runs : List (Option Held)) → get_or runs run None ≡ place → IsReady old slots runs
+    (runs : List (Option ActiveRun)) → get_or runs run None ≡ place → IsReady old slots runs
     → IsTurned (device_state old slots runs) run new slots' (set runs run place') given

@@ -1,5 +1,7 @@
-use Rattle.runner.proofs.Reached.{emitted_records_read_back}
+use Rattle.interval_domain.specs.Intervals.{intervals}
+use Rattle.pushdown.proofs.Proved.{runs_read_back}
+use Rattle.runner.proofs.Reached.{never}
 use Rattle.runner.proofs.laws.emitted_records_read_back.Goals as goal
 
 pub returns : goal.returns
-returns c = emitted_records_read_back
+returns c = runs_read_back intervals never

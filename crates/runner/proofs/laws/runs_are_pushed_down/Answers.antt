@@ -1,8 +1,10 @@
-use Rattle.runner.proofs.Reached.{runs_are_pushed_down, reached_in_any_order}
+use Rattle.interval_domain.specs.Intervals.{intervals}
+use Rattle.pushdown.proofs.Proved.{pushdown, turns_in_any_order}
+use Rattle.runner.proofs.Reached.{never}
 use Rattle.runner.proofs.laws.runs_are_pushed_down.Goals as goal
 
 pub returns-clause-theorem : goal.returns-clause-theorem
-returns-clause-theorem c = runs_are_pushed_down
+returns-clause-theorem c = pushdown intervals never
 
 pub returns-clause-order : goal.returns-clause-order
-returns-clause-order c = reached_in_any_order
+returns-clause-order c = turns_in_any_order intervals never

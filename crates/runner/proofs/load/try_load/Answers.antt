@@ -2,7 +2,7 @@ use Rattle.std.proofs.Common.{sym, subst}
 use Rattle.std.proofs.lemmas.Result.{IfOk-weaker, MatchResult-weaker}
 use Rattle.program_interface.specs.RunSizes.{Sizes}
 use Rattle.verifier.specs.Verified.{program_of, sizes_of}
-use Rattle.runner.specs.Held.{device_state}
+use Rattle.runner.specs.DeviceState.{device_state}
 use Rattle.runner.specs.steps.Loading.{IsAccepted}
 use Rattle.runner.proofs.Loads.{refuses_checked, refuses_read}
 use Rattle.runner.proofs.load.try_load.Goals as goal

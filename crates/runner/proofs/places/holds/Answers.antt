@@ -1,6 +1,6 @@
 use Rattle.std.proofs.Common.{◌≡◌, map, add-one, arith, sym, ap, ◌∙◌}
 use Rattle.std.proofs.lemmas.List.{length-set, take_all}
-use Rattle.runner.specs.steps.HeldRuns.{source_held, destination_held}
+use Rattle.runner.specs.steps.ActiveRuns.{source_held, destination_held}
 use Rattle.runner.proofs.Arrays.{mapped_more}
 use Rattle.runner.proofs.places.holds.Goals as goal
 

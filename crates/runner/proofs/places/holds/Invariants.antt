@@ -1,5 +1,5 @@
 use Rattle.std.proofs.Common.{◌≡◌, length, map, take}
-use Rattle.runner.specs.steps.HeldRuns.{source_held, destination_held}
+use Rattle.runner.specs.steps.ActiveRuns.{source_held, destination_held}
 use Rattle.zone_resources.specs.declared.holds.TheConstants.{RUNS}
 use Rattle.runner.proofs.places.holds.Given as goal
 

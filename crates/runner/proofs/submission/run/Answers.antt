@@ -2,8 +2,8 @@ use Rattle.std.proofs.Common.{false, List, Option, Ok, ap}
 use Rattle.nvme_entry.specs.declared.command.Command.TheVariants as command
 use Rattle.pushdown.specs.EventReplies.{Submission}
 use Rattle.pushdown.specs.State.{State}
-use Rattle.runner.specs.Held.{device_state}
-use Rattle.runner.specs.declared.active_run.Active.{Active as Held}
+use Rattle.runner.specs.DeviceState.{device_state}
+use Rattle.runner.specs.declared.active_run.Active.{Active as ActiveRun}
 use Rattle.runner.proofs.Replies.{replied_refusal}
 use Rattle.runner.proofs.submission.run.Goals as goal
 
@@ -12,6 +12,6 @@ returns-in-Err-clause-submitted c =
     let a = c.args in
     let told = a.submission.now in
     let sub : Submission = record { queue = told.queue; entry = told.entry.now; input = told.input.now } in
-    let seen : List (Option Held) → State = λ runs. device_state a.namespace.now a.slots.now runs in
+    let seen : List (Option ActiveRun) → State = λ runs. device_state a.namespace.now a.slots.now runs in
     replied_refusal sub (Ok (command.Run a.order.now)) (seen a.runs.now) (seen c.start.new.runs) false c.refused.result c.answer.result c.in-Err.status
     (c.in-Err.ensures.err told.queue told.entry.now) c.answer.ensures c.refused.ensures (ap seen c.in-Err.ensures.kept)

@@ -1,7 +1,7 @@
 use Rattle.std.proofs.Common.{◌≡◌, take, ap, sym, subst, ◌∙◌}
 use Rattle.program_meaning.specs.BlockRun.{BlockRun}
 use Rattle.image_store.specs.Geometry.{Shape}
-use Rattle.runner.specs.Held.{active_of}
+use Rattle.runner.specs.DeviceState.{active_of}
 use Rattle.runner.specs.steps.Ran.{HasRun}
 use Rattle.runner.specs.steps.Turning.{with_scratch}
 use Rattle.runner.proofs.Nexts.{run_is, told_is}

@@ -3,12 +3,11 @@ use Rattle.program_interface.specs.Bytes.{AreBytes}
 use Rattle.interval_domain.specs.Intervals.{intervals}
 use Rattle.pushdown.specs.EventReplies.{Submission}
 use Rattle.device_events.specs.Replies.{ReplyWithData, data_length}
-use Rattle.pushdown.specs.Events.{HasHappened}
-use Rattle.pushdown.specs.Pushdown.{HasBytes}
+use Rattle.pushdown.specs.Events.{HasBytes, HasHappened}
 use Rattle.pushdown.specs.State.{State}
 use Rattle.device_events.specs.declared.event.Event.{Event}
 use Rattle.device_events.specs.declared.event.Event.TheVariants as event
-use Rattle.runner.specs.Held.{device_state}
+use Rattle.runner.specs.DeviceState.{device_state}
 use Rattle.runner.proofs.Occurrences.{reached_by, reached_more, submission_happened}
 use Rattle.runner.proofs.device.Device.apply.Goals as goal
 

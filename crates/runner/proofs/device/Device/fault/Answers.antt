@@ -1,10 +1,10 @@
 use Rattle.std.proofs.Common.{false, ap, sym, ◌∙◌}
 use Rattle.zone_resources.specs.declared.holds.Holds.{Holds}
 use Rattle.zns_commands.specs.Fault.{fault_answer}
-use Rattle.pushdown.specs.Machine.{failed, fault_reply}
+use Rattle.pushdown.specs.EventEffects.{failed, fault_reply}
 use Rattle.pushdown.specs.State.{State, holds_of}
 use Rattle.device_events.specs.declared.event.Event.TheVariants as event
-use Rattle.runner.specs.Held.{device_state}
+use Rattle.runner.specs.DeviceState.{device_state}
 use Rattle.runner.proofs.Holding.{holds_are}
 use Rattle.runner.proofs.Occurrences.{reached_more}
 use Rattle.runner.proofs.StepsLeave.{fault_leaves}

@@ -2,7 +2,7 @@ use Rattle.std.proofs.Common.{◌≡◌, None, Some, sym, ◌∙◌, rules, test
 use Rattle.std.specs.Prelude.{is_none, position}
 use Rattle.std.proofs.lemmas.Iterator.{YieldsList-from_slice}
 use Rattle.std.proofs.lemmas.Iterator.Search.{position_from_yields_List}
-use Rattle.runner.proofs.places.free_run.Goals as goal
+use Rattle.runner.proofs.places.free_place.Goals as goal
 
 pub returns-in_err-run : goal.returns-in_err-run
 returns-in_err-run c =

@@ -1,14 +1,14 @@
--- What a device holds of a run.
+-- A run before its first turn, and what active runs hold.
 use Rattle.std.specs.Prelude.{ℕ, List, map, Option, Some, None}
 use Rattle.nvme_entry.specs.declared.command.RunCommand.{RunCommand}
 use Rattle.emit_append.specs.Packer.{new_packer}
 use Rattle.image_store.specs.declared.geometry.ZoneBlock.{ZoneBlock}
 use Rattle.pushdown.specs.BlockRuns.{no_scratch}
 use Rattle.zone_resources.specs.declared.holds.Holds.{Holds}
-use Rattle.runner.specs.declared.active_run.Active.{Active as Held}
+use Rattle.runner.specs.declared.active_run.Active.{Active as ActiveRun}
 
 -- a run before its first turn
-abbrev pub new_active : ℕ → ℕ → RunCommand → ZoneBlock → ℕ → ℕ → Held
+abbrev pub new_active : ℕ → ℕ → RunCommand → ZoneBlock → ℕ → ℕ → ActiveRun
 new_active queue cid order source destination block = record {
   queue = queue;
   cid = cid;
@@ -23,13 +23,13 @@ new_active queue cid order source destination block = record {
 }
 
 -- the zones that a run reads from and appends to
-abbrev pub source_held : Option Held → Option ℕ
+abbrev pub source_held : Option ActiveRun → Option ℕ
 source_held None = None
 source_held (Some a) = Some a.source.zone
 
-abbrev pub destination_held : Option Held → Option ℕ
+abbrev pub destination_held : Option ActiveRun → Option ℕ
 destination_held None = None
 destination_held (Some a) = Some a.destination
 
-abbrev pub held_by : List (Option Held) → Holds
+abbrev pub held_by : List (Option ActiveRun) → Holds
 held_by runs = record { sources = map source_held runs; destinations = map destination_held runs }

@@ -1,15 +1,15 @@
--- What a device holds, seen as a state: each run has the turns that are left of it.
+-- What a device has, seen as a state: each run has the turns that are left of it.
 use Rattle.std.specs.Prelude.{List, map, Option, Some, None}
 use Rattle.image_store.specs.Namespace.{ZonedNamespace}
 use Rattle.verifier.specs.Verified.{program_of, sizes_of}
 use Rattle.pushdown.specs.Admission.{Loaded}
 use Rattle.pushdown.specs.State.{State}
 use Rattle.pushdown.specs.View.{Active, view_of}
-use Rattle.runner.specs.declared.active_run.Active.{Active as Held}
+use Rattle.runner.specs.declared.active_run.Active.{Active as ActiveRun}
 use Rattle.runner.specs.declared.loaded_program.LoadedProgram.{LoadedProgram}
 
 -- an active run; where its blocks lie is found again
-abbrev pub active_of : Held → Active
+abbrev pub active_of : ActiveRun → Active
 active_of a = record {
   queue = a.queue;
   cid = a.cid;
@@ -17,7 +17,7 @@ active_of a = record {
   so_far = record { index = a.index; scratch = a.scratch; pending = a.packer.pending; frames = a.frames; appended = a.appended };
 }
 
-abbrev pub running : Option Held → Option Active
+abbrev pub running : Option ActiveRun → Option Active
 running None = None
 running (Some a) = Some (active_of a)
 
@@ -29,5 +29,5 @@ loaded_slot None = None
 loaded_slot (Some p) = Some (loaded_of p)
 
 -- the state of a device, in which each run has the turns that are left of it
-abbrev pub device_state : ZonedNamespace → List (Option LoadedProgram) → List (Option Held) → State
+abbrev pub device_state : ZonedNamespace → List (Option LoadedProgram) → List (Option ActiveRun) → State
 device_state ns slots runs = view_of ns (map loaded_slot slots) (map running runs)

@@ -1,4 +1,4 @@
--- The event machine: what an event does to a state, and the reply to it.
+-- What an event does to a state, and the reply to it.
 use Rattle.std.specs.Prelude.{ℕ, Bool, true, false, not, nat_le, List, [], ◌∷◌, ◌++◌, set, is_some, Option, Some, None, Result, Ok, Err}
 use Rattle.zone_state.specs.declared.state.FaultState.{FaultState}
 use Rattle.zone_state.specs.declared.status.Status.{Status}
@@ -28,7 +28,7 @@ use Rattle.device_events.specs.Replies.{ReplyWithData}
 use Rattle.pushdown.specs.EventReplies.{Happening, Submission, plain, completion, completed, refused, idle}
 use Rattle.pushdown.specs.BlockRuns.{no_scratch}
 use Rattle.pushdown.specs.Outcome.{Turn, Ending, outcome}
-use Rattle.pushdown.specs.State.{Place, State, holds_of, program_at, place_at, in_use, free_run, with_namespace, with_slot, with_place}
+use Rattle.pushdown.specs.State.{Place, State, holds_of, program_at, place_at, in_use, free_place, with_namespace, with_slot, with_place}
 use Rattle.device_events.specs.declared.event.Event.{Event}
 use Rattle.device_events.specs.declared.event.Event.TheVariants as event
 use Rattle.device_events.specs.declared.reply.Reply.{Reply}
@@ -102,9 +102,9 @@ admitted_place sub s order = record {
 -- the status of the first check that a run fails
 abbrev pub why_not_run : Submission → State → RunCommand → Option Status
 why_not_run sub s order =
-    run_refusal s.namespace (holds_of s) (is_some (free_run s)) (program_at s order.slot) order sub.input
+    run_refusal s.namespace (holds_of s) (is_some (free_place s)) (program_at s order.slot) order sub.input
 
--- an admitted run takes the lowest free run number; that there is one is among the checks
+-- an admitted run takes the lowest free place, and its number; that there is one is among the checks
 abbrev pub start_by : Option Status → Option ℕ → Submission → State → RunCommand → Happening
 start_by (Some status) free sub s order = refused sub status s
 start_by None None sub s order = idle s
@@ -112,7 +112,7 @@ start_by None (Some run) sub s order =
     record { reply = plain (reply.Pending run); state = with_place s run (Some (admitted_place sub s order)) }
 
 abbrev pub starting : Submission → State → RunCommand → Happening
-starting sub s order = start_by (why_not_run sub s order) (free_run s) sub s order
+starting sub s order = start_by (why_not_run sub s order) (free_place s) sub s order
 
 -- ---- turns
 
