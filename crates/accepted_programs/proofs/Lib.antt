@@ -1,4 +1,5 @@
 mod CellLaws
+mod FirstRefusals
 mod Fitting
 mod Flow
 mod KnownFacts

@@ -10,6 +10,7 @@ use Rattle.program_interface.specs.declared.TheConstants.{MOST_SLOTS}
 use Rattle.word_domain.specs.Domain.{Operations}
 use Rattle.accepted_programs.specs.Accepted.{refusal}
 use Rattle.accepted_programs.specs.Emitted.{most_emitted}
+use Rattle.accepted_programs.specs.FirstRefusal.{IsFirstRefusal, Passes}
 use Rattle.accepted_programs.specs.declared.reason.Refusal.{Refusal}
 
 -- a program that these operations accept never traps
@@ -30,3 +31,13 @@ AcceptedEmitsNoMore operations = (program : List (Option Insn)) → IsProgram pr
 abbrev pub RefusalIsInside : {D : Type 0} → Operations D → Type 0
 RefusalIsInside operations = (program : List (Option Insn)) → IsProgram program → (sizes : Sizes) (r : Refusal)
     → refusal operations program sizes ≡ Some r → (r.slot < length program) × (r.slot < MOST_SLOTS)
+
+-- what is told of a program that is refused is its first refusal: of the lowest slot where a check fails, the least reason
+abbrev pub RefusalIsFirst : {D : Type 0} → Operations D → Type 0
+RefusalIsFirst operations = (program : List (Option Insn)) (sizes : Sizes) (r : Refusal)
+    → refusal operations program sizes ≡ Some r → IsFirstRefusal operations program sizes r
+
+-- no slot of a program that is accepted fails a check
+abbrev pub AcceptedFailsNowhere : {D : Type 0} → Operations D → Type 0
+AcceptedFailsNowhere operations = (program : List (Option Insn)) (sizes : Sizes)
+    → refusal operations program sizes ≡ None → (slot : ℕ) → Passes operations program sizes slot

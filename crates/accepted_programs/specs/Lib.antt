@@ -2,5 +2,6 @@ pub mod Cells
 pub mod Facts
 pub mod Accepted
 pub mod Emitted
+pub mod FirstRefusal
 pub mod Laws
 pub mod steps

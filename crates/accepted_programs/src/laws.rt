@@ -1,6 +1,6 @@
 //! Laws of the definitions: each function's contract is one, and its body is empty.
 
-ghost use Rattle.accepted_programs.specs.Laws.{AcceptedEmitsNoMore, AcceptedNeverTraps, RefusalIsInside};
+ghost use Rattle.accepted_programs.specs.Laws.{AcceptedEmitsNoMore, AcceptedFailsNowhere, AcceptedNeverTraps, RefusalIsFirst, RefusalIsInside};
 
 use word_domain::Domain;
 
@@ -19,4 +19,15 @@ pub fn accepted_emits_no_more<D: Domain>()
 /// The slot of a refusal is one of the program's, and so below the most slots that a program has.
 pub fn refusal_is_inside<D: Domain>()
     ensures { RefusalIsInside D.operations }
+{}
+
+/// A refusal tells the lowest slot with facts at which an instruction fails a check, and of the reasons that
+/// hold there the one with the least number.
+pub fn refusal_is_first<D: Domain>()
+    ensures { RefusalIsFirst D.operations }
+{}
+
+/// An instruction of a program that is accepted fails no check, wherever there are facts.
+pub fn accepted_fails_nowhere<D: Domain>()
+    ensures { AcceptedFailsNowhere D.operations }
 {}

@@ -1,2 +1,3 @@
 mod Beginnings
 pub mod Proved
+mod Sizes

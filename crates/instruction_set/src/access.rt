@@ -21,5 +21,5 @@ pub struct Access {
     /// How many bytes behind that address the first byte is.
     pub offset: i16,
     /// The number of bytes: 1, 2, 4 or 8.
-    pub size: u64,
+    pub size: u8,
 }

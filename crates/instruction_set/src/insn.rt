@@ -131,6 +131,7 @@ impl Insn {
     /// The memory that the instruction accesses by its own, and `None` where it neither loads nor stores. What a
     /// helper accesses isn't told.
     #[inline(always)]
+    #[tactic(auto, using(crate::proofs::Sizes::small, crate::proofs::Sizes::signed_small))]
     pub fn access(&self) -> Option<Access>
         ensures { result ≡ access_of self.now }
     {
@@ -165,7 +166,7 @@ impl Insn {
             kind,
             base,
             offset,
-            size,
+            size: size as u8,
         })
     }
 
