@@ -1,7 +1,6 @@
 # Sourced with `program` set to a C program of this folder: builds it with DPDK as `$work/dpdk`, in a folder
-# that is removed at the end, and lets it write there what it works on.
+# that is removed at the end.
 . "$here/least.sh"
 work=$(mktemp -d)
 trap 'rm -rf "$work"' EXIT
 cc -O2 -march=native -o "$work/dpdk" "$here/$program.c" $(pkg-config --cflags --libs libdpdk)
-"$work/dpdk" write "$work"

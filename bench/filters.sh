@@ -5,10 +5,8 @@
 # mean of the ratios of the second. A filter that DPDK doesn't load in 5 seconds has no ratio.
 set -eu
 here=$(cd "$(dirname "$0")" && pwd)
-. "$here/least.sh"
-work=$(mktemp -d)
-trap 'rm -rf "$work"' EXIT
-cc -O2 -march=native -o "$work/dpdk" "$here/filters.c" $(pkg-config --cflags --libs libdpdk)
+program=filters
+. "$here/dpdk.sh"
 ours=$here/../crates/bench_programs/out/bench_programs
 awk 'BEGIN { for (i = 0; i < 4096; i++) printf "%02x", (i * i * 31 + int(i / 7)) % 256 }' | xxd -r -p > "$work/block.bin"
 rounds=10

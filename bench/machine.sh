@@ -6,6 +6,7 @@ set -eu
 here=$(cd "$(dirname "$0")" && pwd)
 program=machine
 . "$here/dpdk.sh"
+"$work/dpdk" write "$work"
 ours=$here/../crates/bench_programs/out/bench_programs
 rounds=60
 repeats=200

@@ -21,13 +21,16 @@ awk 'BEGIN {
 }' > "$work/llvm.s"
 llvm-mc -arch=bpfel -mcpu=v3 -filetype=obj "$work/llvm.s" -o "$work/program.o"
 llvm-objcopy -O binary --only-section=.text "$work/program.o" "$work/program.bin"
-./zscli disasm "$work/program.bin" > "$work/program.s"
+
+./zscli --help > /dev/null
+zscli=crates/zscli/out/zscli
+"$zscli" disasm "$work/program.bin" > "$work/program.s"
 
 theirs=$(best llvm-objdump -d "$work/program.o")
-ours=$(best ./zscli disasm "$work/program.bin")
+ours=$(best "$zscli" disasm "$work/program.bin")
 awk "BEGIN { printf \"list 4096 slots: llvm-objdump/zscli %.2f\n\", $theirs / $ours }"
 
 theirs=$(best llvm-mc -arch=bpfel -mcpu=v3 -filetype=obj "$work/llvm.s" -o "$work/again.o")
-ours=$(best ./zscli asm "$work/program.s" "$work/again.bin")
+ours=$(best "$zscli" asm "$work/program.s" "$work/again.bin")
 cmp "$work/program.bin" "$work/again.bin"
 awk "BEGIN { printf \"assemble 4096 lines: llvm-mc/zscli %.2f\n\", $theirs / $ours }"

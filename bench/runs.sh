@@ -10,6 +10,7 @@ set -eu
 here=$(cd "$(dirname "$0")" && pwd)
 program=runs
 . "$here/dpdk.sh"
+"$work/dpdk" write "$work"
 . "$here/best.sh"
 bench=$here/../crates/bench_runs/out/bench_runs
 # builds the program where it has to

@@ -6,6 +6,7 @@ set -eu
 here=$(cd "$(dirname "$0")" && pwd)
 program=verifier
 . "$here/dpdk.sh"
+"$work/dpdk" write "$work"
 head -c 4096 /dev/zero >"$work/block.bin"
 loads=$here/../crates/bench_verifier/out/bench_verifier
 rounds=10

@@ -1,6 +1,7 @@
 //! The command `entry`: a line of a command file, made of words.
 
-ghost use Rattle.std.specs.Prelude.{◌≡◌};
+ghost use Rattle.std.specs.Prelude.{◌≡◌, OnOk};
+ghost use Rattle.command_entry.specs.Printed.{PrintsEntry};
 
 use crate::asked::Asked;
 use crate::printing::{Target, print};
@@ -66,7 +67,8 @@ pub fn entry<'a, F: Files, O: Write>(
     files: &mut F,
     out: &mut O,
 ) -> Result<(), Failure<'a>>
-    ensures { F.made files.new ≡ F.made files.old }
+    ensures printed { OnOk result (PrintsEntry (O.contents out.old) (O.contents out.new)) }
+    ensures made { F.made files.new ≡ F.made files.old }
 {
     match matches.subcommand() {
         Some((name, matches)) => submit(alloc, line, name, matches, files, out),
@@ -83,7 +85,8 @@ fn submit<'a, F: Files, O: Write>(
     files: &mut F,
     out: &mut O,
 ) -> Result<(), Failure<'a>>
-    ensures { F.made files.new ≡ F.made files.old }
+    ensures printed { OnOk result (PrintsEntry (O.contents out.old) (O.contents out.new)) }
+    ensures made { F.made files.new ≡ F.made files.old }
 {
     let target = Target::of_words(matches)?;
     let asked = words_asked(alloc, line, name, matches, files)?;

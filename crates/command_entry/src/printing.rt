@@ -3,7 +3,7 @@
 ghost use Rattle.std.specs.Prelude.{◌≡◌, ◌≤◌, OnOk};
 ghost use Rattle.std.specs.Io.KnownBytes.{Appends};
 ghost use Rattle.nvme_entry.specs.Encoding.{program_length};
-ghost use Rattle.command_entry.specs.Printed.{PrintsEntry};
+ghost use Rattle.command_entry.specs.steps.PrintsCommand.{PrintsCommand};
 
 use crate::numbers::identifier;
 use clap::{ArgMatches, Command};
@@ -61,7 +61,7 @@ pub(crate) fn print<'a, O: Write>(
     out: &mut O,
 ) -> Result<(), Failure<'a>>
     requires { program_length command ≤ MOST_TRANSFER }
-    ensures { OnOk result (PrintsEntry (O.contents out.old) (O.contents out.new) target command input.now) }
+    ensures { OnOk result (PrintsCommand (O.contents out.old) (O.contents out.new) target command input.now) }
 {
     let entry = Entry::encode(command, target.cid);
     let line = submission_line(alloc, target.queue, &entry, input)?;

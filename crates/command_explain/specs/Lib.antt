@@ -1,2 +1,2 @@
 pub mod UserTold
-pub mod Waiting
+pub mod steps

@@ -1,7 +1,8 @@
 //! The submissions of a command file that wait for their completions.
 
-ghost use Rattle.std.specs.Prelude.{◌≡◌, position};
-ghost use Rattle.command_explain.specs.Waiting.{is_of, submission_of as submission_in, TakesFirst};
+ghost use Rattle.std.specs.Prelude.{◌≡◌, IfOk, position};
+ghost use Rattle.std.specs.List.{filter_map};
+ghost use Rattle.command_explain.specs.steps.Waiting.{is_of, submission_of as submission_in, TakesFirst};
 
 use device_events::Event;
 use nvme_entry::Entry;
@@ -23,7 +24,13 @@ pub(crate) struct Waiting {
 
 impl Waiting {
     /// Those of a command file's events: none has its completion yet.
-    pub(crate) fn new(alloc: Global, events: &[Event]) -> Result<Waiting, AllocError> {
+    ///
+    /// # Errors
+    ///
+    /// Want of memory.
+    pub(crate) fn new(alloc: Global, events: &[Event]) -> Result<Waiting, AllocError>
+        ensures { IfOk result (λ waiting. waiting.submissions.items ≡ filter_map submission_in events.now) }
+    {
         let mut submissions = VecDeque::new(alloc);
         for submission in events.iter().filter_map(|event| submission_of(event)) {
             submissions.push_back(submission)?;

@@ -229,6 +229,10 @@ fn second_slot(instruction: &Insn) -> Option<Fields>
 }
 
 /// Adds the bytes of an instruction at the end: 8, or 16 for the wide one (RFC 9669, 3).
+///
+/// # Errors
+///
+/// Want of memory.
 pub fn push_instruction(bytes: &mut Vec<u8>, instruction: &Insn) -> Result<(), AllocError>
     ensures { OnOk result (bytes.new.items ≡ bytes.old.items ++ spelling instruction.now) }
 {
@@ -255,6 +259,10 @@ fn encode_slots(alloc: Global, slots: &[Option<Insn>]) -> Result<Vec<u8>, AllocE
 }
 
 /// The bytes of a program (RFC 9669, 3): each has one spelling.
+///
+/// # Errors
+///
+/// Want of memory.
 pub fn encode(alloc: Global, program: &Program) -> Result<Vec<u8>, AllocError>
     ensures spelled { IfOk result (λ bytes. bytes.items ≡ program_bytes program.now) }
     // Decoding gives the program again.

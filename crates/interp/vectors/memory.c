@@ -1,5 +1,5 @@
 // Prints src/tests/vectors.rt: what gcc makes of loads and stores, on a little-endian host.
-// gcc -O1 -fwrapv -o /tmp/memory memory.c && /tmp/memory > ../src/tests/vectors.rt && rt fmt
+// gcc -O1 -fwrapv memory.c && ./a.out > ../src/tests/vectors.rt && rm a.out && rt fmt
 #include <stdint.h>
 #include <stdio.h>
 #include <string.h>

@@ -1,5 +1,5 @@
 // Prints src/tests/vectors.rt: what gcc makes of the operations, on a little-endian host.
-// gcc -O1 -fwrapv -o /tmp/words words.c && /tmp/words > ../src/tests/vectors.rt && rt fmt
+// gcc -O1 -fwrapv words.c && ./a.out > ../src/tests/vectors.rt && rm a.out && rt fmt
 #include <stdint.h>
 #include <stdio.h>
 

@@ -1,0 +1,18 @@
+-- The line that is printed for a command, by what the words ask for.
+use Rattle.std.specs.Prelude.{◌≡◌, ℕ, List, [], ◌∷◌, ◌++◌, Option, Ok}
+use Rattle.std.specs.Io.KnownBytes.{Appends}
+use Rattle.nvme_entry.specs.Entry.{decoded, identifier_of}
+use Rattle.nvme_entry.specs.declared.command.Command.{Command}
+use Rattle.event_text.specs.CommandFile.{Submitted}
+use Rattle.event_text.specs.Submission.{Tells}
+use Rattle.command_entry.specs.declared.printing.Target.{Target}
+
+-- a line is printed that a command file's reader takes for a submission, to this queue and with this data beside it,
+-- of an entry that is decoded to this command and has this identifier
+pub record PrintsCommand (before after : Option (List ℕ)) (target : Target) (command : Command) (input : List ℕ) : Type 0 where
+  pub line : List ℕ
+  pub entry : List ℕ
+  pub printed : Appends before after (line ++ 10 ∷ [])
+  pub told : Tells line (Submitted target.queue entry input)
+  pub asked : decoded entry ≡ Ok command
+  pub identifier : identifier_of entry ≡ target.cid
