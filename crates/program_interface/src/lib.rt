@@ -9,6 +9,7 @@ mod block_size;
 mod context;
 mod entry;
 mod frame;
+pub mod laws;
 mod run_sizes;
 #[cfg(test)]
 mod tests;

@@ -4,4 +4,5 @@ mod LineLemmas
 mod NumberLemmas
 mod PartLemmas
 mod Positions
+mod Trimming
 pub mod Proved

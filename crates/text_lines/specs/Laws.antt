@@ -1,8 +1,8 @@
--- How a text is cut into parts, and into lines.
-use Rattle.std.specs.Prelude.{ℕ, ◌==◌, ◌≡◌, List, [], ◌∷◌, Some, None}
-use Rattle.std.specs.List.{slice_split}
+-- How a text is cut into parts and into lines, and what of it stands between blanks.
+use Rattle.std.specs.Prelude.{ℕ, ◌==◌, ◌≡◌, ◌↔◌, true, false, List, [], ◌∷◌, ◌++◌, Some, None}
+use Rattle.std.specs.List.{AllByRecursion, slice_split}
 use Rattle.std.specs.Str.Lines.{lines, strip_carriage_return}
-use Rattle.text_lines.specs.Cut.{cut_at}
+use Rattle.text_lines.specs.Cut.{cut_at, is_blank_byte, trimmed}
 
 -- the parts of a text, cut at each such byte
 abbrev pub parts_at : ℕ → List ℕ → List (List ℕ)
@@ -28,3 +28,21 @@ SomePartIsThere = (byte : ℕ) (text : List ℕ) → HasFirst (parts_at byte tex
 abbrev pub CutIsAfterFirstLine : Type 0
 CutIsAfterFirstLine =
     (text line behind : List ℕ) → cut_at 10 text ≡ Some (line, behind) → lines text ≡ strip_carriage_return line ∷ lines behind
+
+-- a text of blanks alone, or of nothing
+abbrev pub AreBlanks : List ℕ → Type 0
+AreBlanks text = AllByRecursion (λ byte. is_blank_byte byte ≡ true) text
+
+-- a text is blanks, these bytes, which neither begin nor end with a blank, and blanks
+pub record IsBetweenBlanks (text bytes : List ℕ) : Type 0 where
+  pub front : List ℕ
+  pub back : List ℕ
+  pub parts : text ≡ front ++ (bytes ++ back)
+  pub front_blanks : AreBlanks front
+  pub back_blanks : AreBlanks back
+  pub first : (byte : ℕ) (rest : List ℕ) → bytes ≡ byte ∷ rest → is_blank_byte byte ≡ false
+  pub last : (rest : List ℕ) (byte : ℕ) → bytes ≡ rest ++ byte ∷ [] → is_blank_byte byte ≡ false
+
+-- the trimmed text stands so in it, and nothing else does
+abbrev pub TrimmedIsBetweenBlanks : Type 0
+TrimmedIsBetweenBlanks = (text bytes : List ℕ) → IsBetweenBlanks text bytes ↔ (bytes ≡ trimmed text)

@@ -68,10 +68,10 @@ not_both true false more held e = cc
 not_both false refuses_it more held e = refl
 
 -- is one of the zones held, of which the first has this number?
-abbrev held_from : Holds → ℕ → List CountedZone → Action → Bool
+abbrev pub held_from : Holds → ℕ → List CountedZone → Action → Bool
 held_from holds n zones a = list_any (λ p. takes a p.1.state && refuses holds a p.0) (enumerate_from n zones)
 
-not_taken_from : (holds : Holds) (a : Action) (c n at : ℕ) (zones : List ZoneBlocks) → refuses holds a (n + at) ≡ true
+pub not_taken_from : (holds : Holds) (a : Action) (c n at : ℕ) (zones : List ZoneBlocks) → refuses holds a (n + at) ≡ true
     → held_from holds n (map (counted c) zones) a ≡ false → takes a (get_or zones at no_zone).state ≡ false
 not_taken_from holds a c n at [] held none = none_offline a
 not_taken_from holds a c n zero (x ∷ xs) held none =

@@ -18,6 +18,7 @@ mod ClosableZones
 mod SoundEvents
 mod Sweeps
 mod SweptZones
+mod SelectedZones
 mod Transfers
 mod Untouched
 mod WrittenZones

@@ -12,4 +12,5 @@ pub mod Meaning
 pub mod Held
 pub mod Laws
 pub mod Left
+pub mod SelectAll
 pub mod steps

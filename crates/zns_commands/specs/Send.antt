@@ -1,5 +1,5 @@
 -- Zone Management Send (ZNS 1.1, 3.4.3).
-use Rattle.std.specs.Prelude.{ℕ, Bool, true, false, ◌+◌, ◌++◌, ◌&&◌, not, nat_le, List, [], ◌∷◌, take, map, count_by, Option, None, Result, Ok, Err, if◌then◌else◌}
+use Rattle.std.specs.Prelude.{ℕ, Bool, true, false, ◌+◌, ◌++◌, ◌&&◌, not, nat_le, List, [], ◌∷◌, map, count_by, Option, None, Result, Ok, Err, if◌then◌else◌}
 use Rattle.std.specs.List.{enumerate_from, list_any}
 use Rattle.zone_state.specs.State.{is_open, is_active}
 use Rattle.zone_state.specs.Transition.{transition}

@@ -3,6 +3,7 @@
 
 ghost use Rattle.zns_commands.specs.Held.{HeldCommandsAreRefused};
 ghost use Rattle.zns_commands.specs.Left.{BlocksAreAPart, DestinationsAreLeft, OthersAreLeft, ShapesAreKept, SourcesKeepBlocks};
+ghost use Rattle.zns_commands.specs.SelectAll.{SelectAllIsEachAlone, SelectAllIsRefused, TakenZonesMove};
 ghost use Rattle.zns_commands.specs.Laws.{AppendedReadsBack, BlocksAreAppended, BlocksKeepNamespaces, EmptyIsNamespace, JustOneCase, RefusedChangesNothing, ReportsEveryZone, EventsKeepNamespaces, WrittenReadsBack};
 
 /// A namespace stays one, whatever commands and faults come: its open and active zones are within the
@@ -82,4 +83,18 @@ pub fn consecutive_blocks_are_a_part()
 /// that a run reads from, of one zone and of all: with Zone Held where its data and its address are right.
 pub fn held_commands_are_refused()
     ensures { HeldCommandsAreRefused }
+{}
+
+/// The action leads on from each state of which Select All takes zones. Where it isn't refused, each
+/// zone that it takes is left as the action on that zone alone leaves it, which isn't refused either, and
+/// any other as it was.
+pub fn select_all_is_each_alone()
+    ensures moves { TakenZonesMove }
+    ensures alone { SelectAllIsEachAlone }
+{}
+
+/// A hold on one of the zones that it takes refuses Select All, and so does the limit of open zones where it
+/// would open more than fit below it; nothing else does.
+pub fn select_all_is_refused_by_holds_and_limits()
+    ensures { SelectAllIsRefused }
 {}

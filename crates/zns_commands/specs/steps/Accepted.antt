@@ -1,5 +1,5 @@
 -- What holds of a command that passed its checks, as its effect asks for it.
-use Rattle.std.specs.Prelude.{ℕ, ◌≢◌, ◌<◌, length, Option, Some, Ok, ◌*◌, ◌++◌, List, ◌≡◌, ◌≤◌, ◌+◌, take, drop, map}
+use Rattle.std.specs.Prelude.{ℕ, ◌≢◌, ◌<◌, length, Option, Some, Ok, ◌*◌, ◌++◌, List, ◌≡◌, ◌≤◌, take, drop, map}
 use Rattle.std.specs.Option.{ForSome}
 use Rattle.zone_state.specs.declared.state.ZoneState.TheVariants.{Closed}
 use Rattle.zone_state.specs.Zone.{IsZone, refusal, kept}

@@ -1,0 +1,248 @@
+-- That Select All leaves each zone that it takes as the action on that zone alone does, and what refuses it.
+use Rattle.std.proofs.Common.{◌≡◌, ℕ, zero, suc, ◌+◌, ◌*◌, ◌/◌, ◌%◌, ◌<◌, ◌≤◌, Bool, true, false, cond, List, [], ◌∷◌, length, get_or, map, Option, None, Result, Ok, refl, ap, sym, subst, ◌∙◌, arith}
+use Rattle.std.specs.Prelude.{nat_eq, nat_le, nat_lt, not, ◌&&◌, ◌||◌}
+use Rattle.std.proofs.Math.Nat.{mul-div_cancel, suc-mul, mul-le-mul_right}
+use Rattle.std.proofs.lemmas.Bool.{eq-eqb, leb-true, le-leb, lt-ltb}
+use Rattle.std.proofs.lemmas.List.{get_or-map, get_or-set_same}
+use Rattle.std.proofs.lemmas.List.Sums.{sum_by-cons}
+use Rattle.std.proofs.lemmas.Nat.{mod-mul-add}
+use Rattle.zone_state.specs.Checks.{demand, first_failed}
+use Rattle.zone_state.specs.Transition.{transition}
+use Rattle.zone_state.specs.Zone.{CountedZone}
+use Rattle.zone_state.specs.declared.action.Action.{Action}
+use Rattle.zone_state.specs.declared.action.Action.TheVariants as action
+use Rattle.zone_state.specs.declared.state.ZoneState.{ZoneState}
+use Rattle.zone_state.specs.declared.state.ZoneState.TheVariants.{ImplicitlyOpened, ExplicitlyOpened, Closed, ReadOnly, Full}
+use Rattle.zone_state.specs.declared.status.Status.{Status}
+use Rattle.zone_state.specs.declared.status.TheConstants.Status.{SUCCESS, INVALID_FIELD_IN_COMMAND, LBA_OUT_OF_RANGE, TOO_MANY_OPEN_ZONES, ZONE_HELD}
+use Rattle.zone_resources.specs.Counts.{open_count, one_if}
+use Rattle.zone_resources.specs.Holds.{refuses}
+use Rattle.zone_resources.specs.declared.holds.Holds.{Holds}
+use Rattle.image_store.specs.Namespace.{ZoneBlocks, ZonedNamespace, no_zone, zone_at, arrived, counted, counted_zones, with_state, IsNamespace}
+use Rattle.zns_commands.specs.Address.{block_total}
+use Rattle.zns_commands.specs.Answer.{Effect, concluded, success_effect}
+use Rattle.zns_commands.specs.Laws.{Commanded}
+use Rattle.zns_commands.specs.Resources.{closed, closing_of, room_for, why_not}
+use Rattle.zns_commands.specs.SelectAll.{EachHasRoom, NoneIsHeld, SelectAllIsEachAlone, SelectAllIsRefused, TakenZonesMove, sent_to_all, sent_to_one}
+use Rattle.zns_commands.specs.Send.{all_effect, all_fit, gives_way_to, held_among, led_to, room_of, swept, taken_among, takes}
+use Rattle.nvme_entry.specs.declared.command.StandardCommand.TheVariants.{Send}
+use Rattle.zns_commands.proofs.HeldZones.{held_from, not_taken_from}
+use Rattle.zns_commands.proofs.Untouched.{others_are_left}
+
+pub taken_zones_move : TakenZonesMove
+taken_zones_move action.Close ImplicitlyOpened is = (_, refl)
+taken_zones_move action.Close ExplicitlyOpened is = (_, refl)
+taken_zones_move action.Finish ImplicitlyOpened is = (_, refl)
+taken_zones_move action.Finish ExplicitlyOpened is = (_, refl)
+taken_zones_move action.Finish Closed is = (_, refl)
+taken_zones_move action.Open Closed is = (_, refl)
+taken_zones_move action.Reset ImplicitlyOpened is = (_, refl)
+taken_zones_move action.Reset ExplicitlyOpened is = (_, refl)
+taken_zones_move action.Reset Closed is = (_, refl)
+taken_zones_move action.Reset Full is = (_, refl)
+taken_zones_move action.Offline ReadOnly is = (_, refl)
+taken_zones_move action state is = absurd cc
+
+-- a zone that is taken counts
+taken_counts : (a : Action) (c : ℕ) (zones : List ZoneBlocks) (z : ℕ) → z < length zones → takes a (get_or zones z no_zone).state ≡ true
+    → 1 ≤ taken_among (map (counted c) zones) a
+taken_counts a c [] z inside is = absurd (omega arith)
+taken_counts a c (x ∷ xs) zero inside is =
+    let parts = sum_by-cons (λ (zone : CountedZone). one_if (takes a zone.state)) (counted c x) (map (counted c) xs) in
+    let one : one_if (takes a x.state) ≡ 1 = ap one_if is in
+    omega (arith, parts, one)
+taken_counts a c (x ∷ xs) (suc z) inside is =
+    let parts = sum_by-cons (λ (zone : CountedZone). one_if (takes a zone.state)) (counted c x) (map (counted c) xs) in
+    let rest = taken_counts a c xs z (omega arith) is in
+    omega (arith, parts, rest)
+
+-- so each that would be opened finds an open resource
+free_for : (ns : ZonedNamespace) (holds : Holds) (state : ZoneState) → takes action.Open state ≡ true
+    → nat_lt (open_count (counted_zones ns)) ns.limits.open_limit ≡ true → room_for ns holds state ≡ Ok None
+free_for ns holds Closed is free = rw free refl
+free_for ns holds state is free = absurd cc
+
+room_is_free : (ns : ZonedNamespace) (holds : Holds) (a : Action) (z : ℕ) → z < length ns.zones → takes a (zone_at ns z).state ≡ true
+    → all_fit ns a ≡ true → room_of ns holds a (zone_at ns z).state ≡ Ok None
+room_is_free ns holds action.Open z inside is fit =
+    let some = taken_counts action.Open ns.capacity ns.zones z inside is in
+    let few = leb-true (open_count (counted_zones ns) + taken_among (counted_zones ns) action.Open) ns.limits.open_limit fit in
+    free_for ns holds (zone_at ns z).state is (lt-ltb (open_count (counted_zones ns)) ns.limits.open_limit (omega (arith, some, few)))
+room_is_free ns holds action.Close z inside is fit = refl
+room_is_free ns holds action.Finish z inside is fit = refl
+room_is_free ns holds action.Reset z inside is fit = refl
+room_is_free ns holds action.Offline z inside is fit = refl
+
+-- an action of which the hold, the transition and the room pass, without a zone that gives way
+passes : (ns : ZonedNamespace) (z : ℕ) (refused : Bool) (moves : Result ZoneState Status) (room : Result (Option ℕ) Status) (from to : ZoneState)
+    → refused ≡ false → moves ≡ Ok to → room ≡ Ok None
+    → concluded (first_failed (demand (not refused) ZONE_HELD ∷ why_not moves ∷ why_not room ∷ [])) ns
+    (success_effect (with_state (closed ns (closing_of room)) z (led_to moves from)) 0 [])
+    ≡ success_effect (with_state ns z to) 0 []
+passes ns z refused moves room from to free leads none = rw (free, leads, none) refl
+
+-- an action on one zone, by its number and whether its address is right
+abbrev by_number : ZonedNamespace → Holds → Action → ℕ → Bool → Bool → Effect
+by_number ns holds a k start lowest =
+    let from = (zone_at ns k).state in
+    concluded (first_failed (demand start LBA_OUT_OF_RANGE ∷ demand lowest INVALID_FIELD_IN_COMMAND
+    ∷ demand (not (refuses holds a k)) ZONE_HELD ∷ why_not (transition a from) ∷ why_not (room_of ns holds a from) ∷ [])) ns
+    (success_effect (with_state (closed ns (gives_way_to ns holds a from)) k (led_to (transition a from) from)) 0 [])
+
+-- a zone's own address names it
+named : (ns : ZonedNamespace) (holds : Holds) (a : Action) (z : ℕ) → IsNamespace ns → z < length ns.zones
+    → sent_to_one ns holds a z ≡ by_number ns holds a z true true
+named ns holds a z sound inside =
+    let size = ns.size in
+    let lba = z * size in
+    let some : 1 ≤ size = sound.shape.size_some in
+    let number : lba / size ≡ z = mul-div_cancel z (omega (arith, some)) in
+    let place : lba % size ≡ 0 =
+    ap (λ (n : ℕ). n % size) (omega arith) ∙ mod-mul-add z size 0 (omega (arith, some)) in
+    let below : suc z ≤ length ns.zones = omega (arith, inside) in
+    let product : suc z * size ≤ length ns.zones * size = mul-le-mul_right size below in
+    let start : lba < block_total ns = omega (arith, suc-mul z size, product, some) in
+    ap (λ (k : ℕ). by_number ns holds a k (nat_lt lba (block_total ns)) (nat_eq (lba % size) 0)) number
+    ∙ (ap (λ (b : Bool). by_number ns holds a z b (nat_eq (lba % size) 0)) (lt-ltb lba (block_total ns) start)
+    ∙ ap (by_number ns holds a z true) (eq-eqb (lba % size) 0 place))
+
+-- the action on one zone that all would take
+done_alone : (ns : ZonedNamespace) (holds : Holds) (a : Action) (z : ℕ) (to : ZoneState) → IsNamespace ns → z < length ns.zones
+    → takes a (zone_at ns z).state ≡ true → transition a (zone_at ns z).state ≡ Ok to → refuses holds a z ≡ false → all_fit ns a ≡ true
+    → sent_to_one ns holds a z ≡ success_effect (with_state ns z to) 0 []
+done_alone ns holds a z to sound inside is leads free fit =
+    let from = (zone_at ns z).state in
+    named ns holds a z sound inside
+    ∙ passes ns z (refuses holds a z) (transition a from) (room_of ns holds a from) from to free leads (room_is_free ns holds a z inside is fit)
+
+-- an action on all zones, by whether one is held and whether each has room
+abbrev decided : ZonedNamespace → Action → Bool → Bool → Effect
+decided ns a held fit =
+    concluded (first_failed (demand (not held) ZONE_HELD ∷ demand fit TOO_MANY_OPEN_ZONES ∷ [])) ns (success_effect (all_effect ns a) 0 [])
+
+no_success : (status : Status) → 1 ≤ status.code → status ≡ SUCCESS → ⊥
+no_success status some is =
+    let none : status.code ≡ 0 = ap (λ (s : Status). s.code) is in
+    omega (arith, some, none)
+
+succeeded : (ns : ZonedNamespace) (a : Action) (held fit : Bool) → (decided ns a held fit).status ≡ SUCCESS → (held ≡ false) × (fit ≡ true)
+succeeded ns a false true is = (refl, refl)
+succeeded ns a true fit is = absurd (no_success ZONE_HELD (omega arith) is)
+succeeded ns a false false is = absurd (no_success TOO_MANY_OPEN_ZONES (omega arith) is)
+
+-- a zone that is taken is not held, where none is
+free_where : (taken refused : Bool) → (refused ≡ true → taken ≡ false) → taken ≡ true → refused ≡ false
+free_where taken true none is =
+    let not_taken : taken ≡ false = none refl in absurd cc
+free_where taken false none is = refl
+
+held_where : (taken held : Bool) → (held ≡ false → taken ≡ false) → taken ≡ true → held ≡ true
+held_where taken true none is = refl
+held_where taken false none is =
+    let not_taken : taken ≡ false = none refl in absurd cc
+
+moved_by : (taken : Bool) (moves : Result ZoneState Status) (zone : ZoneBlocks) (to : ZoneState) → taken ≡ true → moves ≡ Ok to
+    → cond taken (arrived (led_to moves zone.state) zone) zone ≡ arrived to zone
+moved_by taken moves zone to is leads = rw (is, leads) refl
+
+module _ (ns : ZonedNamespace) (holds : Holds) (a : Action) (z : ℕ) where
+  -- where no zone that would be taken is held, one that is held would not be taken
+  held_is_left : held_among (counted_zones ns) holds a ≡ false → refuses holds a z ≡ true → takes a (zone_at ns z).state ≡ false
+  held_is_left none held =
+      let same : z ≡ 0 + z = omega arith in
+      not_taken_from holds a ns.capacity 0 z ns.zones (subst (λ (k : ℕ). refuses holds a k ≡ true) same held) none
+
+  swept_so : (to : ZoneState) → z < length ns.zones → takes a (zone_at ns z).state ≡ true → transition a (zone_at ns z).state ≡ Ok to
+      → zone_at (all_effect ns a) z ≡ arrived to (zone_at ns z)
+  swept_so to inside is leads =
+      get_or-map (swept a) ns.zones z no_zone no_zone inside
+      ∙ moved_by (takes a (zone_at ns z).state) (transition a (zone_at ns z).state) (zone_at ns z) to is leads
+
+  taken_as_alone : (lba : ℕ) (to : ZoneState) → IsNamespace ns → z < length ns.zones → (sent_to_all ns holds a lba).status ≡ SUCCESS
+      → takes a (zone_at ns z).state ≡ true → transition a (zone_at ns z).state ≡ Ok to
+      → ((sent_to_one ns holds a z).status ≡ SUCCESS)
+      × (zone_at (sent_to_all ns holds a lba).namespace z ≡ zone_at (sent_to_one ns holds a z).namespace z)
+  taken_as_alone lba to sound inside success is leads =
+      let held = held_among (counted_zones ns) holds a in
+      let fit = all_fit ns a in
+      let passed = succeeded ns a held fit success in
+      let free = free_where (takes a (zone_at ns z).state) (refuses holds a z) (held_is_left passed.0) is in
+      let one = done_alone ns holds a z to sound inside is leads free passed.1 in
+      let all : sent_to_all ns holds a lba ≡ success_effect (all_effect ns a) 0 [] =
+      ap (λ (b : Bool). decided ns a b fit) passed.0 ∙ ap (decided ns a false) passed.1 in (
+        ap (λ (e : Effect). e.status) one,
+        ap (λ (e : Effect). zone_at e.namespace z) all
+            ∙ (swept_so to inside is leads
+            ∙ (sym (get_or-set_same ns.zones z (arrived to (zone_at ns z)) no_zone inside)
+            ∙ ap (λ (e : Effect). zone_at e.namespace z) (sym one))),
+      )
+
+pub select_all_is_each_alone : SelectAllIsEachAlone
+select_all_is_each_alone ns holds a lba z sound inside success = record {
+  alone = λ is.
+      let to = taken_zones_move a (zone_at ns z).state is in
+      (taken_as_alone ns holds a z lba to.0 sound inside success is to.1).0;
+  taken = λ is.
+      let to = taken_zones_move a (zone_at ns z).state is in
+      (taken_as_alone ns holds a z lba to.0 sound inside success is to.1).1;
+  other = λ is. others_are_left (Commanded holds (Send lba a true) []) ns z is;
+}
+
+none_of_two : (taken refused more : Bool) → (taken ≡ true → refused ≡ false) → more ≡ false → ((taken && refused) || more) ≡ false
+none_of_two true refused more free none = rw (free refl, none) refl
+none_of_two false refused more free none = none
+
+none_held_from : (holds : Holds) (a : Action) (c n : ℕ) (zones : List ZoneBlocks)
+    → ((z : ℕ) → z < length zones → takes a (get_or zones z no_zone).state ≡ true → refuses holds a (n + z) ≡ false)
+    → held_from holds n (map (counted c) zones) a ≡ false
+none_held_from holds a c n [] free = refl
+none_held_from holds a c n (x ∷ xs) free =
+    let same : n + 0 ≡ n = omega arith in
+    none_of_two (takes a x.state) (refuses holds a n) (held_from holds (n + 1) (map (counted c) xs) a)
+    (λ is. subst (λ (k : ℕ). refuses holds a k ≡ false) same (free 0 (omega arith) is))
+    (none_held_from holds a c (n + 1) xs
+    (λ z inside is.
+    let next : n + suc z ≡ n + 1 + z = omega arith in
+    subst (λ (k : ℕ). refuses holds a k ≡ false) next (free (suc z) (omega (arith, inside)) is)))
+
+none_is_held : (ns : ZonedNamespace) (holds : Holds) (a : Action) → NoneIsHeld ns holds a → held_among (counted_zones ns) holds a ≡ false
+none_is_held ns holds a none =
+    none_held_from holds a ns.capacity 0 ns.zones
+    (λ z inside is.
+    let same : z ≡ 0 + z = omega arith in
+    subst (λ (k : ℕ). refuses holds a k ≡ false) same (none z inside is))
+
+each_has_room : (ns : ZonedNamespace) (a : Action) → EachHasRoom ns a → all_fit ns a ≡ true
+each_has_room ns action.Open room =
+    le-leb (open_count (counted_zones ns) + taken_among (counted_zones ns) action.Open) ns.limits.open_limit room
+each_has_room ns action.Close room = refl
+each_has_room ns action.Finish room = refl
+each_has_room ns action.Reset room = refl
+each_has_room ns action.Offline room = refl
+
+too_many : (x y : ℕ) (fit : Bool) → nat_le x y ≡ fit → ¬ (x ≤ y) → fit ≡ false
+too_many x y true is none = absurd (none (leb-true x y is))
+too_many x y false is none = refl
+
+one_has_none : (ns : ZonedNamespace) (a : Action) → ¬ EachHasRoom ns a → all_fit ns a ≡ false
+one_has_none ns action.Open none =
+    too_many (open_count (counted_zones ns) + taken_among (counted_zones ns) action.Open) ns.limits.open_limit (all_fit ns action.Open) refl none
+one_has_none ns action.Close none = absurd (none tt)
+one_has_none ns action.Finish none = absurd (none tt)
+one_has_none ns action.Reset none = absurd (none tt)
+one_has_none ns action.Offline none = absurd (none tt)
+
+status_of : (ns : ZonedNamespace) (a : Action) (held fit is_held is_fit : Bool) → held ≡ is_held → fit ≡ is_fit
+    → (decided ns a held fit).status ≡ (decided ns a is_held is_fit).status
+status_of ns a held fit is_held is_fit holds fits = rw (holds, fits) refl
+
+pub select_all_is_refused : SelectAllIsRefused
+select_all_is_refused ns holds a lba = record {
+  held = λ z inside is refused.
+      let so = held_where (takes a (zone_at ns z).state) (held_among (counted_zones ns) holds a) (λ none. held_is_left ns holds a z none refused) is in
+      status_of ns a (held_among (counted_zones ns) holds a) (all_fit ns a) true (all_fit ns a) so refl;
+  crowded = λ none crowd.
+      status_of ns a (held_among (counted_zones ns) holds a) (all_fit ns a) false false (none_is_held ns holds a none) (one_has_none ns a crowd);
+  done = λ none room.
+      status_of ns a (held_among (counted_zones ns) holds a) (all_fit ns a) false true (none_is_held ns holds a none) (each_has_room ns a room);
+}
