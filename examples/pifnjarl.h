@@ -8,7 +8,7 @@ typedef unsigned short u16;
 typedef unsigned int u32;
 typedef unsigned long long u64;
 
-/* The context, 32 bytes; R1 at entry. R2 is the block and R3 the scratch area, 1024 bytes. */
+/* The context, 32 bytes; R1 at the start. R2 is the block and R3 the scratch area, 1024 bytes. */
 struct context {
     u64 lba;        /* of the block, in the source zone */
     u32 index;      /* of the block in the run, from 0 */

@@ -22,7 +22,7 @@ use Rattle.word_domain.specs.declared.offsets.Offsets.{Offsets}
 use Rattle.accepted_programs.specs.Cells.{cell_of, filled, is_stack, known_in, no_cells, overwritten}
 use Rattle.accepted_programs.proofs.CellLaws.{if_some, joined_known, left_known, none_known, set_known}
 use Rattle.accepted_programs.specs.declared.facts.TheConstants.{CELLS}
-use Rattle.accepted_programs.specs.Facts.{after_store, along, area_of, cell_at, compared_fact, enters_stack, entry_facts, fact, facts_at, facts_at_target, facts_behind, given_below, gives, is_register, join_registers, kept, leads, loaded_fact, merge, slot_behind, source_fact, with_both, with_fact}
+use Rattle.accepted_programs.specs.Facts.{after_store, along, area_of, cell_at, compared_fact, enters_stack, facts_at_start, fact, facts_at, facts_at_target, facts_behind, given_below, gives, is_register, join_registers, kept, leads, loaded_fact, merge, slot_behind, source_fact, with_both, with_fact}
 use Rattle.accepted_programs.specs.declared.facts.Facts.{Facts}
 
 -- ---- the words of an instruction
@@ -264,8 +264,8 @@ module _ {D : Type 0} {IsFact : D → Type 0} {operations : Operations D} (give 
   merge_facts None b first second = second
 
   -- ---- slots
-  entry_are : AreFacts IsFact (entry_facts operations)
-  entry_are =
+  start_are : AreFacts IsFact (facts_at_start operations)
+  start_are =
       let none = give.constant 0 (lit< tt) in
       let context = give.pointer Context 0 (lit< tt) in
       let block = give.pointer Block 0 (lit< tt) in
@@ -288,7 +288,7 @@ module _ {D : Type 0} {IsFact : D → Type 0} {operations : Operations D} (give 
 
   pub given_facts : (block : ℕ) (program : List (Option Insn)) (slot other : ℕ)
       → SomeAreFacts IsFact (given_below operations block program slot other)
-  given_facts block program zero other = chosen IsFact (other == 0) (Some (entry_facts operations)) entry_are
+  given_facts block program zero other = chosen IsFact (other == 0) (Some (facts_at_start operations)) start_are
   given_facts block program (suc slot) other =
       gives_facts block (instruction_at program slot) slot (given_below operations block program slot slot) other
       (given_below operations block program slot other) (given_facts block program slot slot)

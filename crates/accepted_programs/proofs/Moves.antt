@@ -5,7 +5,7 @@ use Rattle.std.proofs.lemmas.List.{length-take}
 use Rattle.std.proofs.lemmas.Cmp.{int_eq_equiv}
 use Rattle.std.specs.Int.{w16}
 use Rattle.std.specs.Prelude.{◌&&◌, FitsSigned, nat_le, unwrap_or, if◌then◌else◌}
-use Rattle.instruction_set.specs.Instruction.{distance_of, immediate_word, signed_size_of, size_of, target}
+use Rattle.instruction_set.specs.Instruction.{access_of, distance_of, immediate_word, signed_size_of, size_of, target}
 use Rattle.instruction_set.specs.Spelling.{first_slot}
 use Rattle.instruction_set.specs.declared.insn.Insn.{Insn}
 use Rattle.instruction_set.specs.declared.insn.Insn.TheVariants.{LoadImmediate, Load, LoadSigned, StoreImmediate, StoreRegister, Arithmetic, Negate, MoveSigned, SwapBytes, Jump, JumpLong, Branch, Call, Exit}
@@ -268,7 +268,7 @@ module _ {D : Type 0} {IsFact : D → Type 0} {contains : D → ℕ → Type 0} 
         (along_meets false width relation dst source _ answer)
 
     moves : (i : Insn) → FitsSigned w16 (first_slot i).offset → is_exit i ≡ false → goes_back (distance_of i) ≡ false
-        → stores_outside operations block facts i ≡ false → Moved contains operations block i facts s (after s i)
+        → stores_outside operations block facts (access_of i) ≡ false → Moved contains operations block i facts s (after s i)
     moves (LoadImmediate dst value) near goes forth inside =
         behind (LoadImmediate dst value) refl
         (put_meets dst _ _ _ (sound.constant (value % 2 ^ 64) (mod-lt value (lit< tt))))

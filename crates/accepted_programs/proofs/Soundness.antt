@@ -9,7 +9,7 @@ use Rattle.program_meaning.proofs.Proved.{begins_at_instruction, keeps_group_lim
 use Rattle.program_meaning.specs.Cause.{is_exit, least_cause}
 use Rattle.program_meaning.specs.Effect.{register}
 use Rattle.program_meaning.specs.BlockRun.{BlockRun, block_run_of, continued}
-use Rattle.program_meaning.specs.State.{IsState, State, entry}
+use Rattle.program_meaning.specs.State.{IsState, State, at_start}
 use Rattle.program_meaning.specs.Step.{Ends, Goes, IsAt, after, decided, step_at, step_of}
 use Rattle.program_meaning.specs.declared.cause.Cause.{Cause}
 use Rattle.program_interface.specs.declared.area.Area.TheVariants.{Context, Block, Stack, Scratch}
@@ -18,7 +18,7 @@ use Rattle.word_domain.specs.Domain.{IsSound, Operations}
 use Rattle.accepted_programs.specs.Accepted.{reason_of, refusal, refusal_at, refusal_below, refused_at}
 use Rattle.accepted_programs.specs.steps.ShortOffsets.{HasShortOffsets}
 use Rattle.accepted_programs.proofs.CellLaws.{none_known}
-use Rattle.accepted_programs.specs.Facts.{entry_facts, facts_at}
+use Rattle.accepted_programs.specs.Facts.{facts_at_start, facts_at}
 use Rattle.accepted_programs.proofs.Flow.{arrives}
 use Rattle.accepted_programs.proofs.Fitting.{short_offsets}
 use Rattle.accepted_programs.specs.Emitted.{group_in, most_below, most_emitted}
@@ -61,8 +61,8 @@ module _ {D : Type 0} (contains : D → ℕ → Type 0) (operations : Operations
 
 module _ {D : Type 0} {IsFact : D → Type 0} {contains : D → ℕ → Type 0} {operations : Operations D}
     (sound : IsSound IsFact contains operations) where
-  entry_meets : (bytes context scratch : List ℕ) → Meets contains (entry_facts operations) (entry bytes context scratch)
-  entry_meets bytes context scratch =
+  start_meets : (bytes context scratch : List ℕ) → Meets contains (facts_at_start operations) (at_start bytes context scratch)
+  start_meets bytes context scratch =
       let none = sound.constant 0 (lit< tt) in
       let context_at = sound.pointer Context 0 (lit< tt) in
       let block_at = sound.pointer Block 0 (lit< tt) in
@@ -176,17 +176,17 @@ module _ {D : Type 0} {IsFact : D → Type 0} {contains : D → ℕ → Type 0} 
 
     -- a block run from its start on
     starts : (bound : ℕ) → Bounds bound → is_some (instruction_at program 0) ≡ true → (bytes context scratch : List ℕ)
-        → length bytes ≡ sizes.block → IsState (entry bytes context scratch)
+        → length bytes ≡ sizes.block → IsState (at_start bytes context scratch)
         → Exits (instruction_count program) bound
-        (block_run_of program sizes.limit (instruction_count program) 0 (entry bytes context scratch))
+        (block_run_of program sizes.limit (instruction_count program) 0 (at_start bytes context scratch))
     starts bound bounds here bytes context scratch long is =
         let count = instruction_count program in
-        exits bound bounds count count 0 (entry bytes context scratch)
+        exits bound bounds count count 0 (at_start bytes context scratch)
         (record {
           is = is;
           block_long = long;
           here = here;
-          known = entry_meets bytes context scratch;
+          known = start_meets bytes context scratch;
           group = omega arith;
         })
         (omega arith) (omega arith)

@@ -5,7 +5,7 @@ use Rattle.std.proofs.lemmas.Bool.{and_parts, and_from, and_right, cond_both, eq
 use Rattle.std.proofs.lemmas.Int.{ints}
 use Rattle.std.specs.Int.{w16}
 use Rattle.std.specs.Prelude.{◌==◌, if◌then◌else◌, nat_le, nat_lt, slice_index}
-use Rattle.instruction_set.specs.Instruction.{distance_of, signed_size_of, size_of, target}
+use Rattle.instruction_set.specs.Instruction.{access_of, distance_of, is_emit, signed_size_of, size_of, target}
 use Rattle.instruction_set.specs.Program.{instruction_in}
 use Rattle.instruction_set.specs.Spelling.{first_slot}
 use Rattle.instruction_set.specs.declared.insn.Insn.{Insn}
@@ -15,7 +15,7 @@ use Rattle.instruction_set.specs.declared.operation.SignedSize.TheVariants as si
 use Rattle.instruction_set.specs.declared.operation.Size.{Size}
 use Rattle.instruction_set.specs.declared.operation.Size.TheVariants.{Byte, HalfWord, Word, DoubleWord}
 use Rattle.program_meaning.specs.Cause as machine
-use Rattle.program_meaning.specs.Cause.{causes_of_effect, emits_badly, emits_outside, holds, is_emit, is_inside_wide, is_not_writable, is_nowhere, is_outside, least_cause, next_slot, slot_in}
+use Rattle.program_meaning.specs.Cause.{causes_of_effect, emits_badly, emits_outside, holds, is_inside_wide, is_not_writable, is_nowhere, is_outside, least_cause, next_slot, slot_in}
 use Rattle.program_meaning.specs.Effect.{address_from, operand, register}
 use Rattle.program_meaning.specs.Memory.{lies_in, area_offset_of}
 use Rattle.program_interface.specs.Area.{address_of, length_of}
@@ -168,8 +168,8 @@ module _ {D : Type 0} {IsFact : D → Type 0} {contains : D → ℕ → Type 0} 
         let inside = lies area r offset size near counted told in
         rw (long, areas_are_apart block area (address_from s.registers r offset) size fits inside) some
 
-    accesses : (i : Insn) → FitsSigned w16 (first_slot i).offset → loads_outside operations block facts i ≡ false
-        → stores_outside operations block facts i ≡ false
+    accesses : (i : Insn) → FitsSigned w16 (first_slot i).offset → loads_outside operations block facts (access_of i) ≡ false
+        → stores_outside operations block facts (access_of i) ≡ false
         → (machine.loads_outside s i ≡ false) × (machine.stores_outside s i ≡ false)
     accesses (LoadImmediate dst value) near load store = (refl, refl)
     accesses (Load size dst src offset) near load store = (found _ src offset (size_of size) near (size_fits size) refl load, refl)

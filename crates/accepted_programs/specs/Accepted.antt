@@ -1,11 +1,14 @@
 -- Which programs are accepted, and why others aren't (profile).
 use Rattle.std.specs.Prelude.{ℕ, ℤ, zero, suc, Bool, true, false, not, is_some, is_none, ◌+◌, ◌==◌, ◌&&◌, ◌||◌, nat_lt, List, [], ◌∷◌, length, find, Option, Some, None, if◌then◌else◌, pos, int_lt}
 use Rattle.std.specs.Option.{option_map, option_or}
-use Rattle.instruction_set.specs.Instruction.{distance_of, signed_size_of, size_of, target, writes}
+use Rattle.instruction_set.specs.Instruction.{access_of, distance_of, is_emit, target, writes}
 use Rattle.instruction_set.specs.Program.{instruction_at, instruction_in}
+use Rattle.instruction_set.specs.declared.access.Access.{Access}
+use Rattle.instruction_set.specs.declared.access.AccessKind.{AccessKind}
+use Rattle.instruction_set.specs.declared.access.AccessKind.TheVariants as kinds
 use Rattle.instruction_set.specs.declared.insn.Insn.{Insn}
-use Rattle.instruction_set.specs.declared.insn.Insn.TheVariants.{Load, LoadSigned, StoreImmediate, StoreRegister, Jump, JumpLong, Exit}
-use Rattle.program_meaning.specs.Cause.{calls_unknown, is_emit, slot_in}
+use Rattle.instruction_set.specs.declared.insn.Insn.TheVariants.{Jump, JumpLong, Exit}
+use Rattle.program_meaning.specs.Cause.{calls_unknown, slot_in}
 use Rattle.program_interface.specs.Area.{is_writable}
 use Rattle.program_interface.specs.declared.area.Area.{Area}
 use Rattle.program_interface.specs.RunSizes.{Sizes}
@@ -57,21 +60,31 @@ abbrev pub is_unwritable : Option Area → Bool
 is_unwritable None = true
 is_unwritable (Some area) = not (is_writable area)
 
+-- a load wants an area that has its bytes
+abbrev pub hinders_load : AccessKind → Option Area → Bool
+hinders_load kinds.Load area = is_none area
+hinders_load kinds.Store area = false
+
+-- a store wants one that can be written
+abbrev pub hinders_store : AccessKind → Option Area → Bool
+hinders_store kinds.Load area = false
+hinders_store kinds.Store area = is_unwritable area
+
 abbrev pub refused_at : ℕ → Reason → Refusal
 refused_at slot reason = record { slot = slot; reason = reason }
 
 module _ {D : Type 0} (operations : Operations D) where
-  abbrev pub loads_outside : ℕ → Facts D → Insn → Bool
-  loads_outside block facts (Load size dst src offset) = is_none (area_of operations block facts src offset (size_of size))
-  loads_outside block facts (LoadSigned size dst src offset) = is_none (area_of operations block facts src offset (signed_size_of size))
-  loads_outside block facts _ = false
+  -- the area that holds the bytes of an access
+  abbrev pub area_accessed : ℕ → Facts D → Access → Option Area
+  area_accessed block facts access = area_of operations block facts access.base access.offset access.size
 
-  abbrev pub stores_outside : ℕ → Facts D → Insn → Bool
-  stores_outside block facts (StoreImmediate size dst offset value) =
-      is_unwritable (area_of operations block facts dst offset (size_of size))
-  stores_outside block facts (StoreRegister size dst src offset) =
-      is_unwritable (area_of operations block facts dst offset (size_of size))
-  stores_outside block facts _ = false
+  abbrev pub loads_outside : ℕ → Facts D → Option Access → Bool
+  loads_outside block facts (Some access) = hinders_load access.kind (area_accessed block facts access)
+  loads_outside block facts None = false
+
+  abbrev pub stores_outside : ℕ → Facts D → Option Access → Bool
+  stores_outside block facts (Some access) = hinders_store access.kind (area_accessed block facts access)
+  stores_outside block facts None = false
 
   -- the least and the greatest length that emit can be given
   abbrev pub least_length : Facts D → ℕ
@@ -87,8 +100,8 @@ module _ {D : Type 0} (operations : Operations D) where
     fails slot facts i JumpOutside = leads_nowhere program slot (distance_of i)
     fails slot facts i FallsOff = if turns_away i then false else not (begins_at program (pos (slot_behind slot i)))
     fails slot facts i WriteToFramePointer = writes i 10
-    fails slot facts i LoadOutside = loads_outside sizes.block facts i
-    fails slot facts i StoreOutside = stores_outside sizes.block facts i
+    fails slot facts i LoadOutside = loads_outside sizes.block facts (access_of i)
+    fails slot facts i StoreOutside = stores_outside sizes.block facts (access_of i)
     fails slot facts i UnknownHelper = calls_unknown i
     fails slot facts i EmitAddress = is_emit i && is_none (area_of operations sizes.block facts 1 (pos 0) 0)
     fails slot facts i EmitLength =

@@ -49,8 +49,8 @@ module _ {D : Type 0} (operations : Operations D) where
   with_fact facts r d = record facts { registers = set facts.registers r d }
 
   -- what is known at the start of a block run
-  abbrev pub entry_facts : Facts D
-  entry_facts = record {
+  abbrev pub facts_at_start : Facts D
+  facts_at_start = record {
     registers =
         operations.constant 0 ∷ operations.pointer Context 0 ∷ operations.pointer Block 0 ∷ operations.pointer Scratch 0
         ∷ operations.constant 0 ∷ operations.constant 0 ∷ operations.constant 0 ∷ operations.constant 0
@@ -197,7 +197,7 @@ module _ {D : Type 0} (operations : Operations D) where
     -- the join of what the slots below this one give to another, in their order; the first slot has the
     -- facts of the start
     abbrev pub given_below : List (Option Insn) → ℕ → ℕ → Option (Facts D)
-    given_below program zero other = if other == 0 then Some entry_facts else None
+    given_below program zero other = if other == 0 then Some facts_at_start else None
     given_below program (suc slot) other =
         gives (instruction_at program slot) slot (given_below program slot slot) other (given_below program slot other)
 

@@ -3,7 +3,7 @@ use Rattle.std.specs.Prelude.{ℕ, ◌≡◌, ◌<◌, ◌≤◌, List, length, 
 use Rattle.instruction_set.specs.Program.{IsProgram, instruction_count}
 use Rattle.instruction_set.specs.declared.insn.Insn.{Insn}
 use Rattle.program_meaning.specs.BlockRun.{block_run_of}
-use Rattle.program_meaning.specs.State.{IsState, entry}
+use Rattle.program_meaning.specs.State.{IsState, at_start}
 use Rattle.program_meaning.specs.TrapFree.{NeverTraps}
 use Rattle.program_interface.specs.RunSizes.{AreSizes, Sizes}
 use Rattle.program_interface.specs.declared.TheConstants.{MOST_SLOTS}
@@ -23,8 +23,8 @@ AcceptedNeverTraps operations = (program : List (Option Insn)) → IsProgram pro
 abbrev pub AcceptedEmitsNoMore : {D : Type 0} → Operations D → Type 0
 AcceptedEmitsNoMore operations = (program : List (Option Insn)) → IsProgram program → (sizes : Sizes) → AreSizes sizes
     → refusal operations program sizes ≡ None
-    → (bytes context scratch : List ℕ) → length bytes ≡ sizes.block → IsState (entry bytes context scratch)
-    → length (block_run_of program sizes.limit (instruction_count program) 0 (entry bytes context scratch)).state.group
+    → (bytes context scratch : List ℕ) → length bytes ≡ sizes.block → IsState (at_start bytes context scratch)
+    → length (block_run_of program sizes.limit (instruction_count program) 0 (at_start bytes context scratch)).state.group
     ≤ most_emitted operations program sizes.block
 
 -- the slot of a refusal is one of the program's, and so below the most slots of a program

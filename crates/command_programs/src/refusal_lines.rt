@@ -2,7 +2,7 @@
 
 use accepted_programs::{Facts, Reason};
 use command_files::Counted;
-use instruction_set::{Insn, Operation, Register, Source};
+use instruction_set::{Access, Insn, Operation, Register, Source};
 use interval_domain::{Fact, Intervals};
 use program_interface::{Area, EMIT, FRAME_LENGTH_BYTES, RunSizes};
 use std::io::{self, Write};
@@ -54,21 +54,21 @@ impl Refused<'_> {
 
     /// Where the register of an address may point so that all bytes of the access lie in its area.
     fn tell_access<O: Write>(&self, out: &mut O) -> io::Result<()> {
-        match Access::of(self.insn) {
-            Some(access) => self.tell_allowed(access, out),
+        match self.insn.access() {
+            Some(access) => self.tell_accessed(access, out),
             None => writeln!(out, "of no bytes"),
         }
     }
 
     /// The same of a store, or that the area is one to read.
     fn tell_store<O: Write>(&self, out: &mut O) -> io::Result<()> {
-        match Access::of(self.insn) {
+        match self.insn.access() {
             Some(access) => match self.fact(access.base) {
                 Fact::Pointer { area, .. } if !area.is_writable() => {
                     let number = access.base.number();
                     writeln!(out, "r{number} leads to what a program can only read")
                 }
-                _ => self.tell_allowed(access, out),
+                _ => self.tell_accessed(access, out),
             },
             None => writeln!(out, "of no bytes"),
         }
@@ -76,31 +76,37 @@ impl Refused<'_> {
 
     /// The address of an emit, which has to lie in an area or at its end.
     fn tell_address<O: Write>(&self, out: &mut O) -> io::Result<()> {
-        let access = Access {
-            base: Register::from_number(1),
-            offset: 0,
-            size: 0,
-        };
-        self.tell_allowed(access, out)
+        self.tell_allowed(Register::R1, 0, 0, out)
     }
 
-    fn tell_allowed<O: Write>(&self, access: Access, out: &mut O) -> io::Result<()> {
-        let number = access.base.number();
-        let size = Counted(u64::from(access.size), "byte");
-        let Fact::Pointer { area, .. } = self.fact(access.base) else {
+    fn tell_accessed<O: Write>(&self, access: Access, out: &mut O) -> io::Result<()> {
+        self.tell_allowed(access.base, access.offset, access.size, out)
+    }
+
+    /// Where a register may point, so that so many bytes at an offset from there lie in its area.
+    fn tell_allowed<O: Write>(
+        &self,
+        base: Register,
+        offset: i16,
+        size: u8,
+        out: &mut O,
+    ) -> io::Result<()> {
+        let number = base.number();
+        let Fact::Pointer { area, .. } = self.fact(base) else {
             return writeln!(out, "r{number} isn't known to be an address");
         };
-        let allowed = offsets_allowed(area, self.length(area), access.offset, access.size);
-        if access.size == 0 {
+        let allowed = offsets_allowed(area, self.length(area), offset, size);
+        if size == 0 {
             writeln!(out, "r{number} may be {allowed}")
         } else {
-            writeln!(out, "for {size} r{number} may be {allowed}")
+            let bytes = Counted(u64::from(size), "byte");
+            writeln!(out, "for {bytes} r{number} may be {allowed}")
         }
     }
 
     /// How many bytes an emit can take, from its address to the end of the area.
     fn tell_length<O: Write>(&self, out: &mut O) -> io::Result<()> {
-        let Fact::Pointer { area, high, .. } = self.fact(Register::from_number(1)) else {
+        let Fact::Pointer { area, high, .. } = self.fact(Register::R1) else {
             return writeln!(out, "r1 isn't known to be an address");
         };
         let most = bytes_behind(self.length(area), high);
@@ -114,7 +120,7 @@ impl Refused<'_> {
     /// What the group has with this emit, and what it may have.
     fn tell_budget<O: Write>(&self, out: &mut O) -> io::Result<()> {
         let (emitted, limit) = (self.facts.emitted as u64, self.sizes.limit());
-        let most = self.facts.get(Register::from_number(2)).bounds().high;
+        let most = self.facts.get(Register::R2).bounds().high;
         let before = Counted(emitted, "byte");
         let frame = Counted(most, "byte");
         let length = FRAME_LENGTH_BYTES as u64;
@@ -149,7 +155,7 @@ impl Refused<'_> {
 }
 
 /// Where an address may lie, so that so many bytes at an offset from it lie in an area of this length.
-fn offsets_allowed(area: Area, length: u32, offset: i16, size: u32) -> Offsets {
+fn offsets_allowed(area: Area, length: u32, offset: i16, size: u8) -> Offsets {
     let low = -i64::from(offset);
     let high = low + i64::from(length) - i64::from(size);
     Offsets { area, low, high }
@@ -158,52 +164,6 @@ fn offsets_allowed(area: Area, length: u32, offset: i16, size: u32) -> Offsets {
 /// The bytes of an area of this length from an offset on.
 fn bytes_behind(length: u32, offset: i32) -> i64 {
     i64::from(length) - i64::from(offset)
-}
-
-/// Bytes that an instruction loads or stores: so many, from a register's address and an offset on.
-#[derive(Clone, Copy)]
-struct Access {
-    base: Register,
-    offset: i16,
-    size: u32,
-}
-
-impl Access {
-    /// The bytes that an instruction loads or stores, if it does.
-    fn of(insn: &Insn) -> Option<Access> {
-        let (base, offset, size) = match *insn {
-            Insn::Load {
-                size,
-                src,
-                offset,
-                ..
-            } => (src, offset, size.bytes()),
-            Insn::LoadSigned {
-                size,
-                src,
-                offset,
-                ..
-            } => (src, offset, size.bytes()),
-            Insn::StoreImmediate {
-                size,
-                dst,
-                offset,
-                ..
-            }
-            | Insn::StoreRegister {
-                size,
-                dst,
-                offset,
-                ..
-            } => (dst, offset, size.bytes()),
-            _ => return None,
-        };
-        Some(Access {
-            base,
-            offset,
-            size: size as u32,
-        })
-    }
 }
 
 fn tell_helper<O: Write>(insn: &Insn, out: &mut O) -> io::Result<()> {
@@ -230,10 +190,7 @@ fn registers_read(insn: &Insn) -> [Option<Register>; 2] {
         Insn::Arithmetic { dst, source, .. } | Insn::Branch { dst, source, .. } => {
             both(dst, source)
         }
-        Insn::Call { helper: EMIT } => [
-            Some(Register::from_number(1)),
-            Some(Register::from_number(2)),
-        ],
+        Insn::Call { helper: EMIT } => [Some(Register::R1), Some(Register::R2)],
         Insn::LoadImmediate { .. }
         | Insn::Jump { .. }
         | Insn::JumpLong { .. }

@@ -24,8 +24,8 @@ impl Emitting {
     /// What emit would take of a machine now.
     pub(crate) fn by(machine: &Machine<'_>) -> Emitting {
         Emitting {
-            address: machine.register(Register::from_number(1)),
-            length: machine.register(Register::from_number(2)),
+            address: machine.register(Register::R1),
+            length: machine.register(Register::R2),
         }
     }
 
@@ -89,7 +89,7 @@ fn tell_emit<O: Write>(emitting: Emitting, out: &mut O) -> io::Result<()> {
 /// nothing is left).
 fn changed(insn: &Insn) -> Option<Register> {
     if let Insn::Call { .. } = *insn {
-        return Some(Register::from_number(0));
+        return Some(Register::R0);
     }
     (0..REGISTERS as u8)
         .map(|number| Register::from_number(number))

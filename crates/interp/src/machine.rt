@@ -10,7 +10,7 @@ mod step;
 ghost use Rattle.std.specs.Prelude.{◌<◌, ◌≤◌, ◌^◌, length};
 
 pub use exit::Exit;
-use program_interface::{CONTEXT_BYTES, REGISTERS, SCRATCH_BYTES, STACK_BYTES, entry_registers};
+use program_interface::{CONTEXT_BYTES, REGISTERS, SCRATCH_BYTES, STACK_BYTES, start_registers};
 pub use step::{Flow, Step};
 
 /// A machine over one block: its registers, its stack, and what it borrows.
@@ -33,7 +33,7 @@ pub struct Machine<'a> {
 impl<'a> Machine<'a> {
     ghost use Rattle.std.specs.Prelude.{◌≡◌, ◌<◌, ◌^◌, ℕ, List, length, slice_index};
     ghost use Rattle.interp.specs.Machine.{IsNew, block_length, frames_of, group_length, memory_of, scratch_name, machine_slot, state_at, machine_state, steps_of};
-    ghost use Rattle.program_meaning.specs.State.{entry};
+    ghost use Rattle.program_meaning.specs.State.{at_start};
 
     /// A machine at the start of a block run, at slot 0: R1, R2 and R3 are the addresses of
     /// context, block and scratch, R10 is the end of the stack, all else is 0 (profile).
@@ -44,7 +44,7 @@ impl<'a> Machine<'a> {
         scratch: &'a mut [u8; SCRATCH_BYTES],
     ) -> Machine<'a>
         requires { length block.now < 2 ^ 32 }
-        ensures state { (group : List ℕ) → machine_state result group ≡ entry block.now context.now scratch.old }
+        ensures state { (group : List ℕ) → machine_state result group ≡ at_start block.now context.now scratch.old }
         ensures new { IsNew result }
         ensures block { block_length result ≡ length block.now }
         ensures slot { machine_slot result ≡ 0 }
@@ -57,7 +57,7 @@ impl<'a> Machine<'a> {
             context,
             scratch,
             stack: [0; STACK_BYTES],
-            registers: entry_registers(),
+            registers: start_registers(),
             slot: 0,
             steps: 0,
             group_len: 0,

@@ -2,7 +2,7 @@ pub mod Area
 pub mod BlockSize
 pub mod Bytes
 pub mod Context
-pub mod Entry
 pub mod Frame
 pub mod Gives
+pub mod Registers
 pub mod RunSizes

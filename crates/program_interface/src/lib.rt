@@ -1,5 +1,5 @@
 //! What the device promises a program: the sizes of a block and of what may be emitted for one, the
-//! areas of memory, the context, the registers at entry, the form of what is emitted, and the largest
+//! areas of memory, the context, the registers at the start, the form of what is emitted, and the largest
 //! program.
 //! `examples/pifnjarl.h` says the same to programs in C.
 #![tactic(auto)]
@@ -7,9 +7,9 @@
 mod area;
 mod block_size;
 mod context;
-mod entry;
 mod frame;
 pub mod laws;
+mod registers;
 mod run_sizes;
 #[cfg(test)]
 mod tests;
@@ -17,8 +17,8 @@ mod tests;
 pub use area::{Area, CONTEXT_BYTES, SCRATCH_BYTES, STACK_BYTES};
 pub use block_size::{BLOCK_SIZES, BlockSize, LARGEST_BLOCK};
 pub use context::Context;
-pub use entry::{CLEARED_REGISTERS, REGISTERS, entry_registers};
 pub use frame::{EMIT, FRAME_LENGTH_BYTES};
+pub use registers::{CLEARED_REGISTERS, REGISTERS, start_registers};
 pub use run_sizes::RunSizes;
 
 /// The most slots of 8 bytes that a program has (profile).

@@ -1,6 +1,6 @@
 //! The block sizes, and the context of a worked example.
 
-use crate::{Area, BLOCK_SIZES, BlockSize, Context, MOST_SLOTS, RunSizes, entry_registers};
+use crate::{Area, BLOCK_SIZES, BlockSize, Context, MOST_SLOTS, RunSizes, start_registers};
 
 #[test]
 fn knows_the_block_sizes(rt: HostRuntime) {
@@ -48,7 +48,7 @@ fn tells_a_program_of_its_block(rt: HostRuntime) {
 
 #[test]
 fn starts_with_the_areas_at_hand(rt: HostRuntime) {
-    let registers = entry_registers();
+    let registers = start_registers();
     assert_eq!(rt; registers[2], Area::Block.address());
     assert_eq!(rt; registers[10], Area::Stack.address() + 512);
     assert_eq!(rt; Area::Scratch.length(512), 1024);

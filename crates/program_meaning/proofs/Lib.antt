@@ -1,10 +1,10 @@
 mod CauseLemmas
-mod Entry
 mod Groups
 mod MapLemmas
 mod MemoryLemmas
 mod Placed
 mod Running
+mod Start
 mod StateLemmas
 mod Statements
 mod WordLemmas

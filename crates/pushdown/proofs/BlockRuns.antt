@@ -10,9 +10,9 @@ use Rattle.program_interface.specs.RunSizes.{AreSizes}
 use Rattle.program_interface.specs.declared.area.Area.TheVariants.{Scratch}
 use Rattle.program_meaning.specs.Laws.{IsInRun}
 use Rattle.program_meaning.specs.BlockRun.{BlockRun}
-use Rattle.program_meaning.specs.State.{IsState, entry}
+use Rattle.program_meaning.specs.State.{IsState, at_start}
 use Rattle.program_meaning.specs.TrapFree.{Exits, NeverTraps}
-use Rattle.program_meaning.proofs.Proved.{ends_in_run, entry_is_in_run, entry_is_state}
+use Rattle.program_meaning.proofs.Proved.{ends_in_run, start_is_in_run, start_is_state}
 use Rattle.emit_append.specs.OutputBlocks.{AreBytes as AllAreBytes}
 use Rattle.program_interface.specs.Bytes.{AreBytes}
 use Rattle.pushdown.specs.BlockRuns.{Task, block_run, block_runs, context, frames_of, goes_on, no_scratch, runs_of, scratch_after, until_ended}
@@ -55,9 +55,9 @@ pub record IsDone (task : Task) (run : BlockRun) : Type 0 where
   pub scratch : IsScratch (scratch_after run)
 
 module _ (task : Task) (ready : IsReady task) where
-  starts : (index : ℕ) (scratch bytes : List ℕ) → IsScratch scratch → IsBlock task.sizes.block bytes → IsState (entry bytes (context task index) scratch)
+  starts : (index : ℕ) (scratch bytes : List ℕ) → IsScratch scratch → IsBlock task.sizes.block bytes → IsState (at_start bytes (context task index) scratch)
   starts index scratch bytes is block =
-      entry_is_state bytes (context task index) scratch (rw block.whole ready.small) refl is.long
+      start_is_state bytes (context task index) scratch (rw block.whole ready.small) refl is.long
       block.are (by_index (context task index) (context_are task index)) is.are
 
   pub one_done : (index : ℕ) (scratch bytes : List ℕ) → IsScratch scratch → IsBlock task.sizes.block bytes → IsDone task (block_run task index scratch bytes)
@@ -65,7 +65,7 @@ module _ (task : Task) (ready : IsReady task) where
       let limit = task.sizes.limit in
       let told = context task index in
       let start = starts index scratch bytes is block in
-      let last = ends_in_run task.program limit (instruction_count task.program) 0 (entry bytes told scratch) (entry_is_in_run limit bytes told scratch start) in
+      let last = ends_in_run task.program limit (instruction_count task.program) 0 (at_start bytes told scratch) (start_is_in_run limit bytes told scratch start) in
       record {
         exits = ready.never bytes told scratch block.whole start;
         in_run = last;

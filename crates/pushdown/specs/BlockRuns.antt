@@ -6,7 +6,7 @@ use Rattle.program_interface.specs.Context.{context_bytes}
 use Rattle.program_interface.specs.RunSizes.{Sizes}
 use Rattle.program_interface.specs.declared.area.TheConstants.{SCRATCH_BYTES}
 use Rattle.program_meaning.specs.BlockRun.{BlockRun, block_run_of}
-use Rattle.program_meaning.specs.State.{entry}
+use Rattle.program_meaning.specs.State.{at_start}
 use Rattle.program_meaning.specs.declared.end.End.{End}
 use Rattle.program_meaning.specs.declared.end.End.TheVariants as end
 
@@ -31,7 +31,7 @@ context task index = context_bytes (record {
 
 -- a program on one block, with as much fuel as it has instructions
 abbrev pub run_over : List (Option Insn) → ℕ → List ℕ → List ℕ → List ℕ → BlockRun
-run_over program limit bytes context scratch = block_run_of program limit (instruction_count program) 0 (entry bytes context scratch)
+run_over program limit bytes context scratch = block_run_of program limit (instruction_count program) 0 (at_start bytes context scratch)
 
 -- the run's program on one block
 abbrev pub block_run : Task → ℕ → List ℕ → List ℕ → BlockRun

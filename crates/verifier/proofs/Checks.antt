@@ -3,11 +3,10 @@ use Rattle.std.proofs.Common.{ℕ, ℤ, ◌+◌, ◌≡◌, ◌<◌, ◌≤◌, 
 use Rattle.std.proofs.Math.Facts.{yes_leb, yes_ltb}
 use Rattle.std.proofs.lemmas.Bool.Decides.{nat_tests}
 use Rattle.std.proofs.lemmas.Option.{slice_get_within}
-use Rattle.instruction_set.specs.Instruction.{distance_of, target}
+use Rattle.instruction_set.specs.Instruction.{distance_of, is_emit, target}
 use Rattle.instruction_set.specs.Program.{instruction_in}
 use Rattle.instruction_set.specs.declared.insn.Insn.{Insn}
 use Rattle.instruction_set.specs.declared.insn.Insn.TheVariants.{LoadImmediate, Load, LoadSigned, StoreImmediate, StoreRegister, Arithmetic, Negate, MoveSigned, SwapBytes, Jump, JumpLong, Branch, Call, Exit}
-use Rattle.program_meaning.specs.Cause.{is_emit}
 use Rattle.program_interface.specs.declared.block_size.TheConstants.{LARGEST_BLOCK}
 use Rattle.program_interface.specs.RunSizes.{Sizes}
 use Rattle.word_domain.specs.Domain.{Operations}

@@ -1,6 +1,6 @@
 -- Lists of facts that are made from the front.
 use Rattle.std.proofs.Common.{◌≡◌, ℕ, zero, suc, ◌+◌, ◌<◌, ◌++◌, List, [], ◌∷◌, length, get_or, set, drop, replicate, Option, refl, ap, arith, add-one, subst}
-use Rattle.program_interface.specs.declared.entry.TheConstants.{REGISTERS}
+use Rattle.program_interface.specs.declared.registers.TheConstants.{REGISTERS}
 use Rattle.word_domain.specs.Domain.{Operations}
 use Rattle.accepted_programs.specs.Cells.{join_cell, join_cells}
 use Rattle.accepted_programs.specs.Facts.{join_registers}

@@ -1,7 +1,7 @@
 -- How many bytes facts take.
 use Rattle.std.proofs.Common.{ℕ, ◌+◌, ◌*◌, ◌-◌, ◌%◌, ◌^◌, ◌<◌, ◌≤◌, max, arith}
 use Rattle.std.proofs.Math.Nat.{mod-le}
-use Rattle.program_interface.specs.declared.entry.TheConstants.{REGISTERS}
+use Rattle.program_interface.specs.declared.registers.TheConstants.{REGISTERS}
 use Rattle.accepted_programs.specs.declared.facts.TheConstants.{CELLS}
 use prog.Memory.{pad, up}
 

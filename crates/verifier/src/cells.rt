@@ -61,7 +61,8 @@ fn has_byte(cell: usize, first: i128, last: i128) -> bool
     ensures { result ≡ cell_has_byte cell first last }
 {
     let start = (CELL_BYTES * cell) as i128;
-    first <= start + 7 && start <= last
+    let last_of_cell = start + (CELL_BYTES as i128 - 1);
+    first <= last_of_cell && start <= last
 }
 
 /// Forgets the cells that have a byte from one distance to another.

@@ -1,13 +1,14 @@
 //! The reasons to refuse an instruction, in the order of their numbers.
 
 ghost use Rattle.std.specs.Prelude.{◌≡◌, ◌<◌, ◌≤◌, ◌^◌, ◌+◌, nat_lt, ◌&&◌, ◌||◌, ◌==◌, is_none, pos, not, false, if◌then◌else◌, Option, Some, None};
-ghost use Rattle.program_meaning.specs.Cause.{calls_unknown as insn_calls_unknown, is_emit as insn_is_emit};
-ghost use Rattle.accepted_programs.specs.Accepted.{begins_at, fails, goes_back as distance_goes_back, greatest_length, is_unwritable, leads_nowhere as distance_leads_nowhere, least_length, loads_outside as insn_loads_outside, reason_of, stores_outside as insn_stores_outside, turns_away as insn_turns_away};
+ghost use Rattle.instruction_set.specs.Instruction.{access_of};
+ghost use Rattle.program_meaning.specs.Cause.{calls_unknown as insn_calls_unknown};
+ghost use Rattle.accepted_programs.specs.Accepted.{area_accessed as area_of_access, begins_at, fails, goes_back as distance_goes_back, greatest_length, is_unwritable as area_is_unwritable, leads_nowhere as distance_leads_nowhere, least_length, loads_outside as access_loads_outside, reason_of, stores_outside as access_stores_outside, turns_away as insn_turns_away};
 ghost use Rattle.accepted_programs.specs.Facts.{area_of, slot_behind as insn_slot_behind};
 ghost use Rattle.accepted_programs.specs.declared.reason.Reason.TheVariants.{EmitAddress, EmitBudget, EmitLength, FallsOff};
 
 use accepted_programs::{Facts, Reason};
-use instruction_set::{Insn, Program, Register};
+use instruction_set::{Access, AccessKind, Insn, Program, Register};
 use program_interface::{Area, BlockSize, EMIT, FRAME_LENGTH_BYTES, MOST_SLOTS, RunSizes};
 use word_domain::Domain;
 
@@ -82,31 +83,32 @@ fn area<D: Domain>(
     facts.get(register).access(block, offset, size)
 }
 
+/// The same of an instruction's own.
+#[inline]
+fn area_accessed<D: Domain>(block: BlockSize, facts: &Facts<D>, access: Access) -> Option<Area>
+    ensures { result ≡ area_of_access D.operations block facts.now access }
+{
+    let size = u64::from(access.size);
+    area(block, facts, access.base, access.offset, size)
+}
+
 #[inline]
 fn loads_outside<D: Domain>(block: BlockSize, facts: &Facts<D>, insn: &Insn) -> bool
-    ensures { result ≡ insn_loads_outside D.operations block facts.now insn.now }
+    ensures { result ≡ access_loads_outside D.operations block facts.now (access_of insn.now) }
 {
-    match *insn {
-        Insn::Load {
-            size,
-            src,
-            offset,
-            ..
-        } => area(block, facts, src, offset, size.bytes()).is_none(),
-        Insn::LoadSigned {
-            size,
-            src,
-            offset,
-            ..
-        } => area(block, facts, src, offset, size.bytes()).is_none(),
-        _ => false,
+    match insn.access() {
+        Some(access) => match access.kind {
+            AccessKind::Load => area_accessed(block, facts, access).is_none(),
+            AccessKind::Store => false,
+        },
+        None => false,
     }
 }
 
 /// May it be that an area can't be written, or that there is none?
 #[inline]
-fn hinders_store(area: Option<Area>) -> bool
-    ensures { result ≡ is_unwritable area }
+fn is_unwritable(area: Option<Area>) -> bool
+    ensures { result ≡ area_is_unwritable area }
 {
     match area {
         Some(area) => !area.is_writable(),
@@ -116,33 +118,14 @@ fn hinders_store(area: Option<Area>) -> bool
 
 #[inline]
 fn stores_outside<D: Domain>(block: BlockSize, facts: &Facts<D>, insn: &Insn) -> bool
-    ensures { result ≡ insn_stores_outside D.operations block facts.now insn.now }
+    ensures { result ≡ access_stores_outside D.operations block facts.now (access_of insn.now) }
 {
-    match *insn {
-        Insn::StoreImmediate {
-            size,
-            dst,
-            offset,
-            ..
-        }
-        | Insn::StoreRegister {
-            size,
-            dst,
-            offset,
-            ..
-        } => hinders_store(area(block, facts, dst, offset, size.bytes())),
-        _ => false,
-    }
-}
-
-/// Is this a call of the helper that emits a record?
-#[inline]
-fn is_emit(insn: &Insn) -> bool
-    ensures { result ≡ insn_is_emit insn.now }
-{
-    match *insn {
-        Insn::Call { helper } => helper == EMIT,
-        _ => false,
+    match insn.access() {
+        Some(access) => match access.kind {
+            AccessKind::Load => false,
+            AccessKind::Store => is_unwritable(area_accessed(block, facts, access)),
+        },
+        None => false,
     }
 }
 
@@ -156,13 +139,21 @@ fn calls_unknown(insn: &Insn) -> bool
     }
 }
 
+/// May it be that the address to emit from lies in no area?
+#[inline]
+fn emits_from_nowhere<D: Domain>(block: BlockSize, facts: &Facts<D>) -> bool
+    ensures { result ≡ is_none (area_of D.operations block facts.now 1 (pos 0) 0) }
+{
+    area(block, facts, Register::R1, 0, 0).is_none()
+}
+
 /// May there be no bytes to emit, or more than the area has?
 #[inline]
 fn emits_amiss<D: Domain>(block: BlockSize, facts: &Facts<D>) -> bool
     ensures { result ≡ (least_length D.operations facts.now == 0 || is_none (area_of D.operations block facts.now 1 (pos 0) (greatest_length D.operations facts.now))) }
 {
-    let bounds = facts.registers[2].bounds();
-    bounds.low == 0 || facts.registers[1].access(block, 0, bounds.high).is_none()
+    let bounds = facts.get(Register::R2).bounds();
+    bounds.low == 0 || area(block, facts, Register::R1, 0, bounds.high).is_none()
 }
 
 /// May a frame take the group over its limit?
@@ -170,7 +161,7 @@ fn emits_amiss<D: Domain>(block: BlockSize, facts: &Facts<D>) -> bool
 fn passes_limit<D: Domain>(limit: u32, facts: &Facts<D>) -> bool
     ensures { result ≡ nat_lt limit (facts.now.emitted + 2 + greatest_length D.operations facts.now) }
 {
-    let most = u128::from(facts.registers[2].bounds().high);
+    let most = u128::from(facts.get(Register::R2).bounds().high);
     facts.emitted as u128 + FRAME_LENGTH_BYTES as u128 + most > u128::from(limit)
 }
 
@@ -201,9 +192,9 @@ pub fn find_reason<D: Domain>(
         Reason::StoreOutside
     } else if calls_unknown(insn) {
         Reason::UnknownHelper
-    } else if !is_emit(insn) {
+    } else if !insn.is_emit() {
         return None;
-    } else if facts.registers[1].access(block, 0, 0).is_none() {
+    } else if emits_from_nowhere(block, facts) {
         Reason::EmitAddress
     } else if emits_amiss(block, facts) {
         Reason::EmitLength

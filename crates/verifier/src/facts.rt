@@ -1,7 +1,7 @@
 //! What is known where a slot is reached: at the start, and where ways come together.
 
 ghost use Rattle.std.specs.Prelude.{◌≡◌};
-ghost use Rattle.accepted_programs.specs.Facts.{entry_facts, join_facts, join_registers as registers_joined};
+ghost use Rattle.accepted_programs.specs.Facts.{facts_at_start, join_facts, join_registers as registers_joined};
 
 use crate::cells::join as join_cells;
 use accepted_programs::{CELLS, Facts};
@@ -9,8 +9,8 @@ use program_interface::{Area, REGISTERS, STACK_BYTES};
 use word_domain::Domain;
 
 /// What is known at the start of a block run.
-pub(crate) fn entry<D: Domain>() -> Facts<D>
-    ensures { result ≡ entry_facts D.operations }
+pub(crate) fn at_start<D: Domain>() -> Facts<D>
+    ensures { result ≡ facts_at_start D.operations }
 {
     let zero = D::constant(0);
     Facts {

@@ -1,12 +1,12 @@
 //! What a verifier says of a program, and what it knows of it.
 
 ghost use Rattle.std.specs.Prelude.{◌≡◌, ◌<◌, ◌≤◌, ◌==◌, if◌then◌else◌, ℕ, length, get_or, None, Some, Option, IfOk};
-ghost use Rattle.accepted_programs.specs.Facts.{entry_facts, given_below};
+ghost use Rattle.accepted_programs.specs.Facts.{facts_at_start, given_below};
 ghost use Rattle.verifier.specs.steps.Rows.{held, held_at};
 ghost use Rattle.accepted_programs.specs.Emitted.{group_in};
 ghost use Rattle.verifier.specs.Judged.{IsJudged};
 
-use crate::facts::entry;
+use crate::facts::at_start;
 use crate::rows::{Refused, Row, visit};
 use accepted_programs::{Facts, Refusal};
 use instruction_set::Program;
@@ -52,20 +52,20 @@ fn empty_rows<D: Domain>(alloc: Global, slots: usize) -> Result<Vec<Row<D>>, All
 }
 
 /// What is known at the start of a block run, in a box.
-fn boxed_entry<D: Domain>(alloc: Global) -> Result<Box<Facts<D>>, AllocError>
-    ensures { IfOk result (λ entry. entry.value ≡ entry_facts D.operations) }
+fn boxed_start<D: Domain>(alloc: Global) -> Result<Box<Facts<D>>, AllocError>
+    ensures { IfOk result (λ facts. facts.value ≡ facts_at_start D.operations) }
 {
-    Ok(Box::new(alloc, entry())?)
+    Ok(Box::new(alloc, at_start())?)
 }
 
 /// The facts for so many slots, before any is visited: those of the start at the first.
 fn first_rows<D: Domain>(alloc: Global, slots: usize) -> Result<Vec<Row<D>>, AllocError>
     requires { 1 ≤ slots }
     ensures len { IfOk result (λ rows. length rows.items ≡ slots) }
-    ensures rows { IfOk result (λ rows. (s : ℕ) → s < slots → held_at rows.items s ≡ (if s == 0 then Some (entry_facts D.operations) else None)) }
+    ensures rows { IfOk result (λ rows. (s : ℕ) → s < slots → held_at rows.items s ≡ (if s == 0 then Some (facts_at_start D.operations) else None)) }
 {
     let mut rows = empty_rows(alloc, slots)?;
-    rows[0] = Some(boxed_entry(alloc)?);
+    rows[0] = Some(boxed_start(alloc)?);
     Ok(rows)
 }
 

@@ -1,5 +1,5 @@
 -- Each address is that of its area.
-use Rattle.program_interface.proofs.entry.entry_registers.Goals as goal
+use Rattle.program_interface.proofs.registers.start_registers.Goals as goal
 
 pub returns : goal.returns
 returns c = cc

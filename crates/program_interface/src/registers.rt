@@ -1,7 +1,7 @@
-//! The registers at entry.
+//! The registers, and what they have at the start of a block's run.
 
 ghost use Rattle.std.specs.Prelude.{◌≡◌};
-ghost use Rattle.program_interface.specs.Entry.{registers_at_entry};
+ghost use Rattle.program_interface.specs.Registers.{registers_at_start};
 
 use crate::area::{Area, STACK_BYTES};
 
@@ -15,8 +15,8 @@ pub const CLEARED_REGISTERS: usize = 6;
 /// The registers at the start of a block's run: R1, R2 and R3 are the addresses of context, block and
 /// scratch, R10 is the end of the stack, and all others are 0 (profile).
 #[inline(always)]
-pub fn entry_registers() -> [u64; REGISTERS]
-    ensures { result ≡ registers_at_entry }
+pub fn start_registers() -> [u64; REGISTERS]
+    ensures { result ≡ registers_at_start }
 {
     [
         0,
