@@ -1,4 +1,5 @@
 mod Answered
+mod ByteLists
 mod Continuing
 mod FramesRead
 mod Layouts

@@ -10,7 +10,7 @@ use Rattle.std.proofs.lemmas.List.{append-nil, drop-take, length-take, length-ta
 use Rattle.byteorder.specs.Endian.{little_number}
 use Rattle.program_interface.specs.Frame.{frame, frames}
 use Rattle.emit_append.specs.Packing.{padded}
-use Rattle.emit_append.specs.OutputBlocks.{AreBytes}
+use Rattle.emit_append.proofs.ByteLists.{AllBytes, by_recursion}
 use Rattle.emit_append.specs.Unpacking.{AreFrames, CanBegin, Reading, RefusedIsLowest, after_frame, and_then, frame_length, frame_record, frames_at, output_block_at, output_blocks_at, then_read, zeros_at}
 use Rattle.emit_append.proofs.FramesRead.{step-frame, step-short, step-zeros}
 use Rattle.emit_append.proofs.OnlyFrames.{IsFrames, bytes_from, bytes_up_to, framed, frames-read, only-frames, record_length}
@@ -79,7 +79,7 @@ length_cut_off offset rest inside =
     omega (arith, inside, length-append (take offset rest) (replicate (length rest - offset) 0), length-take-le offset rest inside, length_zeros (length rest - offset))
 
 -- behind a frame
-cut_off_behind : (rest : List ℕ) (offset : ℕ) → AreBytes rest → 2 + frame_length rest ≤ length rest →
+cut_off_behind : (rest : List ℕ) (offset : ℕ) → AllBytes rest → 2 + frame_length rest ≤ length rest →
     cut_off (2 + frame_length rest + offset) rest ≡ frame (frame_record rest) ++ cut_off offset (after_frame rest)
 cut_off_behind rest offset are long =
     let n = frame_length rest in
@@ -206,7 +206,7 @@ refused_length steps place rest at some short inside here =
           step-short steps place other (omega (arith, front, some)) (omega (arith, front, size, short)) ∙ ap Err (sym here);
     }
 
-refused_behind : (steps place : ℕ) (rest : List ℕ) (at : ℕ) → AreBytes rest → 0 < frame_length rest → 2 + frame_length rest ≤ length rest →
+refused_behind : (steps place : ℕ) (rest : List ℕ) (at : ℕ) → AllBytes rest → 0 < frame_length rest → 2 + frame_length rest ≤ length rest →
     IsRefused steps (place + (2 + frame_length rest)) (after_frame rest) at → IsRefused (suc steps) place rest at
 refused_behind steps place rest at are some long next =
     let n = frame_length rest in
@@ -234,7 +234,7 @@ some_bytes : (rest : List ℕ) → 0 < frame_length rest → 0 < length rest
 some_bytes [] some = absurd (omega (arith, some))
 some_bytes (x ∷ xs) some = omega arith
 
-is_refused : (steps place : ℕ) (rest : List ℕ) (at : ℕ) → length rest ≤ steps → AreBytes rest → frames_at steps place rest ≡ Err at → IsRefused steps place rest at
+is_refused : (steps place : ℕ) (rest : List ℕ) (at : ℕ) → length rest ≤ steps → AllBytes rest → frames_at steps place rest ≡ Err at → IsRefused steps place rest at
 unfolding frames_at
 is_refused zero place rest at few are is = absurd cc
 is_refused (suc steps) place rest at few are is =
@@ -282,7 +282,7 @@ record IsRefusedAmong (count block place : ℕ) (bytes : List ℕ) (at : ℕ) : 
       take upto (take (count * block) other) ≡ take upto (take (count * block) bytes) → output_blocks_at others block place other ≡ Err at)
       ⊎ (offset ≡ count * block)
 
-module _ (count block place : ℕ) (bytes : List ℕ) (at : ℕ) (positive : 0 < block) (long : suc count * block ≤ length bytes) (are : AreBytes bytes) where
+module _ (count block place : ℕ) (bytes : List ℕ) (at : ℕ) (positive : 0 < block) (long : suc count * block ≤ length bytes) (are : AllBytes bytes) where
   here_again : (d : IsRefused (length (take block bytes)) place (take block bytes) at) (other : List ℕ) (others upto : ℕ) →
       others * block ≡ length other → d.offset < length other → d.offset + 2 ≤ upto →
       take upto (take (suc count * block) other) ≡ take upto (take (suc count * block) bytes) → output_blocks_at others block place other ≡ Err at
@@ -379,7 +379,7 @@ module _ (count block place : ℕ) (bytes : List ℕ) (at : ℕ) (positive : 0 <
   by_block (Ok front) read is next = refused_later front read (next (behind_err front _ at is))
   by_block (Err other) read is next = refused_here (read ∙ is)
 
-refused_among : (count block place : ℕ) (bytes : List ℕ) (at : ℕ) → 0 < block → count * block ≤ length bytes → AreBytes bytes → output_blocks_at count block place bytes ≡ Err at →
+refused_among : (count block place : ℕ) (bytes : List ℕ) (at : ℕ) → 0 < block → count * block ≤ length bytes → AllBytes bytes → output_blocks_at count block place bytes ≡ Err at →
     IsRefusedAmong count block place bytes at
 unfolding output_blocks_at
 refused_among zero block place [] at positive long are is = absurd cc
@@ -432,7 +432,7 @@ module _ (block : ℕ) (bytes : List ℕ) (positive : 0 < block) (small : block 
 
 pub refused_is_lowest : RefusedIsLowest
 refused_is_lowest block bytes at positive small are is =
-    let d = refused_among (length bytes / block) block 0 bytes at positive (omega (arith, div-add-mod' (length bytes) block)) are is in
+    let d = refused_among (length bytes / block) block 0 bytes at positive (omega (arith, div-add-mod' (length bytes) block)) (by_recursion bytes are) is in
     let here : at ≡ d.offset = omega (arith, d.is) in
     record {
       inside = omega (arith, here, d.inside);

@@ -1,15 +1,15 @@
--- No packing needs more blocks than `need` tells.
-use Rattle.std.proofs.Common.{◌≡◌, ℕ, zero, suc, ◌+◌, ◌-◌, ◌*◌, ◌/◌, ◌≤◌, ◌<◌, List, [], ◌∷◌, length, refl, ap, ◌∙◌, arith, rules, inl, inr, ⊎_elim, ◌⊎◌}
+-- No packing needs more blocks than `need` tells, and some packing needs as many.
+use Rattle.std.proofs.Common.{◌≡◌, ℕ, zero, suc, ◌+◌, ◌-◌, ◌*◌, ◌/◌, ◌%◌, ◌≤◌, ◌<◌, List, [], ◌∷◌, length, replicate, refl, ap, sym, subst, ◌∙◌, arith, rules, inl, inr, ⊎_elim, ◌⊎◌}
 use Rattle.std.specs.Int.{div_ceil}
 use Rattle.std.specs.List.{AllByRecursion}
-use Rattle.std.proofs.Math.Nat.{div-mul-le_self, lt_of_mul-lt-mul_left, lt_of_mul-lt-mul_right, mul-suc, mul_comm, suc-mul}
+use Rattle.std.proofs.Math.Nat.{div-add-mod', div-mul-le_self, mod-lt, lt_of_mul-lt-mul_left, lt_of_mul-lt-mul_right, mul-suc, mul_comm, suc-mul}
 use Rattle.std.proofs.lemmas.Bool.{cases_lt}
-use Rattle.std.proofs.lemmas.List.{length-map}
+use Rattle.std.proofs.lemmas.List.{length-map, length-replicate}
 use Rattle.std.proofs.lemmas.Nat.{le-div}
 use Rattle.std.proofs.lemmas.Bool.Decides.{nat_tests}
 use Rattle.std.proofs.lemmas.Grind.{div_ceil_times}
 use Rattle.emit_append.specs.Packing.{laid_out, block_fillings, packed, padded}
-use Rattle.emit_append.specs.Need.{NeedGrows, NeedIsEnough, need}
+use Rattle.emit_append.specs.Need.{NeedGrows, NeedIsEnough, NeedIsMet, ReachNeed, need}
 use Rattle.emit_append.proofs.Layouts.{laid-behind, laid-beginning, laid-empty}
 
 zero_or_more : (a l : ℕ) → (a * l ≡ 0) ⊎ (a ≤ a * l)
@@ -80,6 +80,82 @@ enough block (suc limit) groups within all =
 
 pub need_is_enough : NeedIsEnough
 need_is_enough sizes groups within all = enough sizes.block sizes.limit groups within all
+
+-- one of the groups that fit into the room that is left
+one_fits : (long room fit more later : ℕ) → long ≤ room → room < suc fit * long
+    → ((left : ℕ) → room - long < suc left * long → more ≤ left + later) → suc more ≤ fit + later
+one_fits long room zero more later fits most rest = absurd (omega (arith, suc-mul 0 long))
+one_fits long room (suc fit) more later fits most rest =
+    let others = rest fit (omega (arith, suc-mul (suc fit) long)) in
+    omega (arith, others)
+
+-- Groups alike, of which no more than `suc d` fit into a block and `fit` into the room that is left, begin no fewer blocks.
+blocks-many : (block d room fit count : ℕ) (group : List ℕ) → block < suc (suc d) * length group → room < suc fit * length group →
+    count ≤ fit + suc d * length (laid_out block room (replicate count group)).later
+blocks-many block d room fit zero group most left = omega arith
+blocks-many block d room fit (suc count) group most left =
+    ⊎_elim
+    (λ large.
+    let inside : block - length group < suc d * length group = omega (arith, suc-mul (suc d) (length group), suc-mul d (length group)) in
+    let rest = blocks-many block d (block - length group) d count group most inside in
+    let later = length (laid_out block (block - length group) (replicate count group)).later in
+    let more : suc count ≤ fit + suc d * suc later = omega (arith, rest, mul-suc (suc d) later) in
+    rw (laid-beginning block room group (replicate count group) large) more)
+    (λ small.
+    rw (laid-behind block room group (replicate count group) small)
+    (one_fits (length group) room fit count (suc d * length (laid_out block (room - length group) (replicate count group)).later) small left
+    (λ fewer inside. blocks-many block d (room - length group) fewer count group most inside)))
+    (cases_lt room (length group))
+
+-- the least that so many groups come to
+quotient_above : (many groups e : ℕ) → groups ≤ suc e * many → div_ceil groups (suc e) ≤ many
+quotient_above many groups e most =
+    let whole = div_ceil_times groups (suc e) (omega arith) in
+    let turned = mul_comm (div_ceil groups (suc e)) (suc e) in
+    let below : suc e * div_ceil groups (suc e) < suc e * suc many = omega (arith, whole.1, mul-suc (suc e) many) in
+    omega (arith, lt_of_mul-lt-mul_left (suc e) below)
+
+filled-many : (block each count : ℕ) (group : List ℕ) → 0 < each → 0 < length group → block < suc each * length group →
+    div_ceil count each ≤ length (block_fillings block (replicate count group))
+filled-many block zero count group some long most = absurd (omega arith)
+filled-many block (suc d) count group some long most =
+    quotient_above (length (block_fillings block (replicate count group))) count d
+    (omega (arith, blocks-many block d 0 0 count group most (omega (arith, suc-mul 0 (length group)))))
+
+all-alike : (P : List ℕ → Type 0) (count : ℕ) (group : List ℕ) → P group → AllByRecursion P (replicate count group)
+all-alike P zero group is = tt
+all-alike P (suc count) group is = (is, all-alike P count group is)
+
+as_many : (block limit count : ℕ) → limit ≤ block
+    → need count (record { block = block; limit = limit }) ≤ length (packed block (replicate count (replicate limit 0)))
+as_many block zero count within = omega arith
+as_many block (suc limit) count within =
+    let group : List ℕ = replicate (suc limit) 0 in
+    let groups = replicate count group in
+    let each = block / suc limit in
+    let long : length group ≡ suc limit = length-replicate {A = ℕ} (suc limit) 0 in
+    let some : 0 < each = le-div 1 block (suc limit) (omega arith) (omega arith) in
+    let rest : block ≡ each * suc limit + block % suc limit = sym (div-add-mod' block (suc limit)) in
+    let below : block % suc limit < suc limit = mod-lt block (omega arith) in
+    let most : block < suc each * suc limit = omega (arith, rest, below, suc-mul each (suc limit)) in
+    let many = filled-many block each count group some (omega (arith, long)) (subst (λ (n : ℕ). block < suc each * n) (sym long) most) in
+    rw (need-some count block limit, length-map (block_fillings block groups) (padded block)) many
+
+no_fewer : (many most least : ℕ) → many ≤ most → most ≡ least → least ≤ many → many ≡ least
+no_fewer many most least few same not_less = omega (arith, few, same, not_less)
+
+met : (block limit count : ℕ) → limit ≤ block → ReachNeed (record { block = block; limit = limit }) count (replicate count (replicate limit 0))
+met block limit count within =
+    let group : List ℕ = replicate limit 0 in
+    let groups = replicate count group in
+    let number : length groups ≡ count = length-replicate {A = List ℕ} count group in
+    let all = all-alike (λ (one : List ℕ). length one ≤ limit) count group (omega (arith, length-replicate {A = ℕ} limit 0)) in
+    let most = enough block limit groups within all in
+    let same = ap (λ (n : ℕ). need n (record { block = block; limit = limit })) number in
+    record { number = number; within = all; blocks = no_fewer _ _ _ most same (as_many block limit count within) }
+
+pub need_is_met : NeedIsMet
+need_is_met sizes count within = (replicate count (replicate sizes.limit 0), met sizes.block sizes.limit count within)
 
 ceil_grows : (fewer more each : ℕ) → fewer ≤ more → div_ceil fewer each ≤ div_ceil more each
 ceil_grows fewer more zero less = omega arith

@@ -9,17 +9,17 @@ use Rattle.byteorder.specs.Endian.{little_bytes, little_number}
 use Rattle.program_interface.specs.Frame.{frame, frames}
 use Rattle.emit_append.specs.PackedLaw.{FitBlock}
 use Rattle.emit_append.specs.Packing.{padded}
-use Rattle.emit_append.specs.OutputBlocks.{AreBytes}
+use Rattle.emit_append.proofs.ByteLists.{AllBytes, by_recursion}
 use Rattle.emit_append.specs.Unpacking.{AreFrames, Reading, UnpackedIsFrames, after_frame, and_then, frame_length, frame_record, frames_at, output_blocks_at, then_read, unpacked, zeros_at}
 use Rattle.emit_append.proofs.FramesRead.{step-frame, step-short, step-zeros}
 use Rattle.emit_append.proofs.ReadBack.{all_bounded, blocks-read, front_two, length-blocks}
 
-pub bytes_up_to : (n : ℕ) (xs : List ℕ) → AreBytes xs → AreBytes (take n xs)
+pub bytes_up_to : (n : ℕ) (xs : List ℕ) → AllBytes xs → AllBytes (take n xs)
 bytes_up_to zero xs are = tt
 bytes_up_to (suc n) [] are = tt
 bytes_up_to (suc n) (x ∷ xs) are = (are.0, bytes_up_to n xs are.1)
 
-pub bytes_from : (n : ℕ) (xs : List ℕ) → AreBytes xs → AreBytes (drop n xs)
+pub bytes_from : (n : ℕ) (xs : List ℕ) → AllBytes xs → AllBytes (drop n xs)
 bytes_from zero xs are = are
 bytes_from (suc n) [] are = tt
 bytes_from (suc n) (x ∷ xs) are = bytes_from n xs are.1
@@ -57,7 +57,7 @@ pub record_length : (rest : List ℕ) → 2 + frame_length rest ≤ length rest 
 record_length rest long = length-take-le (frame_length rest) (drop 2 rest) (omega (arith, long, length-drop 2 rest))
 
 -- a frame and what is behind it
-pub framed : (rest : List ℕ) → AreBytes rest → 2 + frame_length rest ≤ length rest → rest ≡ frame (frame_record rest) ++ after_frame rest
+pub framed : (rest : List ℕ) → AllBytes rest → 2 + frame_length rest ≤ length rest → rest ≡ frame (frame_record rest) ++ after_frame rest
 framed [] are long = absurd (omega (arith, long))
 framed (low ∷ []) are long = absurd (omega (arith, long))
 framed (low ∷ high ∷ more) are long =
@@ -70,7 +70,7 @@ framed (low ∷ high ∷ more) are long =
     ∙ ap (λ bytes. low ∷ high ∷ (take n more ++ bytes)) (sym left)
     ∙ ap (λ bytes. (bytes ++ take n more) ++ after_frame rest) (sym front)
 
-frame-behind : (rest : List ℕ) (more : List (List ℕ)) → AreBytes rest → 0 < frame_length rest → 2 + frame_length rest ≤ length rest →
+frame-behind : (rest : List ℕ) (more : List (List ℕ)) → AllBytes rest → 0 < frame_length rest → 2 + frame_length rest ≤ length rest →
     IsFrames (after_frame rest) more → IsFrames rest (frame_record rest ∷ more)
 frame-behind rest more are some long d =
     let n = frame_length rest in
@@ -89,14 +89,14 @@ frame-behind rest more are some long d =
           ∙ ap (λ c. (front ++ frames more) ++ replicate c 0) count;
     }
 
-after-frame : (rest : List ℕ) (records : List (List ℕ)) (reading : Reading) → AreBytes rest → 0 < frame_length rest → 2 + frame_length rest ≤ length rest →
+after-frame : (rest : List ℕ) (records : List (List ℕ)) (reading : Reading) → AllBytes rest → 0 < frame_length rest → 2 + frame_length rest ≤ length rest →
     then_read (frame_record rest ∷ []) reading ≡ Ok records → ((more : List (List ℕ)) → reading ≡ Ok more → IsFrames (after_frame rest) more) → IsFrames rest records
 after-frame rest records (Ok more) are some long is behind =
     let all : records ≡ frame_record rest ∷ more = cc in
     rw all (frame-behind rest more are some long (behind more refl))
 after-frame rest records (Err at) are some long is behind = absurd cc
 
-pub only-frames : (steps at : ℕ) (rest : List ℕ) (records : List (List ℕ)) → length rest ≤ steps → AreBytes rest → frames_at steps at rest ≡ Ok records → IsFrames rest records
+pub only-frames : (steps at : ℕ) (rest : List ℕ) (records : List (List ℕ)) → length rest ≤ steps → AllBytes rest → frames_at steps at rest ≡ Ok records → IsFrames rest records
 unfolding frames_at
 only-frames zero at [] records few are is = only-zeros at [] records is
 only-frames zero at (x ∷ xs) records few are is = absurd (omega (arith, few))
@@ -137,7 +137,7 @@ after-block block bytes records (Ok front) (Ok more) long is here behind =
 after-block block bytes records (Ok front) (Err at) long is here behind = absurd cc
 after-block block bytes records (Err at) others long is here behind = absurd cc
 
-only-blocks : (count block at : ℕ) (bytes : List ℕ) (records : List (List ℕ)) → count * block ≤ length bytes → AreBytes bytes → output_blocks_at count block at bytes ≡ Ok records → AreFrames block records bytes
+only-blocks : (count block at : ℕ) (bytes : List ℕ) (records : List (List ℕ)) → count * block ≤ length bytes → AllBytes bytes → output_blocks_at count block at bytes ≡ Ok records → AreFrames block records bytes
 unfolding output_blocks_at
 only-blocks zero block at [] records long are is =
     let none : records ≡ [] = cc in
@@ -163,6 +163,6 @@ frames-read block bytes records positive small d =
 
 pub unpacked_is_frames : UnpackedIsFrames
 unpacked_is_frames block bytes records positive small are = (
-  only-blocks (length bytes / block) block 0 bytes records (omega (arith, div-add-mod' (length bytes) block)) are,
+  only-blocks (length bytes / block) block 0 bytes records (omega (arith, div-add-mod' (length bytes) block)) (by_recursion bytes are),
   frames-read block bytes records positive small,
 )

@@ -1,4 +1,4 @@
--- The laws of this crate, proved: all that the proofs of other crates cite of it.
+-- The laws of this crate, proved, and lemmas: all that the proofs of other crates cite of it.
 use Rattle.std.specs.Prelude.{◌≡◌, ℕ, List, [], ◌∷◌}
 use Rattle.emit_append.specs.Packing.{pending_of, released}
 use Rattle.emit_append.specs.Unpacking.{PackedFramesReadBack, RefusedIsLowest, UnpackedIsFrames}
@@ -7,6 +7,7 @@ use Rattle.emit_append.specs.Need.{NeedGrows, NeedIsEnough}
 use Rattle.emit_append.specs.OutputBlocks.{OutputBlocksAreBytes, OutputBlocksAreWhole}
 use Rattle.emit_append.specs.PackedLaw.{PackedAsDescribed}
 use Rattle.emit_append.specs.Packer.{LendingIsFinishing, LendingIsPutting, PuttingIsPacking}
+pub use Rattle.emit_append.proofs.ByteLists.{AllBytes, by_place, by_recursion}
 use Rattle.emit_append.proofs.Continuing as continuing
 use Rattle.emit_append.proofs.LowestRefused as lowest_refused
 use Rattle.emit_append.proofs.Needs as needs

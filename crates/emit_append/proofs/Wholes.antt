@@ -2,9 +2,11 @@
 use Rattle.std.proofs.Common.{◌≡◌, ℕ, zero, suc, ◌-◌, ◌≤◌, List, [], ◌∷◌, ◌++◌, length, map, replicate, arith, lit<, ⊎_elim}
 use Rattle.std.specs.List.{AllByRecursion}
 use Rattle.std.proofs.lemmas.Bool.{cases_lt}
-use Rattle.emit_append.specs.OutputBlocks.{AreAllBytes, AreBytes, AreWhole, OutputBlocksAreBytes, OutputBlocksAreWhole}
+use Rattle.program_interface.specs.Bytes.{AreBytes}
+use Rattle.emit_append.specs.OutputBlocks.{AreWhole, OutputBlocksAreBytes, OutputBlocksAreWhole}
 use Rattle.emit_append.specs.PackedLaw.{FitBlock}
 use Rattle.emit_append.specs.Packing.{all_but_last, block_fillings, laid_out, last_or_empty, padded}
+use Rattle.emit_append.proofs.ByteLists.{AllBytes, by_place, lists_by_place, lists_by_recursion}
 use Rattle.emit_append.proofs.Layouts.{laid-behind, laid-beginning}
 use Rattle.emit_append.proofs.Padding.{length-padded}
 use Rattle.emit_append.proofs.Parts.{filled_fits}
@@ -35,21 +37,21 @@ output_blocks_are_whole block groups fit =
       pending = of_last (λ bytes. length bytes ≤ block) (block_fillings block groups) (omega arith) fits;
     }
 
-bytes-append : (xs ys : List ℕ) → AreBytes xs → AreBytes ys → AreBytes (xs ++ ys)
+bytes-append : (xs ys : List ℕ) → AllBytes xs → AllBytes ys → AllBytes (xs ++ ys)
 bytes-append [] ys first second = second
 bytes-append (x ∷ xs) ys first second = (first.0, bytes-append xs ys first.1 second)
 
-zeros-bytes : (count : ℕ) → AreBytes (replicate count 0)
+zeros-bytes : (count : ℕ) → AllBytes (replicate count 0)
 zeros-bytes zero = tt
 zeros-bytes (suc count) = (lit< tt, zeros-bytes count)
 
-padded-bytes : (block : ℕ) (blocks : List (List ℕ)) → AreAllBytes blocks → AreAllBytes (map (padded block) blocks)
+padded-bytes : (block : ℕ) (blocks : List (List ℕ)) → AllByRecursion AllBytes blocks → AllByRecursion AllBytes (map (padded block) blocks)
 padded-bytes block [] are = tt
 padded-bytes block (bytes ∷ blocks) are =
     (bytes-append bytes (replicate (block - length bytes) 0) are.0 (zeros-bytes (block - length bytes)), padded-bytes block blocks are.1)
 
 -- a layout's bytes are those of its groups
-laid-bytes : (block room : ℕ) (groups : List (List ℕ)) → AreAllBytes groups → AreBytes (laid_out block room groups).begun × AreAllBytes (laid_out block room groups).later
+laid-bytes : (block room : ℕ) (groups : List (List ℕ)) → AllByRecursion AllBytes groups → AllBytes (laid_out block room groups).begun × AllByRecursion AllBytes (laid_out block room groups).later
 laid-bytes block room [] are = (tt, tt)
 laid-bytes block room (g ∷ gs) are =
     ⊎_elim
@@ -63,10 +65,11 @@ laid-bytes block room (g ∷ gs) are =
 
 pub output_blocks_are_bytes : OutputBlocksAreBytes
 output_blocks_are_bytes block groups are =
-    let filling = (laid-bytes block 0 groups are).1 in
-    let whole = padded-bytes block (block_fillings block groups) filling in
+    let filling = (laid-bytes block 0 groups (lists_by_recursion groups are)).1 in
+    let blocks = map (padded block) (block_fillings block groups) in
+    let whole = lists_by_place blocks (padded-bytes block (block_fillings block groups) filling) in
     record {
       blocks = whole;
-      released_blocks = but_last AreBytes (map (padded block) (block_fillings block groups)) whole;
-      pending = of_last AreBytes (block_fillings block groups) tt filling;
+      released_blocks = but_last AreBytes blocks whole;
+      pending = by_place (last_or_empty (block_fillings block groups)) (of_last AllBytes (block_fillings block groups) tt filling);
     }

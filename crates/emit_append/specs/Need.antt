@@ -1,5 +1,5 @@
 -- How many blocks groups can come to (profile).
-use Rattle.std.specs.Prelude.{ℕ, ◌≤◌, ◌/◌, ◌==◌, if◌then◌else◌, List, length}
+use Rattle.std.specs.Prelude.{ℕ, ◌≡◌, ◌≤◌, ◌/◌, ◌==◌, if◌then◌else◌, List, length}
 use Rattle.std.specs.Int.{div_ceil}
 use Rattle.std.specs.List.{AllByRecursion}
 use Rattle.program_interface.specs.RunSizes.{Sizes}
@@ -14,6 +14,16 @@ abbrev pub NeedIsEnough : Type 0
 NeedIsEnough =
     (sizes : Sizes) (groups : List (List ℕ)) → sizes.limit ≤ sizes.block → AllByRecursion (λ group. length group ≤ sizes.limit) groups →
     length (packed sizes.block groups) ≤ need (length groups) sizes
+
+-- so many groups within the limit that come to as many blocks as they can need
+pub record ReachNeed (sizes : Sizes) (count : ℕ) (groups : List (List ℕ)) : Type 0 where
+  pub number : length groups ≡ count
+  pub within : AllByRecursion (λ group. length group ≤ sizes.limit) groups
+  pub blocks : length (packed sizes.block groups) ≡ need count sizes
+
+-- Some groups need as many: no fewer blocks are enough.
+abbrev pub NeedIsMet : Type 0
+NeedIsMet = (sizes : Sizes) (count : ℕ) → sizes.limit ≤ sizes.block → (groups : List (List ℕ)) × ReachNeed sizes count groups
 
 -- More groups need no fewer blocks.
 abbrev pub NeedGrows : Type 0

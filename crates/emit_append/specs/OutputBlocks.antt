@@ -1,6 +1,7 @@
 -- What output blocks are, whatever groups are packed: whole, and of bytes.
-use Rattle.std.specs.Prelude.{◌≡◌, ℕ, ◌^◌, ◌≤◌, ◌<◌, List, length}
+use Rattle.std.specs.Prelude.{◌≡◌, ℕ, ◌≤◌, List, length}
 use Rattle.std.specs.List.{AllByRecursion}
+use Rattle.program_interface.specs.Bytes.{AreBytes}
 use Rattle.emit_append.specs.PackedLaw.{FitBlock}
 use Rattle.emit_append.specs.Packing.{packed, pending_of, released}
 
@@ -16,9 +17,6 @@ pub record FillBlocks (block : ℕ) (groups : List (List ℕ)) : Type 0 where
 -- Output blocks are whole, where each group fits into one.
 abbrev pub OutputBlocksAreWhole : Type 0
 OutputBlocksAreWhole = (block : ℕ) (groups : List (List ℕ)) → FitBlock block groups → FillBlocks block groups
-
-abbrev pub AreBytes : List ℕ → Type 0
-AreBytes bytes = AllByRecursion (λ byte. byte < 2 ^ 8) bytes
 
 abbrev pub AreAllBytes : List (List ℕ) → Type 0
 AreAllBytes lists = AllByRecursion AreBytes lists

@@ -6,7 +6,7 @@ use Rattle.byteorder.specs.Endian.{little_number}
 use Rattle.program_interface.specs.Frame.{frames}
 use Rattle.emit_append.specs.declared.fault.UnpackFault.{UnpackFault}
 use Rattle.emit_append.specs.declared.fault.UnpackFault.TheVariants.{At, Memory}
-use Rattle.emit_append.specs.OutputBlocks.{AreBytes}
+use Rattle.program_interface.specs.Bytes.{AreBytes}
 use Rattle.emit_append.specs.PackedLaw.{FitBlock}
 use Rattle.emit_append.specs.Packing.{packed, padded}
 

@@ -2,7 +2,7 @@
 
 ghost use Rattle.emit_append.specs.Unpacking.{PackedFramesReadBack, RefusedIsLowest, UnpackedIsFrames};
 ghost use Rattle.emit_append.specs.GoingOn.{PackingGoesOn};
-ghost use Rattle.emit_append.specs.Need.{NeedGrows, NeedIsEnough};
+ghost use Rattle.emit_append.specs.Need.{NeedGrows, NeedIsEnough, NeedIsMet};
 ghost use Rattle.emit_append.specs.OutputBlocks.{OutputBlocksAreBytes, OutputBlocksAreWhole};
 ghost use Rattle.emit_append.specs.PackedLaw.{PackedAsDescribed};
 ghost use Rattle.emit_append.specs.Packer.{LendingIsFinishing, LendingIsPutting, PuttingIsPacking};
@@ -51,6 +51,11 @@ pub fn lending_is_finishing()
 /// No packing of groups has more blocks than `need` tells.
 pub fn need_is_enough()
     ensures { NeedIsEnough }
+{}
+
+/// Some groups within the limit come to as many blocks as `need` tells.
+pub fn need_is_met()
+    ensures { NeedIsMet }
 {}
 
 /// More groups need no fewer blocks.

@@ -9,7 +9,8 @@ use Rattle.zone_state.specs.declared.state.ZoneState.{ZoneState}
 use Rattle.zone_state.specs.declared.state.ZoneState.TheVariants.{Empty, ImplicitlyOpened, ExplicitlyOpened, Closed, ReadOnly, Full, Offline}
 use Rattle.nvme_entry.specs.Report.{descriptor}
 use Rattle.nvme_entry.specs.declared.descriptor.ZoneDescriptor.{ZoneDescriptor}
-use Rattle.nvme_entry.specs.Descriptor.{has_write_pointer, described, descriptor_bytes, descriptor_in, first_word, word_in}
+use Rattle.nvme_entry.specs.Descriptor.{has_write_pointer, described, descriptor_bytes, first_word}
+use Rattle.nvme_entry.specs.steps.DescriptorFields.{descriptor_in, word_in}
 use Rattle.nvme_entry.proofs.CompletionFields.{false_is_not_true, some_is_one}
 
 again : (n : ℕ) (rest : List ℕ) → n < 2 ^ 64 → little_number 8 (little_bytes 8 n ++ rest) ≡ n

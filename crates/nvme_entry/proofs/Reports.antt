@@ -12,7 +12,7 @@ use Rattle.nvme_entry.specs.Filter.{takes}
 use Rattle.nvme_entry.specs.declared.filter.ZoneFilter.{ZoneFilter}
 use Rattle.nvme_entry.specs.declared.filter.ZoneFilter.TheVariants.{All}
 use Rattle.nvme_entry.specs.Report.{descriptor_at, fitting, report_header, listed, matching, report, taken}
-use Rattle.nvme_entry.specs.ReportLaws.{GivesWhatMatches, Tells, descriptors_in, number_in, pieces}
+use Rattle.nvme_entry.specs.ReportLaws.{GivesWhatMatches, TellsZones, descriptors_in, number_in, pieces}
 use Rattle.nvme_entry.proofs.Listings.{length-descriptor, length-header, length-whole, whole}
 
 length-each : (size : ℕ) (zone : ℕ × CountedZone) → length (descriptor_at size zone) ≡ 64
@@ -133,7 +133,7 @@ told-few false room xs = omega arith
 tells : (bytes : ℕ) (partial : Bool) (size : ℕ) (found : List (ℕ × CountedZone)) (given : List ℕ) → 64 ≤ bytes → length found < 2 ^ 64
     → given ≡ report_header (told_by bytes found partial) ++ whole (descriptor_at size) (bytes - 64) found
     → length given ≡ bytes
-    → Tells given partial size (min ((bytes - 64) / 64) (length found)) found
+    → TellsZones given partial size (min ((bytes - 64) / 64) (length found)) found
 tells bytes partial size found given long few parts same_length =
     let f = descriptor_at size in
     let room = (bytes - 64) / 64 in

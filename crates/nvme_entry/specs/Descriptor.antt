@@ -1,13 +1,11 @@
 -- Zone descriptors (ZNS 1.1, 3.4.2): what they tell of a zone, and their bytes.
-use Rattle.std.specs.Prelude.{ℕ, Bool, true, false, ◌+◌, ◌*◌, ◌/◌, ◌%◌, ◌^◌, List, [], ◌∷◌, Option, if◌then◌else◌}
-use Rattle.std.specs.Option.{option_map}
+use Rattle.std.specs.Prelude.{ℕ, Bool, true, false, ◌+◌, ◌*◌, ◌^◌, List, [], ◌∷◌, if◌then◌else◌}
 use Rattle.std.specs.List.{flat_map}
 use Rattle.byteorder.specs.Endian.{little_bytes}
-use Rattle.zone_state.specs.State.{code_of, state_of}
+use Rattle.zone_state.specs.State.{code_of}
 use Rattle.zone_state.specs.Zone.{CountedZone}
 use Rattle.zone_state.specs.declared.state.ZoneState.{ZoneState}
 use Rattle.zone_state.specs.declared.state.ZoneState.TheVariants.{ReadOnly, Full, Offline}
-use Rattle.nvme_entry.specs.Fields.{field}
 use Rattle.nvme_entry.specs.declared.descriptor.ZoneDescriptor.{ZoneDescriptor}
 
 -- can the zones of the state be written at a write pointer?
@@ -33,13 +31,3 @@ first_word state = 0x02 + code_of state * 2 ^ 12
 -- the 64 bytes of a descriptor; those from 32 on are reserved
 abbrev pub descriptor_bytes : ZoneDescriptor → List ℕ
 descriptor_bytes d = flat_map (little_bytes 8) (first_word d.state ∷ d.capacity ∷ d.lowest ∷ d.write_pointer ∷ 0 ∷ 0 ∷ 0 ∷ 0 ∷ [])
-
--- the 8 bytes with this number, as a number
-abbrev pub word_in : List ℕ → ℕ → ℕ
-word_in bytes number = field bytes (8 * number) 8
-
--- the descriptor with the fields that bytes tell, where they tell a state that there is
-abbrev pub descriptor_in : List ℕ → Option ZoneDescriptor
-descriptor_in bytes = option_map
-    (λ (state : ZoneState). record { state = state; capacity = word_in bytes 1; lowest = word_in bytes 2; write_pointer = word_in bytes 3 })
-    (state_of (word_in bytes 0 / 2 ^ 12 % 2 ^ 4))

@@ -59,7 +59,7 @@ abbrev pub SpelledIsDecoded : Type 0
 SpelledIsDecoded = (entry : List ℕ) (c : Command) → AsksFor entry c → decoded entry ≡ Ok c
 
 -- two entries agree in the opcode, in bits 1:0 of byte 1, in the namespace, and in what they spell
-pub record Agree (entry other : List ℕ) : Type 0 where
+pub record AgreeInNamedFields (entry other : List ℕ) : Type 0 where
   pub opcode : slice_index entry 0 ≡ slice_index other 0
   pub fuse : slice_index entry 1 % 4 ≡ slice_index other 1 % 4
   pub namespace : field entry 4 4 ≡ field other 4 4
@@ -67,4 +67,4 @@ pub record Agree (entry other : List ℕ) : Type 0 where
 
 -- such entries are decoded, or refused, alike, whatever else stands in them
 abbrev pub OnlyNamedFieldsCount : Type 0
-OnlyNamedFieldsCount = (entry other : List ℕ) → Agree entry other → decoded entry ≡ decoded other
+OnlyNamedFieldsCount = (entry other : List ℕ) → AgreeInNamedFields entry other → decoded entry ≡ decoded other

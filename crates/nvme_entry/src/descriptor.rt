@@ -4,7 +4,8 @@ ghost use Rattle.std.specs.Prelude.{◌≡◌, ◌<◌, ◌≤◌, ◌+◌, ◌*
 ghost use Rattle.zone_state.specs.Zone.{CountedZone};
 ghost use Rattle.nvme_entry.specs.Report.{descriptor};
 ghost use Rattle.nvme_entry.specs.ReportLaws.{number_in};
-ghost use Rattle.nvme_entry.specs.Descriptor.{first_word, pointer_told, descriptor_bytes, described, word_in, descriptor_in};
+ghost use Rattle.nvme_entry.specs.Descriptor.{first_word, pointer_told, descriptor_bytes, described};
+ghost use Rattle.nvme_entry.specs.steps.DescriptorFields.{word_in, descriptor_in};
 
 use byteorder::{ByteOrder, LittleEndian};
 use zone_state::{Zone, ZoneState};

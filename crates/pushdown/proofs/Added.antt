@@ -7,7 +7,7 @@ use Rattle.zone_state.specs.State.{is_open}
 use Rattle.zone_state.specs.Zone.{written_state}
 use Rattle.zone_state.specs.declared.state.ZoneState.{ZoneState}
 use Rattle.zone_state.specs.declared.state.ZoneState.TheVariants.{Full, Offline}
-use Rattle.emit_append.specs.OutputBlocks.{AreBytes as AllAreBytes}
+use Rattle.emit_append.proofs.Proved.{AllBytes, by_place, by_recursion}
 use Rattle.program_interface.specs.Bytes.{AreBytes}
 use Rattle.image_store.specs.Blocks.{as_blocks, block_count, blocks_of, bytes_of}
 use Rattle.image_store.specs.Geometry.{Shape}
@@ -16,7 +16,7 @@ use Rattle.zns_commands.specs.Left.{Grows}
 use Rattle.zns_commands.proofs.Proved.{grows_by_none, replaced_grows}
 use Rattle.pushdown.specs.Laws.{BlocksLeaveOthers}
 use Rattle.pushdown.specs.EventEffects.{added}
-use Rattle.pushdown.proofs.Bytes.{AreBlocks, all_append, by_index, from_index}
+use Rattle.pushdown.proofs.Bytes.{AreBlocks, all_append}
 
 -- a zone that isn't Offline is one of the namespace
 pub inside : (zones : List ZoneBlocks) (z : ℕ) → (get_or zones z no_zone).state ≢ Offline → z < length zones
@@ -83,12 +83,12 @@ module _ (block : ℕ) where
       let product = suc-mul (length bs) block in
       omega (arith, rest, joined, product, h.0.whole)
 
-  all_bytes : (blocks : List (List ℕ)) → AreBlocks block blocks → AllAreBytes (bytes_of blocks)
+  all_bytes : (blocks : List (List ℕ)) → AreBlocks block blocks → AllBytes (bytes_of blocks)
   all_bytes [] h = tt
-  all_bytes (b ∷ bs) h = all_append (λ byte. byte < 256) b (bytes_of bs) (from_index b h.0.are) (all_bytes bs h.1)
+  all_bytes (b ∷ bs) h = all_append (λ byte. byte < 256) b (bytes_of bs) (by_recursion b h.0.are) (all_bytes bs h.1)
 
   pub bytes_are : (blocks : List (List ℕ)) → AreBlocks block blocks → AreBytes (bytes_of blocks)
-  bytes_are blocks h = by_index (bytes_of blocks) (all_bytes blocks h)
+  bytes_are blocks h = by_place (bytes_of blocks) (all_bytes blocks h)
 
   cut_again : (blocks : List (List ℕ)) → AreBlocks block blocks → blocks_of block (length blocks) (bytes_of blocks) ≡ blocks
   cut_again [] h = refl

@@ -13,18 +13,18 @@ use Rattle.program_meaning.specs.BlockRun.{BlockRun}
 use Rattle.program_meaning.specs.State.{IsState, at_start}
 use Rattle.program_meaning.specs.TrapFree.{Exits, NeverTraps}
 use Rattle.program_meaning.proofs.Proved.{ends_in_run, start_is_in_run, start_is_state}
-use Rattle.emit_append.specs.OutputBlocks.{AreBytes as AllAreBytes}
+use Rattle.emit_append.proofs.Proved.{AllBytes, by_place}
 use Rattle.program_interface.specs.Bytes.{AreBytes}
 use Rattle.pushdown.specs.BlockRuns.{Task, block_run, block_runs, context, frames_of, goes_on, no_scratch, runs_of, scratch_after, until_ended}
-use Rattle.pushdown.proofs.Bytes.{AreBlocks, IsBlock, all_append, all_same, by_index, little_are}
+use Rattle.pushdown.proofs.Bytes.{AreBlocks, IsBlock, all_append, all_same, little_are}
 
 -- ---- the start of a block run
 
-words_are : (words : List ℕ) → AllAreBytes (flat_map (little_bytes 4) words)
+words_are : (words : List ℕ) → AllBytes (flat_map (little_bytes 4) words)
 words_are [] = tt
 words_are (x ∷ xs) = all_append (λ byte. byte < 2 ^ 8) (little_bytes 4 x) (flat_map (little_bytes 4) xs) (little_are 4 x) (words_are xs)
 
-context_are : (task : Task) (index : ℕ) → AllAreBytes (context task index)
+context_are : (task : Task) (index : ℕ) → AllBytes (context task index)
 context_are task index =
     let P : ℕ → Type 0 = λ byte. byte < 2 ^ 8 in
     let words = flat_map (little_bytes 4) (index ∷ task.count ∷ task.sizes.block ∷ task.argument ∷ []) in
@@ -39,7 +39,7 @@ pub record IsScratch (scratch : List ℕ) : Type 0 where
 pub no_scratch_is : IsScratch no_scratch
 no_scratch_is = record {
   long = length-replicate {A = ℕ} 1024 0;
-  are = by_index no_scratch (all_same (λ byte. byte < 2 ^ 8) 1024 0 (lit< tt));
+  are = by_place no_scratch (all_same (λ byte. byte < 2 ^ 8) 1024 0 (lit< tt));
 }
 
 -- a program that never traps over blocks of this size
@@ -58,7 +58,7 @@ module _ (task : Task) (ready : IsReady task) where
   starts : (index : ℕ) (scratch bytes : List ℕ) → IsScratch scratch → IsBlock task.sizes.block bytes → IsState (at_start bytes (context task index) scratch)
   starts index scratch bytes is block =
       start_is_state bytes (context task index) scratch (rw block.whole ready.small) refl is.long
-      block.are (by_index (context task index) (context_are task index)) is.are
+      block.are (by_place (context task index) (context_are task index)) is.are
 
   pub one_done : (index : ℕ) (scratch bytes : List ℕ) → IsScratch scratch → IsBlock task.sizes.block bytes → IsDone task (block_run task index scratch bytes)
   one_done index scratch bytes is block =

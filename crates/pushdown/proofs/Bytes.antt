@@ -4,7 +4,7 @@ use Rattle.std.specs.List.{AllByRecursion}
 use Rattle.std.specs.Int.{bytes_low_first}
 use Rattle.byteorder.specs.Endian.{little_bytes}
 use Rattle.emit_append.specs.OutputBlocks.{AreAllBytes, AreWhole}
-use Rattle.emit_append.specs.OutputBlocks.{AreBytes as AllAreBytes}
+use Rattle.emit_append.proofs.Proved.{AllBytes, by_recursion}
 use Rattle.program_interface.specs.Bytes.{AreBytes}
 
 module _ {X : Type 0} (P : X → Type 0) where
@@ -43,23 +43,14 @@ all_from P Q f (x ∷ xs) h = (f x h.0, all_from P Q f xs h.1)
 
 -- ---- bytes
 
-pub by_index : (xs : List ℕ) → AllAreBytes xs → AreBytes xs
-by_index [] h k = lit< tt
-by_index (x ∷ xs) h zero = h.0
-by_index (x ∷ xs) h (suc k) = by_index xs h.1 k
-
-pub from_index : (xs : List ℕ) → AreBytes xs → AllAreBytes xs
-from_index [] f = tt
-from_index (x ∷ xs) f = (f zero, from_index xs (λ k. f (suc k)))
-
 low_first : (i n x : ℕ) → AreBytes (bytes_low_first i n x)
 low_first i zero x k = lit< tt
 low_first zero (suc n) x zero = mod-lt x (lit< tt)
 low_first (suc i) (suc n) x zero = mod-lt (x / 256 ^ suc i) (lit< tt)
 low_first i (suc n) x (suc k) = low_first (suc i) n x k
 
-pub little_are : (n x : ℕ) → AllAreBytes (little_bytes n x)
-little_are n x = from_index (little_bytes n x) (low_first 0 n x)
+pub little_are : (n x : ℕ) → AllBytes (little_bytes n x)
+little_are n x = by_recursion (little_bytes n x) (low_first 0 n x)
 
 -- ---- blocks
 
@@ -73,7 +64,7 @@ AreBlocks block blocks = AllByRecursion (IsBlock block) blocks
 
 pub both_blocks : (block : ℕ) (blocks : List (List ℕ)) → AreWhole block blocks → AreAllBytes blocks → AreBlocks block blocks
 both_blocks block [] whole are = tt
-both_blocks block (b ∷ bs) whole are = (record { whole = whole.0; are = by_index b are.0 }, both_blocks block bs whole.1 are.1)
+both_blocks block (b ∷ bs) whole are = (record { whole = whole.0; are = are.0 }, both_blocks block bs whole.1 are.1)
 
 -- the same by their places
 pub blocks_by_place : (block : ℕ) (blocks : List (List ℕ)) → ((i : ℕ) → i < length blocks → length (get_or blocks i []) ≡ block)

@@ -16,7 +16,7 @@ use Rattle.pushdown.specs.Laws.{OutcomeIsPacked}
 use Rattle.pushdown.specs.Outcome.{Ending, Output, Turn, appended_by, behind, ending_of, last_turn_by, middle_turn, no_output, turns_after, with_group}
 use Rattle.pushdown.specs.Pushdown.{EndsWithLast, Succeeds, success_of}
 use Rattle.pushdown.proofs.BlockRuns.{IsDone}
-use Rattle.pushdown.proofs.Bytes.{AreBlocks, IsBlock, all_append, all_drop, both_blocks, from_index}
+use Rattle.pushdown.proofs.Bytes.{AreBlocks, IsBlock, all_append, all_drop, both_blocks}
 use Rattle.pushdown.proofs.Rests.{one_each}
 
 -- ---- the last turn
@@ -77,7 +77,7 @@ module _ (block : ℕ) where
       → AreGroups block (with_group output run).groups
   grouped task output run less done h = record {
     fit = all_append (λ group. length group ≤ block) output.groups (run.state.group ∷ []) h.fit (omega (arith, less, done.exits.group), tt);
-    are = all_append _ output.groups (run.state.group ∷ []) h.are (from_index run.state.group done.in_run.bytes, tt);
+    are = all_append _ output.groups (run.state.group ∷ []) h.are (done.in_run.bytes, tt);
   }
 
   pub turns_whole : (task : Task) (output : Output) (runs : List BlockRun) → task.sizes.limit ≤ block → AllByRecursion (IsDone task) runs

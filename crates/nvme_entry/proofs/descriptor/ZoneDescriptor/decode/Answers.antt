@@ -1,5 +1,5 @@
 use Rattle.std.proofs.Common.{rules, ◌≡◌, sym, ◌∙◌}
-use Rattle.nvme_entry.specs.Descriptor.{descriptor_in}
+use Rattle.nvme_entry.specs.steps.DescriptorFields.{descriptor_in}
 use Rattle.nvme_entry.proofs.Descriptors.{is_read_back, no_other_is_read}
 use Rattle.nvme_entry.proofs.descriptor.ZoneDescriptor.decode.Goals as goal
 

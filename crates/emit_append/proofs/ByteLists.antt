@@ -1,0 +1,26 @@
+-- Lists of bytes by recursion, as lemmas go over them from the first byte on.
+use Rattle.std.proofs.Common.{ℕ, zero, suc, ◌^◌, ◌<◌, List, [], ◌∷◌, lit<}
+use Rattle.std.specs.List.{AllByRecursion}
+use Rattle.program_interface.specs.Bytes.{AreBytes}
+use Rattle.emit_append.specs.OutputBlocks.{AreAllBytes}
+
+abbrev pub AllBytes : List ℕ → Type 0
+AllBytes bytes = AllByRecursion (λ byte. byte < 2 ^ 8) bytes
+
+pub by_place : (bytes : List ℕ) → AllBytes bytes → AreBytes bytes
+by_place [] all k = lit< tt
+by_place (x ∷ xs) all zero = all.0
+by_place (x ∷ xs) all (suc k) = by_place xs all.1 k
+
+pub by_recursion : (bytes : List ℕ) → AreBytes bytes → AllBytes bytes
+by_recursion [] are = tt
+by_recursion (x ∷ xs) are = (are zero, by_recursion xs (λ k. are (suc k)))
+
+-- the same of lists of them
+pub lists_by_place : (lists : List (List ℕ)) → AllByRecursion AllBytes lists → AreAllBytes lists
+lists_by_place [] all = tt
+lists_by_place (bytes ∷ lists) all = (by_place bytes all.0, lists_by_place lists all.1)
+
+pub lists_by_recursion : (lists : List (List ℕ)) → AreAllBytes lists → AllByRecursion AllBytes lists
+lists_by_recursion [] are = tt
+lists_by_recursion (bytes ∷ lists) are = (by_recursion bytes are.0, lists_by_recursion lists are.1)

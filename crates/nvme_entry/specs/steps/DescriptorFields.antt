@@ -1,0 +1,17 @@
+-- The fields that the bytes of a zone descriptor tell (ZNS 1.1, 3.4.2).
+use Rattle.std.specs.Prelude.{ℕ, ◌*◌, ◌/◌, ◌%◌, ◌^◌, List, Option}
+use Rattle.std.specs.Option.{option_map}
+use Rattle.zone_state.specs.State.{state_of}
+use Rattle.zone_state.specs.declared.state.ZoneState.{ZoneState}
+use Rattle.nvme_entry.specs.Fields.{field}
+use Rattle.nvme_entry.specs.declared.descriptor.ZoneDescriptor.{ZoneDescriptor}
+
+-- the 8 bytes with this number, as a number
+abbrev pub word_in : List ℕ → ℕ → ℕ
+word_in bytes number = field bytes (8 * number) 8
+
+-- the descriptor with the fields that bytes tell, where they tell a state that there is
+abbrev pub descriptor_in : List ℕ → Option ZoneDescriptor
+descriptor_in bytes = option_map
+    (λ (state : ZoneState). record { state = state; capacity = word_in bytes 1; lowest = word_in bytes 2; write_pointer = word_in bytes 3 })
+    (state_of (word_in bytes 0 / 2 ^ 12 % 2 ^ 4))
