@@ -4,30 +4,18 @@
 //! bench_programs PROGRAM BLOCK ROUNDS REPEATS FORM, which is `checked` or `prepared`
 #![tactic(auto)]
 
-mod timed;
+mod runs;
 
 use anyhow::{Context, Result, bail, ensure};
-use ebpf_decode::decode;
+use bench_common::{load, read_words};
 use interval_domain::Intervals;
-use program_interface::{BlockSize, CONTEXT_BYTES, LARGEST_BLOCK, RunSizes, SCRATCH_BYTES};
-use std::alloc::Global;
+use program_interface::{CONTEXT_BYTES, LARGEST_BLOCK, RunSizes, SCRATCH_BYTES};
+use runs::{Form, repeat, run};
+use std::env;
 use std::rt::{Clock, Env, Files};
 use std::time::Instant;
-use std::{env, fs};
-use timed::{Form, repeat, run};
 use verified_run::Prepared;
-use verifier::{Verified, VerifyFault, verify};
-
-/// One load.
-fn load(alloc: Global, bytes: &[u8], sizes: RunSizes) -> Result<Verified<Intervals>> {
-    match verify::<Intervals>(alloc, decode(alloc, bytes)?, sizes) {
-        Ok(verified) => Ok(verified),
-        Err(VerifyFault::Refused(refusal)) => {
-            bail!("refused at slot {}: {:?}", refusal.slot, refusal.reason)
-        }
-        Err(VerifyFault::Memory) => bail!("no memory"),
-    }
-}
+use verifier::Verified;
 
 /// The form that a word names.
 fn form_of(word: &str) -> Result<Form> {
@@ -58,21 +46,15 @@ fn round(
 fn main(rt: HostRuntime) -> Result<()> {
     let mut args = env::args(&rt)?;
     args.next();
-    let program = args.next().context("no program")?;
-    let block = args.next().context("no block")?;
-    let rounds = args.next().context("no rounds")?.parse::<u32>()?;
-    let repeats = args.next().context("no repeats")?.parse::<u32>()?;
+    let asked = read_words(&rt, &mut args)?;
     let form = form_of(&args.next().context("no form")?)?;
-    let bytes = fs::read(&rt, &program)?;
-    let block = fs::read(&rt, &block)?;
-    ensure!(block.len() <= LARGEST_BLOCK, "the block is too long");
-    let size = BlockSize::new(block.len() as u32).context("that is the size of no block")?;
-    let sizes = RunSizes::new(size, block.len() as u32).context("too much")?;
-    let program = Prepared::new(rt.alloc(), load(rt.alloc(), &bytes, sizes)?)?;
+    let block = asked.block.as_slice();
+    let sizes = RunSizes::new(asked.size, block.len() as u32).context("too much")?;
+    let program = Prepared::new(rt.alloc(), load(rt.alloc(), &asked.program, sizes)?)?;
     let context = [0; CONTEXT_BYTES];
     let mut scratch = [0; SCRATCH_BYTES];
     let mut group = [0; LARGEST_BLOCK];
-    let exit = run(&program, form, &block, &context, &mut scratch, &mut group).context(
+    let exit = run(&program, form, block, &context, &mut scratch, &mut group).context(
         "a block of another size",
     )?;
     println!(rt;
@@ -80,19 +62,22 @@ fn main(rt: HostRuntime) -> Result<()> {
         exit.r0, exit.steps, exit.group_len, exit.frames
     )?;
     let mut best = u128::MAX;
-    for _ in 0..rounds {
+    for _ in 0..asked.rounds {
         best = best.min(round(
             &rt,
             &program,
             form,
-            &block,
-            repeats,
+            block,
+            asked.repeats,
             &mut scratch,
             &mut group,
         )?);
     }
-    if rounds > 0 && repeats > 0 {
-        println!(rt; "{} ps", best.saturating_mul(1000) / u128::from(repeats))?;
+    if asked.rounds > 0 && asked.repeats > 0 {
+        println!(rt;
+            "{} ps",
+            best.saturating_mul(1000) / u128::from(asked.repeats)
+        )?;
     }
     Ok(())
 }

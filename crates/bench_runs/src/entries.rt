@@ -1,59 +1,101 @@
-//! The entries that the benchmark submits, as a host writes them.
+//! The entries that the benchmark submits, all to queue 1.
 
-use byteorder::{ByteOrder, LittleEndian};
+ghost use Rattle.std.specs.Prelude.{◌≤◌};
+ghost use Rattle.nvme_entry.specs.Encoding.{program_length};
+
+use anyhow::{Context, Result, ensure};
+use nvme_entry::{Command, Entry, LoadCommand, ProgramSlot, RunCommand};
 use runner::Event;
+use zns_commands::{BlockCount, MOST_TRANSFER, StandardCommand};
+use zone_state::Action;
 
-/// An event that submits an entry of this opcode to queue 1: its logical block address, Command Dwords 12 and
-/// 13, the address in Command Dwords 14 and 15, and the data beside it.
-fn submit(opcode: u8, lba: u64, dwords: [u32; 2], to: u64, input: Vec<u8>) -> Event {
-    let mut entry = [0; 64];
-    entry[0] = opcode;
-    entry[4] = 1;
-    LittleEndian::write_u64(&mut entry[40..48], lba);
-    LittleEndian::write_u32(&mut entry[48..52], dwords[0]);
-    LittleEndian::write_u32(&mut entry[52..56], dwords[1]);
-    LittleEndian::write_u64(&mut entry[56..64], to);
+/// A submission of a command, with the data beside its entry.
+fn submit(command: Command, input: Vec<u8>) -> Event
+    requires { program_length command ≤ MOST_TRANSFER }
+{
     Event::Submit {
         queue: 1,
-        entry,
+        entry: Entry::encode(command, 0),
         input,
     }
 }
 
+/// So many blocks, of which there is one at least.
+fn block_count(blocks: u16) -> BlockCount {
+    BlockCount::from_zero_based(blocks.saturating_sub(1))
+}
+
 /// Writes so many blocks at the write pointer of the zone whose lowest block this is.
 pub fn append(lowest: u64, blocks: u16, input: Vec<u8>) -> Event {
-    submit(
-        0x7D,
-        lowest,
-        [u32::from(blocks.saturating_sub(1)), 0],
-        0,
-        input,
-    )
+    let command = StandardCommand::Append {
+        lba: lowest,
+        blocks: block_count(blocks),
+    };
+    submit(Command::Standard(command), input)
 }
 
 /// Reads one block.
 pub fn read(lba: u64, none: Vec<u8>) -> Event {
-    submit(0x02, lba, [0, 0], 0, none)
+    let command = StandardCommand::Read {
+        lba,
+        blocks: block_count(1),
+    };
+    submit(Command::Standard(command), none)
 }
 
 /// Resets the zone whose lowest block this is.
 pub fn reset(lowest: u64, none: Vec<u8>) -> Event {
-    submit(0x79, lowest, [0, 4], 0, none)
+    send(lowest, Action::Reset, none)
 }
 
 /// Opens the zone whose lowest block this is.
 pub fn open(lowest: u64, none: Vec<u8>) -> Event {
-    submit(0x79, lowest, [0, 3], 0, none)
+    send(lowest, Action::Open, none)
+}
+
+fn send(lowest: u64, action: Action, none: Vec<u8>) -> Event {
+    let command = StandardCommand::Send {
+        lba: lowest,
+        action,
+        select_all: false,
+    };
+    submit(Command::Standard(command), none)
 }
 
 /// Puts a program into slot 0, which may emit so many bytes for a block.
-pub fn load(limit: u32, program: Vec<u8>) -> Event {
-    let bytes = u32::try_from(program.len()).unwrap_or(u32::MAX);
-    submit(0xC1, u64::from(limit) << 32, [bytes, 0], 0, program)
+///
+/// # Errors
+///
+/// The program is longer than a command moves.
+pub fn load(limit: u32, program: Vec<u8>) -> Result<Event> {
+    ensure!(
+        program.len() <= MOST_TRANSFER,
+        "the program is longer than a command moves"
+    );
+    let load = LoadCommand {
+        slot: first_slot()?,
+        limit,
+        bytes: program.len() as u32,
+    };
+    Ok(submit(Command::Load(load), program))
 }
 
 /// Runs the program of slot 0 over so many blocks from one on, to the zone whose lowest block is `to`.
-pub fn run(lba: u64, blocks: u16, to: u64, none: Vec<u8>) -> Event {
-    let last = u32::from(blocks.saturating_sub(1));
-    submit(0xC0, lba, [last, 0], to, none)
+///
+/// # Errors
+///
+/// There is no slot 0.
+pub fn run(lba: u64, blocks: u16, to: u64, none: Vec<u8>) -> Result<Event> {
+    let run = RunCommand {
+        lba,
+        blocks: block_count(blocks),
+        slot: first_slot()?,
+        argument: 0,
+        destination: to,
+    };
+    Ok(submit(Command::Run(run), none))
+}
+
+fn first_slot() -> Result<ProgramSlot> {
+    ProgramSlot::new(0).context("no slot 0")
 }

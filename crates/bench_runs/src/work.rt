@@ -59,6 +59,10 @@ fn must(device: &mut Device, event: &Event, data: &mut [u8]) -> Result<()>
 }
 
 /// Fills so many blocks of zone 0: all bytes of block i are i modulo 251.
+///
+/// # Errors
+///
+/// An Append is refused, or memory is wanting.
 pub fn fill(alloc: Global, device: &mut Device, blocks: u16, data: &mut [u8]) -> Result<()>
     requires { MOST_TRANSFER ≤ length data.old }
     ensures { MOST_TRANSFER ≤ length data.new }
@@ -71,11 +75,15 @@ pub fn fill(alloc: Global, device: &mut Device, blocks: u16, data: &mut [u8]) ->
 }
 
 /// Loads the filter.
+///
+/// # Errors
+///
+/// It is longer than a command moves, or refused.
 pub fn load_filter(device: &mut Device, filter: Vec<u8>, data: &mut [u8]) -> Result<()>
     requires { MOST_TRANSFER ≤ length data.old }
     ensures { MOST_TRANSFER ≤ length data.new }
 {
-    must(device, &load(LIMIT, filter), data)?;
+    must(device, &load(LIMIT, filter)?, data)?;
     Ok(())
 }
 
@@ -93,7 +101,7 @@ fn start(
     let lowest = u64::from(device.image().geometry().size());
     must(device, &reset(lowest, Vec::new(alloc)), data)?;
     must(device, &open(lowest, Vec::new(alloc)), data)?;
-    let order = run(0, blocks, lowest, Vec::new(alloc));
+    let order = run(0, blocks, lowest, Vec::new(alloc))?;
     let begin = Instant::now(rt)?;
     let reply = device.apply(&order, data);
     let spent = begin.elapsed(rt)?.as_nanos();
@@ -116,6 +124,10 @@ fn repeat(device: &mut Device, event: &Event, times: u32, data: &mut [u8]) -> (b
 }
 
 /// A whole run over so many blocks.
+///
+/// # Errors
+///
+/// A command is refused, the run goes on behind its last turn, or the clock fails.
 pub fn whole_run(
     rt: &impl Clock,
     alloc: Global,
@@ -141,6 +153,10 @@ pub fn whole_run(
 }
 
 /// The least nanoseconds of admitting a run over so many blocks, of a few times: the first meets cold caches.
+///
+/// # Errors
+///
+/// Those of [`whole_run`].
 pub fn admission(
     rt: &impl Clock,
     alloc: Global,
@@ -159,6 +175,10 @@ pub fn admission(
 }
 
 /// The nanoseconds of refusing a Run, whose blocks from one of a few on aren't written.
+///
+/// # Errors
+///
+/// A Run is admitted, the clock fails, or memory is wanting.
 pub fn refusal(
     rt: &impl Clock,
     alloc: Global,
@@ -174,7 +194,7 @@ pub fn refusal(
     let mut orders = Vec::with_capacity(alloc, REFUSALS)?;
     for number in 0..REFUSALS as u64 {
         let lba = unwritten.saturating_add(number % 8);
-        orders.push(run(lba, blocks, lowest, Vec::new(alloc)))?;
+        orders.push(run(lba, blocks, lowest, Vec::new(alloc))?)?;
     }
     let begin = Instant::now(rt)?;
     let mut admitted = false;
@@ -187,6 +207,10 @@ pub fn refusal(
 }
 
 /// The Reads of the run's source blocks, one by one.
+///
+/// # Errors
+///
+/// Want of memory.
 pub fn source_reads(alloc: Global) -> Result<Vec<Event>> {
     let mut events = Vec::with_capacity(alloc, usize::from(SOURCE))?;
     for lba in 0..SOURCE {
@@ -196,6 +220,10 @@ pub fn source_reads(alloc: Global) -> Result<Vec<Event>> {
 }
 
 /// The nanoseconds of these events.
+///
+/// # Errors
+///
+/// One of them is refused, or the clock fails.
 pub fn events(
     rt: &impl Clock,
     device: &mut Device,
@@ -216,6 +244,10 @@ pub fn events(
 }
 
 /// The nanoseconds of filling zone 2 by Appends of so many blocks.
+///
+/// # Errors
+///
+/// A command is refused, the clock fails, or memory is wanting.
 pub fn appends(
     rt: &impl Clock,
     alloc: Global,
@@ -238,7 +270,7 @@ pub fn appends(
     Ok(spent)
 }
 
-/// Fills the target by copies of these bytes, and answers how much is filled.
+/// Fills the target by copies of these bytes, and gives how much is filled.
 fn fill_by_copies(source: &[u8], target: &mut [u8]) -> usize
     requires { 0 < length source.now }
 {
@@ -252,6 +284,10 @@ fn fill_by_copies(source: &[u8], target: &mut [u8]) -> usize
 }
 
 /// The nanoseconds of filling the target by plain copies of so many blocks.
+///
+/// # Errors
+///
+/// The clock fails, or memory is wanting.
 pub fn copies(rt: &impl Clock, alloc: Global, target: &mut [u8], blocks: u16) -> Result<u128> {
     let source = vec![in alloc; 0xA5; usize::from(blocks.max(1)) * BLOCK as usize]?;
     let begin = Instant::now(rt)?;

@@ -1,2 +1,1 @@
-pub mod UserTold
 pub mod steps

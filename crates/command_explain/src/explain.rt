@@ -1,7 +1,7 @@
 //! The command `explain`: what `exec` printed, in words.
 
 ghost use Rattle.std.specs.Prelude.{◌≡◌};
-ghost use Rattle.command_explain.specs.UserTold.{told_of_replies};
+ghost use Rattle.command_explain.specs.steps.Told.{told_of_replies};
 
 use crate::completion_words::{Answered, tell_completion};
 use crate::waiting::Waiting;
@@ -10,7 +10,7 @@ use command_failure::{Failure, printed};
 use command_files::arguments::{and_argument, option, required};
 use command_files::{Files, read};
 use device_events::Reply;
-use event_text::{ReplyFileError, ToldReply, parse, replies};
+use event_text::{RepliesFault, ToldReply, parse, replies};
 use nvme_entry::Completion;
 use std::alloc::{AllocError, Global};
 use std::io::{self, Write};
@@ -97,12 +97,12 @@ fn submissions<'a, F: Files>(
 }
 
 /// What the user is told of a file with this name, with a line that `exec` doesn't print.
-fn no_replies<'a>(path: &'a str, error: ReplyFileError) -> Failure<'a>
+fn no_replies<'a>(path: &'a str, error: RepliesFault) -> Failure<'a>
     ensures { result ≡ told_of_replies path.entry error }
 {
     match error {
-        ReplyFileError::Line(line) => Failure::ReplyRefused { path, line },
-        ReplyFileError::OutOfMemory => Failure::NoMemory,
+        RepliesFault::Line(line) => Failure::ReplyRefused { path, line },
+        RepliesFault::Memory => Failure::NoMemory,
     }
 }
 

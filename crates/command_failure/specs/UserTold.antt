@@ -7,8 +7,8 @@ use Rattle.clap.specs.Words.{kind_of}
 use Rattle.clap.specs.declared.error.Error.{Error}
 use Rattle.clap.specs.declared.error.kind.ErrorKind as clap
 use Rattle.clap.specs.declared.error.kind.ErrorKind.TheVariants as kind
-use Rattle.event_text.specs.declared.command_file.ParseError.{ParseError}
-use Rattle.event_text.specs.declared.command_file.ParseError.TheVariants.{Line, OutOfMemory}
+use Rattle.event_text.specs.declared.command_file.ParseFault.{ParseFault}
+use Rattle.event_text.specs.declared.command_file.ParseFault.TheVariants.{Line, Memory}
 use Rattle.command_failure.specs.declared.failure.Failure.{Failure}
 use Rattle.command_failure.specs.declared.failure.Failure.TheVariants.{CommandLine, LineRefused, NotText, NoMemory}
 
@@ -26,6 +26,6 @@ abbrev pub told_of_command_line : Error → Failure
 told_of_command_line error = told_of_kind error (kind_of error)
 
 -- a file that is no command file: its name, the number of its lowest line that has no event, and why it has none
-abbrev pub told_of_commands : Bor (List ℕ) → ParseError → Failure
+abbrev pub told_of_commands : Bor (List ℕ) → ParseFault → Failure
 told_of_commands path (Line number fault) = LineRefused path number fault
-told_of_commands path OutOfMemory = NoMemory
+told_of_commands path Memory = NoMemory

@@ -11,7 +11,7 @@ use crate::data_fault::DataFault;
 use ebpf_asm::AssemblyRefusal;
 use ebpf_decode::ProgramRefusal;
 use emit_append::FrameRefusal;
-use event_text::{LineFault, ParseError};
+use event_text::{LineFault, ParseFault};
 use image_store::{GeometryRefusal, LoadFault};
 use std::alloc::AllocError;
 use std::io::{self, ErrorKind, Write};
@@ -92,17 +92,17 @@ impl<'a> Failure<'a> {
     }
 
     /// That of a file with this name that is no command file.
-    pub fn of_commands(path: &'a str, error: ParseError) -> Failure<'a>
+    pub fn of_commands(path: &'a str, error: ParseFault) -> Failure<'a>
         ensures told { result ≡ told_of_commands path.entry error }
         ensures not_printing { result ≢ Failure.CannotPrint }
     {
         match error {
-            ParseError::Line { number, fault } => Failure::LineRefused {
+            ParseFault::Line { number, fault } => Failure::LineRefused {
                 path,
                 line: number,
                 fault,
             },
-            ParseError::OutOfMemory => Failure::NoMemory,
+            ParseFault::Memory => Failure::NoMemory,
         }
     }
 
@@ -162,6 +162,10 @@ pub fn conclude<E: Write>(outcome: Result<(), Failure<'_>>, err: &mut E) -> Endi
 }
 
 /// What printing on standard output comes to.
+///
+/// # Errors
+///
+/// [`Failure::CannotPrint`] where it failed.
 pub fn printed<'a>(written: io::Result<()>) -> Result<(), Failure<'a>>
     ensures ok { OnOk written (result ≡ Ok tt) }
     ensures err { OnErr written (result ≡ Err Failure.CannotPrint) }

@@ -1,10 +1,33 @@
--- What an error of the system is told as (profile).
+-- What an error of the system is told as, a file that can't be read or written, and a word that spells no number (profile).
+use Rattle.std.specs.Prelude.{◌≡◌, ℕ, List, None}
+use Rattle.std.specs.Borrow.{Bor}
 use Rattle.std.specs.declared.io.ErrorKind.{ErrorKind}
 use Rattle.std.specs.declared.io.ErrorKind.TheVariants as system
-use Rattle.command_files.specs.declared.files.FileError.{FileError}
-use Rattle.command_files.specs.declared.files.FileError.TheVariants as file
+use Rattle.clap.specs.declared.parser.matches.ArgMatches.{ArgMatches}
+use Rattle.command_failure.specs.declared.failure.Failure.{Failure}
+use Rattle.command_failure.specs.declared.failure.Failure.TheVariants.{CannotRead, CannotWrite, NotInRange, NoMemory}
+use Rattle.command_files.specs.Arguments.{number_of, value_of}
+use Rattle.command_files.specs.declared.files.FileFault.{FileFault}
+use Rattle.command_files.specs.declared.files.FileFault.TheVariants as file
 
 -- a file that the system refuses
-abbrev pub told_of_file : ErrorKind → FileError
-told_of_file system.OutOfMemory = file.OutOfMemory
+abbrev pub told_of_file : ErrorKind → FileFault
+told_of_file system.OutOfMemory = file.Memory
 told_of_file _ = file.Failed
+
+-- a file with this name can't be read, or there is no memory for it
+abbrev pub IsUnread : Bor (List ℕ) → Failure → Type 0
+IsUnread path (CannotRead told) = told ≡ path
+IsUnread path NoMemory = Unit {0}
+IsUnread path _ = ⊥
+
+-- it can't be written, or there is no memory for that
+abbrev pub IsUnwritten : Bor (List ℕ) → Failure → Type 0
+IsUnwritten path (CannotWrite told) = told ≡ path
+IsUnwritten path NoMemory = Unit {0}
+IsUnwritten path _ = ⊥
+
+-- the word of an option spells no number of 32 bits
+abbrev pub SpellsNone : ArgMatches → Bor (List ℕ) → Failure → Type 0
+SpellsNone matches option (NotInRange told word least most) = (told ≡ option) × (word.now ≡ value_of matches option.now) × (number_of matches option.now ≡ None)
+SpellsNone matches option _ = ⊥

@@ -3,6 +3,7 @@
 ghost use Rattle.std.specs.Prelude.{◌≡◌, ◌≤◌, IfErr, IfOk, None, OnErr, OnOk, Some};
 ghost use Rattle.program_interface.specs.BlockSize.{block_size as size_of_bytes};
 ghost use Rattle.command_files.specs.Arguments.{number_of, value_of};
+ghost use Rattle.command_files.specs.UserTold.{SpellsNone};
 
 use clap::error::ErrorKind;
 use clap::{Arg, ArgAction, ArgMatches, Command};
@@ -76,7 +77,8 @@ pub fn required<'a>(matches: &ArgMatches<'a>, id: &str) -> &'a str
 ///
 /// [`Failure::NotInRange`] where the word spells no number of 32 bits.
 pub fn number<'a>(matches: &ArgMatches<'a>, option: &'a str) -> Result<u32, Failure<'a>>
-    ensures { IfOk result (λ number. number_of matches.now option.now ≡ Some number) }
+    ensures value { IfOk result (λ number. number_of matches.now option.now ≡ Some number) }
+    ensures unspelled { IfErr result (SpellsNone matches.now option.entry) }
 {
     let word = required(matches, option);
     decimal(word.as_bytes()).ok_or(Failure::NotInRange {

@@ -2,7 +2,7 @@
 
 ghost use Rattle.std.specs.Prelude.{[], None};
 
-use crate::files::{FileError, Files};
+use crate::files::{FileFault, Files};
 use image_store::{Sink, Source, StreamFault};
 use std::fs::OpenFile;
 use std::io::{BufReader, BufWriter, Read, Write};
@@ -29,20 +29,20 @@ impl<R: rt::Files + AllocGlobal> Files for Disk<'_, R> {
 
     ghost made = { λ _. None };
 
-    fn read(&mut self, path: &str) -> Result<Vec<u8>, FileError> {
+    fn read(&mut self, path: &str) -> Result<Vec<u8>, FileFault> {
         Ok(fs::read(self.rt, path)?)
     }
 
-    fn write(&mut self, path: &str, bytes: &[u8]) -> Result<(), FileError> {
+    fn write(&mut self, path: &str, bytes: &[u8]) -> Result<(), FileFault> {
         Ok(fs::write(self.rt, path, bytes)?)
     }
 
-    fn open(&mut self, path: &str) -> Result<FileReader<R::File>, FileError> {
+    fn open(&mut self, path: &str) -> Result<FileReader<R::File>, FileFault> {
         let file = BufReader::new(self.rt.alloc(), fs::open(self.rt, path)?)?;
         Ok(FileReader { file, failures: 0 })
     }
 
-    fn begin(&mut self, path: &str) -> Result<FileWriter<R::File>, FileError> {
+    fn begin(&mut self, path: &str) -> Result<FileWriter<R::File>, FileFault> {
         let alloc = self.rt.alloc();
         let name = format!(in alloc; "{path}.unfinished")?;
         let file = fs::create(self.rt, name.as_str())?;
@@ -60,7 +60,7 @@ impl<R: rt::Files + AllocGlobal> Files for Disk<'_, R> {
         }
     }
 
-    fn finish(&mut self, path: &str, mut file: FileWriter<R::File>) -> Result<(), FileError> {
+    fn finish(&mut self, path: &str, mut file: FileWriter<R::File>) -> Result<(), FileFault> {
         match put_in_place(self.rt, path, &mut file) {
             Ok(()) => Ok(()),
             Err(error) => {

@@ -4,7 +4,7 @@ ghost use Rattle.std.specs.Prelude.{◌≡◌, ℕ, List, [], ◌∷◌, IfOk, I
 ghost use Rattle.std.specs.IoError.{error_kind};
 ghost use Rattle.command_files.specs.Made.{Made, then_made};
 ghost use Rattle.command_files.specs.UserTold.{told_of_file};
-ghost use Rattle.command_files.specs.declared.files.FileError.TheVariants.{OutOfMemory};
+ghost use Rattle.command_files.specs.declared.files.FileFault.TheVariants.{Memory};
 
 use image_store::{Sink, Source};
 use std::alloc::AllocError;
@@ -12,11 +12,11 @@ use std::io::{self, ErrorKind};
 
 /// Why a file wasn't read or written.
 #[derive(Clone, Copy, Debug, PartialEq, Eq)]
-pub enum FileError {
+pub enum FileFault {
     /// It can't be opened, or reading or writing it failed.
     Failed,
     /// No memory for what it holds.
-    OutOfMemory,
+    Memory,
 }
 
 /// Where names lead to bytes.
@@ -38,7 +38,7 @@ pub trait Files {
     /// # Errors
     ///
     /// It can't be read, or there is no memory for its bytes.
-    fn read(&mut self, path: &str) -> Result<Vec<u8>, FileError>
+    fn read(&mut self, path: &str) -> Result<Vec<u8>, FileFault>
         ensures made { made self.new ≡ made self.old }
         ensures contents { contents self.new ≡ contents self.old }
         ensures bytes { IfOk result (λ file. IfSome (contents self.old path.now) (λ bytes. file.items ≡ bytes)) };
@@ -48,7 +48,7 @@ pub trait Files {
     /// # Errors
     ///
     /// It can't be written, and isn't made then.
-    fn write(&mut self, path: &str, bytes: &[u8]) -> Result<(), FileError>
+    fn write(&mut self, path: &str, bytes: &[u8]) -> Result<(), FileFault>
         ensures ok { OnOk result (made self.new ≡ then_made (made self.old) path.now bytes.now) }
         ensures err { OnErr result (made self.new ≡ made self.old) };
 
@@ -57,7 +57,7 @@ pub trait Files {
     /// # Errors
     ///
     /// It can't be opened, or memory is wanting.
-    fn open(&mut self, path: &str) -> Result<Self::Reader, FileError>
+    fn open(&mut self, path: &str) -> Result<Self::Reader, FileFault>
         ensures made { made self.new ≡ made self.old }
         ensures contents { contents self.new ≡ contents self.old }
         ensures healthy { IfOk result (λ file. Self.Reader.failures file ≡ 0) }
@@ -69,7 +69,7 @@ pub trait Files {
     /// # Errors
     ///
     /// It can't be begun, or memory is wanting.
-    fn begin(&mut self, path: &str) -> Result<Self::Writer, FileError>
+    fn begin(&mut self, path: &str) -> Result<Self::Writer, FileFault>
         ensures made { made self.new ≡ made self.old }
         ensures healthy { IfOk result (λ file. Self.Writer.failures file ≡ 0) }
         ensures empty { Self.Writer.tells → IfOk result (λ file. Self.Writer.taken file ≡ []) };
@@ -79,7 +79,7 @@ pub trait Files {
     /// # Errors
     ///
     /// It can't be finished. It is forgotten then, and the file with this name is as it was.
-    fn finish(&mut self, path: &str, file: Self::Writer) -> Result<(), FileError>
+    fn finish(&mut self, path: &str, file: Self::Writer) -> Result<(), FileFault>
         ensures ok { OnOk result (made self.new ≡ then_made (made self.old) path.now (Self.Writer.taken file)) }
         ensures err { OnErr result (made self.new ≡ made self.old) };
 
@@ -88,21 +88,21 @@ pub trait Files {
         ensures { made self.new ≡ made self.old };
 }
 
-impl From<io::Error> for FileError {
+impl From<io::Error> for FileFault {
     ghost from_gives = { λ error reason. reason ≡ told_of_file (error_kind error) };
 
-    fn from(error: io::Error) -> FileError {
+    fn from(error: io::Error) -> FileFault {
         match error.kind() {
-            ErrorKind::OutOfMemory => FileError::OutOfMemory,
-            _ => FileError::Failed,
+            ErrorKind::OutOfMemory => FileFault::Memory,
+            _ => FileFault::Failed,
         }
     }
 }
 
-impl From<AllocError> for FileError {
-    ghost from_gives = { λ _ reason. reason ≡ OutOfMemory };
+impl From<AllocError> for FileFault {
+    ghost from_gives = { λ _ reason. reason ≡ Memory };
 
-    fn from(_error: AllocError) -> FileError {
-        FileError::OutOfMemory
+    fn from(_error: AllocError) -> FileFault {
+        FileFault::Memory
     }
 }

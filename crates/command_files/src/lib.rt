@@ -10,6 +10,6 @@ mod whole;
 
 pub use counted::Counted;
 pub use disk::{Disk, FileReader, FileWriter};
-pub use files::{FileError, Files};
+pub use files::{FileFault, Files};
 pub use memory_files::{MemoryFiles, MemoryReader, MemoryWriter};
 pub use whole::{cannot_read, cannot_write, read, write};

@@ -4,7 +4,7 @@ ghost use Rattle.std.specs.Prelude.{◌≡◌, List, [], ◌∷◌, ◌++◌, dr
 ghost use Rattle.command_files.specs.Made.{Made};
 ghost use Rattle.command_files.specs.MemoryFiles.{bytes_named, last_named, made_of};
 
-use crate::files::{FileError, Files};
+use crate::files::{FileFault, Files};
 use image_store::{Sink, Source, StreamFault};
 use std::alloc::{AllocError, Global};
 
@@ -103,19 +103,19 @@ impl Files for MemoryFiles {
 
     ghost contents = { λ memory path. bytes_named memory.files.items path };
 
-    fn read(&mut self, path: &str) -> Result<Vec<u8>, FileError> {
-        let bytes = self.bytes(path).ok_or(FileError::Failed)?;
+    fn read(&mut self, path: &str) -> Result<Vec<u8>, FileFault> {
+        let bytes = self.bytes(path).ok_or(FileFault::Failed)?;
         Ok(Vec::from_slice(self.alloc, bytes)?)
     }
 
-    fn write(&mut self, path: &str, bytes: &[u8]) -> Result<(), FileError> {
+    fn write(&mut self, path: &str, bytes: &[u8]) -> Result<(), FileFault> {
         if bytes.len() > self.room {
-            return Err(FileError::Failed);
+            return Err(FileFault::Failed);
         }
         Ok(self.put(path, bytes)?)
     }
 
-    fn open(&mut self, path: &str) -> Result<MemoryReader, FileError> {
+    fn open(&mut self, path: &str) -> Result<MemoryReader, FileFault> {
         Ok(MemoryReader {
             bytes: self.read(path)?,
             fails: self.fails,
@@ -124,7 +124,7 @@ impl Files for MemoryFiles {
         })
     }
 
-    fn begin(&mut self, _path: &str) -> Result<MemoryWriter, FileError> {
+    fn begin(&mut self, _path: &str) -> Result<MemoryWriter, FileFault> {
         Ok(MemoryWriter {
             bytes: Vec::new(self.alloc),
             room: self.room,
@@ -132,7 +132,7 @@ impl Files for MemoryFiles {
         })
     }
 
-    fn finish(&mut self, path: &str, file: MemoryWriter) -> Result<(), FileError> {
+    fn finish(&mut self, path: &str, file: MemoryWriter) -> Result<(), FileFault> {
         Ok(self.put(path, file.bytes.as_slice())?)
     }
 

@@ -1,9 +1,10 @@
 //! Whole files, and what the user is told of one that fails.
 
-ghost use Rattle.std.specs.Prelude.{◌≡◌, ◌≢◌, IfOk, IfSome, OnOk, OnErr};
+ghost use Rattle.std.specs.Prelude.{◌≡◌, ◌≢◌, IfErr, IfOk, IfSome, OnOk, OnErr};
 ghost use Rattle.command_files.specs.Made.{then_made};
+ghost use Rattle.command_files.specs.UserTold.{IsUnread, IsUnwritten};
 
-use crate::files::{FileError, Files};
+use crate::files::{FileFault, Files};
 use command_failure::Failure;
 
 /// All bytes of a file.
@@ -15,6 +16,7 @@ pub fn read<'a, F: Files>(path: &'a str, files: &mut F) -> Result<Vec<u8>, Failu
     ensures made { F.made files.new ≡ F.made files.old }
     ensures contents { F.contents files.new ≡ F.contents files.old }
     ensures bytes { IfOk result (λ file. IfSome (F.contents files.old path.now) (λ bytes. file.items ≡ bytes)) }
+    ensures unread { IfErr result (IsUnread path.entry) }
     ensures not_printing { result ≢ Err Failure.CannotPrint }
 {
     match files.read(path) {
@@ -31,6 +33,7 @@ pub fn read<'a, F: Files>(path: &'a str, files: &mut F) -> Result<Vec<u8>, Failu
 pub fn write<'a, F: Files>(path: &'a str, bytes: &[u8], files: &mut F) -> Result<(), Failure<'a>>
     ensures made { OnOk result (F.made files.new ≡ then_made (F.made files.old) path.now bytes.now) }
     ensures kept { OnErr result (F.made files.new ≡ F.made files.old) }
+    ensures unwritten { IfErr result (IsUnwritten path.entry) }
 {
     match files.write(path, bytes) {
         Ok(()) => Ok(()),
@@ -39,25 +42,27 @@ pub fn write<'a, F: Files>(path: &'a str, bytes: &[u8], files: &mut F) -> Result
 }
 
 /// The failure of reading a file.
-pub fn cannot_read<'a>(path: &'a str, error: FileError) -> Failure<'a>
-    ensures failed { error ≡ FileError.Failed → result ≡ Failure.CannotRead path.entry }
-    ensures memory { error ≡ FileError.OutOfMemory → result ≡ Failure.NoMemory }
+pub fn cannot_read<'a>(path: &'a str, error: FileFault) -> Failure<'a>
+    ensures failed { error ≡ FileFault.Failed → result ≡ Failure.CannotRead path.entry }
+    ensures memory { error ≡ FileFault.Memory → result ≡ Failure.NoMemory }
+    ensures unread { IsUnread path.entry result }
     ensures not_printing { result ≢ Failure.CannotPrint }
 {
     match error {
-        FileError::Failed => Failure::CannotRead(path),
-        FileError::OutOfMemory => Failure::NoMemory,
+        FileFault::Failed => Failure::CannotRead(path),
+        FileFault::Memory => Failure::NoMemory,
     }
 }
 
 /// The failure of writing a file.
-pub fn cannot_write<'a>(path: &'a str, error: FileError) -> Failure<'a>
-    ensures failed { error ≡ FileError.Failed → result ≡ Failure.CannotWrite path.entry }
-    ensures memory { error ≡ FileError.OutOfMemory → result ≡ Failure.NoMemory }
+pub fn cannot_write<'a>(path: &'a str, error: FileFault) -> Failure<'a>
+    ensures failed { error ≡ FileFault.Failed → result ≡ Failure.CannotWrite path.entry }
+    ensures memory { error ≡ FileFault.Memory → result ≡ Failure.NoMemory }
+    ensures unwritten { IsUnwritten path.entry result }
     ensures not_printing { result ≢ Failure.CannotPrint }
 {
     match error {
-        FileError::Failed => Failure::CannotWrite(path),
-        FileError::OutOfMemory => Failure::NoMemory,
+        FileFault::Failed => Failure::CannotWrite(path),
+        FileFault::Memory => Failure::NoMemory,
     }
 }

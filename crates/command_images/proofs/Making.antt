@@ -1,5 +1,6 @@
 -- What is known of the images that commands make.
-use Rattle.std.proofs.Common.{◌≡◌, ℕ, List, Option, Some, None, Result, Ok, Err, OnOk, IfSome, ap, subst, ◌∙◌}
+use Rattle.std.proofs.Common.{◌≡◌, ℕ, List, Option, Some, None, Result, Ok, Err, OnOk, IfErr, IfSome, ap, subst, ◌∙◌}
+use Rattle.std.specs.Borrow.{Bor}
 use Rattle.clap.specs.declared.parser.matches.ArgMatches.{ArgMatches}
 use Rattle.image_store.specs.Geometry.{Shape, shape_checks, tested}
 use Rattle.image_store.specs.Namespace.{ZonedNamespace, all_empty}
@@ -7,8 +8,12 @@ use Rattle.image_store.specs.Reading.{namespace_in}
 use Rattle.image_store.specs.Text.{text}
 use Rattle.image_store.specs.declared.geometry.GeometryFault.{GeometryFault}
 use Rattle.zone_state.specs.Checks.{first_failed, unless_failed}
+use Rattle.command_failure.specs.declared.failure.Failure.{Failure}
+use Rattle.command_failure.specs.declared.failure.Failure.TheVariants.{CannotWrite, NoMemory, NotInRange}
 use Rattle.command_files.specs.Made.{Made, then_made}
+use Rattle.command_files.specs.UserTold.{IsUnwritten, SpellsNone}
 use Rattle.command_images.specs.Images.{IsAskedFor, MakesEmpty, MakesAnew}
+use Rattle.command_images.specs.UserTold.{RefusesImage, RefusesShape}
 
 passed : (failed : Option GeometryFault) (s g : Shape) → Ok g ≡ unless_failed failed s → s ≡ g
 passed None s g is = cc
@@ -42,3 +47,28 @@ makes_anew reads writes (Ok done) contents image path wanted before loaded after
   held = subst (λ (p : List ℕ). IfSome (contents p) (λ bytes. namespace_in bytes ≡ Ok image)) same (held read);
   made = saved write ∙ ap (λ (made : Option (List Made)). then_made made path (text image)) kept ∙ ap (λ (p : List ℕ). then_made before p (text image)) same;
 }
+
+-- a word that spells no number, and an image that can't be written, are no refused shape
+pub spells_none : (matches : ArgMatches) (option : Bor (List ℕ)) (failure : Failure) → SpellsNone matches option failure → RefusesShape matches failure
+spells_none matches option (NotInRange told word least most) is = tt
+spells_none matches option _ is = absurd is
+
+unwritten_shape : (matches : ArgMatches) (path : Bor (List ℕ)) (failure : Failure) → IsUnwritten path failure → RefusesShape matches failure
+unwritten_shape matches path (CannotWrite told) is = tt
+unwritten_shape matches path NoMemory is = tt
+unwritten_shape matches path _ is = absurd is
+
+pub shape_of_writing : {T : Type 0} (matches : ArgMatches) (path : Bor (List ℕ)) (result : Result T Failure) → IfErr result (IsUnwritten path) → IfErr result (RefusesShape matches)
+shape_of_writing matches path (Ok done) is = tt
+shape_of_writing matches path (Err failure) is = unwritten_shape matches path failure is
+
+-- nor is that a refused image
+unwritten_image : (path : Bor (List ℕ)) (known : Option (List ℕ)) (failure : Failure) → IsUnwritten path failure → IfSome known (RefusesImage failure)
+unwritten_image path None failure is = tt
+unwritten_image path (Some bytes) (CannotWrite told) is = tt
+unwritten_image path (Some bytes) NoMemory is = tt
+unwritten_image path (Some bytes) _ is = absurd is
+
+pub image_of_writing : {T : Type 0} (path : Bor (List ℕ)) (known : Option (List ℕ)) (result : Result T Failure) → IfErr result (IsUnwritten path) → IfErr result (λ failure. IfSome known (RefusesImage failure))
+image_of_writing path known (Ok done) is = tt
+image_of_writing path known (Err failure) is = unwritten_image path known failure is

@@ -1,24 +1,27 @@
 -- What the user is told of numbers that are no geometry, and of files that are no images (profile).
 use Rattle.std.specs.Prelude.{ℕ, ◌≡◌, List, Err}
-use Rattle.std.specs.Borrow.{Bor}
-use Rattle.image_store.specs.Geometry.{Shape}
+use Rattle.clap.specs.declared.parser.matches.ArgMatches.{ArgMatches}
+use Rattle.image_store.specs.Geometry.{Shape, tested}
 use Rattle.image_store.specs.Reading.{namespace_in}
 use Rattle.image_store.specs.Refusal.{refusal_of}
-use Rattle.image_store.specs.declared.fault.LoadFault.{LoadFault}
-use Rattle.image_store.specs.declared.fault.LoadFault.TheVariants.{Stream, Memory}
 use Rattle.image_store.specs.declared.geometry.GeometryFault.{GeometryFault}
+use Rattle.image_store.specs.declared.refusal.GeometryRefusal.{GeometryRefusal}
 use Rattle.command_failure.specs.declared.failure.Failure.{Failure}
-use Rattle.command_failure.specs.declared.failure.Failure.TheVariants.{CannotRead, GeometryRefused, ImageRefused, NoMemory}
+use Rattle.command_failure.specs.declared.failure.Failure.TheVariants.{GeometryRefused, ImageRefused}
+use Rattle.command_images.specs.Images.{IsAskedFor}
 
--- those of the numbers that have the fault
-abbrev pub told_of_geometry : GeometryFault → Shape → Failure
-told_of_geometry fault shape = GeometryRefused (refusal_of fault shape)
+-- of the shape that the options ask for, the first test that it fails is told, with its numbers
+pub record FailsTest (matches : ArgMatches) (refusal : GeometryRefusal) : Type 0 where
+  pub shape : Shape
+  pub fault : GeometryFault
+  pub asked : IsAskedFor matches shape
+  pub fails : tested shape ≡ Err fault
+  pub told : refusal ≡ refusal_of fault shape
 
--- the fault, but where the stream or memory failed, which says nothing of the file
-abbrev pub told_of_image : Bor (List ℕ) → LoadFault → Failure
-told_of_image path Stream = CannotRead path
-told_of_image path Memory = NoMemory
-told_of_image path fault = ImageRefused path fault
+-- numbers are refused for this
+abbrev pub RefusesShape : ArgMatches → Failure → Type 0
+RefusesShape matches (GeometryRefused refusal) = FailsTest matches refusal
+RefusesShape matches failure = Unit {0}
 
 -- an image is refused for the first fault of the bytes
 abbrev pub RefusesImage : Failure → List ℕ → Type 0

@@ -1,11 +1,12 @@
 //! The command `format`: a new image.
 
-ghost use Rattle.std.specs.Prelude.{◌≡◌, codes, IfOk, OnOk, OnErr};
+ghost use Rattle.std.specs.Prelude.{◌≡◌, codes, IfErr, IfOk, OnOk, OnErr};
 ghost use Rattle.command_files.specs.Arguments.{value_of};
 ghost use Rattle.command_files.specs.Made.{MakesOne};
 ghost use Rattle.image_store.specs.Geometry.{shape_of, tested};
 ghost use Rattle.command_images.specs.Images.{IsAskedFor, MakesEmpty};
-ghost use Rattle.command_images.specs.UserTold.{told_of_geometry};
+ghost use Rattle.command_images.specs.UserTold.{RefusesShape};
+ghost use Rattle.command_images.specs.steps.Told.{told_of_geometry};
 
 use crate::image_file;
 use clap::{Arg, ArgMatches, Command};
@@ -97,6 +98,7 @@ pub fn format<'a, F: Files>(
     files: &mut F,
 ) -> Result<(), Failure<'a>>
     ensures empty { OnOk result (F.Writer.tells → MakesEmpty matches.now (value_of matches.now (codes "IMAGE")) (F.made files.old) (F.made files.new)) }
+    ensures refused { IfErr result (RefusesShape matches.now) }
     ensures made { OnOk result (MakesOne (F.made files.old) (F.made files.new)) }
     ensures kept { OnErr result (F.made files.new ≡ F.made files.old) }
 {
@@ -109,6 +111,7 @@ pub fn format<'a, F: Files>(
 fn geometry<'a>(matches: &ArgMatches<'a>) -> Result<Geometry, Failure<'a>>
     ensures asked { IfOk result (λ shape. IsAskedFor matches.now shape) }
     ensures passes { IfOk result (λ shape. tested shape ≡ Ok shape) }
+    ensures refused { IfErr result (RefusesShape matches.now) }
 {
     let block = number(matches, BLOCK)?;
     let zones = number(matches, ZONES)?;

@@ -4,7 +4,9 @@ ghost use Rattle.std.specs.Prelude.{◌≡◌, ◌≢◌, IfOk, IfErr, IfSome, O
 ghost use Rattle.image_store.specs.Reading.{namespace_in};
 ghost use Rattle.image_store.specs.Text.{text};
 ghost use Rattle.command_files.specs.Made.{MakesOne, then_made};
-ghost use Rattle.command_images.specs.UserTold.{RefusesImage, told_of_image};
+ghost use Rattle.command_files.specs.UserTold.{IsUnwritten};
+ghost use Rattle.command_images.specs.UserTold.{RefusesImage};
+ghost use Rattle.command_images.specs.steps.Told.{told_of_image};
 
 use command_failure::Failure;
 use command_files::{Files, cannot_read, cannot_write};
@@ -53,6 +55,7 @@ pub fn save<'a, F: Files>(image: &Image, path: &'a str, files: &mut F) -> Result
     ensures saved { OnOk result (F.Writer.tells → F.made files.new ≡ then_made (F.made files.old) path.now (text image.now)) }
     ensures made { OnOk result (MakesOne (F.made files.old) (F.made files.new)) }
     ensures kept { OnErr result (F.made files.new ≡ F.made files.old) }
+    ensures unwritten { IfErr result (IsUnwritten path.entry) }
     ensures not_printing { result ≢ Err Failure.CannotPrint }
 {
     let mut file = match files.begin(path) {

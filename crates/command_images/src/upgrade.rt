@@ -1,9 +1,10 @@
 //! The command `upgrade`: an image in the last version.
 
-ghost use Rattle.std.specs.Prelude.{◌≡◌, codes, OnOk, OnErr};
+ghost use Rattle.std.specs.Prelude.{◌≡◌, codes, IfErr, IfSome, OnOk, OnErr};
 ghost use Rattle.command_files.specs.Arguments.{value_of};
 ghost use Rattle.command_files.specs.Made.{MakesOne};
 ghost use Rattle.command_images.specs.Images.{MakesAnew};
+ghost use Rattle.command_images.specs.UserTold.{RefusesImage};
 
 use crate::image_file;
 use clap::{Arg, ArgMatches, Command};
@@ -57,6 +58,7 @@ pub fn upgrade<'a, F: Files>(
     files: &mut F,
 ) -> Result<(), Failure<'a>>
     ensures same { OnOk result (F.Reader.tells → F.Writer.tells → MakesAnew (F.contents files.old (value_of matches.now (codes "IMAGE"))) (value_of matches.now (codes "IMAGE")) (F.made files.old) (F.made files.new)) }
+    ensures refused { F.Reader.tells → IfErr result (λ failure. IfSome (F.contents files.old (value_of matches.now (codes "IMAGE"))) (RefusesImage failure)) }
     ensures made { OnOk result (MakesOne (F.made files.old) (F.made files.new)) }
     ensures kept { OnErr result (F.made files.new ≡ F.made files.old) }
 {

@@ -1,27 +1,14 @@
--- What the user is told of a fault: the file, and the fault with its line, slot or byte (profile).
-use Rattle.std.specs.Prelude.{◌≡◌, ℕ, List}
-use Rattle.std.specs.Borrow.{Bor}
-use Rattle.ebpf_asm.specs.declared.fault.AssembleError.{AssembleError}
-use Rattle.ebpf_asm.specs.declared.fault.AssembleError.TheVariants as assembly
-use Rattle.ebpf_decode.specs.Refusal.{refusal_of}
-use Rattle.ebpf_decode.specs.declared.fault.DecodeFault.{DecodeFault}
-use Rattle.ebpf_decode.specs.declared.fault.DecodeFault.TheVariants as program
-use Rattle.emit_append.specs.Refusal.{refused_byte}
-use Rattle.emit_append.specs.declared.fault.UnpackFault.{UnpackFault}
-use Rattle.emit_append.specs.declared.fault.UnpackFault.TheVariants as frame
+-- What the user is told of a text that isn't assembled (profile).
+use Rattle.std.specs.Prelude.{◌≡◌, ℕ, List, Option, Err, IfSome}
+use Rattle.ebpf_asm.specs.Assembly.{assembled}
 use Rattle.command_failure.specs.declared.failure.Failure.{Failure}
-use Rattle.command_failure.specs.declared.failure.Failure.TheVariants.{NoMemory, AssemblyRefused, ProgramRefused, FrameRefused}
+use Rattle.command_failure.specs.declared.failure.Failure.TheVariants.{NoMemory, CannotRead, CannotWrite, AssemblyRefused}
 
-abbrev pub IsToldOfAssembly : Bor (List ℕ) → AssembleError → Failure → Type 0
-IsToldOfAssembly path (assembly.Fault fault) (AssemblyRefused told refusal) = (told ≡ path) × (refusal.fault ≡ fault)
-IsToldOfAssembly path (assembly.Fault fault) _ = ⊥
-IsToldOfAssembly path assembly.Memory failure = failure ≡ NoMemory
-
-abbrev pub told_of_program : Bor (List ℕ) → List ℕ → DecodeFault → Failure
-told_of_program path bytes (program.Fault fault) = ProgramRefused path (refusal_of fault bytes)
-told_of_program path bytes program.Memory = NoMemory
-
-abbrev pub IsToldOfFrame : Bor (List ℕ) → UnpackFault → Failure → Type 0
-IsToldOfFrame path (frame.At byte) (FrameRefused told refusal) = (told ≡ path) × (refused_byte refusal ≡ byte)
-IsToldOfFrame path (frame.At byte) _ = ⊥
-IsToldOfFrame path frame.Memory failure = failure ≡ NoMemory
+-- why `asm` makes no program: the first fault of the source file's text, where this is told, a file that can't be read or
+-- written, or want of memory, and nothing else
+abbrev pub AsmFails : (List ℕ → Option (List ℕ)) → List ℕ → List ℕ → Failure → Type 0
+AsmFails contents source path (AssemblyRefused told refusal) = (told.now ≡ source) × IfSome (contents source) (λ text. assembled text ≡ Err refusal.fault)
+AsmFails contents source path (CannotRead told) = told.now ≡ source
+AsmFails contents source path (CannotWrite told) = told.now ≡ path
+AsmFails contents source path NoMemory = Unit {0}
+AsmFails contents source path _ = ⊥

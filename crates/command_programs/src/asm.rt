@@ -1,17 +1,18 @@
 //! The command `asm`: text to a program.
 
-ghost use Rattle.std.specs.Prelude.{◌≡◌, IfSome, OnOk, OnErr};
+ghost use Rattle.std.specs.Prelude.{◌≡◌, IfErr, IfSome, OnOk, OnErr};
 ghost use Rattle.ebpf_asm.specs.Assembly.{assembled};
 ghost use Rattle.command_files.specs.Arguments.{value_of};
 ghost use Rattle.command_files.specs.Made.{MakesOne};
 ghost use Rattle.command_programs.specs.Made.{MakesProgram};
-ghost use Rattle.command_programs.specs.UserTold.{IsToldOfAssembly};
+ghost use Rattle.command_programs.specs.UserTold.{AsmFails};
+ghost use Rattle.command_programs.specs.steps.Told.{IsToldOfAssembly, MakesNone};
 
 use clap::{Arg, ArgMatches, Command};
 use command_failure::Failure;
 use command_files::arguments::{and_argument, required};
 use command_files::{Files, read, write};
-use ebpf_asm::{AssembleError, AssemblyRefusal, assemble};
+use ebpf_asm::{AssembleFault, AssemblyRefusal, assemble};
 use std::alloc::{AllocError, Global};
 
 /// The command's name.
@@ -70,6 +71,7 @@ pub fn asm<'a, F: Files>(
     files: &mut F,
 ) -> Result<(), Failure<'a>>
     ensures program { OnOk result (IfSome (F.contents files.old (value_of matches.now TEXT.now)) (λ text. MakesProgram (F.made files.old) (F.made files.new) (value_of matches.now PROGRAM.now) (assembled text))) }
+    ensures failed { IfErr result (AsmFails (F.contents files.old) (value_of matches.now TEXT.now) (value_of matches.now PROGRAM.now)) }
     ensures made { OnOk result (MakesOne (F.made files.old) (F.made files.new)) }
     ensures kept { OnErr result (F.made files.new ≡ F.made files.old) }
 {
@@ -93,22 +95,25 @@ fn make<'a, F: Files>(
     files: &mut F,
 ) -> Result<(), Failure<'a>>
     ensures program { OnOk result (MakesProgram (F.made files.old) (F.made files.new) path.now (assembled text.now)) }
+    ensures failed { IfErr result (MakesNone source.entry path.entry text.now) }
     ensures made { OnOk result (MakesOne (F.made files.old) (F.made files.new)) }
     ensures kept { OnErr result (F.made files.new ≡ F.made files.old) }
 {
-    let program = assemble(alloc, text).map_err(|error| refused(source, text, error))?;
-    write(path, program.as_slice(), files)
+    match assemble(alloc, text) {
+        Ok(program) => write(path, program.as_slice(), files),
+        Err(error) => Err(refused(source, text, error)),
+    }
 }
 
 /// What the user is told of a file of this text that can't be assembled.
-fn refused<'a>(path: &'a str, text: &[u8], error: AssembleError) -> Failure<'a>
+fn refused<'a>(path: &'a str, text: &[u8], error: AssembleFault) -> Failure<'a>
     ensures { IsToldOfAssembly path.entry error result }
 {
     match error {
-        AssembleError::Fault(fault) => Failure::AssemblyRefused {
+        AssembleFault::Fault(fault) => Failure::AssemblyRefused {
             path,
             refusal: AssemblyRefusal::of(fault, text),
         },
-        AssembleError::Memory => Failure::NoMemory,
+        AssembleFault::Memory => Failure::NoMemory,
     }
 }

@@ -1,7 +1,7 @@
 //! Programs in files.
 
 ghost use Rattle.std.specs.Prelude.{◌≡◌};
-ghost use Rattle.command_programs.specs.UserTold.{told_of_program};
+ghost use Rattle.command_programs.specs.steps.Told.{told_of_program};
 
 use command_failure::Failure;
 use command_files::{Files, read};

@@ -1,7 +1,7 @@
 //! The command `unpack`: the records of output blocks.
 
 ghost use Rattle.std.specs.Prelude.{◌≡◌};
-ghost use Rattle.command_programs.specs.UserTold.{IsToldOfFrame};
+ghost use Rattle.command_programs.specs.steps.Told.{IsToldOfFrame};
 
 use clap::{Arg, ArgMatches, Command};
 use command_failure::{Failure, printed};

@@ -1,7 +1,7 @@
 //! Calls the files of the system, one after another, in the folder that the program runs in, and prints what each gives.
 #![tactic(auto)]
 
-use command_files::{Disk, FileError, Files};
+use command_files::{Disk, FileFault, Files};
 use image_store::{Sink, Source};
 use std::io::{self, Write};
 use std::str;
@@ -93,19 +93,19 @@ fn discard<F: Files, W: Write>(files: &mut F, path: &str, out: &mut W) -> io::Re
 }
 
 /// A file that two pieces are written to.
-fn begun<F: Files>(files: &mut F, path: &str) -> Result<F::Writer, FileError> {
+fn begun<F: Files>(files: &mut F, path: &str) -> Result<F::Writer, FileFault> {
     let mut file = files.begin(path)?;
     match file.write(b"in ") {
         Ok(_) => {}
-        Err(_) => return Err(FileError::Failed),
+        Err(_) => return Err(FileFault::Failed),
     }
     match file.write(b"pieces") {
         Ok(_) => Ok(file),
-        Err(_) => Err(FileError::Failed),
+        Err(_) => Err(FileFault::Failed),
     }
 }
 
 /// What an error is told as.
-fn failed<W: Write>(call: &str, path: &str, error: FileError, out: &mut W) -> io::Result<()> {
+fn failed<W: Write>(call: &str, path: &str, error: FileFault, out: &mut W) -> io::Result<()> {
     writeln!(out, "{call} {path}: {error:?}")
 }

@@ -8,8 +8,8 @@ use Rattle.instruction_set.specs.declared.insn.Insn.TheVariants.{Jump, JumpLong,
 use Rattle.instruction_set.specs.Spelling.{spelling}
 use Rattle.program_interface.specs.declared.TheConstants.{MOST_SLOTS}
 use Rattle.ebpf_asm.specs.declared.fault.AsmFault.{AsmFault}
-use Rattle.ebpf_asm.specs.declared.fault.AssembleError.{AssembleError}
-use Rattle.ebpf_asm.specs.declared.fault.AssembleError.TheVariants as errors
+use Rattle.ebpf_asm.specs.declared.fault.AssembleFault.{AssembleFault}
+use Rattle.ebpf_asm.specs.declared.fault.AssembleFault.TheVariants as errors
 use Rattle.ebpf_asm.specs.declared.fault.FaultKind.{FaultKind}
 use Rattle.ebpf_asm.specs.declared.fault.FaultKind.TheVariants.{LabelTwice, TooLong, UnknownLabel, LabelTooFar}
 use Rattle.ebpf_asm.specs.Operand.{short_of, long_of}
@@ -115,6 +115,6 @@ abbrev pub assembled : List ℕ → Result (List ℕ) AsmFault
 assembled text = assembled_lines (lines_of text)
 
 -- the fault that an error tells; want of memory tells none
-abbrev pub fault_in : AssembleError → Option AsmFault
+abbrev pub fault_in : AssembleFault → Option AsmFault
 fault_in errors.Memory = None
 fault_in (errors.Fault fault) = Some fault

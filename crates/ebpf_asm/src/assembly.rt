@@ -6,7 +6,7 @@ ghost use Rattle.program_interface.specs.Gives.{Gives};
 ghost use Rattle.ebpf_asm.specs.steps.Labels.{label_in};
 ghost use Rattle.ebpf_asm.specs.steps.LineView.{line_views};
 
-use crate::fault::{AsmFault, AssembleError, FaultKind};
+use crate::fault::{AsmFault, AssembleFault, FaultKind};
 use crate::label::{Labels, define, is_defined, slot_of};
 use crate::line::{Line, slots_of};
 use crate::number::{long, short};
@@ -23,7 +23,7 @@ use std::collections::BTreeMap;
 ///
 /// That of the lowest line that can't be read, has the label of an earlier line, or ends behind slot 4095; else that of the
 /// lowest line that jumps to an unknown label or too far. Or want of memory.
-pub fn assemble(alloc: Global, text: &[u8]) -> Result<Vec<u8>, AssembleError>
+pub fn assemble(alloc: Global, text: &[u8]) -> Result<Vec<u8>, AssembleFault>
     ensures { Gives fault_in (λ bytes. bytes.items) result (assembled text.now) }
 {
     let lines = read_lines(alloc, text)?;
@@ -32,7 +32,7 @@ pub fn assemble(alloc: Global, text: &[u8]) -> Result<Vec<u8>, AssembleError>
 }
 
 /// The first pass: the labels, unless a line has a fault of its own.
-fn labels_of<'a>(alloc: Global, lines: &[Line<'a>]) -> Result<Labels<'a>, AssembleError>
+fn labels_of<'a>(alloc: Global, lines: &[Line<'a>]) -> Result<Labels<'a>, AssembleFault>
     ensures fault { IfErr result (λ error. IfSome (fault_in error) (λ fault. first_fault [] (line_views lines.now) ≡ Some fault)) }
     ensures none { OnOk result (first_fault [] (line_views lines.now) ≡ None) }
     ensures labels { IfOk result (λ labels. (name : List ℕ) → label_in labels name ≡ label_map (line_views lines.now) name) }
@@ -73,11 +73,11 @@ fn fault_of(
 }
 
 /// The fault of the line at this index.
-fn fault_at(index: usize, kind: FaultKind) -> AssembleError
+fn fault_at(index: usize, kind: FaultKind) -> AssembleFault
     requires { index < 2 ^ 63 }
-    ensures { result ≡ AssembleError.Fault (record { line = index + 1; kind = kind }) }
+    ensures { result ≡ AssembleFault.Fault (record { line = index + 1; kind = kind }) }
 {
-    AssembleError::Fault(AsmFault {
+    AssembleFault::Fault(AsmFault {
         line: index + 1,
         kind,
     })
@@ -88,7 +88,7 @@ fn bytes_of(
     alloc: Global,
     lines: &[Line<'_>],
     labels: &Labels<'_>,
-) -> Result<Vec<u8>, AssembleError>
+) -> Result<Vec<u8>, AssembleFault>
     requires { slot_count (line_views lines.now) ≤ MOST_SLOTS }
     ensures { Gives fault_in (λ bytes. bytes.items) result (bytes_from (label_in labels.now) 1 0 (line_views lines.now)) }
 {

@@ -1,7 +1,7 @@
 //! What is wrong with a text.
 
 ghost use Rattle.std.specs.Prelude.{◌≡◌};
-ghost use Rattle.ebpf_asm.specs.declared.fault.AssembleError.TheVariants.{Memory};
+ghost use Rattle.ebpf_asm.specs.declared.fault.AssembleFault.TheVariants.{Memory};
 
 use program_interface::MOST_SLOTS;
 use std::alloc::{AllocError, AllocFailed};
@@ -59,7 +59,7 @@ pub struct AsmFault {
 
 /// Why a text gave no bytes.
 #[derive(Debug, Drop, Error)]
-pub enum AssembleError {
+pub enum AssembleFault {
     /// Memory ran out.
     #[error("no memory")]
     Memory,
@@ -68,18 +68,18 @@ pub enum AssembleError {
     Fault(AsmFault),
 }
 
-impl From<AllocError> for AssembleError {
+impl From<AllocError> for AssembleFault {
     ghost from_gives = { λ _ e. e ≡ Memory };
 
-    fn from(_e: AllocError) -> AssembleError {
-        AssembleError::Memory
+    fn from(_e: AllocError) -> AssembleFault {
+        AssembleFault::Memory
     }
 }
 
-impl<T: Drop> From<AllocFailed<T>> for AssembleError {
+impl<T: Drop> From<AllocFailed<T>> for AssembleFault {
     ghost from_gives = { λ _ e. e ≡ Memory };
 
-    fn from(_e: AllocFailed<T>) -> AssembleError {
-        AssembleError::Memory
+    fn from(_e: AllocFailed<T>) -> AssembleFault {
+        AssembleFault::Memory
     }
 }

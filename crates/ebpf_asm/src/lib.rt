@@ -15,7 +15,7 @@ mod statement;
 mod text;
 
 pub use assembly::assemble;
-pub use fault::{AsmFault, AssembleError, FaultKind};
+pub use fault::{AsmFault, AssembleFault, FaultKind};
 pub use listing::{disassemble, disassemble_with_slots, instruction_text};
 pub use refusal::AssemblyRefusal;
 

@@ -283,8 +283,8 @@ fn texts_assemble_to_their_bytes(rt: HostRuntime) -> Result<(), Fail> {
 fn fault_of(alloc: Global, text: &str) -> Result<(usize, FaultKind), Fail> {
     match assemble(alloc, text.as_bytes()) {
         Ok(_) => Err(Fail::from("it assembles")),
-        Err(AssembleError::Fault(fault)) => Ok((fault.line, fault.kind)),
-        Err(AssembleError::Memory) => Err(Fail::from("no memory")),
+        Err(AssembleFault::Fault(fault)) => Ok((fault.line, fault.kind)),
+        Err(AssembleFault::Memory) => Err(Fail::from("no memory")),
     }
 }
 

@@ -12,8 +12,8 @@ use Rattle.text_lines.specs.Cut.{uncommented}
 use Rattle.text_lines.specs.Number.{decimal_of}
 use Rattle.device_events.specs.declared.event.Event.{Event}
 use Rattle.device_events.specs.declared.event.Event.TheVariants as event
-use Rattle.event_text.specs.declared.command_file.ParseError.{ParseError}
-use Rattle.event_text.specs.declared.command_file.ParseError.TheVariants.{Line, OutOfMemory}
+use Rattle.event_text.specs.declared.command_file.ParseFault.{ParseFault}
+use Rattle.event_text.specs.declared.command_file.ParseFault.TheVariants.{Line, Memory}
 use Rattle.event_text.specs.Words.{words_of, one_of, two_of, three_of}
 
 -- an event as a line tells it
@@ -91,6 +91,6 @@ events_from number (line ∷ rest) = line_before number (line_told line) (events
 abbrev pub events_in : List ℕ → Result (List Told) ℕ
 events_in file = events_from 1 (lines file)
 
-abbrev pub RefusesFile : ParseError → Result (List Told) ℕ → Type 0
+abbrev pub RefusesFile : ParseFault → Result (List Told) ℕ → Type 0
 RefusesFile (Line number fault) meant = meant ≡ Err number
-RefusesFile OutOfMemory meant = Unit {0}
+RefusesFile Memory meant = Unit {0}

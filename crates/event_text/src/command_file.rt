@@ -10,8 +10,8 @@
 ghost use Rattle.std.specs.Prelude.{◌≡◌, ◌^◌, map, option_and_then, Ok, IfOk, IfErr};
 ghost use Rattle.text_lines.specs.Number.{decimal_of};
 ghost use Rattle.event_text.specs.Words.{words_of};
-ghost use Rattle.event_text.specs.declared.command_file.LineError.TheVariants.{Refused};
-ghost use Rattle.event_text.specs.declared.command_file.ParseError.TheVariants.{OutOfMemory};
+ghost use Rattle.event_text.specs.declared.command_file.EventFault.TheVariants.{Refused};
+ghost use Rattle.event_text.specs.declared.command_file.ParseFault.TheVariants.{Memory};
 ghost use Rattle.event_text.specs.CommandFile.{told_of, below, submission_of, turn_of, fault_of, state_named, event_named as named_event, line_told, events_in, RefusesFile};
 ghost use Rattle.event_text.specs.steps.ReadLines.{entry_reason, data_reason, GivesEvent, GivesLine};
 
@@ -25,7 +25,7 @@ use zone_state::FaultState;
 
 /// Why a command file has no events.
 #[derive(Clone, Copy, Debug, PartialEq, Eq)]
-pub enum ParseError {
+pub enum ParseFault {
     /// A line has no event.
     Line {
         /// The line's number, the first being 1.
@@ -34,14 +34,14 @@ pub enum ParseError {
         fault: LineFault,
     },
     /// No memory for the events.
-    OutOfMemory,
+    Memory,
 }
 
 /// Why there is no event of a line.
 #[derive(Clone, Copy, Debug, PartialEq, Eq)]
-enum LineError {
+enum EventFault {
     Refused(LineFault),
-    OutOfMemory,
+    Memory,
 }
 
 /// The events of a command file, in order.
@@ -50,7 +50,7 @@ enum LineError {
 ///
 /// The lowest line that isn't of the form, or want of memory for a line before it.
 #[tactic(auto, using(crate::proofs::FileLemmas::event_read, crate::proofs::FileLemmas::nothing_read, crate::proofs::FileLemmas::line_refused, crate::proofs::FileLemmas::all_read, crate::proofs::FileLemmas::none_read))]
-pub fn parse(alloc: Global, file: &[u8]) -> Result<Vec<Event>, ParseError>
+pub fn parse(alloc: Global, file: &[u8]) -> Result<Vec<Event>, ParseFault>
     ensures events { IfOk result (λ events. events_in file.now ≡ Ok (map told_of events.items)) }
     ensures refused { IfErr result (λ error. RefusesFile error (events_in file.now)) }
 {
@@ -62,8 +62,8 @@ pub fn parse(alloc: Global, file: &[u8]) -> Result<Vec<Event>, ParseError>
         match event_of(alloc, line) {
             Ok(Some(event)) => events.push(event)?,
             Ok(None) => {}
-            Err(LineError::Refused(fault)) => return Err(ParseError::Line { number, fault }),
-            Err(LineError::OutOfMemory) => return Err(ParseError::OutOfMemory),
+            Err(EventFault::Refused(fault)) => return Err(ParseFault::Line { number, fault }),
+            Err(EventFault::Memory) => return Err(ParseFault::Memory),
         }
         rest = behind;
         number += 1;
@@ -72,7 +72,7 @@ pub fn parse(alloc: Global, file: &[u8]) -> Result<Vec<Event>, ParseError>
 }
 
 /// The event of a line, or `None` where the line has no words.
-fn event_of(alloc: Global, line: &[u8]) -> Result<Option<Event>, LineError>
+fn event_of(alloc: Global, line: &[u8]) -> Result<Option<Event>, EventFault>
     ensures { GivesLine result (line_told line.now) }
 {
     if !is_all_ascii(line) {
@@ -93,7 +93,7 @@ fn other_bytes(line: &[u8]) -> Excerpt {
 }
 
 /// The event that a word names and the words behind it describe.
-fn event_named(alloc: Global, name: &[u8], words: Words<'_>) -> Result<Event, LineError>
+fn event_named(alloc: Global, name: &[u8], words: Words<'_>) -> Result<Event, EventFault>
     ensures { GivesEvent result (named_event name.now (words_of words.entry.rest.now)) }
 {
     match name {
@@ -104,7 +104,7 @@ fn event_named(alloc: Global, name: &[u8], words: Words<'_>) -> Result<Event, Li
     }
 }
 
-fn submit(alloc: Global, words: Words<'_>) -> Result<Event, LineError>
+fn submit(alloc: Global, words: Words<'_>) -> Result<Event, EventFault>
     ensures { GivesEvent result (submission_of (words_of words.entry.rest.now)) }
 {
     let line = words.shown();
@@ -127,11 +127,11 @@ pub(crate) fn queue_number(word: &[u8]) -> Option<u16>
 }
 
 /// Why an entry of so many characters spells no 64 bytes.
-fn entry_error(error: FromHexError, characters: usize) -> LineError
+fn entry_error(error: FromHexError, characters: usize) -> EventFault
     ensures { result ≡ entry_reason characters error }
 {
     match error {
-        FromHexError::OutOfMemory => LineError::OutOfMemory,
+        FromHexError::OutOfMemory => EventFault::Memory,
         FromHexError::InvalidHexCharacter { c, index } => LineFault::EntryDigit {
             character: c,
             before: index,
@@ -142,11 +142,11 @@ fn entry_error(error: FromHexError, characters: usize) -> LineError
 }
 
 /// Why data of so many characters spells no bytes.
-fn data_error(error: FromHexError, characters: usize) -> LineError
+fn data_error(error: FromHexError, characters: usize) -> EventFault
     ensures { result ≡ data_reason characters error }
 {
     match error {
-        FromHexError::OutOfMemory => LineError::OutOfMemory,
+        FromHexError::OutOfMemory => EventFault::Memory,
         FromHexError::InvalidHexCharacter { c, index } => LineFault::DataDigit {
             character: c,
             before: index,
@@ -156,7 +156,7 @@ fn data_error(error: FromHexError, characters: usize) -> LineError
     }
 }
 
-fn turn(words: Words<'_>) -> Result<Event, LineError>
+fn turn(words: Words<'_>) -> Result<Event, EventFault>
     ensures { GivesEvent result (turn_of (words_of words.entry.rest.now)) }
 {
     let line = words.shown();
@@ -172,7 +172,7 @@ pub(crate) fn run_number(word: &[u8]) -> Option<u8>
     u8::try_from(decimal(word)?).ok()
 }
 
-fn fault(words: Words<'_>) -> Result<Event, LineError>
+fn fault(words: Words<'_>) -> Result<Event, EventFault>
     ensures { GivesEvent result (fault_of (words_of words.entry.rest.now)) }
 {
     let line = words.shown();
@@ -192,18 +192,18 @@ fn fault_state(word: &[u8]) -> Option<FaultState>
     }
 }
 
-impl From<LineFault> for LineError {
+impl From<LineFault> for EventFault {
     ghost from_gives = { λ fault error. error ≡ Refused fault };
 
-    fn from(fault: LineFault) -> LineError {
-        LineError::Refused(fault)
+    fn from(fault: LineFault) -> EventFault {
+        EventFault::Refused(fault)
     }
 }
 
-impl<T: Drop> From<AllocFailed<T>> for ParseError {
-    ghost from_gives = { λ _ error. error ≡ OutOfMemory };
+impl<T: Drop> From<AllocFailed<T>> for ParseFault {
+    ghost from_gives = { λ _ error. error ≡ Memory };
 
-    fn from(_error: AllocFailed<T>) -> ParseError {
-        ParseError::OutOfMemory
+    fn from(_error: AllocFailed<T>) -> ParseFault {
+        ParseFault::Memory
     }
 }

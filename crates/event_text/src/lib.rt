@@ -12,8 +12,8 @@ mod submission;
 mod tests;
 mod words;
 
-pub use command_file::{ParseError, parse};
+pub use command_file::{ParseFault, parse};
 pub use fault::LineFault;
 pub use lines::Lines;
-pub use reply_file::{ReplyFileError, ToldReply, replies};
+pub use reply_file::{RepliesFault, ToldReply, replies};
 pub use submission::submission_line;

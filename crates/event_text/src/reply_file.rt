@@ -16,18 +16,18 @@ const ENTRY_DIGITS: usize = 32;
 
 /// Why a file has no replies.
 #[derive(Clone, Copy, Debug, PartialEq, Eq)]
-pub enum ReplyFileError {
+pub enum RepliesFault {
     /// A line isn't one that a reply is printed as; the first line is 1.
     Line(usize),
     /// No memory for the replies.
-    OutOfMemory,
+    Memory,
 }
 
 /// Why a line tells no reply.
 #[derive(Clone, Copy, Debug, PartialEq, Eq)]
-enum NoReply {
+enum ReplyFault {
     Malformed,
-    OutOfMemory,
+    Memory,
 }
 
 /// A reply that a line tells, with the bytes of its data.
@@ -45,7 +45,7 @@ pub struct ToldReply {
 ///
 /// The lowest line that isn't the line of a reply, or want of memory for a line before it.
 #[tactic(auto, using(crate::proofs::ReplyLemmas::reply_read, crate::proofs::ReplyLemmas::replies_read))]
-pub fn replies(alloc: Global, file: &[u8]) -> Result<Vec<ToldReply>, ReplyFileError>
+pub fn replies(alloc: Global, file: &[u8]) -> Result<Vec<ToldReply>, RepliesFault>
     ensures spelled { IfOk result (λ told. lines file.now ≡ map told_text told.items) }
 {
     let mut told = Vec::new(alloc);
@@ -55,8 +55,8 @@ pub fn replies(alloc: Global, file: &[u8]) -> Result<Vec<ToldReply>, ReplyFileEr
         let (line, behind) = first_line(rest);
         match told_by(alloc, line) {
             Ok(reply) => told.push(reply)?,
-            Err(NoReply::Malformed) => return Err(ReplyFileError::Line(number)),
-            Err(NoReply::OutOfMemory) => return Err(ReplyFileError::OutOfMemory),
+            Err(ReplyFault::Malformed) => return Err(RepliesFault::Line(number)),
+            Err(ReplyFault::Memory) => return Err(RepliesFault::Memory),
         }
         rest = behind;
         number += 1;
@@ -65,27 +65,30 @@ pub fn replies(alloc: Global, file: &[u8]) -> Result<Vec<ToldReply>, ReplyFileEr
 }
 
 /// The reply whose line this is.
-fn told_by(alloc: Global, line: &[u8]) -> Result<ToldReply, NoReply>
+fn told_by(alloc: Global, line: &[u8]) -> Result<ToldReply, ReplyFault>
     ensures { IfOk result (λ told. line.now ≡ told_text told) }
 {
     let told = candidate(alloc, line)?;
     let mut again = Vec::new(alloc);
     match push_reply(&mut again, told.reply, told.bytes.as_slice()) {
         Ok(()) if again.as_slice() == line => Ok(told),
-        Ok(()) => Err(NoReply::Malformed),
-        Err(_) => Err(NoReply::OutOfMemory),
+        Ok(()) => Err(ReplyFault::Malformed),
+        Err(_) => Err(ReplyFault::Memory),
     }
 }
 
 /// The one reply whose line this can be.
-fn candidate(alloc: Global, line: &[u8]) -> Result<ToldReply, NoReply> {
+fn candidate(alloc: Global, line: &[u8]) -> Result<ToldReply, ReplyFault> {
     match line {
         b"idle" => Ok(without_data(alloc, Reply::Idle)),
         b"done" => Ok(without_data(alloc, Reply::FaultTaken)),
         b"refused" => Ok(without_data(alloc, Reply::FaultRefused)),
         _ => match line.strip_prefix(b"pending ") {
             Some(run) => pending(alloc, run),
-            None => complete(alloc, line.strip_prefix(b"cpl ").ok_or(NoReply::Malformed)?),
+            None => complete(
+                alloc,
+                line.strip_prefix(b"cpl ").ok_or(ReplyFault::Malformed)?,
+            ),
         },
     }
 }
@@ -97,18 +100,18 @@ fn without_data(alloc: Global, reply: Reply) -> ToldReply {
     }
 }
 
-fn pending(alloc: Global, run: &[u8]) -> Result<ToldReply, NoReply> {
-    let run = run_number(run).ok_or(NoReply::Malformed)?;
+fn pending(alloc: Global, run: &[u8]) -> Result<ToldReply, ReplyFault> {
+    let run = run_number(run).ok_or(ReplyFault::Malformed)?;
     Ok(without_data(alloc, Reply::Pending { run }))
 }
 
 /// A completion: the queue, the entry, and the data where there is any.
-fn complete(alloc: Global, words: &[u8]) -> Result<ToldReply, NoReply> {
-    let (queue, behind) = cut(words, b' ').ok_or(NoReply::Malformed)?;
+fn complete(alloc: Global, words: &[u8]) -> Result<ToldReply, ReplyFault> {
+    let (queue, behind) = cut(words, b' ').ok_or(ReplyFault::Malformed)?;
     let (entry, behind) = behind
         .split_at_checked(ENTRY_DIGITS)
-        .ok_or(NoReply::Malformed)?;
-    let queue = queue_number(queue).ok_or(NoReply::Malformed)?;
+        .ok_or(ReplyFault::Malformed)?;
+    let queue = queue_number(queue).ok_or(ReplyFault::Malformed)?;
     let entry = <[u8; 16]>::from_hex(entry)?;
     let bytes = hex::decode(alloc, behind.strip_prefix(b" ").unwrap_or(&[]))?;
     let length = bytes.len();
@@ -122,17 +125,17 @@ fn complete(alloc: Global, words: &[u8]) -> Result<ToldReply, NoReply> {
     })
 }
 
-impl From<FromHexError> for NoReply {
-    fn from(error: FromHexError) -> NoReply {
+impl From<FromHexError> for ReplyFault {
+    fn from(error: FromHexError) -> ReplyFault {
         match error {
-            FromHexError::OutOfMemory => NoReply::OutOfMemory,
-            _ => NoReply::Malformed,
+            FromHexError::OutOfMemory => ReplyFault::Memory,
+            _ => ReplyFault::Malformed,
         }
     }
 }
 
-impl<T: Drop> From<AllocFailed<T>> for ReplyFileError {
-    fn from(_error: AllocFailed<T>) -> ReplyFileError {
-        ReplyFileError::OutOfMemory
+impl<T: Drop> From<AllocFailed<T>> for RepliesFault {
+    fn from(_error: AllocFailed<T>) -> RepliesFault {
+        RepliesFault::Memory
     }
 }

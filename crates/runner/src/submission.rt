@@ -46,8 +46,8 @@ impl<'a> Submission<'a> {
         }
     }
 
-    /// The reply to an entry that is answered at once.
-    fn answer(&self, answer: Answer) -> Reply
+    /// The reply to an entry that is answered at once, by its answer.
+    fn reply_with(&self, answer: Answer) -> Reply
         ensures { result ≡ complete_reply self.now.queue (identifier_of self.now.entry.now) answer }
     {
         complete(self.queue, Entry::cid(self.entry), answer)
@@ -72,7 +72,7 @@ pub fn submit(
 {
     match Entry::decode(submission.entry) {
         Ok(command) => perform(alloc, namespace, slots, runs, command, submission, output),
-        Err(status) => submission.answer(Answer::refused(status)),
+        Err(status) => submission.reply_with(Answer::refused(status)),
     }
 }
 
@@ -96,12 +96,12 @@ fn perform(
     let input = submission.input;
     match command {
         Command::Standard(command) => {
-            submission.answer(execute(namespace, runs, &command, input, output))
+            submission.reply_with(execute(namespace, runs, &command, input, output))
         }
         Command::Load(command) => {
-            submission.answer(load(alloc, namespace, slots, runs, &command, input))
+            submission.reply_with(load(alloc, namespace, slots, runs, &command, input))
         }
-        Command::Result(slot) => submission.answer(give_result(slots, slot, input, output)),
+        Command::Result(slot) => submission.reply_with(give_result(slots, slot, input, output)),
         Command::Run(order) => run(namespace, slots, runs, &order, submission),
     }
 }
@@ -146,6 +146,6 @@ fn run(
         submission.input,
     ) {
         Ok(run) => Reply::Pending { run },
-        Err(status) => submission.answer(Answer::refused(status)),
+        Err(status) => submission.reply_with(Answer::refused(status)),
     }
 }

@@ -18,6 +18,10 @@ use std::io::Write;
 
 /// Reads the words of a command line, the program's name first, and does the command that they name. At
 /// most one file is made, and none where this fails, but that `exec` saves an image where `out` fails.
+///
+/// # Errors
+///
+/// Why the words are no command's, or why the command ended before its work was done.
 pub fn command<'a, F: Files, O: Write>(
     alloc: Global,
     words: &'a [String],
@@ -30,12 +34,12 @@ pub fn command<'a, F: Files, O: Write>(
     let mut line = command_line(alloc)?;
     match line.try_get_matches_from_mut(words) {
         Ok(matches) => perform(alloc, &mut line, &matches, files, out),
-        Err(error) => answer(error, out),
+        Err(error) => print_help(error, out),
     }
 }
 
 /// Prints the help that was asked for, or says what is wrong with the words.
-fn answer<'a, O: Write>(error: clap::Error, out: &mut O) -> Result<(), Failure<'a>> {
+fn print_help<'a, O: Write>(error: clap::Error, out: &mut O) -> Result<(), Failure<'a>> {
     if error.kind() == ErrorKind::DisplayHelp {
         return printed(write!(out, "{error}"));
     }

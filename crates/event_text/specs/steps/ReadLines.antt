@@ -3,36 +3,36 @@ use Rattle.std.specs.Prelude.{◌≡◌, ℕ, Option, Some, None, option_map, Re
 use Rattle.hex.specs.declared.error.FromHexError.{FromHexError}
 use Rattle.hex.specs.declared.error.FromHexError.TheVariants as digits
 use Rattle.device_events.specs.declared.event.Event.{Event}
-use Rattle.event_text.specs.declared.command_file.LineError.{LineError}
-use Rattle.event_text.specs.declared.command_file.LineError.TheVariants as reasons
+use Rattle.event_text.specs.declared.command_file.EventFault.{EventFault}
+use Rattle.event_text.specs.declared.command_file.EventFault.TheVariants as reasons
 use Rattle.event_text.specs.declared.fault.LineFault.TheVariants as fault
 use Rattle.event_text.specs.CommandFile.{Told, told_of}
 
 -- why an entry of so many characters that spells no 64 bytes refuses its line
-abbrev pub entry_reason : ℕ → FromHexError → LineError
-entry_reason characters digits.OutOfMemory = reasons.OutOfMemory
+abbrev pub entry_reason : ℕ → FromHexError → EventFault
+entry_reason characters digits.OutOfMemory = reasons.Memory
 entry_reason characters (digits.InvalidHexCharacter character before) = reasons.Refused (fault.EntryDigit character before)
 entry_reason characters _ = reasons.Refused (fault.EntryLength characters)
 
 -- why data of so many characters that spells no bytes refuses its line
-abbrev pub data_reason : ℕ → FromHexError → LineError
-data_reason characters digits.OutOfMemory = reasons.OutOfMemory
+abbrev pub data_reason : ℕ → FromHexError → EventFault
+data_reason characters digits.OutOfMemory = reasons.Memory
 data_reason characters (digits.InvalidHexCharacter character before) = reasons.Refused (fault.DataDigit character before)
 data_reason characters _ = reasons.Refused (fault.DataLength characters)
 
 -- the event that is given, or the refusal, is the one that is told, unless memory ran out
-abbrev pub RefusesEvent : LineError → Option Told → Type 0
+abbrev pub RefusesEvent : EventFault → Option Told → Type 0
 RefusesEvent (reasons.Refused fault) meant = meant ≡ None
-RefusesEvent reasons.OutOfMemory meant = Unit {0}
+RefusesEvent reasons.Memory meant = Unit {0}
 
-abbrev pub GivesEvent : Result Event LineError → Option Told → Type 0
+abbrev pub GivesEvent : Result Event EventFault → Option Told → Type 0
 GivesEvent (Ok event) meant = meant ≡ Some (told_of event)
 GivesEvent (Err error) meant = RefusesEvent error meant
 
-abbrev pub RefusesLine : LineError → Option (Option Told) → Type 0
+abbrev pub RefusesLine : EventFault → Option (Option Told) → Type 0
 RefusesLine (reasons.Refused fault) meant = meant ≡ None
-RefusesLine reasons.OutOfMemory meant = Unit {0}
+RefusesLine reasons.Memory meant = Unit {0}
 
-abbrev pub GivesLine : Result (Option Event) LineError → Option (Option Told) → Type 0
+abbrev pub GivesLine : Result (Option Event) EventFault → Option (Option Told) → Type 0
 GivesLine (Ok event) meant = meant ≡ Some (option_map told_of event)
 GivesLine (Err error) meant = RefusesLine error meant

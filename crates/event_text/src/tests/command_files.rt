@@ -1,7 +1,7 @@
 //! Which lines of a command file are events, and what is said of the others.
 
 use super::text_of;
-use crate::{ParseError, parse, submission_line};
+use crate::{ParseFault, parse, submission_line};
 use device_events::Event;
 use std::alloc::Global;
 use std::process::Abort;
@@ -136,8 +136,8 @@ fn told(alloc: Global, file: &str) -> Result<String, Fail> {
     let file = text_of(alloc, file)?;
     let told = match parse(alloc, file.as_bytes()) {
         Ok(events) => format!(in alloc; "{events:?}")?,
-        Err(ParseError::Line { number, fault }) => format!(in alloc; "{number}: {fault}")?,
-        Err(ParseError::OutOfMemory) => return Err(Fail::from("no memory")),
+        Err(ParseFault::Line { number, fault }) => format!(in alloc; "{number}: {fault}")?,
+        Err(ParseFault::Memory) => return Err(Fail::from("no memory")),
     };
     Ok(told)
 }

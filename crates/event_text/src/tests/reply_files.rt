@@ -1,6 +1,6 @@
 //! The line that each reply is printed as, and lines that no reply has.
 
-use crate::{Lines, ReplyFileError, ToldReply, replies};
+use crate::{Lines, RepliesFault, ToldReply, replies};
 use device_events::{Out, Reply};
 use std::alloc::Global;
 use std::process::Abort;
@@ -69,6 +69,6 @@ fn lines_of_replies(rt: HostRuntime) -> Result<(), Fail> {
 fn lines_that_no_reply_has(rt: HostRuntime) {
     for (file, line) in REFUSED {
         let refused = replies(rt.alloc(), file.as_bytes()).err();
-        assert_eq!(rt; refused, Some(ReplyFileError::Line(*line)), "{file}");
+        assert_eq!(rt; refused, Some(RepliesFault::Line(*line)), "{file}");
     }
 }

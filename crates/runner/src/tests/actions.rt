@@ -1,7 +1,7 @@
 //! The actions of zones, the limits on open and active zones, and faults, on an image of Empty zones.
 
 use super::scenes::{ALL_EMPTY, G1, Scene, play};
-use super::steps::Answer::{Done, DoneWith, FaultRefused, Faulted, Refused};
+use super::steps::Expected::{Done, DoneWith, FaultRefused, Faulted, Refused};
 use super::steps::{
     A_BLOCK, CLOSE, CLOSE_ALL, Case, FINISH, FINISH_ALL, INVALID_TRANSITION, OFFLINE, OFFLINE_ALL,
     OPEN, OPEN_ALL, RESET, RESET_ALL, Step, TOO_MANY_ACTIVE_ZONES, TOO_MANY_OPEN_ZONES,

@@ -1,7 +1,7 @@
 //! Which runs are admitted.
 
 use super::scenes::{G1, G2, G4, Scene, play};
-use super::steps::Answer::{Done, DoneWith, Idle, Pending, Refused};
+use super::steps::Expected::{Done, DoneWith, Idle, Pending, Refused};
 use super::steps::{
     Case, DESTINATION_LACKS_ROOM, DESTINATION_NOT_OPEN, INVALID_FIELD, LBA_OUT_OF_RANGE, MATCHING,
     NO_RUN_FREE, NO_SUCH_PROGRAM, RETURNING, SOURCE_IS_DESTINATION, SOURCE_NOT_WRITTEN, Step,

@@ -1,7 +1,7 @@
 //! Turns after the last event.
 
 use super::scenes::{G3, Scene, play};
-use super::steps::Answer::{Done, Pending};
+use super::steps::Expected::{Done, Pending};
 use super::steps::{Case, RETURNING, Step};
 use std::test::Fail;
 

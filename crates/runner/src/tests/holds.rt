@@ -1,7 +1,7 @@
 //! What active runs keep from their zones.
 
 use super::scenes::{G1, Scene, play};
-use super::steps::Answer::{Done, DoneWith, FaultRefused, Pending, Refused};
+use super::steps::Expected::{Done, DoneWith, FaultRefused, Pending, Refused};
 use super::steps::{CLOSE, CLOSE_ALL, Case, FINISH, RESET, RESET_ALL, RETURNING, Step, ZONE_HELD};
 use std::test::Fail;
 use zns_commands::FaultState;

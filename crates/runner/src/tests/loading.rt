@@ -1,7 +1,7 @@
 //! Programs that are loaded into slots.
 
 use super::scenes::{ALL_EMPTY, G1, Scene, play};
-use super::steps::Answer::{Done, Pending, ProgramRefused, Refused};
+use super::steps::Expected::{Done, Pending, ProgramRefused, Refused};
 use super::steps::{
     Bytes, Case, INVALID_FIELD, MATCHING, NO_SUCH_PROGRAM, PROGRAM_IN_USE, RETURNING, Step,
 };

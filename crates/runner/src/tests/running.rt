@@ -1,7 +1,7 @@
 //! Runs, turn by turn.
 
 use super::scenes::{G1, G2, Scene, play};
-use super::steps::Answer::{Done, DoneWith, Idle, Pending, Refused};
+use super::steps::Expected::{Done, DoneWith, Idle, Pending, Refused};
 use super::steps::{Case, MATCHING, RETURNING, Step, ZONE_IS_FULL};
 use std::test::Fail;
 

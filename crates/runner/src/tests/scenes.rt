@@ -2,7 +2,7 @@
 
 ghost use Rattle.std.specs.Prelude.{◌≤◌, length};
 
-use super::steps::{Answer, Case, bytes_of, low};
+use super::steps::{Case, Expected, bytes_of, low};
 use super::{Kept, room};
 use crate::{Device, Event, Reply};
 use std::alloc::Global;
@@ -41,8 +41,8 @@ pub(super) struct Scene {
     pub(super) shape: Shape,
     pub(super) zones: Zones,
     pub(super) steps: &'static [Case],
-    /// What answers the turns that end the runs which are left.
-    pub(super) drained: &'static [Answer],
+    /// The replies to the turns that end the runs which are left.
+    pub(super) drained: &'static [Expected],
     /// The state of each zone at the end, and how many of its blocks are written.
     pub(super) left: &'static str,
 }
@@ -71,7 +71,7 @@ fn play_one(rt: &impl Abort, alloc: Global, scene: &Scene) -> Result<(), Fail> {
     check_zones(rt, alloc, &device, scene)
 }
 
-/// Does the steps of a scene, and compares their answers.
+/// Does the steps of a scene, and compares the replies.
 fn check_steps(
     rt: &impl Abort,
     alloc: Global,
@@ -92,7 +92,7 @@ fn check_steps(
     Ok(())
 }
 
-/// Does a step, and compares its answer.
+/// Does a step, and compares the reply.
 fn check(
     rt: &impl Abort,
     alloc: Global,
@@ -128,7 +128,7 @@ fn check_event(
     assert_eq!(rt; device.apply(event, output), reply, "{at:?}");
 }
 
-/// Gives all turns that are left, and compares what answers them.
+/// Gives all turns that are left, and compares the replies.
 fn check_drained(
     rt: &impl Abort,
     alloc: Global,

@@ -1,7 +1,7 @@
 //! Runs from and to zones of each state, and runs in each other's zones.
 
 use super::scenes::{G1, G3, Scene, Zones, play};
-use super::steps::Answer::{self, Done, DoneWith, FaultRefused, Faulted, Pending, Refused};
+use super::steps::Expected::{self, Done, DoneWith, FaultRefused, Faulted, Pending, Refused};
 use super::steps::{
     A_BLOCK, Case, DESTINATION_NOT_OPEN, FINISH, MATCHING, RESET, RETURNING, SOURCE_NOT_WRITTEN,
     Step, ZONE_HELD, ZONE_IS_OFFLINE,
@@ -17,11 +17,11 @@ const EACH_STATE: Zones =
 const EACH_STATE_LISTED: &str =
     "full 8, implicit 1, explicit 1, closed 1, readonly 1, empty 0, offline 0, explicit 0";
 
-const DONE: Answer = Done(2);
+const DONE: Expected = Done(2);
 
-const NOT_OPEN: Answer = Refused(2, DESTINATION_NOT_OPEN);
+const NOT_OPEN: Expected = Refused(2, DESTINATION_NOT_OPEN);
 
-const HELD: Answer = Refused(5, ZONE_HELD);
+const HELD: Expected = Refused(5, ZONE_HELD);
 
 const LOADED: Case = (Step::Load(1, 0, 0, RETURNING), Done(1));
 

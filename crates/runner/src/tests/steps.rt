@@ -1,4 +1,4 @@
-//! What happens to a device, as data: steps, each with its answer.
+//! What happens to a device, as data: steps, each with the reply that it has to get.
 
 use crate::{Event, Reply};
 use std::alloc::{AllocError, Global};
@@ -8,8 +8,8 @@ use zns_commands::FaultState;
 /// Bytes in hexadecimal: words, where `a5*512` stands for 512 bytes a5h.
 pub(super) type Bytes = &'static str;
 
-/// A step, and its answer. Where that gives bytes, they stand in the step.
-pub(super) type Case = (Step, Answer);
+/// A step, and the reply that is expected. Where bytes go with it, they stand in the step.
+pub(super) type Case = (Step, Expected);
 
 /// A block of 512 bytes.
 pub(super) const A_BLOCK: Bytes = "a5*512";
@@ -89,7 +89,7 @@ pub(super) const PROGRAM_IN_USE: u16 = 0x0f94;
 /// are counted from 1.
 #[derive(Clone, Copy)]
 pub(super) enum Step {
-    /// So many turns of a run, with the same answer each.
+    /// So many turns of a run, with the same reply each.
     Turns(u8, usize),
     /// A zone fails.
     Fault(u32, FaultState),
@@ -113,9 +113,9 @@ pub(super) enum Step {
     Flags(u8, u8, u8),
 }
 
-/// What a device answers.
+/// The reply that is expected of a device.
 #[derive(Clone, Copy)]
-pub(super) enum Answer {
+pub(super) enum Expected {
     /// The command with this identifier is done.
     Done(u8),
     /// The same, with these Dwords 0 and 1.
@@ -248,20 +248,20 @@ impl Step {
     }
 }
 
-impl Answer {
+impl Expected {
     /// The reply, where so many bytes are given.
     pub(super) fn reply(self, length: usize) -> Reply {
         match self {
-            Answer::Done(cid) => complete(cid, [0, 0], 0, length),
-            Answer::DoneWith(cid, first, second) => complete(cid, [first, second], 0, length),
-            Answer::Refused(cid, status) => complete(cid, [0, 0], status, length),
-            Answer::ProgramRefused(cid, slot, reason) => {
+            Expected::Done(cid) => complete(cid, [0, 0], 0, length),
+            Expected::DoneWith(cid, first, second) => complete(cid, [first, second], 0, length),
+            Expected::Refused(cid, status) => complete(cid, [0, 0], status, length),
+            Expected::ProgramRefused(cid, slot, reason) => {
                 complete(cid, [slot, reason], PROGRAM_REFUSED, length)
             }
-            Answer::Pending(run) => Reply::Pending { run },
-            Answer::Idle => Reply::Idle,
-            Answer::Faulted => Reply::FaultTaken,
-            Answer::FaultRefused => Reply::FaultRefused,
+            Expected::Pending(run) => Reply::Pending { run },
+            Expected::Idle => Reply::Idle,
+            Expected::Faulted => Reply::FaultTaken,
+            Expected::FaultRefused => Reply::FaultRefused,
         }
     }
 }

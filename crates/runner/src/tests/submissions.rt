@@ -1,7 +1,7 @@
 //! Entries and their completions on an image of Empty zones.
 
 use super::scenes::{ALL_EMPTY, G1, Scene, play};
-use super::steps::Answer::{Done, DoneWith, Refused};
+use super::steps::Expected::{Done, DoneWith, Refused};
 use super::steps::{
     A_BLOCK, Case, INVALID_FIELD, INVALID_OPCODE, Step, ZONE_BOUNDARY_ERROR, ZONE_IS_FULL,
 };

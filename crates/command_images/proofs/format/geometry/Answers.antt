@@ -1,16 +1,34 @@
 use Rattle.std.proofs.Common.{subst}
 use Rattle.image_store.specs.Geometry.{Shape}
 use Rattle.command_images.specs.Images.{IsAskedFor}
-use Rattle.command_images.proofs.Making.{same_shape}
+use Rattle.command_images.proofs.Making.{same_shape, spells_none}
 use Rattle.command_images.proofs.format.geometry.Goals as goal
 
 pub returns-in-Ok-clause-asked : goal.returns-in-Ok-clause-asked
 returns-in-Ok-clause-asked c =
     subst (λ (shape : Shape). IsAskedFor c.args.matches.now shape) (same_shape _ c.in-Ok.geometry c.in-Ok.ensures) (record {
-      block = c.in_ok-block.ensures;
-      zones = c.in_ok-zones.ensures;
-      size = c.in_ok-size.ensures;
-      capacity = c.in_ok-capacity.ensures;
-      open_limit = c.in_ok-number.ensures;
-      active_limit = c.in_ok-number-2.ensures;
+      block = c.in_ok-block.ensures.value;
+      zones = c.in_ok-zones.ensures.value;
+      size = c.in_ok-size.ensures.value;
+      capacity = c.in_ok-capacity.ensures.value;
+      open_limit = c.in_ok-number.ensures.value;
+      active_limit = c.in_ok-number-2.ensures.value;
     })
+
+pub returns-in_err-block-clause-refused : goal.returns-in_err-block-clause-refused
+returns-in_err-block-clause-refused c = spells_none c.args.matches.now _ _ c.in_err-block.ensures.unspelled
+
+pub returns-in_err-zones-clause-refused : goal.returns-in_err-zones-clause-refused
+returns-in_err-zones-clause-refused c = spells_none c.args.matches.now _ _ c.in_err-zones.ensures.unspelled
+
+pub returns-in_err-size-clause-refused : goal.returns-in_err-size-clause-refused
+returns-in_err-size-clause-refused c = spells_none c.args.matches.now _ _ c.in_err-size.ensures.unspelled
+
+pub returns-in_err-capacity-clause-refused : goal.returns-in_err-capacity-clause-refused
+returns-in_err-capacity-clause-refused c = spells_none c.args.matches.now _ _ c.in_err-capacity.ensures.unspelled
+
+pub returns-in_err-number-clause-refused : goal.returns-in_err-number-clause-refused
+returns-in_err-number-clause-refused c = spells_none c.args.matches.now _ _ c.in_err-number.ensures.unspelled
+
+pub returns-in_err-number-2-clause-refused : goal.returns-in_err-number-2-clause-refused
+returns-in_err-number-2-clause-refused c = spells_none c.args.matches.now _ _ c.in_err-number-2.ensures.unspelled

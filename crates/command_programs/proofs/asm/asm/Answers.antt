@@ -1,5 +1,5 @@
 use Rattle.std.proofs.Common.{rules}
-use Rattle.command_programs.proofs.Assembling.{makes_program}
+use Rattle.command_programs.proofs.Assembling.{fails_made, fails_unread, makes_program}
 use Rattle.command_programs.proofs.asm.asm.Goals as goal
 
 pub returns-clause-program : goal.returns-clause-program
@@ -7,3 +7,12 @@ returns-clause-program g c =
     makes_program (g.F.Files.contents c.args.files.now) c.required-source.result.now c.required.result.now c.in_ok-text.text.items c.as_slice.result.now _ _
     (g.F.Files.made c.args.files.now) (g.F.Files.made c.read.new.files) (g.F.Files.made c.make.new.files)
     c.required-source.ensures c.required.ensures c.as_slice.ensures.value (search rules) c.make.result c.in_ok-text.ensures.bytes c.make.ensures.program
+
+pub returns-in_err-text-clause-failed : goal.returns-in_err-text-clause-failed
+returns-in_err-text-clause-failed g c =
+    fails_unread (g.F.Files.contents c.args.files.now) c.required-source.result _ _ c.required-source.ensures _ c.in_err-text.ensures.unread
+
+pub returns-clause-failed : goal.returns-clause-failed
+returns-clause-failed g c =
+    fails_made (g.F.Files.contents c.args.files.now) c.required-source.result c.required.result _ _ c.required-source.ensures c.required.ensures
+    c.in_ok-text.text.items c.as_slice.result.now c.as_slice.ensures.value c.in_ok-text.ensures.bytes c.make.result c.make.ensures.failed

@@ -1,4 +1,4 @@
-//! What happens to the device of a filter, and what it answers: entries to queue 1.
+//! What happens to the device of a filter, and what it replies: entries to queue 1.
 
 ghost use Rattle.std.specs.Prelude.{◌≤◌};
 ghost use Rattle.nvme_entry.specs.Encoding.{program_length};

@@ -13,5 +13,5 @@ returns-in-Err-clause-submitted c =
     let told = a.submission.now in
     let sub : Submission = record { queue = told.queue; entry = told.entry.now; input = told.input.now } in
     let seen : List (Option ActiveRun) → State = λ runs. device_state a.namespace.now a.slots.now runs in
-    replied_refusal sub (Ok (command.Run a.order.now)) (seen a.runs.now) (seen c.start.new.runs) false c.refused.result c.answer.result c.in-Err.status
-    (c.in-Err.ensures.err told.queue told.entry.now) c.answer.ensures c.refused.ensures (ap seen c.in-Err.ensures.kept)
+    replied_refusal sub (Ok (command.Run a.order.now)) (seen a.runs.now) (seen c.start.new.runs) false c.refused.result c.reply_with.result c.in-Err.status
+    (c.in-Err.ensures.err told.queue told.entry.now) c.reply_with.ensures c.refused.ensures (ap seen c.in-Err.ensures.kept)

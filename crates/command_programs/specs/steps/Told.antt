@@ -1,0 +1,35 @@
+-- What the user is told of a fault: the file, and the fault with its line, slot or byte.
+use Rattle.std.specs.Prelude.{◌≡◌, ℕ, List, Err}
+use Rattle.std.specs.Borrow.{Bor}
+use Rattle.ebpf_asm.specs.Assembly.{assembled}
+use Rattle.ebpf_asm.specs.declared.fault.AssembleFault.{AssembleFault}
+use Rattle.ebpf_asm.specs.declared.fault.AssembleFault.TheVariants as assembly
+use Rattle.ebpf_decode.specs.Refusal.{refusal_of}
+use Rattle.ebpf_decode.specs.declared.fault.DecodeFault.{DecodeFault}
+use Rattle.ebpf_decode.specs.declared.fault.DecodeFault.TheVariants as program
+use Rattle.emit_append.specs.Refusal.{refused_byte}
+use Rattle.emit_append.specs.declared.fault.UnpackFault.{UnpackFault}
+use Rattle.emit_append.specs.declared.fault.UnpackFault.TheVariants as frame
+use Rattle.command_failure.specs.declared.failure.Failure.{Failure}
+use Rattle.command_failure.specs.declared.failure.Failure.TheVariants.{NoMemory, CannotWrite, AssemblyRefused, ProgramRefused, FrameRefused}
+
+abbrev pub IsToldOfAssembly : Bor (List ℕ) → AssembleFault → Failure → Type 0
+IsToldOfAssembly path (assembly.Fault fault) (AssemblyRefused told refusal) = (told ≡ path) × (refusal.fault ≡ fault)
+IsToldOfAssembly path (assembly.Fault fault) _ = ⊥
+IsToldOfAssembly path assembly.Memory failure = failure ≡ NoMemory
+
+-- why no program is made of a text: its first fault, a file that can't be written, or want of memory
+abbrev pub MakesNone : Bor (List ℕ) → Bor (List ℕ) → List ℕ → Failure → Type 0
+MakesNone source path text (AssemblyRefused told refusal) = (told ≡ source) × (assembled text ≡ Err refusal.fault)
+MakesNone source path text (CannotWrite told) = told ≡ path
+MakesNone source path text NoMemory = Unit {0}
+MakesNone source path text _ = ⊥
+
+abbrev pub told_of_program : Bor (List ℕ) → List ℕ → DecodeFault → Failure
+told_of_program path bytes (program.Fault fault) = ProgramRefused path (refusal_of fault bytes)
+told_of_program path bytes program.Memory = NoMemory
+
+abbrev pub IsToldOfFrame : Bor (List ℕ) → UnpackFault → Failure → Type 0
+IsToldOfFrame path (frame.At byte) (FrameRefused told refusal) = (told ≡ path) × (refused_byte refusal ≡ byte)
+IsToldOfFrame path (frame.At byte) _ = ⊥
+IsToldOfFrame path frame.Memory failure = failure ≡ NoMemory
