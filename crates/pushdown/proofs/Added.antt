@@ -15,7 +15,7 @@ use Rattle.image_store.specs.Namespace.{ZoneBlocks, ZonedNamespace, appended, gr
 use Rattle.zns_commands.specs.Left.{Grows}
 use Rattle.zns_commands.proofs.Proved.{grows_by_none, replaced_grows}
 use Rattle.pushdown.specs.Laws.{BlocksLeaveOthers}
-use Rattle.pushdown.specs.EventEffects.{added}
+use Rattle.pushdown.specs.Happenings.{added}
 use Rattle.pushdown.proofs.Bytes.{AreBlocks, all_append}
 
 -- a zone that isn't Offline is one of the namespace

@@ -12,7 +12,7 @@ use Rattle.pushdown.specs.EventReplies.{Happening}
 use Rattle.device_events.specs.Replies.{ReplyWithData}
 use Rattle.pushdown.specs.AnyOrder.{AreSameTurns, ComeToTheSame, IsUnshared, TurnsInAnyOrder, own_replies}
 use Rattle.pushdown.specs.Draining.{replies_to_turns, state_after_turns}
-use Rattle.pushdown.specs.EventEffects.{slots_left, take_turn, turned, turned_at}
+use Rattle.pushdown.specs.Happenings.{slots_left, take_turn, turned, turned_at}
 use Rattle.pushdown.specs.Outcome.{Ending, Turn}
 use Rattle.pushdown.specs.State.{Place, State, place_at, program_at}
 use Rattle.pushdown.proofs.Commuting.{Empty, OwnAll, kept, reply_after, state_of_both, stays_own, turns_keep}

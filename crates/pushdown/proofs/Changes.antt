@@ -14,7 +14,7 @@ use Rattle.zns_commands.specs.Laws.{Commanded, Faulted, IsSpelled, NamespaceEven
 use Rattle.zns_commands.specs.Transfer.{transfer_checks}
 use Rattle.pushdown.specs.Admission.{Loaded}
 use Rattle.pushdown.specs.EventReplies.{Submission}
-use Rattle.pushdown.specs.EventEffects.{admitted_place, happens, just_loaded, loading, result_by, start_by, submitted, take_turn, turn_state, turned, turned_at, why_not_run}
+use Rattle.pushdown.specs.Happenings.{admitted_place, happens, just_loaded, loading, result_by, start_by, submitted, take_turn, turn_state, turned, turned_at, why_not_run}
 use Rattle.pushdown.specs.Outcome.{Turn}
 use Rattle.pushdown.specs.Events.{HasBytes}
 use Rattle.pushdown.specs.State.{Place, State, free_place, holds_of, place_at, program_at, with_namespace, with_place, with_slot}

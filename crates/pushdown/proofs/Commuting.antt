@@ -6,7 +6,7 @@ use Rattle.std.proofs.lemmas.List.{set_comm, set-get_or}
 use Rattle.image_store.specs.Namespace.{ZoneBlocks, ZonedNamespace, grown, no_zone}
 use Rattle.pushdown.specs.Admission.{Loaded, SameProgram}
 use Rattle.pushdown.specs.Draining.{state_after_turns}
-use Rattle.pushdown.specs.EventEffects.{added, keeping, place_left, slots_left, take_turn, turn_state, turned, turned_at}
+use Rattle.pushdown.specs.Happenings.{added, keeping, place_left, slots_left, take_turn, turn_state, turned, turned_at}
 use Rattle.pushdown.specs.Outcome.{Ending, Turn}
 use Rattle.pushdown.specs.State.{Place, State, place_at, program_at}
 use Rattle.pushdown.proofs.Changes.{after_turn}

@@ -7,7 +7,7 @@ use Rattle.accepted_programs.specs.Laws.{AcceptedNeverTraps}
 use Rattle.pushdown.specs.EventReplies.{Happening}
 use Rattle.pushdown.specs.Draining.{Drains, lowest_run, turns_left, turns_left_at}
 use Rattle.pushdown.specs.Laws.{DrainingEnds, TurnsLeaveFewer}
-use Rattle.pushdown.specs.EventEffects.{place_left, turned}
+use Rattle.pushdown.specs.Happenings.{place_left, turned}
 use Rattle.pushdown.specs.Outcome.{Ending, Turn}
 use Rattle.pushdown.specs.State.{Place, State, place_at}
 use Rattle.pushdown.proofs.OthersEvents.{turned_is}

@@ -7,7 +7,7 @@ use Rattle.word_domain.specs.Domain.{Operations}
 use Rattle.pushdown.specs.EventReplies.{Happening, plain}
 use Rattle.device_events.specs.Replies.{ReplyWithData}
 use Rattle.pushdown.specs.Draining.{state_after_turns}
-use Rattle.pushdown.specs.EventEffects.{submitted, turned}
+use Rattle.pushdown.specs.Happenings.{submitted, turned}
 use Rattle.pushdown.specs.State.{State, new_state}
 use Rattle.device_events.specs.declared.reply.Reply.TheVariants.{Complete, Idle}
 use Rattle.pushdown.proofs.ExampleEvents.{asks, completes, completes_with, device, zone_of}

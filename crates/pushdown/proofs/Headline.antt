@@ -21,7 +21,7 @@ use Rattle.pushdown.specs.EventReplies.{Happening, Submission, plain}
 use Rattle.pushdown.specs.BlockRuns.{no_scratch, runs_of}
 use Rattle.pushdown.specs.Events.{Occurrence, state_after}
 use Rattle.pushdown.specs.Laws.{AdmittedStarts, StartsRun}
-use Rattle.pushdown.specs.EventEffects.{admitted_place, happens, start_by, submitted}
+use Rattle.pushdown.specs.Happenings.{admitted_place, happens, start_by, submitted}
 use Rattle.pushdown.specs.Outcome.{Turn, outcome}
 use Rattle.pushdown.specs.Pushdown.{ChangesDestinationAlone, DoesItsTurns, EndsWithLast, IsAdmitted, Pushdown, TellsFramesAndBlocks, blocks_at, no_turn, own_turns}
 use Rattle.pushdown.specs.State.{Place, State, free_place, holds_of, place_at, program_at, with_place}

@@ -16,7 +16,7 @@ use Rattle.nvme_entry.proofs.Proved.{demanded, passed}
 use Rattle.zone_resources.proofs.Proved.{users_name_zones}
 use Rattle.pushdown.specs.Admission.{Loaded, SameProgram}
 use Rattle.pushdown.specs.Laws.{EventsKeepForRuns, KeepsFor}
-use Rattle.pushdown.specs.EventEffects.{happens, just_loaded, keeping, load_checks, slots_left}
+use Rattle.pushdown.specs.Happenings.{happens, just_loaded, keeping, load_checks, slots_left}
 use Rattle.pushdown.specs.Outcome.{Ending}
 use Rattle.pushdown.specs.State.{Place, State, in_use, place_at, program_at, source_of, uses}
 use Rattle.device_events.specs.declared.event.Event.{Event}

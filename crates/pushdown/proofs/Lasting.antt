@@ -7,7 +7,7 @@ use Rattle.zns_commands.specs.Laws.{NamespaceEvent, after}
 use Rattle.zns_commands.proofs.Proved.{grows_on, events_keep_shapes, events_keep_zones, uncleared_is_readable}
 use Rattle.zns_commands.proofs.Proved.{KeepsZone}
 use Rattle.pushdown.specs.Events.{Occurrence, state_after}
-use Rattle.pushdown.specs.EventEffects.{added, happens}
+use Rattle.pushdown.specs.Happenings.{added, happens}
 use Rattle.pushdown.specs.ReadBack.{EventsKeepShapes, NoneClears, UnclearedKeepBlocks}
 use Rattle.pushdown.specs.State.{State}
 use Rattle.device_events.specs.declared.event.Event.{Event}

@@ -11,7 +11,7 @@ use Rattle.word_domain.specs.Domain.{Operations}
 use Rattle.accepted_programs.specs.Accepted.{refusal}
 use Rattle.accepted_programs.specs.declared.reason.Refusal.{Refusal}
 use Rattle.pushdown.specs.EventReplies.{Happening, Submission}
-use Rattle.pushdown.specs.EventEffects.{judged, just_loaded, load_checks, load_unless, loading, read_program, sizes_for}
+use Rattle.pushdown.specs.Happenings.{judged, just_loaded, load_checks, load_unless, loading, read_program, sizes_for}
 use Rattle.pushdown.specs.State.{State, with_slot}
 use Rattle.device_events.specs.declared.reply.Reply.{Reply}
 use Rattle.device_events.specs.declared.reply.Reply.TheVariants as reply

@@ -6,7 +6,7 @@ use Rattle.std.proofs.lemmas.List.Quantifiers.{position-Some}
 use Rattle.word_domain.specs.Domain.{Operations}
 use Rattle.pushdown.specs.EventReplies.{Happening}
 use Rattle.pushdown.specs.Laws.{ForeignLeavesTurns, TurnTakesFirst}
-use Rattle.pushdown.specs.EventEffects.{admitted_place, happens, place_left, take_turn, turned, turned_at}
+use Rattle.pushdown.specs.Happenings.{admitted_place, happens, place_left, take_turn, turned, turned_at}
 use Rattle.pushdown.specs.Outcome.{Turn}
 use Rattle.pushdown.specs.Pushdown.{is_turn_of}
 use Rattle.pushdown.specs.State.{Place, State, place_at}

@@ -5,7 +5,7 @@ use Rattle.word_domain.specs.Domain.{Operations}
 use Rattle.device_events.specs.Replies.{Joins, ReplyWithData}
 use Rattle.pushdown.specs.Draining.{AreLowest, Drains, lowest_run, replies_to_turns, state_after_turns}
 use Rattle.pushdown.specs.Events.{HasBytes, Occurrence, replies_to, state_after}
-use Rattle.pushdown.specs.EventEffects.{happens, turned}
+use Rattle.pushdown.specs.Happenings.{happens, turned}
 use Rattle.pushdown.specs.Parts.{DrainedByTurns, DrainedInOneWay, EventsJoin, InParts, OneReplyEach, ServedAndDrained, ServedInParts, turn_events}
 use Rattle.pushdown.specs.State.{State}
 use Rattle.device_events.specs.declared.event.Event.{Event}

@@ -12,7 +12,7 @@ use Rattle.pushdown.specs.Admission.{Loaded}
 use Rattle.pushdown.specs.EventReplies.{Happening, Submission, plain}
 use Rattle.device_events.specs.Replies.{ReplyWithData}
 use Rattle.pushdown.specs.Laws.{PendingIsAdmitted}
-use Rattle.pushdown.specs.EventEffects.{result_by, start_by, submitted, why_not_run}
+use Rattle.pushdown.specs.Happenings.{result_by, start_by, submitted, why_not_run}
 use Rattle.pushdown.specs.Pushdown.{IsAdmitted}
 use Rattle.pushdown.specs.State.{State, free_place, program_at}
 use Rattle.device_events.specs.declared.reply.Reply.{Reply}

@@ -13,7 +13,7 @@ use Rattle.nvme_entry.proofs.Proved.{passed, demanded}
 use Rattle.zone_resources.proofs.Proved.{users_name_zones}
 use Rattle.pushdown.specs.Admission.{admission_checks, destination_zone}
 use Rattle.pushdown.specs.EventReplies.{Submission}
-use Rattle.pushdown.specs.EventEffects.{admitted_place, happens, place_left, turned, why_not_run}
+use Rattle.pushdown.specs.Happenings.{admitted_place, happens, place_left, turned, why_not_run}
 use Rattle.pushdown.specs.Outcome.{Ending, Turn}
 use Rattle.pushdown.specs.State.{Place, State, destination_of, free_place, holds_of, new_state, place_at, program_at}
 use Rattle.device_events.specs.declared.event.Event.{Event}

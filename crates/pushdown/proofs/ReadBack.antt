@@ -17,15 +17,14 @@ use Rattle.image_store.specs.Blocks.{bytes_of}
 use Rattle.image_store.specs.Namespace.{ZoneBlocks, ZonedNamespace, no_zone, zone_at, IsNamespace}
 use Rattle.image_store.proofs.Proved.{written_is_within}
 use Rattle.zns_commands.specs.Address.{zone_number}
-use Rattle.zns_commands.specs.Answer.{Effect}
+use Rattle.zns_commands.specs.Effect.{Effect}
 use Rattle.zns_commands.specs.Meaning.{meaning}
 use Rattle.zns_commands.specs.Laws.{AreRead}
 use Rattle.zns_commands.specs.Read.{read_refusal}
-use Rattle.zns_commands.proofs.Proved.{appended_stays, lying_is_read, written_stays}
-use Rattle.zns_commands.proofs.Proved.{BlocksLieAt, KeepsZone}
+use Rattle.zns_commands.proofs.Proved.{BlocksLieAt, KeepsZone, appended_stays, lying_is_read, written_stays}
 use Rattle.pushdown.specs.EventReplies.{Happening, Submission}
 use Rattle.pushdown.specs.Events.{Occurrence, state_after}
-use Rattle.pushdown.specs.EventEffects.{commanded, happens, submitted}
+use Rattle.pushdown.specs.Happenings.{commanded, happens, submitted}
 use Rattle.pushdown.specs.Pushdown.{blocks_at}
 use Rattle.pushdown.specs.ReadBack.{AppendsReadBack, BlocksAreRead, IsCompleted, NoneClears, ReadsGive, Submits, WritesReadBack, WrittenIsRead}
 use Rattle.pushdown.specs.State.{State, holds_of}

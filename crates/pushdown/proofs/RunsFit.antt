@@ -3,7 +3,7 @@ use Rattle.std.proofs.Common.{◌≡◌, ℕ, List, ◌∷◌, set, get_or, Opti
 use Rattle.std.proofs.lemmas.Bool.Decides.{eqb_tells}
 use Rattle.image_store.specs.Namespace.{ZoneBlocks, ZonedNamespace, zone_at}
 use Rattle.pushdown.specs.Laws.{RoomIn}
-use Rattle.pushdown.specs.EventEffects.{added, place_left}
+use Rattle.pushdown.specs.Happenings.{added, place_left}
 use Rattle.pushdown.specs.Outcome.{Ending, Turn}
 use Rattle.pushdown.specs.State.{Place, State, place_at}
 use Rattle.pushdown.proofs.Added.{added_capacity, added_leaves}

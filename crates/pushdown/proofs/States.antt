@@ -40,7 +40,7 @@ use Rattle.pushdown.specs.EventReplies.{Submission}
 use Rattle.pushdown.specs.BlockRuns.{Task, groups_of, no_scratch, runs_of}
 use Rattle.pushdown.specs.Events.{AreEvents, HasBytes, Occurrence, state_after}
 use Rattle.pushdown.specs.Laws.{IsAppended, RoomIn, StatesAreSound}
-use Rattle.pushdown.specs.EventEffects.{admitted_place, happens, just_loaded, keeping, load_checks, place_left, slots_left, turn_state, turned, why_not_run}
+use Rattle.pushdown.specs.Happenings.{admitted_place, happens, just_loaded, keeping, load_checks, place_left, slots_left, turn_state, turned, why_not_run}
 use Rattle.pushdown.specs.Outcome.{Ending, Turn, appended_by, no_output, outcome}
 use Rattle.pushdown.specs.Pushdown.{EndsWithLast, Succeeds}
 use Rattle.pushdown.specs.Reached.{IsReached}

@@ -11,7 +11,7 @@ use Rattle.zns_commands.proofs.Proved.{destinations_are_left}
 use Rattle.pushdown.specs.Admission.{SameProgram}
 use Rattle.pushdown.specs.EventReplies.{Happening}
 use Rattle.pushdown.specs.Events.{Occurrence, state_after}
-use Rattle.pushdown.specs.EventEffects.{added, happens, keeping, place_left, slots_left, turn_reply, turned}
+use Rattle.pushdown.specs.Happenings.{added, happens, keeping, place_left, slots_left, turn_reply, turned}
 use Rattle.pushdown.specs.Outcome.{Ending, Turn, appended_by}
 use Rattle.zone_resources.specs.Counts.{one_if}
 use Rattle.pushdown.specs.Pushdown.{EndsWithLast, blocks_at, is_turn_of, no_turn, own_turns}

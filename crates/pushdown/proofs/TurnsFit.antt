@@ -11,7 +11,7 @@ use Rattle.image_store.specs.Namespace.{ZoneBlocks, ZonedNamespace, IsNamespace,
 use Rattle.zns_commands.specs.Append.{TakesBlocks}
 use Rattle.zns_commands.proofs.Proved.{blocks_are_appended, blocks_keep_namespaces}
 use Rattle.pushdown.specs.Laws.{IsAppended, RoomIn, RoomIsOpen, RoomStays}
-use Rattle.pushdown.specs.EventEffects.{added}
+use Rattle.pushdown.specs.Happenings.{added}
 use Rattle.pushdown.specs.Outcome.{Ending, Turn, appended_by}
 use Rattle.pushdown.proofs.Added.{added_bytes, bytes_are, bytes_count, bytes_long, inside, open_on}
 use Rattle.pushdown.proofs.Bytes.{AreBlocks}

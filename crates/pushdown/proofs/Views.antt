@@ -9,7 +9,7 @@ use Rattle.zns_commands.specs.Left.{Grows}
 use Rattle.pushdown.specs.Admission.{limit_in, program_in, source_blocks, task_of}
 use Rattle.pushdown.specs.EventReplies.{Submission}
 use Rattle.pushdown.specs.BlockRuns.{Task}
-use Rattle.pushdown.specs.EventEffects.{admitted_place}
+use Rattle.pushdown.specs.Happenings.{admitted_place}
 use Rattle.pushdown.specs.Outcome.{Turn, at_admission, rest}
 use Rattle.pushdown.specs.State.{Place, program_at}
 use Rattle.pushdown.specs.View.{SeenAtAdmission, SeenStays, begun, to_come}

@@ -1,7 +1,7 @@
 -- Turns of the lowest active run, until no run is left.
 use Rattle.std.specs.Prelude.{ℕ, ◌≡◌, ◌≤◌, ◌+◌, ◌-◌, List, [], ◌∷◌, length, position, take, is_some, Option, Some, None}
 use Rattle.device_events.specs.Replies.{ReplyWithData}
-use Rattle.pushdown.specs.EventEffects.{turned}
+use Rattle.pushdown.specs.Happenings.{turned}
 use Rattle.pushdown.specs.State.{Place, State}
 
 -- the lowest run number that an active run has

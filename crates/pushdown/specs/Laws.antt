@@ -20,7 +20,7 @@ use Rattle.pushdown.specs.EventReplies.{Happening, Submission, plain}
 use Rattle.pushdown.specs.BlockRuns.{Task, block_run, frames_of, goes_on, groups_of, runs_of, scratch_after}
 use Rattle.pushdown.specs.Draining.{Drains, turns_left}
 use Rattle.pushdown.specs.Events.{Occurrence}
-use Rattle.pushdown.specs.EventEffects.{added, admitted_place, happens, turned}
+use Rattle.pushdown.specs.Happenings.{added, admitted_place, happens, turned}
 use Rattle.pushdown.specs.Outcome.{Ending, Progress, Turn, appended_by, at_admission, ending_of, last_turn, outcome, output_of, rest}
 use Rattle.pushdown.specs.Pushdown.{IsAdmitted, is_turn_of, success_of}
 use Rattle.pushdown.specs.Reached.{IsReached}

@@ -3,7 +3,7 @@ pub mod Admission
 pub mod Outcome
 pub mod State
 pub mod EventReplies
-pub mod EventEffects
+pub mod Happenings
 pub mod Draining
 pub mod Events
 pub mod Reached

@@ -5,7 +5,7 @@ use Rattle.nvme_entry.specs.Entry.{decoded}
 use Rattle.nvme_entry.specs.declared.command.Command.{Command}
 use Rattle.nvme_entry.specs.declared.command.Command.TheVariants as command
 use Rattle.word_domain.specs.Domain.{Operations}
-use Rattle.pushdown.specs.EventEffects.{happens}
+use Rattle.pushdown.specs.Happenings.{happens}
 use Rattle.pushdown.specs.State.{State}
 use Rattle.device_events.specs.declared.event.Event.{Event}
 use Rattle.device_events.specs.declared.event.Event.TheVariants as event

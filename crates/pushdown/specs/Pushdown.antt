@@ -24,7 +24,7 @@ use Rattle.pushdown.specs.Admission.{SameProgram, source_blocks, task_of}
 use Rattle.pushdown.specs.EventReplies.{Happening, Submission}
 use Rattle.pushdown.specs.BlockRuns.{Task, frames_of, last_scratch, runs_of}
 use Rattle.pushdown.specs.Events.{Occurrence, state_after}
-use Rattle.pushdown.specs.EventEffects.{added, admitted_place, place_left, slots_left, turn_reply, turned, why_not_run}
+use Rattle.pushdown.specs.Happenings.{added, admitted_place, place_left, slots_left, turn_reply, turned, why_not_run}
 use Rattle.pushdown.specs.Outcome.{Ending, Turn, appended_by, ending_of, outcome}
 use Rattle.pushdown.specs.Reached.{IsReached}
 use Rattle.pushdown.specs.State.{Place, State, free_place, place_at, program_at}

@@ -15,13 +15,13 @@ use Rattle.image_store.specs.Blocks.{bytes_of}
 use Rattle.image_store.specs.Namespace.{zone_at, shape, IsNamespace}
 use Rattle.zone_state.specs.State.{is_cleared}
 use Rattle.zns_commands.specs.Address.{write_pointer, zone_number}
-use Rattle.zns_commands.specs.Answer.{Effect, success_effect}
+use Rattle.zns_commands.specs.Effect.{Effect, success_effect}
 use Rattle.zns_commands.specs.Left.{Grows}
 use Rattle.zns_commands.specs.Meaning.{meaning}
 use Rattle.pushdown.specs.EventReplies.{Happening}
 use Rattle.pushdown.specs.Events.{AreEvents, Occurrence, state_after}
 use Rattle.pushdown.specs.Laws.{AreEmitted}
-use Rattle.pushdown.specs.EventEffects.{commanded, happens}
+use Rattle.pushdown.specs.Happenings.{commanded, happens}
 use Rattle.pushdown.specs.Outcome.{Turn, appended_by}
 use Rattle.pushdown.specs.Pushdown.{IsAdmitted, blocks_at, done, next, place, runs}
 use Rattle.pushdown.specs.Reached.{IsReached}

@@ -1,4 +1,4 @@
--- What a device holds of its runs, seen as the places of a state.
+-- What a device keeps of its runs, seen as the places of a state.
 use Rattle.std.specs.Prelude.{ℕ, ◌≡◌, ◌≤◌, ◌+◌, ◌-◌, ◌%◌, List, length, get_or, map, Option, Some, None}
 use Rattle.nvme_entry.specs.Entry.{identifier_of}
 use Rattle.nvme_entry.specs.declared.command.RunCommand.{RunCommand}
@@ -8,11 +8,11 @@ use Rattle.zns_commands.specs.Address.{zone_number}
 use Rattle.zns_commands.specs.Left.{Grows}
 use Rattle.pushdown.specs.Admission.{Loaded, SameProgram, limit_in, program_in, task_by, written_from}
 use Rattle.pushdown.specs.EventReplies.{Submission}
-use Rattle.pushdown.specs.EventEffects.{admitted_place}
+use Rattle.pushdown.specs.Happenings.{admitted_place}
 use Rattle.pushdown.specs.Outcome.{Progress, Turn, at_admission, rest}
 use Rattle.pushdown.specs.State.{State, Place}
 
--- an active run as a device holds it
+-- an active run as a device keeps it
 pub record Active : Type 0 where
   pub queue : ℕ
   pub cid : ℕ

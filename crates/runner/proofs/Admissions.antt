@@ -14,7 +14,7 @@ use Rattle.verifier.specs.Verified.{sizes_of}
 use Rattle.zns_commands.specs.Address.{zone_block_in}
 use Rattle.pushdown.specs.Admission.{Loaded, address_checks, destination_checks, destination_zone, run_refusal, sizes_in, source_checks}
 use Rattle.pushdown.specs.EventReplies.{Submission}
-use Rattle.pushdown.specs.EventEffects.{why_not_run}
+use Rattle.pushdown.specs.Happenings.{why_not_run}
 use Rattle.pushdown.specs.State.{program_at}
 use Rattle.runner.specs.steps.Admitting.{ArePlaces}
 use Rattle.runner.specs.DeviceState.{loaded_slot, device_state}

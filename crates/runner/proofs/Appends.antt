@@ -10,7 +10,7 @@ use Rattle.zone_state.specs.declared.state.ZoneState.{ZoneState}
 use Rattle.zone_state.specs.declared.state.ZoneState.TheVariants.{Empty, ImplicitlyOpened, ExplicitlyOpened, Closed, ReadOnly, Full, Offline}
 use Rattle.image_store.specs.Blocks.{as_blocks, block_count, blocks_of}
 use Rattle.image_store.specs.Namespace.{ZoneBlocks, ZonedNamespace, appended, grown, no_zone, with_zone, zone_at}
-use Rattle.pushdown.specs.EventEffects.{added}
+use Rattle.pushdown.specs.Happenings.{added}
 
 -- ---- one block
 

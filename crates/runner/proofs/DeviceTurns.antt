@@ -15,7 +15,7 @@ use Rattle.zns_commands.specs.declared.answer.Answer.{Answer}
 use Rattle.pushdown.specs.Admission.{Loaded, SameProgram, task_of}
 use Rattle.pushdown.specs.EventReplies.{Happening, idle}
 use Rattle.pushdown.specs.Laws.{KeepsFor, RoomIn}
-use Rattle.pushdown.specs.EventEffects.{added, keeping, place_left, slots_left, take_turn, turn_reply, turned, turned_at}
+use Rattle.pushdown.specs.Happenings.{added, keeping, place_left, slots_left, take_turn, turn_reply, turned, turned_at}
 use Rattle.pushdown.specs.Outcome.{Turn, rest}
 use Rattle.pushdown.specs.State.{Place, State, place_at}
 use Rattle.pushdown.specs.View.{place_of, seen, to_come, turns_of}

@@ -1,5 +1,5 @@
 -- Turns of the lowest active run, one turn more.
-use Rattle.std.proofs.Common.{◌≡◌, ℕ, suc, ◌+◌, ◌-◌, ◌*◌, ◌%◌, ◌≤◌, List, [], ◌∷◌, ◌++◌, append-nil, length, map, take, drop, get_or, Option, Some, None, true, refl, inl, inr, ◌⊎◌, ap, sym, subst, ◌∙◌, arith, length-append}
+use Rattle.std.proofs.Common.{◌≡◌, ℕ, suc, ◌+◌, ◌-◌, ◌*◌, ◌%◌, ◌≤◌, List, [], ◌∷◌, ◌++◌, append-nil, length, map, take, drop, get_or, Option, Some, None, refl, inl, inr, ◌⊎◌, ap, sym, subst, ◌∙◌, arith, length-append}
 use Rattle.std.specs.Prelude.{is_some}
 use Rattle.std.proofs.lemmas.List.{length-take, take_at}
 use Rattle.std.proofs.lemmas.List.Quantifiers.{position-Some}
@@ -9,8 +9,8 @@ use Rattle.zns_commands.specs.Address.{zone_number}
 use Rattle.pushdown.specs.Admission.{task_of}
 use Rattle.device_events.specs.Replies.{Joins, ReplyWithData}
 use Rattle.pushdown.specs.Draining.{AreLowest, HasDrained, StopsDraining, lowest_run, replies_to_turns, state_after_turns, turns_left}
-use Rattle.pushdown.specs.EventEffects.{turned}
-use Rattle.pushdown.specs.State.{State, place_at}
+use Rattle.pushdown.specs.Happenings.{turned}
+use Rattle.pushdown.specs.State.{State}
 use Rattle.pushdown.specs.View.{seen, to_come}
 use Rattle.pushdown.proofs.Proved.{rest_is_few, turns_leave_fewer}
 use Rattle.runner.specs.DeviceState.{active_of, loaded_slot, device_state}

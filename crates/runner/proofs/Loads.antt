@@ -18,7 +18,7 @@ use Rattle.nvme_entry.proofs.Proved.{demanded, passed}
 use Rattle.pushdown.specs.Admission.{Loaded, task_of}
 use Rattle.pushdown.specs.EventReplies.{Submission, completed}
 use Rattle.pushdown.specs.BlockRuns.{no_scratch}
-use Rattle.pushdown.specs.EventEffects.{judged, just_loaded, load_checks, load_unless, read_program, sizes_for}
+use Rattle.pushdown.specs.Happenings.{judged, just_loaded, load_checks, load_unless, read_program, sizes_for}
 use Rattle.pushdown.specs.Outcome.{rest}
 use Rattle.pushdown.specs.State.{Place, State, in_use, uses, with_slot}
 use Rattle.pushdown.specs.View.{Active, place_of, seen, to_come}

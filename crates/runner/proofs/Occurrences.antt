@@ -7,7 +7,7 @@ use Rattle.interval_domain.specs.Intervals.{intervals}
 use Rattle.pushdown.specs.EventReplies.{Happening, Submission}
 use Rattle.device_events.specs.Replies.{ReplyWithData}
 use Rattle.pushdown.specs.Events.{HasBytes, HasHappened, Occurrence}
-use Rattle.pushdown.specs.EventEffects.{happens, submitted}
+use Rattle.pushdown.specs.Happenings.{happens, submitted}
 use Rattle.pushdown.specs.State.{State}
 use Rattle.device_events.specs.declared.event.Event.{Event}
 use Rattle.device_events.specs.declared.event.Event.TheVariants as event

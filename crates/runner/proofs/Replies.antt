@@ -10,7 +10,7 @@ use Rattle.zns_commands.specs.Answer.{refused_answer}
 use Rattle.zns_commands.specs.declared.answer.Answer.{Answer}
 use Rattle.pushdown.specs.EventReplies.{Happening, Submission, completed, plain, refused}
 use Rattle.device_events.specs.Replies.{data_length}
-use Rattle.pushdown.specs.EventEffects.{submitted}
+use Rattle.pushdown.specs.Happenings.{submitted}
 use Rattle.pushdown.specs.State.{State}
 use Rattle.device_events.specs.declared.reply.Reply.{Reply}
 use Rattle.device_events.specs.declared.reply.Reply.TheVariants as reply

@@ -4,7 +4,7 @@ use Rattle.std.proofs.lemmas.List.{length-map, length-take-le, map_push, take_at
 use Rattle.interval_domain.specs.Intervals.{intervals}
 use Rattle.device_events.specs.Replies.{Joins, ReplyWithData, data_length}
 use Rattle.pushdown.specs.Events.{AreOf, HasHappened, HasServed, HasStopped, Occurrence, replies_to, state_after}
-use Rattle.pushdown.specs.EventEffects.{happens}
+use Rattle.pushdown.specs.Happenings.{happens}
 use Rattle.pushdown.specs.State.{State}
 use Rattle.device_events.specs.declared.event.Event.{Event}
 use Rattle.device_events.specs.declared.reply.Reply.{Reply}

@@ -9,7 +9,7 @@ use Rattle.image_store.specs.Namespace.{ZonedNamespace}
 use Rattle.image_store.specs.declared.geometry.ZoneBlock.{ZoneBlock}
 use Rattle.pushdown.specs.Admission.{run_refusal}
 use Rattle.pushdown.specs.EventReplies.{Submission, plain}
-use Rattle.pushdown.specs.EventEffects.{start_by}
+use Rattle.pushdown.specs.Happenings.{start_by}
 use Rattle.pushdown.specs.Outcome.{at_admission}
 use Rattle.pushdown.specs.State.{Place, State, free_place, with_place}
 use Rattle.pushdown.specs.View.{begun, place_of, seen}

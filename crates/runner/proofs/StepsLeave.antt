@@ -8,16 +8,16 @@ use Rattle.nvme_entry.specs.declared.command.StandardCommand.{StandardCommand}
 use Rattle.image_store.specs.Geometry.{Shape}
 use Rattle.image_store.specs.Namespace.{ZonedNamespace, shape, zone_at}
 use Rattle.zns_commands.specs.Left.{Grows, holds_of}
-use Rattle.zns_commands.specs.Answer.{Effect, effect_of_answer}
+use Rattle.zns_commands.specs.Answer.{effect_of_answer}
+use Rattle.zns_commands.specs.Effect.{Effect}
 use Rattle.zns_commands.specs.Fault.{faulted}
 use Rattle.zns_commands.specs.Laws.{Commanded, Faulted, NamespaceEvent, after}
 use Rattle.zns_commands.specs.Meaning.{meaning}
 use Rattle.zns_commands.specs.declared.answer.Answer.{Answer}
 use Rattle.zns_commands.proofs.Proved.{sources_keep_blocks, events_keep_shapes}
 use Rattle.pushdown.specs.EventReplies.{Submission}
-use Rattle.pushdown.specs.EventEffects.{commanded, failed}
-use Rattle.pushdown.specs.State.{Place, with_namespace}
-use Rattle.pushdown.specs.State.{holds_of as places_hold}
+use Rattle.pushdown.specs.Happenings.{commanded, failed}
+use Rattle.pushdown.specs.State.{Place, holds_of as places_hold, with_namespace}
 use Rattle.zone_resources.proofs.Proved.{users_name_zones}
 use Rattle.runner.specs.steps.Answered.{answered}
 use Rattle.runner.specs.DeviceState.{loaded_slot, device_state}

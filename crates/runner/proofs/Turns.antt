@@ -19,7 +19,7 @@ use Rattle.zns_commands.proofs.Proved.{open_is_there}
 use Rattle.pushdown.specs.Admission.{task_by}
 use Rattle.pushdown.specs.BlockRuns.{Task, goes_on, scratch_after}
 use Rattle.pushdown.specs.Laws.{Ends, RoomIn, further, next_turn}
-use Rattle.pushdown.specs.EventEffects.{added}
+use Rattle.pushdown.specs.Happenings.{added}
 use Rattle.pushdown.specs.Outcome.{Ending, Progress, Turn, appended_by, behind, last_turn, last_turn_by, output_of, rest}
 use Rattle.pushdown.specs.View.{Active, to_come, turns_of}
 use Rattle.pushdown.proofs.Proved.{blocks_leave_others, rest_ends, rest_goes_on, room_is_open, room_stays}

@@ -5,3 +5,4 @@ pub mod Loading
 pub mod Ran
 pub mod Turning
 pub mod ActiveRuns
+pub mod ServedOne

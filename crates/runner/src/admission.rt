@@ -29,7 +29,7 @@ struct Admitted {
     destination: u32,
 }
 
-/// Starts a run under the lowest free number, which it gives.
+/// Starts a run at the lowest free place, whose number it gives.
 ///
 /// # Errors
 ///

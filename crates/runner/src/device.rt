@@ -6,10 +6,11 @@ ghost use Rattle.program_interface.specs.Bytes.{AreBytes};
 ghost use Rattle.device_events.specs.Replies.{data_length};
 ghost use Rattle.pushdown.specs.Draining.{HasDrained, StopsDraining, lowest_run, turns_left};
 ghost use Rattle.pushdown.specs.Events.{HasBytes, HasHappened, HasServed, HasStopped};
-ghost use Rattle.pushdown.specs.EventEffects.{failed};
+ghost use Rattle.pushdown.specs.Happenings.{failed};
 ghost use Rattle.pushdown.specs.State.{new_state};
 ghost use Rattle.pushdown.specs.Reached.{IsReached};
 ghost use Rattle.device_events.specs.Refusals.{CountsRefusals};
+ghost use Rattle.runner.specs.steps.ServedOne.{HasServedOne};
 
 use crate::active_run::Active;
 use crate::loaded_program::LoadedProgram;
@@ -17,7 +18,7 @@ use crate::places;
 use crate::places::holds;
 use crate::submission::{Submission, submit};
 use crate::turn::turn;
-use device_events::{Event, Out, Reply};
+use device_events::{Event, NotTaken, Out, Reply};
 use nvme_entry::{MOST_TRANSFER, PROGRAM_SLOTS};
 use program_interface::LARGEST_BLOCK;
 use std::alloc::Global;
@@ -57,7 +58,7 @@ impl Model for Device {
 }
 
 impl Device {
-    /// A device whose namespace an image holds, without a program or a run.
+    /// A device with the namespace of an image, without a program or a run.
     pub fn new(alloc: Global, image: Image) -> Device
         ensures { result ≡ new_state image }
     {
@@ -130,6 +131,26 @@ impl Device {
         }
     }
 
+    /// Does one event, and hands out the reply with its data.
+    ///
+    /// # Errors
+    ///
+    /// `out` refuses the reply.
+    fn serve_one<O: Out>(
+        &mut self,
+        event: &Event,
+        output: &mut [u8],
+        out: &mut O,
+    ) -> Result<(), NotTaken>
+        requires room { MOST_TRANSFER ≤ length output.old }
+        requires counts { O.refused out.old + 1 < 2 ^ 64 }
+        ensures served { HasServedOne event.now self.old self.new (O.took out.old out.new) result }
+        ensures refused { CountsRefusals (O.refused out.old) (O.refused out.new) result }
+    {
+        let reply = self.apply(event, output);
+        out.take(reply, &output[..reply.data_length()])
+    }
+
     /// Does events in order, and hands out the reply to each with its data.
     ///
     /// # Errors
@@ -148,9 +169,7 @@ impl Device {
         ensures refused { CountsRefusals (O.refused out.old) (O.refused out.new) result }
     {
         for (index, event) in events.iter().enumerate() {
-            let reply = self.apply(event, output);
-            let data = &output[..reply.data_length()];
-            match out.take(reply, data) {
+            match self.serve_one(event, output, out) {
                 Ok(()) => {}
                 Err(_) => return Err(Stopped { done: index + 1 }),
             }
@@ -182,10 +201,8 @@ impl Device {
     {
         let mut done = 0;
         while let Some(run) = self.next_run() {
-            let reply = self.apply(&Event::Turn { run }, output);
             done += 1;
-            let data = &output[..reply.data_length()];
-            match out.take(reply, data) {
+            match self.serve_one(&Event::Turn { run }, output, out) {
                 Ok(()) => {}
                 Err(_) => return Err(Stopped { done }),
             }

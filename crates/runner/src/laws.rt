@@ -1,6 +1,6 @@
-//! Laws of the states that events leave from an image on, by which a device judges programs with intervals.
-//! Each function does nothing: what it ensures is the law. What `pushdown` states of every domain is ensured
-//! here of that one; its laws of any state and of lists of events hold as they stand.
+//! Laws of a device, which judges programs by intervals, in the states that events leave from an image on.
+//! Each function does nothing: what it ensures is the law. What `pushdown` states of every sound domain is
+//! ensured here of intervals; its laws of any state and of lists of events hold of a device as they stand.
 
 ghost use Rattle.interval_domain.specs.Intervals.{intervals};
 ghost use Rattle.pushdown.specs.AnyOrder.{TurnsInAnyOrder};

@@ -8,7 +8,7 @@ use program_interface::SCRATCH_BYTES;
 use verified_run::Prepared;
 use verifier::Verified;
 
-/// A program that a slot holds, and its result: the scratch bytes that the last of its runs to end left,
+/// The program of a slot, and its result: the scratch bytes that the last of its runs to end left,
 /// zeros before one ended.
 #[derive(Drop)]
 pub struct LoadedProgram {

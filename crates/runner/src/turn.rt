@@ -7,7 +7,7 @@ ghost use Rattle.emit_append.specs.Packer.{after_put, given_by_finish, given_by_
 ghost use Rattle.emit_append.specs.Packing.{padded};
 ghost use Rattle.device_events.specs.Replies.{data_length};
 ghost use Rattle.pushdown.specs.BlockRuns.{scratch_after};
-ghost use Rattle.pushdown.specs.EventEffects.{added};
+ghost use Rattle.pushdown.specs.Happenings.{added};
 ghost use Rattle.runner.specs.DeviceState.{active_of, device_state};
 ghost use Rattle.runner.specs.steps.Ran.{HasRun};
 ghost use Rattle.runner.specs.Ready.{Fits, IsReady};
@@ -102,7 +102,7 @@ fn put(namespace: &mut Namespace, active: &mut Active, group: &[u8])
     active.packer.add(group);
 }
 
-/// Appends the pending block, where it holds a group.
+/// Appends the pending block, where it has a group.
 fn finish(namespace: &mut Namespace, active: &mut Active)
     requires block { active.old.packer.block ≡ namespace.old.block }
     requires room { HasRoom namespace.old active.old.destination (given_by_finish active.old.packer) }

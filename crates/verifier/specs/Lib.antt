@@ -1,4 +1,4 @@
-pub mod Answer
+pub mod VerifyFault
 pub mod Verified
 pub mod Judged
 pub mod steps

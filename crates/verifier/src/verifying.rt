@@ -2,7 +2,7 @@
 
 ghost use Rattle.std.specs.Prelude.{◌≡◌, None, IfOk, IfErr};
 ghost use Rattle.accepted_programs.specs.Accepted.{refusal};
-ghost use Rattle.verifier.specs.Answer.{IsFaultOf};
+ghost use Rattle.verifier.specs.VerifyFault.{IsFaultOf};
 ghost use Rattle.verifier.specs.Verified.{program_of, sizes_of};
 
 use crate::fault::VerifyFault;

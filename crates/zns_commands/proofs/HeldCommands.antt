@@ -8,7 +8,7 @@ use Rattle.zone_state.specs.Checks.{demand, first_failed}
 use Rattle.nvme_entry.specs.declared.command.StandardCommand.TheVariants.{Write, Read, Send, Receive, Append}
 use Rattle.image_store.specs.Namespace.{ZonedNamespace, counted_zones}
 use Rattle.zns_commands.specs.Address.{zone_number}
-use Rattle.zns_commands.specs.Answer.{Effect, refused_effect, concluded}
+use Rattle.zns_commands.specs.Effect.{Effect, refused_effect, concluded}
 use Rattle.zns_commands.specs.Held.{HeldCommandsAreRefused, checks_before_holds}
 use Rattle.zns_commands.specs.Meaning.{checks_of, effect_of}
 use Rattle.zns_commands.specs.Send.{held_among}

@@ -5,7 +5,7 @@ use Rattle.zone_resources.specs.declared.holds.Holds.{Holds}
 use Rattle.nvme_entry.specs.declared.command.StandardCommand.{StandardCommand}
 use Rattle.zone_state.specs.Checks.{first_failed}
 use Rattle.image_store.specs.Namespace.{ZonedNamespace}
-use Rattle.zns_commands.specs.Answer.{Effect, concluded}
+use Rattle.zns_commands.specs.Effect.{Effect, concluded}
 use Rattle.zns_commands.specs.Meaning.{checks_of, effect_of, meaning}
 
 concluded_so : (P : ZonedNamespace → Type 0) (refusal : Option Status) (ns : ZonedNamespace) (effect : Effect)

@@ -19,7 +19,7 @@ use Rattle.nvme_entry.specs.declared.command.TheConstants.{MOST_TRANSFER}
 use Rattle.zone_state.specs.Checks.{demand, or_else, first_failed}
 use Rattle.image_store.specs.Namespace.{ZonedNamespace, zone_at, counted_zones, IsNamespace}
 use Rattle.zns_commands.specs.Address.{counted_zone_at, zone_number, block_total}
-use Rattle.zns_commands.specs.Answer.{Effect, concluded}
+use Rattle.zns_commands.specs.Effect.{Effect, concluded}
 use Rattle.zns_commands.specs.Append.{append_checks, append_effect}
 use Rattle.zns_commands.specs.Resources.{room_by, room_for, why_not, closing_of}
 use Rattle.zns_commands.specs.Write.{write_checks, write_effect}

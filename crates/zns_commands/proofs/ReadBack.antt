@@ -19,7 +19,7 @@ use Rattle.image_store.specs.Geometry.{Shape}
 use Rattle.image_store.specs.Namespace.{ZoneBlocks, ZonedNamespace, no_zone, zone_at, grown, IsNamespace}
 use Rattle.image_store.proofs.Proved.{allowed_is_within, blocks_keep_bytes}
 use Rattle.zns_commands.specs.Address.{counted_zone_at, zone_number, block_total, write_pointer}
-use Rattle.zns_commands.specs.Answer.{Effect, success_effect, concluded}
+use Rattle.zns_commands.specs.Effect.{Effect, success_effect, concluded}
 use Rattle.zns_commands.specs.Append.{append_checks, append_effect}
 use Rattle.zns_commands.specs.Read.{read_refusal, blocks_read, read_checks, read_effect}
 use Rattle.zns_commands.specs.Resources.{room_for, closing_of}

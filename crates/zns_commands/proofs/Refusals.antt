@@ -8,7 +8,7 @@ use Rattle.nvme_entry.specs.declared.command.StandardCommand.{StandardCommand}
 use Rattle.nvme_entry.specs.declared.command.StandardCommand.TheVariants.{Write, Read, Send, Receive, Append}
 use Rattle.zone_state.specs.Checks.{first_failed}
 use Rattle.image_store.specs.Namespace.{ZonedNamespace}
-use Rattle.zns_commands.specs.Answer.{Effect, concluded}
+use Rattle.zns_commands.specs.Effect.{Effect, concluded}
 use Rattle.zns_commands.specs.Meaning.{checks_of, effect_of}
 use Rattle.zns_commands.specs.Laws.{Passes, IsCase, TakesEffect, IsRefused, JustOneCase, ChangesNothing, RefusedChangesNothing}
 

@@ -13,7 +13,7 @@ use Rattle.nvme_entry.specs.ReportLaws.{number_in, descriptors_in}
 use Rattle.nvme_entry.specs.Report.{report, descriptor_at}
 use Rattle.image_store.specs.Namespace.{counted, counted_zones}
 use Rattle.zns_commands.specs.Address.{block_total}
-use Rattle.zns_commands.specs.Answer.{Effect, success_effect, concluded}
+use Rattle.zns_commands.specs.Effect.{Effect, success_effect, concluded}
 use Rattle.zns_commands.specs.Receive.{receive_checks, receive_effect}
 use Rattle.zns_commands.specs.Laws.{ReportsEveryZone}
 use Rattle.nvme_entry.proofs.Proved.{lists_every_zone}

@@ -1,44 +1,20 @@
--- What a command comes to.
-use Rattle.std.specs.Prelude.{ℕ, ◌/◌, ◌%◌, ◌^◌, List, [], take, Option, Some, None}
+-- The answer to a command: its status, its dwords, and how many bytes of data it gives.
+use Rattle.std.specs.Prelude.{ℕ, ◌/◌, ◌%◌, ◌^◌, List, take}
 use Rattle.zone_state.specs.declared.status.Status.{Status}
 use Rattle.zone_state.specs.declared.status.TheConstants.Status.{SUCCESS}
 use Rattle.image_store.specs.Namespace.{ZonedNamespace}
+use Rattle.zns_commands.specs.Effect.{Effect}
 use Rattle.zns_commands.specs.declared.answer.Answer.{Answer}
 
--- the namespace after a command, what its completion says, and the data that it gives
-pub record Effect : Type 0 where
-  pub namespace : ZonedNamespace
-  pub status : Status
-  pub dw0 : ℕ
-  pub dw1 : ℕ
-  pub output : List ℕ
-
--- a refused command changes nothing and gives nothing
-abbrev pub refused_effect : ZonedNamespace → Status → Effect
-refused_effect ns status = record { namespace = ns; status = status; dw0 = 0; dw1 = 0; output = [] }
-
--- a command that succeeds, with a number of 64 bits in the completion's first two dwords
-abbrev pub success_effect : ZonedNamespace → ℕ → List ℕ → Effect
-success_effect ns number output = record {
-  namespace = ns;
-  status = SUCCESS;
-  dw0 = number % 2 ^ 32;
-  dw1 = number / 2 ^ 32;
-  output = output;
-}
-
--- the effect of a command where no check fails
-abbrev pub concluded : Option Status → ZonedNamespace → Effect → Effect
-concluded None before effect = effect
-concluded (Some status) before effect = refused_effect before status
-
+-- that of a refused command
 abbrev pub refused_answer : Status → Answer
 refused_answer status = record { status = status; dw0 = 0; dw1 = 0; length = 0 }
 
+-- that of a command that succeeds, with a number of 64 bits in its dwords
 abbrev pub success_answer : ℕ → ℕ → Answer
 success_answer number size = record { status = SUCCESS; dw0 = number % 2 ^ 32; dw1 = number / 2 ^ 32; length = size }
 
--- what an answer says, with the namespace after it and the bytes whose first ones are its data
+-- the effect that an answer tells, with the namespace after it and the bytes whose first ones are its data
 abbrev pub effect_of_answer : Answer → ZonedNamespace → List ℕ → Effect
 effect_of_answer answer ns bytes = record {
   namespace = ns;

@@ -6,7 +6,7 @@ use Rattle.zone_resources.specs.declared.holds.Holds.{Holds}
 use Rattle.image_store.specs.Blocks.{block_count}
 use Rattle.image_store.specs.Namespace.{ZonedNamespace, zone_at}
 use Rattle.zns_commands.specs.Address.{zone_number, write_pointer, lowest_checks}
-use Rattle.zns_commands.specs.Answer.{Effect, success_effect}
+use Rattle.zns_commands.specs.Effect.{Effect, success_effect}
 use Rattle.zns_commands.specs.Transfer.{transfer_checks}
 use Rattle.zns_commands.specs.Write.{zone_write_checks, with_written}
 

@@ -9,7 +9,7 @@ use Rattle.nvme_entry.specs.declared.command.StandardCommand.{StandardCommand}
 use Rattle.nvme_entry.specs.declared.command.StandardCommand.TheVariants.{Write, Read, Send, Receive, Append}
 use Rattle.image_store.specs.Namespace.{ZonedNamespace, counted_zones}
 use Rattle.zns_commands.specs.Address.{zone_number, lowest_checks}
-use Rattle.zns_commands.specs.Answer.{refused_effect}
+use Rattle.zns_commands.specs.Effect.{refused_effect}
 use Rattle.zns_commands.specs.Append.{append_address_checks}
 use Rattle.zns_commands.specs.Meaning.{meaning}
 use Rattle.zns_commands.specs.Send.{held_among}

@@ -1,4 +1,5 @@
 pub mod Address
+pub mod Effect
 pub mod Answer
 pub mod Fault
 pub mod Resources

@@ -7,7 +7,7 @@ use Rattle.zone_state.specs.declared.status.TheConstants.Status.{ZONE_IS_OFFLINE
 use Rattle.image_store.specs.Blocks.{bytes_of}
 use Rattle.image_store.specs.Namespace.{ZonedNamespace, zone_at}
 use Rattle.zns_commands.specs.Address.{zone_number, zone_offset, range_checks}
-use Rattle.zns_commands.specs.Answer.{Effect, success_effect}
+use Rattle.zns_commands.specs.Effect.{Effect, success_effect}
 use Rattle.zns_commands.specs.Transfer.{transfer_checks}
 
 -- why a zone in this state gives no blocks

@@ -5,7 +5,7 @@ use Rattle.nvme_entry.specs.declared.filter.ZoneFilter.{ZoneFilter}
 use Rattle.nvme_entry.specs.Report.{report}
 use Rattle.image_store.specs.Namespace.{ZonedNamespace, counted_zones}
 use Rattle.zns_commands.specs.Address.{address_check, zone_number}
-use Rattle.zns_commands.specs.Answer.{Effect, success_effect}
+use Rattle.zns_commands.specs.Effect.{Effect, success_effect}
 use Rattle.zns_commands.specs.Transfer.{transfer_checks}
 
 -- the checks, in order (the order is profile): the transfer, the address

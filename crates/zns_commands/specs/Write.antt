@@ -8,7 +8,7 @@ use Rattle.zone_resources.specs.declared.holds.Holds.{Holds}
 use Rattle.zone_state.specs.Checks.{demand}
 use Rattle.image_store.specs.Namespace.{ZonedNamespace, zone_at, appended}
 use Rattle.zns_commands.specs.Address.{zone_number, zone_offset, counted_zone_at, range_checks}
-use Rattle.zns_commands.specs.Answer.{Effect, success_effect}
+use Rattle.zns_commands.specs.Effect.{Effect, success_effect}
 use Rattle.zns_commands.specs.Resources.{room_for, gives_way, why_not, closed}
 use Rattle.zns_commands.specs.Transfer.{transfer_checks}
 

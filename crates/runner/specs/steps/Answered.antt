@@ -12,7 +12,7 @@ use Rattle.zns_commands.specs.Meaning.{meaning}
 use Rattle.zns_commands.specs.declared.answer.Answer.{Answer}
 use Rattle.pushdown.specs.EventReplies.{Happening, Submission, completed, completion_reply, plain, refused}
 use Rattle.device_events.specs.Replies.{ReplyWithData}
-use Rattle.pushdown.specs.EventEffects.{commanded, giving_result, loading, starting, submitted}
+use Rattle.pushdown.specs.Happenings.{commanded, giving_result, loading, starting, submitted}
 use Rattle.pushdown.specs.State.{State, holds_of}
 use Rattle.device_events.specs.declared.reply.Reply.{Reply}
 use Rattle.device_events.specs.declared.reply.Reply.TheVariants as reply
@@ -22,7 +22,7 @@ use Rattle.runner.specs.declared.active_run.Active.{Active as ActiveRun}
 use Rattle.runner.specs.declared.loaded_program.LoadedProgram.{LoadedProgram}
 use Rattle.runner.specs.declared.submission.Submission.{Submission as Told}
 
--- an entry that the code holds, with the data beside it
+-- an entry as the code has it, with the data beside it
 abbrev pub told_by : Told → Submission
 told_by s = record { queue = s.queue; entry = s.entry.now; input = s.input.now }
 

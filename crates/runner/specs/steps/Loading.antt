@@ -10,7 +10,7 @@ use Rattle.interval_domain.specs.Intervals.{intervals}
 use Rattle.accepted_programs.specs.Accepted.{refusal}
 use Rattle.zns_commands.specs.declared.answer.Answer.{Answer}
 use Rattle.pushdown.specs.EventReplies.{Submission}
-use Rattle.pushdown.specs.EventEffects.{load_checks, load_unless, sizes_for}
+use Rattle.pushdown.specs.Happenings.{load_checks, load_unless, sizes_for}
 use Rattle.pushdown.specs.State.{State}
 use Rattle.runner.specs.steps.Answered.{answered}
 use Rattle.runner.specs.declared.active_run.Active.{Active as ActiveRun}

@@ -1,4 +1,4 @@
--- What a turn does to a run as a device holds it.
+-- What a turn does to a run as a device keeps it.
 use Rattle.std.specs.Prelude.{ℕ, ◌≡◌, ◌+◌, ◌%◌, ◌≤◌, true, List, [], ◌∷◌, length, get_or, set, Option, Some, None}
 use Rattle.zone_state.specs.State.{is_open}
 use Rattle.instruction_set.specs.declared.insn.Insn.{Insn}
@@ -11,7 +11,7 @@ use Rattle.zns_commands.specs.declared.answer.Answer.{Answer}
 use Rattle.pushdown.specs.Admission.{task_by}
 use Rattle.pushdown.specs.BlockRuns.{block_run}
 use Rattle.pushdown.specs.Laws.{RoomIn}
-use Rattle.pushdown.specs.EventEffects.{added, turned}
+use Rattle.pushdown.specs.Happenings.{added, turned}
 use Rattle.pushdown.specs.State.{State}
 use Rattle.pushdown.specs.View.{Active, turns_of}
 use Rattle.device_events.specs.declared.reply.Reply.{Reply}

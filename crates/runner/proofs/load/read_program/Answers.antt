@@ -4,7 +4,7 @@ use Rattle.ebpf_decode.proofs.Proved.{decoded_is_spelled, fault_is_inside}
 use Rattle.program_interface.specs.declared.TheConstants.{MOST_SLOTS}
 use Rattle.interval_domain.specs.Intervals.{intervals}
 use Rattle.accepted_programs.specs.Accepted.{refusal}
-use Rattle.verifier.specs.Answer.{IsFaultOf}
+use Rattle.verifier.specs.VerifyFault.{IsFaultOf}
 use Rattle.accepted_programs.specs.declared.reason.Refusal.{Refusal}
 use Rattle.accepted_programs.proofs.Proved.{refusal_is_inside}
 use Rattle.runner.proofs.load.read_program.Goals as goal

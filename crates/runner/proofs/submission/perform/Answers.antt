@@ -2,7 +2,7 @@ use Rattle.std.proofs.Common.{false, Ok, ap, ◌∙◌}
 use Rattle.nvme_entry.specs.declared.command.Command.{Command}
 use Rattle.interval_domain.specs.Intervals.{intervals}
 use Rattle.pushdown.specs.EventReplies.{Happening, Submission}
-use Rattle.pushdown.specs.EventEffects.{submitted}
+use Rattle.pushdown.specs.Happenings.{submitted}
 use Rattle.runner.specs.DeviceState.{device_state}
 use Rattle.runner.proofs.Replies.{replied, replied_alone}
 use Rattle.runner.proofs.submission.perform.Goals as goal

@@ -1,7 +1,7 @@
 use Rattle.std.proofs.Common.{false, ap, sym, ◌∙◌}
 use Rattle.zone_resources.specs.declared.holds.Holds.{Holds}
 use Rattle.zns_commands.specs.Fault.{fault_answer}
-use Rattle.pushdown.specs.EventEffects.{failed, fault_reply}
+use Rattle.pushdown.specs.Happenings.{failed, fault_reply}
 use Rattle.pushdown.specs.State.{State, holds_of}
 use Rattle.device_events.specs.declared.event.Event.TheVariants as event
 use Rattle.runner.specs.DeviceState.{device_state}

@@ -19,7 +19,7 @@ use Rattle.word_domain.specs.Domain.{Operations}
 use Rattle.accepted_programs.specs.Accepted.{refusal, reason_number}
 use Rattle.accepted_programs.specs.declared.reason.Refusal.{Refusal}
 use Rattle.image_store.specs.Namespace.{ZonedNamespace, zone_at, with_zone, grown}
-use Rattle.zns_commands.specs.Answer.{Effect}
+use Rattle.zns_commands.specs.Effect.{Effect}
 use Rattle.zns_commands.specs.Fault.{fault_answer, faulted}
 use Rattle.zns_commands.specs.Meaning.{meaning}
 use Rattle.zns_commands.specs.Transfer.{transfer_checks}
@@ -116,7 +116,7 @@ starting sub s order = start_by (why_not_run sub s order) (free_place s) sub s o
 
 -- ---- turns
 
--- the namespace with blocks written at a zone's write pointer, as by a Zone Append that no run holds back
+-- the namespace with blocks written at a zone's write pointer, as by a Zone Append that meets no hold
 abbrev pub added : ZonedNamespace → ℕ → List (List ℕ) → ZonedNamespace
 added ns z [] = ns
 added ns z blocks = with_zone ns z (grown ns.capacity (zone_at ns z) blocks)

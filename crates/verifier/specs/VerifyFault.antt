@@ -1,4 +1,4 @@
--- What `verify` answers with.
+-- What a fault of `verify` tells.
 use Rattle.std.specs.Prelude.{◌≡◌, Option, Some}
 use Rattle.accepted_programs.specs.declared.reason.Refusal.{Refusal}
 use Rattle.verifier.specs.declared.fault.VerifyFault.{VerifyFault}

@@ -1,0 +1,16 @@
+-- One event that a device did, with what became of the reply.
+use Rattle.std.specs.Prelude.{List, [], ◌∷◌, OnErr, OnOk, Result}
+use Rattle.interval_domain.specs.Intervals.{intervals}
+use Rattle.device_events.specs.Replies.{ReplyWithData}
+use Rattle.device_events.specs.declared.event.Event.{Event}
+use Rattle.device_events.specs.declared.out.NotTaken.{NotTaken}
+use Rattle.pushdown.specs.Events.{HasHappened}
+use Rattle.pushdown.specs.State.{State}
+
+-- the event led from one state to the other; `took` says of replies that they were taken, which are the reply
+-- to it, or none where that was refused
+pub record HasServedOne (e : Event) (old new : State) (took : List ReplyWithData → Type 0) (result : Result Unit NotTaken) : Type 0 where
+  pub reply : ReplyWithData
+  pub happened : HasHappened intervals e old new reply
+  pub taken : OnOk result (took (reply ∷ []))
+  pub refused : OnErr result (took [])
