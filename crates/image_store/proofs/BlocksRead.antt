@@ -7,7 +7,7 @@ use Rattle.image_store.specs.declared.fault.LoadFault.{LoadFault}
 use Rattle.image_store.specs.ImageInMemory.{zones_of, zone_seen, no_counted_zone, IsFlat}
 use Rattle.image_store.specs.steps.Spliced.{spliced}
 use Rattle.image_store.specs.Geometry.{Shape}
-use Rattle.image_store.specs.Loading.{Fails}
+use Rattle.image_store.specs.Loading.{LoadFails}
 use Rattle.image_store.specs.steps.LoadedParts.{spliced_in}
 use Rattle.image_store.specs.Namespace.{ZoneBlocks}
 use Rattle.image_store.specs.Reading.{◌>>=◌, bytes_in, blocks_in}
@@ -122,15 +122,15 @@ goes_on s zs xs ys rest after i total flat inside e so_far =
 
 -- one zone's blocks were not read
 pub stops : (s : Shape) (zs : List CountedZone) (xs rest : List ℕ) (i : ℕ) (fault : LoadFault) (front : List ZoneBlocks) (total : Result Zones LoadFault) → i < length zs
-    → Fails ⊥ fault (spliced_in (i * (s.capacity * s.block)) ((get_or zs i no_counted_zone).written * s.block) xs rest)
-    → with_zones front (blocks_in s.block (drop i zs) rest) ≡ total → Fails ⊥ fault total
+    → LoadFails ⊥ fault (spliced_in (i * (s.capacity * s.block)) ((get_or zs i no_counted_zone).written * s.block) xs rest)
+    → with_zones front (blocks_in s.block (drop i zs) rest) ≡ total → LoadFails ⊥ fault total
 stops s zs xs rest i fault front total inside h so_far =
     let z = get_or zs i no_counted_zone in
     let at = i * (s.capacity * s.block) in
     let bytes = fails_before fault (bytes_in (z.written * s.block) rest) (λ (part : Split). let all : Split = (spliced at part.0 xs, part.1) in all) h in
     let more = fails_then ⊥ ⊥ fault (bytes_in (z.written * s.block) rest) (λ part. blocks_in s.block (drop (i + 1) zs) part.1 >>= λ more. Ok (zone_seen s.block z part.0 ∷ more.0, more.1)) (λ no. no) bytes in
     let all = fails_then ⊥ ⊥ fault (bytes_in (z.written * s.block) rest >>= λ part. blocks_in s.block (drop (i + 1) zs) part.1 >>= λ more. Ok (zone_seen s.block z part.0 ∷ more.0, more.1)) (λ (x : Zones). let r : Result Zones LoadFault = Ok (front ++ x.0, x.1) in r) (λ no. no) more in
-    subst (λ (r : Result Zones LoadFault). Fails ⊥ fault r) (sym (rest_of s zs i rest front inside) ∙ so_far) all
+    subst (λ (r : Result Zones LoadFault). LoadFails ⊥ fault r) (sym (rest_of s zs i rest front inside) ∙ so_far) all
 
 -- no zone is left
 pub is_done : (s : Shape) (zs : List CountedZone) (xs rest : List ℕ) (i : ℕ) (total : Result Zones LoadFault) → length zs ≤ i

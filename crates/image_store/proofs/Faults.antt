@@ -18,7 +18,7 @@ use Rattle.image_store.specs.declared.header.Header.{Header}
 use Rattle.image_store.specs.declared.version.Version.{Version}
 use Rattle.zone_state.specs.Checks.{demand, first_failed, unless_failed}
 use Rattle.image_store.specs.Geometry.{Shape, shape_checks}
-use Rattle.image_store.specs.Loading.{Fails, CountsFault, CountsLoad}
+use Rattle.image_store.specs.Loading.{LoadFails, CountsFault, CountsLoad}
 use Rattle.image_store.specs.steps.LoadedParts.{IsNoStream, NoStreamFails}
 use Rattle.image_store.specs.Reading.{◌>>=◌, are_zeros, number_at, numbers_fault, numbers_in, shape_told, version_in, version_kept, zeros_kept, total_told, header_of, header_told, zone_told, zone_in, total_kept, limits_kept}
 use Rattle.image_store.specs.Refusal.{refusal_of}
@@ -35,7 +35,7 @@ pub no_stream : (fault : LoadFault) → IsOfText fault → IsNoStream fault
 no_stream Stream h = h
 no_stream fault h = tt
 
-pub fails_text : {Y : Type 0} (wanted : Type 0) (fault : LoadFault) (reading : Result Y LoadFault) → IsOfText fault → reading ≡ Err fault → Fails wanted fault reading
+pub fails_text : {Y : Type 0} (wanted : Type 0) (fault : LoadFault) (reading : Result Y LoadFault) → IsOfText fault → reading ≡ Err fault → LoadFails wanted fault reading
 fails_text wanted Stream reading h e = absurd h
 fails_text wanted Memory reading h e = absurd h
 fails_text wanted fault reading h e = e

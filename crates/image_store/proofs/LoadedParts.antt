@@ -11,7 +11,7 @@ use Rattle.image_store.specs.declared.fault.ZoneRowFault.TheVariants as row_faul
 use Rattle.image_store.specs.declared.header.Header.{Header}
 use Rattle.image_store.specs.ImageInMemory.{no_counted_zone}
 use Rattle.image_store.specs.Geometry.{Shape, IsShape}
-use Rattle.image_store.specs.Loading.{Fails, Gives}
+use Rattle.image_store.specs.Loading.{LoadFails, LoadGives}
 use Rattle.image_store.specs.steps.LoadedParts.{NoStreamFails, AreZones}
 use Rattle.image_store.specs.Namespace.{ZoneBlocks, ZonedNamespace, namespace_with}
 use Rattle.image_store.specs.Reading.{◌>>=◌, are_zeros, number_at, bytes_in, header_told, header_in, zone_told, zone_in, zones_in, zone_rows_in, total_kept, limits_kept, blocks_in, end_in, namespace_in}
@@ -19,17 +19,17 @@ use Rattle.image_store.proofs.ReadingCalls.{bind_ok, ok_is, chosen, passed, fail
 use Rattle.image_store.proofs.Faults.{no_stream, fails_text, header_text_fault}
 use Rattle.image_store.proofs.FilledBuffers.{Split}
 
-told : (result : Result Header LoadFault) (front rest : List ℕ) → result ≡ header_told front → Gives {Y = Header × List ℕ} ⊥ (λ (h : Header). (h, rest)) result (header_told front >>= λ h. Ok (h, rest))
+told : (result : Result Header LoadFault) (front rest : List ℕ) → result ≡ header_told front → LoadGives {Y = Header × List ℕ} ⊥ (λ (h : Header). (h, rest)) result (header_told front >>= λ h. Ok (h, rest))
 told (Ok h) front rest e = ap (λ (r : Result Header LoadFault). r >>= λ x. let all : Result (Header × List ℕ) LoadFault = Ok (x, rest) in all) (sym e)
 told (Err first) front rest e =
     fails_then ⊥ ⊥ first (header_told front) (λ (h : Header). let all : Result (Header × List ℕ) LoadFault = Ok (h, rest) in all) (λ no. no)
     (fails_text ⊥ first (header_told front) (header_text_fault front first (sym e)) (sym e))
 
 -- the header, of 64 bytes that were read
-pub header_given : (result : Result Header LoadFault) (front rest all : List ℕ) → bytes_in 64 all ≡ Ok (front, rest) → result ≡ header_told front → Gives {Y = Header × List ℕ} ⊥ (λ (h : Header). (h, rest)) result (header_in all)
+pub header_given : (result : Result Header LoadFault) (front rest all : List ℕ) → bytes_in 64 all ≡ Ok (front, rest) → result ≡ header_told front → LoadGives {Y = Header × List ℕ} ⊥ (λ (h : Header). (h, rest)) result (header_in all)
 header_given result front rest all read given =
     let step : header_in all ≡ (header_told front >>= λ h. Ok (h, rest)) = ap (λ (r : Result Split LoadFault). r >>= λ part. header_told part.0 >>= λ h. Ok (h, part.1)) read in
-    subst (λ (r : Result (Header × List ℕ) LoadFault). Gives {Y = Header × List ℕ} ⊥ (λ (h : Header). (h, rest)) result r) (sym step) (told result front rest given)
+    subst (λ (r : Result (Header × List ℕ) LoadFault). LoadGives {Y = Header × List ℕ} ⊥ (λ (h : Header). (h, rest)) result r) (sym step) (told result front rest given)
 
 pub header_no_stream : (result : Result Header LoadFault) (front : List ℕ) → result ≡ header_told front → NoStreamFails result
 header_no_stream (Ok h) front e = tt
@@ -70,7 +70,7 @@ zones_fit zone capacity (suc n) bytes zs some e =
     subst (HaveFit capacity (suc n)) (ok_is (a.0 ∷ b.0) zs b.2) (record { count = ap suc more.count; each = fit_more capacity a.0 b.0 first more.each })
 
 pub rows_fit : {X : Type 0} (view : X → List CountedZone) (s : Shape) (result : Result X LoadFault) (bytes : List ℕ) → IsShape s
-    → Gives (Unit {0}) view result (zones_in 0 s.capacity s.zones bytes) → IfOk result (λ x. AreZones s (view x))
+    → LoadGives (Unit {0}) view result (zones_in 0 s.capacity s.zones bytes) → IfOk result (λ x. AreZones s (view x))
 rows_fit view s (Ok x) bytes known e =
     let fit = zones_fit 0 s.capacity s.zones bytes (view x) known.capacity_some e in
     λ room size. record {
@@ -129,10 +129,10 @@ header_accepted all rest h e = subst (λ (r : Result (Header × List ℕ) LoadFa
 
 -- a part that fails, by what was still to be read
 pub fails_at : {X : Type 0} (wanted may : Type 0) (first : LoadFault) (part : Result X LoadFault) (next : X → Result ZonedNamespace LoadFault) (all : Result ZonedNamespace LoadFault)
-    → all ≡ (part >>= next) → (wanted → may) → Fails wanted first part → Fails may first all
+    → all ≡ (part >>= next) → (wanted → may) → LoadFails wanted first part → LoadFails may first all
 fails_at wanted may first part next all so_far up h =
-    subst (λ (r : Result ZonedNamespace LoadFault). Fails may first r) (sym so_far) (fails_then wanted may first part next up h)
+    subst (λ (r : Result ZonedNamespace LoadFault). LoadFails may first r) (sym so_far) (fails_then wanted may first part next up h)
 
-pub header_fails : (first : LoadFault) (all : List ℕ) → Fails ⊥ first (header_in all) → Fails (IsOk (header_in all)) first (namespace_in all)
+pub header_fails : (first : LoadFault) (all : List ℕ) → LoadFails ⊥ first (header_in all) → LoadFails (IsOk (header_in all)) first (namespace_in all)
 unfolding namespace_in
 header_fails first all h = fails_then ⊥ (IsOk (header_in all)) first (header_in all) (λ x. after_header x.0 x.1) (λ no. absurd no) h

@@ -4,7 +4,7 @@ use Rattle.std.proofs.lemmas.List.{append-nil}
 use Rattle.zone_state.specs.Zone.{CountedZone}
 use Rattle.image_store.specs.declared.fault.LoadFault.{LoadFault}
 use Rattle.image_store.specs.declared.fault.LoadFault.TheVariants.{Stream, Memory}
-use Rattle.image_store.specs.Loading.{Fails}
+use Rattle.image_store.specs.Loading.{LoadFails}
 use Rattle.image_store.specs.Reading.{◌>>=◌, zone_in, zones_in}
 
 -- what was read before, and what is still read
@@ -37,7 +37,7 @@ is_done front capacity count i bytes total le so_far =
     ∙ (ap (λ (n : ℕ). with_front front (zones_in i capacity n bytes)) k ∙ ap (λ (all : List CountedZone). let r : Result (List CountedZone) LoadFault = Ok all in r) (append-nil front))
 
 -- a fault that reading gives is one of a call that may want memory
-pub fails_free : {Y : Type 0} (fault : LoadFault) (reading : Result Y LoadFault) → reading ≡ Err fault → Fails (Unit {0}) fault reading
+pub fails_free : {Y : Type 0} (fault : LoadFault) (reading : Result Y LoadFault) → reading ≡ Err fault → LoadFails (Unit {0}) fault reading
 fails_free Stream reading h = tt
 fails_free Memory reading h = tt
 fails_free fault reading h = h

@@ -10,7 +10,7 @@ use Rattle.image_store.specs.declared.geometry.GeometryFault.TheVariants.{BlockS
 use Rattle.zone_state.specs.Checks.{demand, first_failed, unless_failed}
 
 -- bytes of a block, number of zones, blocks of a zone (zone size), how many of these can be written
--- (zone capacity; ZNS 1.1, 2.1.1), and how many zones may be open and active (ZNS 1.1, Zone Resources)
+-- (zone capacity), and how many zones may be open and active (ZNS 1.1, 2.1.1)
 pub record Shape : Type 0 where
   pub block : ℕ
   pub zones : ℕ

@@ -5,16 +5,16 @@ use Rattle.image_store.specs.declared.fault.LoadFault.TheVariants.{Stream, Memor
 
 -- The fault is the one that reading gives. A stream that fails says nothing of the bytes, and memory
 -- is wanted only where this holds.
-abbrev pub Fails : {Y : Type 0} → Type 0 → LoadFault → Result Y LoadFault → Type 0
-Fails wanted Stream reading = Unit {0}
-Fails wanted Memory reading = wanted
-Fails wanted fault reading = reading ≡ Err fault
+abbrev pub LoadFails : {Y : Type 0} → Type 0 → LoadFault → Result Y LoadFault → Type 0
+LoadFails wanted Stream reading = Unit {0}
+LoadFails wanted Memory reading = wanted
+LoadFails wanted fault reading = reading ≡ Err fault
 
 -- A call whose answer is seen by view gives what reading gives, unless the stream failed or memory was
 -- wanted, which is only where this holds.
-abbrev pub Gives : {X Y : Type 0} → Type 0 → (X → Y) → Result X LoadFault → Result Y LoadFault → Type 0
-Gives wanted view (Ok x) reading = reading ≡ Ok (view x)
-Gives wanted view (Err fault) reading = Fails wanted fault reading
+abbrev pub LoadGives : {X Y : Type 0} → Type 0 → (X → Y) → Result X LoadFault → Result Y LoadFault → Type 0
+LoadGives wanted view (Ok x) reading = reading ≡ Ok (view x)
+LoadGives wanted view (Err fault) reading = LoadFails wanted fault reading
 
 -- the count of failures grows with the fault of a stream, and stays with each other fault
 abbrev pub CountsFault : ℕ → ℕ → LoadFault → Type 0

@@ -43,7 +43,7 @@ counted capacity zone = record { state = zone.state; written = length zone.block
 abbrev pub counted_zones : ZonedNamespace → List CountedZone
 counted_zones ns = map (counted ns.capacity) ns.zones
 
--- no more zones are open or active than may be (ZNS 1.1, Zone Resources)
+-- no more zones are open or active than may be (ZNS 1.1, 2.1.1)
 abbrev pub IsWithinLimits : ZonedNamespace → Type 0
 IsWithinLimits ns = IsWithin (counted_zones ns) ns.limits
 

@@ -6,7 +6,7 @@ ghost use Rattle.zone_state.specs.Zone.{refusal, IsZone, kept};
 ghost use Rattle.image_store.specs.Geometry.{IsShape};
 ghost use Rattle.image_store.specs.Blocks.{block_count, bytes_of};
 ghost use Rattle.image_store.specs.Streams.{Takes, CountsFailure};
-ghost use Rattle.image_store.specs.Loading.{Gives, CountsLoad};
+ghost use Rattle.image_store.specs.Loading.{LoadGives, CountsLoad};
 ghost use Rattle.image_store.specs.Reading.{header_in, namespace_in};
 ghost use Rattle.image_store.specs.Text.{text};
 ghost use Rattle.image_store.specs.Namespace.{appended, with_state, counted, counted_zones, zone_at, all_empty, shape, block_at, IsWithinLimits, IsWritten, IsNamespace};
@@ -71,7 +71,7 @@ impl Image {
     /// and for the blocks once the rows are.
     pub fn load<R: Source>(alloc: Global, source: &mut R) -> Result<Image, LoadFault>
         requires { R.failures source.old < 2 ^ 64 - 1 }
-        ensures image { R.tells → Gives (IsOk (header_in (R.rest source.old))) (λ image. image) result (namespace_in (R.rest source.old)) }
+        ensures image { R.tells → LoadGives (IsOk (header_in (R.rest source.old))) (λ image. image) result (namespace_in (R.rest source.old)) }
         ensures failures { CountsLoad (R.failures source.old) (R.failures source.new) result }
     {
         let (geometry, zones, blocks) = load::load(alloc, source)?;

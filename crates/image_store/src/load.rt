@@ -3,7 +3,7 @@
 ghost use Rattle.std.specs.Prelude.{◌≡◌, ◌≤◌, ◌<◌, ◌-◌, ◌+◌, ◌*◌, ◌^◌, length, IfOk, IsOk, OnOk};
 ghost use Rattle.zone_resources.specs.Admission.{IsWithin};
 ghost use Rattle.image_store.specs.ImageInMemory.{IsFlat, namespace_of, zones_of};
-ghost use Rattle.image_store.specs.Loading.{Gives, CountsLoad};
+ghost use Rattle.image_store.specs.Loading.{LoadGives, CountsLoad};
 ghost use Rattle.image_store.specs.steps.LoadedParts.{AreZones, spliced_in};
 ghost use Rattle.image_store.specs.Reading.{bytes_in, header_in, zone_rows_in, total_kept, limits_kept, blocks_in, end_in, namespace_in};
 
@@ -26,7 +26,7 @@ pub fn load<R: Source>(
     source: &mut R,
 ) -> Result<(Geometry, Vec<Zone>, Vec<u8>), LoadFault>
     requires { R.failures source.old < 2 ^ 64 - 1 }
-    ensures parts { R.tells → Gives (IsOk (header_in (R.rest source.old))) (λ parts. namespace_of parts.0 parts.1.items parts.2.items) result (namespace_in (R.rest source.old)) }
+    ensures parts { R.tells → LoadGives (IsOk (header_in (R.rest source.old))) (λ parts. namespace_of parts.0 parts.1.items parts.2.items) result (namespace_in (R.rest source.old)) }
     ensures flat { IfOk result (λ parts. IsFlat parts.0 parts.1.items parts.2.items) }
     ensures within { IfOk result (λ parts. IsWithin parts.1.items parts.0.limits) }
     ensures failures { CountsLoad (R.failures source.old) (R.failures source.new) result }
@@ -44,7 +44,7 @@ pub fn load<R: Source>(
 /// Reads the header.
 fn read_header<R: Source>(source: &mut R) -> Result<Header, LoadFault>
     requires { R.failures source.old < 2 ^ 64 - 1 }
-    ensures header { R.tells → Gives ⊥ (λ header. (header, R.rest source.new)) result (header_in (R.rest source.old)) }
+    ensures header { R.tells → LoadGives ⊥ (λ header. (header, R.rest source.new)) result (header_in (R.rest source.old)) }
     ensures failures { CountsLoad (R.failures source.old) (R.failures source.new) result }
 {
     let mut bytes = [0; header::HEADER_BYTES];
@@ -59,7 +59,7 @@ fn read_zone_rows<R: Source>(
     geometry: Geometry,
 ) -> Result<Vec<Zone>, LoadFault>
     requires { R.failures source.old < 2 ^ 64 - 1 }
-    ensures rows { R.tells → Gives (Unit {0}) (λ zones. (zones.items, R.rest source.new)) result (zone_rows_in geometry (R.rest source.old)) }
+    ensures rows { R.tells → LoadGives (Unit {0}) (λ zones. (zones.items, R.rest source.new)) result (zone_rows_in geometry (R.rest source.old)) }
     ensures fit { IfOk result (λ zones. AreZones geometry zones.items) }
     ensures failures { CountsLoad (R.failures source.old) (R.failures source.new) result }
 {
@@ -112,7 +112,7 @@ fn read_blocks<R: Source>(
 ) -> Result<Vec<u8>, LoadFault>
     requires fit { AreZones geometry zones.now }
     requires few { R.failures source.old < 2 ^ 64 - 1 }
-    ensures blocks { R.tells → Gives (Unit {0}) (λ blocks. (zones_of geometry.block geometry.capacity zones.now blocks.items, R.rest source.new)) result (blocks_in geometry.block zones.now (R.rest source.old)) }
+    ensures blocks { R.tells → LoadGives (Unit {0}) (λ blocks. (zones_of geometry.block geometry.capacity zones.now blocks.items, R.rest source.new)) result (blocks_in geometry.block zones.now (R.rest source.old)) }
     ensures flat { IfOk result (λ blocks. IsFlat geometry zones.now blocks.items) }
     ensures failures { CountsLoad (R.failures source.old) (R.failures source.new) result }
 {
@@ -130,7 +130,7 @@ fn fill_zones<R: Source>(
 ) -> Result<(), LoadFault>
     requires flat { IsFlat geometry zones.now blocks.old }
     requires few { R.failures source.old < 2 ^ 64 - 1 }
-    ensures blocks { R.tells → Gives ⊥ (λ _. (zones_of geometry.block geometry.capacity zones.now blocks.new, R.rest source.new)) result (blocks_in geometry.block zones.now (R.rest source.old)) }
+    ensures blocks { R.tells → LoadGives ⊥ (λ _. (zones_of geometry.block geometry.capacity zones.now blocks.new, R.rest source.new)) result (blocks_in geometry.block zones.now (R.rest source.old)) }
     ensures failures { CountsLoad (R.failures source.old) (R.failures source.new) result }
 {
     let block = geometry.block().bytes() as usize;
@@ -151,7 +151,7 @@ fn fill_part<R: Source>(
 ) -> Result<(), LoadFault>
     requires inside { start + count ≤ length to.old }
     requires few { R.failures source.old < 2 ^ 64 - 1 }
-    ensures bytes { R.tells → Gives ⊥ (λ _. (to.new, R.rest source.new)) result (spliced_in start count to.old (R.rest source.old)) }
+    ensures bytes { R.tells → LoadGives ⊥ (λ _. (to.new, R.rest source.new)) result (spliced_in start count to.old (R.rest source.old)) }
     ensures failures { CountsLoad (R.failures source.old) (R.failures source.new) result }
 {
     fill(source, &mut to[start..start + count])
@@ -160,7 +160,7 @@ fn fill_part<R: Source>(
 /// Refuses bytes that still come.
 fn read_end<R: Source>(source: &mut R) -> Result<(), LoadFault>
     requires { R.failures source.old < 2 ^ 64 - 1 }
-    ensures end { R.tells → Gives ⊥ (λ end. end) result (end_in (R.rest source.old)) }
+    ensures end { R.tells → LoadGives ⊥ (λ end. end) result (end_in (R.rest source.old)) }
     ensures failures { CountsLoad (R.failures source.old) (R.failures source.new) result }
 {
     let mut byte = [0; 1];
@@ -174,7 +174,7 @@ fn read_end<R: Source>(source: &mut R) -> Result<(), LoadFault>
 /// Reads until `to` is full.
 fn fill<R: Source>(source: &mut R, to: &mut [u8]) -> Result<(), LoadFault>
     requires { R.failures source.old < 2 ^ 64 - 1 }
-    ensures bytes { R.tells → Gives ⊥ (λ _. (to.new, R.rest source.new)) result (bytes_in (length to.old) (R.rest source.old)) }
+    ensures bytes { R.tells → LoadGives ⊥ (λ _. (to.new, R.rest source.new)) result (bytes_in (length to.old) (R.rest source.old)) }
     ensures failures { CountsLoad (R.failures source.old) (R.failures source.new) result }
 {
     let mut at = 0;

@@ -1,7 +1,7 @@
 //! The zone rows of an image: for each zone 8 bytes, with its state and how much of it is written.
 
 ghost use Rattle.std.specs.Prelude.{◌≡◌, ◌≤◌, ◌*◌, ◌<◌, ◌^◌, length};
-ghost use Rattle.image_store.specs.Loading.{Gives};
+ghost use Rattle.image_store.specs.Loading.{LoadGives};
 ghost use Rattle.image_store.specs.steps.LoadedParts.{NoStreamFails};
 ghost use Rattle.image_store.specs.Reading.{zone_in, zone_with, zones_in};
 ghost use Rattle.image_store.specs.Text.{zone_row, written_blocks};
@@ -46,7 +46,7 @@ pub fn decode_all(
 ) -> Result<Vec<Zone>, LoadFault>
     requires size { length bytes.now ≡ count * 8 }
     requires some { 1 ≤ capacity }
-    ensures zones { Gives (Unit {0}) (λ zones. zones.items) result (zones_in 0 capacity count bytes.now) }
+    ensures zones { LoadGives (Unit {0}) (λ zones. zones.items) result (zones_in 0 capacity count bytes.now) }
     ensures no_stream { NoStreamFails result }
 {
     let mut zones = Vec::with_capacity(alloc, count as usize)?;
