@@ -33,7 +33,7 @@ numbered_again reasons.StoreOutside = refl
 numbered_again reasons.UnknownHelper = refl
 numbered_again reasons.EmitAddress = refl
 numbered_again reasons.EmitLength = refl
-numbered_again reasons.EmitBudget = refl
+numbered_again reasons.EmitLimit = refl
 
 some_same : (a b : Reason) → Some a ≡ Some b → a ≡ b
 some_same a b e = cc
@@ -59,7 +59,7 @@ some_number reasons.StoreOutside = omega arith
 some_number reasons.UnknownHelper = omega arith
 some_number reasons.EmitAddress = omega arith
 some_number reasons.EmitLength = omega arith
-some_number reasons.EmitBudget = omega arith
+some_number reasons.EmitLimit = omega arith
 
 module _ (test : Reason → Bool) where
   found_here : (x : Reason) (xs : List Reason) (r : Reason) → test x ≡ true → find test (x ∷ xs) ≡ Some r → x ≡ r

@@ -68,7 +68,7 @@ of_all test fail reason.StoreOutside = fail.1.1.1.1.1.0
 of_all test fail reason.UnknownHelper = fail.1.1.1.1.1.1.0
 of_all test fail reason.EmitAddress = fail.1.1.1.1.1.1.1.0
 of_all test fail reason.EmitLength = fail.1.1.1.1.1.1.1.1.0
-of_all test fail reason.EmitBudget = fail.1.1.1.1.1.1.1.1.1.0
+of_all test fail reason.EmitLimit = fail.1.1.1.1.1.1.1.1.1.0
 
 -- ---- where it leads
 
@@ -234,10 +234,10 @@ module _ {D : Type 0} {IsFact : D → Type 0} {contains : D → ℕ → Type 0} 
         → (emit && (least == 0 || is_none (area_of operations block facts 1 (pos 0) most))) ≡ false
         → (emit && nat_lt sizes.limit (facts.emitted + 2 + most)) ≡ false
         → ((emit && emits_outside s) ≡ false) × ((emit && emits_badly sizes.limit s) ≡ false)
-    emits false length budget = (refl, refl)
-    emits true length budget =
+    emits false length limit = (refl, refl)
+    emits true length limit =
         let (some, told) = or_parts (least == 0) _ length in
-        (emits_inside _ most refl told bounded.1 (counted budget), emits_well some budget)
+        (emits_inside _ most refl told bounded.1 (counted limit), emits_well some limit)
 
     module _ (program : List (Option Insn)) (i : Insn) (near : FitsSigned w16 (first_slot i).offset)
         (accepted : reason_of operations program sizes s.slot facts i ≡ None) where
@@ -254,8 +254,8 @@ module _ {D : Type 0} {IsFact : D → Type 0} {contains : D → ℕ → Type 0} 
       free cause.LoadOutside = (accesses i near (passed reason.LoadOutside) (passed reason.StoreOutside)).0
       free cause.StoreOutside = (accesses i near (passed reason.LoadOutside) (passed reason.StoreOutside)).1
       free cause.UnknownHelper = passed reason.UnknownHelper
-      free cause.EmitOutside = (emits (is_emit i) (passed reason.EmitLength) (passed reason.EmitBudget)).0
-      free cause.EmitLength = (emits (is_emit i) (passed reason.EmitLength) (passed reason.EmitBudget)).1
+      free cause.EmitOutside = (emits (is_emit i) (passed reason.EmitLength) (passed reason.EmitLimit)).0
+      free cause.EmitLength = (emits (is_emit i) (passed reason.EmitLength) (passed reason.EmitLimit)).1
 
   -- no cause hinders an instruction that passes all checks
   pub unhindered : (program : List (Option Insn)) (sizes : Sizes) (i : Insn) (facts : Facts D) (s : State)

@@ -16,7 +16,7 @@ use Rattle.word_domain.specs.Domain.{Operations}
 use Rattle.accepted_programs.specs.Facts.{area_of, fact, facts_at, slot_behind}
 use Rattle.accepted_programs.specs.declared.facts.Facts.{Facts}
 use Rattle.accepted_programs.specs.declared.reason.Reason.{Reason}
-use Rattle.accepted_programs.specs.declared.reason.Reason.TheVariants.{JumpBack, JumpOutside, FallsOff, WriteToFramePointer, LoadOutside, StoreOutside, UnknownHelper, EmitAddress, EmitLength, EmitBudget}
+use Rattle.accepted_programs.specs.declared.reason.Reason.TheVariants.{JumpBack, JumpOutside, FallsOff, WriteToFramePointer, LoadOutside, StoreOutside, UnknownHelper, EmitAddress, EmitLength, EmitLimit}
 use Rattle.accepted_programs.specs.declared.reason.Refusal.{Refusal}
 
 abbrev pub reason_number : Reason → ℕ
@@ -29,12 +29,12 @@ reason_number StoreOutside = 6
 reason_number UnknownHelper = 7
 reason_number EmitAddress = 8
 reason_number EmitLength = 9
-reason_number EmitBudget = 10
+reason_number EmitLimit = 10
 
 abbrev pub all_reasons : List Reason
 all_reasons =
     JumpBack ∷ JumpOutside ∷ FallsOff ∷ WriteToFramePointer ∷ LoadOutside ∷ StoreOutside ∷ UnknownHelper
-    ∷ EmitAddress ∷ EmitLength ∷ EmitBudget ∷ []
+    ∷ EmitAddress ∷ EmitLength ∷ EmitLimit ∷ []
 
 -- does an instruction begin at this slot of a program?
 abbrev pub begins_at : List (Option Insn) → ℤ → Bool
@@ -106,7 +106,7 @@ module _ {D : Type 0} (operations : Operations D) where
     fails slot facts i EmitAddress = is_emit i && is_none (area_of operations sizes.block facts 1 (pos 0) 0)
     fails slot facts i EmitLength =
         is_emit i && (least_length facts == 0 || is_none (area_of operations sizes.block facts 1 (pos 0) (greatest_length facts)))
-    fails slot facts i EmitBudget = is_emit i && nat_lt sizes.limit (facts.emitted + 2 + greatest_length facts)
+    fails slot facts i EmitLimit = is_emit i && nat_lt sizes.limit (facts.emitted + 2 + greatest_length facts)
 
     -- the least reason to refuse an instruction at a slot with these facts
     abbrev pub reason_of : ℕ → Facts D → Insn → Option Reason

@@ -9,37 +9,37 @@ use thiserror::Error;
 /// number is told (profile).
 #[derive(Clone, Copy, Debug, PartialEq, Eq, Error)]
 pub enum Reason {
-    /// 1: a jump to a slot before the next one.
+    /// A jump to a slot before the next one.
     #[error("a jump backward")]
-    JumpBack,
-    /// 2: a jump to a slot where no instruction begins: outside the program, or the second slot of
+    JumpBack = 1,
+    /// A jump to a slot where no instruction begins: outside the program, or the second slot of
     /// a wide instruction.
     #[error("a jump to no instruction")]
-    JumpOutside,
-    /// 3: the program ends behind the instruction, which is no EXIT and no unconditional jump.
+    JumpOutside = 2,
+    /// The program ends behind the instruction, which is no EXIT and no unconditional jump.
     #[error("a program that falls off")]
-    FallsOff,
-    /// 4: a write to R10, the read-only frame pointer (RFC 9669, 3).
+    FallsOff = 3,
+    /// A write to R10, the read-only frame pointer (BPF ABI 1.0, Registers and calling convention).
     #[error("a write to R10")]
-    WriteToFramePointer,
-    /// 5: a load whose bytes may not all lie in one area.
+    WriteToFramePointer = 4,
+    /// A load whose bytes may not all lie in one area.
     #[error("a load outside")]
-    LoadOutside,
-    /// 6: a store whose bytes may not all lie in one writable area.
+    LoadOutside = 5,
+    /// A store whose bytes may not all lie in one writable area.
     #[error("a store outside, or into the context or the block")]
-    StoreOutside,
-    /// 7: a helper other than emit.
+    StoreOutside = 6,
+    /// A helper other than emit.
     #[error("a helper other than 1")]
-    UnknownHelper,
-    /// 8: an emit from an address that may lie in no area.
+    UnknownHelper = 7,
+    /// An emit from an address that may lie in no area.
     #[error("an emit from an unknown address")]
-    EmitAddress,
-    /// 9: an emit that may be of no bytes, or whose bytes may not all lie in the area.
+    EmitAddress = 8,
+    /// An emit that may be of no bytes, or whose bytes may not all lie in the area.
     #[error("an emit of an unknown length")]
-    EmitLength,
-    /// 10: an emit that may take the group over its limit.
+    EmitLength = 9,
+    /// An emit that may take the group over its limit.
     #[error("an emit over the limit")]
-    EmitBudget,
+    EmitLimit = 10,
 }
 
 impl Reason {
@@ -47,18 +47,7 @@ impl Reason {
     pub fn number(self) -> u8
         ensures { result ≡ reason_number self }
     {
-        match self {
-            Reason::JumpBack => 1,
-            Reason::JumpOutside => 2,
-            Reason::FallsOff => 3,
-            Reason::WriteToFramePointer => 4,
-            Reason::LoadOutside => 5,
-            Reason::StoreOutside => 6,
-            Reason::UnknownHelper => 7,
-            Reason::EmitAddress => 8,
-            Reason::EmitLength => 9,
-            Reason::EmitBudget => 10,
-        }
+        self as u8
     }
 }
 

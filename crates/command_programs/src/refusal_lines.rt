@@ -31,7 +31,7 @@ impl Refused<'_> {
             Reason::UnknownHelper => tell_helper(self.insn, out)?,
             Reason::EmitAddress => self.tell_address(out)?,
             Reason::EmitLength => self.tell_length(out)?,
-            Reason::EmitBudget => self.tell_budget(out)?,
+            Reason::EmitLimit => self.tell_limit(out)?,
         }
         let [first, second] = registers_read(self.insn);
         self.tell_register(first, out)?;
@@ -118,7 +118,7 @@ impl Refused<'_> {
     }
 
     /// What the group has with this emit, and what it may have.
-    fn tell_budget<O: Write>(&self, out: &mut O) -> io::Result<()> {
+    fn tell_limit<O: Write>(&self, out: &mut O) -> io::Result<()> {
         let (emitted, limit) = (self.facts.emitted as u64, self.sizes.limit());
         let most = self.facts.get(Register::R2).bounds().high;
         let before = Counted(emitted, "byte");

@@ -181,7 +181,7 @@ mod tests {
         Reason::UnknownHelper,
         Reason::EmitAddress,
         Reason::EmitLength,
-        Reason::EmitBudget,
+        Reason::EmitLimit,
     ];
 
     /// The help lists each reason by its number, in the words that a refusal is explained with.

@@ -78,7 +78,7 @@ fn admit(
     let Some(loaded) = &slots[order.slot.index()] else {
         return Err(Status::NO_SUCH_PROGRAM);
     };
-    let (source, destination) = places(namespace, order)?;
+    let (source, destination) = source_and_destination(namespace, order)?;
     let Some(run) = free_place(runs) else {
         return Err(Status::NO_RUN_FREE);
     };
@@ -93,7 +93,7 @@ fn admit(
 }
 
 /// Where a run reads and appends: its first source block, and its destination.
-fn places(namespace: &Namespace, order: &RunCommand) -> Result<(ZoneBlock, u32), Status>
+fn source_and_destination(namespace: &Namespace, order: &RunCommand) -> Result<(ZoneBlock, u32), Status>
     ensures why { why_not result ≡ first_failed (address_checks namespace.now order.now) }
     ensures places { IfOk result (λ found. ArePlaces namespace.now order.now found.0 found.1) }
 {

@@ -16,7 +16,7 @@ use Rattle.accepted_programs.specs.Facts.{facts_behind, slot_behind}
 use Rattle.accepted_programs.proofs.Proved.{no_reason_holds}
 use Rattle.accepted_programs.specs.declared.facts.Facts.{Facts}
 use Rattle.accepted_programs.specs.declared.reason.Reason.{Reason}
-use Rattle.accepted_programs.specs.declared.reason.Reason.TheVariants.{JumpOutside, FallsOff, UnknownHelper, EmitBudget}
+use Rattle.accepted_programs.specs.declared.reason.Reason.TheVariants.{JumpOutside, FallsOff, UnknownHelper, EmitLimit}
 
 -- an instruction begins only inside a program
 inside_by : (program : List (Option Insn)) (n : ℕ) (entry : Option (Option Insn)) → slice_get program n ≡ entry
@@ -94,7 +94,7 @@ module _ {D : Type 0} (operations : Operations D) where
   room_left program sizes slot facts (Call helper) none fits =
       within_limit (is_emit (Call helper)) sizes.limit (facts.emitted + 2 + greatest_length operations facts)
       (free program sizes slot facts (Call helper) none UnknownHelper)
-      (free program sizes slot facts (Call helper) none EmitBudget) fits
+      (free program sizes slot facts (Call helper) none EmitLimit) fits
   room_left program sizes slot facts (LoadImmediate dst value) none fits = tt
   room_left program sizes slot facts (Load size dst src offset) none fits = tt
   room_left program sizes slot facts (LoadSigned size dst src offset) none fits = tt

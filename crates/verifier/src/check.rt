@@ -5,7 +5,7 @@ ghost use Rattle.instruction_set.specs.Instruction.{access_of};
 ghost use Rattle.program_meaning.specs.Cause.{calls_unknown as insn_calls_unknown};
 ghost use Rattle.accepted_programs.specs.Accepted.{area_accessed as area_of_access, begins_at, fails, goes_back as distance_goes_back, greatest_length, is_unwritable as area_is_unwritable, leads_nowhere as distance_leads_nowhere, least_length, loads_outside as access_loads_outside, reason_of, stores_outside as access_stores_outside, turns_away as insn_turns_away};
 ghost use Rattle.accepted_programs.specs.Facts.{area_of, slot_behind as insn_slot_behind};
-ghost use Rattle.accepted_programs.specs.declared.reason.Reason.TheVariants.{EmitAddress, EmitBudget, EmitLength, FallsOff};
+ghost use Rattle.accepted_programs.specs.declared.reason.Reason.TheVariants.{EmitAddress, EmitLimit, EmitLength, FallsOff};
 
 use accepted_programs::{Facts, Reason};
 use instruction_set::{Access, AccessKind, Insn, Program, Register};
@@ -199,7 +199,7 @@ pub fn find_reason<D: Domain>(
     } else if emits_amiss(block, facts) {
         Reason::EmitLength
     } else if passes_limit(sizes.limit(), facts) {
-        Reason::EmitBudget
+        Reason::EmitLimit
     } else {
         return None;
     };
