@@ -73,8 +73,8 @@ of_all test fail reason.EmitLimit = fail.1.1.1.1.1.1.1.1.1.0
 -- ---- where it leads
 
 -- an instruction begins at what a program has at a slot
-stands : (entry : Option (Option Insn)) → not (is_some (instruction_in entry)) ≡ false
-    → (is_outside entry ≡ false) × (is_inside_wide entry ≡ false)
+stands : (begun : Option (Option Insn)) → not (is_some (instruction_in begun)) ≡ false
+    → (is_outside begun ≡ false) × (is_inside_wide begun ≡ false)
 stands None e = cc
 stands (Some None) e = cc
 stands (Some (Some i)) e = (refl, refl)

@@ -5,7 +5,7 @@ use Rattle.ebpf_decode.specs.declared.fault.FaultKind.{FaultKind}
 use Rattle.instruction_set.specs.declared.fields.Fields.{Fields}
 use Rattle.instruction_set.specs.declared.insn.Insn.{Insn}
 use Rattle.ebpf_decode.specs.Laws.{FaultIsInside}
-use Rattle.ebpf_decode.specs.Reading.{begins_wide, entry, length_fault, read_slots, slots_at, then_read, unless_length, with_front}
+use Rattle.ebpf_decode.specs.Reading.{begins_wide, begun, length_fault, read_slots, slots_at, then_read, unless_length, with_front}
 use Rattle.program_interface.specs.declared.TheConstants.{MOST_SLOTS}
 use Rattle.std.specs.List.{slice_get}
 use Rattle.ebpf_decode.proofs.Programs.{few_slots}
@@ -41,7 +41,7 @@ fault_within second s [] fault e = absurd cc
 fault_within second s (f ∷ rest) fault e =
     fault_from s (length rest) fault (λ wide. read_slots wide (s + 1) rest)
     (λ wide h. fault_within wide (s + 1) rest fault h)
-    (entry second f (slice_get rest 0)) e
+    (begun second f (slice_get rest 0)) e
 
 by_length : (bytes : List ℕ) (fault : Fault) (found : Option FaultKind) → length_fault (length bytes) ≡ found
     → unless_length found (read_slots false 0 (slots_at (length bytes / 8) bytes)) ≡ Err fault → fault.slot < MOST_SLOTS

@@ -6,7 +6,7 @@ use Rattle.ebpf_decode.specs.declared.fault.Fault.{Fault}
 use Rattle.ebpf_decode.specs.declared.fault.FaultKind.{FaultKind}
 use Rattle.instruction_set.specs.declared.fields.Fields.{Fields}
 use Rattle.instruction_set.specs.declared.insn.Insn.{Insn}
-use Rattle.ebpf_decode.specs.Reading.{begins_wide, entry, fields_at, read_slots, slots_at, then_read, with_front}
+use Rattle.ebpf_decode.specs.Reading.{begins_wide, begun, fields_at, read_slots, slots_at, then_read, with_front}
 
 pub slots-get : (count : ℕ) (bytes : List ℕ) (k : ℕ) → k < count → slice_get (slots_at count bytes) k ≡ Some (fields_at (drop (8 * k) bytes))
 slots-get zero bytes k h = absurd (omega arith)
@@ -39,11 +39,11 @@ get-drop (x ∷ fs) (suc s) = get-drop fs s
 
 -- what begins at a slot, and then the slots after it
 read-at : (fs : List Fields) (s : ℕ) (f : Fields) (second : Bool) → slice_get fs s ≡ Some f
-    → read_slots second s (drop s fs) ≡ then_read (entry second f (slice_get fs (s + 1))) s (λ wide. read_slots wide (s + 1) (drop (s + 1) fs))
+    → read_slots second s (drop s fs) ≡ then_read (begun second f (slice_get fs (s + 1))) s (λ wide. read_slots wide (s + 1) (drop (s + 1) fs))
 read-at fs s f second h =
     ap (read_slots second s) (drop-at fs s f h)
-    ∙ ap (λ n. then_read (entry second f n) s (λ wide. read_slots wide (s + 1) (drop (suc s) fs))) (get-drop fs (suc s))
-    ∙ ap (λ n. then_read (entry second f (slice_get fs n)) s (λ wide. read_slots wide (s + 1) (drop n fs))) (sym (add-one s))
+    ∙ ap (λ n. then_read (begun second f n) s (λ wide. read_slots wide (s + 1) (drop (suc s) fs))) (get-drop fs (suc s))
+    ∙ ap (λ n. then_read (begun second f (slice_get fs n)) s (λ wide. read_slots wide (s + 1) (drop n fs))) (sym (add-one s))
 
 pub with_front-nil : (read : Result (List (Option Insn)) Fault) → with_front [] read ≡ read
 with_front-nil (Ok slots) = refl
@@ -56,7 +56,7 @@ with_front-more front found (Err fault) = refl
 
 -- one more slot
 pub goes_on : (fs : List Fields) (s : ℕ) (f : Fields) (second : Bool) (found : Option Insn) (front : List (Option Insn)) (total : Result (List (Option Insn)) Fault)
-    → slice_get fs s ≡ Some f → entry second f (slice_get fs (s + 1)) ≡ Ok found
+    → slice_get fs s ≡ Some f → begun second f (slice_get fs (s + 1)) ≡ Ok found
     → with_front front (read_slots second s (drop s fs)) ≡ total
     → with_front (front ++ found ∷ []) (read_slots (begins_wide found) (s + 1) (drop (s + 1) fs)) ≡ total
 goes_on fs s f second found front total here read so_far =
@@ -67,7 +67,7 @@ goes_on fs s f second found front total here read so_far =
 
 -- a slot with a fault
 pub ends : (fs : List Fields) (s : ℕ) (f : Fields) (second : Bool) (kind : FaultKind) (front : List (Option Insn)) (total : Result (List (Option Insn)) Fault)
-    → slice_get fs s ≡ Some f → entry second f (slice_get fs (s + 1)) ≡ Err kind
+    → slice_get fs s ≡ Some f → begun second f (slice_get fs (s + 1)) ≡ Err kind
     → with_front front (read_slots second s (drop s fs)) ≡ total
     → total ≡ Err (record { slot = s; kind = kind })
 ends fs s f second kind front total here read so_far =

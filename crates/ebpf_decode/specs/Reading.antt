@@ -142,9 +142,9 @@ with_front front (Ok slots) = Ok (front ++ slots)
 with_front front (Err fault) = Err fault
 
 -- what begins at a slot: nothing at a wide instruction's second
-abbrev pub entry : Bool → Fields → Option Fields → Result (Option Insn) FaultKind
-entry true f next = Ok None
-entry false f next = result_map_both Some (λ kind. kind) (read f next)
+abbrev pub begun : Bool → Fields → Option Fields → Result (Option Insn) FaultKind
+begun true f next = Ok None
+begun false f next = result_map_both Some (λ kind. kind) (read f next)
 
 abbrev pub begins_wide : Option Insn → Bool
 begins_wide None = false
@@ -158,7 +158,7 @@ then_read (Ok found) s after = with_front (found ∷ []) (after (begins_wide fou
 -- what begins at the slots from number s on, of which the first may be a wide instruction's second
 abbrev pub read_slots : Bool → ℕ → List Fields → Result (List (Option Insn)) Fault
 read_slots second s [] = Ok []
-read_slots second s (f ∷ rest) = then_read (entry second f (slice_get rest 0)) s (λ wide. read_slots wide (s + 1) rest)
+read_slots second s (f ∷ rest) = then_read (begun second f (slice_get rest 0)) s (λ wide. read_slots wide (s + 1) rest)
 
 -- the checks of a program's length, in order
 abbrev pub length_checks : ℕ → List (Bool × FaultKind)

@@ -4,7 +4,7 @@ ghost use Rattle.std.specs.Prelude.{◌≡◌, ◌<◌, ◌≤◌, ◌+◌, ◌*
 ghost use Rattle.std.specs.Int.{w32, cast_unsigned};
 ghost use Rattle.instruction_set.specs.Spelling.{program_bytes};
 ghost use Rattle.program_interface.specs.Gives.{Gives};
-ghost use Rattle.ebpf_decode.specs.Reading.{begins_wide, decoded_program, entry, fault_in, fields_at, first_fault, has_more, has_no_register, has_unused, immediate_of, instruction, is_left_out, jump, length_fault, load_or_store, read, read_slots, slots_at, source_of, signed_move};
+ghost use Rattle.ebpf_decode.specs.Reading.{begins_wide, decoded_program, begun, fault_in, fields_at, first_fault, has_more, has_no_register, has_unused, immediate_of, instruction, is_left_out, jump, length_fault, load_or_store, read, read_slots, slots_at, source_of, signed_move};
 
 use crate::fault::{DecodeFault, Fault, FaultKind};
 use crate::fields::from_bytes;
@@ -270,7 +270,7 @@ pub(crate) fn slot_at(bytes: &[u8], slot: usize) -> Option<Fields>
 fn entry_at(bytes: &[u8], slot: usize, second: bool) -> Result<Option<Insn>, FaultKind>
     requires inside { slot < length bytes.now / 8 }
     requires most { length bytes.now / 8 ≤ MOST_SLOTS }
-    ensures { result ≡ entry second (fields_at (drop (8 * slot) bytes.now)) (slice_get (slots_at (length bytes.now / 8) bytes.now) (slot + 1)) }
+    ensures { result ≡ begun second (fields_at (drop (8 * slot) bytes.now)) (slice_get (slots_at (length bytes.now / 8) bytes.now) (slot + 1)) }
 {
     if second {
         return Ok(None);
@@ -281,10 +281,10 @@ fn entry_at(bytes: &[u8], slot: usize, second: bool) -> Result<Option<Insn>, Fau
 }
 
 /// Is the slot behind a wide instruction's second?
-fn begins_wide(entry: &Option<Insn>) -> bool
-    ensures { result ≡ begins_wide entry.now }
+fn begins_wide(begun: &Option<Insn>) -> bool
+    ensures { result ≡ begins_wide begun.now }
 {
-    matches!(entry, Some(Insn::LoadImmediate { .. }))
+    matches!(begun, Some(Insn::LoadImmediate { .. }))
 }
 
 /// What begins at each slot, or the lowest slot with a fault.
@@ -297,9 +297,9 @@ fn decode_slots(alloc: Global, bytes: &[u8]) -> Result<Vec<Option<Insn>>, Decode
     let mut second = false;
     for slot in 0..count {
         match entry_at(bytes, slot, second) {
-            Ok(entry) => {
-                second = begins_wide(&entry);
-                slots.extend_from_slice(&[entry])?;
+            Ok(begun) => {
+                second = begins_wide(&begun);
+                slots.extend_from_slice(&[begun])?;
             }
             Err(kind) => return Err(DecodeFault::Fault(Fault { slot, kind })),
         }

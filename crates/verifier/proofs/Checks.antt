@@ -19,10 +19,10 @@ use Rattle.accepted_programs.specs.declared.reason.Reason.{Reason}
 use Rattle.accepted_programs.specs.declared.reason.Reason.TheVariants.{JumpOutside, FallsOff, UnknownHelper, EmitLimit}
 
 -- an instruction begins only inside a program
-inside_by : (program : List (Option Insn)) (n : ℕ) (entry : Option (Option Insn)) → slice_get program n ≡ entry
-    → is_some (instruction_in entry) ≡ true → n < length program
+inside_by : (program : List (Option Insn)) (n : ℕ) (begun : Option (Option Insn)) → slice_get program n ≡ begun
+    → is_some (instruction_in begun) ≡ true → n < length program
 inside_by program n None is e = cc
-inside_by program n (Some entry) is e = slice_get_within program n entry is
+inside_by program n (Some begun) is e = slice_get_within program n begun is
 
 inside : (program : List (Option Insn)) (n : ℕ) → begins_at program (pos n) ≡ true → n < length program
 inside program n e = inside_by program n (slice_get program n) refl e

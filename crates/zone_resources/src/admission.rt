@@ -41,9 +41,9 @@ impl Wanted {
     }
 }
 
-/// Whether one more of the zones may take the resources that it wants (ZNS 1.1, Zone
-/// Resources). Answers the number of a zone that has to be closed first, where no open resource is
-/// free: the lowest-numbered one that is implicitly opened and no run's destination (profile).
+/// Whether one more of the zones may take the resources that it wants (ZNS 1.1, 2.1.1). Gives the number
+/// of a zone that has to be closed first, where no open resource is free: the lowest-numbered one that is
+/// implicitly opened and no run's destination (profile).
 ///
 /// # Errors
 ///

@@ -5,8 +5,8 @@ ghost use Rattle.zone_resources.specs.Counts.{counts_of, one_if, CountsOne, Move
 
 use zone_state::{Zone, ZoneState};
 
-/// How many zones hold an open resource, and how many hold an active one (ZNS 1.1, Zone
-/// Resources).
+/// How many zones hold an open resource, and how many hold an active one (ZNS 1.1,
+/// 2.1.1).
 #[derive(Clone, Copy, Debug, PartialEq, Eq)]
 pub struct Counts {
     /// The zones that are open, implicitly or explicitly.
