@@ -66,14 +66,10 @@ bytes_have first code cid opcode d is_first byte half is_opcode fit =
       starting_lba = two_again d.cdw10 d.cdw11 (drop 48 entry) fit.cdw10 fit.cdw11;
       destination = two_again d.cdw14 d.cdw15 [] fit.cdw14 fit.cdw15;
       low_half = little_from-bytes 2 0 d.cdw12 (drop 50 entry) ∙ omega arith;
-      high_half = little_from-bytes 2 2 d.cdw12 (drop 52 entry) ∙ omega (arith, fit.cdw12);
       third_byte = byte_is 2 d.cdw12;
-      fourth_byte = little_from-bytes 1 3 d.cdw12 (drop 52 entry) ∙ omega (arith, fit.cdw12);
       first_of_13 = byte_is 0 d.cdw13 ∙ omega arith;
       second_of_13 = byte_is 1 d.cdw13;
-      high_half_of_13 = little_from-bytes 2 2 d.cdw13 (drop 56 entry) ∙ omega (arith, fit.cdw13);
       third_of_13 = byte_is 2 d.cdw13;
-      fourth_of_13 = little_from-bytes 1 3 d.cdw13 (drop 56 entry) ∙ omega (arith, fit.cdw13);
     }
 
 pub dwords_have : (entry : List ℕ) (first code cid : ℕ) (opcode : Opcode) (d : CommandDwords) → entry ≡ bytes_of first d → first ≡ code + cid * 2 ^ 16 → code < 2 ^ 8 → cid < 2 ^ 16 → opcode_of code ≡ Some opcode → AreDwords d

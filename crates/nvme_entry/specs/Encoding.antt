@@ -1,5 +1,5 @@
 -- What an entry made of a command has.
-use Rattle.std.specs.Prelude.{ℕ, ◌≡◌, List, [], ◌∷◌}
+use Rattle.std.specs.Prelude.{ℕ, ◌^◌, ◌<◌, List, [], ◌∷◌}
 use Rattle.nvme_entry.specs.Fields.{field}
 use Rattle.nvme_entry.specs.declared.command.Command.{Command}
 use Rattle.nvme_entry.specs.declared.command.Command.TheVariants as command
@@ -10,22 +10,23 @@ abbrev pub program_length : Command → ℕ
 program_length (command.Load load) = load.bytes
 program_length _ = 0
 
--- the bytes of Command Dwords 10 to 15 that no field of a command has: the first of them, and how many they are
-abbrev pub unused_dwords : Command → List (ℕ × ℕ)
-unused_dwords (command.Standard (Write lba blocks)) = (50, 2) ∷ (52, 4) ∷ (56, 8) ∷ []
-unused_dwords (command.Standard (Read lba blocks)) = (50, 2) ∷ (52, 4) ∷ (56, 8) ∷ []
-unused_dwords (command.Standard (Append lba blocks)) = (50, 2) ∷ (52, 4) ∷ (56, 8) ∷ []
-unused_dwords (command.Standard (Send lba action select_all)) = (48, 4) ∷ (54, 2) ∷ (56, 8) ∷ []
-unused_dwords (command.Standard (Receive lba dwords filter partial)) = (55, 1) ∷ (56, 8) ∷ []
-unused_dwords (command.Run run) = (51, 1) ∷ []
-unused_dwords (command.Load load) = (52, 4) ∷ (56, 8) ∷ []
-unused_dwords (command.Result slot) = (44, 4) ∷ (48, 4) ∷ (52, 4) ∷ (56, 8) ∷ []
+-- the bits of Command Dwords 10 to 15 that no field of a command has: the first of their bytes, how many bytes they stand in, and how
+-- many bits of these, the lowest, are in use
+abbrev pub unused_dwords : Command → List (ℕ × ℕ × ℕ)
+unused_dwords (command.Standard (Write lba blocks)) = (48, 4, 16) ∷ (52, 4, 0) ∷ (56, 8, 0) ∷ []
+unused_dwords (command.Standard (Read lba blocks)) = (48, 4, 16) ∷ (52, 4, 0) ∷ (56, 8, 0) ∷ []
+unused_dwords (command.Standard (Append lba blocks)) = (48, 4, 16) ∷ (52, 4, 0) ∷ (56, 8, 0) ∷ []
+unused_dwords (command.Standard (Send lba action select_all)) = (48, 4, 0) ∷ (52, 4, 9) ∷ (56, 8, 0) ∷ []
+unused_dwords (command.Standard (Receive lba dwords filter partial)) = (52, 4, 17) ∷ (56, 8, 0) ∷ []
+unused_dwords (command.Run run) = (48, 4, 24) ∷ []
+unused_dwords (command.Load load) = (52, 4, 0) ∷ (56, 8, 0) ∷ []
+unused_dwords (command.Result slot) = (44, 4, 0) ∷ (48, 4, 0) ∷ (52, 4, 0) ∷ (56, 8, 0) ∷ []
 
 -- the same of a whole entry: FUSE and PSDT, the pointers and what is reserved have no use either (profile)
-abbrev pub unused : Command → List (ℕ × ℕ)
-unused c = (1, 1) ∷ (8, 32) ∷ unused_dwords c
+abbrev pub unused : Command → List (ℕ × ℕ × ℕ)
+unused c = (1, 1, 0) ∷ (8, 32, 0) ∷ unused_dwords c
 
--- these bytes of an entry are 0
-abbrev pub AreZero : List ℕ → List (ℕ × ℕ) → Type 0
+-- these bits of an entry are 0: their bytes, as a number, are below 2 to how many are in use
+abbrev pub AreZero : List ℕ → List (ℕ × ℕ × ℕ) → Type 0
 AreZero entry [] = Unit {0}
-AreZero entry (bytes ∷ rest) = (field entry bytes.0 bytes.1 ≡ 0) × AreZero entry rest
+AreZero entry (bits ∷ rest) = (field entry bits.0 bits.1 < 2 ^ bits.2) × AreZero entry rest

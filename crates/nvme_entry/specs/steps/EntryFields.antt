@@ -24,11 +24,7 @@ pub record HasFields (entry : List ℕ) (opcode : Opcode) (cid : ℕ) (fields : 
   pub destination : field entry 56 8 ≡ fields.cdw14 + fields.cdw15 * 2 ^ 32
   -- and their parts
   pub low_half : field entry 48 2 ≡ fields.cdw12 % 2 ^ 16
-  pub high_half : field entry 50 2 ≡ fields.cdw12 / 2 ^ 16
   pub third_byte : slice_index entry 50 ≡ fields.cdw12 / 2 ^ 16 % 2 ^ 8
-  pub fourth_byte : field entry 51 1 ≡ fields.cdw12 / 2 ^ 24
   pub first_of_13 : slice_index entry 52 ≡ fields.cdw13 % 2 ^ 8
   pub second_of_13 : slice_index entry 53 ≡ fields.cdw13 / 2 ^ 8 % 2 ^ 8
-  pub high_half_of_13 : field entry 54 2 ≡ fields.cdw13 / 2 ^ 16
   pub third_of_13 : slice_index entry 54 ≡ fields.cdw13 / 2 ^ 16 % 2 ^ 8
-  pub fourth_of_13 : field entry 55 1 ≡ fields.cdw13 / 2 ^ 24
