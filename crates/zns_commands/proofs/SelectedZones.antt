@@ -20,7 +20,7 @@ use Rattle.zone_resources.specs.Holds.{refuses}
 use Rattle.zone_resources.specs.declared.holds.Holds.{Holds}
 use Rattle.image_store.specs.Namespace.{ZoneBlocks, ZonedNamespace, no_zone, zone_at, arrived, counted, counted_zones, with_state, IsNamespace}
 use Rattle.zns_commands.specs.Address.{block_total}
-use Rattle.zns_commands.specs.Answer.{Effect, concluded, success_effect}
+use Rattle.zns_commands.specs.Effect.{Effect, concluded, success_effect}
 use Rattle.zns_commands.specs.Laws.{Commanded}
 use Rattle.zns_commands.specs.Resources.{closed, closing_of, room_for, why_not}
 use Rattle.zns_commands.specs.SelectAll.{EachHasRoom, NoneIsHeld, SelectAllIsEachAlone, SelectAllIsRefused, TakenZonesMove, sent_to_all, sent_to_one}
