@@ -70,6 +70,11 @@ pub record IsShape (s : Shape) : Type 0 where
   pub slot : s.capacity * s.block ≤ MOST_BYTES
   pub room : s.zones * (s.capacity * s.block) ≤ MOST_BYTES
 
--- the zone that contains a logical block, and the block's place from the zone's lowest one on
+-- the zone that contains a logical block, where zones have so many blocks, and the block's offset from the zone's
+-- lowest one on
+abbrev pub zone_block_at : ℕ → ℕ → ZoneBlock
+zone_block_at size lba = record { zone = lba / size; offset = lba % size }
+
+-- these of a logical block that the shape has
 abbrev pub zone_block_of : Shape → ℕ → Option ZoneBlock
-zone_block_of s lba = if nat_lt lba (s.zones * s.size) then Some (record { zone = lba / s.size; offset = lba % s.size }) else None
+zone_block_of s lba = if nat_lt lba (s.zones * s.size) then Some (zone_block_at s.size lba) else None

@@ -1,5 +1,5 @@
 -- A zoned namespace: its zones, each with the blocks that are written in it.
-use Rattle.std.specs.Prelude.{ℕ, ◌≡◌, ◌<◌, ◌/◌, ◌%◌, ◌++◌, List, [], length, get_or, map, set, replicate, if◌then◌else◌}
+use Rattle.std.specs.Prelude.{ℕ, ◌≡◌, ◌<◌, ◌++◌, List, [], length, get_or, map, set, replicate, if◌then◌else◌}
 use Rattle.zone_resources.specs.Admission.{IsWithin}
 use Rattle.zone_resources.specs.declared.admission.Limits.{Limits}
 use Rattle.zone_state.specs.declared.state.ZoneState.{ZoneState}
@@ -8,7 +8,7 @@ use Rattle.zone_state.specs.State.{is_cleared}
 use Rattle.zone_state.specs.Zone.{CountedZone, after_write, IsZone}
 use Rattle.program_interface.specs.Bytes.{AreBytes}
 use Rattle.image_store.specs.Blocks.{as_blocks}
-use Rattle.image_store.specs.Geometry.{Shape, IsShape}
+use Rattle.image_store.specs.Geometry.{Shape, IsShape, zone_block_at}
 
 -- a zone: its state, and its written blocks from its lowest logical block on (ZNS 1.1, 2.1.1)
 pub record ZoneBlocks : Type 0 where
@@ -80,11 +80,11 @@ shape ns = record { block = ns.block; zones = length ns.zones; size = ns.size; c
 
 -- is the logical block with this address written? A zone that there is none of has no blocks
 abbrev pub IsWritten : ZonedNamespace → ℕ → Type 0
-IsWritten ns lba = lba % ns.size < length (zone_at ns (lba / ns.size)).blocks
+IsWritten ns lba = let at = zone_block_at ns.size lba in at.offset < length (zone_at ns at.zone).blocks
 
 -- a written block, by its address
 abbrev pub block_at : ZonedNamespace → ℕ → List ℕ
-block_at ns lba = get_or (zone_at ns (lba / ns.size)).blocks (lba % ns.size) []
+block_at ns lba = let at = zone_block_at ns.size lba in get_or (zone_at ns at.zone).blocks at.offset []
 
 -- what holds of each namespace that an image has: its shape is one that is accepted, each zone's
 -- state allows its written blocks, the open and active zones are within the limits, and each block is

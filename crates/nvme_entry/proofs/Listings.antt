@@ -4,7 +4,7 @@ use Rattle.std.specs.List.{enumerate_from, flat_map}
 use Rattle.std.proofs.lemmas.Bool.{cases_lt}
 use Rattle.std.proofs.lemmas.List.{take_at, drop_all, drop_more, length-take-le, length-replicate}
 use Rattle.zone_state.specs.Zone.{CountedZone}
-use Rattle.nvme_entry.specs.Filter.{takes}
+use Rattle.nvme_entry.specs.Filter.{lists}
 use Rattle.nvme_entry.specs.declared.filter.ZoneFilter.{ZoneFilter}
 use Rattle.nvme_entry.specs.Report.{descriptor, descriptor_at, padded_to, report_header, listed, taken}
 
@@ -99,7 +99,7 @@ cut : (zones : List CountedZone) (index : ℕ) (zone : CountedZone) → index < 
 cut zones index zone inside is = drop_more zones index zone inside ∙ ap (λ (z : CountedZone). z ∷ drop (index + 1) zones) (sym is)
 
 taken-cut : (option : ZoneFilter) (first index : ℕ) (zones : List CountedZone) (zone : CountedZone) (test : Bool) → index < length zones → zone ≡ get_or zones index zone
-    → takes option zone.state ≡ test
+    → lists option zone.state ≡ test
     → taken option (enumerate_from (first + index) (drop index zones))
     ≡ cond test ((first + index, zone) ∷ taken option (enumerate_from (first + (index + 1)) (drop (index + 1) zones))) (taken option (enumerate_from (first + (index + 1)) (drop (index + 1) zones)))
 taken-cut option first index zones zone test inside is tested =
@@ -109,15 +109,15 @@ taken-cut option first index zones zone test inside is tested =
     ∙ (ap (λ (b : Bool). cond b ((first + index, zone) ∷ taken option (enumerate_from (first + index + 1) behind)) (taken option (enumerate_from (first + index + 1) behind))) tested
     ∙ ap (λ (n : ℕ). cond test ((first + index, zone) ∷ taken option (enumerate_from n behind)) (taken option (enumerate_from n behind))) next)
 
--- a zone that the filter takes is the first of those that are left
+-- a zone that the filter lists is the first of those that are left
 pub taken-next : (option : ZoneFilter) (first index : ℕ) (zones : List CountedZone) (zone : CountedZone) → index < length zones → zone ≡ get_or zones index zone
-    → takes option zone.state ≡ true
+    → lists option zone.state ≡ true
     → taken option (enumerate_from (first + index) (drop index zones)) ≡ (first + index, zone) ∷ taken option (enumerate_from (first + (index + 1)) (drop (index + 1) zones))
 taken-next option first index zones zone inside is tested = taken-cut option first index zones zone true inside is tested
 
 -- a zone that it doesn't take is none of them
 pub taken-not : (option : ZoneFilter) (first index : ℕ) (zones : List CountedZone) (zone : CountedZone) → index < length zones → zone ≡ get_or zones index zone
-    → takes option zone.state ≡ false
+    → lists option zone.state ≡ false
     → taken option (enumerate_from (first + index) (drop index zones)) ≡ taken option (enumerate_from (first + (index + 1)) (drop (index + 1) zones))
 taken-not option first index zones zone inside is tested = taken-cut option first index zones zone false inside is tested
 
@@ -142,7 +142,7 @@ listed-begins option first size zones output =
     }
 
 pub listed-not : (option : ZoneFilter) (first size : ℕ) (zones : List CountedZone) (start output : List ℕ) (index found at : ℕ) (zone : CountedZone)
-    → index < length zones → zone ≡ get_or zones index zone → takes option zone.state ≡ false
+    → index < length zones → zone ≡ get_or zones index zone → lists option zone.state ≡ false
     → HasListed option first size zones start output index found at → HasListed option first size zones start output (index + 1) found at
 listed-not option first size zones start output index found at zone inside is tested has =
     let next = taken-not option first index zones zone inside is tested in
@@ -154,7 +154,7 @@ listed-not option first size zones start output index found at zone inside is te
     }
 
 pub listed-next : (option : ZoneFilter) (first size : ℕ) (zones : List CountedZone) (start output new : List ℕ) (index found at place lowest : ℕ) (zone : CountedZone)
-    → index < length zones → zone ≡ get_or zones index zone → takes option zone.state ≡ true
+    → index < length zones → zone ≡ get_or zones index zone → lists option zone.state ≡ true
     → lowest ≡ (first + index) * size
     → place ≤ length new → length new ≡ length output
     → (at + 64 ≤ length output → (place ≡ at + 64) × (take place new ≡ take at output ++ descriptor zone lowest))

@@ -8,7 +8,7 @@ use Rattle.std.proofs.lemmas.Nat.{le-div}
 use Rattle.byteorder.specs.Endian.{little_bytes}
 use Rattle.byteorder.specs.Numbers.{little_number-reads_back}
 use Rattle.zone_state.specs.Zone.{CountedZone}
-use Rattle.nvme_entry.specs.Filter.{takes}
+use Rattle.nvme_entry.specs.Filter.{lists}
 use Rattle.nvme_entry.specs.declared.filter.ZoneFilter.{ZoneFilter}
 use Rattle.nvme_entry.specs.declared.filter.ZoneFilter.TheVariants.{All}
 use Rattle.nvme_entry.specs.Report.{descriptor_at, fitting, report_header, listed, matching, report, taken}
@@ -119,7 +119,7 @@ kept false x xs n few = omega arith
 
 length-taken : (option : ZoneFilter) (zones : List (ℕ × CountedZone)) → length (taken option zones) ≤ length zones
 length-taken option [] = omega arith
-length-taken option (zone ∷ zones) = kept (takes option zone.1.state) zone (taken option zones) (length zones) (length-taken option zones)
+length-taken option (zone ∷ zones) = kept (lists option zone.1.state) zone (taken option zones) (length zones) (length-taken option zones)
 
 length-matching : (zones : List CountedZone) (first : ℕ) (option : ZoneFilter) → length (matching zones first option) ≤ length zones
 length-matching zones first option =

@@ -18,13 +18,13 @@ filter_of code =
     if code == 0x07 then Some Offline else None
 
 -- does a report with the filter list zones of the state?
-abbrev pub takes : ZoneFilter → ZoneState → Bool
-takes All _ = true
-takes Empty state.Empty = true
-takes ImplicitlyOpened state.ImplicitlyOpened = true
-takes ExplicitlyOpened state.ExplicitlyOpened = true
-takes Closed state.Closed = true
-takes Full state.Full = true
-takes ReadOnly state.ReadOnly = true
-takes Offline state.Offline = true
-takes _ _ = false
+abbrev pub lists : ZoneFilter → ZoneState → Bool
+lists All _ = true
+lists Empty state.Empty = true
+lists ImplicitlyOpened state.ImplicitlyOpened = true
+lists ExplicitlyOpened state.ExplicitlyOpened = true
+lists Closed state.Closed = true
+lists Full state.Full = true
+lists ReadOnly state.ReadOnly = true
+lists Offline state.Offline = true
+lists _ _ = false

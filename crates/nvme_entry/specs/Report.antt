@@ -4,7 +4,7 @@ use Rattle.std.specs.List.{enumerate_from, flat_map}
 use Rattle.byteorder.specs.Endian.{little_bytes}
 use Rattle.zone_state.specs.Zone.{CountedZone}
 use Rattle.nvme_entry.specs.Descriptor.{described, descriptor_bytes}
-use Rattle.nvme_entry.specs.Filter.{takes}
+use Rattle.nvme_entry.specs.Filter.{lists}
 use Rattle.nvme_entry.specs.declared.filter.ZoneFilter.{ZoneFilter}
 
 -- the Zone Descriptor of a zone with this lowest address, of 64 bytes
@@ -15,13 +15,13 @@ descriptor zone lowest = descriptor_bytes (described zone lowest)
 abbrev pub descriptor_at : ℕ → ℕ × CountedZone → List ℕ
 descriptor_at size zone = descriptor zone.1 (zone.0 * size)
 
--- the report_header, of 64 bytes: a number of zones and 56 reserved bytes
+-- the header, of 64 bytes: a number of zones and 56 reserved bytes
 unfoldable pub report_header : ℕ → List ℕ
 report_header number = little_bytes 8 number ++ replicate 56 0
 
--- those of numbered zones that the filter takes
+-- those of numbered zones that the filter lists
 abbrev pub taken : ZoneFilter → List (ℕ × CountedZone) → List (ℕ × CountedZone)
-taken option zones = filter (λ (zone : ℕ × CountedZone). takes option zone.1.state) zones
+taken option zones = filter (λ (zone : ℕ × CountedZone). lists option zone.1.state) zones
 
 -- the zones with their numbers, from the first on, that match the filter
 abbrev pub matching : List CountedZone → ℕ → ZoneFilter → List (ℕ × CountedZone)
@@ -39,9 +39,9 @@ fitting bytes zones = take (bytes / 64) zones
 abbrev pub listed : ℕ → ℕ → List (ℕ × CountedZone) → List ℕ
 listed size bytes zones = padded_to bytes (flat_map (descriptor_at size) (fitting bytes zones))
 
--- A transfer of so many bytes: the report_header, and behind it the zones that match. With Partial Report the
--- report_header's number is that of the descriptors given, else that of all zones that match. A transfer of
--- fewer than 64 bytes is a beginning of the report_header (profile).
+-- A transfer of so many bytes: the header, and behind it the zones that match. With Partial Report the
+-- header's number is that of the descriptors given, else that of all zones that match. A transfer of
+-- fewer than 64 bytes is a beginning of the header (profile).
 unfoldable pub report : ℕ → List CountedZone → ℕ → ℕ → ZoneFilter → Bool → List ℕ
 report bytes zones first size option partial =
     let found = matching zones first option in

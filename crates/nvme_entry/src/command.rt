@@ -204,7 +204,7 @@ pub enum StandardCommand {
         /// Is it taken on all zones that it takes?
         select_all: bool,
     },
-    /// Reports the zones that `filter` takes from the one that contains `lba` on; with `partial`
+    /// Reports the zones that `filter` lists from the one that contains `lba` on; with `partial`
     /// the number of zones told is that of the descriptors given (ZNS 1.1, 3.4.2).
     Receive {
         /// A block of the zone that the report begins with.

@@ -1,7 +1,7 @@
 //! Which zones a report lists.
 
 ghost use Rattle.std.specs.Prelude.{◌≡◌};
-ghost use Rattle.nvme_entry.specs.Filter.{filter_of, takes};
+ghost use Rattle.nvme_entry.specs.Filter.{filter_of, lists};
 
 use zone_state::ZoneState;
 
@@ -57,8 +57,8 @@ impl ZoneFilter {
     }
 
     /// Does a report with this filter list a zone of that state?
-    pub fn takes(self, state: ZoneState) -> bool
-        ensures { result ≡ takes self state }
+    pub fn lists(self, state: ZoneState) -> bool
+        ensures { result ≡ lists self state }
     {
         match self {
             ZoneFilter::All => true,

@@ -98,8 +98,8 @@ fn write_header(output: &mut [u8], number: u64)
     put_front(output, &header(number)[..length]);
 }
 
-/// Fills the output with the descriptors of the zones that the filter takes, as many as fit whole,
-/// and zeros, and tells how many it takes. The zones are those from number `first` on.
+/// Fills the output with the descriptors of the zones that the filter lists, as many as fit whole,
+/// and zeros, and tells how many it lists. The zones are those from number `first` on.
 fn list(zones: &[Zone], first: u32, size: u32, filter: ZoneFilter, output: &mut [u8]) -> usize
     requires { first + length zones.now ≤ 2 ^ 32 }
     ensures number { result ≡ length (taken filter (enumerate_from first zones.now)) }
@@ -108,7 +108,7 @@ fn list(zones: &[Zone], first: u32, size: u32, filter: ZoneFilter, output: &mut 
     let mut found = 0;
     let mut at = 0;
     for (index, zone) in zones.iter().enumerate() {
-        if !filter.takes(zone.state()) {
+        if !filter.lists(zone.state()) {
             continue;
         }
         found += 1;

@@ -9,7 +9,7 @@ use Rattle.zone_state.specs.declared.state.ZoneState.TheVariants.{ImplicitlyOpen
 use Rattle.image_store.specs.Blocks.{bytes_of}
 use Rattle.image_store.specs.Namespace.{ZoneBlocks, ZonedNamespace, IsNamespace, appended, grown, no_zone, zone_at}
 use Rattle.zns_commands.specs.Append.{TakesBlocks}
-use Rattle.zns_commands.proofs.Proved.{blocks_are_appended, blocks_keep_namespaces}
+use Rattle.zns_commands.proofs.Proved.{blocks_are_the_effect, blocks_keep_namespaces}
 use Rattle.pushdown.specs.Laws.{IsAppended, RoomIn, RoomIsOpen, RoomStays}
 use Rattle.pushdown.specs.Happenings.{added}
 use Rattle.pushdown.specs.Outcome.{Ending, Turn, appended_by}
@@ -67,7 +67,7 @@ module _ (ns : ZonedNamespace) (z : ℕ) (b : List ℕ) (bs : List (List ℕ)) (
   pub more_appended : IsNamespace ns → AreBlocks ns.block more → IsAppended ns z more
   more_appended sound new =
       let takes = more_takes sound new in
-      record { takes = takes; effect = more_added sound new ∙ blocks_are_appended ns z (bytes_of more) sound takes }
+      record { takes = takes; effect = more_added sound new ∙ blocks_are_the_effect ns z (bytes_of more) sound takes }
 
 -- ---- a turn whose blocks fit
 

@@ -8,8 +8,7 @@ use Rattle.nvme_entry.specs.declared.command.StandardCommand.{StandardCommand}
 use Rattle.image_store.specs.Geometry.{Shape}
 use Rattle.image_store.specs.Namespace.{ZonedNamespace, shape, zone_at}
 use Rattle.zns_commands.specs.Left.{Grows, holds_of}
-use Rattle.zns_commands.specs.Answer.{effect_of_answer}
-use Rattle.zns_commands.specs.Effect.{Effect}
+use Rattle.zns_commands.specs.Effect.{Effect, effect_of_answer}
 use Rattle.zns_commands.specs.Fault.{faulted}
 use Rattle.zns_commands.specs.Laws.{Commanded, Faulted, NamespaceEvent, after}
 use Rattle.zns_commands.specs.Meaning.{meaning}

@@ -1,21 +1,28 @@
 -- That an open zone wants nothing, and takes blocks as by an Append.
-use Rattle.std.proofs.Common.{◌≡◌, ℕ, zero, suc, ◌+◌, ◌*◌, ◌/◌, ◌≤◌, ◌<◌, Bool, true, List, [], ◌∷◌, length, get_or, Option, None, Ok, refl, ap, sym, ◌∙◌, arith}
-use Rattle.std.specs.Prelude.{nat_eq, nat_le}
-use Rattle.std.proofs.Math.Nat.{mul-div_cancel}
-use Rattle.std.proofs.lemmas.Bool.{eq-eqb, le-leb}
+use Rattle.std.proofs.Common.{◌≡◌, ℕ, zero, suc, ◌+◌, ◌*◌, ◌/◌, ◌%◌, ◌≤◌, ◌<◌, Bool, true, List, [], ◌∷◌, length, get_or, Option, None, Result, Ok, refl, ap, sym, subst, ◌∙◌, arith}
+use Rattle.std.specs.Prelude.{nat_eq, nat_le, nat_lt, not}
+use Rattle.std.proofs.Math.Nat.{mul-div_cancel, mul-le-mul_right, suc-mul}
+use Rattle.std.proofs.lemmas.Bool.{eq-eqb, le-leb, lt-ltb}
+use Rattle.std.proofs.lemmas.Nat.{mod-mul-add}
+use Rattle.zone_state.specs.Checks.{demand, first_failed}
 use Rattle.zone_state.specs.State.{is_open}
 use Rattle.zone_state.specs.Zone.{CountedZone, fits_room, refusal, refusal_in}
 use Rattle.zone_state.specs.declared.state.ZoneState.{ZoneState}
 use Rattle.zone_state.specs.declared.state.ZoneState.TheVariants.{Empty, ImplicitlyOpened, ExplicitlyOpened, Closed, ReadOnly, Full, Offline}
 use Rattle.zone_resources.specs.Admission.{wanted_of, HoldsNoMore}
-use Rattle.zone_resources.specs.Holds.{no_holds}
+use Rattle.zone_state.specs.declared.status.Status.{Status}
+use Rattle.zone_state.specs.declared.status.TheConstants.Status.{SUCCESS, INVALID_FIELD_IN_COMMAND, LBA_OUT_OF_RANGE, ZONE_HELD}
+use Rattle.zone_resources.specs.Holds.{is_destination, no_holds}
 use Rattle.zone_resources.specs.declared.admission.Wanted.{Wanted}
 use Rattle.zone_resources.specs.declared.holds.Holds.{Holds}
 use Rattle.image_store.specs.Blocks.{as_blocks, block_count}
 use Rattle.image_store.specs.Namespace.{ZoneBlocks, ZonedNamespace, no_zone, zone_at, grown, appended, IsNamespace, IsWithinLimits}
-use Rattle.zns_commands.specs.Address.{counted_zone_at, zone_number}
+use Rattle.nvme_entry.specs.declared.command.TheConstants.{MOST_TRANSFER}
+use Rattle.zns_commands.specs.Address.{block_total, counted_zone_at, zone_number}
+use Rattle.zns_commands.specs.Append.{TakesBlocks, append_checks, append_effect}
+use Rattle.zns_commands.specs.Effect.{concluded}
 use Rattle.zns_commands.specs.Laws.{BlocksAreAppended, BlocksKeepNamespaces}
-use Rattle.zns_commands.specs.Resources.{room_by, closing_of}
+use Rattle.zns_commands.specs.Resources.{room_by, room_for, why_not, closing_of}
 use Rattle.zns_commands.specs.declared.write.WritePlan.{WritePlan}
 use Rattle.zns_commands.specs.steps.Plans.{write_plan, written_by}
 use Rattle.zns_commands.proofs.FittingZones.{one_within}
@@ -85,6 +92,52 @@ blocks_keep_namespaces ns z bytes sound takes are =
     takes.some takes.whole are (open_takes ns z n takes.opened takes.room)
     (ap (room_by ns no_holds) (open_wants_none (zone_at ns z).state takes.opened))
 
-pub blocks_are_appended : BlocksAreAppended
-blocks_are_appended ns z bytes sound takes =
+-- the effect of an Append to the zone puts blocks into it, without another's giving way
+pub blocks_are_the_effect : (ns : ZonedNamespace) (z : ℕ) (bytes : List ℕ) → IsNamespace ns → TakesBlocks ns z bytes
+    → appended ns z bytes ≡ (append_effect ns no_holds (z * ns.size) bytes).namespace
+blocks_are_the_effect ns z bytes sound takes =
     ap (λ (plan : WritePlan). written_by ns plan bytes) (sym (open_plan ns no_holds z sound.shape.size_some takes.opened))
+
+-- ---- no check refuses that Append
+
+-- the checks of an Append to a zone, by its number and what is tested of the data and of the address
+abbrev checked_by : ZonedNamespace → ℕ → Bool → Bool → Bool → Bool → ℕ → Option Status
+checked_by ns n few whole start lowest z =
+    first_failed (demand few INVALID_FIELD_IN_COMMAND ∷ demand whole INVALID_FIELD_IN_COMMAND ∷ demand start LBA_OUT_OF_RANGE
+    ∷ demand lowest INVALID_FIELD_IN_COMMAND ∷ demand (not (is_destination no_holds z)) ZONE_HELD
+    ∷ why_not (refusal (counted_zone_at ns z) (length (zone_at ns z).blocks) n) ∷ why_not (room_for ns no_holds (zone_at ns z).state) ∷ [])
+
+all_pass : (ns : ZonedNamespace) (n z : ℕ) (few whole start lowest : Bool) (fits : Result Unit Status) (room : Result (Option ℕ) Status)
+    → few ≡ true → whole ≡ true → start ≡ true → lowest ≡ true → fits ≡ Ok tt → room ≡ Ok None
+    → first_failed (demand few INVALID_FIELD_IN_COMMAND ∷ demand whole INVALID_FIELD_IN_COMMAND ∷ demand start LBA_OUT_OF_RANGE
+    ∷ demand lowest INVALID_FIELD_IN_COMMAND ∷ None ∷ why_not fits ∷ why_not room ∷ []) ≡ None
+all_pass ns n z few whole start lowest fits room e1 e2 e3 e4 e5 e6 = rw (e1, e2, e3, e4, e5, e6) refl
+
+-- where a zone takes blocks, of which there are no more than a transfer may be, no check of an Append of them fails
+pub taken_blocks_pass : (ns : ZonedNamespace) (z : ℕ) (bytes : List ℕ) → IsNamespace ns → TakesBlocks ns z bytes → length bytes ≤ MOST_TRANSFER
+    → first_failed (append_checks ns no_holds (z * ns.size) (block_count ns.block bytes) bytes) ≡ None
+taken_blocks_pass ns z bytes sound takes most =
+    let size = ns.size in
+    let n = block_count ns.block bytes in
+    let lba = z * size in
+    let some : 1 ≤ size = sound.shape.size_some in
+    let inside = open_is_there ns.zones z takes.opened in
+    let named : zone_number ns lba ≡ z = mul-div_cancel z (omega (arith, some)) in
+    let offset : lba % size ≡ 0 = ap (λ (k : ℕ). k % size) (omega arith) ∙ mod-mul-add z size 0 (omega (arith, some)) in
+    let below : suc z ≤ length ns.zones = omega (arith, inside) in
+    let product : suc z * size ≤ length ns.zones * size = mul-le-mul_right size below in
+    let start : lba < block_total ns = omega (arith, suc-mul z size, product, some) in
+    let few : n * ns.block ≤ MOST_TRANSFER = omega (arith, takes.whole, most) in
+    ap (checked_by ns n (nat_le (n * ns.block) MOST_TRANSFER) (nat_eq (length bytes) (n * ns.block)) (nat_lt lba (block_total ns)) (nat_eq (lba % size) 0)) named
+    ∙ all_pass ns n z (nat_le (n * ns.block) MOST_TRANSFER) (nat_eq (length bytes) (n * ns.block)) (nat_lt lba (block_total ns)) (nat_eq (lba % size) 0)
+    (refusal (counted_zone_at ns z) (length (zone_at ns z).blocks) n) (room_for ns no_holds (zone_at ns z).state)
+    (le-leb _ _ few) (eq-eqb _ _ takes.whole) (lt-ltb _ _ start) (eq-eqb _ _ offset)
+    (open_takes ns z n takes.opened takes.room)
+    (ap (room_by ns no_holds) (open_wants_none (zone_at ns z).state takes.opened))
+
+pub blocks_are_appended : BlocksAreAppended
+blocks_are_appended ns z bytes sound takes most =
+    let none = taken_blocks_pass ns z bytes sound takes most in
+    let effect = append_effect ns no_holds (z * ns.size) bytes in
+    subst (λ (refusal : Option Status). let done = concluded refusal ns effect in (done.status ≡ SUCCESS) × (appended ns z bytes ≡ done.namespace))
+    (sym none) (refl, blocks_are_the_effect ns z bytes sound takes)

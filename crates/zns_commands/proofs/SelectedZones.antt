@@ -27,6 +27,7 @@ use Rattle.zns_commands.specs.SelectAll.{EachHasRoom, NoneIsHeld, SelectAllIsEac
 use Rattle.zns_commands.specs.Send.{all_effect, all_fit, gives_way_to, held_among, led_to, room_of, swept, taken_among, takes}
 use Rattle.nvme_entry.specs.declared.command.StandardCommand.TheVariants.{Send}
 use Rattle.zns_commands.proofs.HeldZones.{held_from, not_taken_from}
+use Rattle.zns_commands.proofs.SweptZones.{opened_count}
 use Rattle.zns_commands.proofs.Untouched.{others_are_left}
 
 pub taken_zones_move : TakenZonesMove
@@ -214,7 +215,8 @@ none_is_held ns holds a none =
 
 each_has_room : (ns : ZonedNamespace) (a : Action) → EachHasRoom ns a → all_fit ns a ≡ true
 each_has_room ns action.Open room =
-    le-leb (open_count (counted_zones ns) + taken_among (counted_zones ns) action.Open) ns.limits.open_limit room
+    le-leb (open_count (counted_zones ns) + taken_among (counted_zones ns) action.Open) ns.limits.open_limit
+    (subst (λ (n : ℕ). n ≤ ns.limits.open_limit) (opened_count ns.capacity ns.zones) room)
 each_has_room ns action.Close room = refl
 each_has_room ns action.Finish room = refl
 each_has_room ns action.Reset room = refl
@@ -226,7 +228,8 @@ too_many x y false is none = refl
 
 one_has_none : (ns : ZonedNamespace) (a : Action) → ¬ EachHasRoom ns a → all_fit ns a ≡ false
 one_has_none ns action.Open none =
-    too_many (open_count (counted_zones ns) + taken_among (counted_zones ns) action.Open) ns.limits.open_limit (all_fit ns action.Open) refl none
+    too_many (open_count (counted_zones ns) + taken_among (counted_zones ns) action.Open) ns.limits.open_limit (all_fit ns action.Open) refl
+    (λ fit. none (subst (λ (n : ℕ). n ≤ ns.limits.open_limit) (sym (opened_count ns.capacity ns.zones)) fit))
 one_has_none ns action.Close none = absurd (none tt)
 one_has_none ns action.Finish none = absurd (none tt)
 one_has_none ns action.Reset none = absurd (none tt)

@@ -2,7 +2,6 @@
 use Rattle.zone_state.specs.declared.action.Action.{Action}
 use Rattle.image_store.specs.Namespace.{ZoneBlocks, ZonedNamespace, no_zone, zone_at, with_zone}
 use Rattle.zns_commands.specs.Send.{swept}
-use Rattle.zns_commands.specs.steps.Accepted.{swept_below}
 use Rattle.std.proofs.Common.{◌≡◌, ℕ, ◌+◌, ◌<◌, zero, suc, List, [], ◌∷◌, ◌++◌, length, get_or, set, take, drop, map, refl, ap, ◌∙◌, arith}
 
 -- the list with f applied to its first elements
@@ -33,6 +32,16 @@ mapped-all f zero [] h = refl
 mapped-all f (suc n) [] h = absurd (omega arith)
 mapped-all f zero (x ∷ xs) h = absurd (omega arith)
 mapped-all f (suc n) (x ∷ xs) h = ap (λ (ys : List _). f x ∷ ys) (mapped-all f n xs (omega arith))
+
+-- the namespace once Select All has gone over its first zones
+abbrev pub swept_below : ZonedNamespace → Action → ℕ → ZonedNamespace
+swept_below ns action n = record {
+  block = ns.block;
+  size = ns.size;
+  capacity = ns.capacity;
+  limits = ns.limits;
+  zones = map (swept action) (take n ns.zones) ++ drop n ns.zones;
+}
 
 -- one more zone is swept
 pub sweep_step : (ns : ZonedNamespace) (action : Action) (z : ℕ) → z < length ns.zones

@@ -9,14 +9,13 @@ use Rattle.zone_state.specs.Zone.{CountedZone, IsZone, kept}
 use Rattle.zone_state.specs.declared.action.Action.{Action}
 use Rattle.zone_state.specs.declared.action.Action.TheVariants as action
 use Rattle.zone_state.specs.declared.state.ZoneState.{ZoneState}
-use Rattle.zone_state.specs.declared.state.ZoneState.TheVariants.{Empty}
+use Rattle.zone_state.specs.declared.state.ZoneState.TheVariants.{Empty, ImplicitlyOpened, ExplicitlyOpened, Closed, ReadOnly, Full, Offline}
 use Rattle.zone_resources.specs.Admission.{IsWithin}
 use Rattle.zone_resources.specs.Counts.{open_count, one_if}
 use Rattle.image_store.specs.Namespace.{ZoneBlocks, ZonedNamespace, no_zone, zone_at, counted, counted_zones, IsNamespace, IsWithinLimits, arrived}
 use Rattle.zns_commands.specs.Send.{all_effect, all_fit, takes, taken_among, swept}
-use Rattle.zns_commands.specs.steps.Accepted.{swept_below}
 use Rattle.zns_commands.proofs.FittingZones.{FitsIn, zone_fits, namespace_of_zones}
-use Rattle.zns_commands.proofs.Sweeps.{mapped, mapped-all}
+use Rattle.zns_commands.proofs.Sweeps.{mapped, mapped-all, swept_below}
 use Rattle.zns_commands.proofs.MovedZones.{arrived_fits, after_action, action_fits}
 
 -- the state of a zone that Select All has gone over
@@ -89,6 +88,33 @@ opened_fit ns action.Close within fit = omega (arith, count_none (counted_zones 
 opened_fit ns action.Finish within fit = omega (arith, count_none (counted_zones ns), within.opened)
 opened_fit ns action.Reset within fit = omega (arith, count_none (counted_zones ns), within.opened)
 opened_fit ns action.Offline within fit = omega (arith, count_none (counted_zones ns), within.opened)
+
+-- ---- what Open opens
+
+opened_one : (s : ZoneState) → one_if (is_open (after_sweep action.Open s)) ≡ one_if (is_open s) + one_if (takes action.Open s)
+opened_one Empty = refl
+opened_one ImplicitlyOpened = refl
+opened_one ExplicitlyOpened = refl
+opened_one Closed = refl
+opened_one ReadOnly = refl
+opened_one Full = refl
+opened_one Offline = refl
+
+-- once all zones are swept, those are open that were and those that it takes
+pub opened_count : (c : ℕ) (zones : List ZoneBlocks)
+    → open_count (map (counted c) (map (swept action.Open) zones))
+    ≡ open_count (map (counted c) zones) + taken_among (map (counted c) zones) action.Open
+opened_count c [] = refl
+opened_count c (zone ∷ zones) =
+    let rest = opened_count c zones in
+    let one = subst (λ (s : ZoneState). one_if (is_open s) ≡ one_if (is_open zone.state) + one_if (takes action.Open zone.state))
+    (sym (swept_state action.Open zone)) (opened_one zone.state) in
+    let after_it = sum_by-cons (λ (z : CountedZone). one_if (is_open z.state)) (counted c (swept action.Open zone)) (map (counted c) (map (swept action.Open) zones)) in
+    let before_it = sum_by-cons (λ (z : CountedZone). one_if (is_open z.state)) (counted c zone) (map (counted c) zones) in
+    let taken_it = sum_by-cons (λ (z : CountedZone). one_if (takes action.Open z.state)) (counted c zone) (map (counted c) zones) in
+    omega (arith, rest, one, after_it, before_it, taken_it)
+
+-- ---- the limits
 
 -- the limits allow the first zones swept, and all of them
 pub swept_below_within : (ns : ZonedNamespace) (a : Action) (n : ℕ) → IsWithinLimits ns → all_fit ns a ≡ true → IsWithinLimits (swept_below ns a n)

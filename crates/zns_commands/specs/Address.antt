@@ -1,9 +1,10 @@
 -- Logical blocks and zones.
-use Rattle.std.specs.Prelude.{ℕ, zero, suc, ◌≡◌, ◌<◌, ◌+◌, ◌*◌, ◌/◌, ◌%◌, ◌^◌, ◌==◌, nat_lt, nat_le, List, [], ◌∷◌, length, Option}
+use Rattle.std.specs.Prelude.{ℕ, zero, suc, ◌≡◌, ◌<◌, ◌+◌, ◌*◌, ◌^◌, ◌==◌, nat_lt, nat_le, List, [], ◌∷◌, length, Option}
 use Rattle.zone_state.specs.Zone.{CountedZone}
 use Rattle.zone_state.specs.declared.status.Status.{Status}
 use Rattle.zone_state.specs.declared.status.TheConstants.Status.{INVALID_FIELD_IN_COMMAND, LBA_OUT_OF_RANGE, ZONE_BOUNDARY_ERROR}
 use Rattle.zone_state.specs.Checks.{demand}
+use Rattle.image_store.specs.Geometry.{zone_block_at}
 use Rattle.image_store.specs.declared.geometry.ZoneBlock.{ZoneBlock}
 use Rattle.image_store.specs.Namespace.{ZonedNamespace, zone_at, counted, block_at}
 
@@ -13,13 +14,13 @@ block_total ns = length ns.zones * ns.size
 
 -- a logical block as a block of the zone that contains it
 abbrev pub zone_block_in : ZonedNamespace → ℕ → ZoneBlock
-zone_block_in ns lba = record { zone = lba / ns.size; offset = lba % ns.size }
+zone_block_in ns lba = zone_block_at ns.size lba
 
 -- the number of that zone
 abbrev pub zone_number : ZonedNamespace → ℕ → ℕ
 zone_number ns lba = (zone_block_in ns lba).zone
 
--- the block's place in that zone
+-- the block's offset in that zone
 abbrev pub zone_offset : ZonedNamespace → ℕ → ℕ
 zone_offset ns lba = (zone_block_in ns lba).offset
 
@@ -48,9 +49,9 @@ lowest_check ns lba = demand (zone_offset ns lba == 0) INVALID_FIELD_IN_COMMAND
 abbrev pub range_check : ZonedNamespace → ℕ → ℕ → Option Status
 range_check ns lba blocks = demand (nat_le (lba + blocks) (block_total ns)) LBA_OUT_OF_RANGE
 
--- a range of logical blocks is in one zone
-abbrev pub boundary_check : ZonedNamespace → ℕ → ℕ → Option Status
-boundary_check ns lba blocks = demand (nat_le (zone_offset ns lba + blocks) ns.size) ZONE_BOUNDARY_ERROR
+-- so many blocks, from this one of a zone on, are in that zone
+abbrev pub boundary_check : ZonedNamespace → ZoneBlock → ℕ → Option Status
+boundary_check ns first blocks = demand (nat_le (first.offset + blocks) ns.size) ZONE_BOUNDARY_ERROR
 
 -- a zone is named by its lowest logical block
 abbrev pub lowest_checks : ZonedNamespace → ℕ → List (Option Status)
@@ -58,11 +59,11 @@ lowest_checks ns lba = address_check ns lba ∷ lowest_check ns lba ∷ []
 
 -- the range of a command lies in one zone
 abbrev pub range_checks : ZonedNamespace → ℕ → ℕ → List (Option Status)
-range_checks ns lba blocks = range_check ns lba blocks ∷ boundary_check ns lba blocks ∷ []
+range_checks ns lba blocks = range_check ns lba blocks ∷ boundary_check ns (zone_block_in ns lba) blocks ∷ []
 
 -- where a logical block lies that the namespace has
-pub record IsZoneBlock (ns : ZonedNamespace) (lba : ℕ) (place : ZoneBlock) : Type 0 where
-  pub is : place ≡ zone_block_in ns lba
-  pub inside : place.zone < length ns.zones
-  pub address : place.zone * ns.size + place.offset ≡ lba
+pub record IsZoneBlock (ns : ZonedNamespace) (lba : ℕ) (found : ZoneBlock) : Type 0 where
+  pub is : found ≡ zone_block_in ns lba
+  pub inside : found.zone < length ns.zones
+  pub address : found.zone * ns.size + found.offset ≡ lba
   pub small : lba < 2 ^ 36

@@ -17,6 +17,6 @@ abbrev pub faulted_by : Result Unit FaultRefused → ZonedNamespace → ℕ → 
 faulted_by (Ok done) ns z fault = with_state ns z (state_of_fault fault)
 faulted_by (Err refused) ns z fault = ns
 
--- the namespace after a fault: a zone that is lost keeps its blocks where it can still be read
+-- the namespace after a fault: a zone that has one keeps its blocks where it can still be read
 abbrev pub faulted : ZonedNamespace → Holds → ℕ → FaultState → ZonedNamespace
 faulted ns holds z fault = faulted_by (fault_answer ns holds z fault) ns z fault

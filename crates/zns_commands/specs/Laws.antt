@@ -1,5 +1,5 @@
 -- Laws of commands and faults.
-use Rattle.std.specs.Prelude.{ℕ, ◌≡◌, ◌≢◌, ◌≤◌, ◌+◌, ◌*◌, ◌^◌, Bool, false, List, [], ◌∷◌, ◌++◌, length, map, Option, Some, None, All}
+use Rattle.std.specs.Prelude.{ℕ, zero, suc, ◌≡◌, ◌≢◌, ◌<◌, ◌≤◌, ◌+◌, ◌-◌, ◌*◌, ◌/◌, ◌^◌, min, Bool, true, false, List, [], ◌∷◌, ◌++◌, length, map, Option, Some, None, All}
 use Rattle.std.specs.List.{enumerate_from}
 use Rattle.zone_state.specs.declared.state.FaultState.{FaultState}
 use Rattle.zone_state.specs.declared.status.Status.{Status}
@@ -9,16 +9,18 @@ use Rattle.zone_resources.specs.declared.holds.Holds.{Holds}
 use Rattle.nvme_entry.specs.declared.command.StandardCommand.{StandardCommand}
 use Rattle.nvme_entry.specs.declared.command.StandardCommand.TheVariants.{Write, Read, Send, Receive, Append}
 use Rattle.nvme_entry.specs.declared.command.TheConstants.{MOST_TRANSFER}
+use Rattle.nvme_entry.specs.declared.filter.ZoneFilter.{ZoneFilter}
 use Rattle.nvme_entry.specs.declared.filter.ZoneFilter.TheVariants as filter
-use Rattle.nvme_entry.specs.ReportLaws.{number_in, descriptors_in}
-use Rattle.nvme_entry.specs.Report.{descriptor_at}
+use Rattle.nvme_entry.specs.ReportLaws.{TellsZones, number_in, descriptors_in}
+use Rattle.nvme_entry.specs.Report.{descriptor_at, matching}
 use Rattle.program_interface.specs.Bytes.{AreBytes}
+use Rattle.image_store.specs.Blocks.{block_count}
 use Rattle.image_store.specs.Geometry.{Shape, IsShape}
 use Rattle.image_store.specs.Namespace.{ZonedNamespace, zone_at, appended, IsNamespace, all_empty, counted_zones}
 use Rattle.zone_state.specs.State.{is_cleared}
-use Rattle.zns_commands.specs.Address.{zone_number}
+use Rattle.zns_commands.specs.Address.{block_total, zone_number}
 use Rattle.zns_commands.specs.Effect.{Effect, success_effect, refused_effect}
-use Rattle.zns_commands.specs.Append.{TakesBlocks, append_effect}
+use Rattle.zns_commands.specs.Append.{TakesBlocks}
 use Rattle.zns_commands.specs.Fault.{faulted}
 use Rattle.zns_commands.specs.Meaning.{checks_of, effect_of, meaning}
 
@@ -56,11 +58,13 @@ abbrev pub BlocksKeepNamespaces : Type 0
 BlocksKeepNamespaces =
     (ns : ZonedNamespace) (z : ℕ) (bytes : List ℕ) → IsNamespace ns → TakesBlocks ns z bytes → AreBytes bytes → IsNamespace (appended ns z bytes)
 
--- as by an Append to that zone that meets no hold
+-- as by an Append of them to that zone that meets no hold: it is not refused, where they are no more than a
+-- transfer may be, and this is what it leaves
 abbrev pub BlocksAreAppended : Type 0
 BlocksAreAppended =
-    (ns : ZonedNamespace) (z : ℕ) (bytes : List ℕ) → IsNamespace ns → TakesBlocks ns z bytes
-    → appended ns z bytes ≡ (append_effect ns no_holds (z * ns.size) bytes).namespace
+    (ns : ZonedNamespace) (z : ℕ) (bytes : List ℕ) → IsNamespace ns → TakesBlocks ns z bytes → length bytes ≤ MOST_TRANSFER
+    → let done = meaning ns no_holds (Append (z * ns.size) (block_count ns.block bytes)) bytes in
+    (done.status ≡ SUCCESS) × (appended ns z bytes ≡ done.namespace)
 
 -- one of which nothing is written is a namespace
 abbrev pub EmptyIsNamespace : Type 0
@@ -126,13 +130,35 @@ WrittenReadsBack =
     NoneClears (zone_number ns lba) events done.namespace
     → AreRead (after_events events done.namespace) lba blocks input
 
--- a report of all zones from the lowest address on, with room for all, tells how many zones there are,
--- and gives the descriptor of each one once, in order
+-- how many descriptors a transfer of so many dwords has room for behind the header
+abbrev pub descriptor_room : ℕ → ℕ
+descriptor_room dwords = (4 * dwords - 64) / 64
+
+-- a report from any address on, with any filter and any room, tells of the zones that match, from the one that
+-- contains the address on: their descriptors, in order and none left out, as many as there is room for
+abbrev pub ReportsWhatMatches : Type 0
+ReportsWhatMatches =
+    (ns : ZonedNamespace) (holds : Holds) (lba dwords : ℕ) (option : ZoneFilter) (partial : Bool)
+    → IsNamespace ns → lba < block_total ns → 64 ≤ 4 * dwords → 4 * dwords ≤ MOST_TRANSFER
+    → let done = meaning ns holds (Receive lba dwords option partial) [] in
+    let found = matching (counted_zones ns) (zone_number ns lba) option in
+    (done.status ≡ SUCCESS) × TellsZones done.output partial ns.size (min (descriptor_room dwords) (length found)) found
+
+-- the descriptors of all zones, in order
+abbrev pub all_descriptors : ZonedNamespace → List (List ℕ)
+all_descriptors ns = map (descriptor_at ns.size) (enumerate_from 0 (counted_zones ns))
+
+-- what so many partial reports of all zones list, one after another: the first from this zone on, each later one
+-- from the first zone on that the one before it left out
+abbrev pub listed_by : ZonedNamespace → Holds → ℕ → ℕ → ℕ → List (List ℕ)
+listed_by ns holds dwords zero z = []
+listed_by ns holds dwords (suc reports) z =
+    let bytes = (meaning ns holds (Receive (z * ns.size) dwords filter.All true) []).output in
+    descriptors_in (number_in bytes) bytes ++ listed_by ns holds dwords reports (z + number_in bytes)
+
+-- such reports from the first zone on list every zone once, in order, where together they have room for all
 abbrev pub ReportsEveryZone : Type 0
 ReportsEveryZone =
-    (ns : ZonedNamespace) (holds : Holds) (dwords : ℕ) (partial : Bool)
-    → IsNamespace ns → 64 + 64 * length ns.zones ≤ 4 * dwords → 4 * dwords ≤ MOST_TRANSFER
-    → let done = meaning ns holds (Receive 0 dwords filter.All partial) [] in
-    (done.status ≡ SUCCESS)
-    × (number_in done.output ≡ length ns.zones)
-    × (descriptors_in (length ns.zones) done.output ≡ map (descriptor_at ns.size) (enumerate_from 0 (counted_zones ns)))
+    (ns : ZonedNamespace) (holds : Holds) (dwords room reports : ℕ)
+    → IsNamespace ns → 64 + 64 * room ≤ 4 * dwords → 4 * dwords ≤ MOST_TRANSFER → length ns.zones ≤ reports * room
+    → listed_by ns holds dwords reports 0 ≡ all_descriptors ns

@@ -1,6 +1,6 @@
 pub mod Address
-pub mod Effect
 pub mod Answer
+pub mod Effect
 pub mod Fault
 pub mod Resources
 pub mod Transfer

@@ -1,5 +1,5 @@
 -- What Select All does, said by the action on one zone (ZNS 1.1, 3.4.3).
-use Rattle.std.specs.Prelude.{ℕ, ◌≡◌, ◌+◌, ◌*◌, ◌<◌, ◌≤◌, true, false, [], length, Ok}
+use Rattle.std.specs.Prelude.{ℕ, ◌≡◌, ◌*◌, ◌<◌, ◌≤◌, true, false, [], length, Ok}
 use Rattle.zone_state.specs.Transition.{transition}
 use Rattle.zone_state.specs.declared.action.Action.{Action}
 use Rattle.zone_state.specs.declared.action.Action.TheVariants as action
@@ -12,7 +12,7 @@ use Rattle.nvme_entry.specs.declared.command.StandardCommand.TheVariants.{Send}
 use Rattle.image_store.specs.Namespace.{ZonedNamespace, zone_at, counted_zones, IsNamespace}
 use Rattle.zns_commands.specs.Effect.{Effect}
 use Rattle.zns_commands.specs.Meaning.{meaning}
-use Rattle.zns_commands.specs.Send.{takes, taken_among}
+use Rattle.zns_commands.specs.Send.{takes, all_effect}
 
 -- the action leads on from each state of the zones that Select All takes
 abbrev pub TakenZonesMove : Type 0
@@ -45,9 +45,9 @@ SelectAllIsEachAlone =
 abbrev pub NoneIsHeld : ZonedNamespace → Holds → Action → Type 0
 NoneIsHeld ns holds action = (z : ℕ) → z < length ns.zones → takes action (zone_at ns z).state ≡ true → refuses holds action z ≡ false
 
--- the zones that are open and those that would be opened are no more than may be open
+-- once each zone that would be opened is open, no more are than may be; the other actions open none
 abbrev pub EachHasRoom : ZonedNamespace → Action → Type 0
-EachHasRoom ns action.Open = open_count (counted_zones ns) + taken_among (counted_zones ns) action.Open ≤ ns.limits.open_limit
+EachHasRoom ns action.Open = open_count (counted_zones (all_effect ns action.Open)) ≤ ns.limits.open_limit
 EachHasRoom ns _ = Unit {0}
 
 -- the status of an action on all zones

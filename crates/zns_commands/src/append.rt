@@ -4,7 +4,7 @@ ghost use Rattle.std.specs.Prelude.{◌≡◌, ◌≤◌, ◌<◌, ◌^◌, leng
 ghost use Rattle.nvme_entry.specs.declared.command.StandardCommand.TheVariants.{Append};
 ghost use Rattle.zone_state.specs.Checks.{first_failed, unless_failed};
 ghost use Rattle.zns_commands.specs.Address.{IsZoneBlock, zone_number, write_pointer};
-ghost use Rattle.zns_commands.specs.Answer.{effect_of_answer};
+ghost use Rattle.zns_commands.specs.Effect.{effect_of_answer};
 ghost use Rattle.zns_commands.specs.Append.{append_checks};
 ghost use Rattle.zns_commands.specs.Meaning.{meaning};
 ghost use Rattle.zns_commands.specs.Write.{with_written};

@@ -4,7 +4,7 @@
 ghost use Rattle.zns_commands.specs.Held.{HeldCommandsAreRefused};
 ghost use Rattle.zns_commands.specs.Left.{BlocksAreAPart, DestinationsAreLeft, OthersAreLeft, ShapesAreKept, SourcesKeepBlocks};
 ghost use Rattle.zns_commands.specs.SelectAll.{SelectAllIsEachAlone, SelectAllIsRefused, TakenZonesMove};
-ghost use Rattle.zns_commands.specs.Laws.{AppendedReadsBack, BlocksAreAppended, BlocksKeepNamespaces, EmptyIsNamespace, JustOneCase, RefusedChangesNothing, ReportsEveryZone, EventsKeepNamespaces, WrittenReadsBack};
+ghost use Rattle.zns_commands.specs.Laws.{AppendedReadsBack, BlocksAreAppended, BlocksKeepNamespaces, EmptyIsNamespace, JustOneCase, RefusedChangesNothing, ReportsEveryZone, ReportsWhatMatches, EventsKeepNamespaces, WrittenReadsBack};
 
 /// A namespace stays one, whatever commands and faults come: its open and active zones are within the
 /// limits, each zone's state fits its written blocks, and each block is whole. One of which nothing is
@@ -20,7 +20,8 @@ pub fn added_blocks_keep_namespaces_sound()
     ensures { BlocksKeepNamespaces }
 {}
 
-/// Such blocks come to the zone as by an Append that meets no hold.
+/// Such blocks come to the zone as by an Append that meets no hold, and which no check refuses, where they are no more
+/// than a transfer may be.
 pub fn added_blocks_are_appended()
     ensures { BlocksAreAppended }
 {}
@@ -47,9 +48,11 @@ pub fn written_blocks_read_back()
     ensures { WrittenReadsBack }
 {}
 
-/// A report of all zones with room for all lists every zone once, in order, and tells their number.
+/// A report from any address on tells of the zones that match, in order, as many as there is room for. Partial reports of all
+/// zones, each from the first zone on that the one before left out, list every zone once, in order.
 pub fn reports_list_every_zone()
-    ensures { ReportsEveryZone }
+    ensures matching { ReportsWhatMatches }
+    ensures every { ReportsEveryZone }
 {}
 
 /// A command changes no zone but the one that it names, the one that gives way to that, and those that

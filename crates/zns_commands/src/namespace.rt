@@ -2,11 +2,13 @@
 
 ghost use Rattle.std.specs.Prelude.{◌≡◌, ◌≤◌, ◌<◌, ◌*◌, length, drop};
 ghost use Rattle.zone_resources.specs.Holds.{no_holds};
+ghost use Rattle.nvme_entry.specs.declared.command.StandardCommand.TheVariants.{Append};
+ghost use Rattle.image_store.specs.Blocks.{block_count};
 ghost use Rattle.image_store.specs.Geometry.{IsShape};
 ghost use Rattle.image_store.specs.Namespace.{appended, block_at, shape, IsNamespace, IsWritten};
 ghost use Rattle.zns_commands.specs.Address.{counted_zone_at};
-ghost use Rattle.zns_commands.specs.Answer.{effect_of_answer};
-ghost use Rattle.zns_commands.specs.Append.{append_effect, TakesBlocks};
+ghost use Rattle.zns_commands.specs.Effect.{effect_of_answer};
+ghost use Rattle.zns_commands.specs.Append.{TakesBlocks};
 ghost use Rattle.zns_commands.specs.Fault.{fault_answer, faulted};
 ghost use Rattle.zns_commands.specs.Meaning.{meaning};
 
@@ -78,12 +80,13 @@ impl Namespace {
         self.image.block(lba)
     }
 
-    /// Writes whole blocks, one or more, at the write pointer of an open zone that has room for them.
-    /// That is what an Append to the zone leaves that no run holds.
+    /// Writes whole blocks, one or more, at the write pointer of an open zone that has room for them. Where
+    /// they are no more than a transfer may be, that is what an Append of them to the zone leaves that no run
+    /// holds.
     pub fn append_blocks(&mut self, zone: u32, bytes: &[u8])
         requires { TakesBlocks self.old zone bytes.now }
         ensures blocks { self.new ≡ appended self.old zone bytes.now }
-        ensures append { self.new ≡ (append_effect self.old no_holds (zone * self.old.size) bytes.now).namespace }
+        ensures append { length bytes.now ≤ MOST_TRANSFER → self.new ≡ (meaning self.old no_holds (Append (zone * self.old.size) (block_count self.old.block bytes.now)) bytes.now).namespace }
     {
         let _ = self.geometry();
         self.image.append(zone, bytes);

@@ -7,7 +7,7 @@ ghost use Rattle.image_store.specs.Blocks.{bytes_of};
 ghost use Rattle.image_store.specs.Namespace.{ZonedNamespace, zone_at};
 ghost use Rattle.zone_state.specs.Checks.{first_failed, unless_failed};
 ghost use Rattle.zns_commands.specs.Address.{zone_block_in};
-ghost use Rattle.zns_commands.specs.Answer.{effect_of_answer};
+ghost use Rattle.zns_commands.specs.Effect.{effect_of_answer};
 ghost use Rattle.zns_commands.specs.Meaning.{meaning};
 ghost use Rattle.zns_commands.specs.Read.{read_checks, blocks_read};
 

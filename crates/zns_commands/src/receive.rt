@@ -7,7 +7,7 @@ ghost use Rattle.nvme_entry.specs.Report.{report};
 ghost use Rattle.nvme_entry.specs.declared.command.StandardCommand.TheVariants.{Receive};
 ghost use Rattle.zns_commands.specs.Address.{zone_number};
 ghost use Rattle.image_store.specs.Namespace.{counted_zones};
-ghost use Rattle.zns_commands.specs.Answer.{effect_of_answer};
+ghost use Rattle.zns_commands.specs.Effect.{effect_of_answer};
 ghost use Rattle.zns_commands.specs.Meaning.{meaning};
 ghost use Rattle.zns_commands.specs.Receive.{receive_checks};
 

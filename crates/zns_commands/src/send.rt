@@ -5,7 +5,7 @@ ghost use Rattle.nvme_entry.specs.declared.command.StandardCommand.TheVariants.{
 ghost use Rattle.zone_state.specs.Checks.{first_failed, unless_failed};
 ghost use Rattle.image_store.specs.declared.geometry.TheConstants.{MOST_ZONES};
 ghost use Rattle.image_store.specs.Namespace.{zone_at, with_zone, counted_zones, IsWithinLimits, with_state};
-ghost use Rattle.zns_commands.specs.Answer.{effect_of_answer};
+ghost use Rattle.zns_commands.specs.Effect.{effect_of_answer};
 ghost use Rattle.zns_commands.specs.Meaning.{meaning};
 ghost use Rattle.zns_commands.specs.Resources.{closed};
 ghost use Rattle.zns_commands.specs.Send.{send_checks, send_effect, room_of, zone_checks, zone_effect, all_checks, all_effect, all_fit, swept, takes, held_among, taken_among};

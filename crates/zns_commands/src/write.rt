@@ -5,7 +5,7 @@ ghost use Rattle.nvme_entry.specs.declared.command.StandardCommand.TheVariants.{
 ghost use Rattle.image_store.specs.Namespace.{zone_at};
 ghost use Rattle.zone_state.specs.Checks.{first_failed, unless_failed};
 ghost use Rattle.zns_commands.specs.Address.{zone_number};
-ghost use Rattle.zns_commands.specs.Answer.{effect_of_answer};
+ghost use Rattle.zns_commands.specs.Effect.{effect_of_answer};
 ghost use Rattle.zns_commands.specs.Meaning.{meaning};
 ghost use Rattle.zns_commands.specs.Transfer.{transfer_checks};
 ghost use Rattle.zns_commands.specs.Write.{zone_write_checks, write_checks, with_written};

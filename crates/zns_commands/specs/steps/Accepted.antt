@@ -1,9 +1,8 @@
 -- What holds of a command that passed its checks, as its effect asks for it.
-use Rattle.std.specs.Prelude.{ℕ, ◌≢◌, ◌<◌, length, Option, Some, Ok, ◌*◌, ◌++◌, List, ◌≡◌, ◌≤◌, take, drop, map}
+use Rattle.std.specs.Prelude.{ℕ, ◌≢◌, ◌<◌, length, Option, Some, Ok, ◌*◌, List, ◌≡◌, ◌≤◌}
 use Rattle.std.specs.Option.{ForSome}
 use Rattle.zone_state.specs.declared.state.ZoneState.TheVariants.{Closed}
 use Rattle.zone_state.specs.Zone.{IsZone, refusal, kept}
-use Rattle.zone_state.specs.declared.action.Action.{Action}
 use Rattle.image_store.specs.Namespace.{ZonedNamespace, zone_at, with_state, IsWithinLimits}
 use Rattle.image_store.specs.Blocks.{block_count}
 use Rattle.zns_commands.specs.Resources.{closed}
@@ -11,7 +10,6 @@ use Rattle.zns_commands.specs.declared.write.WritePlan.{WritePlan}
 use Rattle.zns_commands.specs.Address.{counted_zone_at}
 use Rattle.zns_commands.specs.steps.Plans.{written_by}
 use Rattle.zns_commands.specs.declared.send.ZonePlan.{ZonePlan}
-use Rattle.zns_commands.specs.Send.{swept}
 
 -- what holds of the zone that gives way, if one does: it is another than the one that wants room, and
 -- can be Closed, which the limits allow
@@ -33,16 +31,6 @@ pub record CanWrite (ns : ZonedNamespace) (at blocks : ℕ) (plan : WritePlan) :
 pub record IsWhole (ns : ZonedNamespace) (blocks : ℕ) (input : List ℕ) : Type 0 where
   pub count : block_count ns.block input ≡ blocks
   pub size : length input ≡ blocks * ns.block
-
--- the namespace once Select All has gone over its first zones
-abbrev pub swept_below : ZonedNamespace → Action → ℕ → ZonedNamespace
-swept_below ns action n = record {
-  block = ns.block;
-  size = ns.size;
-  capacity = ns.capacity;
-  limits = ns.limits;
-  zones = map (swept action) (take n ns.zones) ++ drop n ns.zones;
-}
 
 -- what holds where an action on a zone isn't refused
 pub record CanMove (ns : ZonedNamespace) (plan : ZonePlan) : Type 0 where

@@ -1,5 +1,5 @@
 use Rattle.std.proofs.Common.{◌≡◌, length}
-use Rattle.zns_commands.specs.steps.Accepted.{swept_below}
+use Rattle.zns_commands.proofs.Sweeps.{swept_below}
 use Rattle.zns_commands.proofs.send.sweep.Given as goal
 
 abbrev pub invariant-loop-zone : goal.invariant-loop-zone

@@ -9,7 +9,7 @@ append-requires-clause-limits c =
     (open_within c.args.self.now c.args.zone c.args.bytes.now c.geometry.ensures.sound c.requires.opened)
 
 pub returns-clause-append : goal.returns-clause-append
-returns-clause-append c =
+returns-clause-append c = λ most.
     c.append.ensures
     ∙ (ap (λ (m : ZonedNamespace). appended m c.args.zone c.args.bytes.now) c.self.view_is
-    ∙ blocks_are_appended c.args.self.now c.args.zone c.args.bytes.now c.geometry.ensures.sound c.requires)
+    ∙ (blocks_are_appended c.args.self.now c.args.zone c.args.bytes.now c.geometry.ensures.sound c.requires most).1)
