@@ -16,8 +16,8 @@ use Rattle.pushdown.specs.Admission.{Loaded}
 use Rattle.pushdown.specs.EventReplies.{Submission}
 use Rattle.pushdown.specs.Happenings.{admitted_place, happens, just_loaded, loading, result_by, start_by, submitted, take_turn, turn_state, turned, turned_at, why_not_run}
 use Rattle.pushdown.specs.Outcome.{Turn}
-use Rattle.pushdown.specs.Events.{HasBytes}
-use Rattle.pushdown.specs.State.{Place, State, free_place, holds_of, place_at, program_at, with_namespace, with_place, with_slot}
+use Rattle.pushdown.specs.Events.{CarriesBytes}
+use Rattle.pushdown.specs.State.{Place, State, free_place, holds_at, place_at, program_at, with_namespace, with_place, with_slot}
 use Rattle.device_events.specs.declared.event.Event.{Event}
 use Rattle.device_events.specs.declared.event.Event.TheVariants as event
 use Rattle.pushdown.proofs.Loads.{TakesSlot, loading_is}
@@ -46,8 +46,8 @@ module _ {D : Type 0} (operations : Operations D) (P : State → Type 0) (s : St
   -- it holds of the state that the event finds, and after each change that the event can be
   pub record HoldsAfter (e : Event) : Type 0 where
     pub same : P s
-    pub step : (step : NamespaceEvent) → kept.holds_of step ≡ holds_of s → (HasBytes e → IsSpelled step) → P (with_namespace s (after step s.namespace))
-    pub load : (sub : Submission) (load : LoadCommand) (t : State) → (HasBytes e → AreBytes sub.input)
+    pub step : (step : NamespaceEvent) → kept.holds_of step ≡ holds_at s → (CarriesBytes e → IsSpelled step) → P (with_namespace s (after step s.namespace))
+    pub load : (sub : Submission) (load : LoadCommand) (t : State) → (CarriesBytes e → AreBytes sub.input)
         → (takes : TakesSlot operations sub s load t) → P (with_slot s load.slot (Some (just_loaded takes.program load.limit)))
     pub start : (sub : Submission) (order : RunCommand) (run : ℕ) → why_not_run sub s order ≡ None → free_place s ≡ Some run → 1 ≤ order.blocks
         → P (with_place s run (Some (admitted_place sub s order)))
@@ -55,7 +55,7 @@ module _ {D : Type 0} (operations : Operations D) (P : State → Type 0) (s : St
         → place.turns ≡ turn ∷ later → P (turn_state s run place turn later)
 
   module _ (e : Event) (holds : HoldsAfter e) where
-    after_load : (starved : Bool) (sub : Submission) (load : LoadCommand) → (HasBytes e → AreBytes sub.input)
+    after_load : (starved : Bool) (sub : Submission) (load : LoadCommand) → (CarriesBytes e → AreBytes sub.input)
         → P (loading operations starved sub s load).state
     after_load starved sub load are = elim (loading_is operations sub s load starved).state [
       | inl same ↦ subst P (sym same) holds.same
@@ -74,11 +74,11 @@ module _ {D : Type 0} (operations : Operations D) (P : State → Type 0) (s : St
     after_result (Some loaded) None sub = holds.same
 
     after_entry : (starved : Bool) (sub : Submission) (asked : Result Command Status) → decoded sub.entry ≡ asked
-        → (HasBytes e → AreBytes sub.input) → P (submitted operations starved sub s asked).state
+        → (CarriesBytes e → AreBytes sub.input) → P (submitted operations starved sub s asked).state
     after_entry starved sub (Err status) is are = holds.same
     after_entry starved sub (Ok (command.Standard c)) is are =
-        holds.step (Commanded (holds_of s) c sub.input) refl
-        (λ has. spelled (holds_of s) c sub.input (decoded_has sub.entry (command.Standard c) is) (are has))
+        holds.step (Commanded (holds_at s) c sub.input) refl
+        (λ has. spelled (holds_at s) c sub.input (decoded_has sub.entry (command.Standard c) is) (are has))
     after_entry starved sub (Ok (command.Load load)) is are = after_load starved sub load are
     after_entry starved sub (Ok (command.Run order)) is are =
         after_start (why_not_run sub s order) (free_place s) sub order refl refl (decoded_has sub.entry (command.Run order) is)
@@ -90,4 +90,4 @@ module _ {D : Type 0} (operations : Operations D) (P : State → Type 0) (s : St
       after_entry (event.Submit queue entry input) holds starved (record { queue = queue; entry = entry; input = input.items }) (decoded entry) refl
       (λ has. has)
   after_event starved (event.Turn run) holds = after_turn P s run holds.same (λ place turn later. holds.turn run place turn later refl)
-  after_event starved (event.Fault zone state) holds = holds.step (Faulted (holds_of s) zone state) refl (λ has. tt)
+  after_event starved (event.Fault zone state) holds = holds.step (Faulted (holds_at s) zone state) refl (λ has. tt)

@@ -24,7 +24,7 @@ use Rattle.pushdown.specs.Laws.{AdmittedStarts, StartsRun}
 use Rattle.pushdown.specs.Happenings.{admitted_place, happens, start_by, submitted}
 use Rattle.pushdown.specs.Outcome.{Turn, outcome}
 use Rattle.pushdown.specs.Pushdown.{ChangesDestinationAlone, DoesItsTurns, EndsWithLast, IsAdmitted, Pushdown, TellsFramesAndBlocks, blocks_at, no_turn, own_turns}
-use Rattle.pushdown.specs.State.{Place, State, free_place, holds_of, place_at, program_at, with_place}
+use Rattle.pushdown.specs.State.{Place, State, free_place, holds_at, place_at, program_at, with_place}
 use Rattle.device_events.specs.declared.event.Event.TheVariants as event
 use Rattle.device_events.specs.declared.reply.Reply.TheVariants as reply
 use Rattle.pushdown.proofs.Added.{added_leaves, added_shape, open_on}
@@ -70,7 +70,7 @@ module _ {D : Type 0} (operations : Operations D) (s : State) (queue : ℕ) (ent
 
   destination_on : IsAdmitted s sub order run → (zone_at s.namespace place.destination).state ≢ Offline
   destination_on admitted =
-      let checks = admission_checks s.namespace (holds_of s) (is_some (free_place s)) (program_at s order.slot) order sub.input in
+      let checks = admission_checks s.namespace (holds_at s) (is_some (free_place s)) (program_at s order.slot) order sub.input in
       let state = (zone_at s.namespace place.destination).state in
       open_on state (demanded (is_open state) DESTINATION_NOT_OPEN (passed checks 12 admitted.passed))
 

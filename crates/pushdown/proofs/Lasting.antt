@@ -8,7 +8,7 @@ use Rattle.zns_commands.proofs.Proved.{grows_on, events_keep_shapes, events_keep
 use Rattle.zns_commands.proofs.Proved.{KeepsZone}
 use Rattle.pushdown.specs.Events.{Occurrence, state_after}
 use Rattle.pushdown.specs.Happenings.{added, happens}
-use Rattle.pushdown.specs.ReadBack.{EventsKeepShapes, NoneClears, UnclearedKeepBlocks}
+use Rattle.pushdown.specs.ReadBack.{EventsKeepShapes, NoEventClears, UnclearedKeepBlocks}
 use Rattle.pushdown.specs.State.{State}
 use Rattle.device_events.specs.declared.event.Event.{Event}
 use Rattle.pushdown.proofs.Added.{added_grows, added_shape}
@@ -51,7 +51,7 @@ module _ {D : Type 0} (operations : Operations D) where
         turn = λ run place turn later is at first stays. added_keeps s.namespace place.destination z turn.blocks stays;
       })
 
-  pub events_keep : (events : List Occurrence) (s : State) (z : ℕ) → NoneClears operations z events s
+  pub events_keep : (events : List Occurrence) (s : State) (z : ℕ) → NoEventClears operations z events s
       → KeepsZone s.namespace (state_after operations events s).namespace z
   events_keep [] s z none = keeps_itself s.namespace z
   events_keep (o ∷ os) s z none =

@@ -10,6 +10,7 @@ mod ExampleEvents
 mod ExampleLoads
 mod ExampleRuns
 mod Examples
+mod FewBlocks
 mod Headline
 mod KeptForRuns
 mod Lasting

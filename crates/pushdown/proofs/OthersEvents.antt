@@ -73,7 +73,6 @@ turned_is s run place turn later at first =
     ap (λ (p : Option Place). turned_at s run p) at ∙ ap (λ (turns : List Turn). take_turn s run place turns) first
 
 pub turn_takes_first : TurnTakesFirst
-turn_takes_first s run place turn later at first on =
+turn_takes_first s run place turn later at first =
     ap (λ (h : Happening). place_at h.state run) (turned_is s run place turn later at first)
     ∙ get_or-set_same s.places run (place_left place later turn.ending) None (there s.places run place at)
-    ∙ ap (place_left place later) on

@@ -4,7 +4,7 @@ use Rattle.std.proofs.lemmas.List.{map-append}
 use Rattle.word_domain.specs.Domain.{Operations}
 use Rattle.device_events.specs.Replies.{Joins, ReplyWithData}
 use Rattle.pushdown.specs.Draining.{AreLowest, Drains, lowest_run, replies_to_turns, state_after_turns}
-use Rattle.pushdown.specs.Events.{HasBytes, Occurrence, replies_to, state_after}
+use Rattle.pushdown.specs.Events.{CarriesBytes, Occurrence, replies_to, state_after}
 use Rattle.pushdown.specs.Happenings.{happens, turned}
 use Rattle.pushdown.specs.Parts.{DrainedByTurns, DrainedInOneWay, EventsJoin, InParts, OneReplyEach, ServedAndDrained, ServedInParts, turn_events}
 use Rattle.pushdown.specs.State.{State}
@@ -12,7 +12,7 @@ use Rattle.device_events.specs.declared.event.Event.{Event}
 use Rattle.pushdown.proofs.Bytes.{all_append}
 
 pub events_join : EventsJoin
-events_join first later are more = all_append (λ (o : Occurrence). HasBytes o.event) first later are more
+events_join first later are more = all_append (λ (o : Occurrence). CarriesBytes o.event) first later are more
 
 module _ {D : Type 0} (operations : Operations D) where
   abbrev next : Occurrence → State → State

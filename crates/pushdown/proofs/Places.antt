@@ -15,7 +15,7 @@ use Rattle.pushdown.specs.Admission.{admission_checks, destination_zone}
 use Rattle.pushdown.specs.EventReplies.{Submission}
 use Rattle.pushdown.specs.Happenings.{admitted_place, happens, place_left, turned, why_not_run}
 use Rattle.pushdown.specs.Outcome.{Ending, Turn}
-use Rattle.pushdown.specs.State.{Place, State, destination_of, free_place, holds_of, new_state, place_at, program_at}
+use Rattle.pushdown.specs.State.{Place, State, destination_of, free_place, holds_at, new_state, place_at, program_at}
 use Rattle.device_events.specs.declared.event.Event.{Event}
 use Rattle.pushdown.proofs.Changes.{after_event, after_turn}
 use Rattle.pushdown.proofs.OthersEvents.{free_within, there}
@@ -88,9 +88,9 @@ not_true false e = refl
 
 -- the destination of an admitted run is no other run's
 pub admitted_free : (sub : Submission) (s : State) (order : RunCommand) → why_not_run sub s order ≡ None
-    → is_destination (holds_of s) (destination_zone s.namespace order) ≡ false
+    → is_destination (holds_at s) (destination_zone s.namespace order) ≡ false
 admitted_free sub s order none =
-    let holds = holds_of s in
+    let holds = holds_at s in
     let z = destination_zone s.namespace order in
     let checks = admission_checks s.namespace holds (is_some (free_place s)) (program_at s order.slot) order sub.input in
     not_true (is_destination holds z) (demanded (not (is_destination holds z)) ZONE_HELD (passed checks 11 none))

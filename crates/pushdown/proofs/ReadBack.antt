@@ -26,8 +26,8 @@ use Rattle.pushdown.specs.EventReplies.{Happening, Submission}
 use Rattle.pushdown.specs.Events.{Occurrence, state_after}
 use Rattle.pushdown.specs.Happenings.{commanded, happens, submitted}
 use Rattle.pushdown.specs.Pushdown.{blocks_at}
-use Rattle.pushdown.specs.ReadBack.{AppendsReadBack, BlocksAreRead, IsCompleted, NoneClears, ReadsGive, Submits, WritesReadBack, WrittenIsRead}
-use Rattle.pushdown.specs.State.{State, holds_of}
+use Rattle.pushdown.specs.ReadBack.{AppendsReadBack, BlocksAreRead, IsCompleted, NoEventClears, ReadsGive, Submits, WritesReadBack, WrittenIsRead}
+use Rattle.pushdown.specs.State.{State, holds_at}
 use Rattle.device_events.specs.declared.event.Event.{Event}
 use Rattle.device_events.specs.declared.event.Event.TheVariants as event
 use Rattle.pushdown.proofs.Lasting.{events_keep}
@@ -86,16 +86,16 @@ blocks_read ns z front more behind is there some transfer =
 module _ {D : Type 0} (operations : Operations D) where
   -- an event that submits a command is completed with the command's meaning
   completed : (e : Event) (c : StandardCommand) (input : List ℕ) (s : State) (starved : Bool)
-      → Submits e c input → IsCompleted e s (meaning s.namespace (holds_of s) c input) (happens operations s starved e)
+      → Submits e c input → IsCompleted e s (meaning s.namespace (holds_at s) c input) (happens operations s starved e)
   completed (event.Submit queue entry bytes) c input s starved is =
       let sub : Submission = record { queue = queue; entry = entry; input = bytes.items } in
       ap (λ (r : Result Command Status). submitted operations starved sub s r) is.0
-      ∙ ap (λ (bytes : List ℕ). commanded sub s (meaning s.namespace (holds_of s) c bytes)) is.1
+      ∙ ap (λ (bytes : List ℕ). commanded sub s (meaning s.namespace (holds_at s) c bytes)) is.1
   completed (event.Turn run) c input s starved is = absurd is
   completed (event.Fault zone state) c input s starved is = absurd is
 
   leaves : (e : Event) (c : StandardCommand) (input : List ℕ) (s : State) (starved : Bool) → Submits e c input
-      → (happens operations s starved e).state.namespace ≡ (meaning s.namespace (holds_of s) c input).namespace
+      → (happens operations s starved e).state.namespace ≡ (meaning s.namespace (holds_at s) c input).namespace
   leaves (event.Submit queue entry bytes) c input s starved is =
       ap (λ (h : Happening). h.state.namespace) (completed (event.Submit queue entry bytes) c input s starved is)
   leaves (event.Turn run) c input s starved is = absurd is
@@ -110,13 +110,13 @@ module _ {D : Type 0} (operations : Operations D) where
   pub reads : (s : State) (lba blocks : ℕ) (bytes : List ℕ) → AreRead s.namespace lba blocks bytes
       → ReadsGive operations s lba blocks bytes
   reads s lba blocks bytes is read submits =
-      subst (λ (o : Effect). IsCompleted read.event s o (happens operations s read.starved read.event)) (is (holds_of s))
+      subst (λ (o : Effect). IsCompleted read.event s o (happens operations s read.starved read.event)) (is (holds_at s))
       (completed read.event (Read lba blocks) [] s read.starved submits)
 
   -- what is left of a zone after a command and after events that don't clear it
   lasts : (s : State) (o : Occurrence) (c : StandardCommand) (input : List ℕ) (events : List Occurrence) (z : ℕ) → Submits o.event c input
-      → NoneClears operations z events (happens operations s o.starved o.event).state
-      → KeepsZone (meaning s.namespace (holds_of s) c input).namespace
+      → NoEventClears operations z events (happens operations s o.starved o.event).state
+      → KeepsZone (meaning s.namespace (holds_at s) c input).namespace
       (state_after operations events (happens operations s o.starved o.event).state).namespace z
   lasts s o c input events z is none =
       let then = (happens operations s o.starved o.event).state in
@@ -127,10 +127,10 @@ module _ {D : Type 0} (operations : Operations D) where
   appended_reads_back s sound o lba blocks input events is succeeded none =
       let ns = s.namespace in
       let c = Append lba blocks in
-      let done = meaning ns (holds_of s) c input in
+      let done = meaning ns (holds_at s) c input in
       let last = state_after operations events (happens operations s o.starved o.event).state in
       let keeps = lasts s o c input events (zone_number ns lba) is none in
-      let later = appended_stays ns (holds_of s) lba blocks input last.namespace sound (has_blocks o.event c input is) succeeded keeps in
+      let later = appended_stays ns (holds_at s) lba blocks input last.namespace sound (has_blocks o.event c input is) succeeded keeps in
       (completed o.event c input s o.starved is, reads last (done.dw0 + done.dw1 * 2 ^ 32) blocks input later)
 
   pub written_reads_back : WritesReadBack operations
@@ -139,7 +139,7 @@ module _ {D : Type 0} (operations : Operations D) where
       let c = Write lba blocks in
       let last = state_after operations events (happens operations s o.starved o.event).state in
       let keeps = lasts s o c input events (zone_number ns lba) is none in
-      let later = written_stays ns (holds_of s) lba blocks input last.namespace sound (has_blocks o.event c input is) succeeded keeps in
+      let later = written_stays ns (holds_at s) lba blocks input last.namespace sound (has_blocks o.event c input is) succeeded keeps in
       (completed o.event c input s o.starved is, reads last lba blocks input later)
 
 -- ---- a part of a list of blocks

@@ -19,9 +19,9 @@ use Rattle.pushdown.specs.EventReplies.{Submission}
 use Rattle.pushdown.specs.Events.{AreEvents, Occurrence, state_after}
 use Rattle.pushdown.specs.Outcome.{Turn, appended_by}
 use Rattle.pushdown.specs.Pushdown.{IsAdmitted, blocks_at}
-use Rattle.pushdown.specs.ReadBack.{AppendedAreRead, EmittedAreRead, NoneClears, ReadsGive, RunsReadBack, after_turn, before, destination, pointer, turns}
+use Rattle.pushdown.specs.ReadBack.{AppendedAreRead, EmittedAreRead, NoEventClears, ReadsGive, RunsReadBack, after_turn, before, destination, pointer, turns}
 use Rattle.pushdown.specs.Reached.{IsReached}
-use Rattle.pushdown.specs.State.{State, free_place, holds_of, program_at}
+use Rattle.pushdown.specs.State.{State, free_place, holds_at, program_at}
 use Rattle.device_events.specs.declared.event.Event.TheVariants as event
 use Rattle.pushdown.proofs.Emitted.{emitted_reads_back}
 use Rattle.pushdown.proofs.Headline.{pushdown}
@@ -36,7 +36,7 @@ none_beside (x ∷ xs) none = absurd (omega (arith, none))
 -- no data stands beside a Run
 admitted_bytes : (s : State) (sub : Submission) (order : RunCommand) (run : ℕ) → IsAdmitted s sub order run → AreBytes sub.input
 admitted_bytes s sub order run admitted =
-    let checks = admission_checks s.namespace (holds_of s) (is_some (free_place s)) (program_at s order.slot) order sub.input in
+    let checks = admission_checks s.namespace (holds_at s) (is_some (free_place s)) (program_at s order.slot) order sub.input in
     let test = nat_eq (length sub.input) 0 in
     none_beside sub.input (eqb-true (length sub.input) 0 (demanded test INVALID_FIELD_IN_COMMAND (passed checks 1 admitted.passed)))
 
@@ -86,7 +86,7 @@ module _ {D : Type 0} (operations : Operations D) (never : AcceptedNeverTraps op
       → ReadsGive operations last (start + at) blocks (bytes_of (take blocks (drop at all)))
 
   module _ (admitted : IsAdmitted s sub order run) (fit : AreEvents events) (fit_later : AreEvents later) (less : so_far < length all_turns)
-      (none : NoneClears operations to later then) where
+      (none : NoEventClears operations to later then) where
     last_sound : IsNamespace last.namespace
     last_sound =
         let now_fine = events_fine operations never block (asked ∷ events) s fine (admitted_bytes s sub order run admitted, fit) in

@@ -38,18 +38,19 @@ use Rattle.nvme_entry.proofs.Proved.{demanded, passed}
 use Rattle.pushdown.specs.Admission.{Loaded, admission_checks, source_blocks, task_of}
 use Rattle.pushdown.specs.EventReplies.{Submission}
 use Rattle.pushdown.specs.BlockRuns.{Task, groups_of, no_scratch, runs_of}
-use Rattle.pushdown.specs.Events.{AreEvents, HasBytes, Occurrence, state_after}
+use Rattle.pushdown.specs.Events.{AreEvents, CarriesBytes, Occurrence, state_after}
 use Rattle.pushdown.specs.Laws.{IsAppended, RoomIn, StatesAreSound}
 use Rattle.pushdown.specs.Happenings.{admitted_place, happens, just_loaded, keeping, load_checks, place_left, slots_left, turn_state, turned, why_not_run}
 use Rattle.pushdown.specs.Outcome.{Ending, Turn, appended_by, no_output, outcome}
 use Rattle.pushdown.specs.Pushdown.{EndsWithLast, Succeeds}
 use Rattle.pushdown.specs.Reached.{IsReached}
-use Rattle.pushdown.specs.State.{Place, State, free_place, holds_of, new_state, place_at, program_at, with_namespace, with_place, with_slot}
+use Rattle.pushdown.specs.State.{Place, State, free_place, holds_at, new_state, place_at, program_at, with_namespace, with_place, with_slot}
 use Rattle.device_events.specs.declared.event.Event.{Event}
 use Rattle.pushdown.proofs.Added.{added_block}
 use Rattle.pushdown.proofs.BlockRuns.{IsDone, IsReady, few_runs, runs_done, some_runs}
 use Rattle.pushdown.proofs.Bytes.{AreBlocks, IsBlock, all_at, all_drop, all_from, all_same, all_set, all_take, blocks_by_place}
 use Rattle.pushdown.proofs.Changes.{after_event, after_turn}
+use Rattle.pushdown.proofs.FewBlocks.{HasFew, turns_few}
 use Rattle.pushdown.proofs.OthersEvents.{free_within}
 use Rattle.pushdown.proofs.Loads.{TakesSlot}
 use Rattle.pushdown.proofs.Outcomes.{HasWhole, ends_with_last, no_groups, outcome_is_packed, turns_whole}
@@ -102,9 +103,10 @@ module _ {D : Type 0} (operations : Operations D) (never : AcceptedNeverTraps op
   SlotIsFine None = Unit {0}
   SlotIsFine (Some loaded) = IsAccepted loaded
 
-  -- turns that append whole blocks, and of which the last ends the run
+  -- turns that append whole blocks, few each, and of which the last ends the run
   pub record AreTurns (turns : List Turn) : Type 0 where
     pub whole : AllByRecursion (HasWhole block) turns
+    pub few : AllByRecursion HasFew turns
     pub ends : EndsWithLast turns
 
   abbrev pub PlaceIsFine : Option Place → Type 0
@@ -131,7 +133,7 @@ module _ {D : Type 0} (operations : Operations D) (never : AcceptedNeverTraps op
 
   -- ---- commands and faults
 
-  step_fine : (s : State) (step : NamespaceEvent) → IsFine s → kept.holds_of step ≡ holds_of s → IsSpelled step
+  step_fine : (s : State) (step : NamespaceEvent) → IsFine s → kept.holds_of step ≡ holds_at s → IsSpelled step
       → IsFine (with_namespace s (after step s.namespace))
   step_fine s step h same is_spelled =
       let kept_shape = events_keep_shapes step s.namespace in
@@ -198,7 +200,7 @@ module _ {D : Type 0} (operations : Operations D) (never : AcceptedNeverTraps op
     runs = runs_of task source
 
     abbrev checks : List (Option Status)
-    checks = admission_checks s.namespace (holds_of s) (is_some (free_place s)) (program_at s order.slot) order sub.input
+    checks = admission_checks s.namespace (holds_at s) (is_some (free_place s)) (program_at s order.slot) order sub.input
 
     pub ready : IsReady task
     ready =
@@ -232,6 +234,7 @@ module _ {D : Type 0} (operations : Operations D) (never : AcceptedNeverTraps op
     turns_are some = record {
       whole = subst (λ (n : ℕ). AllByRecursion (HasWhole n) (outcome task source)) h.size
           (turns_whole s.namespace.block task no_output runs ready.sizes.fits runs_all_done (no_groups s.namespace.block));
+      few = turns_few s.namespace.block no_output runs;
       ends = ends_with_last task s.namespace.block no_output runs runs_all_done (some_run some);
     }
 
@@ -299,7 +302,7 @@ module _ {D : Type 0} (operations : Operations D) (never : AcceptedNeverTraps op
       → PlaceIsFine (place_left place later ending)
   left_fine place turn later (Some ending) is are = tt
   left_fine place turn [] None is are = absurd (subst Succeeds is are.ends)
-  left_fine place turn (next ∷ turns) None is are = record { whole = are.whole.1; ends = are.ends.1 }
+  left_fine place turn (next ∷ turns) None is are = record { whole = are.whole.1; few = are.few.1; ends = are.ends.1 }
 
   pub place_fine : (s : State) (run : ℕ) → IsFine s → PlaceIsFine (place_at s run)
   place_fine s run h = all_at PlaceIsFine s.places run None h.places tt
@@ -324,7 +327,7 @@ module _ {D : Type 0} (operations : Operations D) (never : AcceptedNeverTraps op
 
   -- ---- events
 
-  pub event_fine : (s : State) (starved : Bool) (e : Event) → IsFine s → HasBytes e → IsFine (happens operations s starved e).state
+  pub event_fine : (s : State) (starved : Bool) (e : Event) → IsFine s → CarriesBytes e → IsFine (happens operations s starved e).state
   event_fine s starved e h has = after_event operations IsFine s starved e (record {
     same = h;
     step = λ step same is. step_fine s step h same (is has);
@@ -343,7 +346,7 @@ module _ {D : Type 0} (operations : Operations D) (never : AcceptedNeverTraps op
   appends s h run place turn later here first some =
       let are = subst AreTurns first (subst PlaceIsFine here (place_fine s run h)) in
       turn_appended s.namespace place.destination turn.blocks turn.ending later h.is (subst (λ (n : ℕ). HasWhole n turn) (sym h.size) are.whole.0)
-      (now_room s run place turn later h.apart h.rooms here first) some
+      are.few.0 (now_room s run place turn later h.apart h.rooms here first) some
 
 -- each state that events leave is such a state
 pub reached_fine : {D : Type 0} (operations : Operations D) (never : AcceptedNeverTraps operations) (s : State) (reached : IsReached operations s)

@@ -1,15 +1,19 @@
 -- What a turn appends fits into its destination.
-use Rattle.std.proofs.Common.{◌≡◌, ◌≢◌, ℕ, ◌+◌, ◌*◌, ◌≤◌, Bool, true, false, cond, List, [], ◌∷◌, ◌++◌, length, Option, refl, ap, sym, subst, ◌∙◌, arith, inl, inr, length-append, get_or-set_same}
+use Rattle.std.proofs.Common.{◌≡◌, ◌≢◌, ℕ, ◌+◌, ◌*◌, ◌≤◌, Bool, true, false, cond, List, [], ◌∷◌, ◌++◌, length, Option, None, refl, ap, sym, subst, ◌∙◌, arith, inl, inr, length-append, get_or-set_same}
 use Rattle.std.specs.Prelude.{◌⊎◌, nat_eq}
+use Rattle.std.proofs.Math.Nat.{mul-le-mul_right}
 use Rattle.std.proofs.lemmas.Bool.{eqb-true}
+use Rattle.zone_state.specs.Checks.{first_failed}
 use Rattle.zone_state.specs.State.{is_open}
 use Rattle.zone_state.specs.Zone.{written_state}
 use Rattle.zone_state.specs.declared.state.ZoneState.{ZoneState}
 use Rattle.zone_state.specs.declared.state.ZoneState.TheVariants.{ImplicitlyOpened, ExplicitlyOpened, Full}
+use Rattle.zone_resources.specs.Holds.{no_holds}
+use Rattle.nvme_entry.specs.declared.command.TheConstants.{MOST_TRANSFER}
 use Rattle.image_store.specs.Blocks.{bytes_of}
 use Rattle.image_store.specs.Namespace.{ZoneBlocks, ZonedNamespace, IsNamespace, appended, grown, no_zone, zone_at}
-use Rattle.zns_commands.specs.Append.{TakesBlocks}
-use Rattle.zns_commands.proofs.Proved.{blocks_are_the_effect, blocks_keep_namespaces}
+use Rattle.zns_commands.specs.Append.{TakesBlocks, append_checks}
+use Rattle.zns_commands.proofs.Proved.{blocks_are_the_effect, blocks_keep_namespaces, taken_blocks_pass}
 use Rattle.pushdown.specs.Laws.{IsAppended, RoomIn, RoomIsOpen, RoomStays}
 use Rattle.pushdown.specs.Happenings.{added}
 use Rattle.pushdown.specs.Outcome.{Ending, Turn, appended_by}
@@ -64,10 +68,20 @@ module _ (ns : ZonedNamespace) (z : ℕ) (b : List ℕ) (bs : List (List ℕ)) (
       subst IsNamespace (sym (more_added sound new))
       (blocks_keep_namespaces ns z (bytes_of more) sound (more_takes sound new) (bytes_are ns.block more new))
 
-  pub more_appended : IsNamespace ns → AreBlocks ns.block more → IsAppended ns z more
-  more_appended sound new =
+  pub more_appended : IsNamespace ns → AreBlocks ns.block more → length more ≤ 2 → IsAppended ns z more
+  more_appended sound new few =
       let takes = more_takes sound new in
-      record { takes = takes; effect = more_added sound new ∙ blocks_are_the_effect ns z (bytes_of more) sound takes }
+      let product : length more * ns.block ≤ 2 * ns.block = mul-le-mul_right ns.block few in
+      let long = bytes_long ns.block more new in
+      let most : length (bytes_of more) ≤ MOST_TRANSFER = omega (arith, long, product, sound.shape.block_most) in
+      let count = bytes_count ns.block more (omega (arith, sound.shape.block_some)) new in
+      record {
+        takes = takes;
+        passes =
+            subst (λ (n : ℕ). first_failed (append_checks ns no_holds (z * ns.size) n (bytes_of more)) ≡ None)
+            count (taken_blocks_pass ns z (bytes_of more) sound takes most);
+        effect = more_added sound new ∙ blocks_are_the_effect ns z (bytes_of more) sound takes;
+      }
 
 -- ---- a turn whose blocks fit
 
@@ -82,11 +96,11 @@ turn_sound ns z (b ∷ bs) ending turns sound new h =
     (omega (arith, h.room, length-append (b ∷ bs) (appended_by turns))) sound new
 
 pub turn_appended : (ns : ZonedNamespace) (z : ℕ) (blocks : List (List ℕ)) (ending : Option Ending) (turns : List Turn) → IsNamespace ns
-    → AreBlocks ns.block blocks → HasRoom ns z blocks ending turns → blocks ≢ [] → IsAppended ns z blocks
-turn_appended ns z [] ending turns sound new h some = absurd (some refl)
-turn_appended ns z (b ∷ bs) ending turns sound new h some =
+    → AreBlocks ns.block blocks → length blocks ≤ 2 → HasRoom ns z blocks ending turns → blocks ≢ [] → IsAppended ns z blocks
+turn_appended ns z [] ending turns sound new few h some = absurd (some refl)
+turn_appended ns z (b ∷ bs) ending turns sound new few h some =
     more_appended ns z b bs (still_open ns.capacity (zone_at ns z) b bs ending turns h)
-    (omega (arith, h.room, length-append (b ∷ bs) (appended_by turns))) sound new
+    (omega (arith, h.room, length-append (b ∷ bs) (appended_by turns))) sound new few
 
 pub turn_room : RoomStays
 turn_room ns z [] ending turns h = record { room = h.room; opened = h.opened }

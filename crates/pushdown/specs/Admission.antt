@@ -17,8 +17,8 @@ use Rattle.zns_commands.specs.Transfer.{transfer_checks}
 use Rattle.emit_append.specs.Need.{need}
 use Rattle.pushdown.specs.BlockRuns.{Task}
 
--- a program in its slot, the most bytes of its groups, and the scratch bytes that its last run that
--- succeeded left
+-- a program in its slot, the most bytes of its groups, and its result: the scratch bytes that its last run
+-- that succeeded left, zeros before one did
 pub record Loaded : Type 0 where
   pub program : List (Option Insn)
   pub limit : ℕ

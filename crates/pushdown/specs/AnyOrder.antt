@@ -33,7 +33,7 @@ pub record ComeToTheSame (s : State) (first second : List ℕ) : Type 0 where
   pub whole : ((slot : ℕ) → IsUnshared s slot) → state_after_turns first s ≡ state_after_turns second s
   pub replies : (run : ℕ) → own_replies run first (replies_to_turns first s) ≡ own_replies run second (replies_to_turns second s)
 
--- In each state that events leave, turns come to the same in any order: all runs there append to different
--- zones.
+-- In each state that events leave, turns come to the same in this sense, in any order: all runs there append to
+-- different zones.
 abbrev pub TurnsInAnyOrder : {D : Type 0} → Operations D → Type 0
 TurnsInAnyOrder operations = (s : State) → IsReached operations s → (first second : List ℕ) → AreSameTurns first second → ComeToTheSame s first second

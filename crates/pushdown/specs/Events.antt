@@ -15,13 +15,13 @@ pub record Occurrence : Type 0 where
   pub starved : Bool
 
 -- the data beside an entry is bytes
-abbrev pub HasBytes : Event → Type 0
-HasBytes (event.Submit queue entry input) = AreBytes input.items
-HasBytes (event.Turn run) = Unit {0}
-HasBytes (event.Fault zone state) = Unit {0}
+abbrev pub CarriesBytes : Event → Type 0
+CarriesBytes (event.Submit queue entry input) = AreBytes input.items
+CarriesBytes (event.Turn run) = Unit {0}
+CarriesBytes (event.Fault zone state) = Unit {0}
 
 abbrev pub AreEvents : List Occurrence → Type 0
-AreEvents events = AllByRecursion (λ o. HasBytes o.event) events
+AreEvents events = AllByRecursion (λ o. CarriesBytes o.event) events
 
 module _ {D : Type 0} (operations : Operations D) where
   -- the replies to events, in order

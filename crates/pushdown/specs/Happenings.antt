@@ -28,7 +28,7 @@ use Rattle.device_events.specs.Replies.{ReplyWithData}
 use Rattle.pushdown.specs.EventReplies.{Happening, Submission, plain, completion, completed, refused, idle}
 use Rattle.pushdown.specs.BlockRuns.{no_scratch}
 use Rattle.pushdown.specs.Outcome.{Turn, Ending, outcome}
-use Rattle.pushdown.specs.State.{Place, State, holds_of, program_at, place_at, in_use, free_place, with_namespace, with_slot, with_place}
+use Rattle.pushdown.specs.State.{Place, State, holds_at, program_at, place_at, in_use, free_place, with_namespace, with_slot, with_place}
 use Rattle.device_events.specs.declared.event.Event.{Event}
 use Rattle.device_events.specs.declared.event.Event.TheVariants as event
 use Rattle.device_events.specs.declared.reply.Reply.{Reply}
@@ -48,7 +48,7 @@ load_checks s load input =
 abbrev pub program_refused : Submission → ℕ → ℕ → State → Happening
 program_refused sub at reason s = completed sub PROGRAM_REFUSED at reason [] s
 
--- an accepted program, without a result as yet
+-- an accepted program, whose result is zeros
 abbrev pub just_loaded : List (Option Insn) → ℕ → Loaded
 just_loaded program limit = record { program = program; limit = limit; result = no_scratch }
 
@@ -102,7 +102,7 @@ admitted_place sub s order = record {
 -- the status of the first check that a run fails
 abbrev pub why_not_run : Submission → State → RunCommand → Option Status
 why_not_run sub s order =
-    run_refusal s.namespace (holds_of s) (is_some (free_place s)) (program_at s order.slot) order sub.input
+    run_refusal s.namespace (holds_at s) (is_some (free_place s)) (program_at s order.slot) order sub.input
 
 -- an admitted run takes the lowest free place, and its number; that there is one is among the checks
 abbrev pub start_by : Option Status → Option ℕ → Submission → State → RunCommand → Happening
@@ -169,8 +169,8 @@ fault_reply (Err refused) = reply.FaultRefused
 
 abbrev pub failed : State → ℕ → FaultState → Happening
 failed s zone state = record {
-  reply = plain (fault_reply (fault_answer s.namespace (holds_of s) zone state));
-  state = with_namespace s (faulted s.namespace (holds_of s) zone state);
+  reply = plain (fault_reply (fault_answer s.namespace (holds_at s) zone state));
+  state = with_namespace s (faulted s.namespace (holds_at s) zone state);
 }
 
 -- ---- events
@@ -183,7 +183,7 @@ module _ {D : Type 0} (operations : Operations D) where
   -- what an entry comes to that names this command; only Load asks whether memory is refused
   abbrev pub submitted : Bool → Submission → State → Result Command Status → Happening
   submitted starved sub s (Err status) = refused sub status s
-  submitted starved sub s (Ok (command.Standard c)) = commanded sub s (meaning s.namespace (holds_of s) c sub.input)
+  submitted starved sub s (Ok (command.Standard c)) = commanded sub s (meaning s.namespace (holds_at s) c sub.input)
   submitted starved sub s (Ok (command.Load load)) = loading operations starved sub s load
   submitted starved sub s (Ok (command.Run order)) = starting sub s order
   submitted starved sub s (Ok (command.Result slot)) = giving_result sub s slot

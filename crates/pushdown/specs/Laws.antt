@@ -2,6 +2,7 @@
 use Rattle.std.specs.Prelude.{◌≤◌, ◌*◌, ℕ, Bool, true, false, ◌≡◌, ◌≢◌, ◌+◌, List, [], ◌∷◌, length, map, Vec, Option, Some, None, Ok, ◌⊎◌, is_some}
 use Rattle.std.specs.List.{AllByRecursion, concat, flat_map}
 use Rattle.std.specs.declared.alloc.Global.{Global}
+use Rattle.zone_state.specs.Checks.{first_failed}
 use Rattle.zone_state.specs.State.{is_open}
 use Rattle.zone_resources.specs.Holds.{no_holds}
 use Rattle.nvme_entry.specs.declared.command.RunCommand.{RunCommand}
@@ -13,14 +14,14 @@ use Rattle.emit_append.specs.Unpacking.{unpacked}
 use Rattle.emit_append.specs.Packing.{packed, pending_of, released}
 use Rattle.image_store.specs.Blocks.{bytes_of}
 use Rattle.image_store.specs.Namespace.{ZoneBlocks, ZonedNamespace, zone_at, shape, IsNamespace}
-use Rattle.zns_commands.specs.Append.{TakesBlocks, append_effect}
+use Rattle.zns_commands.specs.Append.{TakesBlocks, append_checks, append_effect}
 use Rattle.zns_commands.specs.Left.{Grows}
 use Rattle.pushdown.specs.Admission.{SameProgram, source_blocks, task_of}
 use Rattle.pushdown.specs.EventReplies.{Happening, Submission, plain}
 use Rattle.pushdown.specs.BlockRuns.{Task, block_run, frames_of, goes_on, groups_of, runs_of, scratch_after}
 use Rattle.pushdown.specs.Draining.{Drains, turns_left}
 use Rattle.pushdown.specs.Events.{Occurrence}
-use Rattle.pushdown.specs.Happenings.{added, admitted_place, happens, turned}
+use Rattle.pushdown.specs.Happenings.{added, admitted_place, happens, place_left, turned}
 use Rattle.pushdown.specs.Outcome.{Ending, Progress, Turn, appended_by, at_admission, ending_of, last_turn, outcome, output_of, rest}
 use Rattle.pushdown.specs.Pushdown.{IsAdmitted, is_turn_of, success_of}
 use Rattle.pushdown.specs.Reached.{IsReached}
@@ -114,12 +115,12 @@ ForeignLeavesTurns operations =
     → is_turn_of run o.event ≡ false → place_at s run ≡ Some place
     → place_at (happens operations s o.starved o.event).state run ≡ Some place
 
--- a turn of a run takes the first of its turns
+-- a turn of a run takes the first of its turns: those after it are left, and where it ends the run nothing is
 abbrev pub TurnTakesFirst : Type 0
 TurnTakesFirst =
     (s : State) (run : ℕ) (place : Place) (turn : Turn) (later : List Turn)
-    → place_at s run ≡ Some place → place.turns ≡ turn ∷ later → turn.ending ≡ None
-    → place_at (turned s run).state run ≡ Some (record place { turns = later })
+    → place_at s run ≡ Some place → place.turns ≡ turn ∷ later
+    → place_at (turned s run).state run ≡ place_left place later turn.ending
 
 -- what is kept for an active run: the blocks of its source, its program, and the shape of the namespace
 pub record KeepsFor (place : Place) (s t : State) : Type 0 where
@@ -140,9 +141,10 @@ pub record RoomIn (capacity : ℕ) (zone : ZoneBlocks) (turns : List Turn) : Typ
   pub room : length zone.blocks + length (appended_by turns) ≤ capacity
   pub opened : (is_open zone.state ≡ true) ⊎ (length zone.blocks ≡ capacity)
 
--- a turn's blocks come to their zone as by a Zone Append that meets no hold, and no check could refuse it
+-- a turn's blocks come to their zone as by a Zone Append that meets no hold, and no check refuses that
 pub record IsAppended (ns : ZonedNamespace) (z : ℕ) (blocks : List (List ℕ)) : Type 0 where
   pub takes : TakesBlocks ns z (bytes_of blocks)
+  pub passes : first_failed (append_checks ns no_holds (z * ns.size) (length blocks) (bytes_of blocks)) ≡ None
   pub effect : added ns z blocks ≡ (append_effect ns no_holds (z * ns.size) (bytes_of blocks)).namespace
 
 -- in each state that events leave, the namespace is sound, what is left of each run fits, and what its next

@@ -25,7 +25,7 @@ use Rattle.pushdown.specs.Happenings.{commanded, happens}
 use Rattle.pushdown.specs.Outcome.{Turn, appended_by}
 use Rattle.pushdown.specs.Pushdown.{IsAdmitted, blocks_at, done, next, place, runs}
 use Rattle.pushdown.specs.Reached.{IsReached}
-use Rattle.pushdown.specs.State.{State, holds_of}
+use Rattle.pushdown.specs.State.{State, holds_at}
 use Rattle.device_events.specs.declared.event.Event.{Event}
 use Rattle.device_events.specs.declared.event.Event.TheVariants as event
 
@@ -55,11 +55,11 @@ module _ {D : Type 0} (operations : Operations D) where
   BlocksAreRead s lba (block ∷ blocks) = ReadsGive s lba 1 block × BlocksAreRead s (lba + 1) blocks
 
   -- after none of the events is the zone Empty or Offline, so that nothing of what was written is left
-  abbrev pub NoneClears : ℕ → List Occurrence → State → Type 0
-  NoneClears z [] s = Unit {0}
-  NoneClears z (o ∷ os) s =
+  abbrev pub NoEventClears : ℕ → List Occurrence → State → Type 0
+  NoEventClears z [] s = Unit {0}
+  NoEventClears z (o ∷ os) s =
       let next = (happens operations s o.starved o.event).state in
-      (is_cleared (zone_at next.namespace z).state ≡ false) × NoneClears z os next
+      (is_cleared (zone_at next.namespace z).state ≡ false) × NoEventClears z os next
 
   -- an admitted Run, the events between it and a turn of it, and events after that turn
   module _ (s : State) (queue : ℕ) (entry : List ℕ) (input : Vec ℕ Global) (starved : Bool) (order : RunCommand) (run : ℕ)
@@ -101,7 +101,7 @@ module _ {D : Type 0} (operations : Operations D) where
     -- until the destination is reset, goes offline or is lost
     abbrev pub IsReadBack : Type 0
     IsReadBack =
-        before < length turns → NoneClears destination later after_turn
+        before < length turns → NoEventClears destination later after_turn
         → AppendedAreRead × (before + 1 ≡ length turns → EmittedAreRead)
 
 -- no event changes the shape of the namespace
@@ -112,7 +112,7 @@ EventsKeepShapes operations =
 -- a zone that isn't cleared keeps its blocks, and perhaps has some behind them
 abbrev pub UnclearedKeepBlocks : {D : Type 0} → Operations D → Type 0
 UnclearedKeepBlocks operations =
-    (s : State) (events : List Occurrence) (z : ℕ) → NoneClears operations z events s
+    (s : State) (events : List Occurrence) (z : ℕ) → NoEventClears operations z events s
     → Grows (blocks_at s z) (blocks_at (state_after operations events s) z)
 
 -- what is written in a zone is read
@@ -128,9 +128,9 @@ abbrev pub AppendsReadBack : {D : Type 0} → Operations D → Type 0
 AppendsReadBack operations =
     (s : State) → IsNamespace s.namespace
     → (o : Occurrence) (lba blocks : ℕ) (input : List ℕ) (events : List Occurrence) → Submits o.event (Append lba blocks) input
-    → let done = meaning s.namespace (holds_of s) (Append lba blocks) input in
+    → let done = meaning s.namespace (holds_at s) (Append lba blocks) input in
     let happening = happens operations s o.starved o.event in
-    done.status ≡ SUCCESS → NoneClears operations (zone_number s.namespace lba) events happening.state
+    done.status ≡ SUCCESS → NoEventClears operations (zone_number s.namespace lba) events happening.state
     → IsCompleted o.event s done happening
     × ReadsGive operations (state_after operations events happening.state) (done.dw0 + done.dw1 * 2 ^ 32) blocks input
 
@@ -139,9 +139,9 @@ abbrev pub WritesReadBack : {D : Type 0} → Operations D → Type 0
 WritesReadBack operations =
     (s : State) → IsNamespace s.namespace
     → (o : Occurrence) (lba blocks : ℕ) (input : List ℕ) (events : List Occurrence) → Submits o.event (Write lba blocks) input
-    → let done = meaning s.namespace (holds_of s) (Write lba blocks) input in
+    → let done = meaning s.namespace (holds_at s) (Write lba blocks) input in
     let happening = happens operations s o.starved o.event in
-    done.status ≡ SUCCESS → NoneClears operations (zone_number s.namespace lba) events happening.state
+    done.status ≡ SUCCESS → NoEventClears operations (zone_number s.namespace lba) events happening.state
     → IsCompleted o.event s done happening × ReadsGive operations (state_after operations events happening.state) lba blocks input
 
 -- the same of what a run appends, in each state that events leave: after each of its turns what it has

@@ -49,8 +49,8 @@ destination_of None = None
 destination_of (Some place) = Some place.destination
 
 -- the zones that the active runs read from and append to
-abbrev pub holds_of : State → Holds
-holds_of s = record { sources = map source_of s.places; destinations = map destination_of s.places }
+abbrev pub holds_at : State → Holds
+holds_at s = record { sources = map source_of s.places; destinations = map destination_of s.places }
 
 abbrev pub uses : ℕ → Option Place → Bool
 uses slot None = false

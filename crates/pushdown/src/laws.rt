@@ -27,7 +27,7 @@ pub fn outcomes_are_packed()
 {}
 
 /// The reply to an entry is Pending exactly where a Run is admitted. Every event that is no turn of it
-/// leaves its turns as they are, and each turn of it takes the first.
+/// leaves its turns as they are, and each turn of it takes the first; its last one leaves its place empty.
 pub fn turns_are_fixed_at_admission<D: Domain>()
     ensures starts { AdmittedStarts D.operations }
     ensures admitted { PendingIsAdmitted D.operations }
@@ -55,8 +55,8 @@ pub fn events_lead_on<D: Domain>()
 {}
 
 /// In each state that events leave, the namespace is sound, and what is left of each run fits into its
-/// destination, which is open as long as it isn't filled: no append of a turn can be refused, and it is as a
-/// Zone Append that meets no hold.
+/// destination, which is open as long as it isn't filled: a turn's blocks come there as by a Zone Append that
+/// meets no hold, and no check refuses that.
 pub fn appends_fit<D: Domain>()
     ensures { StatesAreSound D.operations }
 {}
@@ -131,8 +131,9 @@ pub fn appended_by_runs_reads_back<D: Domain>()
     ensures { RunsReadBack D.operations }
 {}
 
-/// In each state that events leave, turns come to the same in any order: the same namespace, runs, programs
-/// and replies to each run, and in each slot that no two runs share also the same result.
+/// In each state that events leave, turns come to the same in any order, but for the result of a slot that two
+/// of their runs share: the same namespace, runs, programs and replies to each run, and in every other slot the
+/// same result.
 pub fn turns_in_any_order<D: Domain>()
     ensures { TurnsInAnyOrder D.operations }
 {}
@@ -140,9 +141,9 @@ pub fn turns_in_any_order<D: Domain>()
 /// The pushdown theorem, for every domain: in each state that events leave, whatever Run is admitted there, and
 /// whatever events follow, no turn traps; each takes at most as many steps as the program has instructions;
 /// each changes no zone but its destination, and that one by blocks at its end, as a Zone Append does that meets
-/// no hold, leaves other runs' places and other slots, and reads nothing but source blocks; the appended blocks,
-/// the completion, and what a turn leaves at the run's place and in the slots are those that are fixed at
-/// admission; and the numbers of frames and of blocks that the completion tells fit into its 32 bits.
+/// no hold (law `appends_fit`), leaves other runs' places and other slots, and reads nothing but source blocks;
+/// the appended blocks, the completion, and what a turn leaves at the run's place and in the slots are those that
+/// are fixed at admission; and the numbers of frames and of blocks that the completion tells fit into its 32 bits.
 pub fn pushdown<D: Domain>()
     ensures { Pushdown D.operations }
 {}

@@ -4,7 +4,7 @@ use Rattle.image_store.specs.declared.geometry.ZoneBlock.{ZoneBlock}
 use Rattle.image_store.specs.Namespace.{ZonedNamespace}
 use Rattle.zns_commands.specs.Address.{zone_number}
 use Rattle.pushdown.specs.Admission.{Loaded}
-use Rattle.pushdown.specs.State.{destination_of, holds_of, source_of}
+use Rattle.pushdown.specs.State.{destination_of, holds_at, source_of}
 use Rattle.pushdown.specs.View.{seen}
 use Rattle.runner.specs.DeviceState.{loaded_slot, running, device_state}
 use Rattle.runner.specs.steps.ActiveRuns.{destination_held, held_by, source_held}
@@ -32,7 +32,7 @@ module _ (ns : ZonedNamespace) (slots : List (Option Loaded)) where
       ∙ ap (λ (held : List (Option ℕ)). Some (zone_number ns a.order.destination) ∷ held) (destinations_are runs (λ k. fit (suc k)))
 
 pub holds_are : (ns : ZonedNamespace) (slots : List (Option LoadedProgram)) (runs : List (Option ActiveRun)) → IsReady ns slots runs
-    → held_by runs ≡ holds_of (device_state ns slots runs)
+    → held_by runs ≡ holds_at (device_state ns slots runs)
 holds_are ns slots runs ready =
     let fit : AllFit ns runs = λ k a at. (ready.running k a at).fits in
     let seen_slots = map loaded_slot slots in

@@ -6,7 +6,7 @@ use Rattle.nvme_entry.specs.Entry.{decoded}
 use Rattle.interval_domain.specs.Intervals.{intervals}
 use Rattle.pushdown.specs.EventReplies.{Happening, Submission}
 use Rattle.device_events.specs.Replies.{ReplyWithData}
-use Rattle.pushdown.specs.Events.{HasBytes, HasHappened, Occurrence}
+use Rattle.pushdown.specs.Events.{CarriesBytes, HasHappened, Occurrence}
 use Rattle.pushdown.specs.Happenings.{happens, submitted}
 use Rattle.pushdown.specs.State.{State}
 use Rattle.device_events.specs.declared.event.Event.{Event}
@@ -16,12 +16,12 @@ use Rattle.runner.specs.steps.Answered.{HasSubmitted}
 use Rattle.pushdown.specs.Reached.{IsReached}
 
 -- one more event leaves a state that events leave
-pub reached_more : (s t : State) (o : Occurrence) → IsReached intervals s → HasBytes o.event → t ≡ (happens intervals s o.starved o.event).state → IsReached intervals t
+pub reached_more : (s t : State) (o : Occurrence) → IsReached intervals s → CarriesBytes o.event → t ≡ (happens intervals s o.starved o.event).state → IsReached intervals t
 reached_more s t o reached has step = subst (IsReached intervals) (sym step) (events_keep_reached intervals s (o ∷ []) reached (has, tt))
 
 -- ---- one event
 
-pub reached_by : (e : Event) (old new : State) (reply : ReplyWithData) → IsReached intervals old → HasBytes e → HasHappened intervals e old new reply → IsReached intervals new
+pub reached_by : (e : Event) (old new : State) (reply : ReplyWithData) → IsReached intervals old → CarriesBytes e → HasHappened intervals e old new reply → IsReached intervals new
 reached_by e old new reply reached has happened =
     let o : Occurrence = record { event = e; starved = happened.starved } in reached_more old new o reached has happened.state
 

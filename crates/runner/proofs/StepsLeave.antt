@@ -16,7 +16,7 @@ use Rattle.zns_commands.specs.declared.answer.Answer.{Answer}
 use Rattle.zns_commands.proofs.Proved.{sources_keep_blocks, events_keep_shapes}
 use Rattle.pushdown.specs.EventReplies.{Submission}
 use Rattle.pushdown.specs.Happenings.{commanded, failed}
-use Rattle.pushdown.specs.State.{Place, holds_of as places_hold, with_namespace}
+use Rattle.pushdown.specs.State.{Place, holds_at, with_namespace}
 use Rattle.zone_resources.proofs.Proved.{users_name_zones}
 use Rattle.runner.specs.steps.Answered.{answered}
 use Rattle.runner.specs.DeviceState.{loaded_slot, device_state}
@@ -93,7 +93,7 @@ pub command_leaves : (ns new : ZonedNamespace) (slots : List (Option LoadedProgr
     (input bytes : List ℕ) (answer : Answer) → IsReady ns slots runs → holds ≡ held_by runs
     → effect_of_answer answer new bytes ≡ meaning ns holds command input
     → IsReady new slots runs
-    × ((sub : Submission) → commanded sub (device_state ns slots runs) (meaning ns (places_hold (device_state ns slots runs)) command input)
+    × ((sub : Submission) → commanded sub (device_state ns slots runs) (meaning ns (holds_at (device_state ns slots runs)) command input)
     ≡ answered sub answer bytes (device_state new slots runs))
 command_leaves ns new slots runs holds command input bytes answer ready heeds is =
     let s = device_state ns slots runs in

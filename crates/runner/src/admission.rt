@@ -93,7 +93,10 @@ fn admit(
 }
 
 /// Where a run reads and appends: its first source block, and its destination.
-fn source_and_destination(namespace: &Namespace, order: &RunCommand) -> Result<(ZoneBlock, u32), Status>
+fn source_and_destination(
+    namespace: &Namespace,
+    order: &RunCommand,
+) -> Result<(ZoneBlock, u32), Status>
     ensures why { why_not result ≡ first_failed (address_checks namespace.now order.now) }
     ensures places { IfOk result (λ found. ArePlaces namespace.now order.now found.0 found.1) }
 {

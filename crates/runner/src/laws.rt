@@ -48,7 +48,7 @@ pub fn emitted_records_read_back()
 /// The pushdown theorem holds of each Run that a device admits: no turn traps, each takes at most as many
 /// steps as the program has instructions, a turn changes its destination alone, by blocks at its end, and
 /// the appended blocks and the completion are those that are fixed at admission. Turns come to the same in
-/// any order.
+/// any order, but for the result of a slot that two of their runs share.
 pub fn runs_are_pushed_down()
     ensures theorem { Pushdown intervals }
     ensures order { TurnsInAnyOrder intervals }

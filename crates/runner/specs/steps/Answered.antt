@@ -13,7 +13,7 @@ use Rattle.zns_commands.specs.declared.answer.Answer.{Answer}
 use Rattle.pushdown.specs.EventReplies.{Happening, Submission, completed, completion_reply, plain, refused}
 use Rattle.device_events.specs.Replies.{ReplyWithData}
 use Rattle.pushdown.specs.Happenings.{commanded, giving_result, loading, starting, submitted}
-use Rattle.pushdown.specs.State.{State, holds_of}
+use Rattle.pushdown.specs.State.{State, holds_at}
 use Rattle.device_events.specs.declared.reply.Reply.{Reply}
 use Rattle.device_events.specs.declared.reply.Reply.TheVariants as reply
 use Rattle.runner.specs.DeviceState.{device_state}
@@ -42,7 +42,7 @@ pub record HasExecuted (asked : StandardCommand) (input : List ℕ) (ns later : 
   pub happening : (queue : ℕ) (entry : List ℕ)
       → let sub : Submission = record { queue = queue; entry = entry; input = input } in
       let s = device_state ns slots runs in
-      commanded sub s (meaning ns (holds_of s) asked input) ≡ answered sub answer bytes (device_state later slots runs)
+      commanded sub s (meaning ns (holds_at s) asked input) ≡ answered sub answer bytes (device_state later slots runs)
 
 -- a Load of these bytes was answered so, whatever its queue and its entry, and led from one state to the
 -- other; memory may have been refused to it

@@ -3,7 +3,7 @@ use Rattle.program_interface.specs.Bytes.{AreBytes}
 use Rattle.interval_domain.specs.Intervals.{intervals}
 use Rattle.pushdown.specs.EventReplies.{Submission}
 use Rattle.device_events.specs.Replies.{ReplyWithData, data_length}
-use Rattle.pushdown.specs.Events.{HasBytes, HasHappened}
+use Rattle.pushdown.specs.Events.{CarriesBytes, HasHappened}
 use Rattle.pushdown.specs.State.{State}
 use Rattle.device_events.specs.declared.event.Event.{Event}
 use Rattle.device_events.specs.declared.event.Event.TheVariants as event
@@ -52,4 +52,4 @@ returns-in-Submit-clause-happened c =
     (subst (λ (s : State). HasHappened intervals (event.Submit e.queue e.entry e.input) s new reply) c.self.view_is happened)
 
 pub returns-in-Submit-clause-carried : goal.returns-in-Submit-clause-carried
-returns-in-Submit-clause-carried c = subst HasBytes (sym c.in-Submit.is) (subst AreBytes c.as_slice.ensures.value c.new-submission.ensures.bytes)
+returns-in-Submit-clause-carried c = subst CarriesBytes (sym c.in-Submit.is) (subst AreBytes c.as_slice.ensures.value c.new-submission.ensures.bytes)

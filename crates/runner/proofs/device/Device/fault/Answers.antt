@@ -2,7 +2,7 @@ use Rattle.std.proofs.Common.{false, ap, sym, ◌∙◌}
 use Rattle.zone_resources.specs.declared.holds.Holds.{Holds}
 use Rattle.zns_commands.specs.Fault.{fault_answer}
 use Rattle.pushdown.specs.Happenings.{failed, fault_reply}
-use Rattle.pushdown.specs.State.{State, holds_of}
+use Rattle.pushdown.specs.State.{State, holds_at}
 use Rattle.device_events.specs.declared.event.Event.TheVariants as event
 use Rattle.runner.specs.DeviceState.{device_state}
 use Rattle.runner.proofs.Holding.{holds_are}
@@ -26,7 +26,7 @@ returns-clause-reply c =
     let d = c.self.inside in
     let answer = c.fault.ensures.answer
     ∙ ap (λ (h : Holds). fault_answer d.namespace h c.args.zone c.args.state) (c.holds.ensures ∙ holds_are d.namespace d.slots d.runs c.self.invariant.ready)
-    ∙ ap (λ (s : State). fault_answer s.namespace (holds_of s) c.args.zone c.args.state) c.self.view_is in
+    ∙ ap (λ (s : State). fault_answer s.namespace (holds_at s) c.args.zone c.args.state) c.self.view_is in
     elim c.match-fault.branch [
       | in-Ok w ↦ w.result-is ∙ ap fault_reply (sym w.in-Ok.is ∙ answer)
       | in-Err w ↦ w.result-is ∙ ap fault_reply (sym w.in-Err.is ∙ answer)
