@@ -18,7 +18,7 @@ use Rattle.runner.specs.declared.device.Stopped.{Stopped}
 use Rattle.event_text.specs.CommandFile.{events_in, told_of}
 use Rattle.event_text.specs.Lines.{line_of}
 use Rattle.command_files.specs.Made.{Made, then_made}
-use Rattle.command_exec.specs.Saved.{AreInFiles, Executes, ExecutesFirst, HasBegun, HasPrinted, InEvents, InTurns, PrintsAll, PrintsReplies, SavesAll, SavesFirst, Untold}
+use Rattle.command_exec.specs.Saved.{AreInFiles, Executes, ExecutesFirst, HasBegun, HasPrinted, InEvents, InTurns, SavesAll, SavesFirst, Untold}
 
 pub on_err : {T E fact : Type 0} (result : Result T E) → fact → OnErr result fact
 on_err (Ok value) holds = tt
@@ -91,22 +91,17 @@ prints_all events image old left held before holds after begins first last finis
     (subst (λ (bytes : Option (List ℕ)). HasFinished intervals events old left (HasPrinted bytes after)) first
     (subst (λ (bytes : Option (List ℕ)). HasFinished intervals events old left (HasPrinted held bytes)) last finished))
 
-pub prints_replies : {T E : Type 0} (result : Result T E) (events : List Event) (image : ZonedNamespace) (before after : Option (List ℕ))
-    → OnOk result (PrintsAll events image before after) → OnOk result (PrintsReplies before after)
-prints_replies (Ok done) events image before after prints = record { events = events; image = image; prints = prints }
-prints_replies (Err error) events image before after prints = tt
-
 -- the image is saved that a device shows
-module _ (events : List Event) (image shown : ZonedNamespace) (path : List ℕ) (before after : Option (List Made)) (left : State)
-    (made : after ≡ then_made before path (text shown)) (shows : shown ≡ left.namespace) where
-  meant : after ≡ then_made before path (text left.namespace)
-  meant = subst (λ (ns : ZonedNamespace). after ≡ then_made before path (text ns)) shows made
+module _ (writes : Type 0) (events : List Event) (image shown : ZonedNamespace) (path : List ℕ) (before after : Option (List Made)) (left : State)
+    (made : writes → after ≡ then_made before path (text shown)) (shows : shown ≡ left.namespace) where
+  meant : writes → after ≡ then_made before path (text left.namespace)
+  meant write = subst (λ (ns : ZonedNamespace). after ≡ then_made before path (text ns)) shows (made write)
 
   pub saves_all : (printed printed_after : Option (List ℕ)) → HasFinished intervals events (new_state image) left (HasPrinted printed printed_after)
-      → SavesAll events image path before after printed printed_after
-  saves_all printed printed_after finished = record { prints = record { left = left; finished = finished }; made = meant }
+      → SavesAll writes events image path before after printed printed_after
+  saves_all printed printed_after finished = record { left = left; finished = finished; made = meant }
 
-  pub saves_first : (old : State) → old ≡ new_state image → HasBegun events old left → SavesFirst events image path before after
+  pub saves_first : (old : State) → old ≡ new_state image → HasBegun events old left → SavesFirst writes events image path before after
   saves_first old begins begun = record {
     left = left;
     begun = subst (λ (s : State). HasBegun events s left) begins begun;
@@ -121,39 +116,39 @@ tells_events (Some bytes) file events is tells = ap events_in (sym is) ∙ tells
 
 -- an image was loaded, and then a command file was read, of the files that the command line names; the contents of files
 -- stayed the same, and no file was made
-module _ (contents then : List ℕ → Option (List ℕ)) (path named commands named_commands file slice : List ℕ) (image : ZonedNamespace) (events : List Event)
+module _ (reads writes : Type 0) (contents then : List ℕ → Option (List ℕ)) (path named commands named_commands file slice : List ℕ) (image : ZonedNamespace) (events : List Event)
     (before loaded after : Option (List Made)) (same : then ≡ contents) (is_named : path ≡ named) (are_named : commands ≡ named_commands) (kept : loaded ≡ before)
     (file_is : IfSome (then commands) (λ bytes. file ≡ bytes)) (slice_is : slice ≡ file) (events_are : events_in slice ≡ Ok (map told_of events)) where
-  in_both : IfSome (contents path) (λ bytes. namespace_in bytes ≡ Ok image) → AreInFiles contents named named_commands image events
+  in_both : (reads → IfSome (contents path) (λ bytes. namespace_in bytes ≡ Ok image)) → AreInFiles reads contents named named_commands image events
   in_both image_is = record {
-    image_is = subst (λ (p : List ℕ). IfSome (contents p) (λ bytes. namespace_in bytes ≡ Ok image)) is_named image_is;
+    image_is = λ read. subst (λ (p : List ℕ). IfSome (contents p) (λ bytes. namespace_in bytes ≡ Ok image)) is_named (image_is read);
     events_are = tells_events (contents named_commands) file events
         (subst (λ (c : List ℕ). IfSome (contents c) (λ bytes. file ≡ bytes)) are_named
         (subst (λ (c : List ℕ → Option (List ℕ)). IfSome (c commands) (λ bytes. file ≡ bytes)) same file_is)) (ap events_in (sym slice_is) ∙ events_are);
   }
 
   -- what `run` does of them is what the command does of the files
-  pub executes : {T E : Type 0} (reads makes : Type 0) (given : List Event) (printed printed_after : Option (List ℕ)) (result : Result T E)
+  pub executes : {T E : Type 0} (given : List Event) (printed printed_after : Option (List ℕ)) (result : Result T E)
       → (reads → IfSome (contents path) (λ bytes. namespace_in bytes ≡ Ok image))
-      → OnOk result (makes → SavesAll given image path loaded after printed printed_after) → given ≡ events
-      → OnOk result (reads → makes → Executes contents named named_commands before after printed printed_after)
-  executes reads makes given printed printed_after (Err error) image_is saves are = tt
-  executes reads makes given printed printed_after (Ok done) image_is saves are = λ read make. record {
+      → OnOk result (SavesAll writes given image path loaded after printed printed_after) → given ≡ events
+      → OnOk result (Executes reads writes contents named named_commands before after printed printed_after)
+  executes given printed printed_after (Err error) image_is saves are = tt
+  executes given printed printed_after (Ok done) image_is saves are = record {
     image = image;
     events = events;
-    in_files = in_both (image_is read);
-    saves = subst (λ (p : List ℕ). SavesAll events image p before after printed printed_after) is_named
-        (subst (λ (made : Option (List Made)). SavesAll events image path made after printed printed_after) kept
-        (subst (λ (list : List Event). SavesAll list image path loaded after printed printed_after) are (saves make)));
+    in_files = in_both image_is;
+    saves = subst (λ (p : List ℕ). SavesAll writes events image p before after printed printed_after) is_named
+        (subst (λ (made : Option (List Made)). SavesAll writes events image path made after printed printed_after) kept
+        (subst (λ (list : List Event). SavesAll writes list image path loaded after printed printed_after) are saves));
   }
 
-  pub executes_first : (given : List Event) → IfSome (contents path) (λ bytes. namespace_in bytes ≡ Ok image)
-      → SavesFirst given image path loaded after → given ≡ events → ExecutesFirst contents named named_commands before after
+  pub executes_first : (given : List Event) → (reads → IfSome (contents path) (λ bytes. namespace_in bytes ≡ Ok image))
+      → SavesFirst writes given image path loaded after → given ≡ events → ExecutesFirst reads writes contents named named_commands before after
   executes_first given image_is saves are = record {
     image = image;
     events = events;
     in_files = in_both image_is;
-    saves = subst (λ (p : List ℕ). SavesFirst events image p before after) is_named
-        (subst (λ (made : Option (List Made)). SavesFirst events image path made after) kept
-        (subst (λ (list : List Event). SavesFirst list image path loaded after) are saves));
+    saves = subst (λ (p : List ℕ). SavesFirst writes events image p before after) is_named
+        (subst (λ (made : Option (List Made)). SavesFirst writes events image path made after) kept
+        (subst (λ (list : List Event). SavesFirst writes list image path loaded after) are saves));
   }

@@ -30,44 +30,36 @@ pub data HasBegun (events : List Event) (old new : State) : Type 0 where
   InTurns : (between : State) (done : ℕ) (served : HasServed intervals events old between Untold)
       (stopped : StopsDraining between new Untold done) → HasBegun events old new
 
--- the events are done on an image, and the turns behind them, and the line of each reply is printed
-pub record PrintsAll (events : List Event) (image : ZonedNamespace) (before after : Option (List ℕ)) : Type 0 where
+-- the events are done on an image, and the turns behind them, the line of each reply is printed, and the file is made
+-- anew of the image that is left, where what is written of it is told
+pub record SavesAll (writes : Type 0) (events : List Event) (image : ZonedNamespace) (path : List ℕ) (before after : Option (List Made)) (printed printed_after : Option (List ℕ)) : Type 0 where
   pub left : State
-  pub finished : HasFinished intervals events (new_state image) left (HasPrinted before after)
+  pub finished : HasFinished intervals events (new_state image) left (HasPrinted printed printed_after)
+  pub made : writes → after ≡ then_made before path (text left.namespace)
 
--- what is printed are the lines of the replies to some events on some image, and to the turns behind them
-pub record PrintsReplies (before after : Option (List ℕ)) : Type 0 where
-  pub events : List Event
-  pub image : ZonedNamespace
-  pub prints : PrintsAll events image before after
-
--- that is done and printed, and the file is made anew of the image that it leaves
-pub record SavesAll (events : List Event) (image : ZonedNamespace) (path : List ℕ) (before after : Option (List Made)) (printed printed_after : Option (List ℕ)) : Type 0 where
-  pub prints : PrintsAll events image printed printed_after
-  pub made : after ≡ then_made before path (text prints.left.namespace)
-
--- the file is made anew of the image that the first of these leave. How many is not said: standard
+-- the file is made anew of the image that the first of these leave, where that is told. How many is not said: standard
 -- output doesn't tell what it took
-pub record SavesFirst (events : List Event) (image : ZonedNamespace) (path : List ℕ) (before after : Option (List Made)) : Type 0 where
+pub record SavesFirst (writes : Type 0) (events : List Event) (image : ZonedNamespace) (path : List ℕ) (before after : Option (List Made)) : Type 0 where
   pub left : State
   pub begun : HasBegun events (new_state image) left
-  pub made : after ≡ then_made before path (text left.namespace)
+  pub made : writes → after ≡ then_made before path (text left.namespace)
 
--- the image file holds an image and the command file some events, where their bytes are told
-pub record AreInFiles (contents : List ℕ → Option (List ℕ)) (path commands : List ℕ) (image : ZonedNamespace) (events : List Event) : Type 0 where
-  pub image_is : IfSome (contents path) (λ bytes. namespace_in bytes ≡ Ok image)
+-- the image file holds an image, where its bytes and what is read of it are told, and the command file some events, where
+-- its bytes are
+pub record AreInFiles (reads : Type 0) (contents : List ℕ → Option (List ℕ)) (path commands : List ℕ) (image : ZonedNamespace) (events : List Event) : Type 0 where
+  pub image_is : reads → IfSome (contents path) (λ bytes. namespace_in bytes ≡ Ok image)
   pub events_are : IfSome (contents commands) (λ bytes. events_in bytes ≡ Ok (map told_of events))
 
 -- the events that the command file holds are done on the image that the image file holds
-pub record Executes (contents : List ℕ → Option (List ℕ)) (path commands : List ℕ) (before after : Option (List Made)) (printed printed_after : Option (List ℕ)) : Type 0 where
+pub record Executes (reads writes : Type 0) (contents : List ℕ → Option (List ℕ)) (path commands : List ℕ) (before after : Option (List Made)) (printed printed_after : Option (List ℕ)) : Type 0 where
   pub image : ZonedNamespace
   pub events : List Event
-  pub in_files : AreInFiles contents path commands image events
-  pub saves : SavesAll events image path before after printed printed_after
+  pub in_files : AreInFiles reads contents path commands image events
+  pub saves : SavesAll writes events image path before after printed printed_after
 
 -- the first of them are
-pub record ExecutesFirst (contents : List ℕ → Option (List ℕ)) (path commands : List ℕ) (before after : Option (List Made)) : Type 0 where
+pub record ExecutesFirst (reads writes : Type 0) (contents : List ℕ → Option (List ℕ)) (path commands : List ℕ) (before after : Option (List Made)) : Type 0 where
   pub image : ZonedNamespace
   pub events : List Event
-  pub in_files : AreInFiles contents path commands image events
-  pub saves : SavesFirst events image path before after
+  pub in_files : AreInFiles reads contents path commands image events
+  pub saves : SavesFirst writes events image path before after

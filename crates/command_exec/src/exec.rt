@@ -5,7 +5,7 @@ ghost use Rattle.interval_domain.specs.Intervals.{intervals};
 ghost use Rattle.pushdown.specs.Parts.{HasFinished};
 ghost use Rattle.command_files.specs.Arguments.{value_of};
 ghost use Rattle.command_files.specs.Made.{MakesOne};
-ghost use Rattle.command_exec.specs.Saved.{Executes, ExecutesFirst, HasBegun, HasPrinted, PrintsAll, PrintsReplies, SavesAll, SavesFirst};
+ghost use Rattle.command_exec.specs.Saved.{Executes, ExecutesFirst, HasBegun, HasPrinted, SavesAll, SavesFirst};
 
 use clap::{Arg, ArgMatches, Command};
 use command_failure::Failure;
@@ -91,11 +91,10 @@ pub fn exec<'a, F: Files, O: Write>(
     files: &mut F,
     out: &mut O,
 ) -> Result<(), Failure<'a>>
-    ensures executed { OnOk result (F.Reader.tells → F.Writer.tells → Executes (F.contents files.old) (value_of matches.now IMAGE.now) (value_of matches.now COMMANDS.now) (F.made files.old) (F.made files.new) (O.contents out.old) (O.contents out.new)) }
-    ensures stopped { result ≡ Err Failure.CannotPrint → F.Reader.tells → F.Writer.tells → ExecutesFirst (F.contents files.old) (value_of matches.now IMAGE.now) (value_of matches.now COMMANDS.now) (F.made files.old) (F.made files.new) }
-    ensures printed { OnOk result (PrintsReplies (O.contents out.old) (O.contents out.new)) }
-    ensures made { OnOk result (MakesOne (F.made files.old) (F.made files.new)) }
-    ensures one { result ≡ Err Failure.CannotPrint → MakesOne (F.made files.old) (F.made files.new) }
+    ensures executed { OnOk result (Executes F.Reader.tells F.Writer.tells (F.contents files.old) (value_of matches.now IMAGE.now) (value_of matches.now COMMANDS.now) (F.made files.old) (F.made files.new) (O.contents out.old) (O.contents out.new)) }
+    ensures stopped { result ≡ Err Failure.CannotPrint → ExecutesFirst F.Reader.tells F.Writer.tells (F.contents files.old) (value_of matches.now IMAGE.now) (value_of matches.now COMMANDS.now) (F.made files.old) (F.made files.new) }
+    ensures made { OnOk result (MakesOne (value_of matches.now IMAGE.now) (F.made files.old) (F.made files.new)) }
+    ensures one { result ≡ Err Failure.CannotPrint → MakesOne (value_of matches.now IMAGE.now) (F.made files.old) (F.made files.new) }
     ensures kept { IfErr result (λ failure. failure ≢ Failure.CannotPrint → F.made files.new ≡ F.made files.old) }
 {
     let path = required(matches, IMAGE);
@@ -121,11 +120,10 @@ fn run<'a, F: Files, O: Write>(
     files: &mut F,
     out: &mut O,
 ) -> Result<(), Failure<'a>>
-    ensures printed { OnOk result (PrintsAll events.now image (O.contents out.old) (O.contents out.new)) }
-    ensures saved { OnOk result (F.Writer.tells → SavesAll events.now image path.now (F.made files.old) (F.made files.new) (O.contents out.old) (O.contents out.new)) }
-    ensures stopped { result ≡ Err Failure.CannotPrint → F.Writer.tells → SavesFirst events.now image path.now (F.made files.old) (F.made files.new) }
-    ensures made { OnOk result (MakesOne (F.made files.old) (F.made files.new)) }
-    ensures one { result ≡ Err Failure.CannotPrint → MakesOne (F.made files.old) (F.made files.new) }
+    ensures saved { OnOk result (SavesAll F.Writer.tells events.now image path.now (F.made files.old) (F.made files.new) (O.contents out.old) (O.contents out.new)) }
+    ensures stopped { result ≡ Err Failure.CannotPrint → SavesFirst F.Writer.tells events.now image path.now (F.made files.old) (F.made files.new) }
+    ensures made { OnOk result (MakesOne path.now (F.made files.old) (F.made files.new)) }
+    ensures one { result ≡ Err Failure.CannotPrint → MakesOne path.now (F.made files.old) (F.made files.new) }
     ensures kept { IfErr result (λ failure. failure ≢ Failure.CannotPrint → F.made files.new ≡ F.made files.old) }
 {
     let mut lines = Lines::new(alloc, out)?;

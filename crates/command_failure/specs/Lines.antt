@@ -36,13 +36,19 @@ abbrev pub range_text : List ℕ → List ℕ → ℕ → ℕ → Text
 range_text option word least most =
     line (codes "error: '" ++ word ++ codes "' for --" ++ option ++ codes " is not a number from " ++ decimal least ++ codes " to " ++ decimal most)
 
+-- a line of a file: what stands in front of why it is refused, and the line for programs
+abbrev pub line_front : List ℕ → ℕ → List ℕ
+line_front path number = path ++ codes ", line " ++ decimal number ++ codes ": "
+
+abbrev pub line_behind : ℕ → List ℕ
+line_behind number = codes "line " ++ decimal number ++ codes " refused"
+
 -- what is refused, by the file's name and the line or the refusal
 abbrev pub at_line : List ℕ → ℕ → List ℕ → List ℕ
-at_line path number words =
-    path ++ codes ", line " ++ decimal number ++ codes ": " ++ words ++ 10 ∷ (codes "line " ++ decimal number ++ codes " refused") ++ 10 ∷ []
+at_line path number words = line_front path number ++ words ++ 10 ∷ line_behind number ++ 10 ∷ []
 
 abbrev pub line_text : List ℕ → ℕ → Text
-line_text path number = sentence (path ++ codes ", line " ++ decimal number ++ codes ": ") (codes "line " ++ decimal number ++ codes " refused")
+line_text path number = sentence (line_front path number) (line_behind number)
 
 abbrev pub reply_text : List ℕ → ℕ → Text
 reply_text path number = Said (at_line path number (codes "not one that `exec` prints"))

@@ -2,7 +2,7 @@
 
 ghost use Rattle.std.specs.Prelude.{◌++◌, ◌∷◌, [], codes, decimal, IfSome, OnOk};
 ghost use Rattle.std.specs.Io.KnownBytes.{Appends};
-ghost use Rattle.command_failure.specs.Lines.{IsPrinted, assembly_text, at_line, data_text, frame_text, geometry_text, image_text, line, line_text, program_text, range_text, reply_text, sentence, text_of};
+ghost use Rattle.command_failure.specs.Lines.{IsPrinted, assembly_text, at_line, data_text, frame_text, geometry_text, image_text, line, line_front, line_text, program_text, range_text, reply_text, sentence, text_of};
 
 use crate::data_fault::DataFault;
 use crate::failure::Failure;
@@ -213,7 +213,7 @@ fn print_words<W: Write>(out: &mut W, path: &str, mark: &str, words: &str) -> io
 }
 
 fn print_line_words<W: Write>(out: &mut W, path: &str, number: usize, words: &str) -> io::Result<()>
-    ensures { OnOk result (IsPrinted (line (path.now ++ codes ", line " ++ decimal number ++ codes ": " ++ words.now)) (W.contents out.old) (W.contents out.new)) }
+    ensures { OnOk result (IsPrinted (line (line_front path.now number ++ words.now)) (W.contents out.old) (W.contents out.new)) }
 {
     writeln!(out, "{path}, line {number}: {words}")
 }

@@ -11,11 +11,11 @@ pub record Made : Type 0 where
 abbrev pub then_made : Option (List Made) → List ℕ → List ℕ → Option (List Made)
 then_made before path bytes = option_map (λ files. files ++ record { path = path; bytes = bytes } ∷ []) before
 
--- one file is made
-pub record MakesOne (before after : Option (List Made)) : Type 0 where
-  pub path : List ℕ
+-- one file is made, with this name
+pub record MakesOne (path : List ℕ) (before after : Option (List Made)) : Type 0 where
   pub bytes : List ℕ
   pub made : after ≡ then_made before path bytes
 
+-- none is made, or one with some name
 abbrev pub MakesAtMostOne : Option (List Made) → Option (List Made) → Type 0
-MakesAtMostOne before after = (after ≡ before) ⊎ MakesOne before after
+MakesAtMostOne before after = (after ≡ before) ⊎ ((path : List ℕ) × MakesOne path before after)

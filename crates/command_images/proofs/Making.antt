@@ -40,11 +40,11 @@ pub makes_anew : {T E : Type 0} (reads writes : Type 0) (result : Result T E) (c
     (before loaded after : Option (List Made)) → path ≡ wanted → loaded ≡ before
     → (reads → IfSome (contents path) (λ bytes. namespace_in bytes ≡ Ok image))
     → OnOk result (writes → after ≡ then_made loaded path (text image))
-    → OnOk result (reads → writes → MakesAnew (contents wanted) wanted before after)
+    → OnOk result (writes → MakesAnew reads (contents wanted) wanted before after)
 makes_anew reads writes (Err error) contents image path wanted before loaded after same kept held saved = tt
-makes_anew reads writes (Ok done) contents image path wanted before loaded after same kept held saved = λ read write. record {
+makes_anew reads writes (Ok done) contents image path wanted before loaded after same kept held saved = λ write. record {
   namespace = image;
-  held = subst (λ (p : List ℕ). IfSome (contents p) (λ bytes. namespace_in bytes ≡ Ok image)) same (held read);
+  held = λ read. subst (λ (p : List ℕ). IfSome (contents p) (λ bytes. namespace_in bytes ≡ Ok image)) same (held read);
   made = saved write ∙ ap (λ (made : Option (List Made)). then_made made path (text image)) kept ∙ ap (λ (p : List ℕ). then_made before p (text image)) same;
 }
 

@@ -25,8 +25,8 @@ pub record MakesEmpty (matches : ArgMatches) (path : List ℕ) (before after : O
   pub passes : tested shape ≡ Ok shape
   pub made : after ≡ then_made before path (text (all_empty shape))
 
--- the file is made anew of the namespace that its bytes stand for, where these are told
-pub record MakesAnew (bytes : Option (List ℕ)) (path : List ℕ) (before after : Option (List Made)) : Type 0 where
+-- the file is made anew of a namespace: where its bytes and what is read of it are told, of the one that they stand for
+pub record MakesAnew (reads : Type 0) (bytes : Option (List ℕ)) (path : List ℕ) (before after : Option (List Made)) : Type 0 where
   pub namespace : ZonedNamespace
-  pub held : IfSome bytes (λ bytes. namespace_in bytes ≡ Ok namespace)
+  pub held : reads → IfSome bytes (λ bytes. namespace_in bytes ≡ Ok namespace)
   pub made : after ≡ then_made before path (text namespace)

@@ -99,7 +99,7 @@ pub fn format<'a, F: Files>(
 ) -> Result<(), Failure<'a>>
     ensures empty { OnOk result (F.Writer.tells → MakesEmpty matches.now (value_of matches.now (codes "IMAGE")) (F.made files.old) (F.made files.new)) }
     ensures refused { IfErr result (RefusesShape matches.now) }
-    ensures made { OnOk result (MakesOne (F.made files.old) (F.made files.new)) }
+    ensures made { OnOk result (MakesOne (value_of matches.now (codes "IMAGE")) (F.made files.old) (F.made files.new)) }
     ensures kept { OnErr result (F.made files.new ≡ F.made files.old) }
 {
     let geometry = geometry(matches)?;

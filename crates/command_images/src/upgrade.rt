@@ -57,9 +57,9 @@ pub fn upgrade<'a, F: Files>(
     matches: &ArgMatches<'a>,
     files: &mut F,
 ) -> Result<(), Failure<'a>>
-    ensures same { OnOk result (F.Reader.tells → F.Writer.tells → MakesAnew (F.contents files.old (value_of matches.now (codes "IMAGE"))) (value_of matches.now (codes "IMAGE")) (F.made files.old) (F.made files.new)) }
+    ensures same { OnOk result (F.Writer.tells → MakesAnew F.Reader.tells (F.contents files.old (value_of matches.now (codes "IMAGE"))) (value_of matches.now (codes "IMAGE")) (F.made files.old) (F.made files.new)) }
     ensures refused { F.Reader.tells → IfErr result (λ failure. IfSome (F.contents files.old (value_of matches.now (codes "IMAGE"))) (RefusesImage failure)) }
-    ensures made { OnOk result (MakesOne (F.made files.old) (F.made files.new)) }
+    ensures made { OnOk result (MakesOne (value_of matches.now (codes "IMAGE")) (F.made files.old) (F.made files.new)) }
     ensures kept { OnErr result (F.made files.new ≡ F.made files.old) }
 {
     let path = required(matches, IMAGE);

@@ -72,7 +72,7 @@ pub fn asm<'a, F: Files>(
 ) -> Result<(), Failure<'a>>
     ensures program { OnOk result (IfSome (F.contents files.old (value_of matches.now TEXT.now)) (λ text. MakesProgram (F.made files.old) (F.made files.new) (value_of matches.now PROGRAM.now) (assembled text))) }
     ensures failed { IfErr result (AsmFails (F.contents files.old) (value_of matches.now TEXT.now) (value_of matches.now PROGRAM.now)) }
-    ensures made { OnOk result (MakesOne (F.made files.old) (F.made files.new)) }
+    ensures made { OnOk result (MakesOne (value_of matches.now PROGRAM.now) (F.made files.old) (F.made files.new)) }
     ensures kept { OnErr result (F.made files.new ≡ F.made files.old) }
 {
     let source = required(matches, TEXT);
@@ -96,7 +96,7 @@ fn make<'a, F: Files>(
 ) -> Result<(), Failure<'a>>
     ensures program { OnOk result (MakesProgram (F.made files.old) (F.made files.new) path.now (assembled text.now)) }
     ensures failed { IfErr result (MakesNone source.entry path.entry text.now) }
-    ensures made { OnOk result (MakesOne (F.made files.old) (F.made files.new)) }
+    ensures made { OnOk result (MakesOne path.now (F.made files.old) (F.made files.new)) }
     ensures kept { OnErr result (F.made files.new ≡ F.made files.old) }
 {
     match assemble(alloc, text) {

@@ -4,16 +4,18 @@ use Rattle.command_exec.proofs.exec.exec.Goals as goal
 
 pub returns-in-Ok-clause-executed : goal.returns-in-Ok-clause-executed
 returns-in-Ok-clause-executed g c =
-    executes (g.F.Files.contents c.args.files.now) (g.F.Files.contents c.load.new.files) c.required-path.result.now _ c.required-commands.result.now _
+    executes g.F.Reader.Source.tells g.F.Writer.Sink.tells (g.F.Files.contents c.args.files.now) (g.F.Files.contents c.load.new.files)
+    c.required-path.result.now _ c.required-commands.result.now _
     c.in_ok-file.file.items c.as_slice.result.now c.in_ok-image.image c.in-Ok.events.items
     (g.F.Files.made c.args.files.now) (g.F.Files.made c.read.new.files) (g.F.Files.made c.run.new.files)
     c.load.ensures.contents c.required-path.ensures c.required-commands.ensures (search rules) c.in_ok-file.ensures.bytes c.as_slice.ensures.value c.in-Ok.ensures.events
-    g.F.Reader.Source.tells g.F.Writer.Sink.tells _ _ _ c.run.result c.in_ok-image.ensures.image c.run.ensures.saved (search rules)
+    _ _ _ c.run.result c.in_ok-image.ensures.image c.run.ensures.saved (search rules)
 
 pub returns-in-Ok-clause-stopped : goal.returns-in-Ok-clause-stopped
-returns-in-Ok-clause-stopped g c = λ stops reads makes.
-    executes_first (g.F.Files.contents c.args.files.now) (g.F.Files.contents c.load.new.files) c.required-path.result.now _ c.required-commands.result.now _
+returns-in-Ok-clause-stopped g c = λ stops.
+    executes_first g.F.Reader.Source.tells g.F.Writer.Sink.tells (g.F.Files.contents c.args.files.now) (g.F.Files.contents c.load.new.files)
+    c.required-path.result.now _ c.required-commands.result.now _
     c.in_ok-file.file.items c.as_slice.result.now c.in_ok-image.image c.in-Ok.events.items
     (g.F.Files.made c.args.files.now) (g.F.Files.made c.read.new.files) (g.F.Files.made c.run.new.files)
     c.load.ensures.contents c.required-path.ensures c.required-commands.ensures (search rules) c.in_ok-file.ensures.bytes c.as_slice.ensures.value c.in-Ok.ensures.events
-    _ (c.in_ok-image.ensures.image reads) (c.run.ensures.stopped stops makes) (search rules)
+    _ c.in_ok-image.ensures.image (c.run.ensures.stopped stops) (search rules)

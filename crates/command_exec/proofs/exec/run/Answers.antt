@@ -2,29 +2,18 @@ use Rattle.std.proofs.Common.{ap, sym, ◌∙◌, rules}
 use Rattle.command_exec.proofs.Saving.{prints_all, saves_all, saves_first}
 use Rattle.command_exec.proofs.exec.run.Goals as goal
 
-pub returns-in-Ok-clause-printed : goal.returns-in-Ok-clause-printed
-returns-in-Ok-clause-printed g c =
-    let contents = g.O.Write.contents in
-    let writer = c.into_writer-out.ensures.same_writer ∙ c.serve_and_drain-done.ensures.same_writer ∙ c.in_ok-lines.ensures.same_writer.0 in
-    record {
-      left = c.serve_and_drain-done.new.device;
-      finished = prints_all c.args.events.now c.args.image c.new-device.result c.serve_and_drain-done.new.device
-          (contents c.in_ok-lines.lines.out.now) _ (contents c.serve_and_drain-done.new.lines.out.now) _ c.new-device.ensures
-          (ap contents c.in_ok-lines.ensures.same_writer.1) (ap contents (sym c.into_writer-out.ensures.value ∙ search rules)) c.in-Ok.ensures.finished;
-    }
-
 pub returns-in-Ok-clause-saved : goal.returns-in-Ok-clause-saved
-returns-in-Ok-clause-saved g c = λ tells.
+returns-in-Ok-clause-saved g c =
     let contents = g.O.Write.contents in
     let writer = c.into_writer-out.ensures.same_writer ∙ c.serve_and_drain-done.ensures.same_writer ∙ c.in_ok-lines.ensures.same_writer.0 in
-    saves_all c.args.events.now c.args.image c.image-2.result.now c.args.path.now (g.F.Files.made c.args.files.now) (g.F.Files.made c.save.new.files)
-    c.serve_and_drain-done.new.device (c.in_ok-save.ensures.saved tells) c.image-2.ensures.value _ _
+    saves_all g.F.Writer.Sink.tells c.args.events.now c.args.image c.image-2.result.now c.args.path.now (g.F.Files.made c.args.files.now) (g.F.Files.made c.save.new.files)
+    c.serve_and_drain-done.new.device c.in_ok-save.ensures.saved c.image-2.ensures.value _ _
     (prints_all c.args.events.now c.args.image c.new-device.result c.serve_and_drain-done.new.device
     (contents c.in_ok-lines.lines.out.now) _ (contents c.serve_and_drain-done.new.lines.out.now) _ c.new-device.ensures
     (ap contents c.in_ok-lines.ensures.same_writer.1) (ap contents (sym c.into_writer-out.ensures.value ∙ search rules)) c.in-Ok.ensures.finished)
 
 pub returns-clause-stopped : goal.returns-clause-stopped
-returns-clause-stopped g c = λ _ tells.
-    saves_first c.args.events.now c.args.image c.image-2.result.now c.args.path.now (g.F.Files.made c.args.files.now) (g.F.Files.made c.save.new.files)
-    c.serve_and_drain-done.new.device (c.in_ok-save.ensures.saved tells) c.image-2.ensures.value
+returns-clause-stopped g c = λ _.
+    saves_first g.F.Writer.Sink.tells c.args.events.now c.args.image c.image-2.result.now c.args.path.now (g.F.Files.made c.args.files.now) (g.F.Files.made c.save.new.files)
+    c.serve_and_drain-done.new.device c.in_ok-save.ensures.saved c.image-2.ensures.value
     c.new-device.result c.new-device.ensures c.in-Err.ensures.stopped
