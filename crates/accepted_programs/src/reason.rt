@@ -1,6 +1,6 @@
 //! What a verifier refuses.
 
-ghost use Rattle.std.specs.Prelude.{◌≡◌};
+ghost use Rattle.std.specs.Prelude.{◌≡◌, ◌≤◌, ◌↔◌, IfSome, IsSome};
 ghost use Rattle.accepted_programs.specs.Accepted.{reason_number};
 
 use thiserror::Error;
@@ -48,6 +48,26 @@ impl Reason {
         ensures { result ≡ reason_number self }
     {
         self as u8
+    }
+
+    /// The reason with this number; `None` for one that no reason has.
+    pub fn from_number(number: u8) -> Option<Reason>
+        ensures numbered { IfSome result (λ reason. reason_number reason ≡ number) }
+        ensures known { IsSome result ↔ ((1 ≤ number) × (number ≤ 10)) }
+    {
+        match number {
+            1 => Some(Reason::JumpBack),
+            2 => Some(Reason::JumpOutside),
+            3 => Some(Reason::FallsOff),
+            4 => Some(Reason::WriteToFramePointer),
+            5 => Some(Reason::LoadOutside),
+            6 => Some(Reason::StoreOutside),
+            7 => Some(Reason::UnknownHelper),
+            8 => Some(Reason::EmitAddress),
+            9 => Some(Reason::EmitLength),
+            10 => Some(Reason::EmitBudget),
+            _ => None,
+        }
     }
 }
 

@@ -12,7 +12,6 @@ use command_files::Files;
 use command_files::arguments::{and_command, no_command};
 use std::alloc::{AllocError, Global};
 use std::io::Write;
-use zone_state::Action;
 
 /// The command's name.
 pub const NAME: &str = "entry";
@@ -120,14 +119,12 @@ fn without_files<'a>(
 ) -> Result<Asked, Failure<'a>> {
     match name {
         transfers::READ => transfers::read(alloc, matches),
-        zones::OPEN => zones::send(alloc, Action::Open, matches),
-        zones::CLOSE => zones::send(alloc, Action::Close, matches),
-        zones::FINISH => zones::send(alloc, Action::Finish, matches),
-        zones::RESET => zones::send(alloc, Action::Reset, matches),
-        zones::OFFLINE => zones::send(alloc, Action::Offline, matches),
         zones::REPORT => zones::report(alloc, matches),
         programs::RUN => programs::run(alloc, matches),
         programs::RESULT => programs::result_of(alloc, matches),
-        _ => Err(no_command(line)),
+        _ => match zones::action_of(name) {
+            Some(action) => zones::send(alloc, action, matches),
+            None => Err(no_command(line)),
+        },
     }
 }

@@ -4,12 +4,14 @@ ghost use Rattle.std.specs.Prelude.{◌≡◌};
 
 use crate::asked::Asked;
 use crate::data_file::read_data;
-use crate::numbers::{address, blocks, number, slot};
+use crate::numbers::{address, blocks, slot};
 use crate::printing::and_target;
-use clap::{Arg, ArgMatches, Command};
+use clap::{Arg, ArgAction, ArgMatches, Command};
 use command_failure::Failure;
 use command_files::Files;
-use command_files::arguments::{and_argument, option, required};
+use command_files::arguments::{
+    and_argument, emit_option, number, option, program_argument, required,
+};
 use nvme_entry::{LoadCommand, RunCommand};
 use std::alloc::{AllocError, Global};
 
@@ -35,18 +37,16 @@ const ARGUMENT: &str = "argument";
 
 /// How `load` stands on the command line.
 pub(crate) fn load_command<'a>(alloc: Global) -> Result<Command<'a>, AllocError> {
-    let program = option(alloc, PROGRAM, "FILE")
-        .required(true)
-        .help("The program, as instruction bytes");
-    let emit = option(alloc, EMIT, "E").required(true).help(
-        "The most bytes that it may emit for a block, two for each record counted: at most a block",
-    );
+    let program = program_argument(alloc, PROGRAM)
+        .long(PROGRAM)
+        .value_name("FILE")
+        .action(ArgAction::Set);
     let command = Command::new(alloc, LOAD)
         .about("Loads a program into a slot")
         .after_help("Example:\n\n  zscli entry load --slot 0 --program filter.bin --emit 66");
     let command = and_argument(Ok(command), slot_option(alloc));
     let command = and_argument(command, program);
-    let command = and_argument(command, emit);
+    let command = and_argument(command, emit_option(alloc, EMIT));
     and_target(alloc, command)
 }
 

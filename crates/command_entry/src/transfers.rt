@@ -4,12 +4,12 @@ ghost use Rattle.std.specs.Prelude.{◌≡◌};
 
 use crate::asked::Asked;
 use crate::data_file::{read_data, whole_blocks};
-use crate::numbers::{address, blocks, number};
+use crate::numbers::{address, blocks};
 use crate::printing::and_target;
 use clap::{Arg, ArgMatches, Command};
 use command_failure::Failure;
 use command_files::Files;
-use command_files::arguments::{and_argument, block_option, block_size, option, required};
+use command_files::arguments::{and_argument, block_option, block_size, number, option, required};
 use nvme_entry::{BlockCount, StandardCommand};
 use std::alloc::{AllocError, Global};
 

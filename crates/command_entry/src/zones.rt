@@ -10,16 +10,6 @@ use nvme_entry::{StandardCommand, ZoneFilter};
 use std::alloc::{AllocError, Global};
 use zone_state::Action;
 
-pub(crate) const OPEN: &str = "open";
-
-pub(crate) const CLOSE: &str = "close";
-
-pub(crate) const FINISH: &str = "finish";
-
-pub(crate) const RESET: &str = "reset";
-
-pub(crate) const OFFLINE: &str = "offline";
-
 pub(crate) const REPORT: &str = "report";
 
 const LBA: &str = "lba";
@@ -31,6 +21,15 @@ const STATE: &str = "state";
 const PARTIAL: &str = "partial";
 
 const DWORDS: &str = "dwords";
+
+/// The actions, each a command of its own.
+const ACTIONS: &[Action] = &[
+    Action::Open,
+    Action::Close,
+    Action::Finish,
+    Action::Reset,
+    Action::Offline,
+];
 
 /// The words of `--state`, in the order of the codes of the filters that they name. The states are as `zones`
 /// prints them.
@@ -45,13 +44,13 @@ pub(crate) fn and_actions<'a>(
 ) -> Result<Command<'a>, AllocError> {
     let open = action_command(
         alloc,
-        OPEN,
+        Action::Open,
         "Opens a zone, or all Closed zones",
         "Example:\n\n  zscli entry open --lba 64",
     );
     let close = action_command(
         alloc,
-        CLOSE,
+        Action::Close,
         "Closes a zone, or all open zones",
         "Example:\n\n  zscli entry close --lba 64",
     );
@@ -67,19 +66,19 @@ fn and_last_actions<'a>(
 ) -> Result<Command<'a>, AllocError> {
     let finish = action_command(
         alloc,
-        FINISH,
+        Action::Finish,
         "Makes a zone Full, or all open and Closed zones",
         "Example:\n\n  zscli entry finish --lba 64",
     );
     let reset = action_command(
         alloc,
-        RESET,
+        Action::Reset,
         "Empties a zone, or all open, Closed and Full zones",
         "Example:\n\n  zscli entry reset --all",
     );
     let offline = action_command(
         alloc,
-        OFFLINE,
+        Action::Offline,
         "Takes a Read Only zone offline, or all of them",
         "Example:\n\n  zscli entry offline --lba 64",
     );
@@ -88,10 +87,10 @@ fn and_last_actions<'a>(
     and_command(command, offline)
 }
 
-/// How an action with this name stands on the command line.
+/// How an action stands on the command line.
 fn action_command<'a>(
     alloc: Global,
-    name: &'a str,
+    action: Action,
     about: &'a str,
     example: &'a str,
 ) -> Result<Command<'a>, AllocError> {
@@ -100,7 +99,9 @@ fn action_command<'a>(
         .long(ALL)
         .action(ArgAction::SetTrue)
         .help("All zones that the action takes");
-    let command = Command::new(alloc, name).about(about).after_help(example);
+    let command = Command::new(alloc, action.word())
+        .about(about)
+        .after_help(example);
     let command = and_argument(Ok(command), lba);
     let command = and_argument(command, all);
     and_target(alloc, and_zones(alloc, command))
@@ -141,6 +142,11 @@ pub(crate) fn report_command<'a>(alloc: Global) -> Result<Command<'a>, AllocErro
     and_target(alloc, command)
 }
 
+/// The action with this word.
+pub(crate) fn action_of(word: &str) -> Option<Action> {
+    ACTIONS.iter().copied().find(|action| action.word() == word)
+}
+
 /// What the words of an action ask for.
 pub(crate) fn send<'a>(
     alloc: Global,
@@ -177,4 +183,33 @@ pub(crate) fn report<'a>(alloc: Global, matches: &ArgMatches<'a>) -> Result<Aske
 fn filter(name: &str) -> Option<ZoneFilter> {
     let code = STATES.iter().position(|state| *state == name)?;
     ZoneFilter::from_code(u8::try_from(code).ok()?)
+}
+
+#[cfg(test)]
+mod tests {
+    use super::filter;
+    use std::test::Fail;
+    use zone_state::ZoneState;
+
+    const EACH: [ZoneState; 7] = [
+        ZoneState::Empty,
+        ZoneState::ImplicitlyOpened,
+        ZoneState::ExplicitlyOpened,
+        ZoneState::Closed,
+        ZoneState::ReadOnly,
+        ZoneState::Full,
+        ZoneState::Offline,
+    ];
+
+    /// The word for a state names the filter that takes zones of that state, and no others.
+    #[test]
+    fn words_for_states_name_their_filters(rt: HostRuntime) -> Result<(), Fail> {
+        for state in EACH {
+            let filter = filter(state.word()).ok_or("no filter")?;
+            for other in EACH {
+                assert_eq!(rt; filter.takes(other), other == state, "{state}, {other}");
+            }
+        }
+        Ok(())
+    }
 }

@@ -3,7 +3,6 @@
 use command_files::Counted;
 use nvme_entry::{Command, RunCommand, StandardCommand};
 use std::fmt;
-use zone_state::Action;
 
 /// A command as the user reads it: what it does, to what.
 #[derive(Clone, Copy)]
@@ -49,7 +48,7 @@ fn standard<W: fmt::Write>(command: &StandardCommand, f: &mut fmt::Formatter<W>)
             action,
             select_all,
         } => {
-            let action = action_name(*action);
+            let action = action.word();
             if *select_all {
                 write!(f, "{action} of all zones that it takes")
             } else {
@@ -68,14 +67,4 @@ fn run<W: fmt::Write>(command: &RunCommand, f: &mut fmt::Formatter<W>) -> fmt::R
         f,
         "run of slot {slot} over {blocks} from LBA {lba} on, to the zone of LBA {destination}"
     )
-}
-
-fn action_name(action: Action) -> &'static str {
-    match action {
-        Action::Close => "close",
-        Action::Finish => "finish",
-        Action::Open => "open",
-        Action::Reset => "reset",
-        Action::Offline => "offline",
-    }
 }

@@ -1,6 +1,7 @@
 //! Completions in words.
 
 use crate::command_words::CommandWords;
+use crate::refusal_words::ReasonWords;
 use crate::report_words::tell_report;
 use command_files::Counted;
 use nvme_entry::{Command, Completion, Entry, StandardCommand, Status};
@@ -106,7 +107,8 @@ fn tell_refusal<O: Write>(completion: &Completion, out: &mut O) -> io::Result<()
     let dw0 = completion.dw0;
     let dw1 = completion.dw1;
     if status == Status::PROGRAM_REFUSED {
-        return writeln!(out, "; slot {dw0}, reason {dw1}");
+        let reason = ReasonWords(dw1);
+        return writeln!(out, "; slot {dw0}, {reason}");
     }
     if dw0 != 0 || dw1 != 0 {
         return writeln!(out, "; dwords 0 and 1: {dw0}, {dw1}");

@@ -4,5 +4,6 @@
 mod command_words;
 mod completion_words;
 pub mod explain;
+mod refusal_words;
 mod report_words;
 mod waiting;

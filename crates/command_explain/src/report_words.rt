@@ -1,15 +1,12 @@
 //! Reports of zones, as `nvme zns report-zones` shows them.
 
 use command_files::Counted;
-use nvme_entry::{ZoneDescriptor, zones_told};
+use nvme_entry::{DESCRIPTOR_BYTES, HEADER_BYTES, ZoneDescriptor, zones_told};
 use std::io::{self, Write};
-
-/// The bytes of a report's header, and of a zone descriptor (ZNS 1.1, 3.4.2).
-const PIECE: usize = 64;
 
 /// Prints what a report tells: how many zones, and on a line each those whose descriptors it has.
 pub(crate) fn tell_report<O: Write>(report: &[u8], out: &mut O) -> io::Result<()> {
-    match report.split_first_chunk::<PIECE>() {
+    match report.split_first_chunk::<HEADER_BYTES>() {
         Some((header, descriptors)) => {
             let told = zones_told(header);
             let zones = Counted(told, "zone");
@@ -27,7 +24,7 @@ pub(crate) fn tell_report<O: Write>(report: &[u8], out: &mut O) -> io::Result<()
 fn tell_zones<O: Write>(told: u64, descriptors: &[u8], out: &mut O) -> io::Result<()> {
     let mut rest = descriptors;
     for _zone in 0..told {
-        let Some((bytes, behind)) = rest.split_first_chunk::<PIECE>() else {
+        let Some((bytes, behind)) = rest.split_first_chunk::<DESCRIPTOR_BYTES>() else {
             break;
         };
         tell_zone(bytes, out)?;
@@ -37,9 +34,12 @@ fn tell_zones<O: Write>(told: u64, descriptors: &[u8], out: &mut O) -> io::Resul
 }
 
 /// Prints a zone. The type and the attributes are those of every descriptor that is read.
-fn tell_zone<O: Write>(bytes: &[u8; PIECE], out: &mut O) -> io::Result<()> {
+fn tell_zone<O: Write>(bytes: &[u8; DESCRIPTOR_BYTES], out: &mut O) -> io::Result<()> {
     let Some(zone) = ZoneDescriptor::decode(bytes) else {
-        return writeln!(out, "  64 bytes that are no zone's descriptor");
+        return writeln!(
+            out,
+            "  {DESCRIPTOR_BYTES} bytes that are no zone's descriptor"
+        );
     };
     let lowest = zone.lowest;
     let pointer = zone.write_pointer;

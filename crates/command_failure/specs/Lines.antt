@@ -14,7 +14,7 @@ use Rattle.image_store.specs.Refusal.{fault_of}
 use Rattle.image_store.specs.declared.fault.LoadFault.{LoadFault}
 use Rattle.image_store.specs.declared.refusal.GeometryRefusal.{GeometryRefusal}
 use Rattle.command_failure.specs.declared.failure.Failure.{Failure}
-use Rattle.command_failure.specs.declared.failure.Failure.TheVariants.{CommandLine, NotText, NotInRange, CannotRead, CannotWrite, CannotPrint, NoMemory, LineRefused, ReplyRefused, GeometryRefused, ImageRefused, AssemblyRefused, ProgramRefused, FrameRefused, DataRefused, EmitExceedsBlock, NotAccepted}
+use Rattle.command_failure.specs.declared.failure.Failure.TheVariants.{CommandLine, NotText, NotInRange, CannotRead, CannotWrite, CannotPrint, NoMemory, LineRefused, ReplyRefused, GeometryRefused, ImageRefused, AssemblyRefused, ProgramRefused, FrameRefused, DataRefused, NotAccepted}
 
 -- a text: one that is said here, one around words that another crate has, one that another crate has, or none
 pub data Text : Type 0 where
@@ -79,7 +79,7 @@ text_of NotText = line (codes "error: a word of the command line isn't text")
 text_of (NotInRange option word least most) = range_text option.now word.now least most
 text_of (CannotRead path) = line (codes "cannot read " ++ path.now)
 text_of (CannotWrite path) = line (codes "cannot write " ++ path.now)
-text_of CannotPrint = line (codes "cannot write -")
+text_of CannotPrint = line (codes "cannot write to standard output")
 text_of NoMemory = line (codes "no memory")
 text_of (LineRefused path number fault) = line_text path.now number
 text_of (ReplyRefused path number) = reply_text path.now number
@@ -89,7 +89,6 @@ text_of (AssemblyRefused path refusal) = assembly_text path.now refusal
 text_of (ProgramRefused path refusal) = program_text path.now refusal
 text_of (FrameRefused path refusal) = frame_text path.now refusal
 text_of (DataRefused file fault) = data_text file.now
-text_of EmitExceedsBlock = line (codes "emit exceeds block")
 text_of NotAccepted = Silence
 
 -- a stream grows by some words, with this in front of them and that behind them

@@ -74,8 +74,6 @@ pub enum Failure<'a> {
     },
     /// A file isn't what a command can move.
     DataRefused(&'a str, DataFault),
-    /// More may be emitted for a block than the block's bytes.
-    EmitExceedsBlock,
     /// What a verifier says of a program stands on standard output alone.
     NotAccepted,
 }
@@ -116,10 +114,7 @@ impl<'a> Failure<'a> {
             | Failure::CannotWrite(_)
             | Failure::CannotPrint
             | Failure::NoMemory => 1,
-            Failure::CommandLine(_)
-            | Failure::NotText
-            | Failure::NotInRange { .. }
-            | Failure::EmitExceedsBlock => 2,
+            Failure::CommandLine(_) | Failure::NotText | Failure::NotInRange { .. } => 2,
             Failure::LineRefused { .. }
             | Failure::ReplyRefused { .. }
             | Failure::GeometryRefused(_)

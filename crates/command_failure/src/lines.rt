@@ -38,7 +38,7 @@ impl Failure<'_> {
             } => print_range(out, option, word, *least, *most),
             Failure::CannotRead(path) => print_line(out, format_args!("cannot read {path}")),
             Failure::CannotWrite(path) => print_line(out, format_args!("cannot write {path}")),
-            Failure::CannotPrint => print_line(out, "cannot write -"),
+            Failure::CannotPrint => print_line(out, "cannot write to standard output"),
             Failure::NoMemory => print_line(out, "no memory"),
             Failure::LineRefused { path, line, fault } => {
                 print_line_fault(out, path, *line, *fault)
@@ -50,7 +50,6 @@ impl Failure<'_> {
             Failure::ProgramRefused { path, refusal } => print_program(out, path, *refusal),
             Failure::FrameRefused { path, refusal } => print_frame(out, path, *refusal),
             Failure::DataRefused(file, fault) => print_data(out, file, *fault),
-            Failure::EmitExceedsBlock => print_line(out, "emit exceeds block"),
             Failure::NotAccepted => Ok(()),
         }
     }

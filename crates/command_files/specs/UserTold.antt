@@ -1,5 +1,5 @@
--- What an error of the system is told as, a file that can't be read or written, and a word that spells no number (profile).
-use Rattle.std.specs.Prelude.{◌≡◌, ℕ, List, None}
+-- What an error of the system is told as, a file that can't be read or written, and a word that spells no number of a range (profile).
+use Rattle.std.specs.Prelude.{◌≡◌, ◌<◌, ◌⊎◌, ℕ, List, IfSome}
 use Rattle.std.specs.Borrow.{Bor}
 use Rattle.std.specs.declared.io.ErrorKind.{ErrorKind}
 use Rattle.std.specs.declared.io.ErrorKind.TheVariants as system
@@ -27,7 +27,13 @@ IsUnwritten path (CannotWrite told) = told ≡ path
 IsUnwritten path NoMemory = Unit {0}
 IsUnwritten path _ = ⊥
 
--- the word of an option spells no number of 32 bits
-abbrev pub SpellsNone : ArgMatches → Bor (List ℕ) → Failure → Type 0
-SpellsNone matches option (NotInRange told word least most) = (told ≡ option) × (word.now ≡ value_of matches option.now) × (number_of matches option.now ≡ None)
-SpellsNone matches option _ = ⊥
+-- the word of an option that is no number from the least to the most
+abbrev pub IsNotInRange : ArgMatches → Bor (List ℕ) → ℕ → ℕ → Failure → Type 0
+IsNotInRange matches option least most (NotInRange told word low high) =
+    (told ≡ option) × (word.now ≡ value_of matches option.now) × (low ≡ least) × (high ≡ most)
+IsNotInRange matches option least most _ = ⊥
+
+-- the word of an option spells no number from the least to the most
+abbrev pub SpellsNone : ArgMatches → Bor (List ℕ) → ℕ → ℕ → Failure → Type 0
+SpellsNone matches option least most failure =
+    IsNotInRange matches option least most failure × IfSome (number_of matches option.now) (λ number. (number < least) ⊎ (most < number))

@@ -3,15 +3,15 @@
 ghost use Rattle.std.specs.Prelude.{◌≡◌, ◌≤◌, IfErr, IfOk, None, OnErr, OnOk, Some};
 ghost use Rattle.program_interface.specs.BlockSize.{block_size as size_of_bytes};
 ghost use Rattle.command_files.specs.Arguments.{number_of, value_of};
-ghost use Rattle.command_files.specs.UserTold.{SpellsNone};
+ghost use Rattle.command_files.specs.UserTold.{IsNotInRange, SpellsNone};
 
+use crate::numbers::spelled;
 use clap::error::ErrorKind;
 use clap::{Arg, ArgAction, ArgMatches, Command};
 use command_failure::Failure;
 use image_store::GeometryRefusal;
 use program_interface::{BlockSize, LARGEST_BLOCK};
 use std::alloc::{AllocError, Global};
-use text_lines::decimal;
 
 /// The option `--NAME LETTER`.
 pub fn option<'a>(alloc: Global, name: &'a str, letter: &'a str) -> Arg<'a> {
@@ -26,6 +26,20 @@ pub fn block_option<'a>(alloc: Global, name: &'a str) -> Arg<'a> {
     option(alloc, name, "B")
         .required(true)
         .help("Bytes of a block: a power of 2 from 512 to 16384")
+}
+
+/// The option that gives the most bytes that may be emitted for a block, which is required.
+pub fn emit_option<'a>(alloc: Global, name: &'a str) -> Arg<'a> {
+    option(alloc, name, "E").required(true).help(
+        "The most bytes that may be emitted for a block, two for each record counted: at most a block's",
+    )
+}
+
+/// The argument that names the file of a program, which is required.
+pub fn program_argument<'a>(alloc: Global, name: &'a str) -> Arg<'a> {
+    Arg::new(alloc, name)
+        .required(true)
+        .help("The program, as instruction bytes")
 }
 
 /// A command that takes this argument too.
@@ -71,22 +85,56 @@ pub fn required<'a>(matches: &ArgMatches<'a>, id: &str) -> &'a str
     }
 }
 
-/// The number that the word of an option spells, which is required or has a default: decimal digits alone.
+/// The number that the word of an option spells, which is required or has a default, from `least` to `most`: in decimal
+/// digits alone, or in hexadecimal ones behind `0x`.
 ///
 /// # Errors
 ///
-/// [`Failure::NotInRange`] where the word spells no number of 32 bits.
+/// [`Failure::NotInRange`] where the word spells no such number.
+pub fn number_in<'a>(
+    matches: &ArgMatches<'a>,
+    option: &'a str,
+    least: u64,
+    most: u64,
+) -> Result<u64, Failure<'a>>
+    ensures value { IfOk result (λ number. number_of matches.now option.now ≡ Some number) }
+    ensures low { IfOk result (λ number. least ≤ number) }
+    ensures high { IfOk result (λ number. number ≤ most) }
+    ensures unspelled { IfErr result (SpellsNone matches.now option.entry least most) }
+{
+    match spelled(required(matches, option)) {
+        Some(number) if least <= number && number <= most => Ok(number),
+        _ => Err(not_in_range(matches, option, least, most)),
+    }
+}
+
+/// The same from 0 to what 32 bits hold.
+///
+/// # Errors
+///
+/// [`Failure::NotInRange`] where the word spells no such number.
 pub fn number<'a>(matches: &ArgMatches<'a>, option: &'a str) -> Result<u32, Failure<'a>>
     ensures value { IfOk result (λ number. number_of matches.now option.now ≡ Some number) }
-    ensures unspelled { IfErr result (SpellsNone matches.now option.entry) }
+    ensures unspelled { IfErr result (SpellsNone matches.now option.entry 0 4294967295) }
 {
-    let word = required(matches, option);
-    decimal(word.as_bytes()).ok_or(Failure::NotInRange {
+    Ok(number_in(matches, option, 0, u64::from(u32::MAX))? as u32)
+}
+
+/// The failure of an option whose word is no number from `least` to `most`.
+pub fn not_in_range<'a>(
+    matches: &ArgMatches<'a>,
+    option: &'a str,
+    least: u64,
+    most: u64,
+) -> Failure<'a>
+    ensures { IsNotInRange matches.now option.entry least most result }
+{
+    Failure::NotInRange {
         option,
-        word,
-        least: 0,
-        most: u64::from(u32::MAX),
-    })
+        word: required(matches, option),
+        least,
+        most,
+    }
 }
 
 /// The block size of so many bytes.

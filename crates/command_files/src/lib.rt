@@ -6,6 +6,7 @@ mod counted;
 mod disk;
 mod files;
 mod memory_files;
+mod numbers;
 mod whole;
 
 pub use counted::Counted;

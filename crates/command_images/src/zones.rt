@@ -9,7 +9,7 @@ use command_files::Files;
 use command_files::arguments::required;
 use std::alloc::{AllocError, Global};
 use std::io::{self, Write};
-use zone_state::{Zone, ZoneState};
+use zone_state::Zone;
 
 /// The command's name.
 pub const NAME: &str = "zones";
@@ -64,21 +64,9 @@ pub fn zones<'a, F: Files, O: Write>(
 /// Prints each zone on a line.
 fn print<O: Write>(zones: &[Zone], out: &mut O) -> io::Result<()> {
     for (number, zone) in zones.iter().enumerate() {
-        let state = state_name(zone.state());
+        let state = zone.state().word();
         let written = zone.written();
         writeln!(out, "{number} {state} {written}")?;
     }
     Ok(())
-}
-
-fn state_name(state: ZoneState) -> &'static str {
-    match state {
-        ZoneState::Empty => "empty",
-        ZoneState::ImplicitlyOpened => "implicit",
-        ZoneState::ExplicitlyOpened => "explicit",
-        ZoneState::Closed => "closed",
-        ZoneState::ReadOnly => "readonly",
-        ZoneState::Full => "full",
-        ZoneState::Offline => "offline",
-    }
 }

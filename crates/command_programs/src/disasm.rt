@@ -6,7 +6,7 @@ use crate::program::read_program;
 use clap::{Arg, ArgAction, ArgMatches, Command};
 use command_failure::{Failure, printed};
 use command_files::Files;
-use command_files::arguments::{and_argument, required};
+use command_files::arguments::{and_argument, program_argument, required};
 use ebpf_asm::{disassemble, disassemble_with_slots};
 use std::alloc::{AllocError, Global};
 use std::io::Write;
@@ -44,9 +44,6 @@ Example: the program of the bytes b700000000000000 9500000000000000.
 ///
 /// Want of memory.
 pub fn subcommand<'a>(alloc: Global) -> Result<Command<'a>, AllocError> {
-    let program = Arg::new(alloc, PROGRAM)
-        .required(true)
-        .help("The program, as instruction bytes");
     let slots = Arg::new(alloc, SLOTS)
         .long(SLOTS)
         .action(ArgAction::SetTrue)
@@ -55,7 +52,7 @@ pub fn subcommand<'a>(alloc: Global) -> Result<Command<'a>, AllocError> {
         .about("Prints a program as assembly text")
         .long_about(LONG_ABOUT)
         .after_help(EXAMPLE);
-    let command = and_argument(Ok(command), program);
+    let command = and_argument(Ok(command), program_argument(alloc, PROGRAM));
     and_argument(command, slots)
 }
 

@@ -1,5 +1,8 @@
 //! Why an instruction is refused, in words: the reason with its numbers, and what is known of the registers.
 
+ghost use Rattle.std.specs.Prelude.{◌<◌};
+ghost use Rattle.program_interface.specs.declared.TheConstants.{MOST_SLOTS};
+
 use accepted_programs::{Facts, Reason};
 use command_files::Counted;
 use instruction_set::{Access, Insn, Operation, Register, Source};
@@ -16,6 +19,7 @@ pub(crate) struct Refused<'p> {
     pub(crate) insn: &'p Insn,
     pub(crate) sizes: RunSizes,
     pub(crate) facts: &'p Facts<Intervals>,
+    ghost within: { slot < MOST_SLOTS },
 }
 
 impl Refused<'_> {
@@ -41,7 +45,7 @@ impl Refused<'_> {
     /// Where a jump leads.
     fn tell_target<O: Write>(&self, reason: Reason, out: &mut O) -> io::Result<()> {
         let distance = self.insn.distance().unwrap_or(0);
-        let target = self.slot as i128 + 1 + i128::from(distance);
+        let target = i128::from(Insn::target(self.slot, distance));
         let slots = self.slots as i128;
         if target < 0 || target >= slots {
             writeln!(out, "to slot {target}, of {slots} slots")

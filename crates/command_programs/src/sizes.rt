@@ -1,19 +1,44 @@
 //! The sizes of a run that a user asks for.
 
-ghost use Rattle.std.specs.Prelude.{◌≡◌, IfOk, IfErr, OnErr, None};
-ghost use Rattle.program_interface.specs.RunSizes.{sizes_of};
+ghost use Rattle.std.specs.Prelude.{◌≤◌, codes, IfOk, IfErr};
+ghost use Rattle.clap.specs.Matches.{found_of, first_value};
+ghost use Rattle.command_programs.specs.steps.Sizes.{AreAskedFor, IsLimit, IsOverBlock};
 
+use clap::{Arg, ArgMatches};
 use command_failure::Failure;
+use command_files::arguments::{emit_option, not_in_range, number_in};
 use program_interface::{BlockSize, RunSizes};
+use std::alloc::Global;
 
-/// Blocks of this size, for each of which at most `limit` bytes may be emitted.
-pub(crate) fn run_sizes<'a>(block: BlockSize, limit: u32) -> Result<RunSizes, Failure<'a>>
-    ensures same { IfOk result (λ sizes. sizes ≡ record { block = block; limit = limit }) }
-    ensures told { IfErr result (λ failure. failure ≡ Failure.EmitExceedsBlock) }
-    ensures refused { OnErr result (sizes_of block limit ≡ None) }
+const EMIT: &str = "emit";
+
+/// The option that gives the most bytes that may be emitted for a block.
+pub(crate) fn limit_option<'a>(alloc: Global) -> Arg<'a> {
+    emit_option(alloc, EMIT)
+}
+
+/// Blocks of this size, for each of which at most as many bytes may be emitted as `--emit` says, or all of a block's where
+/// it says nothing.
+pub(crate) fn run_sizes<'a>(
+    matches: &ArgMatches<'a>,
+    block: BlockSize,
+) -> Result<RunSizes, Failure<'a>>
+    ensures asked { IfOk result (AreAskedFor matches.now block) }
+    ensures told { IfErr result (IsOverBlock matches.now block) }
 {
-    match RunSizes::new(block, limit) {
-        Some(sizes) => Ok(sizes),
-        None => Err(Failure::EmitExceedsBlock),
+    let most = block.bytes();
+    let limit = limit(matches, most)?;
+    RunSizes::new(block, limit).ok_or(not_in_range(matches, EMIT, 0, u64::from(most)))
+}
+
+/// As many bytes as `--emit` says, or `most` where it says nothing.
+fn limit<'a>(matches: &ArgMatches<'a>, most: u32) -> Result<u32, Failure<'a>>
+    ensures asked { IfOk result (IsLimit matches.now most (first_value (found_of matches.now) (codes "emit"))) }
+    ensures within { IfOk result (λ limit. limit ≤ most) }
+    ensures told { IfErr result (IsOverBlock matches.now most) }
+{
+    match matches.get_str(EMIT) {
+        Some(_) => Ok(number_in(matches, EMIT, 0, u64::from(most))? as u32),
+        None => Ok(most),
     }
 }

@@ -6,11 +6,13 @@ ghost use Rattle.interp.specs.Machine.{machine_slot, steps_of, group_length};
 ghost use Rattle.program_interface.specs.Context.{context_bytes};
 
 use crate::program::read_program;
-use crate::sizes::run_sizes;
+use crate::sizes::{limit_option, run_sizes};
 use crate::step_lines::{Emitting, tell_cause, tell_changes};
 use clap::{Arg, ArgAction, ArgMatches, Command};
 use command_failure::{Failure, printed};
-use command_files::arguments::{and_argument, block_size, number, option, required};
+use command_files::arguments::{
+    and_argument, block_size, number, option, program_argument, required,
+};
 use command_files::{Files, read};
 use instruction_set::Program;
 use interp::{Machine, Step};
@@ -25,8 +27,6 @@ pub const NAME: &str = "trace";
 const PROGRAM: &str = "PROGRAM";
 
 const BLOCK: &str = "BLOCK";
-
-const EMIT: &str = "emit";
 
 const ARGUMENT: &str = "argument";
 
@@ -55,7 +55,7 @@ With --registers each slot has its instruction behind it, and what that changed:
 writes, with its word, or for emit how many bytes were emitted, and from where; or why it can't be done.
 
 The block is at LBA 0, the first and only one of its run. Its size is the file's length: a power of 2 \
-from 512 to 16384 bytes.";
+from 512 to 16384 bytes. As many may be emitted, where --emit says nothing.";
 
 const EXAMPLE: &str = "\
 Example: the program of `asm --help`, on a block that begins with a 7.
@@ -77,13 +77,7 @@ Example: the program of `asm --help`, on a block that begins with a 7.
 ///
 /// Want of memory.
 pub fn subcommand<'a>(alloc: Global) -> Result<Command<'a>, AllocError> {
-    let program = Arg::new(alloc, PROGRAM)
-        .required(true)
-        .help("The program, as instruction bytes");
     let block = Arg::new(alloc, BLOCK).required(true).help("The block");
-    let emit = option(alloc, EMIT, "E").help(
-        "The most bytes that may be emitted: all of a block's, where it says nothing",
-    );
     let argument = option(alloc, ARGUMENT, "A")
         .default_value("0")
         .help("The argument of the run");
@@ -98,9 +92,9 @@ pub fn subcommand<'a>(alloc: Global) -> Result<Command<'a>, AllocError> {
         .about("Runs a program on one block, step by step")
         .long_about(LONG_ABOUT)
         .after_help(EXAMPLE);
-    let command = and_argument(Ok(command), program);
+    let command = and_argument(Ok(command), program_argument(alloc, PROGRAM));
     let command = and_argument(command, block);
-    let command = and_argument(command, emit);
+    let command = and_argument(command, limit_option(alloc).required(false));
     let command = and_argument(command, argument);
     let command = and_argument(command, fuel);
     and_argument(command, registers)
@@ -123,14 +117,13 @@ pub fn trace<'a, F: Files, O: Write>(
     let asked = asked_for(matches)?;
     let program = read_program(alloc, required(matches, PROGRAM), files)?;
     let block = read(required(matches, BLOCK), files)?;
-    run_asked(alloc, &program, block.as_slice(), asked, out)
+    let sizes = run_sizes(matches, block_size(block.len())?)?;
+    run_asked(alloc, &program, block.as_slice(), sizes, asked, out)
 }
 
 /// What a user asks for.
 #[derive(Clone, Copy)]
 struct Asked {
-    /// The most bytes that may be emitted, where that is said.
-    limit: Option<u32>,
     argument: u32,
     fuel: u32,
     /// Each instruction, and the register that it changed.
@@ -138,12 +131,7 @@ struct Asked {
 }
 
 fn asked_for<'a>(matches: &ArgMatches<'a>) -> Result<Asked, Failure<'a>> {
-    let limit = match matches.get_str(EMIT) {
-        Some(_) => Some(number(matches, EMIT)?),
-        None => None,
-    };
     Ok(Asked {
-        limit,
         argument: number(matches, ARGUMENT)?,
         fuel: number(matches, FUEL)?,
         registers: matches.get_flag(REGISTERS),
@@ -155,13 +143,12 @@ fn run_asked<'a, O: Write>(
     alloc: Global,
     program: &Program,
     block: &[u8],
+    sizes: RunSizes,
     asked: Asked,
     out: &mut O,
 ) -> Result<(), Failure<'a>> {
-    let size = block_size(block.len())?;
-    let sizes = run_sizes(size, asked.limit.unwrap_or(size.bytes()))?;
     let mut group = vec![in alloc; 0; sizes.limit() as usize]?;
-    let context = first_and_only(size, asked.argument);
+    let context = first_and_only(sizes.block(), asked.argument);
     let tracer = Tracer {
         alloc,
         program,

@@ -4,11 +4,13 @@ ghost use Rattle.std.specs.Prelude.{◌≡◌};
 
 use crate::program::read_program;
 use crate::refusal_lines::Refused;
-use crate::sizes::run_sizes;
+use crate::sizes::{limit_option, run_sizes};
 use accepted_programs::{Facts, Refusal};
 use clap::{Arg, ArgAction, ArgMatches, Command};
 use command_failure::{Failure, printed};
-use command_files::arguments::{and_argument, block_option, block_size, number, option, required};
+use command_files::arguments::{
+    and_argument, block_option, block_size, number, program_argument, required,
+};
 use command_files::{Counted, Files};
 use ebpf_asm::instruction_text;
 use instruction_set::Program;
@@ -24,8 +26,6 @@ pub const NAME: &str = "verify";
 const PROGRAM: &str = "PROGRAM";
 
 const BLOCK: &str = "block";
-
-const EMIT: &str = "emit";
 
 const EXPLAIN: &str = "explain";
 
@@ -63,13 +63,6 @@ Example: the program of `asm --help`, with a limit that is too low.
 ///
 /// Want of memory.
 pub fn subcommand<'a>(alloc: Global) -> Result<Command<'a>, AllocError> {
-    let program = Arg::new(alloc, PROGRAM)
-        .required(true)
-        .help("The program, as instruction bytes");
-    let block = block_option(alloc, BLOCK);
-    let emit = option(alloc, EMIT, "E").required(true).help(
-        "The most bytes that may be emitted on a block, two for each frame counted: at most B",
-    );
     let explain = Arg::new(alloc, EXPLAIN)
         .long(EXPLAIN)
         .action(ArgAction::SetTrue)
@@ -78,9 +71,9 @@ pub fn subcommand<'a>(alloc: Global) -> Result<Command<'a>, AllocError> {
         .about("Says whether a program is accepted")
         .long_about(LONG_ABOUT)
         .after_help(EXAMPLE);
-    let command = and_argument(Ok(command), program);
-    let command = and_argument(command, block);
-    let command = and_argument(command, emit);
+    let command = and_argument(Ok(command), program_argument(alloc, PROGRAM));
+    let command = and_argument(command, block_option(alloc, BLOCK));
+    let command = and_argument(command, limit_option(alloc));
     and_argument(command, explain)
 }
 
@@ -99,9 +92,8 @@ pub fn verify<'a, F: Files, O: Write>(
     ensures { F.made files.new ≡ F.made files.old }
 {
     let block = number(matches, BLOCK)?;
-    let limit = number(matches, EMIT)?;
     let program = read_program(alloc, required(matches, PROGRAM), files)?;
-    let sizes = run_sizes(block_size(block as usize)?, limit)?;
+    let sizes = run_sizes(matches, block_size(block as usize)?)?;
     let judgement = judge::<Intervals>(alloc, &program, sizes)?;
     let instructions = program.len();
     match judgement {

@@ -1,6 +1,6 @@
 //! Why bytes are no program.
 
-ghost use Rattle.std.specs.Prelude.{◌≡◌};
+ghost use Rattle.std.specs.Prelude.{◌≡◌, ◌≤◌, ◌↔◌, IfSome, IsSome};
 ghost use Rattle.ebpf_decode.specs.Faults.{fault_number};
 ghost use Rattle.ebpf_decode.specs.declared.fault.DecodeFault.TheVariants.{Memory};
 
@@ -46,6 +46,25 @@ impl FaultKind {
         ensures { result ≡ fault_number self }
     {
         self as u8
+    }
+
+    /// The kind of fault with this number; `None` for one that no kind has.
+    pub fn from_number(number: u8) -> Option<FaultKind>
+        ensures numbered { IfSome result (λ kind. fault_number kind ≡ number) }
+        ensures known { IsSome result ↔ ((20 ≤ number) × (number ≤ 28)) }
+    {
+        match number {
+            20 => Some(FaultKind::Length),
+            21 => Some(FaultKind::Empty),
+            22 => Some(FaultKind::TooLong),
+            23 => Some(FaultKind::Opcode),
+            24 => Some(FaultKind::Register),
+            25 => Some(FaultKind::UnusedField),
+            26 => Some(FaultKind::CutWide),
+            27 => Some(FaultKind::Value),
+            28 => Some(FaultKind::NotInProfile),
+            _ => None,
+        }
     }
 }
 

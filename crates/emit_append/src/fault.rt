@@ -15,7 +15,7 @@ pub enum UnpackFault {
     #[error("byte {0} is refused")]
     At(usize),
     /// No memory could be had for a record.
-    #[error("want of memory")]
+    #[error("no memory")]
     Memory,
 }
 

@@ -79,7 +79,7 @@ pub enum LoadFault {
     Trailing,
     #[error("the stream failed")]
     Stream,
-    #[error("want of memory")]
+    #[error("no memory")]
     Memory,
 }
 

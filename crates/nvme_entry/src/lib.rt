@@ -24,5 +24,5 @@ pub use descriptor::{ZoneDescriptor, zones_told};
 pub use entry::Entry;
 pub use filter::ZoneFilter;
 pub use program_slot::{PROGRAM_SLOTS, ProgramSlot};
-pub use report::{Report, put_front};
+pub use report::{DESCRIPTOR_BYTES, HEADER_BYTES, Report, put_front};
 pub use zone_state::Status;

@@ -9,11 +9,11 @@ use crate::filter::ZoneFilter;
 use byteorder::{ByteOrder, LittleEndian};
 use zone_state::Zone;
 
-/// The bytes of the header (ZNS 1.1, 3.4.2).
-const HEADER_BYTES: usize = 64;
+/// The bytes of a report's header (ZNS 1.1, 3.4.2).
+pub const HEADER_BYTES: usize = 64;
 
 /// The bytes of a zone descriptor (ZNS 1.1, 3.4.2).
-const DESCRIPTOR_BYTES: usize = 64;
+pub const DESCRIPTOR_BYTES: usize = 64;
 
 /// A report of zones (ZNS 1.1, 3.4.2), to be written where it is wanted.
 #[derive(Clone, Copy, Debug)]

@@ -1,5 +1,9 @@
-//! What states and statuses are called, for people to read.
+//! What states, actions and statuses are called, for people to read.
 
+ghost use Rattle.std.specs.Prelude.{◌≡◌};
+ghost use Rattle.zone_state.specs.Words.{action_word, state_word};
+
+use crate::action::Action;
 use crate::state::ZoneState;
 use crate::status::{Status, StatusType};
 use std::fmt;
@@ -171,5 +175,38 @@ impl fmt::Display for ZoneState {
             ZoneState::Full => "Full",
             ZoneState::Offline => "Offline",
         })
+    }
+}
+
+impl ZoneState {
+    /// One word for the state, which a user reads and writes (profile): a zone that a write opened is `implicit`, one
+    /// that a command opened `explicit`.
+    pub fn word(self) -> &'static str
+        ensures { result.now ≡ state_word self }
+    {
+        match self {
+            ZoneState::Empty => "empty",
+            ZoneState::ImplicitlyOpened => "implicit",
+            ZoneState::ExplicitlyOpened => "explicit",
+            ZoneState::Closed => "closed",
+            ZoneState::ReadOnly => "readonly",
+            ZoneState::Full => "full",
+            ZoneState::Offline => "offline",
+        }
+    }
+}
+
+impl Action {
+    /// One word for the action, which a user reads and writes (profile).
+    pub fn word(self) -> &'static str
+        ensures { result.now ≡ action_word self }
+    {
+        match self {
+            Action::Close => "close",
+            Action::Finish => "finish",
+            Action::Open => "open",
+            Action::Reset => "reset",
+            Action::Offline => "offline",
+        }
     }
 }

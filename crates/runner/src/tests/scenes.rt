@@ -9,7 +9,6 @@ use std::alloc::Global;
 use std::process::Abort;
 use std::test::Fail;
 use zns_commands::{Image, MOST_TRANSFER};
-use zone_state::ZoneState;
 
 /// The numbers of a namespace: the bytes of a block, the zones, the blocks of a zone, how many of them can be
 /// written, and the most zones that are open, and active.
@@ -154,23 +153,11 @@ fn check_zones(rt: &impl Abort, alloc: Global, device: &Device, scene: &Scene) -
         if !left.is_empty() {
             left.push_str(", ")?;
         }
-        let (state, written) = (name_of(zone.state()), zone.written());
+        let (state, written) = (zone.state().word(), zone.written());
         left.push_str(format!(in alloc; "{state} {written}")?.as_str())?;
     }
     assert_eq!(rt; left.as_str(), scene.left, "{}", scene.name);
     Ok(())
-}
-
-fn name_of(state: ZoneState) -> &'static str {
-    match state {
-        ZoneState::Empty => "empty",
-        ZoneState::ImplicitlyOpened => "implicit",
-        ZoneState::ExplicitlyOpened => "explicit",
-        ZoneState::Closed => "closed",
-        ZoneState::ReadOnly => "readonly",
-        ZoneState::Full => "full",
-        ZoneState::Offline => "offline",
-    }
 }
 
 /// The image of these zones.

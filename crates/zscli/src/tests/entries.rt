@@ -156,7 +156,7 @@ const FILES: &[Act] = &[
         "zscli entry append --lba 8 --data most",
         0,
         1,
-        "cannot write -\n",
+        "cannot write to standard output\n",
     ),
     Act::Stops(
         "zscli entry append --lba 8 --data most --block 4096",

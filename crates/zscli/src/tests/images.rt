@@ -14,6 +14,11 @@ const FORMATTED: &[Act] = &[
         "zscli zones new",
         "0 empty 0\n1 empty 0\n2 empty 0\n3 empty 0\n",
     ),
+    Act::Prints(
+        "zscli format again --block 0x200 --zones 4 --size 0x8 --capacity 0x06 --open 2 --active 3",
+        "",
+    ),
+    Act::Has("again", EMPTY_IMAGE),
 ];
 
 const WRITTEN: &[Act] = &[
@@ -108,19 +113,19 @@ const LEFT: &[Act] = &[
 /// The zone is lost whose line isn't printed, and no later one.
 const SAVED: &[Act] = &[
     Act::Start(LOSING_THREE),
-    Act::Stops(EXEC, 0, 1, "cannot write -\n"),
+    Act::Stops(EXEC, 0, 1, "cannot write to standard output\n"),
     Act::Prints(
         "zscli zones g1",
         "0 offline 0\n1 empty 0\n2 empty 0\n3 empty 0\n",
     ),
     Act::Start(LOSING_THREE),
-    Act::Stops(EXEC, 1, 1, "cannot write -\n"),
+    Act::Stops(EXEC, 1, 1, "cannot write to standard output\n"),
     Act::Prints(
         "zscli zones g1",
         "0 offline 0\n1 offline 0\n2 empty 0\n3 empty 0\n",
     ),
     Act::Start(LOSING_THREE),
-    Act::Stops(EXEC, 2, 1, "cannot write -\n"),
+    Act::Stops(EXEC, 2, 1, "cannot write to standard output\n"),
     Act::Prints(
         "zscli zones g1",
         "0 offline 0\n1 offline 0\n2 offline 0\n3 empty 0\n",

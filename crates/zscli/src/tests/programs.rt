@@ -90,7 +90,7 @@ const VERIFIED: &[Act] = &[
         "zscli verify events --block 512 --emit 513",
         2,
         "",
-        "emit exceeds block\n",
+        "error: '513' for --emit is not a number from 0 to 512\n",
     ),
     Act::Start(b""),
     Act::Fails(

@@ -1,0 +1,26 @@
+//! Words that spell numbers.
+
+ghost use Rattle.std.specs.Prelude.{◌≡◌, ◌≤◌};
+ghost use Rattle.command_files.specs.Number.{numeral_of, spelled};
+
+/// The number that decimal digits spell, or hexadecimal ones behind `0x`, and nothing else, if it is below 2^64.
+pub(crate) fn spelled(word: &str) -> Option<u64>
+    ensures { result ≡ spelled word.now }
+{
+    match word.strip_prefix("0x") {
+        Some(digits) => numeral(digits, 16),
+        None => numeral(word, 10),
+    }
+}
+
+/// The number that digits of a base spell, and nothing else, if it is below 2^64.
+fn numeral(digits: &str, base: u32) -> Option<u64>
+    requires least { 2 ≤ base }
+    requires most { base ≤ 36 }
+    ensures { result ≡ numeral_of base digits.now }
+{
+    if digits.starts_with('+') {
+        return None;
+    }
+    u64::from_str_radix(digits, base).ok()
+}
