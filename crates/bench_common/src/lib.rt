@@ -1,4 +1,5 @@
-//! What the programs that `bench/` times on programs share: the words that they are given, and the load of a program.
+//! What the programs that `bench/` times share: the words that some are given, the load of a program, and the comparison of
+//! two times.
 #![tactic(auto)]
 
 use anyhow::{Context, Result, bail, ensure};
@@ -64,4 +65,9 @@ pub fn load(alloc: Global, bytes: &[u8], sizes: RunSizes) -> Result<Verified<Int
         }
         Err(VerifyFault::Memory) => bail!("no memory"),
     }
+}
+
+/// The rate of what took the second time, as a part of the rate of what took the first, in percent.
+pub fn percent(first: u128, second: u128) -> u128 {
+    first.saturating_mul(100) / second.max(1)
 }

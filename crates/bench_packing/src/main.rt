@@ -5,6 +5,7 @@ ghost use Rattle.std.specs.Prelude.{◌≡◌, ◌≤◌, ◌<◌, length, IfOk}
 
 mod work;
 
+use bench_common::percent;
 use std::alloc::Global;
 use std::time::Instant;
 use std::{env, io};
@@ -69,9 +70,9 @@ fn measure(
     requires fits { group ≤ BLOCK }
     requires room { length source.now ≤ length target.old }
 {
-    let mut packing = u64::MAX;
-    let mut copying = u64::MAX;
-    let mut whole = u64::MAX;
+    let mut packing = u128::MAX;
+    let mut copying = u128::MAX;
+    let mut whole = u128::MAX;
     let mut filled = 0;
     for _ in 0..rounds {
         let start = Instant::now(rt)?;
@@ -94,11 +95,6 @@ fn measure(
     )
 }
 
-/// The rate of what took the second time, as a part of the rate of what took the first.
-fn percent(first: u64, second: u64) -> u64 {
-    first.saturating_mul(100) / second.max(1)
-}
-
-fn nanos_since(rt: &HostRuntime, start: Instant) -> io::Result<u64> {
-    Ok(u64::try_from(start.elapsed(rt)?.as_nanos()).unwrap_or(u64::MAX))
+fn nanos_since(rt: &HostRuntime, start: Instant) -> io::Result<u128> {
+    Ok(start.elapsed(rt)?.as_nanos())
 }

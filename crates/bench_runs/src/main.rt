@@ -11,7 +11,8 @@ mod entries;
 mod work;
 
 use anyhow::{Context, Result};
-use byteorder::{ByteOrder, LittleEndian};
+use bench_common::percent;
+use nvme_entry::Completion;
 use runner::Device;
 use std::alloc::Global;
 use std::rt::{Env, Files};
@@ -38,9 +39,8 @@ fn main(rt: HostRuntime) -> Result<()> {
         }
         None => {
             let run = whole_run(&rt, rt.alloc(), &mut large, SOURCE, &mut data)?;
-            let frames = LittleEndian::read_u32(&run.completion[..4]);
-            let blocks = LittleEndian::read_u32(&run.completion[4..8]);
-            println!(rt; "{frames} frames in {blocks} blocks")?;
+            let told = Completion::decode(&run.completion).context("no completion")?;
+            println!(rt; "{} frames in {} blocks", told.dw0, told.dw1)?;
             Ok(())
         }
     }
@@ -147,9 +147,4 @@ fn compare_sizes(
         "{one} ns to refuse a run over one block, {many} ns over {SOURCE}, {one_in_small} ns on a small image"
     )?;
     Ok(())
-}
-
-/// The rate of what took the second time, as a part of the rate of what took the first.
-fn percent(first: u128, second: u128) -> u128 {
-    first.saturating_mul(100) / second.max(1)
 }

@@ -26,7 +26,10 @@ pub const CACHED: u16 = 64;
 const REFUSALS: usize = 1000;
 
 /// The blocks of the largest transfer.
-pub const MOST_BLOCKS: u16 = 32;
+pub const MOST_BLOCKS: u16 = (MOST_TRANSFER / BLOCK as usize) as u16;
+
+/// The first of the two bytes of a completion's status field (NVMe Base 2.0, 3.3.3.2).
+const STATUS: usize = 14;
 
 /// The most bytes that the filter emits for a block.
 const LIMIT: u32 = 66;
@@ -39,10 +42,11 @@ pub struct WholeRun {
     pub completion: [u8; 16],
 }
 
-/// Was an event done, and not refused?
+/// Was an event done, and not refused? This is asked while time is taken, so the completion isn't decoded: its status
+/// field alone is looked at, which is 0 for success.
 fn is_done(reply: &Reply) -> bool {
     match reply {
-        Reply::Complete { entry, .. } => entry[14] == 0 && entry[15] == 0,
+        Reply::Complete { entry, .. } => entry[STATUS] == 0 && entry[STATUS + 1] == 0,
         Reply::Pending { .. } => true,
         _ => false,
     }

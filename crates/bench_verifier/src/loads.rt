@@ -1,11 +1,8 @@
 //! What is timed: loads.
 
-use ebpf_decode::decode;
-use interval_domain::Intervals;
 use program_interface::{BlockSize, RunSizes};
 use std::alloc::Global;
 use verified_run::Prepared;
-use verifier::verify;
 
 /// One load, for groups up to a limit: was it done?
 #[inline(never)]
@@ -13,10 +10,7 @@ fn load(alloc: Global, bytes: &[u8], block: BlockSize, limit: u32) -> bool {
     let Some(sizes) = RunSizes::new(block, limit) else {
         return false;
     };
-    let Ok(program) = decode(alloc, bytes) else {
-        return false;
-    };
-    let Ok(verified) = verify::<Intervals>(alloc, program, sizes) else {
+    let Ok(verified) = bench_common::load(alloc, bytes, sizes) else {
         return false;
     };
     Prepared::new(alloc, verified).is_ok()

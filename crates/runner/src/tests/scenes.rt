@@ -5,6 +5,7 @@ ghost use Rattle.std.specs.Prelude.{◌≤◌, length};
 use super::steps::{Case, Expected, bytes_of, low};
 use super::{Kept, room};
 use crate::{Device, Event, Reply};
+use image_store::Version;
 use std::alloc::Global;
 use std::process::Abort;
 use std::test::Fail;
@@ -170,7 +171,7 @@ fn image_of(alloc: Global, shape: &Shape, zones: &str) -> Result<Image, Fail> {
 
 /// Writes the bytes of an image.
 fn write_image(to: &mut Vec<u8>, shape: &Shape, zones: &str) -> Result<(), Fail> {
-    to.extend_from_slice(b"ZNSIMG02")?;
+    to.extend_from_slice(&Version::Two.magic())?;
     for number in shape {
         to.extend_from_slice(&number.to_le_bytes())?;
     }
@@ -181,7 +182,7 @@ fn write_image(to: &mut Vec<u8>, shape: &Shape, zones: &str) -> Result<(), Fail>
     to.extend_from_slice(&total.to_le_bytes())?;
     to.extend_from_slice(&[0; 24])?;
     for zone in zones.split(", ") {
-        write_record(to, zone)?;
+        write_zone_row(to, zone)?;
     }
     for zone in zones.split(", ") {
         write_blocks(to, zone)?;
@@ -189,7 +190,7 @@ fn write_image(to: &mut Vec<u8>, shape: &Shape, zones: &str) -> Result<(), Fail>
     Ok(())
 }
 
-fn write_record(to: &mut Vec<u8>, zone: &str) -> Result<(), Fail> {
+fn write_zone_row(to: &mut Vec<u8>, zone: &str) -> Result<(), Fail> {
     let (state, _) = zone.split_once(' ').unwrap_or((zone, ""));
     let blocks = firsts_of(*to.allocator(), zone)?.len();
     to.extend_from_slice(&[code_of(state), 0, 0, 0])?;
@@ -211,7 +212,7 @@ fn firsts_of(alloc: Global, zone: &str) -> Result<Vec<u8>, Fail> {
     bytes_of(alloc, firsts)
 }
 
-/// The code of a state as images have it (ZNS 1.1, figure 37).
+/// The code of a state as images have it (ZNS 1.1, 3.4.2).
 fn code_of(state: &str) -> u8 {
     match state {
         "empty" => 0x1,

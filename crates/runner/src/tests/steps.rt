@@ -22,7 +22,7 @@ pub(super) const MATCHING: Bytes = "\
 7126000000000000 5506030007000000 bf21000000000000 b702000008000000 8500000001000000 b700000000000000 \
 9500000000000000";
 
-/// The actions of Zone Management Send as Command Dword 13 has them (ZNS 1.1, figure 46).
+/// The actions of Zone Management Send as Command Dword 13 has them (ZNS 1.1, 3.4.3).
 pub(super) const CLOSE: u32 = 1;
 
 pub(super) const FINISH: u32 = 2;

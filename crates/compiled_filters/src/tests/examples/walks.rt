@@ -126,52 +126,54 @@ impl Packet {
     }
 }
 
+/// Packets, and whether the filter takes each where it is told port 8080.
+const PACKETS_SENT: [(Packet, bool); 7] = [
+    (TAKEN, true),
+    (
+        Packet {
+            port: 8080,
+            ..TAKEN
+        },
+        true,
+    ),
+    (Packet { port: 80, ..TAKEN }, false),
+    // IPv6
+    (
+        Packet {
+            kind: 0x86dd,
+            ..TAKEN
+        },
+        false,
+    ),
+    // UDP
+    (
+        Packet {
+            protocol: 17,
+            ..TAKEN
+        },
+        false,
+    ),
+    // with options
+    (
+        Packet {
+            header_words: 6,
+            ..TAKEN
+        },
+        false,
+    ),
+    (
+        Packet {
+            source: [127, 1, 2, 3],
+            ..TAKEN
+        },
+        false,
+    ),
+];
+
 #[test]
 fn packets_to_two_ports(rt: HostRuntime) -> Result<(), Fail> {
-    let packets = [
-        (TAKEN, true),
-        (
-            Packet {
-                port: 8080,
-                ..TAKEN
-            },
-            true,
-        ),
-        (Packet { port: 80, ..TAKEN }, false),
-        // IPv6
-        (
-            Packet {
-                kind: 0x86dd,
-                ..TAKEN
-            },
-            false,
-        ),
-        // UDP
-        (
-            Packet {
-                protocol: 17,
-                ..TAKEN
-            },
-            false,
-        ),
-        // with options
-        (
-            Packet {
-                header_words: 6,
-                ..TAKEN
-            },
-            false,
-        ),
-        (
-            Packet {
-                source: [127, 1, 2, 3],
-                ..TAKEN
-            },
-            false,
-        ),
-    ];
     let mut trial = Trial::new(rt.alloc());
-    for (packet, is_taken) in &packets {
+    for (packet, is_taken) in &PACKETS_SENT {
         let bytes = packet.bytes();
         trial.add(&bytes)?;
         if *is_taken {
