@@ -65,7 +65,7 @@ impl Reason {
             7 => Some(Reason::UnknownHelper),
             8 => Some(Reason::EmitAddress),
             9 => Some(Reason::EmitLength),
-            10 => Some(Reason::EmitBudget),
+            10 => Some(Reason::EmitLimit),
             _ => None,
         }
     }
