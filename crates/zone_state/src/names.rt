@@ -16,7 +16,8 @@ struct Meaning {
     sentence: &'static str,
 }
 
-/// Every status that a device gives, in the order of the numbers.
+/// Every status of [`Status`], in the order of the numbers. Program Trapped is among them, which no device gives: an
+/// accepted program never traps.
 const MEANINGS: &[Meaning] = &[
     Meaning {
         status: Status::SUCCESS,
@@ -141,7 +142,7 @@ const MEANINGS: &[Meaning] = &[
 ];
 
 /// The name (NVMe Base 2.0, NVM Command Set 1.0, ZNS 1.1; of a vendor specific status: profile), the numbers and
-/// a sentence: `Zone Is Full (type 1h, code B9h): a write to a Full zone`. Of a status that no device here gives,
+/// a sentence: `Zone Is Full (type 1h, code B9h): a write to a Full zone`. Of a status that isn't among them,
 /// the numbers alone.
 impl fmt::Display for Status {
     fn fmt<W: fmt::Write>(&self, f: &mut fmt::Formatter<W>) -> fmt::Result {
