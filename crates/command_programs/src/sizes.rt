@@ -28,7 +28,10 @@ pub(crate) fn run_sizes<'a>(
 {
     let most = block.bytes();
     let limit = limit(matches, most)?;
-    RunSizes::new(block, limit).ok_or(not_in_range(matches, EMIT, 0, u64::from(most)))
+    match RunSizes::new(block, limit) {
+        Some(sizes) => Ok(sizes),
+        None => Err(not_in_range(matches, EMIT, 0, u64::from(most))),
+    }
 }
 
 /// As many bytes as `--emit` says, or `most` where it says nothing.

@@ -16,7 +16,9 @@ use command_files::arguments::{
 use command_files::{Files, read};
 use instruction_set::Program;
 use interp::{Machine, Step};
-use program_interface::{BlockSize, CONTEXT_BYTES, Context, LARGEST_BLOCK, SCRATCH_BYTES};
+use program_interface::{
+    BlockSize, CONTEXT_BYTES, Context, LARGEST_BLOCK, RunSizes, SCRATCH_BYTES,
+};
 use program_meaning::Cause;
 use std::alloc::{AllocError, Global};
 use std::io::{self, Write};

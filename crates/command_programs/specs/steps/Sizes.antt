@@ -1,11 +1,12 @@
 -- The sizes of a run that a user asks for.
-use Rattle.std.specs.Prelude.{◌≡◌, ◌<◌, ℕ, List, codes, Option, Some, None, IfSome}
+use Rattle.std.specs.Prelude.{◌≡◌, ℕ, List, codes, Option, Some, None}
+use Rattle.std.specs.Borrow.{Bor}
 use Rattle.clap.specs.Matches.{found_of, first_value}
 use Rattle.clap.specs.declared.parser.matches.ArgMatches.{ArgMatches}
 use Rattle.program_interface.specs.RunSizes.{Sizes}
 use Rattle.command_failure.specs.declared.failure.Failure.{Failure}
-use Rattle.command_failure.specs.declared.failure.Failure.TheVariants.{NotInRange}
-use Rattle.command_files.specs.Arguments.{number_of, value_of}
+use Rattle.command_files.specs.Arguments.{number_of}
+use Rattle.command_files.specs.UserTold.{SpellsNone}
 
 -- as many bytes may be emitted as `--emit` says, or all of a block's where it says nothing
 abbrev pub IsLimit : ArgMatches → ℕ → Option (List ℕ) → ℕ → Type 0
@@ -17,8 +18,7 @@ pub record AreAskedFor (matches : ArgMatches) (block : ℕ) (sizes : Sizes) : Ty
   pub limit : IsLimit matches block (first_value (found_of matches) (codes "emit")) sizes.limit
 
 -- the word of `--emit` is no number, or one of more bytes than a block has
-abbrev pub IsOverBlock : ArgMatches → ℕ → Failure → Type 0
-IsOverBlock matches block (NotInRange option word least most) =
-    (option.now ≡ codes "emit") × (word.now ≡ value_of matches (codes "emit")) × (least ≡ 0) × (most ≡ block)
-    × IfSome (number_of matches (codes "emit")) (λ number. block < number)
-IsOverBlock matches block _ = ⊥
+pub record IsOverBlock (matches : ArgMatches) (block : ℕ) (failure : Failure) : Type 0 where
+  pub option : Bor (List ℕ)
+  pub named : option.now ≡ codes "emit"
+  pub spells : SpellsNone matches option 0 block failure
