@@ -49,9 +49,9 @@ makes_anew reads writes (Ok done) contents image path wanted before loaded after
 }
 
 -- a word that spells no number, and an image that can't be written, are no refused shape
-pub spells_none : {least most : ℕ} (matches : ArgMatches) (option : Bor (List ℕ)) (failure : Failure) → SpellsNone matches option least most failure → RefusesShape matches failure
-spells_none matches option (NotInRange told word least most) is = tt
-spells_none matches option _ is = absurd is.0
+pub spells_none : (matches : ArgMatches) (option : Bor (List ℕ)) (least most : ℕ) (failure : Failure) → SpellsNone matches option least most failure → RefusesShape matches failure
+spells_none matches option least most (NotInRange told word low high) is = tt
+spells_none matches option least most _ is = absurd is.0
 
 unwritten_shape : (matches : ArgMatches) (path : Bor (List ℕ)) (failure : Failure) → IsUnwritten path failure → RefusesShape matches failure
 unwritten_shape matches path (CannotWrite told) is = tt
