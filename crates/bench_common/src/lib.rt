@@ -7,6 +7,7 @@ use ebpf_decode::decode;
 use interval_domain::Intervals;
 use program_interface::{BlockSize, LARGEST_BLOCK, RunSizes};
 use std::alloc::Global;
+use std::env::Args;
 use std::fs;
 use std::rt::Files;
 use verifier::{Verified, VerifyFault, verify};
@@ -33,7 +34,7 @@ pub struct Timed {
 /// A word lacks, or is no number where one is due; a file can't be read; or no block has the second one's length.
 pub fn read_words<R: Files + AllocGlobal>(
     rt: &R,
-    words: &mut impl Iterator<Item = String>,
+    words: &mut Args,
 ) -> Result<Timed> {
     let program = words.next().context("no program")?;
     let block = words.next().context("no block")?;

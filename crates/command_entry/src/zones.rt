@@ -44,13 +44,13 @@ pub(crate) fn and_actions<'a>(
 ) -> Result<Command<'a>, AllocError> {
     let open = action_command(
         alloc,
-        Action::Open,
+        Action::Open.word(),
         "Opens a zone, or all Closed zones",
         "Example:\n\n  zscli entry open --lba 64",
     );
     let close = action_command(
         alloc,
-        Action::Close,
+        Action::Close.word(),
         "Closes a zone, or all open zones",
         "Example:\n\n  zscli entry close --lba 64",
     );
@@ -66,19 +66,19 @@ fn and_last_actions<'a>(
 ) -> Result<Command<'a>, AllocError> {
     let finish = action_command(
         alloc,
-        Action::Finish,
+        Action::Finish.word(),
         "Makes a zone Full, or all open and Closed zones",
         "Example:\n\n  zscli entry finish --lba 64",
     );
     let reset = action_command(
         alloc,
-        Action::Reset,
+        Action::Reset.word(),
         "Empties a zone, or all open, Closed and Full zones",
         "Example:\n\n  zscli entry reset --all",
     );
     let offline = action_command(
         alloc,
-        Action::Offline,
+        Action::Offline.word(),
         "Takes a Read Only zone offline, or all of them",
         "Example:\n\n  zscli entry offline --lba 64",
     );
@@ -87,10 +87,10 @@ fn and_last_actions<'a>(
     and_command(command, offline)
 }
 
-/// How an action stands on the command line.
+/// How an action with this name stands on the command line.
 fn action_command<'a>(
     alloc: Global,
-    action: Action,
+    name: &'a str,
     about: &'a str,
     example: &'a str,
 ) -> Result<Command<'a>, AllocError> {
@@ -99,9 +99,7 @@ fn action_command<'a>(
         .long(ALL)
         .action(ArgAction::SetTrue)
         .help("All zones that the action takes");
-    let command = Command::new(alloc, action.word())
-        .about(about)
-        .after_help(example);
+    let command = Command::new(alloc, name).about(about).after_help(example);
     let command = and_argument(Ok(command), lba);
     let command = and_argument(command, all);
     and_target(alloc, and_zones(alloc, command))

@@ -102,9 +102,10 @@ pub fn number_in<'a>(
     ensures high { IfOk result (λ number. number ≤ most) }
     ensures unspelled { IfErr result (SpellsNone matches.now option.entry least most) }
 {
+    let failure = not_in_range(matches, option, least, most);
     match spelled(required(matches, option)) {
         Some(number) if least <= number && number <= most => Ok(number),
-        _ => Err(not_in_range(matches, option, least, most)),
+        _ => Err(failure),
     }
 }
 
