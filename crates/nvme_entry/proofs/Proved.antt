@@ -5,7 +5,6 @@ use Rattle.nvme_entry.specs.CompletionFields.{CompletionsTell}
 use Rattle.nvme_entry.proofs.Agreeing as agreeing
 pub use Rattle.nvme_entry.proofs.Checked.{demanded, passed}
 use Rattle.nvme_entry.proofs.Reports as reports
-pub use Rattle.nvme_entry.proofs.Reports.{lists_every_zone}
 use Rattle.nvme_entry.proofs.Spelled as spelled
 use Rattle.nvme_entry.proofs.CompletionFields as told
 

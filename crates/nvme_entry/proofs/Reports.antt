@@ -4,15 +4,13 @@ use Rattle.std.specs.List.{enumerate_from, flat_map}
 use Rattle.std.proofs.lemmas.Bool.{cases_lt}
 use Rattle.std.proofs.lemmas.List.{take_all, drop_all, drop_at, take_at, take_min, drop-drop, length-drop, length-take, length-take-le, nil_from_length}
 use Rattle.std.proofs.lemmas.List.FromFn.{length-enumerate_from}
-use Rattle.std.proofs.lemmas.Nat.{le-div}
 use Rattle.byteorder.specs.Endian.{little_bytes}
 use Rattle.byteorder.specs.Numbers.{little_number-reads_back}
 use Rattle.zone_state.specs.Zone.{CountedZone}
 use Rattle.nvme_entry.specs.Filter.{lists}
 use Rattle.nvme_entry.specs.declared.filter.ZoneFilter.{ZoneFilter}
-use Rattle.nvme_entry.specs.declared.filter.ZoneFilter.TheVariants.{All}
 use Rattle.nvme_entry.specs.Report.{descriptor_at, fitting, report_header, listed, matching, report, taken}
-use Rattle.nvme_entry.specs.ReportLaws.{GivesWhatMatches, TellsZones, descriptors_in, number_in, pieces}
+use Rattle.nvme_entry.specs.ReportLaws.{GivesWhatMatches, TellsZones, number_in, pieces}
 use Rattle.nvme_entry.proofs.Listings.{length-descriptor, length-header, length-whole, whole}
 
 length-each : (size : ℕ) (zone : ℕ × CountedZone) → length (descriptor_at size zone) ≡ 64
@@ -163,34 +161,3 @@ gives_what_matches bytes zones first size option partial long few =
     let same_length = length-report bytes zones first size option partial in
     let few_found : length found < 2 ^ 64 = omega (arith, length-matching zones first option) in
     (same_length, tells bytes partial size found (report bytes zones first size option partial) long few_found (report-parts bytes zones first size option partial long) same_length)
-
-taken-all : (zones : List (ℕ × CountedZone)) → taken All zones ≡ zones
-taken-all [] = refl
-taken-all (zone ∷ zones) = ap (λ (zs : List (ℕ × CountedZone)). zone ∷ zs) (taken-all zones)
-
-same_number : (partial : Bool) (given count number : ℕ) → given ≡ count → number ≡ cond partial given count → number ≡ count
-same_number true given count number e is = is ∙ e
-same_number false given count number e is = is
-
--- a report of all zones from the first on, with room for all, lists every zone once, in order, and tells
--- their number
-pub lists_every_zone : (bytes : ℕ) (zones : List CountedZone) (size : ℕ) (partial : Bool)
-    → 64 + 64 * length zones ≤ bytes → length zones < 2 ^ 64
-    → let given = report bytes zones 0 size All partial in
-    (number_in given ≡ length zones)
-    × (descriptors_in (length zones) given ≡ map (descriptor_at size) (enumerate_from 0 zones))
-lists_every_zone bytes zones size partial room few =
-    let given = report bytes zones 0 size All partial in
-    let found = matching zones 0 All in
-    let all : found ≡ enumerate_from 0 zones = taken-all (enumerate_from 0 zones) in
-    let count : length found ≡ length zones = ap (λ (zs : List (ℕ × CountedZone)). length zs) all ∙ length-enumerate_from 0 zones in
-    let enough : length zones ≤ (bytes - 64) / 64 = le-div (length zones) (bytes - 64) 64 (omega arith) (omega arith) in
-    let shown : min ((bytes - 64) / 64) (length found) ≡ length zones = omega arith in
-    let told_all = (gives_what_matches bytes zones 0 size All partial (omega arith) few).1 in
-    let whole_list : take (length zones) found ≡ enumerate_from 0 zones = take_all (length zones) found (omega arith) ∙ all in (
-      same_number partial (min ((bytes - 64) / 64) (length found)) (length found) (number_in given) (shown ∙ sym count) told_all.number ∙ count,
-      ap (λ (k : ℕ). descriptors_in k given) (sym shown)
-          ∙ (told_all.descriptors
-          ∙ (ap (λ (k : ℕ). map (descriptor_at size) (take k found)) shown
-          ∙ ap (λ (zs : List (ℕ × CountedZone)). map (descriptor_at size) zs) whole_list)),
-    )

@@ -1,8 +1,8 @@
 -- Whether a run is admitted (profile).
-use Rattle.std.specs.Prelude.{ℕ, Bool, ◌≡◌, ◌+◌, ◌%◌, ◌==◌, not, nat_le, List, [], ◌∷◌, ◌++◌, length, take, drop, Option, Some, None, is_some}
+use Rattle.std.specs.Prelude.{ℕ, Bool, ◌≡◌, ◌+◌, ◌==◌, not, nat_le, List, [], ◌∷◌, ◌++◌, length, take, drop, Option, Some, None, is_some}
 use Rattle.zone_state.specs.State.{is_open}
 use Rattle.zone_state.specs.declared.status.Status.{Status}
-use Rattle.zone_state.specs.declared.status.TheConstants.Status.{ZONE_BOUNDARY_ERROR, ZONE_HELD, NO_SUCH_PROGRAM, NO_RUN_FREE, SOURCE_NOT_WRITTEN, DESTINATION_NOT_OPEN, DESTINATION_LACKS_ROOM, SOURCE_IS_DESTINATION}
+use Rattle.zone_state.specs.declared.status.TheConstants.Status.{ZONE_HELD, NO_SUCH_PROGRAM, NO_RUN_FREE, SOURCE_NOT_WRITTEN, DESTINATION_NOT_OPEN, DESTINATION_LACKS_ROOM, SOURCE_IS_DESTINATION}
 use Rattle.zone_resources.specs.Holds.{is_destination}
 use Rattle.zone_resources.specs.declared.holds.Holds.{Holds}
 use Rattle.zone_state.specs.Checks.{demand, first_failed}
@@ -11,7 +11,7 @@ use Rattle.instruction_set.specs.declared.insn.Insn.{Insn}
 use Rattle.program_interface.specs.RunSizes.{Sizes}
 use Rattle.image_store.specs.Namespace.{ZonedNamespace, zone_at}
 use Rattle.image_store.specs.declared.geometry.ZoneBlock.{ZoneBlock}
-use Rattle.zns_commands.specs.Address.{zone_number, zone_block_in, address_check, lowest_check, range_check}
+use Rattle.zns_commands.specs.Address.{zone_number, zone_offset, zone_block_in, address_check, boundary_check, lowest_check, range_check}
 use Rattle.zns_commands.specs.Read.{read_refusal}
 use Rattle.zns_commands.specs.Transfer.{transfer_checks}
 use Rattle.emit_append.specs.Need.{need}
@@ -62,7 +62,7 @@ address_checks ns order =
 -- the checks of the source, of which so many blocks from this one on are to be read
 abbrev pub source_checks : ZonedNamespace → ZoneBlock → ℕ → List (Option Status)
 source_checks ns first blocks =
-    demand (nat_le (first.offset + blocks) ns.size) ZONE_BOUNDARY_ERROR
+    boundary_check ns first blocks
     ∷ read_refusal (zone_at ns first.zone).state
     ∷ demand (nat_le (first.offset + blocks) (length (zone_at ns first.zone).blocks)) SOURCE_NOT_WRITTEN
     ∷ []
@@ -96,7 +96,7 @@ written_from ns z offset count = take count (drop offset (zone_at ns z).blocks)
 
 -- the blocks that a run reads, as they are when it is admitted
 abbrev pub source_blocks : ZonedNamespace → RunCommand → List (List ℕ)
-source_blocks ns order = written_from ns (source_zone ns order) (order.lba % ns.size) order.blocks
+source_blocks ns order = written_from ns (source_zone ns order) (zone_offset ns order.lba) order.blocks
 
 -- what a run is about of this program, of whose groups so many bytes are the most
 abbrev pub task_by : ZonedNamespace → List (Option Insn) → ℕ → RunCommand → Task
