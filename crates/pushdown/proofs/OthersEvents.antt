@@ -74,5 +74,7 @@ turned_is s run place turn later at first =
 
 pub turn_takes_first : TurnTakesFirst
 turn_takes_first s run place turn later at first =
+    let left =
     ap (λ (h : Happening). place_at h.state run) (turned_is s run place turn later at first)
-    ∙ get_or-set_same s.places run (place_left place later turn.ending) None (there s.places run place at)
+    ∙ get_or-set_same s.places run (place_left place later turn.ending) None (there s.places run place at) in
+    record { later_left = λ on. left ∙ ap (place_left place later) on; place_freed = λ ending is. left ∙ ap (place_left place later) is }

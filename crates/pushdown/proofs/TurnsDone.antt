@@ -112,8 +112,8 @@ module _ {D : Type 0} (operations : Operations D) where
         let later = rest m then (next ∷ turns)
         (record {
           apart = event_apart operations s o.starved o.event ready.apart;
-          at = ap (λ (h : Happening). place_at h.state run) is ∙ turn_takes_first s run here turn (next ∷ turns) ready.at refl
-              ∙ ap (place_left here (next ∷ turns)) ready.goes.0;
+          at = ap (λ (h : Happening). place_at h.state run) is
+              ∙ (turn_takes_first s run here turn (next ∷ turns) ready.at refl).later_left ready.goes.0;
           on = subst (λ (ns : ZonedNamespace). (zone_at ns d).state ≢ Offline) (sym took) new.on;
           goes = ready.goes.1;
         }) (omega (arith, own)) (omega (arith, less)) in

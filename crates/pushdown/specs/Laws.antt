@@ -21,7 +21,7 @@ use Rattle.pushdown.specs.EventReplies.{Happening, Submission, plain}
 use Rattle.pushdown.specs.BlockRuns.{Task, block_run, frames_of, goes_on, groups_of, runs_of, scratch_after}
 use Rattle.pushdown.specs.Draining.{Drains, turns_left}
 use Rattle.pushdown.specs.Events.{Occurrence}
-use Rattle.pushdown.specs.Happenings.{added, admitted_place, happens, place_left, turned}
+use Rattle.pushdown.specs.Happenings.{added, admitted_place, happens, turned}
 use Rattle.pushdown.specs.Outcome.{Ending, Progress, Turn, appended_by, at_admission, ending_of, last_turn, outcome, output_of, rest}
 use Rattle.pushdown.specs.Pushdown.{IsAdmitted, is_turn_of, success_of}
 use Rattle.pushdown.specs.Reached.{IsReached}
@@ -115,12 +115,17 @@ ForeignLeavesTurns operations =
     → is_turn_of run o.event ≡ false → place_at s run ≡ Some place
     → place_at (happens operations s o.starved o.event).state run ≡ Some place
 
--- a turn of a run takes the first of its turns: those after it are left, and where it ends the run nothing is
+-- the first turn of a run is taken: where the run goes on those after it are left, and where it ends its place is
+-- empty
+pub record FirstIsTaken (s : State) (run : ℕ) (place : Place) (turn : Turn) (later : List Turn) : Type 0 where
+  pub later_left : turn.ending ≡ None → place_at (turned s run).state run ≡ Some (record place { turns = later })
+  pub place_freed : (ending : Ending) → turn.ending ≡ Some ending → place_at (turned s run).state run ≡ None
+
+-- a turn of a run takes the first of its turns
 abbrev pub TurnTakesFirst : Type 0
 TurnTakesFirst =
     (s : State) (run : ℕ) (place : Place) (turn : Turn) (later : List Turn)
-    → place_at s run ≡ Some place → place.turns ≡ turn ∷ later
-    → place_at (turned s run).state run ≡ place_left place later turn.ending
+    → place_at s run ≡ Some place → place.turns ≡ turn ∷ later → FirstIsTaken s run place turn later
 
 -- what is kept for an active run: the blocks of its source, its program, and the shape of the namespace
 pub record KeepsFor (place : Place) (s t : State) : Type 0 where
