@@ -15,7 +15,7 @@ use Rattle.std.proofs.lemmas.Bool.{lt-ltb, le-leb}
 use Rattle.std.proofs.lemmas.Fmt.{decimal_is_IsNumeral, digits_is_IsNumeral, decimal_digit, decimal_step}
 use Rattle.std.proofs.lemmas.Str.Parse.{digit_from_value}
 use Rattle.ebpf_asm.specs.declared.fault.FaultKind.TheVariants.{Operand, OutOfRange}
-use Rattle.ebpf_asm.specs.Fault.{◌>>=◌}
+use Rattle.program_interface.specs.Readings.{◌>>=◌}
 use Rattle.ebpf_asm.specs.Operand.{numeral_of, magnitude_of, literal_of, immediate_of, wide_of, in_range, register_of}
 use Rattle.ebpf_asm.specs.Listing.{register_text, wide_text}
 

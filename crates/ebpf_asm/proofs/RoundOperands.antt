@@ -15,7 +15,8 @@ use Rattle.std.proofs.lemmas.List.{take_at, drop_at, get_or_at, length-append}
 use Rattle.instruction_set.specs.declared.insn.Source.TheVariants as sources
 use Rattle.ebpf_asm.specs.declared.fault.FaultKind.{FaultKind}
 use Rattle.ebpf_asm.specs.declared.fault.FaultKind.TheVariants.{Operand}
-use Rattle.ebpf_asm.specs.Fault.{◌>>=◌, read_both}
+use Rattle.program_interface.specs.Readings.{◌>>=◌}
+use Rattle.ebpf_asm.specs.Fault.{read_both}
 use Rattle.ebpf_asm.specs.Operand.{register_of, immediate_of, source_of, signed_of, short_of, long_of, offset_of, memory_of, distance_of, label_of, is_label_name, is_sign_byte, inside_brackets}
 use Rattle.ebpf_asm.specs.Listing.{register_text, signed_text, source_text, memory_text}
 use Rattle.ebpf_asm.proofs.Round.{register_again, magnitude_again, immediate_again}

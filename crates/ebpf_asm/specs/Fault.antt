@@ -1,4 +1,4 @@
--- What is wrong with a text, and how readings follow one another (profile).
+-- What is wrong with a text, and which of two faults is told (profile).
 use Rattle.std.specs.Prelude.{ℕ, Result, Ok, Err}
 use Rattle.ebpf_asm.specs.declared.fault.FaultKind.{FaultKind}
 use Rattle.ebpf_asm.specs.declared.fault.FaultKind.TheVariants.{UnknownMnemonic, Operand, OutOfRange, UnknownLabel, LabelTwice, LabelTooFar, TooLong, NotAscii}
@@ -12,12 +12,6 @@ fault_number LabelTwice = 5
 fault_number LabelTooFar = 6
 fault_number TooLong = 7
 fault_number NotAscii = 8
-
--- one reading after another: the first fault is told
-infixl 10 ◌>>=◌
-abbrev pub ◌>>=◌ : {A B : Type 0} → Result A FaultKind → (A → Result B FaultKind) → Result B FaultKind
-(Ok x) >>= f = f x
-(Err fault) >>= f = Err fault
 
 -- what two operands are: an operand that can't be read is told before a number that is out of range
 abbrev pub read_both : {A B : Type 0} → Result A FaultKind → Result B FaultKind → Result (A × B) FaultKind

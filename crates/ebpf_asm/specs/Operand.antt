@@ -9,7 +9,8 @@ use Rattle.instruction_set.specs.declared.insn.Source.{Source}
 use Rattle.instruction_set.specs.declared.insn.Source.TheVariants as sources
 use Rattle.ebpf_asm.specs.declared.fault.FaultKind.{FaultKind}
 use Rattle.ebpf_asm.specs.declared.fault.FaultKind.TheVariants.{Operand, OutOfRange}
-use Rattle.ebpf_asm.specs.Fault.{◌>>=◌, read_both}
+use Rattle.program_interface.specs.Readings.{◌>>=◌}
+use Rattle.ebpf_asm.specs.Fault.{read_both}
 
 -- r0 to r10
 abbrev pub register_of : List ℕ → Result ℕ FaultKind

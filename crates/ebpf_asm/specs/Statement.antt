@@ -7,7 +7,8 @@ use Rattle.ebpf_asm.specs.declared.mnemonic.Mnemonic.{Mnemonic}
 use Rattle.ebpf_asm.specs.declared.mnemonic.Mnemonic.TheVariants.{LoadImmediate, Load, LoadSigned, StoreImmediate, StoreRegister, Arithmetic, Negate, MoveSigned, SwapBytes, Jump, JumpLong, Branch, Call, Exit}
 use Rattle.ebpf_asm.specs.declared.fault.FaultKind.{FaultKind}
 use Rattle.ebpf_asm.specs.declared.fault.FaultKind.TheVariants.{UnknownMnemonic, Operand}
-use Rattle.ebpf_asm.specs.Fault.{◌>>=◌, read_both}
+use Rattle.program_interface.specs.Readings.{◌>>=◌}
+use Rattle.ebpf_asm.specs.Fault.{read_both}
 use Rattle.ebpf_asm.specs.Mnemonic.{mnemonic_named}
 use Rattle.ebpf_asm.specs.Operand.{register_of, source_of, immediate_of, wide_of, memory_of, distance_of, label_of, short_of, long_of}
 use Rattle.text_lines.specs.Cut.{is_blank_byte, trimmed}

@@ -10,7 +10,8 @@ use Rattle.image_store.specs.Geometry.{Shape}
 use Rattle.image_store.specs.Loading.{LoadFails}
 use Rattle.image_store.specs.steps.LoadedParts.{spliced_in}
 use Rattle.image_store.specs.Namespace.{ZoneBlocks}
-use Rattle.image_store.specs.Reading.{◌>>=◌, bytes_in, blocks_in}
+use Rattle.program_interface.specs.Readings.{◌>>=◌}
+use Rattle.image_store.specs.Reading.{bytes_in, blocks_in}
 use Rattle.image_store.proofs.ReadingCalls.{fails_then, fails_before, bind_ok, ok_is}
 use Rattle.image_store.proofs.FilledBuffers.{Split, bytes_size}
 use Rattle.image_store.proofs.ImageFields.{within, room_end}

@@ -13,7 +13,8 @@ use Rattle.image_store.specs.declared.header.Header.{Header}
 use Rattle.image_store.specs.declared.version.Version.{Version}
 use Rattle.image_store.specs.Geometry.{Shape}
 use Rattle.image_store.specs.Namespace.{ZoneBlocks, ZonedNamespace, no_zone, counted, counted_zones, shape, IsNamespace, namespace_with}
-use Rattle.image_store.specs.Reading.{◌>>=◌, bytes_in, header_told, zones_in, blocks_in, end_in, namespace_in}
+use Rattle.program_interface.specs.Readings.{◌>>=◌}
+use Rattle.image_store.specs.Reading.{bytes_in, header_told, zones_in, blocks_in, end_in, namespace_in}
 use Rattle.image_store.specs.Text.{header, written_blocks, zone_rows, blocks_text, text_of}
 use Rattle.image_store.specs.Version.{Has}
 use Rattle.image_store.proofs.TextsReadBack.{blocks_read, front_read, length-bytes, length-rows, told_of, total_small}

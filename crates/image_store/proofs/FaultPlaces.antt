@@ -23,7 +23,8 @@ use Rattle.image_store.specs.ImageInMemory.{zone_seen}
 use Rattle.image_store.specs.Geometry.{Shape}
 use Rattle.image_store.specs.Laws.{FaultsAreByPrefix, fault_end, zones_told}
 use Rattle.image_store.specs.Namespace.{ZonedNamespace, namespace_with}
-use Rattle.image_store.specs.Reading.{◌>>=◌, are_zeros, number_at, bytes_in, version_in, header_of, header_told, header_in, zone_told, zone_in, zones_in, total_kept, limits_kept, blocks_in, end_in, namespace_in}
+use Rattle.program_interface.specs.Readings.{◌>>=◌}
+use Rattle.image_store.specs.Reading.{are_zeros, number_at, bytes_in, version_in, header_of, header_told, header_in, zone_told, zone_in, zones_in, total_kept, limits_kept, blocks_in, end_in, namespace_in}
 use Rattle.image_store.specs.Text.{written_blocks}
 use Rattle.image_store.specs.Version.{numbers}
 use Rattle.image_store.proofs.Faults.{header_of_fault, is_this, kept_fault}

@@ -20,7 +20,8 @@ use Rattle.zone_state.specs.Checks.{demand, first_failed, unless_failed}
 use Rattle.image_store.specs.Geometry.{Shape, shape_checks}
 use Rattle.image_store.specs.Loading.{LoadFails, CountsFault, CountsLoad}
 use Rattle.image_store.specs.steps.LoadedParts.{IsNoStream, NoStreamFails}
-use Rattle.image_store.specs.Reading.{◌>>=◌, are_zeros, number_at, numbers_fault, numbers_in, shape_told, version_in, version_kept, zeros_kept, total_told, header_of, header_told, zone_told, zone_in, total_kept, limits_kept}
+use Rattle.program_interface.specs.Readings.{◌>>=◌}
+use Rattle.image_store.specs.Reading.{are_zeros, number_at, numbers_fault, numbers_in, shape_told, version_in, version_kept, zeros_kept, total_told, header_of, header_told, zone_told, zone_in, total_kept, limits_kept}
 use Rattle.image_store.specs.Refusal.{refusal_of}
 use Rattle.image_store.specs.Text.{written_blocks}
 use Rattle.image_store.specs.Version.{has_block, numbers}

@@ -13,7 +13,8 @@ use Rattle.image_store.specs.declared.version.Version.{Version}
 use Rattle.image_store.specs.declared.version.Version.TheVariants.{One, Two}
 use Rattle.zone_state.specs.Checks.{demand, first_failed, unless_failed}
 use Rattle.image_store.specs.Geometry.{Shape, IsShape, shape_checks}
-use Rattle.image_store.specs.Reading.{◌>>=◌, are_zeros, numbers_fault, numbers_in, shape_told, version_in, version_checks, version_kept, zeros_kept, total_told, header_of, header_told}
+use Rattle.program_interface.specs.Readings.{◌>>=◌}
+use Rattle.image_store.specs.Reading.{are_zeros, numbers_fault, numbers_in, shape_told, version_in, version_checks, version_kept, zeros_kept, total_told, header_of, header_told}
 use Rattle.image_store.specs.Version.{Has, has_block, numbers}
 use Rattle.image_store.proofs.ReadingCalls.{bind_ok, ok_is, chosen}
 use Rattle.image_store.proofs.Shapes.{both, none_fails, shape_is}

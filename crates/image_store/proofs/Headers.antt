@@ -13,11 +13,12 @@ use Rattle.image_store.specs.declared.version.Version.{Version}
 use Rattle.image_store.specs.declared.version.Version.TheVariants.{One, Two}
 use Rattle.zone_state.specs.Checks.{first_failed, unless_failed}
 use Rattle.image_store.specs.Geometry.{Shape, IsShape, shape_of, shape_checks}
-use Rattle.image_store.specs.Reading.{◌>>=◌, numbers_fault, numbers_in, shape_told, version_kept, zeros_kept, total_told, header_of, header_told, header_in}
+use Rattle.program_interface.specs.Readings.{◌>>=◌}
+use Rattle.image_store.specs.Reading.{numbers_fault, numbers_in, shape_told, version_kept, zeros_kept, total_told, header_of, header_told, header_in}
 use Rattle.image_store.specs.Text.{four_bytes, numbers_of, header_end, header}
 use Rattle.image_store.specs.Version.{Has, numbers}
 use Rattle.image_store.proofs.FilledBuffers.{Split, bytes_whole}
-use Rattle.image_store.proofs.Shapes.{none_fails, shape_passes}
+use Rattle.image_store.proofs.Shapes.{block_most, none_fails, shape_passes}
 
 pub word_again : (n : ℕ) (rest : List ℕ) → n < 2 ^ 32 → little_number 4 (four_bytes n ++ rest) ≡ n
 word_again n rest h = little_number-reads_back 4 n rest (omega arith)
@@ -33,7 +34,7 @@ numbers_again : (digit : ℕ) (s : Shape) (last : List ℕ) → IsShape s → sh
 numbers_again digit s last known =
     let bytes = with_digit digit s last in
     let most : s.zones < 2 ^ 32 = let h = known.zones_most in omega arith in
-    let e1 : little_number 4 (drop 8 bytes) ≡ s.block = let h = known.block_most in word_again s.block (drop 12 bytes) (omega arith) in
+    let e1 : little_number 4 (drop 8 bytes) ≡ s.block = let h = block_most known in word_again s.block (drop 12 bytes) (omega arith) in
     let e2 : little_number 4 (drop 12 bytes) ≡ s.zones = word_again s.zones (drop 16 bytes) most in
     let e3 : little_number 4 (drop 16 bytes) ≡ s.size = let h = known.size_most in word_again s.size (drop 20 bytes) (omega arith) in
     let e4 : little_number 4 (drop 20 bytes) ≡ s.capacity = let h = known.size_most in let k = known.capacity_most in word_again s.capacity (drop 24 bytes) (omega arith) in

@@ -5,7 +5,7 @@ use Rattle.std.proofs.lemmas.Bool.Decides.{nat_tests}
 use Rattle.std.proofs.Math.Nat.{suc-mul, add-mul, mul-le-mul_right}
 use Rattle.zone_state.specs.declared.state.ZoneState.{ZoneState}
 use Rattle.zone_state.specs.declared.state.ZoneState.TheVariants.{Empty, ImplicitlyOpened, ExplicitlyOpened, Closed, ReadOnly, Full, Offline}
-use Rattle.zone_state.specs.Zone.{CountedZone, IsZone, refusal, refusal_in, after_write}
+use Rattle.zone_state.specs.Zone.{CountedZone, IsZone, write_check, write_check_in, after_write}
 use Rattle.image_store.specs.Blocks.{blocks_of, as_blocks, block_count, bytes_of}
 use Rattle.image_store.specs.ImageInMemory.{zones_of, zone_seen, no_counted_zone, empty_counted_zone, namespace_of, IsFlat}
 use Rattle.image_store.specs.steps.Spliced.{spliced}
@@ -27,7 +27,7 @@ within_capacity Offline written capacity h = grind (arith, nat_tests)
 pub within : (s : Shape) (zs : List CountedZone) (xs : List ℕ) (z : ℕ) → IsFlat s zs xs → z < length zs → (get_or zs z no_counted_zone).written ≤ s.capacity
 within s zs xs z flat inside = within_capacity (get_or zs z no_counted_zone).state (get_or zs z no_counted_zone).written s.capacity (flat.fits z inside)
 
-room_in : (state : ZoneState) (z : CountedZone) (at n : ℕ) → refusal_in state z at n ≡ Ok tt → z.written + n ≤ z.capacity
+room_in : (state : ZoneState) (z : CountedZone) (at n : ℕ) → write_check_in state z at n ≡ Ok tt → z.written + n ≤ z.capacity
 room_in Empty z at n h = grind (arith, nat_tests)
 room_in ImplicitlyOpened z at n h = grind (arith, nat_tests)
 room_in ExplicitlyOpened z at n h = grind (arith, nat_tests)
@@ -37,7 +37,7 @@ room_in Full z at n h = cc
 room_in Offline z at n h = cc
 
 -- a write that is allowed fits
-pub allowed_fits : (z : CountedZone) (at n : ℕ) → refusal z at n ≡ Ok tt → z.written + n ≤ z.capacity
+pub allowed_fits : (z : CountedZone) (at n : ℕ) → write_check z at n ≡ Ok tt → z.written + n ≤ z.capacity
 allowed_fits z at n h = room_in z.state z at n h
 
 -- a zone as it is seen is counted as it was
@@ -53,7 +53,7 @@ counted_at s zs xs z flat inside =
 
 -- the blocks to be written have room in the zone's room
 pub has_room : (s : Shape) (zs : List CountedZone) (xs : List ℕ) (z : ℕ) (new : List ℕ) → IsFlat s zs xs → z < length zs
-    → length new ≡ block_count s.block new * s.block → refusal (get_or zs z no_counted_zone) (get_or zs z no_counted_zone).written (block_count s.block new) ≡ Ok tt
+    → length new ≡ block_count s.block new * s.block → write_check (get_or zs z no_counted_zone) (get_or zs z no_counted_zone).written (block_count s.block new) ≡ Ok tt
     → HasRoom s.block s.capacity (get_or zs z no_counted_zone).written (block_count s.block new) new
 has_room s zs xs z new flat inside whole allowed = record {
   size = whole;
@@ -71,7 +71,7 @@ room_end s zs xs z flat inside =
     omega (arith, suc-mul z (s.capacity * s.block))
 
 pub write_fits : (s : Shape) (zs : List CountedZone) (xs : List ℕ) (z : ℕ) (new : List ℕ) → IsFlat s zs xs → z < length zs
-    → length new ≡ block_count s.block new * s.block → refusal (get_or zs z no_counted_zone) (get_or zs z no_counted_zone).written (block_count s.block new) ≡ Ok tt
+    → length new ≡ block_count s.block new * s.block → write_check (get_or zs z no_counted_zone) (get_or zs z no_counted_zone).written (block_count s.block new) ≡ Ok tt
     → z * (s.capacity * s.block) + (get_or zs z no_counted_zone).written * s.block + length new ≤ length xs
 write_fits s zs xs z new flat inside whole allowed =
     let end = room_end s zs xs z flat inside in
@@ -85,7 +85,7 @@ grown_seen b c r xs new same =
 
 -- writing into the room and counting the blocks appends them to the zone
 pub append_seen : (s : Shape) (zs : List CountedZone) (xs : List ℕ) (z : ℕ) (new : List ℕ) → IsFlat s zs xs → z < length zs
-    → length new ≡ block_count s.block new * s.block → refusal (get_or zs z no_counted_zone) (get_or zs z no_counted_zone).written (block_count s.block new) ≡ Ok tt
+    → length new ≡ block_count s.block new * s.block → write_check (get_or zs z no_counted_zone) (get_or zs z no_counted_zone).written (block_count s.block new) ≡ Ok tt
     → namespace_of s (set zs z (after_write (get_or zs z no_counted_zone) (block_count s.block new))) (spliced (z * (s.capacity * s.block) + (get_or zs z no_counted_zone).written * s.block) new xs)
     ≡ appended (namespace_of s zs xs) z new
 append_seen s zs xs z new flat inside whole allowed =
@@ -106,12 +106,12 @@ inside_seen s zs xs z ns seen h =
 
 -- a write that the namespace allows is one that the image's zone allows
 pub allowed_seen : (s : Shape) (zs : List CountedZone) (xs : List ℕ) (z : ℕ) (new : List ℕ) (ns : ZonedNamespace) → namespace_of s zs xs ≡ ns → IsFlat s zs xs → z < length zs
-    → refusal (counted ns.capacity (zone_at ns z)) (counted ns.capacity (zone_at ns z)).written (block_count ns.block new) ≡ Ok tt
-    → refusal (get_or zs z no_counted_zone) (get_or zs z no_counted_zone).written (block_count s.block new) ≡ Ok tt
+    → write_check (counted ns.capacity (zone_at ns z)) (counted ns.capacity (zone_at ns z)).written (block_count ns.block new) ≡ Ok tt
+    → write_check (get_or zs z no_counted_zone) (get_or zs z no_counted_zone).written (block_count s.block new) ≡ Ok tt
 allowed_seen s zs xs z new ns seen flat inside h =
     let same = counted_at s zs xs z flat inside in
-    subst (λ (r : CountedZone). refusal r r.written (block_count s.block new) ≡ Ok tt) same
-    (subst (λ (m : ZonedNamespace). refusal (counted m.capacity (zone_at m z)) (counted m.capacity (zone_at m z)).written (block_count m.block new) ≡ Ok tt) (sym seen) h)
+    subst (λ (r : CountedZone). write_check r r.written (block_count s.block new) ≡ Ok tt) same
+    (subst (λ (m : ZonedNamespace). write_check (counted m.capacity (zone_at m z)) (counted m.capacity (zone_at m z)).written (block_count m.block new) ≡ Ok tt) (sym seen) h)
 
 empty_zones : (b c n : ℕ) (r : CountedZone) (xs : List ℕ) → r.written ≡ 0 → zones_of b c (replicate n r) xs ≡ replicate n (record { state = r.state; blocks = [] })
 empty_zones b c zero r xs none = refl

@@ -15,7 +15,8 @@ use Rattle.image_store.specs.ImageInMemory.{no_counted_zone, zone_seen}
 use Rattle.image_store.specs.Geometry.{Shape, IsShape}
 use Rattle.image_store.specs.Laws.{LoadedIsNamespace}
 use Rattle.image_store.specs.Namespace.{ZoneBlocks, no_zone, counted, IsNamespace, namespace_with}
-use Rattle.image_store.specs.Reading.{◌>>=◌, bytes_in, zone_rows_in, zones_in, limits_kept, blocks_in}
+use Rattle.program_interface.specs.Readings.{◌>>=◌}
+use Rattle.image_store.specs.Reading.{bytes_in, zone_rows_in, zones_in, limits_kept, blocks_in}
 use Rattle.image_store.proofs.TextsReadBack.{at-counted}
 use Rattle.image_store.proofs.ReadingCalls.{bind_ok, ok_is, chosen}
 use Rattle.image_store.proofs.ByteParts.{front_fit, rest_fit, blocks_fit}

@@ -19,7 +19,8 @@ use Rattle.image_store.specs.declared.version.Version.{Version}
 use Rattle.image_store.specs.declared.version.Version.TheVariants.{One, Two}
 use Rattle.image_store.specs.Geometry.{Shape, IsShape}
 use Rattle.image_store.specs.Namespace.{ZoneBlocks, ZonedNamespace, counted, shape, namespace_with}
-use Rattle.image_store.specs.Reading.{◌>>=◌, are_zeros, total_told, header_told, header_in, total_kept, zone_told, zone_in, zones_in, zone_rows_in, limits_kept, blocks_in, end_in, namespace_in, bytes_in}
+use Rattle.program_interface.specs.Readings.{◌>>=◌}
+use Rattle.image_store.specs.Reading.{are_zeros, total_told, header_told, header_in, total_kept, zone_told, zone_in, zones_in, zone_rows_in, limits_kept, blocks_in, end_in, namespace_in, bytes_in}
 use Rattle.image_store.specs.Text.{four_bytes, header, written_blocks, zone_row, zone_rows, blocks_text, text_of}
 use Rattle.image_store.specs.Version.{Has}
 use Rattle.image_store.proofs.ReadingCalls.{bind_ok, ok_is, chosen, passed}

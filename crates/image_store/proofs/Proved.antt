@@ -1,9 +1,12 @@
 -- What the proofs of other crates cite of this one: laws, and lemmas of zones and blocks.
 use Rattle.std.proofs.Common.{ℕ, ◌≡◌, ◌+◌, ◌*◌, ◌<◌, ◌≤◌, List, [], length, get_or, take, drop, Ok}
-use Rattle.zone_state.specs.Zone.{CountedZone, IsZone, refusal, after_write}
+use Rattle.zone_state.specs.Zone.{CountedZone, IsZone, write_check, after_write}
 use Rattle.zone_state.specs.declared.state.ZoneState.{ZoneState}
 use Rattle.program_interface.specs.Bytes.{AreBytes}
+use Rattle.program_interface.specs.declared.block_size.TheConstants.{LARGEST_BLOCK}
 use Rattle.image_store.specs.Blocks.{blocks_of, bytes_of}
+use Rattle.image_store.specs.declared.geometry.TheConstants.{MOST_BYTES}
+use Rattle.image_store.specs.Geometry.{Shape, IsShape}
 use Rattle.image_store.specs.Namespace.{ZoneBlocks, no_zone}
 use Rattle.image_store.specs.Laws.{LoadedIsNamespace, SavedTextsLoad}
 use Rattle.image_store.proofs.TextsReadBack.{saved_again}
@@ -13,12 +16,25 @@ use Rattle.image_store.proofs.LoadedNamespaces as loaded
 use Rattle.image_store.proofs.BlocksOfBytes.{bytes-blocks, length-blocks}
 use Rattle.image_store.proofs.SoundImages.{block-at, zone_with_blocks}
 use Rattle.image_store.proofs.ReplacedZones.{after_write_zone}
+use Rattle.image_store.proofs.Shapes as shapes
 
 pub saved_texts_load : SavedTextsLoad
 saved_texts_load = saved_again
 
 pub loaded_is_namespace : LoadedIsNamespace
 loaded_is_namespace = loaded.loaded_is_namespace
+
+-- of a shape, a block has so many bytes at least,
+pub block_some : {s : Shape} → IsShape s → 512 ≤ s.block
+block_some = shapes.block_some
+
+-- and at most,
+pub block_most : {s : Shape} → IsShape s → s.block ≤ LARGEST_BLOCK
+block_most = shapes.block_most
+
+-- and the blocks of a zone take no more than those of all zones may
+pub slot_room : {s : Shape} → IsShape s → s.capacity * s.block ≤ MOST_BYTES
+slot_room = shapes.slot_room
 
 -- bytes are cut into as many blocks as are asked for,
 pub blocks_are_counted : (block count : ℕ) (bytes : List ℕ) → length (blocks_of block count bytes) ≡ count
@@ -42,11 +58,11 @@ pub written_is_within : (state : ZoneState) (written capacity : ℕ) → IsZone 
 written_is_within = within_capacity
 
 -- and are so behind a write that is allowed,
-pub allowed_is_within : (z : CountedZone) (at count : ℕ) → refusal z at count ≡ Ok tt → z.written + count ≤ z.capacity
+pub allowed_is_within : (z : CountedZone) (at count : ℕ) → write_check z at count ≡ Ok tt → z.written + count ≤ z.capacity
 allowed_is_within = allowed_fits
 
 -- of which the zone is left in a state that fits it
-pub writes_keep_zones : (z : CountedZone) (count : ℕ) → 1 ≤ count → refusal z z.written count ≡ Ok tt
+pub writes_keep_zones : (z : CountedZone) (count : ℕ) → 1 ≤ count → write_check z z.written count ≡ Ok tt
     → IsZone (after_write z count).state (after_write z count).written z.capacity
 writes_keep_zones = after_write_zone
 

@@ -3,7 +3,7 @@ use Rattle.std.proofs.Common.{◌≡◌, Bool, true, false, cond, Result, Ok, Er
 use Rattle.image_store.specs.declared.fault.LoadFault.{LoadFault}
 use Rattle.image_store.specs.declared.fault.LoadFault.TheVariants.{Stream, Memory}
 use Rattle.image_store.specs.Loading.{LoadFails, LoadGives}
-use Rattle.image_store.specs.Reading.{◌>>=◌}
+use Rattle.program_interface.specs.Readings.{◌>>=◌}
 
 -- a fault of the first call is one of both
 pub fails_then : {X Y : Type 0} (wanted may : Type 0) (fault : LoadFault) (read : Result X LoadFault) (next : X → Result Y LoadFault) → (wanted → may) → LoadFails wanted fault read → LoadFails may fault (read >>= next)

@@ -6,7 +6,7 @@ use Rattle.std.proofs.lemmas.List.{length-set}
 use Rattle.zone_state.specs.declared.state.ZoneState.{ZoneState}
 use Rattle.zone_state.specs.declared.state.ZoneState.TheVariants.{Empty, ImplicitlyOpened, ExplicitlyOpened, Closed, ReadOnly, Full, Offline}
 use Rattle.zone_state.specs.State.{is_cleared}
-use Rattle.zone_state.specs.Zone.{CountedZone, IsZone, kept, refusal, after_write, written_state}
+use Rattle.zone_state.specs.Zone.{CountedZone, IsZone, kept, write_check, after_write, written_state}
 use Rattle.image_store.specs.Blocks.{block_count, blocks_of}
 use Rattle.image_store.specs.ImageInMemory.{zone_seen, no_counted_zone, namespace_of, IsFlat}
 use Rattle.image_store.specs.steps.Spliced.{spliced}
@@ -51,7 +51,7 @@ written_zone ReadOnly written capacity false some fits other = let apart = eqb-f
 written_zone Full written capacity false some fits other = let apart = eqb-false written capacity other in (omega arith, grind (arith, nat_tests))
 written_zone Offline written capacity false some fits other = let apart = eqb-false written capacity other in (omega arith, grind (arith, nat_tests))
 
-pub after_write_zone : (z : CountedZone) (n : ℕ) → 1 ≤ n → refusal z z.written n ≡ Ok tt → IsZone (after_write z n).state (after_write z n).written z.capacity
+pub after_write_zone : (z : CountedZone) (n : ℕ) → 1 ≤ n → write_check z z.written n ≡ Ok tt → IsZone (after_write z n).state (after_write z n).written z.capacity
 after_write_zone z n some allowed =
     written_zone z.state (z.written + n) z.capacity (nat_eq (z.written + n) z.capacity) (omega arith) (allowed_fits z z.written n allowed) refl
 
@@ -76,7 +76,7 @@ flat_set s zs xs ys z r flat size same fits = record {
 
 -- a write that is allowed leaves an allowed counted zone
 pub flat_append : (s : Shape) (zs : List CountedZone) (xs : List ℕ) (z : ℕ) (new : List ℕ) → IsFlat s zs xs → z < length zs → 1 ≤ block_count s.block new
-    → length new ≡ block_count s.block new * s.block → refusal (get_or zs z no_counted_zone) (get_or zs z no_counted_zone).written (block_count s.block new) ≡ Ok tt
+    → length new ≡ block_count s.block new * s.block → write_check (get_or zs z no_counted_zone) (get_or zs z no_counted_zone).written (block_count s.block new) ≡ Ok tt
     → IsFlat s (set zs z (after_write (get_or zs z no_counted_zone) (block_count s.block new))) (spliced (z * (s.capacity * s.block) + (get_or zs z no_counted_zone).written * s.block) new xs)
 flat_append s zs xs z new flat inside some whole allowed =
     let was = get_or zs z no_counted_zone in

@@ -14,6 +14,24 @@ use Rattle.image_store.specs.Laws.{VersionsAreKnown}
 use Rattle.image_store.specs.Version.{has_block}
 use Rattle.image_store.specs.Geometry.{Shape, IsShape, is_counted, are_limits, shape_checks, tested}
 
+block_range : (bytes : ℕ) → IsBlockSize bytes → (512 ≤ bytes) × (bytes ≤ LARGEST_BLOCK)
+block_range bytes is = grind (arith, nat_tests)
+
+-- what a block has at least,
+pub block_some : {s : Shape} → IsShape s → 512 ≤ s.block
+block_some {s} known = (block_range s.block known.block_size).0
+
+-- and at most;
+pub block_most : {s : Shape} → IsShape s → s.block ≤ LARGEST_BLOCK
+block_most {s} known = (block_range s.block known.block_size).1
+
+-- what the blocks of a zone take at most
+pub slot_room : {s : Shape} → IsShape s → s.capacity * s.block ≤ MOST_BYTES
+slot_room {s} known =
+    let room = known.room in
+    let one : 1 * (s.capacity * s.block) ≤ s.zones * (s.capacity * s.block) = mul-le-mul_right (s.capacity * s.block) known.zones_some in
+    omega arith
+
 counted_true : (n most : ℕ) → 1 ≤ n → n ≤ most → is_counted n most ≡ true
 counted_true n most low high = rw (le-leb 1 n low, le-leb n most high) refl
 
@@ -39,9 +57,6 @@ none_fails (Some first) x y e = absurd cc
 in_range : (n most : ℕ) → is_counted n most ≡ true → (1 ≤ n) × (n ≤ most)
 in_range n most e = let p = and_parts (nat_le 1 n) (nat_le n most) e in (leb-true 1 n p.0, leb-true n most p.1)
 
-block_range : (bytes : ℕ) → IsBlockSize bytes → (512 ≤ bytes) × (bytes ≤ LARGEST_BLOCK)
-block_range bytes is = grind (arith, nat_tests)
-
 pub shape_is : (s t : Shape) → tested s ≡ Ok t → IsShape s
 shape_is s t e =
     let room = nat_le (s.zones * s.capacity * s.block) MOST_BYTES in
@@ -56,18 +71,14 @@ shape_is s t e =
     let d = both (is_counted s.capacity s.size) ZoneCapacity (first_failed limits) c.1 in
     let f = both (are_limits s.limits s.zones) ResourceLimits (first_failed last) d.1 in
     let g = both room TooLarge None f.1 in
-    let block = block_range s.block a.0 in
     let many = in_range s.zones MOST_ZONES b.0 in
     let long = in_range s.size MOST_ZONE_BLOCKS c.0 in
     let some = in_range s.capacity s.size d.0 in
     let both_limits = and_parts (is_counted s.limits.open_limit s.limits.active_limit) (nat_le s.limits.active_limit s.zones) f.0 in
     let opened = in_range s.limits.open_limit s.limits.active_limit both_limits.0 in
     let all : s.zones * (s.capacity * s.block) ≤ MOST_BYTES = let most = leb-true (s.zones * s.capacity * s.block) MOST_BYTES g.0 in omega (arith, mul_assoc s.zones s.capacity s.block) in
-    let one : 1 * (s.capacity * s.block) ≤ s.zones * (s.capacity * s.block) = mul-le-mul_right (s.capacity * s.block) many.0 in
     record {
       block_size = a.0;
-      block_some = block.0;
-      block_most = block.1;
       zones_some = many.0;
       zones_most = many.1;
       size_some = long.0;
@@ -77,7 +88,6 @@ shape_is s t e =
       open_some = opened.0;
       open_most = opened.1;
       active_most = leb-true s.limits.active_limit s.zones both_limits.1;
-      slot = omega arith;
       room = all;
     }
 

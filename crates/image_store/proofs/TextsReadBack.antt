@@ -24,7 +24,8 @@ use Rattle.image_store.specs.declared.version.Version.{Version}
 use Rattle.image_store.specs.declared.version.Version.TheVariants.{One, Two}
 use Rattle.image_store.specs.Geometry.{Shape, IsShape}
 use Rattle.image_store.specs.Namespace.{ZoneBlocks, ZonedNamespace, no_zone, counted, counted_zones, shape, IsNamespace}
-use Rattle.image_store.specs.Reading.{◌>>=◌, zone_told, zone_in, zones_in, zone_rows_in, total_kept, limits_kept, blocks_in, namespace_in}
+use Rattle.program_interface.specs.Readings.{◌>>=◌}
+use Rattle.image_store.specs.Reading.{zone_told, zone_in, zones_in, zone_rows_in, total_kept, limits_kept, blocks_in, namespace_in}
 use Rattle.image_store.specs.Text.{header, written_blocks, zone_row, zone_rows, blocks_text, text, text_of}
 use Rattle.image_store.specs.Version.{Has}
 use Rattle.image_store.proofs.FilledBuffers.{Split, bytes_whole}

@@ -3,7 +3,8 @@ use Rattle.std.proofs.Common.{◌≡◌, ℕ, List, Result, Ok, ap, subst}
 use Rattle.image_store.specs.declared.fault.LoadFault.{LoadFault}
 use Rattle.image_store.specs.Laws.{UpgradedStandsForTheSame, UpgradingTwiceIsOnce}
 use Rattle.image_store.specs.Namespace.{ZonedNamespace}
-use Rattle.image_store.specs.Reading.{◌>>=◌, namespace_in}
+use Rattle.program_interface.specs.Readings.{◌>>=◌}
+use Rattle.image_store.specs.Reading.{namespace_in}
 use Rattle.image_store.specs.Text.{text}
 use Rattle.image_store.proofs.TextsReadBack.{saved_again}
 use Rattle.image_store.proofs.ReadingCalls.{bind_ok, ok_is}

@@ -5,7 +5,8 @@ use Rattle.zone_state.specs.Zone.{CountedZone}
 use Rattle.image_store.specs.declared.fault.LoadFault.{LoadFault}
 use Rattle.image_store.specs.declared.fault.LoadFault.TheVariants.{Stream, Memory}
 use Rattle.image_store.specs.Loading.{LoadFails}
-use Rattle.image_store.specs.Reading.{◌>>=◌, zone_in, zones_in}
+use Rattle.program_interface.specs.Readings.{◌>>=◌}
+use Rattle.image_store.specs.Reading.{zone_in, zones_in}
 
 -- what was read before, and what is still read
 abbrev pub with_front : List CountedZone → Result (List CountedZone) LoadFault → Result (List CountedZone) LoadFault

@@ -2,7 +2,6 @@
 use Rattle.std.specs.Prelude.{ℕ, Bool, ◌≤◌, ◌*◌, ◌/◌, ◌%◌, ◌&&◌, nat_le, nat_lt, List, [], ◌∷◌, Option, Some, None, Result, if◌then◌else◌}
 use Rattle.program_interface.specs.BlockSize.{is_block_size, IsBlockSize}
 use Rattle.zone_resources.specs.declared.admission.Limits.{Limits}
-use Rattle.program_interface.specs.declared.block_size.TheConstants.{LARGEST_BLOCK}
 use Rattle.image_store.specs.declared.geometry.ZoneBlock.{ZoneBlock}
 use Rattle.image_store.specs.declared.geometry.TheConstants.{MOST_BYTES, MOST_ZONES, MOST_ZONE_BLOCKS}
 use Rattle.image_store.specs.declared.geometry.GeometryFault.{GeometryFault}
@@ -56,8 +55,6 @@ tested s = unless_failed (first_failed (shape_checks s)) s
 -- what follows for each shape that passes the tests, and for no other
 pub record IsShape (s : Shape) : Type 0 where
   pub block_size : IsBlockSize s.block
-  pub block_some : 512 ≤ s.block
-  pub block_most : s.block ≤ LARGEST_BLOCK
   pub zones_some : 1 ≤ s.zones
   pub zones_most : s.zones ≤ MOST_ZONES
   pub size_some : 1 ≤ s.size
@@ -67,7 +64,6 @@ pub record IsShape (s : Shape) : Type 0 where
   pub open_some : 1 ≤ s.limits.open_limit
   pub open_most : s.limits.open_limit ≤ s.limits.active_limit
   pub active_most : s.limits.active_limit ≤ s.zones
-  pub slot : s.capacity * s.block ≤ MOST_BYTES
   pub room : s.zones * (s.capacity * s.block) ≤ MOST_BYTES
 
 -- the zone that contains a logical block, where zones have so many blocks, and the block's offset from the zone's

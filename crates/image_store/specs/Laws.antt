@@ -9,7 +9,8 @@ use Rattle.image_store.specs.declared.version.Version.TheVariants.{Two}
 use Rattle.program_interface.specs.Bytes.{AreBytes}
 use Rattle.image_store.specs.Geometry.{Shape, IsShape, tested}
 use Rattle.image_store.specs.Namespace.{ZonedNamespace, shape, IsNamespace}
-use Rattle.image_store.specs.Reading.{◌>>=◌, shape_told, namespace_in}
+use Rattle.program_interface.specs.Readings.{◌>>=◌}
+use Rattle.image_store.specs.Reading.{shape_told, namespace_in}
 use Rattle.image_store.specs.Text.{text, text_of}
 use Rattle.image_store.specs.Version.{Has, has_block, numbers}
 

@@ -54,9 +54,13 @@ grown capacity zone more = record {
   blocks = zone.blocks ++ more;
 }
 
--- the namespace with these bytes written, as blocks, at a zone's write pointer
+-- the namespace with these blocks written at a zone's write pointer
+abbrev pub grown_at : ZonedNamespace → ℕ → List (List ℕ) → ZonedNamespace
+grown_at ns z more = with_zone ns z (grown ns.capacity (zone_at ns z) more)
+
+-- the same of bytes, as blocks
 abbrev pub appended : ZonedNamespace → ℕ → List ℕ → ZonedNamespace
-appended ns z bytes = with_zone ns z (grown ns.capacity (zone_at ns z) (as_blocks ns.block bytes))
+appended ns z bytes = grown_at ns z (as_blocks ns.block bytes)
 
 -- a zone that comes into a state, with the blocks that it keeps there
 abbrev pub arrived : ZoneState → ZoneBlocks → ZoneBlocks

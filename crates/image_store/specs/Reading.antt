@@ -4,6 +4,7 @@ use Rattle.std.specs.Prelude.{ℕ, zero, suc, Bool, ◌+◌, ◌*◌, ◌==◌, 
 use Rattle.std.specs.List.{find, list_all, starts_with}
 use Rattle.std.specs.Option.{ok_or, option_map}
 use Rattle.byteorder.specs.Endian.{little_number}
+use Rattle.program_interface.specs.Readings.{◌>>=◌}
 use Rattle.zone_state.specs.declared.state.ZoneState.{ZoneState}
 use Rattle.zone_state.specs.State.{state_of}
 use Rattle.zone_state.specs.Zone.{CountedZone, fits_state}
@@ -24,11 +25,6 @@ use Rattle.image_store.specs.Refusal.{refusal_of}
 use Rattle.image_store.specs.Namespace.{ZoneBlocks, ZonedNamespace, namespace_with}
 use Rattle.image_store.specs.Text.{written_blocks}
 use Rattle.image_store.specs.Version.{numbers, has_block}
-
-infixl 10 ◌>>=◌
-abbrev pub ◌>>=◌ : {X Y : Type 0} → Result X LoadFault → (X → Result Y LoadFault) → Result Y LoadFault
-(Ok x) >>= next = next x
-(Err first) >>= next = Err first
 
 -- so many bytes, and the rest
 abbrev pub bytes_in : ℕ → List ℕ → Result (List ℕ × List ℕ) LoadFault

@@ -180,6 +180,7 @@ impl Geometry {
     }
 
     /// Bytes that the blocks of one zone may take.
+    #[tactic(auto, using(crate::proofs::Shapes::slot_room))]
     pub fn zone_room(self) -> usize
         ensures { result ≡ self.capacity * self.block }
     {

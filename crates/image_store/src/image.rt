@@ -2,7 +2,7 @@
 
 ghost use Rattle.std.specs.Prelude.{◌≡◌, ◌≤◌, ◌<◌, ◌+◌, ◌-◌, ◌*◌, ◌^◌, length, replicate, IfOk, IsOk, take, drop, Ok};
 ghost use Rattle.zone_resources.specs.Counts.{counts_of};
-ghost use Rattle.zone_state.specs.Zone.{refusal, IsZone, kept};
+ghost use Rattle.zone_state.specs.Zone.{write_check, IsZone, kept};
 ghost use Rattle.image_store.specs.Geometry.{IsShape};
 ghost use Rattle.image_store.specs.Blocks.{block_count, bytes_of};
 ghost use Rattle.image_store.specs.Streams.{Takes, CountsFailure};
@@ -182,7 +182,7 @@ impl Image {
         requires inside { zone < length self.old.zones }
         requires some { 1 ≤ block_count self.old.block bytes.now }
         requires whole { length bytes.now ≡ block_count self.old.block bytes.now * self.old.block }
-        requires allowed { let z = counted self.old.capacity (zone_at self.old zone) in refusal z z.written (block_count self.old.block bytes.now) ≡ Ok tt }
+        requires allowed { let z = counted self.old.capacity (zone_at self.old zone) in write_check z z.written (block_count self.old.block bytes.now) ≡ Ok tt }
         requires limits { IsWithinLimits (appended self.old zone bytes.now) }
         ensures { self.new ≡ appended self.old zone bytes.now }
     {

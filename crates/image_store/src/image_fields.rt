@@ -2,7 +2,7 @@
 
 ghost use Rattle.std.specs.Prelude.{◌≡◌, ◌≤◌, ◌<◌, ◌+◌, ◌*◌, ◌^◌, length, get_or, set, take, drop, Ok};
 ghost use Rattle.zone_resources.specs.Counts.{counts_of};
-ghost use Rattle.zone_state.specs.Zone.{refusal, IsZone, kept};
+ghost use Rattle.zone_state.specs.Zone.{write_check, IsZone, kept};
 ghost use Rattle.image_store.specs.Blocks.{block_count, bytes_of};
 ghost use Rattle.image_store.specs.ImageInMemory.{IsFlat, IsImage, namespace_of, empty_counted_zone, no_counted_zone};
 ghost use Rattle.image_store.specs.steps.Spliced.{spliced};
@@ -89,7 +89,7 @@ pub fn append(
     requires inside { zone < length zones.old }
     requires some { 1 ≤ block_count geometry.block bytes.now }
     requires whole { length bytes.now ≡ block_count geometry.block bytes.now * geometry.block }
-    requires allowed { let z = get_or zones.old zone no_counted_zone in refusal z z.written (block_count geometry.block bytes.now) ≡ Ok tt }
+    requires allowed { let z = get_or zones.old zone no_counted_zone in write_check z z.written (block_count geometry.block bytes.now) ≡ Ok tt }
     requires limits { IsWithinLimits (appended (namespace_of geometry zones.old blocks.old) zone bytes.now) }
     ensures state { namespace_of geometry zones.new blocks.new ≡ appended (namespace_of geometry zones.old blocks.old) zone bytes.now }
     ensures image { IsImage geometry zones.new counts.new blocks.new }

@@ -4,5 +4,6 @@ pub mod Bytes
 pub mod Context
 pub mod Frame
 pub mod Gives
+pub mod Readings
 pub mod Registers
 pub mod RunSizes

@@ -5,6 +5,7 @@ use Rattle.program_interface.specs.Frame.{frames}
 use Rattle.program_meaning.specs.BlockRun.{BlockRun}
 use Rattle.word_domain.specs.Domain.{Operations}
 use Rattle.accepted_programs.specs.Laws.{AcceptedNeverTraps}
+use Rattle.image_store.proofs.Proved.{block_most, block_some}
 use Rattle.emit_append.specs.Unpacking.{unpacked}
 use Rattle.emit_append.specs.PackedLaw.{FitBlock}
 use Rattle.emit_append.specs.Packing.{packed}
@@ -51,7 +52,7 @@ emitted_reads_back operations never s reached sub order run admitted =
     let whole = (outcome_is_packed task source (all_exit operations never reached.first.block sub s order fine none)).blocks in
     let fit = subst (FitBlock block) given.are.groups (groups_within task runs sizes.fits done) in
     let back = packed_frames_read_back block given.records
-    (omega (arith, fine.is.shape.block_some)) (omega (arith, fine.is.shape.block_most)) given.some fit in (
+    (omega (arith, block_some fine.is.shape)) (omega (arith, block_most fine.is.shape)) given.some fit in (
       given.records,
       (
         given.are,

@@ -13,6 +13,7 @@ use Rattle.program_interface.specs.Bytes.{AreBytes}
 use Rattle.image_store.specs.Blocks.{bytes_of}
 use Rattle.image_store.specs.Geometry.{Shape}
 use Rattle.image_store.specs.Namespace.{shape, IsNamespace}
+use Rattle.image_store.proofs.Proved.{block_most}
 use Rattle.nvme_entry.proofs.Proved.{demanded, passed}
 use Rattle.pushdown.specs.Admission.{admission_checks}
 use Rattle.pushdown.specs.EventReplies.{Submission}
@@ -110,7 +111,7 @@ module _ {D : Type 0} (operations : Operations D) (never : AcceptedNeverTraps op
         let whole : appended_by (take (so_far + 1) all_turns) ≡ appended_by all_turns = ap appended_by (take_all (so_far + 1) all_turns (omega (arith, ended))) in
         let parts = subst PartsAreRead whole appended_are_read in
         let back = emitted_reads_back operations never s reached sub order run admitted in
-        let small : 1 * s.namespace.block ≤ MOST_TRANSFER = omega (arith, fine.is.shape.block_most) in (
+        let small : 1 * s.namespace.block ≤ MOST_TRANSFER = omega (arith, block_most fine.is.shape) in (
           back.0,
           (
             back.1.0,

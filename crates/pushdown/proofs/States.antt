@@ -31,6 +31,7 @@ use Rattle.emit_append.proofs.Proved.{need_grows, need_is_enough}
 use Rattle.program_interface.specs.Bytes.{AreBytes}
 use Rattle.image_store.specs.Geometry.{Shape}
 use Rattle.image_store.specs.Namespace.{ZonedNamespace, IsNamespace, zone_at}
+use Rattle.image_store.proofs.Proved.{block_most}
 use Rattle.zns_commands.specs.Left as kept
 use Rattle.zns_commands.specs.Laws.{IsSpelled, NamespaceEvent, after}
 use Rattle.zns_commands.proofs.Proved.{destinations_are_left, events_keep_namespaces, events_keep_shapes}
@@ -185,7 +186,7 @@ module _ {D : Type 0} (operations : Operations D) (never : AcceptedNeverTraps op
     never = subst (λ (n : ℕ). NeverTraps loaded.program loaded.limit n) (sym size)
         (never loaded.program h.program (granted loaded.limit) h.sizes h.accepted);
     sizes = record { block_size = is.shape.block_size; fits = subst (λ (n : ℕ). loaded.limit ≤ n) (sym size) h.sizes.fits };
-    small = omega (arith, is.shape.block_most);
+    small = omega (arith, block_most is.shape);
   }
 
   -- a run that no check refuses

@@ -12,6 +12,7 @@ use Rattle.zone_resources.specs.Holds.{no_holds}
 use Rattle.nvme_entry.specs.declared.command.TheConstants.{MOST_TRANSFER}
 use Rattle.image_store.specs.Blocks.{bytes_of}
 use Rattle.image_store.specs.Namespace.{ZoneBlocks, ZonedNamespace, IsNamespace, appended, grown, no_zone, zone_at}
+use Rattle.image_store.proofs.Proved.{block_most, block_some}
 use Rattle.zns_commands.specs.Append.{TakesBlocks, append_checks}
 use Rattle.zns_commands.proofs.Proved.{blocks_are_the_effect, blocks_keep_namespaces, taken_blocks_pass}
 use Rattle.pushdown.specs.Laws.{IsAppended, RoomIn, RoomIsOpen, RoomStays}
@@ -51,7 +52,7 @@ module _ (ns : ZonedNamespace) (z : ℕ) (b : List ℕ) (bs : List (List ℕ)) (
 
   more_takes : IsNamespace ns → AreBlocks ns.block more → TakesBlocks ns z (bytes_of more)
   more_takes sound new =
-      let some : 1 ≤ ns.block = omega (arith, sound.shape.block_some) in
+      let some : 1 ≤ ns.block = omega (arith, block_some sound.shape) in
       let count = bytes_count ns.block more some new in
       record {
         opened = is;
@@ -61,7 +62,7 @@ module _ (ns : ZonedNamespace) (z : ℕ) (b : List ℕ) (bs : List (List ℕ)) (
       }
 
   more_added : IsNamespace ns → AreBlocks ns.block more → added ns z more ≡ appended ns z (bytes_of more)
-  more_added sound new = added_bytes ns z more (λ e. cc) (omega (arith, sound.shape.block_some)) new
+  more_added sound new = added_bytes ns z more (λ e. cc) (omega (arith, block_some sound.shape)) new
 
   pub more_sound : IsNamespace ns → AreBlocks ns.block more → IsNamespace (added ns z more)
   more_sound sound new =
@@ -73,8 +74,8 @@ module _ (ns : ZonedNamespace) (z : ℕ) (b : List ℕ) (bs : List (List ℕ)) (
       let takes = more_takes sound new in
       let product : length more * ns.block ≤ 2 * ns.block = mul-le-mul_right ns.block few in
       let long = bytes_long ns.block more new in
-      let most : length (bytes_of more) ≤ MOST_TRANSFER = omega (arith, long, product, sound.shape.block_most) in
-      let count = bytes_count ns.block more (omega (arith, sound.shape.block_some)) new in
+      let most : length (bytes_of more) ≤ MOST_TRANSFER = omega (arith, long, product, block_most sound.shape) in
+      let count = bytes_count ns.block more (omega (arith, block_some sound.shape)) new in
       record {
         takes = takes;
         passes =

@@ -18,7 +18,7 @@ use Rattle.program_interface.specs.RunSizes.{Sizes}
 use Rattle.word_domain.specs.Domain.{Operations}
 use Rattle.accepted_programs.specs.Accepted.{refusal, reason_number}
 use Rattle.accepted_programs.specs.declared.reason.Refusal.{Refusal}
-use Rattle.image_store.specs.Namespace.{ZonedNamespace, zone_at, with_zone, grown}
+use Rattle.image_store.specs.Namespace.{ZonedNamespace, grown_at}
 use Rattle.zns_commands.specs.Effect.{Effect}
 use Rattle.zns_commands.specs.Fault.{fault_answer, faulted}
 use Rattle.zns_commands.specs.Meaning.{meaning}
@@ -119,7 +119,7 @@ starting sub s order = start_by (why_not_run sub s order) (free_place s) sub s o
 -- the namespace with blocks written at a zone's write pointer, as by a Zone Append that meets no hold
 abbrev pub added : ZonedNamespace → ℕ → List (List ℕ) → ZonedNamespace
 added ns z [] = ns
-added ns z blocks = with_zone ns z (grown ns.capacity (zone_at ns z) blocks)
+added ns z blocks = grown_at ns z blocks
 
 -- the result of a run is kept in its program's slot
 abbrev pub keeping : Option Loaded → Option (List ℕ) → Option Loaded

@@ -9,6 +9,7 @@ use Rattle.interval_domain.specs.Intervals.{intervals}
 use Rattle.verifier.specs.Verified.{program_of, sizes_of}
 use Rattle.image_store.specs.Geometry.{Shape}
 use Rattle.image_store.specs.Namespace.{ZonedNamespace, shape, zone_at}
+use Rattle.image_store.proofs.Proved.{block_some}
 use Rattle.zns_commands.specs.Address.{zone_number}
 use Rattle.zns_commands.specs.Left.{Grows}
 use Rattle.zns_commands.specs.declared.answer.Answer.{Answer}
@@ -71,7 +72,7 @@ module _ (ns : ZonedNamespace) (slots : List (Option LoadedProgram)) (runs : Lis
       let sound = reached_is_sound s reached in
       record {
         run = fits;
-        some = omega (arith, sound.namespace.shape.block_some);
+        some = omega (arith, block_some sound.namespace.shape);
         limits = subst (λ (block : ℕ). limit ≤ block) accepted p.prepared.are_sizes.fits;
         room =
             subst (λ (z : ℕ). RoomIn ns.capacity (zone_at ns z) (turns_of ns code limit (active_of a))) (sym fits.destination)

@@ -6,7 +6,7 @@ use Rattle.std.proofs.lemmas.Bool.{eq-eqb, le-leb, lt-ltb}
 use Rattle.std.proofs.lemmas.Nat.{mod-mul-add}
 use Rattle.zone_state.specs.Checks.{demand, first_failed}
 use Rattle.zone_state.specs.State.{is_open}
-use Rattle.zone_state.specs.Zone.{CountedZone, fits_room, refusal, refusal_in}
+use Rattle.zone_state.specs.Zone.{CountedZone, fits_room, write_check, write_check_in}
 use Rattle.zone_state.specs.declared.state.ZoneState.{ZoneState}
 use Rattle.zone_state.specs.declared.state.ZoneState.TheVariants.{Empty, ImplicitlyOpened, ExplicitlyOpened, Closed, ReadOnly, Full, Offline}
 use Rattle.zone_resources.specs.Admission.{wanted_of, HoldsNoMore}
@@ -68,7 +68,7 @@ open_within ns z bytes sound is =
 
 -- ---- an open zone takes blocks that it has room for
 
-open_refuses : (s : ZoneState) (r : CountedZone) (at n : ℕ) → is_open s ≡ true → refusal_in s r at n ≡ fits_room r at n
+open_refuses : (s : ZoneState) (r : CountedZone) (at n : ℕ) → is_open s ≡ true → write_check_in s r at n ≡ fits_room r at n
 open_refuses ImplicitlyOpened r at n is = refl
 open_refuses ExplicitlyOpened r at n is = refl
 open_refuses s r at n is = cc
@@ -78,7 +78,7 @@ fits_by : (r : CountedZone) (n : ℕ) (fits here : Bool) → fits ≡ nat_le (r.
 fits_by r n fits here is_fit yes_fit is_here yes_here = rw (sym is_here ∙ yes_here, sym is_fit ∙ yes_fit) refl
 
 open_takes : (ns : ZonedNamespace) (z n : ℕ) → is_open (zone_at ns z).state ≡ true → length (zone_at ns z).blocks + n ≤ ns.capacity
-    → refusal (counted_zone_at ns z) (length (zone_at ns z).blocks) n ≡ Ok tt
+    → write_check (counted_zone_at ns z) (length (zone_at ns z).blocks) n ≡ Ok tt
 open_takes ns z n is room =
     let before = length (zone_at ns z).blocks in
     open_refuses (zone_at ns z).state (counted_zone_at ns z) before n is
@@ -105,7 +105,7 @@ abbrev checked_by : ZonedNamespace → ℕ → Bool → Bool → Bool → Bool �
 checked_by ns n few whole start lowest z =
     first_failed (demand few INVALID_FIELD_IN_COMMAND ∷ demand whole INVALID_FIELD_IN_COMMAND ∷ demand start LBA_OUT_OF_RANGE
     ∷ demand lowest INVALID_FIELD_IN_COMMAND ∷ demand (not (is_destination no_holds z)) ZONE_HELD
-    ∷ why_not (refusal (counted_zone_at ns z) (length (zone_at ns z).blocks) n) ∷ why_not (room_for ns no_holds (zone_at ns z).state) ∷ [])
+    ∷ why_not (write_check (counted_zone_at ns z) (length (zone_at ns z).blocks) n) ∷ why_not (room_for ns no_holds (zone_at ns z).state) ∷ [])
 
 all_pass : (ns : ZonedNamespace) (n z : ℕ) (few whole start lowest : Bool) (fits : Result Unit Status) (room : Result (Option ℕ) Status)
     → few ≡ true → whole ≡ true → start ≡ true → lowest ≡ true → fits ≡ Ok tt → room ≡ Ok None
@@ -130,7 +130,7 @@ taken_blocks_pass ns z bytes sound takes most =
     let few : n * ns.block ≤ MOST_TRANSFER = omega (arith, takes.whole, most) in
     ap (checked_by ns n (nat_le (n * ns.block) MOST_TRANSFER) (nat_eq (length bytes) (n * ns.block)) (nat_lt lba (block_total ns)) (nat_eq (lba % size) 0)) named
     ∙ all_pass ns n z (nat_le (n * ns.block) MOST_TRANSFER) (nat_eq (length bytes) (n * ns.block)) (nat_lt lba (block_total ns)) (nat_eq (lba % size) 0)
-    (refusal (counted_zone_at ns z) (length (zone_at ns z).blocks) n) (room_for ns no_holds (zone_at ns z).state)
+    (write_check (counted_zone_at ns z) (length (zone_at ns z).blocks) n) (room_for ns no_holds (zone_at ns z).state)
     (le-leb _ _ few) (eq-eqb _ _ takes.whole) (lt-ltb _ _ start) (eq-eqb _ _ offset)
     (open_takes ns z n takes.opened takes.room)
     (ap (room_by ns no_holds) (open_wants_none (zone_at ns z).state takes.opened))

@@ -2,7 +2,7 @@
 use Rattle.std.proofs.Common.{◌≡◌, ℕ, ◌+◌, ◌*◌, ◌%◌, ◌<◌, ◌≤◌, Bool, true, false, cond, List, [], ◌∷◌, length, Option, Some, None, Result, Ok, Err, refl, ap, subst, arith}
 use Rattle.std.specs.Prelude.{nat_lt, nat_le, nat_eq, not}
 use Rattle.std.proofs.Math.Nat.{div-lt_iff_lt-mul}
-use Rattle.zone_state.specs.Zone.{CountedZone, refusal, refusal_in, fits_room}
+use Rattle.zone_state.specs.Zone.{CountedZone, write_check, write_check_in, fits_room}
 use Rattle.zone_state.specs.declared.state.ZoneState.{ZoneState}
 use Rattle.zone_state.specs.declared.state.ZoneState.TheVariants.{ReadOnly, Full, Offline}
 use Rattle.zone_state.specs.declared.status.Status.{Status}
@@ -71,11 +71,11 @@ room_fails r at n =
     (cond_fails (nat_le (r.written + n) r.capacity) (Ok tt) (Err ZONE_BOUNDARY_ERROR) none_fails (err_fails ZONE_BOUNDARY_ERROR (omega arith)))
     (err_fails ZONE_INVALID_WRITE (omega arith))
 
-refusal_fails : (s : ZoneState) (r : CountedZone) (at n : ℕ) → Fails (why_not (refusal_in s r at n))
-refusal_fails Full r at n = err_fails ZONE_IS_FULL (omega arith)
-refusal_fails ReadOnly r at n = err_fails ZONE_IS_READ_ONLY (omega arith)
-refusal_fails Offline r at n = err_fails ZONE_IS_OFFLINE (omega arith)
-refusal_fails s r at n = room_fails r at n
+write_check_fails : (s : ZoneState) (r : CountedZone) (at n : ℕ) → Fails (why_not (write_check_in s r at n))
+write_check_fails Full r at n = err_fails ZONE_IS_FULL (omega arith)
+write_check_fails ReadOnly r at n = err_fails ZONE_IS_READ_ONLY (omega arith)
+write_check_fails Offline r at n = err_fails ZONE_IS_OFFLINE (omega arith)
+write_check_fails s r at n = room_fails r at n
 
 closing_fails : (found : Option ℕ) → Fails (why_not (closing found))
 closing_fails None = err_fails TOO_MANY_OPEN_ZONES (omega arith)
@@ -121,9 +121,9 @@ append_passed ns holds lba blocks input done =
     none_failed (first_failed (append_checks ns holds lba blocks input)) ns (append_effect ns holds lba input)
     (all_fail (nat_le (blocks * ns.block) MOST_TRANSFER) (nat_eq (length input) (blocks * ns.block)) (nat_lt lba (block_total ns))
     (nat_eq (lba % ns.size) 0) (not (is_destination holds z)) INVALID_FIELD_IN_COMMAND
-    (why_not (refusal (counted_zone_at ns z) (length zone.blocks) blocks)) (why_not (room_for ns holds zone.state))
+    (why_not (write_check (counted_zone_at ns z) (length zone.blocks) blocks)) (why_not (room_for ns holds zone.state))
     (omega arith)
-    (refusal_fails zone.state (counted_zone_at ns z) (length zone.blocks) blocks)
+    (write_check_fails zone.state (counted_zone_at ns z) (length zone.blocks) blocks)
     (wanted_fails ns holds (wanted_of zone.state)))
     done
 
@@ -135,8 +135,8 @@ write_passed ns holds lba blocks input done =
     none_failed (first_failed (write_checks ns holds lba blocks input)) ns (write_effect ns holds lba input)
     (all_fail (nat_le (blocks * ns.block) MOST_TRANSFER) (nat_eq (length input) (blocks * ns.block)) (nat_le (lba + blocks) (block_total ns))
     (nat_le (lba % ns.size + blocks) ns.size) (not (is_destination holds z)) ZONE_BOUNDARY_ERROR
-    (why_not (refusal (counted_zone_at ns z) (lba % ns.size) blocks)) (why_not (room_for ns holds zone.state))
+    (why_not (write_check (counted_zone_at ns z) (lba % ns.size) blocks)) (why_not (room_for ns holds zone.state))
     (omega arith)
-    (refusal_fails zone.state (counted_zone_at ns z) (lba % ns.size) blocks)
+    (write_check_fails zone.state (counted_zone_at ns z) (lba % ns.size) blocks)
     (wanted_fails ns holds (wanted_of zone.state)))
     done

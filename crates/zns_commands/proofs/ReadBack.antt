@@ -5,7 +5,7 @@ use Rattle.std.proofs.lemmas.Bool.{ltb-true, leb-true, eqb-true, le-leb}
 use Rattle.std.proofs.lemmas.List.{append-nil, length-set, take_all, take_at, drop_at, get_or-set_same}
 use Rattle.std.proofs.lemmas.Nat.{div-mul-add, mod-mul-add}
 use Rattle.std.proofs.Math.Nat.{suc-mul, mul-le-mul_right, mul-div_cancel, mod-add-div'}
-use Rattle.zone_state.specs.Zone.{refusal, written_state}
+use Rattle.zone_state.specs.Zone.{write_check, written_state}
 use Rattle.zone_state.specs.declared.state.ZoneState.{ZoneState}
 use Rattle.zone_state.specs.declared.state.ZoneState.TheVariants.{ExplicitlyOpened, Closed, Full}
 use Rattle.zone_state.specs.declared.status.Status.{Status}
@@ -17,7 +17,7 @@ use Rattle.zone_state.specs.Checks.{demand, first_failed}
 use Rattle.image_store.specs.Blocks.{as_blocks, block_count, bytes_of}
 use Rattle.image_store.specs.Geometry.{Shape}
 use Rattle.image_store.specs.Namespace.{ZoneBlocks, ZonedNamespace, no_zone, zone_at, grown, IsNamespace}
-use Rattle.image_store.proofs.Proved.{allowed_is_within, blocks_keep_bytes}
+use Rattle.image_store.proofs.Proved.{allowed_is_within, block_some, blocks_keep_bytes}
 use Rattle.zns_commands.specs.Address.{counted_zone_at, zone_number, block_total, write_pointer}
 use Rattle.zns_commands.specs.Effect.{Effect, success_effect, concluded}
 use Rattle.zns_commands.specs.Append.{append_checks, append_effect}
@@ -132,7 +132,7 @@ record Writes (ns : ZonedNamespace) (holds : Holds) (z blocks : ℕ) (input : Li
   some : 1 ≤ blocks
   size : length input ≡ blocks * ns.block
   transfer : nat_le (blocks * ns.block) MOST_TRANSFER ≡ true
-  fits : refusal (counted_zone_at ns z) (length (zone_at ns z).blocks) blocks ≡ Ok tt
+  fits : write_check (counted_zone_at ns z) (length (zone_at ns z).blocks) blocks ≡ Ok tt
   room : room_for ns holds (zone_at ns z).state ≡ Ok (closing_of (room_for ns holds (zone_at ns z).state))
 
 written_lie : (ns : ZonedNamespace) (holds : Holds) (z blocks : ℕ) (input : List ℕ) → IsNamespace ns → Writes ns holds z blocks input
@@ -143,8 +143,8 @@ written_lie ns holds z blocks input sound writes =
     let plan = write_plan ns holds z in
     let m = written_by ns plan input in
     let has = has_room ns holds z plan.closing sound writes.inside writes.room in
-    let block_some : 1 ≤ ns.block = omega (arith, sound.shape.block_some) in
-    let bring = brings ns.block blocks input block_some writes.size in
+    let wide : 1 ≤ ns.block = omega (arith, block_some sound.shape) in
+    let bring = brings ns.block blocks input wide writes.size in
     let seen = written_zone ns z plan.closing input has.give.other writes.inside in
     let form = written_shape ns plan input in
     let end : length zone.blocks + blocks ≤ ns.capacity = allowed_is_within (counted_zone_at ns z) (length zone.blocks) blocks writes.fits in
@@ -156,7 +156,7 @@ written_lie ns holds z blocks input sound writes =
       there = ap (λ (x : ZoneBlocks). x.blocks) seen ∙ ap (λ (all : List (List ℕ)). zone.blocks ++ all) (sym (append-nil more));
       start = refl;
       count = bring.count;
-      bytes = whole_bytes ns.block blocks input block_some writes.size;
+      bytes = whole_bytes ns.block blocks input wide writes.size;
       readable =
           subst (λ (x : ZoneBlocks). read_refusal x.state ≡ None) (sym seen)
           (readable (nat_eq (length zone.blocks + length more) ns.capacity) zone.state);
@@ -199,7 +199,7 @@ appended_stays ns holds lba blocks input later sound some done =
       some = some;
       size = size;
       transfer = demanded (nat_le (blocks * ns.block) MOST_TRANSFER) _ (passed checks 0 none);
-      fits = allowed (refusal (counted_zone_at ns z) (length (zone_at ns z).blocks) blocks) (passed checks 5 none);
+      fits = allowed (write_check (counted_zone_at ns z) (length (zone_at ns z).blocks) blocks) (passed checks 5 none);
       room = roomed (room_for ns holds (zone_at ns z).state) (passed checks 6 none);
     } in
     let pointer = write_pointer ns z in
@@ -229,14 +229,14 @@ written_stays ns holds lba blocks input later sound some done =
     let size = eqb-true (length input) (blocks * ns.block) (demanded (nat_eq (length input) (blocks * ns.block)) _ (passed checks 1 none)) in
     let end = leb-true (lba + blocks) (block_total ns) (demanded (nat_le (lba + blocks) (block_total ns)) _ (passed checks 2 none)) in
     let start : lba < block_total ns = omega arith in
-    let fits = allowed (refusal (counted_zone_at ns z) (lba % ns.size) blocks) (passed checks 5 none) in
+    let fits = allowed (write_check (counted_zone_at ns z) (lba % ns.size) blocks) (passed checks 5 none) in
     let at : lba % ns.size ≡ w = pointer_in zone.state (counted_zone_at ns z) (lba % ns.size) blocks fits in
     let writes : Writes ns holds z blocks input = record {
       inside = zone_inside ns lba sound start;
       some = some;
       size = size;
       transfer = demanded (nat_le (blocks * ns.block) MOST_TRANSFER) _ (passed checks 0 none);
-      fits = subst (λ (k : ℕ). refusal (counted_zone_at ns z) k blocks ≡ Ok tt) at fits;
+      fits = subst (λ (k : ℕ). write_check (counted_zone_at ns z) k blocks ≡ Ok tt) at fits;
       room = roomed (room_for ns holds zone.state) (passed checks 6 none);
     } in
     let address : write_pointer ns z ≡ lba = omega (arith, at, mod-add-div' lba ns.size) in

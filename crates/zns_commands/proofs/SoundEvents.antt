@@ -5,7 +5,7 @@ use Rattle.std.proofs.lemmas.Bool.{ltb-true, leb-true, eqb-true}
 use Rattle.std.proofs.lemmas.List.{length-replicate, get_or-replicate}
 use Rattle.std.proofs.lemmas.List.Sums.{sum_by-cons}
 use Rattle.zone_state.specs.State.{is_open, is_active}
-use Rattle.zone_state.specs.Zone.{CountedZone, refusal}
+use Rattle.zone_state.specs.Zone.{CountedZone, write_check}
 use Rattle.zone_state.specs.declared.action.Action.{Action}
 use Rattle.zone_state.specs.declared.state.ZoneState.{ZoneState}
 use Rattle.zone_state.specs.declared.state.ZoneState.TheVariants.{Empty}
@@ -49,7 +49,7 @@ write_sound ns holds lba blocks input sound spelled none =
     let end = leb-true (lba + blocks) (block_total ns) (demanded (nat_le (lba + blocks) (block_total ns)) _ (passed checks 2 none)) in
     let start : lba < block_total ns = omega arith in
     written_sound ns holds z at blocks (closing_of room) input sound (zone_inside ns lba sound start) spelled.0 size spelled.1
-    (allowed (refusal (counted_zone_at ns z) at blocks) (passed checks 5 none))
+    (allowed (write_check (counted_zone_at ns z) at blocks) (passed checks 5 none))
     (roomed room (passed checks 6 none))
 
 append_sound : (ns : ZonedNamespace) (holds : Holds) (lba blocks : ℕ) (input : List ℕ) → IsNamespace ns → (1 ≤ blocks) × AreBytes input
@@ -62,7 +62,7 @@ append_sound ns holds lba blocks input sound spelled none =
     let size = eqb-true (length input) (blocks * ns.block) (demanded (nat_eq (length input) (blocks * ns.block)) _ (passed checks 1 none)) in
     let start = ltb-true lba (block_total ns) (demanded (nat_lt lba (block_total ns)) _ (passed checks 2 none)) in
     written_sound ns holds z at blocks (closing_of room) input sound (zone_inside ns lba sound start) spelled.0 size spelled.1
-    (allowed (refusal (counted_zone_at ns z) at blocks) (passed checks 5 none))
+    (allowed (write_check (counted_zone_at ns z) at blocks) (passed checks 5 none))
     (roomed room (passed checks 6 none))
 
 send_sound : (ns : ZonedNamespace) (holds : Holds) (lba : ℕ) (a : Action) (select_all : Bool) (input : List ℕ) → IsNamespace ns

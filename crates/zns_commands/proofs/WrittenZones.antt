@@ -3,7 +3,7 @@ use Rattle.std.proofs.Common.{◌≡◌, ℕ, zero, suc, ◌+◌, ◌*◌, ◌/�
 use Rattle.std.specs.Prelude.{nat_le, nat_eq}
 use Rattle.std.proofs.lemmas.Bool.{eqb-true}
 use Rattle.std.proofs.Math.Nat.{suc-mul, mul-le-mul_right, mul-div_cancel}
-use Rattle.zone_state.specs.Zone.{CountedZone, IsZone, refusal, refusal_in, fits_room, after_write, written_state}
+use Rattle.zone_state.specs.Zone.{CountedZone, IsZone, write_check, write_check_in, fits_room, after_write, written_state}
 use Rattle.zone_state.specs.declared.state.ZoneState.{ZoneState}
 use Rattle.zone_state.specs.declared.state.ZoneState.TheVariants.{Empty, ImplicitlyOpened, ExplicitlyOpened, Closed, ReadOnly, Full, Offline}
 use Rattle.zone_state.specs.declared.status.Status.{Status}
@@ -13,7 +13,7 @@ use Rattle.zone_resources.specs.declared.holds.Holds.{Holds}
 use Rattle.program_interface.specs.Bytes.{AreBytes}
 use Rattle.image_store.specs.Blocks.{as_blocks, block_count, blocks_of}
 use Rattle.image_store.specs.Namespace.{ZoneBlocks, ZonedNamespace, zone_at, counted, grown, IsNamespace, IsWithinLimits}
-use Rattle.image_store.proofs.Proved.{block_is_a_part, blocks_are_bytes, blocks_are_counted, writes_keep_zones}
+use Rattle.image_store.proofs.Proved.{block_is_a_part, block_some, blocks_are_bytes, blocks_are_counted, writes_keep_zones}
 use Rattle.zns_commands.specs.Address.{counted_zone_at}
 use Rattle.zns_commands.specs.Resources.{room_for}
 use Rattle.zns_commands.specs.steps.Plans.{written_by}
@@ -63,7 +63,7 @@ at_pointer : (r : CountedZone) (at n : ℕ) → fits_room r at n ≡ Ok tt → a
 at_pointer r at n allowed =
     fits_at r at n (nat_eq at r.written) (cond (nat_le (r.written + n) r.capacity) (Ok tt) (Err ZONE_BOUNDARY_ERROR)) ZONE_INVALID_WRITE refl allowed
 
-pub pointer_in : (s : ZoneState) (r : CountedZone) (at n : ℕ) → refusal_in s r at n ≡ Ok tt → at ≡ r.written
+pub pointer_in : (s : ZoneState) (r : CountedZone) (at n : ℕ) → write_check_in s r at n ≡ Ok tt → at ≡ r.written
 pointer_in Empty r at n allowed = at_pointer r at n allowed
 pointer_in ImplicitlyOpened r at n allowed = at_pointer r at n allowed
 pointer_in ExplicitlyOpened r at n allowed = at_pointer r at n allowed
@@ -73,11 +73,11 @@ pointer_in Full r at n allowed = cc
 pointer_in Offline r at n allowed = cc
 
 grown_fits : (b c : ℕ) (zone : ZoneBlocks) (more : List (List ℕ)) (at n : ℕ)
-    → FitsIn b c zone → 1 ≤ n → Brings b n more → ((i : ℕ) → AreBytes (get_or more i [])) → refusal (counted c zone) at n ≡ Ok tt
+    → FitsIn b c zone → 1 ≤ n → Brings b n more → ((i : ℕ) → AreBytes (get_or more i [])) → write_check (counted c zone) at n ≡ Ok tt
     → FitsIn b c (grown c zone more)
 grown_fits b c zone more at n fits some bring are allowed =
     let pointer = pointer_in zone.state (counted c zone) at n allowed in
-    let here = subst (λ (k : ℕ). refusal (counted c zone) k n ≡ Ok tt) pointer allowed in
+    let here = subst (λ (k : ℕ). write_check (counted c zone) k n ≡ Ok tt) pointer allowed in
     let long : length zone.blocks + n ≡ length (zone.blocks ++ more) = omega (arith, length-append zone.blocks more, bring.count) in
     record {
       state =
@@ -90,7 +90,7 @@ grown_fits b c zone more at n fits some bring are allowed =
 
 -- a write opens no zone that wants nothing
 write_takes_none : (s : ZoneState) (r : CountedZone) (at n : ℕ) (full : Bool)
-    → refusal_in s r at n ≡ Ok tt → wanted_of s ≡ None → HoldsNoMore (cond full Full (written_state s)) s
+    → write_check_in s r at n ≡ Ok tt → wanted_of s ≡ None → HoldsNoMore (cond full Full (written_state s)) s
 write_takes_none Empty r at n full fits none = cc
 write_takes_none Closed r at n full fits none = cc
 write_takes_none ReadOnly r at n full fits none = cc
@@ -103,7 +103,7 @@ write_takes_none ExplicitlyOpened r at n false fits none = record { opened = ome
 
 -- the limits allow a write that isn't refused, whatever is written
 pub written_within : (ns : ZonedNamespace) (z at blocks : ℕ) (gives : Option ℕ) (input : List ℕ) → HasRoom ns z gives
-    → refusal (counted_zone_at ns z) at blocks ≡ Ok tt → IsWithinLimits (written_by ns (record { zone = z; closing = gives }) input)
+    → write_check (counted_zone_at ns z) at blocks ≡ Ok tt → IsWithinLimits (written_by ns (record { zone = z; closing = gives }) input)
 written_within ns z at blocks gives input has allowed =
     let zone = zone_at ns z in
     let more = as_blocks ns.block input in
@@ -113,12 +113,12 @@ written_within ns z at blocks gives input has allowed =
 
 pub written_sound : (ns : ZonedNamespace) (holds : Holds) (z at blocks : ℕ) (gives : Option ℕ) (input : List ℕ)
     → IsNamespace ns → z < length ns.zones → 1 ≤ blocks → length input ≡ blocks * ns.block → AreBytes input
-    → refusal (counted_zone_at ns z) at blocks ≡ Ok tt → room_for ns holds (zone_at ns z).state ≡ Ok gives
+    → write_check (counted_zone_at ns z) at blocks ≡ Ok tt → room_for ns holds (zone_at ns z).state ≡ Ok gives
     → IsNamespace (written_by ns (record { zone = z; closing = gives }) input)
 written_sound ns holds z at blocks gives input sound inside some size are allowed room =
     let has = has_room ns holds z gives sound inside room in
-    let block_some : 1 ≤ ns.block = omega (arith, sound.shape.block_some) in
-    let bring = brings ns.block blocks input block_some size in
+    let wide : 1 ≤ ns.block = omega (arith, block_some sound.shape) in
+    let bring = brings ns.block blocks input wide size in
     let zone = zone_at ns z in
     let more = as_blocks ns.block input in
     subst IsNamespace (sym (written_is ns z gives input has.give.other))

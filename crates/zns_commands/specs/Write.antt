@@ -1,6 +1,6 @@
 -- Writing to a zone, and Write (NVM Command Set 1.0, 3.2.6; ZNS 1.1, 3.3.6).
 use Rattle.std.specs.Prelude.{ℕ, ◌*◌, ◌++◌, not, List, [], ◌∷◌, Option}
-use Rattle.zone_state.specs.Zone.{refusal}
+use Rattle.zone_state.specs.Zone.{write_check}
 use Rattle.zone_state.specs.declared.status.Status.{Status}
 use Rattle.zone_state.specs.declared.status.TheConstants.Status.{ZONE_HELD}
 use Rattle.zone_resources.specs.Holds.{is_destination}
@@ -18,7 +18,7 @@ use Rattle.zns_commands.specs.Transfer.{transfer_checks}
 abbrev pub zone_write_checks : ZonedNamespace → Holds → ℕ → ℕ → ℕ → List (Option Status)
 zone_write_checks ns holds z at blocks =
     demand (not (is_destination holds z)) ZONE_HELD
-    ∷ why_not (refusal (counted_zone_at ns z) at blocks)
+    ∷ why_not (write_check (counted_zone_at ns z) at blocks)
     ∷ why_not (room_for ns holds (zone_at ns z).state)
     ∷ []
 

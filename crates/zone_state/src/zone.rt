@@ -2,7 +2,7 @@
 
 ghost use Rattle.std.specs.Prelude.{◌≡◌, ◌≤◌, ◌↔◌, IsSome, IfSome, OnOk, OnErr, IfOk};
 ghost use Rattle.zone_state.specs.Transition.{transition};
-ghost use Rattle.zone_state.specs.Zone.{IsZone, refusal, after_write, in_state, kept, fault_refusal, state_of_fault};
+ghost use Rattle.zone_state.specs.Zone.{IsZone, write_check, after_write, in_state, kept, fault_refusal, state_of_fault};
 
 use crate::action::Action;
 use crate::state::{FaultState, ZoneState};
@@ -93,7 +93,7 @@ impl Zone {
     /// - [`Status::ZONE_BOUNDARY_ERROR`] where fewer than `n` blocks are left.
     pub fn check_write(&self, at: u32, n: u32) -> Result<(), Status>
         requires { 1 ≤ n }
-        ensures { result ≡ refusal self.now at n }
+        ensures { result ≡ write_check self.now at n }
     {
         match self.state {
             ZoneState::Full => return Err(Status::ZONE_IS_FULL),
@@ -115,7 +115,7 @@ impl Zone {
     /// 2.1.1.3).
     pub fn note_written(&mut self, n: u32)
         requires some { 1 ≤ n }
-        requires fits { refusal self.old self.old.written n ≡ Ok tt }
+        requires fits { write_check self.old self.old.written n ≡ Ok tt }
         ensures { self.new ≡ after_write self.old n }
     {
         self.written += n;

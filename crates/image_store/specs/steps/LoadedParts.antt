@@ -6,7 +6,8 @@ use Rattle.image_store.specs.declared.fault.LoadFault.TheVariants.{Stream}
 use Rattle.image_store.specs.ImageInMemory.{IsFlat}
 use Rattle.image_store.specs.steps.Spliced.{spliced}
 use Rattle.image_store.specs.Geometry.{Shape}
-use Rattle.image_store.specs.Reading.{◌>>=◌, bytes_in}
+use Rattle.program_interface.specs.Readings.{◌>>=◌}
+use Rattle.image_store.specs.Reading.{bytes_in}
 
 -- no stream has failed
 abbrev pub IsNoStream : LoadFault → Type 0

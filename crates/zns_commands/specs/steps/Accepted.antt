@@ -2,7 +2,7 @@
 use Rattle.std.specs.Prelude.{ℕ, ◌≢◌, ◌<◌, length, Option, Some, Ok, ◌*◌, List, ◌≡◌, ◌≤◌}
 use Rattle.std.specs.Option.{ForSome}
 use Rattle.zone_state.specs.declared.state.ZoneState.TheVariants.{Closed}
-use Rattle.zone_state.specs.Zone.{IsZone, refusal, kept}
+use Rattle.zone_state.specs.Zone.{IsZone, write_check, kept}
 use Rattle.image_store.specs.Namespace.{ZonedNamespace, zone_at, with_state, IsWithinLimits}
 use Rattle.image_store.specs.Blocks.{block_count}
 use Rattle.zns_commands.specs.Resources.{closed}
@@ -23,7 +23,7 @@ pub record CanGiveWay (ns : ZonedNamespace) (zone : ℕ) (closing : Option ℕ) 
 pub record CanWrite (ns : ZonedNamespace) (at blocks : ℕ) (plan : WritePlan) : Type 0 where
   pub inside : plan.zone < length ns.zones
   pub some : 1 ≤ blocks
-  pub fits : refusal (counted_zone_at ns plan.zone) at blocks ≡ Ok tt
+  pub fits : write_check (counted_zone_at ns plan.zone) at blocks ≡ Ok tt
   pub gives : CanGiveWay ns plan.zone plan.closing
   pub limits : (bytes : List ℕ) → IsWithinLimits (written_by ns plan bytes)
 

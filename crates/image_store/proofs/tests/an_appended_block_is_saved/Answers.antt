@@ -2,7 +2,7 @@ use Rattle.std.proofs.Common.{◌≡◌, ℕ, ◌/◌, ◌<◌, ◌≤◌, Bool,
 use Rattle.std.proofs.lemmas.List.{map-set}
 use Rattle.std.proofs.lemmas.Option.{slice_get-get_or}
 use Rattle.zone_state.specs.State.{is_open, is_active}
-use Rattle.zone_state.specs.Zone.{CountedZone, refusal}
+use Rattle.zone_state.specs.Zone.{CountedZone, write_check}
 use Rattle.zone_resources.specs.Admission.{IsWithin}
 use Rattle.zone_resources.specs.Counts.{open_count, active_count, one_if}
 use Rattle.zone_resources.specs.declared.admission.Limits.{Limits}
@@ -45,5 +45,5 @@ append-requires-clause-allowed g c =
     let z = counted image.capacity (zone_at image 1) in
     let block : image.block ≡ 512 = omega (arith, ap (λ (s : Shape). s.block) c.geometry-2.ensures.value, c.block.ensures.value, c.bytes.ensures.value) in
     let none : length (zone_at image 1).blocks ≡ 0 = omega (arith, ap (λ (x : CountedZone). x.written) c.zone.ensures, c.written.ensures) in
-    let told : refusal z 0 1 ≡ Ok tt = rw c.zone-2.ensures at (sym c.in-Ok.ensures) in
-    subst (λ (n : ℕ). refusal z n (512 / image.block) ≡ Ok tt) (sym none) (subst (λ (b : ℕ). refusal z 0 (512 / b) ≡ Ok tt) (sym block) told)
+    let told : write_check z 0 1 ≡ Ok tt = rw c.zone-2.ensures at (sym c.in-Ok.ensures) in
+    subst (λ (n : ℕ). write_check z n (512 / image.block) ≡ Ok tt) (sym none) (subst (λ (b : ℕ). write_check z 0 (512 / b) ≡ Ok tt) (sym block) told)

@@ -1,5 +1,5 @@
 use Rattle.std.proofs.Common.{rules, ◌≡◌, ℕ, List, Ok, sym, arith}
-use Rattle.zone_state.specs.Zone.{refusal}
+use Rattle.zone_state.specs.Zone.{write_check}
 use Rattle.zns_commands.specs.Address.{counted_zone_at}
 use Rattle.zns_commands.proofs.GivenWay.{has_room}
 use Rattle.zns_commands.proofs.WrittenZones.{written_within}
@@ -11,7 +11,7 @@ returns-clause-can c =
     let z = c.args.zone in
     let gives = c.in_ok-closing.closing in
     let has = has_room ns c.args.holds.now z gives c.geometry.ensures.sound c.requires (sym c.in_ok-closing.ensures) in
-    let fits : refusal (counted_zone_at ns z) c.args.at c.args.blocks ≡ Ok tt = search rules in
+    let fits : write_check (counted_zone_at ns z) c.args.at c.args.blocks ≡ Ok tt = search rules in
     record {
       inside = c.requires;
       some = omega (arith, c.get.ensures.some, c.get.ensures.value);
