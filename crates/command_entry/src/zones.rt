@@ -199,13 +199,13 @@ mod tests {
         ZoneState::Offline,
     ];
 
-    /// The word for a state names the filter that takes zones of that state, and no others.
+    /// The word for a state names the filter that lists zones of that state, and no others.
     #[test]
     fn words_for_states_name_their_filters(rt: HostRuntime) -> Result<(), Fail> {
         for state in EACH {
             let filter = filter(state.word()).ok_or("no filter")?;
             for other in EACH {
-                assert_eq!(rt; filter.takes(other), other == state, "{state}, {other}");
+                assert_eq!(rt; filter.lists(other), other == state, "{state}, {other}");
             }
         }
         Ok(())

@@ -148,7 +148,9 @@ fn run_asked<'a, O: Write>(
     sizes: RunSizes,
     asked: Asked,
     out: &mut O,
-) -> Result<(), Failure<'a>> {
+) -> Result<(), Failure<'a>>
+    requires block { length block.now ≤ LARGEST_BLOCK }
+{
     let mut group = vec![in alloc; 0; sizes.limit() as usize]?;
     let context = first_and_only(sizes.block(), asked.argument);
     let tracer = Tracer {
