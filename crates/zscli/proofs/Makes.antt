@@ -1,13 +1,8 @@
 -- How many files a command makes.
-use Rattle.std.proofs.Common.{◌≡◌, ◌≢◌, ℕ, List, Option, Result, Ok, Err, OnOk, OnErr, IfErr, inl, inr, refl}
+use Rattle.std.proofs.Common.{◌≡◌, ◌≢◌, ℕ, List, Option, Result, Ok, Err, OnOk, IfErr, inl, inr, refl}
 use Rattle.command_files.specs.Made.{Made, MakesOne, MakesAtMostOne}
 use Rattle.command_failure.specs.declared.failure.Failure.{Failure}
 use Rattle.command_failure.specs.declared.failure.Failure.TheVariants.{CannotPrint}
-
--- one that makes a file, or none where it fails
-pub one_or_none : (r : Result (Unit {0}) Failure) {path : List ℕ} {before after : Option (List Made)} → OnOk r (MakesOne path before after) → OnErr r (after ≡ before) → MakesAtMostOne before after
-one_or_none (Ok done) made kept = inr (_, made)
-one_or_none (Err failure) made kept = inl kept
 
 -- one that makes a file also where it can't print
 pub one_where_stopped : (r : Result (Unit {0}) Failure) {path : List ℕ} {before after : Option (List Made)}
