@@ -42,20 +42,20 @@ pub(crate) fn and_actions<'a>(
     alloc: Global,
     command: Result<Command<'a>, AllocError>,
 ) -> Result<Command<'a>, AllocError> {
-    let open = action_command(
+    let command = and_action(
         alloc,
+        command,
         Action::Open.word(),
         "Opens a zone, or all Closed zones",
         "Example:\n\n  zscli entry open --lba 64",
     );
-    let close = action_command(
+    let command = and_action(
         alloc,
+        command,
         Action::Close.word(),
         "Closes a zone, or all open zones",
         "Example:\n\n  zscli entry close --lba 64",
     );
-    let command = and_command(command, open);
-    let command = and_command(command, close);
     and_last_actions(alloc, command)
 }
 
@@ -64,32 +64,33 @@ fn and_last_actions<'a>(
     alloc: Global,
     command: Result<Command<'a>, AllocError>,
 ) -> Result<Command<'a>, AllocError> {
-    let finish = action_command(
+    let command = and_action(
         alloc,
+        command,
         Action::Finish.word(),
         "Makes a zone Full, or all open and Closed zones",
         "Example:\n\n  zscli entry finish --lba 64",
     );
-    let reset = action_command(
+    let command = and_action(
         alloc,
+        command,
         Action::Reset.word(),
         "Empties a zone, or all open, Closed and Full zones",
         "Example:\n\n  zscli entry reset --all",
     );
-    let offline = action_command(
+    and_action(
         alloc,
+        command,
         Action::Offline.word(),
         "Takes a Read Only zone offline, or all of them",
         "Example:\n\n  zscli entry offline --lba 64",
-    );
-    let command = and_command(command, finish);
-    let command = and_command(command, reset);
-    and_command(command, offline)
+    )
 }
 
-/// How an action with this name stands on the command line.
-fn action_command<'a>(
+/// A command that has the action with this name below it too.
+fn and_action<'a>(
     alloc: Global,
+    command: Result<Command<'a>, AllocError>,
     name: &'a str,
     about: &'a str,
     example: &'a str,
@@ -99,10 +100,10 @@ fn action_command<'a>(
         .long(ALL)
         .action(ArgAction::SetTrue)
         .help("All zones that the action takes");
-    let command = Command::new(alloc, name).about(about).after_help(example);
-    let command = and_argument(Ok(command), lba);
-    let command = and_argument(command, all);
-    and_target(alloc, and_zones(alloc, command))
+    let action = Command::new(alloc, name).about(about).after_help(example);
+    let action = and_argument(Ok(action), lba);
+    let action = and_argument(action, all);
+    and_command(command, and_target(alloc, and_zones(alloc, action)))
 }
 
 /// A command that takes either a zone or all of them.
