@@ -49,7 +49,7 @@ fn main(rt: HostRuntime) -> Result<()> {
     let asked = read_words(&rt, &mut args)?;
     let form = form_of(&args.next().context("no form")?)?;
     let block = asked.block.as_slice();
-    let sizes = RunSizes::new(asked.size, block.len() as u32).context("too much")?;
+    let sizes = RunSizes::new(asked.size, asked.size.bytes()).context("too much")?;
     let program = Prepared::new(rt.alloc(), load(rt.alloc(), &asked.program, sizes)?)?;
     let context = [0; CONTEXT_BYTES];
     let mut scratch = [0; SCRATCH_BYTES];
