@@ -1,5 +1,5 @@
 -- The numbers that words of a command line spell (profile).
-use Rattle.std.specs.Prelude.{ℕ, Bool, ◌^◌, nat_lt, ◌&&◌, ◌==◌, if◌then◌else◌, List, length, drop, codes, Option, Some, None}
+use Rattle.std.specs.Prelude.{ℕ, ◌^◌, nat_lt, ◌&&◌, ◌==◌, if◌then◌else◌, List, length, drop, codes, Option, Some, None}
 use Rattle.std.specs.List.{list_all, starts_with}
 use Rattle.std.specs.Char.{is_digit}
 use Rattle.std.specs.Str.Parse.{digits_value}

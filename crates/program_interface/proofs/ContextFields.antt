@@ -2,8 +2,7 @@
 use Rattle.std.proofs.Common.{◌≡◌, ℕ, ◌^◌, ◌<◌, List, ◌++◌, drop, refl, arith}
 use Rattle.byteorder.specs.Endian.{little_bytes, little_number}
 use Rattle.byteorder.specs.Numbers.{little_number-reads_back}
-use Rattle.program_interface.specs.declared.context.Context.{Context}
-use Rattle.program_interface.specs.Context.{AreFields, ContextTells, TellContext, context_bytes}
+use Rattle.program_interface.specs.Context.{ContextTells, context_bytes}
 
 again : (n : ℕ) (rest : List ℕ) → n < 2 ^ 32 → little_number 4 (little_bytes 4 n ++ rest) ≡ n
 again n rest h = little_number-reads_back 4 n rest (omega arith)

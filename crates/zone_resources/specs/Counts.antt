@@ -1,5 +1,5 @@
 -- How many zones hold resources.
-use Rattle.std.specs.Prelude.{ℕ, Bool, List, ◌≡◌, ◌+◌, ◌<◌, ◌≤◌, ◌^◌, length, count_by, Some, slice_get, slice_set, if◌then◌else◌}
+use Rattle.std.specs.Prelude.{ℕ, Bool, List, ◌≡◌, ◌<◌, ◌≤◌, ◌^◌, length, count_by, Some, slice_get, slice_set, if◌then◌else◌}
 use Rattle.zone_resources.specs.declared.counts.Counts.{Counts}
 use Rattle.zone_state.specs.State.{is_open, is_active}
 use Rattle.zone_state.specs.Zone.{CountedZone}

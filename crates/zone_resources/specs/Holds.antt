@@ -1,5 +1,5 @@
 -- The zones that active runs use, and what is refused there (profile).
-use Rattle.std.specs.Prelude.{ℕ, ◌≡◌, Bool, true, false, List, Option, Some, None, ◌==◌, ◌||◌, ◌&&◌, replicate}
+use Rattle.std.specs.Prelude.{ℕ, ◌≡◌, Bool, true, false, Option, Some, None, ◌==◌, ◌||◌, ◌&&◌, replicate}
 use Rattle.std.specs.List.{list_any}
 use Rattle.zone_resources.specs.declared.holds.Holds.{Holds}
 use Rattle.zone_resources.specs.declared.holds.TheConstants.{RUNS}

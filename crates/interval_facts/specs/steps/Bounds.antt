@@ -1,5 +1,5 @@
 -- What holds of the bounds that rules give.
-use Rattle.std.specs.Prelude.{◌≤◌, ◌-◌, ◌<◌}
+use Rattle.std.specs.Prelude.{◌≤◌, ◌<◌}
 use Rattle.instruction_set.specs.declared.operation.Width.{Width}
 use Rattle.word_domain.specs.declared.bounds.Bounds.{Bounds}
 use Rattle.interval_facts.specs.Range.{limit}

@@ -1,5 +1,4 @@
-use Rattle.std.proofs.Common.{ℕ, List, ◌∷◌, [], ◌++◌, Some, refl}
-use Rattle.std.specs.Prelude.{codes, decimal}
+use Rattle.std.proofs.Common.{◌∷◌, [], ◌++◌, refl}
 use Rattle.command_failure.proofs.PrintLemmas.{around}
 use Rattle.command_failure.proofs.lines.print_data.Goals as goal
 

@@ -1,4 +1,4 @@
-use Rattle.std.proofs.Common.{append_assoc, refl}
+use Rattle.std.proofs.Common.{refl}
 use Rattle.command_failure.proofs.PrintLemmas.{reframed}
 use Rattle.command_failure.proofs.lines.print_frame.Goals as goal
 

@@ -1,4 +1,4 @@
-use Rattle.std.proofs.Common.{ℕ, List, ◌∷◌, [], ◌++◌, append_assoc, refl}
+use Rattle.std.proofs.Common.{◌∷◌, [], ◌++◌, append_assoc, refl}
 use Rattle.command_failure.specs.Lines.{at_line, line_behind, line_front}
 use Rattle.command_failure.proofs.PrintLemmas.{around}
 use Rattle.command_failure.proofs.lines.print_line_fault.Goals as goal

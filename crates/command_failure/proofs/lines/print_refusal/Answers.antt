@@ -1,5 +1,4 @@
-use Rattle.std.proofs.Common.{ℕ, List, ◌∷◌, [], ◌++◌, Some, append_assoc, refl}
-use Rattle.std.specs.Prelude.{codes, decimal}
+use Rattle.std.proofs.Common.{ℕ, List, ◌∷◌, [], ◌++◌, append_assoc, refl}
 use Rattle.command_failure.proofs.PrintLemmas.{around_known}
 use Rattle.command_failure.proofs.lines.print_refusal.Goals as goal
 
