@@ -32,10 +32,7 @@ pub struct Timed {
 /// # Errors
 ///
 /// A word lacks, or is no number where one is due; a file can't be read; or no block has the second one's length.
-pub fn read_words<R: Files + AllocGlobal>(
-    rt: &R,
-    words: &mut Args,
-) -> Result<Timed> {
+pub fn read_words<R: Files + AllocGlobal>(rt: &R, words: &mut Args) -> Result<Timed> {
     let program = words.next().context("no program")?;
     let block = words.next().context("no block")?;
     let rounds = words.next().context("no rounds")?.parse::<u32>()?;

@@ -34,7 +34,7 @@ numeral_if base ds (Ok n) h =
     rw (all_told base ds h.0.0.1, lt-ltb 0 (length ds) h.0.0.0, lt-ltb (digits_value base ds) (2 ^ 64) h.0.1) (ap Some h.1)
 numeral_if base ds (Err e) h =
     none_unless (list_all (λ byte. is_digit byte base) ds) (ltb 0 (length ds)) (ltb (digits_value base ds) (2 ^ 64)) (digits_value base ds)
-      (λ all some small. h ((ltb-true _ _ some, told_all base ds all), ltb-true _ _ small))
+    (λ all some small. h ((ltb-true _ _ some, told_all base ds all), ltb-true _ _ small))
 
 -- what the library reads of a text that doesn't begin with `+`
 pub numeral_read : {E : Type 0} (base : ℕ) (ds : List ℕ) (r : Result ℕ E) → get_or ds 0 0 ≢ 43 → ParsesUnsigned 64 base ds r → result_ok r ≡ numeral_of base ds
