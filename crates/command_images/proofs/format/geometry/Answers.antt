@@ -1,8 +1,8 @@
 use Rattle.std.proofs.Common.{subst}
-use Rattle.std.proofs.lemmas.Result.{err_from_is_err_and}
 use Rattle.image_store.specs.Geometry.{Shape}
 use Rattle.command_images.specs.Images.{IsAskedFor}
-use Rattle.command_images.proofs.Making.{same_shape, spells_none}
+use Rattle.command_images.specs.UserTold.{RefusesShape}
+use Rattle.command_images.proofs.Making.{passed_on, same_shape, spells_none}
 use Rattle.command_images.proofs.format.geometry.Goals as goal
 
 pub returns-in-Ok-clause-asked : goal.returns-in-Ok-clause-asked
@@ -18,30 +18,24 @@ returns-in-Ok-clause-asked c =
 
 pub returns-in_err-block-clause-refused : goal.returns-in_err-block-clause-refused
 returns-in_err-block-clause-refused c =
-    let p = err_from_is_err_and c.from_residual.result c.from_residual.ensures.1 in
-    rw (p.1, p.2) (spells_none c.args.matches.now _ _ _ _ c.in_err-block.ensures.unspelled)
+    passed_on (RefusesShape c.args.matches.now) _ c.from_residual.result c.from_residual.ensures.1 (spells_none c.args.matches.now _ _ _ _ c.in_err-block.ensures.unspelled)
 
 pub returns-in_err-zones-clause-refused : goal.returns-in_err-zones-clause-refused
 returns-in_err-zones-clause-refused c =
-    let p = err_from_is_err_and c.from_residual-in_err-zones.result c.from_residual-in_err-zones.ensures.1 in
-    rw (p.1, p.2) (spells_none c.args.matches.now _ _ _ _ c.in_err-zones.ensures.unspelled)
+    passed_on (RefusesShape c.args.matches.now) _ c.from_residual-in_err-zones.result c.from_residual-in_err-zones.ensures.1 (spells_none c.args.matches.now _ _ _ _ c.in_err-zones.ensures.unspelled)
 
 pub returns-in_err-size-clause-refused : goal.returns-in_err-size-clause-refused
 returns-in_err-size-clause-refused c =
-    let p = err_from_is_err_and c.from_residual-in_err-size.result c.from_residual-in_err-size.ensures.1 in
-    rw (p.1, p.2) (spells_none c.args.matches.now _ _ _ _ c.in_err-size.ensures.unspelled)
+    passed_on (RefusesShape c.args.matches.now) _ c.from_residual-in_err-size.result c.from_residual-in_err-size.ensures.1 (spells_none c.args.matches.now _ _ _ _ c.in_err-size.ensures.unspelled)
 
 pub returns-in_err-capacity-clause-refused : goal.returns-in_err-capacity-clause-refused
 returns-in_err-capacity-clause-refused c =
-    let p = err_from_is_err_and c.from_residual-in_err-capacity.result c.from_residual-in_err-capacity.ensures.1 in
-    rw (p.1, p.2) (spells_none c.args.matches.now _ _ _ _ c.in_err-capacity.ensures.unspelled)
+    passed_on (RefusesShape c.args.matches.now) _ c.from_residual-in_err-capacity.result c.from_residual-in_err-capacity.ensures.1 (spells_none c.args.matches.now _ _ _ _ c.in_err-capacity.ensures.unspelled)
 
 pub returns-in_err-number-clause-refused : goal.returns-in_err-number-clause-refused
 returns-in_err-number-clause-refused c =
-    let p = err_from_is_err_and c.from_residual-in_err-number.result c.from_residual-in_err-number.ensures.1 in
-    rw (p.1, p.2) (spells_none c.args.matches.now _ _ _ _ c.in_err-number.ensures.unspelled)
+    passed_on (RefusesShape c.args.matches.now) _ c.from_residual-in_err-number.result c.from_residual-in_err-number.ensures.1 (spells_none c.args.matches.now _ _ _ _ c.in_err-number.ensures.unspelled)
 
 pub returns-in_err-number-2-clause-refused : goal.returns-in_err-number-2-clause-refused
 returns-in_err-number-2-clause-refused c =
-    let p = err_from_is_err_and c.from_residual-in_err-number-2.result c.from_residual-in_err-number-2.ensures.1 in
-    rw (p.1, p.2) (spells_none c.args.matches.now _ _ _ _ c.in_err-number-2.ensures.unspelled)
+    passed_on (RefusesShape c.args.matches.now) _ c.from_residual-in_err-number-2.result c.from_residual-in_err-number-2.ensures.1 (spells_none c.args.matches.now _ _ _ _ c.in_err-number-2.ensures.unspelled)
