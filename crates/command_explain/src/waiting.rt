@@ -2,7 +2,7 @@
 
 ghost use Rattle.std.specs.Prelude.{◌≡◌, IfOk, position};
 ghost use Rattle.std.specs.List.{filter_map};
-ghost use Rattle.command_explain.specs.steps.Waiting.{is_of, submission_of as submission_in, TakesFirst};
+ghost use Rattle.command_explain.specs.steps.Waiting.{is_of, submission_in, TakesFirst};
 
 use device_events::Event;
 use nvme_entry::Entry;

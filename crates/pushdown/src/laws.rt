@@ -102,7 +102,7 @@ pub fn draining_ends<D: Domain>()
 {}
 
 /// What a run appends to its destination, unpacked, is the records that its program emitted, in order.
-pub fn emitted_records_read_back<D: Domain>()
+pub fn outcomes_unpack<D: Domain>()
     ensures { OutcomeUnpacks D.operations }
 {}
 

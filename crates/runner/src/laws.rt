@@ -32,16 +32,20 @@ pub fn saved_devices_load()
 {}
 
 /// What an Append that succeeds puts in is what a Read of the assigned address gives, whatever events happen
-/// in between, until the zone is reset, goes offline or is lost; so is what a Write puts in, at its own
-/// address. It holds in every state with a sound namespace, as those are that events leave.
+/// in between, until the zone is reset, goes offline or is lost. It holds in every state with a sound
+/// namespace, as those are that events leave.
+pub fn appended_blocks_read_back()
+    ensures { AppendsReadBack intervals }
+{}
+
+/// The same of a Write, at its own address.
 pub fn written_blocks_read_back()
-    ensures appended { AppendsReadBack intervals }
-    ensures written { WritesReadBack intervals }
+    ensures { WritesReadBack intervals }
 {}
 
 /// What a run appends is read back so from where its destination ended at admission. After its last turn the
 /// blocks that are read unpack to the records that its program emitted, in order.
-pub fn emitted_records_read_back()
+pub fn appended_by_runs_reads_back()
     ensures { RunsReadBack intervals }
 {}
 

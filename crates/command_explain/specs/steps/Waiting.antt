@@ -7,10 +7,10 @@ use Rattle.nvme_entry.specs.Entry.{identifier_of}
 use Rattle.command_explain.specs.declared.waiting.Submission.{Submission}
 
 -- the submission that an event is
-abbrev pub submission_of : Event → Option Submission
-submission_of (event.Submit queue entry input) = Some (record { queue = queue; entry = entry })
-submission_of (event.Turn run) = None
-submission_of (event.Fault zone state) = None
+abbrev pub submission_in : Event → Option Submission
+submission_in (event.Submit queue entry input) = Some (record { queue = queue; entry = entry })
+submission_in (event.Turn run) = None
+submission_in (event.Fault zone state) = None
 
 -- is it from this queue, with this command identifier?
 abbrev pub is_of : ℕ → ℕ → Submission → Bool
