@@ -73,23 +73,23 @@ frame_text path refusal = sentence (path ++ codes ", ") (codes "frame refused " 
 abbrev pub data_text : List ℕ → Text
 data_text file = Around (file ++ codes " ") (10 ∷ [])
 
-abbrev pub text_of : Failure → Text
-text_of (CommandLine error) = Elsewhere
-text_of NotText = line (codes "error: a word of the command line isn't text")
-text_of (NotInRange option word least most) = range_text option.now word.now least most
-text_of (CannotRead path) = line (codes "cannot read " ++ path.now)
-text_of (CannotWrite path) = line (codes "cannot write " ++ path.now)
-text_of CannotPrint = line (codes "cannot write to standard output")
-text_of NoMemory = line (codes "no memory")
-text_of (LineRefused path number fault) = line_text path.now number
-text_of (ReplyRefused path number) = reply_text path.now number
-text_of (GeometryRefused refusal) = geometry_text refusal
-text_of (ImageRefused path fault) = image_text path.now fault
-text_of (AssemblyRefused path refusal) = assembly_text path.now refusal
-text_of (ProgramRefused path refusal) = program_text path.now refusal
-text_of (FrameRefused path refusal) = frame_text path.now refusal
-text_of (DataRefused file fault) = data_text file.now
-text_of NotAccepted = Silence
+abbrev pub failure_text : Failure → Text
+failure_text (CommandLine error) = Elsewhere
+failure_text NotText = line (codes "error: a word of the command line isn't text")
+failure_text (NotInRange option word least most) = range_text option.now word.now least most
+failure_text (CannotRead path) = line (codes "cannot read " ++ path.now)
+failure_text (CannotWrite path) = line (codes "cannot write " ++ path.now)
+failure_text CannotPrint = line (codes "cannot write to standard output")
+failure_text NoMemory = line (codes "no memory")
+failure_text (LineRefused path number fault) = line_text path.now number
+failure_text (ReplyRefused path number) = reply_text path.now number
+failure_text (GeometryRefused refusal) = geometry_text refusal
+failure_text (ImageRefused path fault) = image_text path.now fault
+failure_text (AssemblyRefused path refusal) = assembly_text path.now refusal
+failure_text (ProgramRefused path refusal) = program_text path.now refusal
+failure_text (FrameRefused path refusal) = frame_text path.now refusal
+failure_text (DataRefused file fault) = data_text file.now
+failure_text NotAccepted = Silence
 
 -- a stream grows by some words, with this in front of them and that behind them
 pub record GrowsAround (front behind : List ℕ) (old new : Option (List ℕ)) : Type 0 where
@@ -107,4 +107,4 @@ IsPrinted Silence old new = new ≡ old
 -- told of the failure
 abbrev pub IsConcluded : Result (Unit {0}) Failure → Option (List ℕ) → Option (List ℕ) → Type 0
 IsConcluded (Ok done) old new = new ≡ old
-IsConcluded (Err failure) old new = IsPrinted (text_of failure) old new
+IsConcluded (Err failure) old new = IsPrinted (failure_text failure) old new

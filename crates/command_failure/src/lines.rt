@@ -2,7 +2,7 @@
 
 ghost use Rattle.std.specs.Prelude.{◌++◌, ◌∷◌, [], codes, decimal, IfSome, OnOk};
 ghost use Rattle.std.specs.Io.KnownBytes.{Appends};
-ghost use Rattle.command_failure.specs.Lines.{IsPrinted, assembly_text, at_line, data_text, frame_text, geometry_text, image_text, line, line_front, line_text, program_text, range_text, reply_text, sentence, text_of};
+ghost use Rattle.command_failure.specs.Lines.{IsPrinted, assembly_text, at_line, data_text, frame_text, geometry_text, image_text, line, line_front, line_text, program_text, range_text, reply_text, sentence, failure_text};
 
 use crate::data_fault::DataFault;
 use crate::failure::Failure;
@@ -24,7 +24,7 @@ impl Failure<'_> {
     ///
     /// Those of the stream.
     pub fn print<W: Write>(&self, out: &mut W) -> io::Result<()>
-        ensures { OnOk result (IsPrinted (text_of self.now) (W.contents out.old) (W.contents out.new)) }
+        ensures { OnOk result (IsPrinted (failure_text self.now) (W.contents out.old) (W.contents out.new)) }
     {
         match self {
             // This text has a line end of its own.

@@ -9,7 +9,7 @@ use Rattle.zone_state.specs.Status.{type_number, type_of}
 use Rattle.nvme_entry.specs.declared.completion.Completion.{Completion}
 use Rattle.nvme_entry.specs.Completion.{completion_bytes, status_dword}
 use Rattle.nvme_entry.specs.Fields.{dword}
-use Rattle.nvme_entry.specs.CompletionFields.{CompletionsTell, AreFields, completion_in}
+use Rattle.nvme_entry.specs.CompletionFields.{CompletionsTell, AreCompletionFields, completion_in}
 
 again : (n : ℕ) (rest : List ℕ) → n < 2 ^ 32 → little_number 4 (little_bytes 4 n ++ rest) ≡ n
 again n rest h = little_number-reads_back 4 n rest (omega arith)
@@ -25,7 +25,7 @@ type_told CommandSpecific = refl
 type_told VendorSpecific = refl
 
 -- the completion with the fields that its bytes tell is the one whose bytes they are
-pub completions_read_back : (c : Completion) → AreFields c → completion_in (completion_bytes c) ≡ Some c
+pub completions_read_back : (c : Completion) → AreCompletionFields c → completion_in (completion_bytes c) ≡ Some c
 completions_read_back c fields =
     let bytes = completion_bytes c in
     let few = three_bits c.status.kind in
@@ -53,7 +53,7 @@ some_is_one a b e = cc
 
 -- where the completion with the fields that bytes tell has other bytes, no completion has these
 pub no_other_is_read : (bytes again : List ℕ) (read : Completion) → Some read ≡ completion_in bytes → again ≡ completion_bytes read → pointwise nat_eq again bytes ≡ false
-    → (c : Completion) → AreFields c → bytes ≡ completion_bytes c → None ≡ Some c
+    → (c : Completion) → AreCompletionFields c → bytes ≡ completion_bytes c → None ≡ Some c
 no_other_is_read bytes again read told spelled differ c fields is =
     let one : read ≡ c = some_is_one read c (told ∙ ap completion_in is ∙ completions_read_back c fields) in
     let equal : again ≡ bytes = spelled ∙ ap completion_bytes one ∙ sym is in

@@ -1,5 +1,5 @@
 -- The laws of this crate, proved, and lemmas: all that the proofs of other crates cite of it.
-use Rattle.nvme_entry.specs.EntryLaws.{FieldsAreSpelled, OnlyNamedFieldsCount, SpelledIsDecoded}
+use Rattle.nvme_entry.specs.EntryLaws.{FieldsAreSpelled, OnlyNamedFieldsCount, SpelledEntryIsDecoded}
 use Rattle.nvme_entry.specs.ReportLaws.{GivesWhatMatches}
 use Rattle.nvme_entry.specs.CompletionFields.{CompletionsTell}
 use Rattle.nvme_entry.proofs.Agreeing as agreeing
@@ -17,8 +17,8 @@ gives_what_matches = reports.gives_what_matches
 pub fields_are_spelled : FieldsAreSpelled
 fields_are_spelled = spelled.fields_are_spelled
 
-pub spelled_is_decoded : SpelledIsDecoded
-spelled_is_decoded = spelled.spelled_is_decoded
+pub spelled_entry_is_decoded : SpelledEntryIsDecoded
+spelled_entry_is_decoded = spelled.spelled_entry_is_decoded
 
 pub only_named_fields_count : OnlyNamedFieldsCount
 only_named_fields_count = agreeing.only_named_fields_count

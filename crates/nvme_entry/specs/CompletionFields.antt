@@ -22,7 +22,7 @@ completion_in bytes = option_map
     (type_of (dword bytes 3 / 2 ^ 25 % 2 ^ 3))
 
 -- the fields have the numbers of their types
-pub record AreFields (c : Completion) : Type 0 where
+pub record AreCompletionFields (c : Completion) : Type 0 where
   pub dw0 : c.dw0 < 2 ^ 32
   pub dw1 : c.dw1 < 2 ^ 32
   pub queue : c.queue < 2 ^ 16
@@ -31,4 +31,4 @@ pub record AreFields (c : Completion) : Type 0 where
 
 -- a host reads from a completion, of 16 bytes, what the device put into it
 abbrev pub CompletionsTell : Type 0
-CompletionsTell = (c : Completion) → AreFields c → (length (completion_bytes c) ≡ 16) × (completion_in (completion_bytes c) ≡ Some c)
+CompletionsTell = (c : Completion) → AreCompletionFields c → (length (completion_bytes c) ≡ 16) × (completion_in (completion_bytes c) ≡ Some c)

@@ -2,7 +2,7 @@
 
 ghost use Rattle.std.specs.Prelude.{◌≡◌, ◌/◌, ◌%◌, ◌^◌, IfSome};
 ghost use Rattle.nvme_entry.specs.Completion.{completion_bytes, status_dword};
-ghost use Rattle.nvme_entry.specs.CompletionFields.{AreFields, completion_in};
+ghost use Rattle.nvme_entry.specs.CompletionFields.{AreCompletionFields, completion_in};
 
 use crate::dwords::dword;
 use byteorder::{ByteOrder, LittleEndian};
@@ -40,7 +40,7 @@ impl Completion {
     /// [`StatusType`], or a field that is 0 (profile) isn't.
     pub fn decode(bytes: &[u8; 16]) -> Option<Completion>
         ensures spelled { IfSome result (λ completion. bytes.now ≡ completion_bytes completion) }
-        ensures read_back { (completion : Completion) → AreFields completion → bytes.now ≡ completion_bytes completion → result ≡ Some completion }
+        ensures read_back { (completion : Completion) → AreCompletionFields completion → bytes.now ≡ completion_bytes completion → result ≡ Some completion }
     {
         let completion = fields(bytes)?;
         if completion.encode() == *bytes {

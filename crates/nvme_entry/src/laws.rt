@@ -1,7 +1,7 @@
 //! Laws of the definitions that the contracts of this crate cite. Each function does nothing: what
 //! it ensures is the law.
 
-ghost use Rattle.nvme_entry.specs.EntryLaws.{FieldsAreSpelled, OnlyNamedFieldsCount, SpelledIsDecoded};
+ghost use Rattle.nvme_entry.specs.EntryLaws.{FieldsAreSpelled, OnlyNamedFieldsCount, SpelledEntryIsDecoded};
 ghost use Rattle.nvme_entry.specs.ReportLaws.{GivesWhatMatches};
 ghost use Rattle.nvme_entry.specs.CompletionFields.{CompletionsTell};
 
@@ -12,7 +12,7 @@ pub fn fields_are_spelled()
 
 /// An entry whose bytes spell a command, that is for namespace 1 and no part of a fused command, is decoded to it.
 pub fn spelled_entries_are_decoded()
-    ensures { SpelledIsDecoded }
+    ensures { SpelledEntryIsDecoded }
 {}
 
 /// Entries that agree in what they spell, and in their opcode, FUSE and namespace, are decoded or refused alike, whatever

@@ -18,10 +18,17 @@ neither false true forgetting e = cc
 neither false false true e = refl
 neither false false false e = refl
 
+-- neither the one, nor the other where it isn't asked for
+not_asked : (a b c : Bool) → a ≡ false → b ≡ false → (a || (b && c)) ≡ false
+not_asked true b c e f = cc
+not_asked false true c e f = cc
+not_asked false false c e f = refl
+
 pub holds_refuse : HoldsRefuse
 holds_refuse = record {
   destination = λ holds a zone held. either_left (is_destination holds zone) (forgets a && is_source holds zone) held;
   source = λ holds zone held. (either_right (is_destination holds zone) (is_source holds zone) held, either_right (is_destination holds zone) (is_source holds zone) held);
+  read = λ holds a zone other keeps. not_asked (is_destination holds zone) (forgets a) (is_source holds zone) other keeps;
   free = λ holds a zone free. neither (is_source holds zone) (is_destination holds zone) (forgets a) free;
   none = λ zone. refl;
 }

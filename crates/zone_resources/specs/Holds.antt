@@ -34,11 +34,12 @@ refuses holds action zone = is_destination holds zone || (forgets action && is_s
 abbrev pub no_holds : Holds
 no_holds = record { sources = replicate RUNS None; destinations = replicate RUNS None }
 
--- a zone that a run appends to is held against every action, one that a run reads from against those that
--- forget its blocks, and one that no run uses against none
+-- a zone that a run appends to is held against every action; one that runs only read from against those that
+-- forget its blocks, and against no others; and one that no run uses against none
 pub record HoldsRefuse : Type 0 where
   pub destination : (holds : Holds) (a : Action) (zone : ℕ) → is_destination holds zone ≡ true → refuses holds a zone ≡ true
   pub source : (holds : Holds) (zone : ℕ) → is_source holds zone ≡ true
       → (refuses holds action.Reset zone ≡ true) × (refuses holds action.Offline zone ≡ true)
+  pub read : (holds : Holds) (a : Action) (zone : ℕ) → is_destination holds zone ≡ false → forgets a ≡ false → refuses holds a zone ≡ false
   pub free : (holds : Holds) (a : Action) (zone : ℕ) → is_held holds zone ≡ false → refuses holds a zone ≡ false
   pub none : (zone : ℕ) → is_held no_holds zone ≡ false

@@ -27,7 +27,8 @@ pub fn release_keeps_limits()
     ensures idle { IdleHoldsNoMore }
 {}
 
-/// A destination of a run refuses every action, a source Reset and Offline, and a zone that no run uses none.
+/// A destination of a run refuses every action, a zone that is only a source Reset and Offline and no other, and a
+/// zone that no run uses none.
 pub fn holds_refuse()
     ensures { HoldsRefuse }
 {}
