@@ -32,7 +32,7 @@ impl Waiting {
         ensures { IfOk result (λ waiting. waiting.submissions.items ≡ filter_map submission_in events.now) }
     {
         let mut submissions = VecDeque::new(alloc);
-        for submission in events.iter().filter_map(|event| submission_of(event)) {
+        for submission in events.iter().filter_map(|event| submission_in(event)) {
             submissions.push_back(submission)?;
         }
         Ok(Waiting { submissions })
@@ -58,7 +58,7 @@ impl Waiting {
 }
 
 /// The submission that an event is.
-fn submission_of(event: &Event) -> Option<Submission>
+fn submission_in(event: &Event) -> Option<Submission>
     ensures { result ≡ submission_in event.now }
 {
     match event {
