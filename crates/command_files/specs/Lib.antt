@@ -1,5 +1,5 @@
+pub mod Number
 pub mod Arguments
 pub mod Made
 pub mod MemoryFiles
-pub mod Number
 pub mod UserTold

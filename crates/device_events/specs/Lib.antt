@@ -1,3 +1,3 @@
-pub mod Printed
-pub mod Refusals
 pub mod Replies
+pub mod Refusals
+pub mod Printed

@@ -326,7 +326,7 @@ fn length_fault(len: usize) -> Option<FaultKind>
 ///
 /// # Errors
 ///
-/// The fault of the lowest slot that has one, or of the length, at slot 0. Or want of memory.
+/// The fault of the length, at slot 0; or else that of the lowest slot where no instruction begins. Or want of memory.
 pub fn decode(alloc: Global, bytes: &[u8]) -> Result<Program, DecodeFault>
     // What is decoded is spelled by the bytes.
     ensures found { IfOk result (λ program. bytes.now ≡ program_bytes program) }

@@ -1,15 +1,13 @@
 -- What holds of the namespace that an image stands for, and its blocks by address.
-use Rattle.std.proofs.Common.{◌≡◌, ℕ, ◌*◌, ◌/◌, ◌%◌, ◌<◌, ◌≤◌, zero, suc, List, [], ◌∷◌, length, get_or, take, drop, Some, refl, ap, sym, subst, ◌∙◌, arith, length-take, length-drop}
-use Rattle.std.proofs.lemmas.Bool.{lt-ltb}
-use Rattle.std.proofs.lemmas.List.{append-nil, drop-drop}
+use Rattle.std.proofs.Common.{◌≡◌, ℕ, ◌*◌, ◌<◌, ◌≤◌, zero, suc, List, [], ◌∷◌, length, get_or, take, drop, refl, ap, sym, subst, ◌∙◌, arith, length-take, length-drop}
+use Rattle.std.proofs.lemmas.List.{drop-drop}
 use Rattle.std.proofs.Math.Nat.{suc-mul, mul-le-mul_right}
 use Rattle.zone_state.specs.Zone.{CountedZone, IsZone}
 use Rattle.zone_resources.specs.declared.counts.Counts.{Counts}
-use Rattle.image_store.specs.declared.geometry.ZoneBlock.{ZoneBlock}
-use Rattle.image_store.specs.Blocks.{blocks_of, bytes_of}
+use Rattle.image_store.specs.Blocks.{blocks_of}
 use Rattle.image_store.specs.ImageInMemory.{no_counted_zone, namespace_of, IsFlat, IsImage}
-use Rattle.image_store.specs.Geometry.{Shape, IsShape, zone_block_of}
-use Rattle.image_store.specs.Namespace.{ZoneBlocks, ZonedNamespace, no_zone, zone_at, shape, IsWritten, IsNamespace}
+use Rattle.image_store.specs.Geometry.{Shape, IsShape}
+use Rattle.image_store.specs.Namespace.{ZoneBlocks, ZonedNamespace, no_zone, zone_at, IsNamespace}
 use Rattle.image_store.proofs.ByteParts.{zones_fit}
 use Rattle.image_store.proofs.KeptLimits.{within_seen}
 use Rattle.image_store.proofs.BlocksOfBytes.{length-blocks}
@@ -63,30 +61,3 @@ image_sound s zs counts xs image =
 
 pub sound : (s : Shape) (zs : List CountedZone) (counts : Counts) (xs : List ℕ) (ns : ZonedNamespace) → namespace_of s zs xs ≡ ns → IsImage s zs counts xs → IsNamespace ns
 sound s zs counts xs ns seen image = subst IsNamespace seen (image_sound s zs counts xs image)
-
--- an address of which the zone is one of the namespace's is within it
-address_inside : (zones size lba : ℕ) → 1 ≤ size → lba / size < zones → lba < zones * size
-address_inside zones size lba some inside =
-    let below : suc (lba / size) ≤ zones = omega arith in
-    let product : suc (lba / size) * size ≤ zones * size = mul-le-mul_right size below in
-    omega (arith, suc-mul (lba / size) size)
-
--- the place of a written block
-pub written_place : (ns : ZonedNamespace) (lba : ℕ) → IsNamespace ns → IsWritten ns lba
-    → zone_block_of (shape ns) lba ≡ Some (record { zone = lba / ns.size; offset = lba % ns.size })
-written_place ns lba sound written =
-    let inside = zone_with_blocks ns.zones (lba / ns.size) (lba % ns.size) written in
-    let there = address_inside (length ns.zones) ns.size lba sound.shape.size_some inside in
-    rw (lt-ltb lba (length ns.zones * ns.size) there) refl
-
--- a place that is found for a written block is that one
-pub place_found : (ns : ZonedNamespace) (lba : ℕ) (s : Shape) (place : ZoneBlock) → IsNamespace ns → IsWritten ns lba → s ≡ shape ns → zone_block_of s lba ≡ Some place
-    → place ≡ record { zone = lba / ns.size; offset = lba % ns.size }
-place_found ns lba s place sound written same found =
-    cc (written_place ns lba sound written)
-
--- the bytes of one block
-pub one_block : (blocks : List (List ℕ)) (i : ℕ) → i < length blocks → bytes_of (take 1 (drop i blocks)) ≡ get_or blocks i []
-one_block [] i h = absurd (omega arith)
-one_block (x ∷ blocks) zero h = append-nil x
-one_block (x ∷ blocks) (suc i) h = one_block blocks i (omega arith)

@@ -82,10 +82,6 @@ all_empty s = namespace_with s (replicate s.zones (record { state = Empty; block
 abbrev pub shape : ZonedNamespace → Shape
 shape ns = record { block = ns.block; zones = length ns.zones; size = ns.size; capacity = ns.capacity; limits = ns.limits }
 
--- is the logical block with this address written? A zone that there is none of has no blocks
-abbrev pub IsWritten : ZonedNamespace → ℕ → Type 0
-IsWritten ns lba = let at = zone_block_at ns.size lba in at.offset < length (zone_at ns at.zone).blocks
-
 -- a written block, by its address
 abbrev pub block_at : ZonedNamespace → ℕ → List ℕ
 block_at ns lba = let at = zone_block_at ns.size lba in get_or (zone_at ns at.zone).blocks at.offset []

@@ -3,7 +3,6 @@
 ghost use Rattle.std.specs.Prelude.{◌≡◌};
 ghost use Rattle.image_store.specs.Fault.{load_number};
 ghost use Rattle.image_store.specs.declared.fault.LoadFault.TheVariants as load_fault;
-ghost use Rattle.image_store.specs.declared.fault.SaveFault.TheVariants as save_fault;
 
 use crate::refusal::GeometryRefusal;
 use crate::streams::StreamFault;
@@ -83,13 +82,6 @@ pub enum LoadFault {
     Memory,
 }
 
-/// Why an image could not be saved.
-#[derive(Clone, Copy, Debug, PartialEq, Eq, Error)]
-pub enum SaveFault {
-    #[error("the stream failed")]
-    Stream,
-}
-
 impl LoadFault {
     /// The fault's number (profile). A user is told those of a text's faults, 10 to 15 and 18; that the stream failed
     /// or memory was wanting says nothing of the text, and is told in words alone.
@@ -115,14 +107,6 @@ impl From<StreamFault> for LoadFault {
 
     fn from(_fault: StreamFault) -> LoadFault {
         LoadFault::Stream
-    }
-}
-
-impl From<StreamFault> for SaveFault {
-    ghost from_gives = { λ _ e. e ≡ save_fault.Stream };
-
-    fn from(_fault: StreamFault) -> SaveFault {
-        SaveFault::Stream
     }
 }
 

@@ -9,12 +9,12 @@ ghost use Rattle.image_store.specs.Streams.{Takes, CountsFailure};
 ghost use Rattle.image_store.specs.Loading.{LoadGives, CountsLoad};
 ghost use Rattle.image_store.specs.Reading.{header_in, namespace_in};
 ghost use Rattle.image_store.specs.Text.{text};
-ghost use Rattle.image_store.specs.Namespace.{appended, with_state, counted, counted_zones, zone_at, all_empty, shape, block_at, IsWithinLimits, IsWritten, IsNamespace};
+ghost use Rattle.image_store.specs.Namespace.{appended, with_state, counted, counted_zones, zone_at, all_empty, shape, IsWithinLimits, IsNamespace};
 
 use crate::bytes::are_bytes;
-use crate::fault::{LoadFault, SaveFault};
+use crate::fault::LoadFault;
 use crate::geometry::Geometry;
-use crate::streams::{Sink, Source};
+use crate::streams::{Sink, Source, StreamFault};
 use crate::{image_fields, load, save};
 use std::alloc::{AllocError, Global};
 use std::marker::Model;
@@ -89,8 +89,8 @@ impl Image {
     ///
     /// # Errors
     ///
-    /// [`SaveFault::Stream`] where the sink fails, which then has a beginning of the text.
-    pub fn save<W: Sink>(&self, sink: &mut W) -> Result<(), SaveFault>
+    /// [`StreamFault`] where the sink fails, which then has a beginning of the text.
+    pub fn save<W: Sink>(&self, sink: &mut W) -> Result<(), StreamFault>
         requires { W.failures sink.old < 2 ^ 64 - 1 }
         ensures text { W.tells → Takes (W.taken sink.old) (W.taken sink.new) (text self.now) result }
         ensures failures { CountsFailure (W.failures sink.old) (W.failures sink.new) result }
@@ -145,16 +145,6 @@ impl Image {
             first as usize,
             count as usize,
         )
-    }
-
-    /// The bytes of a written block, by its address.
-    pub fn block(&self, lba: u64) -> &[u8]
-        requires { IsWritten self.now lba }
-        ensures value { result.now ≡ block_at self.now lba }
-        ensures size { length result.now ≡ self.now.block }
-    {
-        let place = self.geometry().zone_block(lba).unwrap();
-        self.blocks(place.zone, place.offset, 1)
     }
 
     /// Puts a zone in another state, with the written blocks that it keeps there: none where it comes to be

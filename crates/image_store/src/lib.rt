@@ -18,7 +18,7 @@ mod tests;
 mod version;
 mod zone_row;
 
-pub use fault::{HeaderFault, LoadFault, SaveFault, ZoneRowFault};
+pub use fault::{HeaderFault, LoadFault, ZoneRowFault};
 pub use geometry::{Geometry, GeometryFault, MOST_ZONES, ZoneBlock};
 pub use image::Image;
 pub use memory_streams::Buffer;

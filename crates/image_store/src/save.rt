@@ -5,9 +5,8 @@ ghost use Rattle.image_store.specs.Streams.{Takes, CountsFailure};
 ghost use Rattle.image_store.specs.ImageInMemory.{IsFlat, namespace_of};
 ghost use Rattle.image_store.specs.Text.{text, zone_rows, blocks_text};
 
-use crate::fault::SaveFault;
 use crate::geometry::Geometry;
-use crate::streams::Sink;
+use crate::streams::{Sink, StreamFault};
 use crate::{header, image_fields, zone_row};
 use zone_state::Zone;
 
@@ -15,13 +14,13 @@ use zone_state::Zone;
 ///
 /// # Errors
 ///
-/// [`SaveFault::Stream`] where the sink fails.
+/// [`StreamFault`] where the sink fails.
 pub fn save<W: Sink>(
     geometry: Geometry,
     zones: &[Zone],
     blocks: &[u8],
     sink: &mut W,
-) -> Result<(), SaveFault>
+) -> Result<(), StreamFault>
     requires flat { IsFlat geometry zones.now blocks.now }
     requires few { W.failures sink.old < 2 ^ 64 - 1 }
     ensures text { W.tells → Takes (W.taken sink.old) (W.taken sink.new) (text (namespace_of geometry zones.now blocks.now)) result }
@@ -34,7 +33,7 @@ pub fn save<W: Sink>(
 }
 
 /// Hands the row of each zone to a sink.
-fn write_zone_rows<W: Sink>(sink: &mut W, zones: &[Zone]) -> Result<(), SaveFault>
+fn write_zone_rows<W: Sink>(sink: &mut W, zones: &[Zone]) -> Result<(), StreamFault>
     requires { W.failures sink.old < 2 ^ 64 - 1 }
     ensures text { W.tells → Takes (W.taken sink.old) (W.taken sink.new) (zone_rows zones.now) result }
     ensures failures { CountsFailure (W.failures sink.old) (W.failures sink.new) result }
@@ -51,7 +50,7 @@ fn write_blocks<W: Sink>(
     geometry: Geometry,
     zones: &[Zone],
     blocks: &[u8],
-) -> Result<(), SaveFault>
+) -> Result<(), StreamFault>
     requires flat { IsFlat geometry zones.now blocks.now }
     requires few { W.failures sink.old < 2 ^ 64 - 1 }
     ensures text { W.tells → Takes (W.taken sink.old) (W.taken sink.new) (blocks_text (namespace_of geometry zones.now blocks.now).zones) result }
@@ -68,7 +67,7 @@ fn write_blocks<W: Sink>(
 }
 
 /// Hands all bytes to a sink.
-fn write_all<W: Sink>(sink: &mut W, bytes: &[u8]) -> Result<(), SaveFault>
+fn write_all<W: Sink>(sink: &mut W, bytes: &[u8]) -> Result<(), StreamFault>
     requires { W.failures sink.old < 2 ^ 64 - 1 }
     ensures text { W.tells → Takes (W.taken sink.old) (W.taken sink.new) bytes.now result }
     ensures failures { CountsFailure (W.failures sink.old) (W.failures sink.new) result }

@@ -7,7 +7,7 @@ use device_events::Reply;
 use nvme_entry::Completion;
 use zns_commands::Answer;
 
-/// The reply to an entry that is answered at once.
+/// The completion of an entry, with the answer's status and dwords: at once, or of a run at its last turn.
 pub fn complete(queue: u16, cid: u16, answer: Answer) -> Reply
     ensures { result ≡ complete_reply queue cid answer }
 {

@@ -5,7 +5,7 @@ ghost use Rattle.zone_resources.specs.Holds.{no_holds};
 ghost use Rattle.nvme_entry.specs.declared.command.StandardCommand.TheVariants.{Append};
 ghost use Rattle.image_store.specs.Blocks.{block_count};
 ghost use Rattle.image_store.specs.Geometry.{IsShape};
-ghost use Rattle.image_store.specs.Namespace.{appended, block_at, shape, IsNamespace, IsWritten};
+ghost use Rattle.image_store.specs.Namespace.{appended, shape, IsNamespace};
 ghost use Rattle.zns_commands.specs.Address.{counted_zone_at};
 ghost use Rattle.zns_commands.specs.Effect.{effect_of_answer};
 ghost use Rattle.zns_commands.specs.Append.{TakesBlocks};
@@ -69,15 +69,6 @@ impl Namespace {
         ensures { result ≡ counted_zone_at self.now zone }
     {
         self.image.zone(zone)
-    }
-
-    /// The bytes of a written block, by its address.
-    pub fn block(&self, lba: u64) -> &[u8]
-        requires { IsWritten self.now lba }
-        ensures value { result.now ≡ block_at self.now lba }
-        ensures size { length result.now ≡ self.now.block }
-    {
-        self.image.block(lba)
     }
 
     /// Writes whole blocks, one or more, at the write pointer of an open zone that has room for them. Where
