@@ -198,6 +198,7 @@ impl Tracer<'_> {
     {
         let mut scratch = [0; SCRATCH_BYTES];
         let mut machine = Machine::new(block, context, &mut scratch);
+        // Brings in what holds of each program.
         let _ = self.program.slots();
         self.follow(&mut machine, fuel, group, out)
     }

@@ -52,6 +52,7 @@ impl RunSizes {
         ensures fits { result ≤ self.block }
         ensures most { result ≤ LARGEST_BLOCK }
     {
+        // Brings in what holds of each block size.
         let _ = self.block.bytes();
         self.limit
     }

@@ -63,7 +63,7 @@ impl Device {
         ensures { result ≡ new_state image }
     {
         let namespace = Namespace::new(image);
-        // brings in what holds of each namespace
+        // Brings in what holds of each namespace.
         let _ = namespace.geometry();
         Device {
             alloc,

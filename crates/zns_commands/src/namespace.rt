@@ -79,6 +79,7 @@ impl Namespace {
         ensures blocks { self.new ≡ appended self.old zone bytes.now }
         ensures append { length bytes.now ≤ MOST_TRANSFER → self.new ≡ (meaning self.old no_holds (Append (zone * self.old.size) (block_count self.old.block bytes.now)) bytes.now).namespace }
     {
+        // Brings in what holds of each namespace.
         let _ = self.geometry();
         self.image.append(zone, bytes);
     }

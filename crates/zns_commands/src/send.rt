@@ -44,6 +44,7 @@ fn check_action(image: &Image, holds: &Holds, lba: u64, action: Action) -> Resul
     }
     let to = image.zone(zone).manage(action)?;
     let closing = room_of(image, holds, action, zone)?;
+    // Brings in what holds of each image.
     let _ = image.geometry();
     Ok(ZonePlan { zone, to, closing })
 }
@@ -117,6 +118,7 @@ fn few_zones(image: &Image) -> &[Zone]
     ensures value { result.now ≡ counted_zones image.now }
     ensures few { length result.now ≤ MOST_ZONES }
 {
+    // Brings in what holds of each image.
     let _ = image.geometry();
     image.zones()
 }

@@ -66,6 +66,7 @@ pub fn check_write(
     }
     image.zone(zone).check_write(at, blocks.get())?;
     let closing = room_for(image, holds, zone)?;
+    // Brings in what holds of each image.
     let _ = image.geometry();
     Ok(WritePlan { zone, closing })
 }
