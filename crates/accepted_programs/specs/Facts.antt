@@ -83,7 +83,8 @@ module _ {D : Type 0} (operations : Operations D) where
   along taken width relation dst source facts = with_both facts dst source
       (operations.refine width relation taken (fact facts dst) (compared_fact width facts source) (is_register dst source))
 
-  -- after emit R0 to R5 are 0, and the group has grown by a frame of at most R2 bytes
+  -- after emit R0 to R5 are 0 (BPF ABI 1.0, Registers and calling convention: a call needn't keep them; that they are 0
+  -- is profile), and the group has grown by a frame of at most R2 bytes
   abbrev pub after_emit : Facts D → Facts D
   after_emit facts = record facts {
     registers = replicate 6 (operations.constant 0) ++ drop 6 facts.registers;

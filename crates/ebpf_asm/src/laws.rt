@@ -1,4 +1,4 @@
-//! Laws of assembly text.
+//! Laws of assembly text. Each function does nothing: what it ensures is the law.
 
 ghost use Rattle.ebpf_asm.specs.Laws.{MnemonicsReadBack, RegistersReadBack, ImmediatesReadBack, WideValuesReadBack, MemoryOperandsReadBack, ListingsAssemble, AssembledIsProgram, FaultIsLowest};
 

@@ -1,4 +1,4 @@
-//! Laws of spelling and decoding, for all programs.
+//! Laws of spelling and decoding, for all programs. Each function does nothing: what it ensures is the law.
 
 ghost use Rattle.ebpf_decode.specs.Laws.{DecodedIsSpelled, FaultIsFirst, FaultIsInside, HasOneProgram, SpelledIsDecoded};
 

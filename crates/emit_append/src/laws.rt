@@ -1,4 +1,4 @@
-//! Laws of the definitions: what they mean, in words of their own.
+//! Laws of the definitions: what they mean, in words of their own. Each function does nothing: what it ensures is the law.
 
 ghost use Rattle.emit_append.specs.Unpacking.{PackedFramesReadBack, RefusedIsLowest, UnpackedIsFrames};
 ghost use Rattle.emit_append.specs.GoingOn.{PackingGoesOn};

@@ -7,6 +7,7 @@ ghost use Rattle.emit_append.specs.Packing.{padded};
 use program_interface::{BlockSize, LARGEST_BLOCK};
 use std::marker::Model;
 
+/// What a new packer's block begins as: made once, and copied.
 static ZEROS: [u8; LARGEST_BLOCK] = [0; LARGEST_BLOCK];
 
 /// Packs groups into output blocks. It keeps the block that was begun last, since the next group
@@ -16,11 +17,11 @@ static ZEROS: [u8; LARGEST_BLOCK] = [0; LARGEST_BLOCK];
 /// bytes that are pending.
 #[derive(Drop)]
 pub struct Packer {
-    // bytes of an output block
+    /// The bytes of an output block.
     block: usize,
-    // how many bytes at the front of the array are pending
+    /// How many bytes at the front of the array are pending.
     pending: usize,
-    // what stands behind the pending bytes is of earlier groups, until zeros are written there
+    /// What stands behind the pending bytes is of earlier groups, until zeros are written there.
     bytes: [u8; LARGEST_BLOCK],
 }
 

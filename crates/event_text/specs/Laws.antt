@@ -70,6 +70,7 @@ fault_text zone state = codes "fault " ++ decimal zone ++ codes " " ++ state_tex
 abbrev pub ReadsBack : List ℕ → Told → Type 0
 ReadsBack line event = (end : LineEnd) → events_in (line ++ end_text end) ≡ Ok (event ∷ [])
 
+-- the line of a submission, of a turn or of a zone's fault is read back as it
 abbrev pub SubmissionsReadBack : Type 0
 SubmissionsReadBack =
     (queue : ℕ) (entry input : List ℕ) → queue < 2 ^ 16 → length entry ≡ 64 → IsBytes entry → IsBytes input

@@ -166,7 +166,7 @@ impl DwordCount {
 /// What an entry asks for.
 #[derive(Clone, Copy, Debug, PartialEq, Eq)]
 pub enum Command {
-    /// A command of the NVM Command Set or of the Zoned Namespace Command Set.
+    /// A command of the standards (NVM Command Set 1.0, 3.2; ZNS 1.1, 3.4).
     Standard(StandardCommand),
     /// Starts a run of a program (profile).
     Run(RunCommand),

@@ -77,6 +77,7 @@ impl Entry {
         ensures { result ≡ asked Opcode.ZoneManagementSend entry.now }
     {
         let lba = Entry::lba(entry);
+        // Command Dword 13: the action, and behind it Select All.
         let action = Action::from_code(entry[52]).ok_or(Status::INVALID_FIELD_IN_COMMAND)?;
         Ok(Command::Standard(StandardCommand::Send {
             lba,
@@ -93,6 +94,7 @@ impl Entry {
         let dwords = DwordCount::from_zero_based(dword(entry, 12)).ok_or(
             Status::INVALID_FIELD_IN_COMMAND,
         )?;
+        // Command Dword 13: the action, what to list, and Partial.
         if entry[52] != REPORT_ZONES {
             return Err(Status::INVALID_FIELD_IN_COMMAND);
         }
@@ -109,6 +111,7 @@ impl Entry {
     fn run(entry: &[u8; 64]) -> Result<Command, Status>
         ensures { result ≡ asked Opcode.Run entry.now }
     {
+        // Command Dword 12: behind the number of blocks the slot.
         let slot = ProgramSlot::new(u32::from(entry[50])).ok_or(Status::INVALID_FIELD_IN_COMMAND)?;
         Ok(Command::Run(RunCommand {
             lba: Entry::lba(entry),

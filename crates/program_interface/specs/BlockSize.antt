@@ -7,6 +7,7 @@ use Rattle.program_interface.specs.declared.block_size.TheConstants.{BLOCK_SIZES
 abbrev pub is_block_size : ℕ → Bool
 is_block_size bytes = list_any (λ size. size == bytes) BLOCK_SIZES
 
+-- so many bytes are the size of a block
 abbrev pub IsBlockSize : ℕ → Type 0
 IsBlockSize bytes = IsTrue (is_block_size bytes)
 

@@ -1,4 +1,4 @@
-//! Laws of the definitions: each function's contract is one, and its body is empty.
+//! Laws of the definitions. Each function does nothing: what it ensures is the law.
 
 ghost use Rattle.program_meaning.specs.Laws.{AccessIsMapped, ChangesOnly, EmitsFromMap, EndsInRun, KeepsReadOnly, LoadsFromMap, StoresIntoMap, StuckByLeast};
 

@@ -20,6 +20,7 @@ CarriesBytes (event.Submit queue entry input) = AreBytes input.items
 CarriesBytes (event.Turn run) = Unit {0}
 CarriesBytes (event.Fault zone state) = Unit {0}
 
+-- events whose data, where they carry some, is bytes
 abbrev pub AreEvents : List Occurrence → Type 0
 AreEvents events = AllByRecursion (λ o. CarriesBytes o.event) events
 

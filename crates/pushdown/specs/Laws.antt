@@ -64,6 +64,7 @@ RestGoesOn =
 abbrev pub Ends : Task → Progress → List ℕ → List (List ℕ) → Type 0
 Ends task so_far bytes blocks = (goes_on (block_run task so_far.index so_far.scratch bytes).end ≡ false) ⊎ (blocks ≡ [])
 
+-- where the run ends with a block, its last turn alone is left
 abbrev pub RestEnds : Type 0
 RestEnds =
     (task : Task) (so_far : Progress) (bytes : List ℕ) (blocks : List (List ℕ)) → Ends task so_far bytes blocks
@@ -82,6 +83,7 @@ pub record IsWholeOutcome (task : Task) (runs : List BlockRun) (turns : List Tur
   pub one_each : length turns ≡ length runs
   pub ending : 1 ≤ length runs → ending_of turns ≡ Some (success_of runs turns)
 
+-- where each block run ends by EXIT, all that the turns append is the groups, packed
 abbrev pub OutcomeIsPacked : Type 0
 OutcomeIsPacked =
     (task : Task) (blocks : List (List ℕ)) → AllByRecursion (λ run. IsExit run.end) (runs_of task blocks)
@@ -95,6 +97,7 @@ pub record StartsRun (s : State) (sub : Submission) (order : RunCommand) (run : 
   pub place : place_at h.state run ≡ Some (admitted_place sub s order)
   pub namespace : h.state.namespace ≡ s.namespace
 
+-- a Run that is admitted has its outcome at its place
 abbrev pub AdmittedStarts : {D : Type 0} → Operations D → Type 0
 AdmittedStarts operations =
     (s : State) (starved : Bool) (queue : ℕ) (entry : List ℕ) (input : Vec ℕ Global) (order : RunCommand) (run : ℕ)
@@ -161,6 +164,7 @@ pub record IsSoundState (s : State) : Type 0 where
   pub appends : (run : ℕ) (place : Place) (turn : Turn) (later : List Turn) → place_at s run ≡ Some place
       → place.turns ≡ turn ∷ later → turn.blocks ≢ [] → IsAppended s.namespace place.destination turn.blocks
 
+-- what holds of each state that events leave
 abbrev pub StatesAreSound : {D : Type 0} → Operations D → Type 0
 StatesAreSound operations = (s : State) → IsReached operations s → IsSoundState s
 
@@ -175,6 +179,7 @@ pub record OthersStay (ns : ZonedNamespace) (z : ℕ) (blocks : List (List ℕ))
   pub same_shape : shape (added ns z blocks) ≡ shape ns
   pub others : (other : ℕ) → other ≢ z → zone_at (added ns z blocks) other ≡ zone_at ns other
 
+-- blocks put into a zone leave the shape and every other zone
 abbrev pub BlocksLeaveOthers : Type 0
 BlocksLeaveOthers = (ns : ZonedNamespace) (z : ℕ) (blocks : List (List ℕ)) → OthersStay ns z blocks
 

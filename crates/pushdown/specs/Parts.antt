@@ -47,12 +47,14 @@ EventsJoin = (first later : List Occurrence) → AreEvents first → AreEvents l
 abbrev pub InParts : {D : Type 0} → Operations D → Type 0
 InParts operations = (first later : List Occurrence) (s : State) → AreInParts operations first later s
 
+-- a device that did some events and then others has done both, one behind the other
 abbrev pub ServedInParts : {D T : Type 0} → Operations D → (T → T → List ReplyWithData → Type 0) → Type 0
 ServedInParts {T = T} operations took =
     (first later : List Event) (old between new : State) (before then after : T)
     → HasServed operations first old between (took before then) → HasServed operations later between new (took then after)
     → HasServed operations (first ++ later) old new (took before after)
 
+-- draining is to do turns, as events
 abbrev pub DrainedByTurns : {D : Type 0} → Operations D → Type 0
 DrainedByTurns operations = (runs : List ℕ) (s : State) → AreTurns operations runs s
 

@@ -156,6 +156,7 @@ module _ {D : Type 0} (operations : Operations D) where
       pub frames : frames_of runs < 2 ^ 32
       pub blocks : length (appended_by place.turns) < 2 ^ 32
 
+    -- the run is pushed down: the five parts hold, those of a turn while turns are left
     pub record IsPushedDown : Type 0 where
       pub no_turn_traps : NoTurnTraps
       pub few_steps : FewSteps

@@ -35,6 +35,7 @@ pub record IsRunning (ns : ZonedNamespace) (slots : List (Option LoadedProgram))
   pub accepted : IsFor ns program
   pub fits : Fits ns a
 
+-- the programs of the slots are for the namespace's blocks, and each active run can go on
 pub record IsReady (ns : ZonedNamespace) (slots : List (Option LoadedProgram)) (runs : List (Option ActiveRun)) : Type 0 where
   pub programs : (k : ℕ) (p : LoadedProgram) → get_or slots k None ≡ Some p → IsFor ns p
   pub running : (k : ℕ) (a : ActiveRun) → get_or runs k None ≡ Some a → IsRunning ns slots a

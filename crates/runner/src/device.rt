@@ -36,12 +36,12 @@ pub struct Stopped {
 /// A device with one namespace, slots for programs, and places for active runs. A clause sees its state.
 #[derive(Drop)]
 pub struct Device {
-    // what a Load takes its memory from
+    /// What a Load takes its memory from.
     alloc: Global,
     namespace: Namespace,
     slots: [Option<LoadedProgram>; PROGRAM_SLOTS],
     runs: [Option<Active>; RUNS],
-    // where a turn's program emits to
+    /// Where a turn's program emits to.
     group: [u8; LARGEST_BLOCK],
 }
 

@@ -70,6 +70,7 @@ BlocksAreAppended =
 abbrev pub EmptyIsNamespace : Type 0
 EmptyIsNamespace = (s : Shape) → IsShape s → IsNamespace (all_empty s)
 
+-- a check that finds nothing
 abbrev pub Passes : Option Status → Type 0
 Passes check = check ≡ None
 

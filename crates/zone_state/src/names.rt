@@ -141,7 +141,7 @@ const MEANINGS: &[Meaning] = &[
     },
 ];
 
-/// The name (NVMe Base 2.0, NVM Command Set 1.0, ZNS 1.1; of a vendor specific status: profile), the numbers and
+/// The name (that of its constant, with the sections there), the numbers and
 /// a sentence: `Zone Is Full (type 1h, code B9h): a write to a Full zone`. Of a status that isn't among them,
 /// the numbers alone.
 impl fmt::Display for Status {

@@ -50,7 +50,7 @@ pub struct Status {
 }
 
 /// Generic command status (NVMe Base 2.0, Generic Command Status Values; LBA Out of Range: NVM
-/// Command Set 1.0).
+/// Command Set 1.0, Generic Command Status Values).
 impl Status {
     /// The command is done.
     pub const SUCCESS: Status = Status {
@@ -83,7 +83,7 @@ impl Status {
     };
 }
 
-/// Command specific status (ZNS 1.1, 3).
+/// Command specific status (ZNS 1.1, Command Specific Status Values).
 impl Status {
     /// The blocks are not all in one zone, or a write passes the zone's capacity.
     pub const ZONE_BOUNDARY_ERROR: Status = Status {
