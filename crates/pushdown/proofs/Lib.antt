@@ -1,4 +1,5 @@
 mod Added
+mod Answered
 mod AnyOrder
 mod BlockRuns
 mod Bytes
@@ -25,6 +26,7 @@ pub mod Proved
 mod Reached
 mod ReadBack
 mod Rests
+mod Results
 mod RunsFit
 mod RunsRead
 mod SameTurns

@@ -4,13 +4,14 @@ use Rattle.word_domain.specs.Domain.{Operations}
 use Rattle.accepted_programs.specs.Laws.{AcceptedNeverTraps}
 use Rattle.device_events.specs.Replies.{Joins, ReplyWithData}
 use Rattle.pushdown.specs.AnyOrder.{TurnsInAnyOrder}
-use Rattle.pushdown.specs.Laws.{BlocksLeaveOthers, DrainingEnds, EventsKeepForRuns, RestEnds, RestGoesOn, RestIsFew, RoomIsOpen, RoomStays, StatesAreSound, TurnsLeaveFewer}
+use Rattle.pushdown.specs.Laws.{BlocksLeaveOthers, DrainingEnds, EventsKeepForRuns, OnlyLoadsChangeSlots, RefusedLeavesState, RestEnds, RestGoesOn, RestIsFew, RoomIsOpen, RoomStays, StatesAreSound, TurnsLeaveFewer}
 use Rattle.pushdown.specs.Parts.{DrainedByTurns, EventsJoin, InParts, ServedAndDrained}
 use Rattle.pushdown.specs.Pushdown.{Pushdown}
-use Rattle.pushdown.specs.ReadBack.{AppendsReadBack, RunsReadBack, WritesReadBack}
+use Rattle.pushdown.specs.ReadBack.{AppendsReadBack, ResultsReadBack, RunsReadBack, WritesReadBack}
 use Rattle.pushdown.specs.Reached.{EventsKeepReached, NewIsReached, TurnsKeepReached}
 use Rattle.pushdown.specs.View.{SeenAtAdmission, SeenStays}
 use Rattle.pushdown.proofs.Added as added
+use Rattle.pushdown.proofs.Answered as answered
 use Rattle.pushdown.proofs.AnyOrder as any_order
 use Rattle.pushdown.proofs.Drained as drained
 use Rattle.pushdown.proofs.Headline as headline
@@ -19,6 +20,7 @@ use Rattle.pushdown.proofs.Parts as parts
 use Rattle.pushdown.proofs.Reached as reached
 use Rattle.pushdown.proofs.ReadBack as read_back
 use Rattle.pushdown.proofs.Rests as rests
+use Rattle.pushdown.proofs.Results as results
 use Rattle.pushdown.proofs.RunsRead as runs_read
 use Rattle.pushdown.proofs.States as states
 use Rattle.pushdown.proofs.TurnsFit as fitting
@@ -73,6 +75,12 @@ module _ {D : Type 0} (operations : Operations D) where
   pub events_keep_for_runs : EventsKeepForRuns operations
   events_keep_for_runs = kept.events_keep_for_runs operations
 
+  pub refused_leaves_state : RefusedLeavesState operations
+  refused_leaves_state = answered.refused_leaves_state operations
+
+  pub only_loads_change_slots : OnlyLoadsChangeSlots operations
+  only_loads_change_slots = answered.only_loads_change_slots operations
+
   pub appended_reads_back : AppendsReadBack operations
   appended_reads_back = read_back.appended_reads_back operations
 
@@ -94,6 +102,9 @@ module _ {D : Type 0} (operations : Operations D) where
 
     pub runs_read_back : RunsReadBack operations
     runs_read_back = runs_read.runs_read_back operations never
+
+    pub results_read_back : ResultsReadBack operations
+    results_read_back = results.results_read_back operations never
 
     pub pushdown : Pushdown operations
     pushdown = headline.pushdown operations never

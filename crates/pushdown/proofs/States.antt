@@ -40,7 +40,7 @@ use Rattle.pushdown.specs.Admission.{Loaded, admission_checks, source_blocks, ta
 use Rattle.pushdown.specs.EventReplies.{Submission}
 use Rattle.pushdown.specs.BlockRuns.{Task, groups_of, no_scratch, runs_of}
 use Rattle.pushdown.specs.Events.{AreEvents, CarriesBytes, Occurrence, state_after}
-use Rattle.pushdown.specs.Laws.{IsAppended, RoomIn, StatesAreSound}
+use Rattle.pushdown.specs.Laws.{IsAcceptedIn, IsAppended, RoomIn, StatesAreSound}
 use Rattle.pushdown.specs.Happenings.{admitted_place, happens, just_loaded, keeping, load_checks, place_left, slots_left, turn_state, turned, why_not_run}
 use Rattle.pushdown.specs.Outcome.{Ending, Turn, appended_by, no_output, outcome}
 use Rattle.pushdown.specs.Pushdown.{EndsWithLast, Succeeds}
@@ -95,14 +95,14 @@ module _ {D : Type 0} (operations : Operations D) (never : AcceptedNeverTraps op
   abbrev granted : ℕ → Sizes
   granted limit = record { block = block; limit = limit }
 
-  pub record IsAccepted (loaded : Loaded) : Type 0 where
+  pub record ProgramIsFine (loaded : Loaded) : Type 0 where
     pub program : IsProgram loaded.program
     pub sizes : AreSizes (granted loaded.limit)
     pub accepted : refusal operations loaded.program (granted loaded.limit) ≡ None
 
   abbrev pub SlotIsFine : Option Loaded → Type 0
   SlotIsFine None = Unit {0}
-  SlotIsFine (Some loaded) = IsAccepted loaded
+  SlotIsFine (Some loaded) = ProgramIsFine loaded
 
   -- turns that append whole blocks, few each, and of which the last ends the run
   pub record AreTurns (turns : List Turn) : Type 0 where
@@ -157,7 +157,7 @@ module _ {D : Type 0} (operations : Operations D) (never : AcceptedNeverTraps op
       subst (λ (n : ℕ). load.limit ≤ n) h.size (leb-true load.limit s.namespace.block test)
 
   taken_accepted : (sub : Submission) (s t : State) (load : LoadCommand) (h : IsFine s) → AreBytes sub.input
-      → (takes : TakesSlot operations sub s load t) → IsAccepted (just_loaded takes.program load.limit)
+      → (takes : TakesSlot operations sub s load t) → ProgramIsFine (just_loaded takes.program load.limit)
   taken_accepted sub s t load h are takes =
       let judge : ℕ → Option Refusal = λ n. refusal operations takes.program (record { block = n; limit = load.limit }) in
       record {
@@ -341,6 +341,17 @@ module _ {D : Type 0} (operations : Operations D) (never : AcceptedNeverTraps op
   events_fine [] s h are = h
   events_fine (o ∷ os) s h are = events_fine os (happens operations s o.starved o.event).state (event_fine s o.starved o.event h are.0) are.1
 
+  -- each loaded program is accepted
+  programs : (s : State) → IsFine s → (slot : ℕ) (loaded : Loaded) → program_at s slot ≡ Some loaded → IsAcceptedIn operations s.namespace loaded
+  programs s h slot loaded at =
+      let fine = subst SlotIsFine at (all_at SlotIsFine s.slots slot None h.slots tt) in
+      let judge : ℕ → Option Refusal = λ n. refusal operations loaded.program (record { block = n; limit = loaded.limit }) in
+      record {
+        program = fine.program;
+        limit = subst (λ (n : ℕ). loaded.limit ≤ n) (sym h.size) fine.sizes.fits;
+        accepted = ap judge h.size ∙ fine.accepted;
+      }
+
   -- what the next turn of a run appends is appended
   appends : (s : State) → IsFine s → (run : ℕ) (place : Place) (turn : Turn) (later : List Turn) → place_at s run ≡ Some place
       → place.turns ≡ turn ∷ later → turn.blocks ≢ [] → IsAppended s.namespace place.destination turn.blocks
@@ -360,4 +371,10 @@ reached_fine operations never s reached =
 pub states_are_sound : {D : Type 0} (operations : Operations D) → AcceptedNeverTraps operations → StatesAreSound operations
 states_are_sound operations never s reached =
     let h = reached_fine operations never s reached in
-    record { namespace = h.is; rooms = h.rooms; appends = appends operations never reached.first.block s h }
+    let block = reached.first.block in
+    record {
+      namespace = h.is;
+      programs = programs operations never block s h;
+      rooms = h.rooms;
+      appends = appends operations never block s h;
+    }

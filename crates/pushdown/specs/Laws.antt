@@ -4,28 +4,37 @@ use Rattle.std.specs.List.{AllByRecursion, concat, flat_map}
 use Rattle.std.specs.declared.alloc.Global.{Global}
 use Rattle.zone_state.specs.Checks.{first_failed}
 use Rattle.zone_state.specs.State.{is_open}
+use Rattle.zone_state.specs.declared.status.Status.{Status}
+use Rattle.zone_state.specs.declared.status.TheConstants.Status.{SUCCESS}
 use Rattle.zone_resources.specs.Holds.{no_holds}
+use Rattle.nvme_entry.specs.Entry.{decoded, identifier_of}
+use Rattle.nvme_entry.specs.declared.command.Command.TheVariants as command
+use Rattle.nvme_entry.specs.declared.command.LoadCommand.{LoadCommand}
 use Rattle.nvme_entry.specs.declared.command.RunCommand.{RunCommand}
+use Rattle.ebpf_decode.specs.Reading.{decoded_program}
+use Rattle.instruction_set.specs.Program.{IsProgram}
+use Rattle.instruction_set.specs.declared.insn.Insn.{Insn}
 use Rattle.program_interface.specs.Frame.{frames}
 use Rattle.program_meaning.specs.BlockRun.{BlockRun}
 use Rattle.program_meaning.specs.TrapFree.{IsExit}
 use Rattle.word_domain.specs.Domain.{Operations}
+use Rattle.accepted_programs.specs.Accepted.{refusal}
 use Rattle.emit_append.specs.Unpacking.{unpacked}
 use Rattle.emit_append.specs.Packing.{packed, pending_of, released}
 use Rattle.image_store.specs.Blocks.{bytes_of}
 use Rattle.image_store.specs.Namespace.{ZoneBlocks, ZonedNamespace, zone_at, shape, IsNamespace}
 use Rattle.zns_commands.specs.Append.{TakesBlocks, append_checks, append_effect}
 use Rattle.zns_commands.specs.Left.{Grows}
-use Rattle.pushdown.specs.Admission.{SameProgram, source_blocks, task_of}
-use Rattle.pushdown.specs.EventReplies.{Happening, Submission, plain}
+use Rattle.pushdown.specs.Admission.{Loaded, SameProgram, sizes_in, source_blocks, task_of}
+use Rattle.pushdown.specs.EventReplies.{Happening, Submission, completion, plain}
 use Rattle.pushdown.specs.BlockRuns.{Task, block_run, frames_of, goes_on, groups_of, runs_of, scratch_after}
 use Rattle.pushdown.specs.Draining.{Drains, turns_left}
 use Rattle.pushdown.specs.Events.{Occurrence}
-use Rattle.pushdown.specs.Happenings.{added, admitted_place, happens, turned}
+use Rattle.pushdown.specs.Happenings.{added, admitted_place, happens, just_loaded, sizes_for, turned}
 use Rattle.pushdown.specs.Outcome.{Ending, Progress, Turn, appended_by, at_admission, ending_of, last_turn, outcome, output_of, rest}
 use Rattle.pushdown.specs.Pushdown.{IsAdmitted, is_turn_of, success_of}
 use Rattle.pushdown.specs.Reached.{IsReached}
-use Rattle.pushdown.specs.State.{Place, State, place_at, program_at}
+use Rattle.pushdown.specs.State.{Place, State, place_at, program_at, with_slot}
 use Rattle.device_events.specs.declared.event.Event.TheVariants as event
 use Rattle.device_events.specs.declared.reply.Reply.TheVariants as reply
 
@@ -88,6 +97,43 @@ abbrev pub OutcomeIsPacked : Type 0
 OutcomeIsPacked =
     (task : Task) (blocks : List (List ℕ)) → AllByRecursion (λ run. IsExit run.end) (runs_of task blocks)
     → IsWholeOutcome task (runs_of task blocks) (outcome task blocks)
+
+-- ---- refused entries, and slots
+
+-- an entry is completed with a status, and where that isn't success the state is as it was
+pub record IsAnswered (s : State) (sub : Submission) (h : Happening) : Type 0 where
+  pub status : Status
+  pub dw0 : ℕ
+  pub dw1 : ℕ
+  pub output : List ℕ
+  pub reply : h.reply ≡ completion sub.queue (identifier_of sub.entry) status dw0 dw1 output
+  pub state : status ≢ SUCCESS → h.state ≡ s
+
+-- the reply to an entry, whatever its command is, is Pending or such a completion
+abbrev pub RefusedLeavesState : {D : Type 0} → Operations D → Type 0
+RefusedLeavesState operations =
+    (s : State) (starved : Bool) (queue : ℕ) (entry : List ℕ) (input : Vec ℕ Global)
+    → let h = happens operations s starved (event.Submit queue entry input) in
+    ((run : ℕ) × (h.reply ≡ plain (reply.Pending run))) ⊎ IsAnswered s (record { queue = queue; entry = entry; input = input.items }) h
+
+module _ {D : Type 0} (operations : Operations D) where
+  -- a Load succeeds: its slot gets the program that its data is decoded to, which no reason refuses, with no
+  -- scratch bytes kept, and all else is as it was
+  pub record IsLoaded (s : State) (sub : Submission) (load : LoadCommand) (h : Happening) : Type 0 where
+    pub asked : decoded sub.entry ≡ Ok (command.Load load)
+    pub program : List (Option Insn)
+    pub read : decoded_program sub.input ≡ Ok program
+    pub accepted : refusal operations program (sizes_for s load) ≡ None
+    pub reply : h.reply ≡ completion sub.queue (identifier_of sub.entry) SUCCESS 0 0 []
+    pub state : h.state ≡ with_slot s load.slot (Some (just_loaded program load.limit))
+
+-- an entry leaves the slots as they were, or is such a Load
+abbrev pub OnlyLoadsChangeSlots : {D : Type 0} → Operations D → Type 0
+OnlyLoadsChangeSlots operations =
+    (s : State) (starved : Bool) (queue : ℕ) (entry : List ℕ) (input : Vec ℕ Global)
+    → let h = happens operations s starved (event.Submit queue entry input) in
+    (h.state.slots ≡ s.slots)
+    ⊎ ((load : LoadCommand) × IsLoaded operations s (record { queue = queue; entry = entry; input = input.items }) load h)
 
 -- ---- admission and turns
 
@@ -155,18 +201,26 @@ pub record IsAppended (ns : ZonedNamespace) (z : ℕ) (blocks : List (List ℕ))
   pub passes : first_failed (append_checks ns no_holds (z * ns.size) (length blocks) (bytes_of blocks)) ≡ None
   pub effect : added ns z blocks ≡ (append_effect ns no_holds (z * ns.size) (bytes_of blocks)).namespace
 
--- in each state that events leave, the namespace is sound, what is left of each run fits, and what its next
--- turn appends is appended
-pub record IsSoundState (s : State) : Type 0 where
-  pub namespace : IsNamespace s.namespace
-  pub rooms : (run : ℕ) (place : Place) → place_at s run ≡ Some place
-      → RoomIn s.namespace.capacity (zone_at s.namespace place.destination) place.turns
-  pub appends : (run : ℕ) (place : Place) (turn : Turn) (later : List Turn) → place_at s run ≡ Some place
-      → place.turns ≡ turn ∷ later → turn.blocks ≢ [] → IsAppended s.namespace place.destination turn.blocks
+module _ {D : Type 0} (operations : Operations D) where
+  -- a program in its slot is a program, its limit is at most a block, and no reason refuses it
+  pub record IsAcceptedIn (ns : ZonedNamespace) (loaded : Loaded) : Type 0 where
+    pub program : IsProgram loaded.program
+    pub limit : loaded.limit ≤ ns.block
+    pub accepted : refusal operations loaded.program (sizes_in ns (Some loaded)) ≡ None
+
+  -- in each state that events leave, the namespace is sound, each loaded program is accepted, what is left of
+  -- each run fits, and what its next turn appends is appended
+  pub record IsSoundState (s : State) : Type 0 where
+    pub namespace : IsNamespace s.namespace
+    pub programs : (slot : ℕ) (loaded : Loaded) → program_at s slot ≡ Some loaded → IsAcceptedIn s.namespace loaded
+    pub rooms : (run : ℕ) (place : Place) → place_at s run ≡ Some place
+        → RoomIn s.namespace.capacity (zone_at s.namespace place.destination) place.turns
+    pub appends : (run : ℕ) (place : Place) (turn : Turn) (later : List Turn) → place_at s run ≡ Some place
+        → place.turns ≡ turn ∷ later → turn.blocks ≢ [] → IsAppended s.namespace place.destination turn.blocks
 
 -- what holds of each state that events leave
 abbrev pub StatesAreSound : {D : Type 0} → Operations D → Type 0
-StatesAreSound operations = (s : State) → IsReached operations s → IsSoundState s
+StatesAreSound operations = (s : State) → IsReached operations s → IsSoundState operations s
 
 -- in each state that events leave, turns of the lowest active run come to an end
 abbrev pub DrainingEnds : {D : Type 0} → Operations D → Type 0

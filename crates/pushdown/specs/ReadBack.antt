@@ -1,14 +1,16 @@
 -- What was written is read back, whatever events happen in between.
-use Rattle.std.specs.Prelude.{ℕ, Bool, false, ◌≡◌, ◌≤◌, ◌<◌, ◌+◌, ◌*◌, ◌^◌, List, [], ◌∷◌, length, take, drop, Ok, Vec}
+use Rattle.std.specs.Prelude.{ℕ, Bool, true, false, ◌≡◌, ◌≤◌, ◌<◌, ◌+◌, ◌*◌, ◌^◌, List, [], ◌∷◌, length, take, drop, is_some, Ok, Vec}
 use Rattle.std.specs.List.{concat, flat_map}
 use Rattle.std.specs.declared.alloc.Global.{Global}
 use Rattle.zone_state.specs.declared.status.TheConstants.Status.{SUCCESS}
-use Rattle.nvme_entry.specs.Entry.{decoded}
+use Rattle.nvme_entry.specs.Entry.{decoded, identifier_of}
+use Rattle.nvme_entry.specs.declared.command.Command.{Command}
 use Rattle.nvme_entry.specs.declared.command.Command.TheVariants as command
+use Rattle.nvme_entry.specs.declared.command.LoadCommand.{LoadCommand}
 use Rattle.nvme_entry.specs.declared.command.RunCommand.{RunCommand}
-use Rattle.nvme_entry.specs.declared.command.StandardCommand.{StandardCommand}
 use Rattle.nvme_entry.specs.declared.command.StandardCommand.TheVariants.{Write, Read, Append}
 use Rattle.nvme_entry.specs.declared.command.TheConstants.{MOST_TRANSFER}
+use Rattle.program_interface.specs.declared.area.TheConstants.{SCRATCH_BYTES}
 use Rattle.word_domain.specs.Domain.{Operations}
 use Rattle.emit_append.specs.Unpacking.{unpacked}
 use Rattle.image_store.specs.Blocks.{bytes_of}
@@ -18,20 +20,22 @@ use Rattle.zns_commands.specs.Address.{write_pointer, zone_number}
 use Rattle.zns_commands.specs.Effect.{Effect, success_effect}
 use Rattle.zns_commands.specs.Left.{Grows}
 use Rattle.zns_commands.specs.Meaning.{meaning}
-use Rattle.pushdown.specs.EventReplies.{Happening}
+use Rattle.pushdown.specs.EventReplies.{Happening, completion}
+use Rattle.pushdown.specs.BlockRuns.{last_scratch}
 use Rattle.pushdown.specs.Events.{AreEvents, Occurrence, state_after}
 use Rattle.pushdown.specs.Laws.{AreEmitted}
 use Rattle.pushdown.specs.Happenings.{commanded, happens}
 use Rattle.pushdown.specs.Outcome.{Turn, appended_by}
 use Rattle.pushdown.specs.Pushdown.{IsAdmitted, blocks_at, done, next, place, runs}
 use Rattle.pushdown.specs.Reached.{IsReached}
-use Rattle.pushdown.specs.State.{State, holds_at}
+use Rattle.pushdown.specs.State.{State, holds_at, place_at, uses}
+use Rattle.device_events.specs.Replies.{ReplyWithData}
 use Rattle.device_events.specs.declared.event.Event.{Event}
 use Rattle.device_events.specs.declared.event.Event.TheVariants as event
 
 -- the event submits an entry of this command, with these bytes beside it
-abbrev pub Submits : Event → StandardCommand → List ℕ → Type 0
-Submits (event.Submit queue entry bytes) c input = (decoded entry ≡ Ok (command.Standard c)) × (bytes.items ≡ input)
+abbrev pub Submits : Event → Command → List ℕ → Type 0
+Submits (event.Submit queue entry bytes) c input = (decoded entry ≡ Ok c) × (bytes.items ≡ input)
 Submits (event.Turn run) c input = ⊥
 Submits (event.Fault zone state) c input = ⊥
 
@@ -42,11 +46,23 @@ IsCompleted (event.Submit queue entry input) s effect happening =
 IsCompleted (event.Turn run) s effect happening = ⊥
 IsCompleted (event.Fault zone state) s effect happening = ⊥
 
+-- the event submits a Load of this slot, and the reply is success
+abbrev pub LoadSucceeds : ℕ → Event → ReplyWithData → Type 0
+LoadSucceeds slot (event.Submit queue entry input) reply =
+    (load : LoadCommand) × ((decoded entry ≡ Ok (command.Load load))
+    × ((load.slot ≡ slot) × (reply ≡ completion queue (identifier_of entry) SUCCESS 0 0 [])))
+LoadSucceeds slot (event.Turn run) reply = ⊥
+LoadSucceeds slot (event.Fault zone state) reply = ⊥
+
+-- each run of a slot that is active before an event is active after it
+abbrev pub NoRunEnds : ℕ → State → State → Type 0
+NoRunEnds slot s next = (run : ℕ) → uses slot (place_at s run) ≡ true → is_some (place_at next run) ≡ true
+
 module _ {D : Type 0} (operations : Operations D) where
   -- these bytes are read of so many blocks from an address on
   abbrev pub ReadsGive : State → ℕ → ℕ → List ℕ → Type 0
   ReadsGive s lba blocks bytes =
-      (read : Occurrence) → Submits read.event (Read lba blocks) []
+      (read : Occurrence) → Submits read.event (command.Standard (Read lba blocks)) []
       → IsCompleted read.event s (success_effect s.namespace 0 bytes) (happens operations s read.starved read.event)
 
   -- these blocks are read from an address on, one block after another
@@ -60,6 +76,19 @@ module _ {D : Type 0} (operations : Operations D) where
   NoEventClears z (o ∷ os) s =
       let next = (happens operations s o.starved o.event).state in
       (is_cleared (zone_at next.namespace z).state ≡ false) × NoEventClears z os next
+
+  -- these bytes are the result of a slot, which Result gives
+  abbrev pub ResultGives : State → ℕ → List ℕ → Type 0
+  ResultGives s slot bytes =
+      (o : Occurrence) → Submits o.event (command.Result slot) []
+      → IsCompleted o.event s (success_effect s.namespace 0 bytes) (happens operations s o.starved o.event)
+
+  -- at none of the events a run of the slot ends, or a Load of it succeeds, so that its result is left
+  abbrev pub NoEventReplaces : ℕ → List Occurrence → State → Type 0
+  NoEventReplaces slot [] s = Unit {0}
+  NoEventReplaces slot (o ∷ os) s =
+      let h = happens operations s o.starved o.event in
+      NoRunEnds slot s h.state × ((LoadSucceeds slot o.event h.reply → ⊥) × NoEventReplaces slot os h.state)
 
   -- an admitted Run, the events between it and a turn of it, and events after that turn
   module _ (s : State) (queue : ℕ) (entry : List ℕ) (input : Vec ℕ Global) (starved : Bool) (order : RunCommand) (run : ℕ)
@@ -104,6 +133,14 @@ module _ {D : Type 0} (operations : Operations D) where
         before < length turns → NoEventClears destination later after_turn
         → AppendedAreRead × (before + 1 ≡ length turns → EmittedAreRead)
 
+    -- where that turn was the last, the scratch bytes that the last block run left are the result of its slot,
+    -- until a run of the slot ends or a Load of it succeeds
+    abbrev pub IsResultReadBack : Type 0
+    IsResultReadBack =
+        let bytes = last_scratch (runs operations s queue entry input starved order run events) in
+        before + 1 ≡ length turns → NoEventReplaces order.slot later after_turn
+        → (length bytes ≡ SCRATCH_BYTES) × ResultGives (state_after operations later after_turn) order.slot bytes
+
 -- no event changes the shape of the namespace
 abbrev pub EventsKeepShapes : {D : Type 0} → Operations D → Type 0
 EventsKeepShapes operations =
@@ -127,7 +164,7 @@ WrittenIsRead operations =
 abbrev pub AppendsReadBack : {D : Type 0} → Operations D → Type 0
 AppendsReadBack operations =
     (s : State) → IsNamespace s.namespace
-    → (o : Occurrence) (lba blocks : ℕ) (input : List ℕ) (events : List Occurrence) → Submits o.event (Append lba blocks) input
+    → (o : Occurrence) (lba blocks : ℕ) (input : List ℕ) (events : List Occurrence) → Submits o.event (command.Standard (Append lba blocks)) input
     → let done = meaning s.namespace (holds_at s) (Append lba blocks) input in
     let happening = happens operations s o.starved o.event in
     done.status ≡ SUCCESS → NoEventClears operations (zone_number s.namespace lba) events happening.state
@@ -138,7 +175,7 @@ AppendsReadBack operations =
 abbrev pub WritesReadBack : {D : Type 0} → Operations D → Type 0
 WritesReadBack operations =
     (s : State) → IsNamespace s.namespace
-    → (o : Occurrence) (lba blocks : ℕ) (input : List ℕ) (events : List Occurrence) → Submits o.event (Write lba blocks) input
+    → (o : Occurrence) (lba blocks : ℕ) (input : List ℕ) (events : List Occurrence) → Submits o.event (command.Standard (Write lba blocks)) input
     → let done = meaning s.namespace (holds_at s) (Write lba blocks) input in
     let happening = happens operations s o.starved o.event in
     done.status ≡ SUCCESS → NoEventClears operations (zone_number s.namespace lba) events happening.state
@@ -153,3 +190,11 @@ RunsReadBack operations =
     → IsAdmitted s (record { queue = queue; entry = entry; input = input.items }) order run
     → AreEvents events → AreEvents later
     → IsReadBack operations s queue entry input starved order run events later
+
+-- the same of the scratch bytes that the last block run of a run leaves, which Result gives
+abbrev pub ResultsReadBack : {D : Type 0} → Operations D → Type 0
+ResultsReadBack operations =
+    (s : State) → IsReached operations s
+    → (queue : ℕ) (entry : List ℕ) (input : Vec ℕ Global) (starved : Bool) (order : RunCommand) (run : ℕ) (events later : List Occurrence)
+    → IsAdmitted s (record { queue = queue; entry = entry; input = input.items }) order run
+    → IsResultReadBack operations s queue entry input starved order run events later

@@ -1,12 +1,12 @@
 //! Laws of the definitions. Each function does nothing: what it ensures is the law.
 
 ghost use Rattle.pushdown.specs.AnyOrder.{TurnsInAnyOrder};
-ghost use Rattle.pushdown.specs.Laws.{AdmittedStarts, BlocksLeaveOthers, DrainingEnds, EventsKeepForRuns, ForeignLeavesTurns, OutcomeIsPacked, OutcomeUnpacks, PendingIsAdmitted, RestAtAdmission, RestEnds, RestGoesOn, RestIsFew, RoomIsOpen, RoomStays, StatesAreSound, TurnTakesFirst, TurnsLeaveFewer};
+ghost use Rattle.pushdown.specs.Laws.{AdmittedStarts, BlocksLeaveOthers, DrainingEnds, EventsKeepForRuns, ForeignLeavesTurns, OnlyLoadsChangeSlots, OutcomeIsPacked, OutcomeUnpacks, PendingIsAdmitted, RefusedLeavesState, RestAtAdmission, RestEnds, RestGoesOn, RestIsFew, RoomIsOpen, RoomStays, StatesAreSound, TurnTakesFirst, TurnsLeaveFewer};
 ghost use Rattle.pushdown.specs.Memory.{OnlyLoadsWantMemory};
 ghost use Rattle.pushdown.specs.Parts.{DrainedByTurns, DrainedInOneWay, EventsJoin, InParts, OneReplyEach, ServedAndDrained, ServedInParts};
 ghost use Rattle.pushdown.specs.Pushdown.{Pushdown};
 ghost use Rattle.pushdown.specs.Reached.{EventsKeepReached, NewIsReached, TurnsKeepReached};
-ghost use Rattle.pushdown.specs.ReadBack.{AppendsReadBack, EventsKeepShapes, RunsReadBack, UnclearedKeepBlocks, WritesReadBack, WrittenIsRead};
+ghost use Rattle.pushdown.specs.ReadBack.{AppendsReadBack, EventsKeepShapes, ResultsReadBack, RunsReadBack, UnclearedKeepBlocks, WritesReadBack, WrittenIsRead};
 ghost use Rattle.pushdown.specs.View.{SeenAtAdmission, SeenStays};
 
 use device_events::Out;
@@ -54,9 +54,9 @@ pub fn events_lead_on<D: Domain>()
     ensures turns { TurnsKeepReached D.operations }
 {}
 
-/// In each state that events leave, the namespace is sound, and what is left of each run fits into its
-/// destination, which is open as long as it isn't filled: a turn's blocks come there as by a Zone Append that
-/// meets no hold, and no check refuses that.
+/// In each state that events leave, the namespace is sound, each loaded program is accepted, and what is left of
+/// each run fits into its destination, which is open as long as it isn't filled: a turn's blocks come there as by
+/// a Zone Append that meets no hold, and no check refuses that.
 pub fn appends_fit<D: Domain>()
     ensures { StatesAreSound D.operations }
 {}
@@ -72,6 +72,18 @@ pub fn room_lasts()
 /// Only a Load asks for memory: that it is refused changes nothing of what any other event comes to.
 pub fn only_loads_want_memory<D: Domain>()
     ensures { OnlyLoadsWantMemory D.operations }
+{}
+
+/// The reply to an entry is Pending, or its completion with a status. One whose status isn't success leaves the
+/// state as it was, whatever its command is.
+pub fn refused_leaves_state<D: Domain>()
+    ensures { RefusedLeavesState D.operations }
+{}
+
+/// An entry leaves the slots as they were, unless it is a Load that succeeds: it changes its own slot and nothing
+/// else, to the program that its data is decoded to, which no reason refuses, with no scratch bytes kept.
+pub fn only_loads_change_slots<D: Domain>()
+    ensures { OnlyLoadsChangeSlots D.operations }
 {}
 
 /// Each event has one reply.
@@ -129,6 +141,12 @@ pub fn written_blocks_read_back<D: Domain>()
 /// turn the blocks that are read there unpack to the records that its program emitted, in order.
 pub fn appended_by_runs_reads_back<D: Domain>()
     ensures { RunsReadBack D.operations }
+{}
+
+/// After a run's last turn a Result of its slot gives the 1024 scratch bytes that its last block run left,
+/// whatever events happen then, until a run of the slot ends or a Load of it succeeds.
+pub fn results_read_back<D: Domain>()
+    ensures { ResultsReadBack D.operations }
 {}
 
 /// In each state that events leave, turns come to the same in any order, but for the result of a slot that two

@@ -1,0 +1,140 @@
+-- What an entry that is refused leaves, and which entries change slots.
+use Rattle.std.proofs.Common.{◌≡◌, ◌≢◌, ℕ, Bool, List, [], Option, Some, None, Result, Ok, Err, refl, ap, inl, inr}
+use Rattle.std.specs.Prelude.{◌⊎◌, is_some}
+use Rattle.zone_state.specs.declared.status.Status.{Status}
+use Rattle.zone_state.specs.declared.status.TheConstants.Status.{SUCCESS, NO_RUN_FREE, NO_SUCH_PROGRAM}
+use Rattle.zone_state.specs.Checks.{first_failed}
+use Rattle.zone_resources.specs.declared.holds.Holds.{Holds}
+use Rattle.nvme_entry.specs.Entry.{decoded}
+use Rattle.nvme_entry.specs.declared.command.Command.{Command}
+use Rattle.nvme_entry.specs.declared.command.Command.TheVariants as command
+use Rattle.nvme_entry.specs.declared.command.LoadCommand.{LoadCommand}
+use Rattle.nvme_entry.specs.declared.command.RunCommand.{RunCommand}
+use Rattle.nvme_entry.specs.declared.command.StandardCommand.{StandardCommand}
+use Rattle.nvme_entry.specs.declared.command.StandardCommand.TheVariants.{Write, Read, Send, Receive, Append}
+use Rattle.nvme_entry.proofs.Proved.{demanded, passed}
+use Rattle.word_domain.specs.Domain.{Operations}
+use Rattle.image_store.specs.Namespace.{ZonedNamespace}
+use Rattle.zns_commands.specs.Effect.{Effect, concluded}
+use Rattle.zns_commands.specs.Meaning.{checks_of, effect_of, meaning}
+use Rattle.zns_commands.specs.Transfer.{transfer_checks}
+use Rattle.pushdown.specs.Admission.{Loaded, admission_checks}
+use Rattle.pushdown.specs.EventReplies.{Happening, Submission, completed, plain}
+use Rattle.pushdown.specs.Happenings.{result_by, start_by, submitted, why_not_run}
+use Rattle.pushdown.specs.Laws.{IsAnswered, IsLoaded, OnlyLoadsChangeSlots, RefusedLeavesState}
+use Rattle.pushdown.specs.State.{State, free_place, holds_at, program_at, with_namespace}
+use Rattle.device_events.specs.declared.reply.Reply.TheVariants as reply
+use Rattle.pushdown.proofs.Loads.{loading_is}
+
+-- ---- the standards' commands
+
+left_concluded : (refusal : Option Status) (ns : ZonedNamespace) (effect : Effect)
+    → effect.status ≡ SUCCESS → (concluded refusal ns effect).status ≢ SUCCESS → (concluded refusal ns effect).namespace ≡ ns
+left_concluded None ns effect done not_success = absurd (not_success done)
+left_concluded (Some status) ns effect done not_success = refl
+
+succeeds : (ns : ZonedNamespace) (holds : Holds) (c : StandardCommand) (input : List ℕ) → (effect_of ns holds c input).status ≡ SUCCESS
+succeeds ns holds (Write lba blocks) input = refl
+succeeds ns holds (Read lba blocks) input = refl
+succeeds ns holds (Send lba action select_all) input = refl
+succeeds ns holds (Receive lba dwords filter partial) input = refl
+succeeds ns holds (Append lba blocks) input = refl
+
+refused_leaves : (ns : ZonedNamespace) (holds : Holds) (c : StandardCommand) (input : List ℕ) → (meaning ns holds c input).status ≢ SUCCESS
+    → (meaning ns holds c input).namespace ≡ ns
+refused_leaves ns holds c input =
+    left_concluded (first_failed (checks_of ns holds c input)) ns (effect_of ns holds c input) (succeeds ns holds c input)
+
+-- ---- entries
+
+module _ {D : Type 0} (operations : Operations D) (starved : Bool) (sub : Submission) (s : State) where
+  abbrev IsReplied : Happening → Type 0
+  IsReplied h = ((run : ℕ) × (h.reply ≡ plain (reply.Pending run))) ⊎ IsAnswered s sub h
+
+  unchanged : (status : Status) (dw0 dw1 : ℕ) (output : List ℕ) → IsReplied (completed sub status dw0 dw1 output s)
+  unchanged status dw0 dw1 output =
+      inr (record { status = status; dw0 = dw0; dw1 = dw1; output = output; reply = refl; state = λ other. refl })
+
+  start_replied : (why : Option Status) (free : Option ℕ) (order : RunCommand) → why_not_run sub s order ≡ why → free_place s ≡ free
+      → IsReplied (start_by why free sub s order)
+  start_replied (Some status) free order is at = unchanged status 0 0 []
+  start_replied None None order is at =
+      let checks = admission_checks s.namespace (holds_at s) (is_some (free_place s)) (program_at s order.slot) order sub.input in
+      let there = demanded (is_some (free_place s)) NO_RUN_FREE (passed checks 7 is) in
+      let nowhere = ap is_some at in
+      cc
+  start_replied None (Some run) order is at = inl (run, refl)
+
+  result_replied : (slot : Option Loaded) (why : Option Status) → IsReplied (result_by slot why sub s)
+  result_replied slot (Some status) = unchanged status 0 0 []
+  result_replied None None = unchanged NO_SUCH_PROGRAM 0 0 []
+  result_replied (Some loaded) None = unchanged SUCCESS 0 0 loaded.result
+
+  pub replied : (asked : Result Command Status) → IsReplied (submitted operations starved sub s asked)
+  replied (Err status) = unchanged status 0 0 []
+  replied (Ok (command.Standard c)) =
+      let done = meaning s.namespace (holds_at s) c sub.input in
+      inr (record {
+        status = done.status;
+        dw0 = done.dw0;
+        dw1 = done.dw1;
+        output = done.output;
+        reply = refl;
+        state = λ other. ap (with_namespace s) (refused_leaves s.namespace (holds_at s) c sub.input other);
+      })
+  replied (Ok (command.Load load)) = inr (loading_is operations sub s load starved).answered
+  replied (Ok (command.Run order)) = start_replied (why_not_run sub s order) (free_place s) order refl refl
+  replied (Ok (command.Result slot)) = result_replied (program_at s slot) (first_failed (transfer_checks 0 0 sub.input))
+
+  -- ---- slots
+
+  abbrev ChangesSlots : Happening → Type 0
+  ChangesSlots h = (h.state.slots ≡ s.slots) ⊎ ((load : LoadCommand) × IsLoaded operations s sub load h)
+
+  start_changes : (why : Option Status) (free : Option ℕ) (order : RunCommand) → ChangesSlots (start_by why free sub s order)
+  start_changes (Some status) free order = inl refl
+  start_changes None None order = inl refl
+  start_changes None (Some run) order = inl refl
+
+  result_changes : (slot : Option Loaded) (why : Option Status) → ChangesSlots (result_by slot why sub s)
+  result_changes slot (Some status) = inl refl
+  result_changes None None = inl refl
+  result_changes (Some loaded) None = inl refl
+
+  load_changes : (load : LoadCommand) → decoded sub.entry ≡ Ok (command.Load load)
+      → ChangesSlots (submitted operations starved sub s (Ok (command.Load load)))
+  load_changes load asked =
+      let is = loading_is operations sub s load starved in
+      elim is.state [
+        | inl same ↦ inl (ap (λ (t : State). t.slots) same)
+        | inr takes ↦ elim is.succeeds [
+          | inl same ↦ inl (ap (λ (t : State). t.slots) same)
+          | inr reply ↦ inr (
+            load,
+            record {
+              asked = asked;
+              program = takes.program;
+              read = takes.read;
+              accepted = takes.accepted;
+              reply = reply;
+              state = takes.taken;
+            },
+          )
+        ]
+      ]
+
+  pub changes_slots : (asked : Result Command Status) → decoded sub.entry ≡ asked → ChangesSlots (submitted operations starved sub s asked)
+  changes_slots (Err status) is = inl refl
+  changes_slots (Ok (command.Standard c)) is = inl refl
+  changes_slots (Ok (command.Load load)) is = load_changes load is
+  changes_slots (Ok (command.Run order)) is = start_changes (why_not_run sub s order) (free_place s) order
+  changes_slots (Ok (command.Result slot)) is = result_changes (program_at s slot) (first_failed (transfer_checks 0 0 sub.input))
+
+module _ {D : Type 0} (operations : Operations D) where
+  pub refused_leaves_state : RefusedLeavesState operations
+  refused_leaves_state s starved queue entry input =
+      replied operations starved (record { queue = queue; entry = entry; input = input.items }) s (decoded entry)
+
+  pub only_loads_change_slots : OnlyLoadsChangeSlots operations
+  only_loads_change_slots s starved queue entry input =
+      changes_slots operations starved (record { queue = queue; entry = entry; input = input.items }) s (decoded entry) refl

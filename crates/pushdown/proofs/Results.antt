@@ -1,0 +1,253 @@
+-- What a run leaves as the result of its slot is given, whatever events happen after its last turn.
+use Rattle.std.proofs.Common.{◌≡◌, ℕ, zero, suc, ◌+◌, ◌<◌, ◌≤◌, Bool, true, List, [], ◌∷◌, length, set, get_or, Option, Some, None, Result, Ok, Err, Vec, refl, ap, sym, ◌∙◌, arith, inl, inr, get_or-set_other, get_or-set_same}
+use Rattle.std.specs.Prelude.{is_some}
+use Rattle.std.specs.List.{AllByRecursion}
+use Rattle.std.specs.declared.alloc.Global.{Global}
+use Rattle.std.proofs.lemmas.Bool.Decides.{eqb_tells}
+use Rattle.zone_state.specs.declared.status.Status.{Status}
+use Rattle.zone_state.specs.declared.status.TheConstants.Status.{SUCCESS, NO_SUCH_PROGRAM}
+use Rattle.zone_state.specs.Checks.{first_failed}
+use Rattle.nvme_entry.specs.Entry.{decoded}
+use Rattle.nvme_entry.specs.declared.command.Command.{Command}
+use Rattle.nvme_entry.specs.declared.command.Command.TheVariants as command
+use Rattle.nvme_entry.specs.declared.command.RunCommand.{RunCommand}
+use Rattle.nvme_entry.proofs.Proved.{demanded, passed}
+use Rattle.word_domain.specs.Domain.{Operations}
+use Rattle.accepted_programs.specs.Laws.{AcceptedNeverTraps}
+use Rattle.program_meaning.specs.BlockRun.{BlockRun}
+use Rattle.zns_commands.specs.Effect.{success_effect}
+use Rattle.zns_commands.specs.Transfer.{transfer_checks}
+use Rattle.pushdown.specs.Admission.{Loaded, admission_checks}
+use Rattle.pushdown.specs.BlockRuns.{Task, last_scratch}
+use Rattle.pushdown.specs.EventReplies.{Submission, completed}
+use Rattle.pushdown.specs.Events.{Occurrence, state_after}
+use Rattle.pushdown.specs.Happenings.{happens, just_loaded, keeping, place_left, result_by, slots_left, start_by, submitted, take_turn, turned_at, why_not_run}
+use Rattle.pushdown.specs.Outcome.{Ending, Turn, ending_of}
+use Rattle.pushdown.specs.Pushdown.{IsAdmitted, no_turn, now, own_turns, place, runs, task}
+use Rattle.pushdown.specs.ReadBack.{IsCompleted, LoadSucceeds, NoEventReplaces, NoRunEnds, ResultGives, ResultsReadBack, Submits, after_turn}
+use Rattle.pushdown.specs.Reached.{IsReached}
+use Rattle.pushdown.specs.State.{Place, State, free_place, holds_at, place_at, program_at, uses}
+use Rattle.device_events.specs.declared.event.Event.{Event}
+use Rattle.device_events.specs.declared.event.Event.TheVariants as event
+use Rattle.pushdown.proofs.BlockRuns.{IsDone}
+use Rattle.pushdown.proofs.Changes.{after_event}
+use Rattle.pushdown.proofs.Headline.{pushdown}
+use Rattle.pushdown.proofs.KeptForRuns.{left_program}
+use Rattle.pushdown.proofs.Loads.{loading_is}
+use Rattle.pushdown.proofs.OthersEvents.{there}
+use Rattle.pushdown.proofs.Spelled.{decoded_has}
+use Rattle.pushdown.proofs.States.{reached_fine, runs_all_done, some_run}
+
+-- ---- a slot that has a program has one
+
+set_some : (slots : List (Option Loaded)) (i j : ℕ) (new : Loaded) → is_some (get_or slots j None) ≡ true
+    → is_some (get_or (set slots i (Some new)) j None) ≡ true
+set_some [] i j new is = is
+set_some (x ∷ xs) zero zero new is = refl
+set_some (x ∷ xs) zero (suc j) new is = is
+set_some (x ∷ xs) (suc i) zero new is = is
+set_some (x ∷ xs) (suc i) (suc j) new is = set_some xs i j new is
+
+within : (slots : List (Option Loaded)) (slot : ℕ) → is_some (get_or slots slot None) ≡ true → slot < length slots
+within [] slot is = cc
+within (x ∷ xs) zero is = omega arith
+within (x ∷ xs) (suc slot) is = let less = within xs slot is in omega (arith, less)
+
+module _ {D : Type 0} (operations : Operations D) where
+  event_leaves_some : (s : State) (starved : Bool) (e : Event) (slot : ℕ) → is_some (program_at s slot) ≡ true
+      → is_some (program_at (happens operations s starved e).state slot) ≡ true
+  event_leaves_some s starved e slot is = after_event operations (λ (t : State). is_some (program_at t slot) ≡ true) s starved e (record {
+    same = is;
+    step = λ step same fit. is;
+    load = λ sub load t are takes. set_some s.slots load.slot slot (just_loaded takes.program load.limit) is;
+    start = λ sub order run passed free some. is;
+    turn = λ run place turn later own at first. (left_program s place turn.ending slot).loaded ∙ is;
+  })
+
+  pub events_leave_some : (events : List Occurrence) (s : State) (slot : ℕ) → is_some (program_at s slot) ≡ true
+      → is_some (program_at (state_after operations events s) slot) ≡ true
+  events_leave_some [] s slot is = is
+  events_leave_some (o ∷ os) s slot is =
+      events_leave_some os (happens operations s o.starved o.event).state slot (event_leaves_some s o.starved o.event slot is)
+
+-- ---- the result that the last turn leaves
+
+-- a slot with a program, and with these bytes as its result
+pub record HasResult (s : State) (slot : ℕ) (bytes : List ℕ) : Type 0 where
+  pub loaded : Loaded
+  pub at : program_at s slot ≡ Some loaded
+  pub result : loaded.result ≡ bytes
+
+keeping_has : (s : State) (slot : ℕ) (bytes : List ℕ) (old : Option Loaded) → slot < length s.slots → is_some old ≡ true
+    → HasResult (record s { slots = set s.slots slot (keeping old (Some bytes)) }) slot bytes
+keeping_has s slot bytes (Some loaded) less is =
+    let new : Loaded = record loaded { result = bytes } in
+    record { loaded = new; at = get_or-set_same s.slots slot (Some new) None less; result = refl }
+keeping_has s slot bytes None less is = cc
+
+last_ending : (turns : List Turn) (k : ℕ) → k + 1 ≡ length turns → (get_or turns k no_turn).ending ≡ ending_of turns
+last_ending [] k is = absurd (omega (arith, is))
+last_ending (turn ∷ []) zero is = refl
+last_ending (turn ∷ []) (suc k) is = absurd (omega (arith, is))
+last_ending (turn ∷ next ∷ turns) zero is = absurd (omega (arith, is))
+last_ending (turn ∷ next ∷ turns) (suc k) is = last_ending (next ∷ turns) k (omega (arith, is))
+
+last_scratch_long : (task : Task) (runs : List BlockRun) → AllByRecursion (IsDone task) runs → 1 ≤ length runs → length (last_scratch runs) ≡ 1024
+last_scratch_long task [] done some = absurd (omega (arith, some))
+last_scratch_long task (run ∷ []) done some = done.0.scratch.long
+last_scratch_long task (run ∷ next ∷ runs) done some = last_scratch_long task (next ∷ runs) done.1 (omega arith)
+
+-- ---- events that don't replace a result
+
+module _ {D : Type 0} (operations : Operations D) (slot : ℕ) where
+  start_leaves : (why : Option Status) (free : Option ℕ) (sub : Submission) (s : State) (order : RunCommand)
+      → program_at (start_by why free sub s order).state slot ≡ program_at s slot
+  start_leaves (Some status) free sub s order = refl
+  start_leaves None None sub s order = refl
+  start_leaves None (Some run) sub s order = refl
+
+  result_leaves : (of : Option Loaded) (why : Option Status) (sub : Submission) (s : State)
+      → program_at (result_by of why sub s).state slot ≡ program_at s slot
+  result_leaves of (Some status) sub s = refl
+  result_leaves None None sub s = refl
+  result_leaves (Some loaded) None sub s = refl
+
+  entry_leaves : (starved : Bool) (queue : ℕ) (entry : List ℕ) (input : Vec ℕ Global) (s : State) (asked : Result Command Status)
+      → decoded entry ≡ asked
+      → (LoadSucceeds slot (event.Submit queue entry input)
+      (submitted operations starved (record { queue = queue; entry = entry; input = input.items }) s asked).reply → ⊥)
+      → program_at (submitted operations starved (record { queue = queue; entry = entry; input = input.items }) s asked).state slot ≡ program_at s slot
+  entry_leaves starved queue entry input s (Err status) is none = refl
+  entry_leaves starved queue entry input s (Ok (command.Standard c)) is none = refl
+  entry_leaves starved queue entry input s (Ok (command.Run order)) is none =
+      let sub : Submission = record { queue = queue; entry = entry; input = input.items } in
+      start_leaves (why_not_run sub s order) (free_place s) sub s order
+  entry_leaves starved queue entry input s (Ok (command.Result of)) is none =
+      let sub : Submission = record { queue = queue; entry = entry; input = input.items } in
+      result_leaves (program_at s of) (first_failed (transfer_checks 0 0 sub.input)) sub s
+  entry_leaves starved queue entry input s (Ok (command.Load load)) is none =
+      let sub : Submission = record { queue = queue; entry = entry; input = input.items } in
+      let load_is = loading_is operations sub s load starved in
+      elim load_is.state [
+        | inl same ↦ ap (λ (t : State). program_at t slot) same
+        | inr takes ↦ elim load_is.succeeds [
+          | inl same ↦ ap (λ (t : State). program_at t slot) same
+          | inr success ↦ elim (eqb_tells load.slot slot) [
+            | inl same ↦ absurd (none (load, (is, (same.1, success))))
+            | inr differs ↦ ap (λ (t : State). program_at t slot) takes.taken
+                ∙ get_or-set_other s.slots load.slot slot (Some (just_loaded takes.program load.limit)) None (λ equal. differs.1 (sym equal))
+          ]
+        ]
+      ]
+
+  left_by : (s : State) (run : ℕ) (p : Place) (turn : Turn) (later : List Turn) (ending : Option Ending) → place_at s run ≡ Some p
+      → turn.ending ≡ ending → NoRunEnds slot s (take_turn s run p (turn ∷ later)).state
+      → get_or (slots_left s p ending) slot None ≡ program_at s slot
+  left_by s run p turn later None at is none = refl
+  left_by s run p turn later (Some ending) at is none = elim (eqb_tells p.slot slot) [
+    | inl same ↦
+        let used : uses slot (place_at s run) ≡ true = ap (uses slot) at ∙ same.0 in
+        let stays = none run used in
+        let freed : place_at (take_turn s run p (turn ∷ later)).state run ≡ None =
+        get_or-set_same s.places run (place_left p later turn.ending) None (there s.places run p at) ∙ ap (place_left p later) is in
+        let gone = ap is_some freed in
+        cc
+    | inr differs ↦ get_or-set_other s.slots p.slot slot (keeping (program_at s p.slot) ending.result) None (λ equal. differs.1 (sym equal))
+  ]
+
+  taken_leaves : (s : State) (run : ℕ) (p : Place) (turns : List Turn) → place_at s run ≡ Some p → NoRunEnds slot s (take_turn s run p turns).state
+      → program_at (take_turn s run p turns).state slot ≡ program_at s slot
+  taken_leaves s run p [] at none = refl
+  taken_leaves s run p (turn ∷ later) at none = left_by s run p turn later turn.ending at refl none
+
+  turned_leaves : (s : State) (run : ℕ) (at : Option Place) → place_at s run ≡ at → NoRunEnds slot s (turned_at s run at).state
+      → program_at (turned_at s run at).state slot ≡ program_at s slot
+  turned_leaves s run None is none = refl
+  turned_leaves s run (Some p) is none = taken_leaves s run p p.turns is none
+
+  event_leaves : (s : State) (starved : Bool) (e : Event) → NoRunEnds slot s (happens operations s starved e).state
+      → (LoadSucceeds slot e (happens operations s starved e).reply → ⊥) → program_at (happens operations s starved e).state slot ≡ program_at s slot
+  event_leaves s starved (event.Submit queue entry input) ends loads = entry_leaves starved queue entry input s (decoded entry) refl loads
+  event_leaves s starved (event.Turn run) ends loads = turned_leaves s run (place_at s run) refl ends
+  event_leaves s starved (event.Fault zone state) ends loads = refl
+
+  pub events_leave : (events : List Occurrence) (s : State) → NoEventReplaces operations slot events s
+      → program_at (state_after operations events s) slot ≡ program_at s slot
+  events_leave [] s none = refl
+  events_leave (o ∷ os) s none =
+      events_leave os (happens operations s o.starved o.event).state none.1.1 ∙ event_leaves s o.starved o.event none.0 none.1.0
+
+-- ---- Result gives it
+
+module _ {D : Type 0} (operations : Operations D) (s : State) (slot : ℕ) (bytes : List ℕ) (has : HasResult s slot bytes) where
+  given : (e : Event) (starved : Bool) → Submits e (command.Result slot) []
+      → IsCompleted e s (success_effect s.namespace 0 bytes) (happens operations s starved e)
+  given (event.Submit queue entry input) starved is =
+      let sub : Submission = record { queue = queue; entry = entry; input = input.items } in
+      ap (λ (r : Result Command Status). submitted operations starved sub s r) is.0
+      ∙ ap (λ (xs : List ℕ). result_by (program_at s slot) (first_failed (transfer_checks 0 0 xs)) sub s) is.1
+      ∙ ap (λ (of : Option Loaded). result_by of None sub s) has.at
+      ∙ ap (λ (xs : List ℕ). completed sub SUCCESS 0 0 xs s) has.result
+  given (event.Turn run) starved is = absurd is
+  given (event.Fault zone state) starved is = absurd is
+
+  pub result_given : ResultGives operations s slot bytes
+  result_given o submits = given o.event o.starved submits
+
+-- ---- a run
+
+module _ {D : Type 0} (operations : Operations D) (never : AcceptedNeverTraps operations) (s : State) (reached : IsReached operations s)
+    (queue : ℕ) (entry : List ℕ) (input : Vec ℕ Global) (starved : Bool) (order : RunCommand) (run : ℕ) (events later : List Occurrence) where
+  abbrev sub : Submission
+  sub = record { queue = queue; entry = entry; input = input.items }
+
+  abbrev all_runs : List BlockRun
+  all_runs = runs operations s queue entry input starved order run events
+
+  abbrev here : Place
+  here = place operations s queue entry input starved order run events
+
+  abbrev before_turn : State
+  before_turn = now operations s queue entry input starved order run events
+
+  abbrev then : State
+  then = after_turn operations s queue entry input starved order run events later
+
+  module _ (admitted : IsAdmitted s sub order run) where
+    has_program : is_some (program_at before_turn order.slot) ≡ true
+    has_program =
+        let checks = admission_checks s.namespace (holds_at s) (is_some (free_place s)) (program_at s order.slot) order sub.input in
+        let asked : Occurrence = record { event = event.Submit queue entry input; starved = starved } in
+        events_leave_some operations (asked ∷ events) s order.slot
+        (demanded (is_some (program_at s order.slot)) NO_SUCH_PROGRAM (passed checks 2 admitted.passed))
+
+    leaves_result : own_turns run events + 1 ≡ length here.turns → HasResult then order.slot (last_scratch all_runs)
+    leaves_result last =
+        let k = own_turns run events in
+        let theorem = pushdown operations never s reached queue entry input starved order run events admitted in
+        let does = theorem.does_its_turns (omega (arith, last)) in
+        let ending = last_ending here.turns k last ∙ theorem.tells_frames_and_blocks.ending in
+        let slots = does.then_slots ∙ ap (slots_left before_turn here) ending in
+        let old = program_at before_turn order.slot in
+        let less = within before_turn.slots order.slot has_program in
+        let new = keeping_has before_turn order.slot (last_scratch all_runs) old less has_program in
+        record { loaded = new.loaded; at = ap (λ (xs : List (Option Loaded)). get_or xs order.slot None) slots ∙ new.at; result = new.result }
+
+    long : length (last_scratch all_runs) ≡ 1024
+    long =
+        let fine = reached_fine operations never s reached in
+        let block = reached.first.block in
+        let some = some_run operations never block sub s order fine admitted.passed (decoded_has entry (command.Run order) admitted.asked) in
+        last_scratch_long (task operations s queue entry input starved order run events) all_runs
+        (runs_all_done operations never block sub s order fine admitted.passed) some
+
+pub results_read_back : {D : Type 0} (operations : Operations D) → AcceptedNeverTraps operations → ResultsReadBack operations
+results_read_back operations never s reached queue entry input starved order run events later admitted last none =
+    let has = leaves_result operations never s reached queue entry input starved order run events later admitted last in
+    let then = after_turn operations s queue entry input starved order run events later in
+    let end = state_after operations later then in
+    let same = events_leave operations order.slot later then none in
+    let bytes = last_scratch (runs operations s queue entry input starved order run events) in (
+      long operations never s reached queue entry input starved order run events later admitted,
+      result_given operations end order.slot bytes (record { loaded = has.loaded; at = same ∙ has.at; result = has.result }),
+    )
