@@ -4,15 +4,15 @@
 
 ghost use Rattle.interval_domain.specs.Intervals.{intervals};
 ghost use Rattle.pushdown.specs.AnyOrder.{TurnsInAnyOrder};
-ghost use Rattle.pushdown.specs.Laws.{DrainingEnds, StatesAreSound};
+ghost use Rattle.pushdown.specs.Laws.{DrainingEnds, OnlyLoadsChangeSlots, RefusedLeavesState, StatesAreSound};
 ghost use Rattle.pushdown.specs.Pushdown.{Pushdown};
 ghost use Rattle.pushdown.specs.Reached.{EventsKeepReached, TurnsKeepReached};
-ghost use Rattle.pushdown.specs.ReadBack.{AppendsReadBack, RunsReadBack, WritesReadBack};
+ghost use Rattle.pushdown.specs.ReadBack.{AppendsReadBack, ResultsReadBack, RunsReadBack, WritesReadBack};
 ghost use Rattle.runner.specs.Laws.{EmptyIsReached, LoadedIsReached, SavedStatesLoad};
 
 /// A device begins with an empty or a loaded image, and events lead on from there. In every state that they
 /// leave, the open and active zones are within the limits, each zone's state fits its written blocks, each
-/// block is whole and of bytes, and no append of a run's turns can be refused.
+/// block is whole and of bytes, each loaded program is accepted, and no append of a run's turns can be refused.
 pub fn events_keep_devices_sound()
     ensures empty { EmptyIsReached }
     ensures loaded { LoadedIsReached }
@@ -31,6 +31,18 @@ pub fn saved_devices_load()
     ensures { SavedStatesLoad }
 {}
 
+/// The reply to an entry is Pending, or its completion with a status. One whose status isn't success leaves the
+/// state as it was, whatever its command is.
+pub fn refused_leaves_state()
+    ensures { RefusedLeavesState intervals }
+{}
+
+/// An entry leaves the slots as they were, unless it is a Load that succeeds: it changes its own slot and nothing
+/// else, to the program that its data is decoded to, which no reason refuses, with no scratch bytes kept.
+pub fn only_loads_change_slots()
+    ensures { OnlyLoadsChangeSlots intervals }
+{}
+
 /// What an Append that succeeds puts in is what a Read of the assigned address gives, whatever events happen
 /// in between, until the zone is reset, goes offline or is lost. It holds in every state with a sound
 /// namespace, as those are that events leave.
@@ -47,6 +59,12 @@ pub fn written_blocks_read_back()
 /// blocks that are read unpack to the records that its program emitted, in order.
 pub fn appended_by_runs_reads_back()
     ensures { RunsReadBack intervals }
+{}
+
+/// After a run's last turn a Result of its slot gives the 1024 scratch bytes that its last block run left,
+/// whatever events happen then, until a run of the slot ends or a Load of it succeeds.
+pub fn results_read_back()
+    ensures { ResultsReadBack intervals }
 {}
 
 /// The pushdown theorem holds of each Run that a device admits: no turn traps, each takes at most as many
