@@ -14,7 +14,7 @@ use Rattle.pushdown.proofs.ExampleEvents.{asks, completes, completes_with, devic
 use Rattle.pushdown.proofs.Examples.{block_of, entry_of, four_zones, passes, run_entry, sums, two_zones}
 
 -- Load into slot 0 of a program of so many bytes, whose groups have at most `low + 256 * high` bytes
-abbrev load_entry : ℕ → ℕ → ℕ → ℕ → List ℕ
+abbrev pub load_entry : ℕ → ℕ → ℕ → ℕ → List ℕ
 load_entry cid low high bytes =
     0xc1 ∷ 0 ∷ cid ∷ 0 ∷ 1 ∷ 0 ∷ 0 ∷ 0 ∷ replicate 36 0 ++ low ∷ high ∷ 0 ∷ 0 ∷ bytes ∷ replicate 15 0
 
@@ -27,11 +27,11 @@ no_runs = new_state (four_zones (replicate 4 (zone_of zone.Empty [])))
 -- ---- programs
 
 -- mov r0, 0
-abbrev move : List ℕ
+abbrev pub move : List ℕ
 move = 0xb7 ∷ replicate 7 0
 
 -- exit
-abbrev leave : List ℕ
+abbrev pub leave : List ℕ
 leave = 0x95 ∷ replicate 7 0
 
 -- the first half of a wide instruction, which is refused for that where it stands alone

@@ -9,6 +9,7 @@ mod Drained
 mod Emitted
 mod ExampleEvents
 mod ExampleLoads
+mod ExampleReached
 mod ExampleRuns
 mod Examples
 mod FewBlocks

@@ -1,0 +1,95 @@
+-- A state that events leave, in which a Run is admitted: one of which the pushdown theorem speaks.
+use denote.RawPtr.{Ptr}
+use Rattle.std.proofs.Common.{ℕ, ◌<◌, ◌^◌, false, List, [], ◌∷◌, ◌++◌, length, replicate, Vec, refl, lit<, lit≤, arith}
+use Rattle.std.specs.declared.alloc.Global.{Global}
+use Rattle.nvme_entry.specs.declared.command.RunCommand.{RunCommand}
+use Rattle.word_domain.specs.Domain.{Operations}
+use Rattle.emit_append.proofs.Proved.{AllBytes, by_place}
+use Rattle.image_store.specs.Geometry.{IsShape, Shape}
+use Rattle.image_store.specs.Namespace.{all_empty}
+use Rattle.program_interface.specs.Bytes.{AreBytes}
+use Rattle.zns_commands.proofs.Proved.{empty_is_namespace}
+use Rattle.pushdown.specs.Events.{Occurrence, state_after}
+use Rattle.pushdown.specs.Pushdown.{IsAdmitted}
+use Rattle.pushdown.specs.Reached.{IsReached}
+use Rattle.pushdown.specs.State.{State, new_state}
+use Rattle.device_events.specs.declared.event.Event.TheVariants as event
+use Rattle.pushdown.proofs.Bytes.{all_append, all_same}
+use Rattle.pushdown.proofs.ExampleLoads.{leave, load_entry, move}
+use Rattle.pushdown.proofs.Examples.{block_of, entry_of, run_entry}
+
+-- four zones of 8 blocks, of which 6 can be written; two may be open, and three active
+abbrev four : Shape
+four = record { block = 512; zones = 4; size = 8; capacity = 6; limits = record { open_limit = 2; active_limit = 3 } }
+
+is_shape : IsShape four
+is_shape = record {
+  block_size = refl;
+  zones_some = lit≤ tt;
+  zones_most = lit≤ tt;
+  size_some = lit≤ tt;
+  size_most = lit≤ tt;
+  capacity_some = lit≤ tt;
+  capacity_most = lit≤ tt;
+  open_some = lit≤ tt;
+  open_most = lit≤ tt;
+  active_most = lit≤ tt;
+  room = lit≤ tt;
+}
+
+-- a program of two instructions
+abbrev program : List ℕ
+program = move ++ leave
+
+abbrev IsByte : ℕ → Type 0
+IsByte n = n < 2 ^ 8
+
+-- a byte, and zeros behind it
+then_zeros : (byte zeros : ℕ) → IsByte byte → AllBytes (byte ∷ replicate zeros 0)
+then_zeros byte zeros is = (is, all_same IsByte zeros 0 (lit< tt))
+
+block_is : AreBytes (block_of 7)
+block_is = by_place (block_of 7) (then_zeros 7 511 (lit< tt))
+
+program_is : AreBytes program
+program_is = by_place program (all_append IsByte move leave (then_zeros 0xb7 7 (lit< tt)) (then_zeros 0x95 7 (lit< tt)))
+
+none_is : AreBytes []
+none_is = by_place [] tt
+
+-- a run of one block of zone 0, which appends to zone 1
+abbrev order : RunCommand
+order = record { lba = 0; blocks = 1; slot = 0; argument = 0; destination = 8 }
+
+module _ {D : Type 0} (operations : Operations D) (there : Ptr) (alloc : Global) where
+  -- bytes in memory
+  abbrev bytes_there : (bytes : List ℕ) → length bytes < 2 ^ 63 → Vec ℕ Global
+  bytes_there bytes small =
+      record { ptr = there; len = length bytes; cap = length bytes; alloc = alloc; items = bytes; ok = (refl, omega arith); small = small }
+
+  -- an entry in queue 1, with these bytes beside it
+  abbrev submits : List ℕ → (bytes : List ℕ) → length bytes < 2 ^ 63 → Occurrence
+  submits entry bytes small = record { event = event.Submit 1 entry (bytes_there bytes small); starved = false }
+
+  -- one block is appended to zone 0, zone 1 is opened, and a program is loaded into slot 0
+  abbrev events : List Occurrence
+  events =
+      submits (entry_of 0x7d 1 0 (replicate 16 0)) (block_of 7) (lit< tt)
+      ∷ submits (entry_of 0x79 2 8 (0 ∷ 0 ∷ 0 ∷ 0 ∷ 3 ∷ replicate 11 0)) [] (lit< tt)
+      ∷ submits (load_entry 3 0 0 16) program (lit< tt)
+      ∷ []
+
+  abbrev state : State
+  state = state_after operations events (new_state (all_empty four))
+
+  pub is_reached : IsReached operations state
+  is_reached = record {
+    first = all_empty four;
+    events = events;
+    namespace = empty_is_namespace four is_shape;
+    bytes = (block_is, (none_is, (program_is, tt)));
+    leaves = refl;
+  }
+
+  pub is_admitted : IsAdmitted state (record { queue = 1; entry = run_entry 4 0 0 8; input = [] }) order 0
+  is_admitted = record { asked = refl; passed = refl; free = refl }
