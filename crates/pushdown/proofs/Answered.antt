@@ -1,23 +1,19 @@
 -- What an entry that is refused leaves, and which entries change slots.
-use Rattle.std.proofs.Common.{◌≡◌, ◌≢◌, ℕ, Bool, List, [], Option, Some, None, Result, Ok, Err, refl, ap, inl, inr}
+use Rattle.std.proofs.Common.{◌≡◌, ℕ, Bool, List, [], Option, Some, None, Result, Ok, Err, refl, ap, inl, inr}
 use Rattle.std.specs.Prelude.{◌⊎◌, is_some}
 use Rattle.zone_state.specs.declared.status.Status.{Status}
 use Rattle.zone_state.specs.declared.status.TheConstants.Status.{SUCCESS, NO_RUN_FREE, NO_SUCH_PROGRAM}
 use Rattle.zone_state.specs.Checks.{first_failed}
-use Rattle.zone_resources.specs.declared.holds.Holds.{Holds}
 use Rattle.nvme_entry.specs.Entry.{decoded}
 use Rattle.nvme_entry.specs.declared.command.Command.{Command}
 use Rattle.nvme_entry.specs.declared.command.Command.TheVariants as command
 use Rattle.nvme_entry.specs.declared.command.LoadCommand.{LoadCommand}
 use Rattle.nvme_entry.specs.declared.command.RunCommand.{RunCommand}
-use Rattle.nvme_entry.specs.declared.command.StandardCommand.{StandardCommand}
-use Rattle.nvme_entry.specs.declared.command.StandardCommand.TheVariants.{Write, Read, Send, Receive, Append}
 use Rattle.nvme_entry.proofs.Proved.{demanded, passed}
 use Rattle.word_domain.specs.Domain.{Operations}
-use Rattle.image_store.specs.Namespace.{ZonedNamespace}
-use Rattle.zns_commands.specs.Effect.{Effect, concluded}
-use Rattle.zns_commands.specs.Meaning.{checks_of, effect_of, meaning}
+use Rattle.zns_commands.specs.Meaning.{meaning}
 use Rattle.zns_commands.specs.Transfer.{transfer_checks}
+use Rattle.zns_commands.proofs.Proved.{refused_changes_nothing}
 use Rattle.pushdown.specs.Admission.{Loaded, admission_checks}
 use Rattle.pushdown.specs.EventReplies.{Happening, Submission, completed, plain}
 use Rattle.pushdown.specs.Happenings.{result_by, start_by, submitted, why_not_run}
@@ -25,27 +21,6 @@ use Rattle.pushdown.specs.Laws.{IsAnswered, IsLoaded, OnlyLoadsChangeSlots, Refu
 use Rattle.pushdown.specs.State.{State, free_place, holds_at, program_at, with_namespace}
 use Rattle.device_events.specs.declared.reply.Reply.TheVariants as reply
 use Rattle.pushdown.proofs.Loads.{loading_is}
-
--- ---- the standards' commands
-
-left_concluded : (refusal : Option Status) (ns : ZonedNamespace) (effect : Effect)
-    → effect.status ≡ SUCCESS → (concluded refusal ns effect).status ≢ SUCCESS → (concluded refusal ns effect).namespace ≡ ns
-left_concluded None ns effect done not_success = absurd (not_success done)
-left_concluded (Some status) ns effect done not_success = refl
-
-succeeds : (ns : ZonedNamespace) (holds : Holds) (c : StandardCommand) (input : List ℕ) → (effect_of ns holds c input).status ≡ SUCCESS
-succeeds ns holds (Write lba blocks) input = refl
-succeeds ns holds (Read lba blocks) input = refl
-succeeds ns holds (Send lba action select_all) input = refl
-succeeds ns holds (Receive lba dwords filter partial) input = refl
-succeeds ns holds (Append lba blocks) input = refl
-
-refused_leaves : (ns : ZonedNamespace) (holds : Holds) (c : StandardCommand) (input : List ℕ) → (meaning ns holds c input).status ≢ SUCCESS
-    → (meaning ns holds c input).namespace ≡ ns
-refused_leaves ns holds c input =
-    left_concluded (first_failed (checks_of ns holds c input)) ns (effect_of ns holds c input) (succeeds ns holds c input)
-
--- ---- entries
 
 module _ {D : Type 0} (operations : Operations D) (starved : Bool) (sub : Submission) (s : State) where
   abbrev IsReplied : Happening → Type 0
@@ -80,7 +55,7 @@ module _ {D : Type 0} (operations : Operations D) (starved : Bool) (sub : Submis
         dw1 = done.dw1;
         output = done.output;
         reply = refl;
-        state = λ other. ap (with_namespace s) (refused_leaves s.namespace (holds_at s) c sub.input other);
+        state = λ other. ap (with_namespace s) (refused_changes_nothing s.namespace (holds_at s) c sub.input other).namespace;
       })
   replied (Ok (command.Load load)) = inr (loading_is operations sub s load starved).answered
   replied (Ok (command.Run order)) = start_replied (why_not_run sub s order) (free_place s) order refl refl

@@ -1,7 +1,7 @@
 -- The laws of this crate, proved, and lemmas: what the proofs of other crates cite of it.
 use Rattle.zns_commands.specs.Held.{HeldCommandsAreRefused}
 use Rattle.zns_commands.specs.Left.{DestinationsAreLeft, ShapesAreKept, SourcesKeepBlocks}
-use Rattle.zns_commands.specs.Laws.{BlocksAreAppended, BlocksKeepNamespaces, EmptyIsNamespace, EventsKeepNamespaces}
+use Rattle.zns_commands.specs.Laws.{BlocksAreAppended, BlocksKeepNamespaces, EmptyIsNamespace, EventsKeepNamespaces, RefusedChangesNothing}
 use Rattle.zns_commands.proofs.HeldCommands as held
 use Rattle.zns_commands.proofs.HeldSources as held_sources
 use Rattle.zns_commands.proofs.HeldZones as held_zones
@@ -10,6 +10,7 @@ pub use Rattle.zns_commands.proofs.KeptBlocks.{KeepsZone, events_keep_zones, gro
 use Rattle.zns_commands.proofs.OpenZones as open_zones
 pub use Rattle.zns_commands.proofs.OpenZones.{blocks_are_the_effect, open_is_there, taken_blocks_pass}
 pub use Rattle.zns_commands.proofs.ReadBack.{BlocksLieAt, appended_stays, lying_is_read, written_stays}
+use Rattle.zns_commands.proofs.Refusals as refusals
 use Rattle.zns_commands.proofs.SoundEvents as sound_events
 
 pub events_keep_namespaces : EventsKeepNamespaces
@@ -35,3 +36,6 @@ events_keep_shapes = event_shape
 
 pub held_commands_are_refused : HeldCommandsAreRefused
 held_commands_are_refused = held.held_commands_are_refused
+
+pub refused_changes_nothing : RefusedChangesNothing
+refused_changes_nothing = refusals.refused_changes_nothing
