@@ -8,7 +8,7 @@ use Rattle.program_meaning.specs.declared.end.End.{End}
 use Rattle.program_meaning.specs.declared.end.End.TheVariants as end
 use Rattle.emit_append.specs.Packing.{all_but_last, beginning, behind, block_fillings, laid_out, packed, padded, pending_of, released}
 use Rattle.emit_append.proofs.Proved.{packing_goes_on}
-use Rattle.pushdown.specs.Outcome.{Output, Turn, last_turn_by, middle_turn, turns_after, with_group}
+use Rattle.pushdown.specs.Outcome.{Emitted, Turn, last_turn_by, middle_turn, turns_after, with_group}
 
 -- ---- groups come to no more blocks than there are of them
 
@@ -48,31 +48,31 @@ few_more first more whole is few =
 
 module _ (block : ℕ) where
   -- what is pending, and a block run's group
-  abbrev both : Output → BlockRun → List (List ℕ)
-  both output run = pending_of block output.groups ∷ run.state.group ∷ []
+  abbrev both : Emitted → BlockRun → List (List ℕ)
+  both emitted run = pending_of block emitted.groups ∷ run.state.group ∷ []
 
-  both_packed : (output : Output) (run : BlockRun) → length (packed block (both output run)) ≤ 2
-  both_packed output run = few_packed block (both output run)
+  both_packed : (emitted : Emitted) (run : BlockRun) → length (packed block (both emitted run)) ≤ 2
+  both_packed emitted run = few_packed block (both emitted run)
 
-  both_released : (output : Output) (run : BlockRun) → length (released block (both output run)) ≤ 2
-  both_released output run =
-      let few = but_last_few (packed block (both output run)) in
-      let most = both_packed output run in
+  both_released : (emitted : Emitted) (run : BlockRun) → length (released block (both emitted run)) ≤ 2
+  both_released emitted run =
+      let few = but_last_few (packed block (both emitted run)) in
+      let most = both_packed emitted run in
       omega (arith, few, most)
 
-  last_few : (e : End) (output : Output) (run : BlockRun) → HasFew (last_turn_by e block output run)
-  last_few (end.Exit r0) output run =
-      few_more (released block output.groups) (packed block (both output run)) (packed block (with_group output run).groups)
-      (packing_goes_on block output.groups (run.state.group ∷ [])).blocks (both_packed output run)
-  last_few (end.Trap slot cause) output run = omega arith
-  last_few end.OutOfFuel output run = omega arith
+  last_few : (e : End) (emitted : Emitted) (run : BlockRun) → HasFew (last_turn_by e block emitted run)
+  last_few (end.Exit r0) emitted run =
+      few_more (released block emitted.groups) (packed block (both emitted run)) (packed block (with_group emitted run).groups)
+      (packing_goes_on block emitted.groups (run.state.group ∷ [])).blocks (both_packed emitted run)
+  last_few (end.Trap slot cause) emitted run = omega arith
+  last_few end.OutOfFuel emitted run = omega arith
 
-  middle_few : (output : Output) (run : BlockRun) → HasFew (middle_turn block output run)
-  middle_few output run =
-      few_more (released block output.groups) (released block (both output run)) (released block (with_group output run).groups)
-      (packing_goes_on block output.groups (run.state.group ∷ [])).released_blocks (both_released output run)
+  middle_few : (emitted : Emitted) (run : BlockRun) → HasFew (middle_turn block emitted run)
+  middle_few emitted run =
+      few_more (released block emitted.groups) (released block (both emitted run)) (released block (with_group emitted run).groups)
+      (packing_goes_on block emitted.groups (run.state.group ∷ [])).released_blocks (both_released emitted run)
 
-  pub turns_few : (output : Output) (runs : List BlockRun) → AllByRecursion HasFew (turns_after block output runs)
-  turns_few output [] = tt
-  turns_few output (run ∷ []) = (last_few run.end output run, tt)
-  turns_few output (run ∷ next ∷ runs) = (middle_few output run, turns_few (with_group output run) (next ∷ runs))
+  pub turns_few : (emitted : Emitted) (runs : List BlockRun) → AllByRecursion HasFew (turns_after block emitted runs)
+  turns_few emitted [] = tt
+  turns_few emitted (run ∷ []) = (last_few run.end emitted run, tt)
+  turns_few emitted (run ∷ next ∷ runs) = (middle_few emitted run, turns_few (with_group emitted run) (next ∷ runs))

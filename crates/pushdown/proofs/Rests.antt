@@ -9,9 +9,9 @@ use Rattle.emit_append.proofs.Proved.{one_group_is_pending, packing_goes_on}
 use Rattle.pushdown.proofs.BlockRuns.{few_runs}
 use Rattle.pushdown.specs.Laws.{RestAtAdmission, RestEnds, RestGoesOn, RestIsFew, further, next_turn}
 use Rattle.pushdown.specs.BlockRuns.{Task, block_run, block_runs, goes_on, runs_of, scratch_after, until_ended}
-use Rattle.pushdown.specs.Outcome.{Turn, Output, Progress, behind, last_turn, last_turn_by, middle_turn, output_of, rest, turns_after, with_group}
+use Rattle.pushdown.specs.Outcome.{Turn, Emitted, Progress, behind, last_turn, last_turn_by, middle_turn, emitted_by, rest, turns_after, with_group}
 
-abbrev out : List (List ℕ) → ℕ → ℕ → Output
+abbrev out : List (List ℕ) → ℕ → ℕ → Emitted
 out groups frames appended = record { groups = groups; frames = frames; appended = appended }
 
 -- ---- a first group of no bytes changes nothing
@@ -89,7 +89,7 @@ module _ (block : ℕ) (before : List (List ℕ)) where
   turns_on after frames appended (run ∷ []) = ap (λ (turn : Turn). turn ∷ []) (finished_on after frames appended run run.end)
   turns_on after frames appended (run ∷ next ∷ runs) =
       let g = run.state.group ∷ [] in
-      let later : Output → List Turn = λ output. turns_after block output (next ∷ runs) in
+      let later : Emitted → List Turn = λ emitted. turns_after block emitted (next ∷ runs) in
       ap (λ turn. turn ∷ later (out ((before ++ after) ++ g) (frames + run.state.frames) appended)) (middle_on after frames appended run)
       ∙ ap (λ turns. middle_turn block (out (kept ∷ after) frames (appended + sent)) run ∷ turns)
       (ap (λ gs. later (out gs (frames + run.state.frames) appended)) (append_assoc before after g)
@@ -98,8 +98,8 @@ module _ (block : ℕ) (before : List (List ℕ)) where
 -- one group alone releases nothing
 -- a block run after which the run goes on, before others
 goes : (task : Task) (so_far : Progress) (run next : BlockRun) (runs : List BlockRun)
-    → turns_after task.sizes.block (output_of so_far) (run ∷ next ∷ runs)
-    ≡ next_turn task so_far run ∷ turns_after task.sizes.block (output_of (further task so_far run)) (next ∷ runs)
+    → turns_after task.sizes.block (emitted_by so_far) (run ∷ next ∷ runs)
+    ≡ next_turn task so_far run ∷ turns_after task.sizes.block (emitted_by (further task so_far run)) (next ∷ runs)
 goes task so_far run next runs =
     let block = task.sizes.block in
     let groups = so_far.pending ∷ run.state.group ∷ [] in
@@ -108,19 +108,19 @@ goes task so_far run next runs =
     ap (λ first. record { blocks = behind first (released block groups); ending = None } ∷ later) (one_group_is_pending block so_far.pending).released_none
     ∙ ap (λ turns. next_turn task so_far run ∷ turns) (turns_on block groups [] frames so_far.appended (next ∷ runs))
 
-cut_not : (block : ℕ) (output : Output) (run : BlockRun) (later : List BlockRun) (on : Bool) → on ≡ true
-    → turns_after block output (run ∷ cond on later []) ≡ turns_after block output (run ∷ later)
-cut_not block output run later true is = refl
-cut_not block output run later false is = cc
+cut_not : (block : ℕ) (emitted : Emitted) (run : BlockRun) (later : List BlockRun) (on : Bool) → on ≡ true
+    → turns_after block emitted (run ∷ cond on later []) ≡ turns_after block emitted (run ∷ later)
+cut_not block emitted run later true is = refl
+cut_not block emitted run later false is = cc
 
-cut : (block : ℕ) (output : Output) (run : BlockRun) (later : List BlockRun) (on : Bool) → on ≡ false
-    → turns_after block output (run ∷ cond on later []) ≡ last_turn block output run ∷ []
-cut block output run later true is = cc
-cut block output run later false is = refl
+cut : (block : ℕ) (emitted : Emitted) (run : BlockRun) (later : List BlockRun) (on : Bool) → on ≡ false
+    → turns_after block emitted (run ∷ cond on later []) ≡ last_turn block emitted run ∷ []
+cut block emitted run later true is = cc
+cut block emitted run later false is = refl
 
-cut_none : (block : ℕ) (output : Output) (run : BlockRun) (on : Bool) → turns_after block output (run ∷ cond on [] []) ≡ last_turn block output run ∷ []
-cut_none block output run true = refl
-cut_none block output run false = refl
+cut_none : (block : ℕ) (emitted : Emitted) (run : BlockRun) (on : Bool) → turns_after block emitted (run ∷ cond on [] []) ≡ last_turn block emitted run ∷ []
+cut_none block emitted run true = refl
+cut_none block emitted run false = refl
 
 pub rest_goes_on : RestGoesOn
 rest_goes_on task so_far bytes more blocks on =
@@ -129,26 +129,26 @@ rest_goes_on task so_far bytes more blocks on =
     let next = block_run task index (scratch_after run) more in
     let runs = until_ended (block_runs task index (scratch_after run) (more ∷ blocks)) in
     let after = cond (goes_on next.end) (until_ended (block_runs task (index + 1) (scratch_after next) blocks)) [] in
-    cut_not task.sizes.block (output_of so_far) run runs (goes_on run.end) on ∙ goes task so_far run next after
+    cut_not task.sizes.block (emitted_by so_far) run runs (goes_on run.end) on ∙ goes task so_far run next after
 
 pub rest_ends : RestEnds
 rest_ends task so_far bytes blocks (inl over) =
     let run = block_run task so_far.index so_far.scratch bytes in
     let runs = until_ended (block_runs task (so_far.index + 1) (scratch_after run) blocks) in
-    cut task.sizes.block (output_of so_far) run runs (goes_on run.end) over
+    cut task.sizes.block (emitted_by so_far) run runs (goes_on run.end) over
 rest_ends task so_far bytes blocks (inr last) =
     let run = block_run task so_far.index so_far.scratch bytes in
-    ap (λ (xs : List (List ℕ)). rest task so_far (bytes ∷ xs)) last ∙ cut_none task.sizes.block (output_of so_far) run (goes_on run.end)
+    ap (λ (xs : List (List ℕ)). rest task so_far (bytes ∷ xs)) last ∙ cut_none task.sizes.block (emitted_by so_far) run (goes_on run.end)
 
 -- ---- no more turns than source blocks
 
-pub one_each : (block : ℕ) (output : Output) (runs : List BlockRun) → length (turns_after block output runs) ≡ length runs
-one_each block output [] = refl
-one_each block output (run ∷ []) = refl
-one_each block output (run ∷ next ∷ runs) = ap suc (one_each block (with_group output run) (next ∷ runs))
+pub one_each : (block : ℕ) (emitted : Emitted) (runs : List BlockRun) → length (turns_after block emitted runs) ≡ length runs
+one_each block emitted [] = refl
+one_each block emitted (run ∷ []) = refl
+one_each block emitted (run ∷ next ∷ runs) = ap suc (one_each block (with_group emitted run) (next ∷ runs))
 
 pub rest_is_few : RestIsFew
 rest_is_few task so_far blocks =
-    let same = one_each task.sizes.block (output_of so_far) (until_ended (block_runs task so_far.index so_far.scratch blocks)) in
+    let same = one_each task.sizes.block (emitted_by so_far) (until_ended (block_runs task so_far.index so_far.scratch blocks)) in
     let less = few_runs task so_far.index so_far.scratch blocks in
     omega (arith, same, less)

@@ -42,7 +42,7 @@ use Rattle.pushdown.specs.BlockRuns.{Task, groups_of, no_scratch, runs_of}
 use Rattle.pushdown.specs.Events.{AreEvents, CarriesBytes, Occurrence, state_after}
 use Rattle.pushdown.specs.Laws.{IsAcceptedIn, IsAppended, RoomIn, StatesAreSound}
 use Rattle.pushdown.specs.Happenings.{admitted_place, happens, just_loaded, keeping, load_checks, place_left, slots_left, turn_state, turned, why_not_run}
-use Rattle.pushdown.specs.Outcome.{Ending, Turn, appended_by, no_output, outcome}
+use Rattle.pushdown.specs.Outcome.{Ending, Turn, appended_by, nothing_emitted, outcome}
 use Rattle.pushdown.specs.Pushdown.{EndsWithLast, Succeeds}
 use Rattle.pushdown.specs.Reached.{IsReached}
 use Rattle.pushdown.specs.State.{Place, State, free_place, holds_at, new_state, place_at, program_at, with_namespace, with_place, with_slot}
@@ -234,9 +234,9 @@ module _ {D : Type 0} (operations : Operations D) (never : AcceptedNeverTraps op
     pub turns_are : 1 ≤ order.blocks → AreTurns (admitted_place sub s order).turns
     turns_are some = record {
       whole = subst (λ (n : ℕ). AllByRecursion (HasWhole n) (outcome task source)) h.size
-          (turns_whole s.namespace.block task no_output runs ready.sizes.fits runs_all_done (no_groups s.namespace.block));
-      few = turns_few s.namespace.block no_output runs;
-      ends = ends_with_last task s.namespace.block no_output runs runs_all_done (some_run some);
+          (turns_whole s.namespace.block task nothing_emitted runs ready.sizes.fits runs_all_done (no_groups s.namespace.block));
+      few = turns_few s.namespace.block nothing_emitted runs;
+      ends = ends_with_last task s.namespace.block nothing_emitted runs runs_all_done (some_run some);
     }
 
     -- no more blocks are appended than were asked for

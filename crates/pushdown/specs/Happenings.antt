@@ -20,7 +20,7 @@ use Rattle.accepted_programs.specs.Accepted.{refusal, reason_number}
 use Rattle.accepted_programs.specs.declared.reason.Refusal.{Refusal}
 use Rattle.image_store.specs.Namespace.{ZonedNamespace, grown_at}
 use Rattle.zns_commands.specs.Effect.{Effect}
-use Rattle.zns_commands.specs.Fault.{fault_answer, faulted}
+use Rattle.zns_commands.specs.Fault.{zone_fault_refusal, faulted}
 use Rattle.zns_commands.specs.Meaning.{meaning}
 use Rattle.zns_commands.specs.Transfer.{transfer_checks}
 use Rattle.pushdown.specs.Admission.{Loaded, run_refusal, source_blocks, task_of, source_zone, destination_zone}
@@ -169,7 +169,7 @@ fault_reply (Err refused) = reply.FaultRefused
 
 abbrev pub failed : State → ℕ → FaultState → Happening
 failed s zone state = record {
-  reply = plain (fault_reply (fault_answer s.namespace (holds_at s) zone state));
+  reply = plain (fault_reply (zone_fault_refusal s.namespace (holds_at s) zone state));
   state = with_namespace s (faulted s.namespace (holds_at s) zone state);
 }
 

@@ -31,7 +31,7 @@ use Rattle.pushdown.specs.BlockRuns.{Task, block_run, frames_of, goes_on, groups
 use Rattle.pushdown.specs.Draining.{Drains, turns_left}
 use Rattle.pushdown.specs.Events.{Occurrence}
 use Rattle.pushdown.specs.Happenings.{added, admitted_place, happens, just_loaded, sizes_for, turned}
-use Rattle.pushdown.specs.Outcome.{Ending, Progress, Turn, appended_by, at_admission, ending_of, last_turn, outcome, output_of, rest}
+use Rattle.pushdown.specs.Outcome.{Ending, Progress, Turn, appended_by, at_admission, ending_of, last_turn, outcome, emitted_by, rest}
 use Rattle.pushdown.specs.Pushdown.{IsAdmitted, is_turn_of, success_of}
 use Rattle.pushdown.specs.Reached.{IsReached}
 use Rattle.pushdown.specs.State.{Place, State, place_at, program_at, with_slot}
@@ -77,7 +77,7 @@ Ends task so_far bytes blocks = (goes_on (block_run task so_far.index so_far.scr
 abbrev pub RestEnds : Type 0
 RestEnds =
     (task : Task) (so_far : Progress) (bytes : List ℕ) (blocks : List (List ℕ)) → Ends task so_far bytes blocks
-    → rest task so_far (bytes ∷ blocks) ≡ last_turn task.sizes.block (output_of so_far) (block_run task so_far.index so_far.scratch bytes) ∷ []
+    → rest task so_far (bytes ∷ blocks) ≡ last_turn task.sizes.block (emitted_by so_far) (block_run task so_far.index so_far.scratch bytes) ∷ []
 
 -- no more turns are left than source blocks
 abbrev pub RestIsFew : Type 0

@@ -24,22 +24,22 @@ pub record Turn : Type 0 where
   pub blocks : List (List ℕ)
   pub ending : Option Ending
 
--- what was put out: groups in order, the number of their frames, and how many blocks were appended
+-- what was emitted: groups in order, the number of their frames, and how many blocks were appended
 -- before the first of these groups
-pub record Output : Type 0 where
+pub record Emitted : Type 0 where
   pub groups : List (List ℕ)
   pub frames : ℕ
   pub appended : ℕ
 
-abbrev pub no_output : Output
-no_output = record { groups = []; frames = 0; appended = 0 }
+abbrev pub nothing_emitted : Emitted
+nothing_emitted = record { groups = []; frames = 0; appended = 0 }
 
--- the output with a block run's group behind it
-abbrev pub with_group : Output → BlockRun → Output
-with_group output run = record {
-  groups = output.groups ++ run.state.group ∷ [];
-  frames = output.frames + run.state.frames;
-  appended = output.appended;
+-- what was emitted, with a block run's group behind it
+abbrev pub with_group : Emitted → BlockRun → Emitted
+with_group emitted run = record {
+  groups = emitted.groups ++ run.state.group ∷ [];
+  frames = emitted.frames + run.state.frames;
+  appended = emitted.appended;
 }
 
 -- what comes to blocks that begin with others
@@ -47,20 +47,20 @@ abbrev pub behind : List (List ℕ) → List (List ℕ) → List (List ℕ)
 behind first blocks = drop (length first) blocks
 
 -- a turn after which the run goes on appends the blocks that no later group can change
-abbrev pub middle_turn : ℕ → Output → BlockRun → Turn
-middle_turn block output run = record {
-  blocks = behind (released block output.groups) (released block (with_group output run).groups);
+abbrev pub middle_turn : ℕ → Emitted → BlockRun → Turn
+middle_turn block emitted run = record {
+  blocks = behind (released block emitted.groups) (released block (with_group emitted run).groups);
   ending = None;
 }
 
 -- a run whose last block run ended by EXIT: all blocks are appended, and told with the frames
-abbrev pub finished : ℕ → Output → Output → List ℕ → Turn
-finished block before output scratch = record {
-  blocks = behind (released block before.groups) (packed block output.groups);
+abbrev pub finished : ℕ → Emitted → Emitted → List ℕ → Turn
+finished block before emitted scratch = record {
+  blocks = behind (released block before.groups) (packed block emitted.groups);
   ending = Some (record {
     status = SUCCESS;
-    dw0 = output.frames;
-    dw1 = output.appended + length (packed block output.groups);
+    dw0 = emitted.frames;
+    dw1 = emitted.appended + length (packed block emitted.groups);
     result = Some scratch;
   });
 }
@@ -73,23 +73,23 @@ trapped slot cause = record {
 }
 
 -- the last turn; 9 tells that a block run had no fuel left (profile)
-abbrev pub last_turn_by : End → ℕ → Output → BlockRun → Turn
-last_turn_by (end.Exit r0) block output run = finished block output (with_group output run) (scratch_after run)
-last_turn_by (end.Trap slot cause) block output run = trapped slot (cause_number cause)
-last_turn_by end.OutOfFuel block output run = trapped 0 9
+abbrev pub last_turn_by : End → ℕ → Emitted → BlockRun → Turn
+last_turn_by (end.Exit r0) block emitted run = finished block emitted (with_group emitted run) (scratch_after run)
+last_turn_by (end.Trap slot cause) block emitted run = trapped slot (cause_number cause)
+last_turn_by end.OutOfFuel block emitted run = trapped 0 9
 
-abbrev pub last_turn : ℕ → Output → BlockRun → Turn
-last_turn block output run = last_turn_by run.end block output run
+abbrev pub last_turn : ℕ → Emitted → BlockRun → Turn
+last_turn block emitted run = last_turn_by run.end block emitted run
 
 -- the turns of these block runs, of which the last ends the run, after what was put out before
-abbrev pub turns_after : ℕ → Output → List BlockRun → List Turn
-turns_after block output [] = []
-turns_after block output (run ∷ []) = last_turn block output run ∷ []
-turns_after block output (run ∷ next ∷ runs) = middle_turn block output run ∷ turns_after block (with_group output run) (next ∷ runs)
+abbrev pub turns_after : ℕ → Emitted → List BlockRun → List Turn
+turns_after block emitted [] = []
+turns_after block emitted (run ∷ []) = last_turn block emitted run ∷ []
+turns_after block emitted (run ∷ next ∷ runs) = middle_turn block emitted run ∷ turns_after block (with_group emitted run) (next ∷ runs)
 
 -- the turns of a run
 abbrev pub outcome : Task → List (List ℕ) → List Turn
-outcome task blocks = turns_after task.sizes.block no_output (runs_of task blocks)
+outcome task blocks = turns_after task.sizes.block nothing_emitted (runs_of task blocks)
 
 -- the blocks that turns append
 abbrev pub appended_by : List Turn → List (List ℕ)
@@ -117,10 +117,10 @@ abbrev pub at_admission : Progress
 at_admission = record { index = 0; scratch = no_scratch; pending = []; frames = 0; appended = 0 }
 
 -- the pending bytes stand for one group
-abbrev pub output_of : Progress → Output
-output_of so_far = record { groups = so_far.pending ∷ []; frames = so_far.frames; appended = so_far.appended }
+abbrev pub emitted_by : Progress → Emitted
+emitted_by so_far = record { groups = so_far.pending ∷ []; frames = so_far.frames; appended = so_far.appended }
 
 -- the turns that are left of a run that has come so far, of the source blocks still to come
 abbrev pub rest : Task → Progress → List (List ℕ) → List Turn
 rest task so_far blocks =
-    turns_after task.sizes.block (output_of so_far) (until_ended (block_runs task so_far.index so_far.scratch blocks))
+    turns_after task.sizes.block (emitted_by so_far) (until_ended (block_runs task so_far.index so_far.scratch blocks))

@@ -20,7 +20,7 @@ use Rattle.pushdown.specs.Admission.{task_by}
 use Rattle.pushdown.specs.BlockRuns.{Task, goes_on, scratch_after}
 use Rattle.pushdown.specs.Laws.{Ends, RoomIn, further, next_turn}
 use Rattle.pushdown.specs.Happenings.{added}
-use Rattle.pushdown.specs.Outcome.{Ending, Progress, Turn, appended_by, behind, last_turn, last_turn_by, output_of, rest}
+use Rattle.pushdown.specs.Outcome.{Ending, Progress, Turn, appended_by, behind, last_turn, last_turn_by, emitted_by, rest}
 use Rattle.pushdown.specs.View.{Active, to_come, turns_of}
 use Rattle.pushdown.proofs.Proved.{blocks_leave_others, rest_ends, rest_goes_on, room_is_open, room_stays}
 use Rattle.runner.specs.DeviceState.{active_of}
@@ -98,7 +98,7 @@ module _ (ns : ZonedNamespace) (program : List (Option Insn)) (limit : ℕ) wher
         ap (λ (n : ℕ). take n (drop (a.order.lba % ns.size + (a.so_far.index + 1)) blocks)) none
 
     turns_end : Ends task a.so_far (next_block ns a) later
-        → turns_of ns program limit a ≡ last_turn ns.block (output_of a.so_far) run ∷ []
+        → turns_of ns program limit a ≡ last_turn ns.block (emitted_by a.so_far) run ∷ []
     turns_end ends = ap (rest task a.so_far) come ∙ rest_ends task a.so_far (next_block ns a) later ends
 
 -- ---- what a last turn comes to
@@ -107,7 +107,7 @@ module _ (block : ℕ) (so_far : Progress) (run : BlockRun) where
   abbrev all : List (List ℕ)
   all = packed block (so_far.pending ∷ run.state.group ∷ [])
 
-  last_by : (e : End) (r0 : ℕ) → e ≡ end.Exit r0 → last_turn_by e block (output_of so_far) run
+  last_by : (e : End) (r0 : ℕ) → e ≡ end.Exit r0 → last_turn_by e block (emitted_by so_far) run
       ≡ record { blocks = all; ending = Some (record { status = SUCCESS; dw0 = so_far.frames + run.state.frames; dw1 = so_far.appended + length all; result = Some (scratch_after run) }) }
   last_by (end.Exit r) r0 is =
       ap (λ (first : List (List ℕ)). record {

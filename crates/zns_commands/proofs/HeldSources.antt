@@ -17,7 +17,7 @@ use Rattle.nvme_entry.specs.declared.command.StandardCommand.TheVariants.{Write,
 use Rattle.image_store.specs.Namespace.{ZoneBlocks, ZonedNamespace, no_zone, zone_at, with_zone, arrived, with_state}
 use Rattle.zone_state.specs.State.{is_cleared}
 use Rattle.zns_commands.specs.Address.{zone_number}
-use Rattle.zns_commands.specs.Fault.{fault_answer, faulted_by}
+use Rattle.zns_commands.specs.Fault.{zone_fault_refusal, faulted_by}
 use Rattle.zns_commands.specs.Left.{Grows, SourcesKeepBlocks}
 use Rattle.zns_commands.specs.Laws.{Commanded, Faulted}
 use Rattle.zns_commands.specs.Meaning.{checks_of, effect_of}
@@ -134,5 +134,5 @@ sources_keep_blocks (Commanded holds command input) ns d held =
     after_command (λ m. Grows (zone_at ns d).blocks (zone_at m d).blocks) ns holds command input (grows_by_none (zone_at ns d).blocks)
     (effect_kept ns holds d held command input)
 sources_keep_blocks (Faulted holds z fault) ns d held =
-    faulted_kept ns holds d held z fault (fault_answer ns holds z fault)
+    faulted_kept ns holds d held z fault (zone_fault_refusal ns holds z fault)
     (λ done e. not_held (nat_lt z (length ns.zones)) (is_held holds z) (fault_refusal fault (zone_at ns z).state) done e)

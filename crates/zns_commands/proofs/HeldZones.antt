@@ -22,7 +22,7 @@ use Rattle.nvme_entry.specs.declared.command.StandardCommand.TheVariants.{Write,
 use Rattle.image_store.specs.Namespace.{ZoneBlocks, ZonedNamespace, no_zone, zone_at, counted, counted_zones}
 use Rattle.zns_commands.specs.Address.{zone_number}
 use Rattle.zns_commands.specs.Append.{append_checks}
-use Rattle.zns_commands.specs.Fault.{fault_answer}
+use Rattle.zns_commands.specs.Fault.{zone_fault_refusal}
 use Rattle.zns_commands.specs.Left.{is_either, touches, DestinationsAreLeft}
 use Rattle.zns_commands.specs.Laws.{Commanded, Faulted}
 use Rattle.zns_commands.specs.Meaning.{checks_of}
@@ -161,7 +161,7 @@ destinations_are_left (Commanded holds command input) ns d held =
     after_command (λ m. zone_at m d ≡ zone_at ns d) ns holds command input refl
     (λ none. effect_left ns d holds command input (free ns holds d held command input none))
 destinations_are_left (Faulted holds z fault) ns d held =
-    faulted_left ns d z fault (fault_answer ns holds z fault)
+    faulted_left ns d z fault (zone_fault_refusal ns holds z fault)
     (λ done e.
     let no = not_held (nat_lt z (length ns.zones)) (is_held holds z) (fault_refusal fault (zone_at ns z).state) done e in
     other ns holds d held z (neither (is_source holds z) (is_destination holds z) no).1)

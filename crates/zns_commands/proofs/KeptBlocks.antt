@@ -19,7 +19,7 @@ use Rattle.zns_commands.specs.declared.write.WritePlan.{WritePlan}
 use Rattle.zns_commands.specs.Address.{zone_number}
 use Rattle.zns_commands.specs.Effect.{Effect, success_effect, concluded}
 use Rattle.zns_commands.specs.Append.{append_checks, append_effect}
-use Rattle.zns_commands.specs.Fault.{fault_answer, faulted_by}
+use Rattle.zns_commands.specs.Fault.{zone_fault_refusal, faulted_by}
 use Rattle.zns_commands.specs.Read.{read_checks, read_effect, read_refusal}
 use Rattle.zns_commands.specs.Resources.{closed}
 use Rattle.zns_commands.specs.Receive.{receive_checks, receive_effect}
@@ -143,7 +143,7 @@ event_grows (Commanded holds (Send lba a select_all) input) ns z =
     concluded_grows (first_failed (send_checks ns holds lba a select_all input)) ns
     (success_effect (send_effect ns holds lba a select_all) 0 []) z
     (send_grows ns holds lba a select_all z)
-event_grows (Faulted holds y fault) ns z = faulted_grows (fault_answer ns holds y fault) ns y z fault
+event_grows (Faulted holds y fault) ns z = faulted_grows (zone_fault_refusal ns holds y fault) ns y z fault
 
 -- a namespace with so many zones, otherwise of the same shape
 abbrev with_count : ZonedNamespace → ℕ → Shape
@@ -194,7 +194,7 @@ event_shape (Commanded holds (Receive lba dwords filter partial) input) ns =
 event_shape (Commanded holds (Send lba a select_all) input) ns =
     concluded_shape (first_failed (send_checks ns holds lba a select_all input)) ns
     (success_effect (send_effect ns holds lba a select_all) 0 []) (send_shape ns holds lba a select_all)
-event_shape (Faulted holds z fault) ns = faulted_shape (fault_answer ns holds z fault) ns z fault
+event_shape (Faulted holds z fault) ns = faulted_shape (zone_fault_refusal ns holds z fault) ns z fault
 
 -- a zone that isn't cleared can be read
 pub uncleared_is_readable : (s : ZoneState) → is_cleared s ≡ false → read_refusal s ≡ None

@@ -17,7 +17,7 @@ use Rattle.zone_resources.specs.Holds.{is_held}
 use Rattle.zone_resources.specs.declared.holds.Holds.{Holds}
 use Rattle.image_store.specs.Namespace.{ZoneBlocks, ZonedNamespace, zone_at, IsNamespace, arrived, with_state}
 use Rattle.image_store.proofs.Proved.{written_is_within}
-use Rattle.zns_commands.specs.Fault.{fault_answer, faulted_by, faulted}
+use Rattle.zns_commands.specs.Fault.{zone_fault_refusal, faulted_by, faulted}
 use Rattle.zns_commands.specs.Resources.{room_by, closed}
 use Rattle.zns_commands.specs.Send.{room_of, led_to}
 use Rattle.zns_commands.proofs.FittingZones.{FitsIn, no_bytes, zone_fits, one_sound}
@@ -133,7 +133,7 @@ faulted_by_sound ns z fault (Err none) sound inside = sound
 
 pub fault_sound : (ns : ZonedNamespace) (holds : Holds) (z : ℕ) (fault : FaultState) → IsNamespace ns → IsNamespace (faulted ns holds z fault)
 fault_sound ns holds z fault sound =
-    faulted_by_sound ns z fault (fault_answer ns holds z fault) sound
+    faulted_by_sound ns z fault (zone_fault_refusal ns holds z fault) sound
     (λ done e.
     ltb-true z (length ns.zones)
     (answer_passed (nat_lt z (length ns.zones)) (is_held holds z) (fault_refusal fault (zone_at ns z).state) done e))

@@ -9,8 +9,8 @@ use Rattle.image_store.specs.Namespace.{ZonedNamespace, zone_at, with_state}
 
 -- a fault is refused for a zone that there isn't, for a held one, and where what is lost would come
 -- back
-abbrev pub fault_answer : ZonedNamespace → Holds → ℕ → FaultState → Result Unit FaultRefused
-fault_answer ns holds z fault =
+abbrev pub zone_fault_refusal : ZonedNamespace → Holds → ℕ → FaultState → Result Unit FaultRefused
+zone_fault_refusal ns holds z fault =
     if nat_lt z (length ns.zones) && not (is_held holds z) then fault_refusal fault (zone_at ns z).state else Err (record {})
 
 abbrev pub faulted_by : Result Unit FaultRefused → ZonedNamespace → ℕ → FaultState → ZonedNamespace
@@ -19,4 +19,4 @@ faulted_by (Err refused) ns z fault = ns
 
 -- the namespace after a fault: a zone that has one keeps its blocks where it can still be read
 abbrev pub faulted : ZonedNamespace → Holds → ℕ → FaultState → ZonedNamespace
-faulted ns holds z fault = faulted_by (fault_answer ns holds z fault) ns z fault
+faulted ns holds z fault = faulted_by (zone_fault_refusal ns holds z fault) ns z fault

@@ -1,7 +1,7 @@
 //! Zone faults.
 
 ghost use Rattle.std.specs.Prelude.{◌≡◌};
-ghost use Rattle.zns_commands.specs.Fault.{fault_answer, faulted};
+ghost use Rattle.zns_commands.specs.Fault.{zone_fault_refusal, faulted};
 
 use image_store::Image;
 use zone_resources::Holds;
@@ -18,7 +18,7 @@ pub fn fault(
     state: FaultState,
     holds: &Holds,
 ) -> Result<(), FaultRefused>
-    ensures answer { result ≡ fault_answer image.old holds.now zone state }
+    ensures answer { result ≡ zone_fault_refusal image.old holds.now zone state }
     ensures state { image.new ≡ faulted image.old holds.now zone state }
 {
     if zone >= image.geometry().zones() || holds.is_held(zone) {

@@ -9,7 +9,7 @@ ghost use Rattle.image_store.specs.Namespace.{appended, shape, IsNamespace};
 ghost use Rattle.zns_commands.specs.Address.{counted_zone_at};
 ghost use Rattle.zns_commands.specs.Effect.{effect_of_answer};
 ghost use Rattle.zns_commands.specs.Append.{TakesBlocks};
-ghost use Rattle.zns_commands.specs.Fault.{fault_answer, faulted};
+ghost use Rattle.zns_commands.specs.Fault.{zone_fault_refusal, faulted};
 ghost use Rattle.zns_commands.specs.Meaning.{meaning};
 
 use crate::answer::Answer;
@@ -133,7 +133,7 @@ impl Namespace {
     /// [`FaultRefused`] for a zone that there isn't, for one that an active run uses, and for Read
     /// Only where the zone is Offline; nothing has changed then.
     pub fn fault(&mut self, zone: u32, state: FaultState, holds: &Holds) -> Result<(), FaultRefused>
-        ensures answer { result ≡ fault_answer self.old holds.now zone state }
+        ensures answer { result ≡ zone_fault_refusal self.old holds.now zone state }
         ensures state { self.new ≡ faulted self.old holds.now zone state }
     {
         fault(&mut self.image, zone, state, holds)

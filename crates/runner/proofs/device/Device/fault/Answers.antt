@@ -1,6 +1,6 @@
 use Rattle.std.proofs.Common.{false, ap, sym, ◌∙◌}
 use Rattle.zone_resources.specs.declared.holds.Holds.{Holds}
-use Rattle.zns_commands.specs.Fault.{fault_answer}
+use Rattle.zns_commands.specs.Fault.{zone_fault_refusal}
 use Rattle.pushdown.specs.Happenings.{failed, fault_reply}
 use Rattle.pushdown.specs.State.{State, holds_at}
 use Rattle.device_events.specs.declared.event.Event.TheVariants as event
@@ -25,8 +25,8 @@ pub returns-clause-reply : goal.returns-clause-reply
 returns-clause-reply c =
     let d = c.self.inside in
     let answer = c.fault.ensures.answer
-    ∙ ap (λ (h : Holds). fault_answer d.namespace h c.args.zone c.args.state) (c.holds.ensures ∙ holds_are d.namespace d.slots d.runs c.self.invariant.ready)
-    ∙ ap (λ (s : State). fault_answer s.namespace (holds_at s) c.args.zone c.args.state) c.self.view_is in
+    ∙ ap (λ (h : Holds). zone_fault_refusal d.namespace h c.args.zone c.args.state) (c.holds.ensures ∙ holds_are d.namespace d.slots d.runs c.self.invariant.ready)
+    ∙ ap (λ (s : State). zone_fault_refusal s.namespace (holds_at s) c.args.zone c.args.state) c.self.view_is in
     elim c.match-fault.branch [
       | in-Ok w ↦ w.result-is ∙ ap fault_reply (sym w.in-Ok.is ∙ answer)
       | in-Err w ↦ w.result-is ∙ ap fault_reply (sym w.in-Err.is ∙ answer)
