@@ -1,6 +1,7 @@
 //! Laws of the definitions that the contracts of this crate cite. Each function does nothing: what
 //! it ensures is the law.
 
+ghost use Rattle.zone_state.specs.FirstCheck.{FirstFailedIsFirst, NoFaultWhereNoneFails};
 ghost use Rattle.zone_state.specs.State.{CodesAreDistinct};
 ghost use Rattle.zone_state.specs.Transition.{ActionsRepeat, OfflineIsFinal};
 ghost use Rattle.zone_state.specs.Zone.{WritesJoin};
@@ -10,7 +11,8 @@ pub fn codes_are_distinct()
     ensures { CodesAreDistinct }
 {}
 
-/// An action that a zone has taken changes nothing when it is taken again.
+/// An action that a zone has taken changes nothing of the zone, neither its state nor its written blocks, when it is taken
+/// again.
 pub fn actions_repeat()
     ensures { ActionsRepeat }
 {}
@@ -23,4 +25,10 @@ pub fn offline_is_final()
 /// Two writes, one behind the other, leave the zone that one write of all their blocks leaves.
 pub fn writes_join()
     ensures { WritesJoin }
+{}
+
+/// Of an ordered list of checks the first that fails decides: its fault is told, and none is where none fails.
+pub fn first_check_decides<F>()
+    ensures first { FirstFailedIsFirst F }
+    ensures none { NoFaultWhereNoneFails F }
 {}

@@ -1,0 +1,32 @@
+-- Ordered lists of checks, and the first that fails.
+use Rattle.std.proofs.Common.{◌≡◌, List, [], ◌∷◌, ◌++◌, Option, Some, None, refl, ap, ◌∙◌}
+use Rattle.zone_state.specs.Checks.{first_failed}
+use Rattle.zone_state.specs.FirstCheck.{FailsFirst, FirstFailedIsFirst, NoneFails, NoFaultWhereNoneFails}
+
+none_fails : {F : Type 0} (checks : List (Option F)) → first_failed checks ≡ None → NoneFails checks
+none_fails [] e = tt
+none_fails (None ∷ rest) e = (refl, none_fails rest e)
+none_fails (Some fault ∷ rest) e = absurd cc
+
+no_fault : {F : Type 0} (checks : List (Option F)) → NoneFails checks → first_failed checks ≡ None
+no_fault [] pass = refl
+no_fault (None ∷ rest) pass = no_fault rest pass.1
+no_fault (Some fault ∷ rest) pass = let e = pass.0 in absurd cc
+
+first_is : {F : Type 0} (checks : List (Option F)) (fault : F) → first_failed checks ≡ Some fault → FailsFirst checks fault
+first_is [] fault e = absurd cc
+first_is {F} (None ∷ rest) fault e =
+    let later = first_is rest fault e in
+    record { before = None ∷ later.before; after = later.after; are = ap (λ (cs : List (Option F)). None ∷ cs) later.are; pass = (refl, later.pass) }
+first_is {F} (Some first ∷ rest) fault e = record { before = []; after = rest; are = ap (λ (check : Option F). check ∷ rest) e; pass = tt }
+
+first_behind : {F : Type 0} (before after : List (Option F)) (fault : F) → NoneFails before → first_failed (before ++ Some fault ∷ after) ≡ Some fault
+first_behind [] after fault pass = refl
+first_behind (None ∷ before) after fault pass = first_behind before after fault pass.1
+first_behind (Some other ∷ before) after fault pass = let e = pass.0 in absurd cc
+
+pub first_failed_is_first : (F : Type 0) → FirstFailedIsFirst F
+first_failed_is_first F = λ checks fault. (first_is checks fault, λ first. ap first_failed first.are ∙ first_behind first.before first.after fault first.pass)
+
+pub no_fault_where_none_fails : (F : Type 0) → NoFaultWhereNoneFails F
+no_fault_where_none_fails F = λ checks. (none_fails checks, no_fault checks)
