@@ -4,6 +4,7 @@ pub mod JoinedFiles
 pub mod LineLemmas
 pub mod PlainLines
 pub mod ReplyLemmas
+pub mod ReplyTexts
 pub mod SingleLines
 pub mod SpelledEvents
 pub mod SubmissionLemmas

@@ -1,9 +1,11 @@
 -- Files of replies, one line after the other.
 use Rattle.std.proofs.Common.{◌≡◌, ℕ, List, [], ◌∷◌, ◌++◌, length, map, sym, ap, ◌∙◌, append_assoc, append-nil, arith}
 use Rattle.std.proofs.lemmas.List.{map-append}
+use Rattle.std.proofs.lemmas.List.Elements.{All-append, All-cons, All-nil}
+use Rattle.std.specs.List.{All}
 use Rattle.std.specs.Str.Lines.{lines}
 use Rattle.event_text.specs.declared.reply_file.ToldReply.{ToldReply}
-use Rattle.event_text.specs.ReplyFile.{told_text}
+use Rattle.event_text.specs.ReplyFile.{HasItsData, told_text}
 
 -- one more reply
 pub reply_read : (all rest behind : List (List ℕ)) (before : List ToldReply) (told : ToldReply) (line : List ℕ) → all ≡ map told_text before ++ rest → rest ≡ line ∷ behind → line ≡ told_text told
@@ -18,3 +20,7 @@ reply_read all rest behind before told line read cut is =
 pub replies_read : (all : List (List ℕ)) (before : List ToldReply) (rest : List ℕ) → all ≡ map told_text before ++ lines rest → length rest ≡ 0 → all ≡ map told_text before
 replies_read all before [] read e = read ∙ append-nil (map told_text before)
 replies_read all before (b ∷ rest) read e = absurd (omega (arith, e))
+
+-- one more reply has its data
+pub one_more_whole : (before : List ToldReply) (told : ToldReply) → All HasItsData before → HasItsData told → All HasItsData (before ++ told ∷ [])
+one_more_whole before told whole has = All-append HasItsData before (told ∷ []) whole (All-cons HasItsData told [] has (All-nil HasItsData))

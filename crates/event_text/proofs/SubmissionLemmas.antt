@@ -24,7 +24,7 @@ digit_in_word byte value h =
     let high : byte < 128 = grind (arith) in
     (low, high, other)
 
-hex_in_word : (bytes : List ℕ) → IsBytes bytes → All InWord (encode_lower bytes)
+pub hex_in_word : (bytes : List ℕ) → IsBytes bytes → All InWord (encode_lower bytes)
 unfolding encode_with
 hex_in_word [] small = All-nil InWord
 hex_in_word (b ∷ rest) small =
@@ -37,11 +37,11 @@ hex_in_word (b ∷ rest) small =
 -- ---- the words
 
 -- the words of the data, of which there is one or none
-abbrev data_words : List ℕ → List (List ℕ)
+abbrev pub data_words : List ℕ → List (List ℕ)
 data_words [] = []
 data_words (b ∷ rest) = encode_lower (b ∷ rest) ∷ []
 
-not_empty : (bytes : List ℕ) → 0 < length bytes → 0 < length (encode_lower bytes)
+pub not_empty : (bytes : List ℕ) → 0 < length bytes → 0 < length (encode_lower bytes)
 not_empty bytes some = let size = length-encode_with lower_digits bytes in omega (arith, size)
 
 data_text-cons : (b : ℕ) (rest : List ℕ) → data_text (b ∷ rest) ≡ 32 ∷ encode_lower (b ∷ rest)
@@ -56,20 +56,20 @@ words_of-data word (b ∷ rest) some h small =
     ∙ ap (λ (ws : List (List ℕ)). word ∷ ws) (word_last (encode_lower input) (not_empty input (omega arith)) (unblank (encode_lower input) (hex_in_word input small)))
 
 -- the words of a line, one behind the other
-abbrev spaced : List ℕ → List ℕ → List ℕ → List ℕ
-spaced number digits behind = codes "submit" ++ 32 ∷ (number ++ 32 ∷ (digits ++ behind))
+abbrev pub spaced : List ℕ → List ℕ → List ℕ → List ℕ → List ℕ
+spaced name number digits behind = name ++ 32 ∷ (number ++ 32 ∷ (digits ++ behind))
 
-submission_text-spaced : (queue : ℕ) (entry input : List ℕ) → submission_text queue entry input ≡ spaced (decimal queue) (encode_lower entry) (data_text input)
+submission_text-spaced : (queue : ℕ) (entry input : List ℕ) → submission_text queue entry input ≡ spaced (codes "submit") (decimal queue) (encode_lower entry) (data_text input)
 submission_text-spaced queue entry input =
     let number = decimal queue in
     let digits = encode_lower entry in
     ap (λ (ys : List ℕ). codes "submit " ++ ys) (append_assoc (number ++ codes " ") digits (data_text input) ∙ append_assoc number (codes " ") (digits ++ data_text input))
 
-words_of-spaced : (number digits input : List ℕ) → 0 < length number → All InWord number → 0 < length digits → All InWord digits → IsBytes input
-    → words_of (spaced number digits (data_text input)) ≡ codes "submit" ∷ number ∷ digits ∷ data_words input
-words_of-spaced number digits input some is_number any is_digits small =
-    word_first (codes "submit") (number ++ 32 ∷ (digits ++ data_text input)) (omega arith) (unblank (codes "submit") (spelled_in_word (codes "submit") refl))
-    ∙ ap (λ (ws : List (List ℕ)). codes "submit" ∷ ws)
+pub words_of-spaced : (name number digits input : List ℕ) → 0 < length name → All InWord name → 0 < length number → All InWord number → 0 < length digits → All InWord digits → IsBytes input
+    → words_of (spaced name number digits (data_text input)) ≡ name ∷ number ∷ digits ∷ data_words input
+words_of-spaced name number digits input named is_name some is_number any is_digits small =
+    word_first name (number ++ 32 ∷ (digits ++ data_text input)) named (unblank name is_name)
+    ∙ ap (λ (ws : List (List ℕ)). name ∷ ws)
     (word_first number (digits ++ data_text input) some (unblank number is_number) ∙ ap (λ (ws : List (List ℕ)). number ∷ ws) (words_of-data digits input any is_digits small))
 
 -- ---- the bytes of the line
@@ -79,7 +79,7 @@ data_in_line [] small = All-nil InLine
 data_in_line (b ∷ rest) small =
     subst (λ (text : List ℕ). All InLine text) (sym (data_text-cons b rest)) (space_before (encode_lower (b ∷ rest)) (as_line (encode_lower (b ∷ rest)) (hex_in_word (b ∷ rest) small)))
 
-spaced_in_line : (number digits behind : List ℕ) → All InWord number → All InWord digits → All InLine behind → All InLine (spaced number digits behind)
+spaced_in_line : (number digits behind : List ℕ) → All InWord number → All InWord digits → All InLine behind → All InLine (spaced (codes "submit") number digits behind)
 spaced_in_line number digits behind is_number is_digits is_behind =
     let tail = space_before (digits ++ behind) (All-append InLine digits behind (as_line digits is_digits) is_behind) in
     let middle = space_before (number ++ 32 ∷ (digits ++ behind)) (All-append InLine number (32 ∷ (digits ++ behind)) (as_line number is_number) tail) in
@@ -103,12 +103,12 @@ submission_spelled queue entry input small size entry_bytes input_bytes =
     let number = decimal_nonempty queue (omega arith) in
     let is_number = decimal_in_word queue (omega arith) in
     let is_digits = hex_in_word entry entry_bytes in
-    let line = spaced (decimal queue) (encode_lower entry) (data_text input) in
+    let line = spaced (codes "submit") (decimal queue) (encode_lower entry) (data_text input) in
     let in_a_line = spaced_in_line (decimal queue) (encode_lower entry) (data_text input) is_number is_digits (data_in_line input input_bytes) in
     let found = decimal_below (2 ^ 16) queue small (omega arith) in
     let told : line_told line ≡ Some (Some (Submitted queue entry input)) =
     line_told-words line in_a_line
-    ∙ (ap words_told (words_of-spaced (decimal queue) (encode_lower entry) input number is_number (not_empty entry (omega arith)) is_digits input_bytes)
+    ∙ (ap words_told (words_of-spaced (codes "submit") (decimal queue) (encode_lower entry) input (omega arith) (spelled_in_word (codes "submit") refl) number is_number (not_empty entry (omega arith)) is_digits input_bytes)
     ∙ words_again (decimal queue) (encode_lower entry) entry input queue found (decode_sized-encode_lower entry 64 size entry_bytes) input_bytes) in
     let whole : IsSpelled line (Submitted queue entry input) = record { plain = in_a_line; told = told } in
     subst (λ (text : List ℕ). IsSpelled text (Submitted queue entry input)) (sym (submission_text-spaced queue entry input)) whole

@@ -1,4 +1,4 @@
--- Laws of the events of a command file (profile).
+-- Laws of the events of a command file, and of the lines of replies (profile).
 use Rattle.std.specs.Prelude.{◌≡◌, ℕ, ◌+◌, ◌^◌, ◌<◌, ◌==◌, not, List, [], ◌∷◌, ◌++◌, length, Result, Ok, Err, codes}
 use Rattle.std.specs.List.{AllPass}
 use Rattle.std.specs.Char.{is_ascii}
@@ -8,7 +8,11 @@ use Rattle.hex.specs.Hex.{IsBytes}
 use Rattle.zone_state.specs.declared.state.FaultState.{FaultState}
 use Rattle.zone_state.specs.declared.state.FaultState.TheVariants.{ReadOnly, Offline}
 use Rattle.text_lines.specs.Cut.{is_blank_byte}
+use Rattle.device_events.specs.Replies.{ReplyWithData, data_length}
+use Rattle.device_events.specs.declared.reply.Reply.{Reply}
+use Rattle.device_events.specs.declared.reply.Reply.TheVariants as reply
 use Rattle.event_text.specs.CommandFile.{Told, Submitted, Turned, Failed, line_told, events_in}
+use Rattle.event_text.specs.Lines.{reply_text}
 use Rattle.event_text.specs.Submission.{submission_text}
 
 -- the file, with the end of a line behind it
@@ -81,3 +85,22 @@ TurnsReadBack = (run : ℕ) → run < 2 ^ 8 → ReadsBack (turn_text run) (Turne
 
 abbrev pub FaultsReadBack : Type 0
 FaultsReadBack = (zone : ℕ) (state : FaultState) → zone < 2 ^ 32 → ReadsBack (fault_text zone state) (Failed zone state)
+
+-- the numbers of a reply are of their types: 16 bits, 16 bytes (NVMe Base 2.0, 3.3.3.2), 8 bits
+abbrev pub AreOfTypes : Reply → Type 0
+AreOfTypes (reply.Complete queue entry size) = (queue < 2 ^ 16) × (length entry ≡ 16) × IsBytes entry
+AreOfTypes (reply.Pending run) = run < 2 ^ 8
+AreOfTypes reply.Idle = Unit {0}
+AreOfTypes reply.FaultTaken = Unit {0}
+AreOfTypes reply.FaultRefused = Unit {0}
+
+-- a reply with bytes of data, as many as it tells
+pub record IsReply (given : ReplyWithData) : Type 0 where
+  pub numbers : AreOfTypes given.reply
+  pub are_bytes : IsBytes given.bytes
+  pub told : data_length given.reply ≡ length given.bytes
+
+-- replies that are printed alike are the same, with the same data
+abbrev pub LinesTellReplies : Type 0
+LinesTellReplies =
+    (a b : ReplyWithData) → IsReply a → IsReply b → reply_text a.reply a.bytes ≡ reply_text b.reply b.bytes → a ≡ b

@@ -1,6 +1,6 @@
-//! Laws of the events of a command file. Each function does nothing: what it ensures is the law.
+//! Laws of the events of a command file, and of the lines of replies. Each function does nothing: what it ensures is the law.
 
-ghost use Rattle.event_text.specs.Laws.{BlanksDontCount, CommentsDontCount, EventsAreByLine, FaultsReadBack, SubmissionsReadBack, TurnsReadBack};
+ghost use Rattle.event_text.specs.Laws.{BlanksDontCount, CommentsDontCount, EventsAreByLine, FaultsReadBack, LinesTellReplies, SubmissionsReadBack, TurnsReadBack};
 
 /// The events of two files joined at a line's end are those of both, and the lowest line that is refused is
 /// that of the first, or else that of the second.
@@ -19,4 +19,9 @@ pub fn spelled_events_read_back()
     ensures submissions { SubmissionsReadBack }
     ensures turns { TurnsReadBack }
     ensures faults { FaultsReadBack }
+{}
+
+/// Two replies that are printed as the same line are the same, with the same data.
+pub fn lines_tell_replies()
+    ensures { LinesTellReplies }
 {}

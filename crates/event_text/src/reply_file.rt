@@ -2,7 +2,9 @@
 
 ghost use Rattle.std.specs.Prelude.{◌≡◌, map, length, IfOk};
 ghost use Rattle.std.specs.Str.Lines.{lines};
-ghost use Rattle.event_text.specs.ReplyFile.{told_text};
+ghost use Rattle.std.specs.List.{All};
+ghost use Rattle.device_events.specs.Replies.{data_length};
+ghost use Rattle.event_text.specs.ReplyFile.{HasItsData, told_text};
 
 use crate::command_file::{queue_number, run_number};
 use crate::lines::push_reply;
@@ -44,9 +46,10 @@ pub struct ToldReply {
 /// # Errors
 ///
 /// The lowest line that isn't the line of a reply, or want of memory for a line before it.
-#[tactic(auto, using(crate::proofs::ReplyLemmas::reply_read, crate::proofs::ReplyLemmas::replies_read))]
+#[tactic(auto, using(crate::proofs::ReplyLemmas::reply_read, crate::proofs::ReplyLemmas::replies_read, crate::proofs::ReplyLemmas::one_more_whole))]
 pub fn replies(alloc: Global, file: &[u8]) -> Result<Vec<ToldReply>, RepliesFault>
     ensures spelled { IfOk result (λ told. lines file.now ≡ map told_text told.items) }
+    ensures whole { IfOk result (λ told. All HasItsData told.items) }
 {
     let mut told = Vec::new(alloc);
     let mut rest = file;
@@ -66,7 +69,8 @@ pub fn replies(alloc: Global, file: &[u8]) -> Result<Vec<ToldReply>, RepliesFaul
 
 /// The reply whose line this is.
 fn told_by(alloc: Global, line: &[u8]) -> Result<ToldReply, ReplyFault>
-    ensures { IfOk result (λ told. line.now ≡ told_text told) }
+    ensures spelled { IfOk result (λ told. line.now ≡ told_text told) }
+    ensures whole { IfOk result HasItsData }
 {
     let told = candidate(alloc, line)?;
     let mut again = Vec::new(alloc);
@@ -78,7 +82,9 @@ fn told_by(alloc: Global, line: &[u8]) -> Result<ToldReply, ReplyFault>
 }
 
 /// The one reply whose line this can be.
-fn candidate(alloc: Global, line: &[u8]) -> Result<ToldReply, ReplyFault> {
+fn candidate(alloc: Global, line: &[u8]) -> Result<ToldReply, ReplyFault>
+    ensures { IfOk result HasItsData }
+{
     match line {
         b"idle" => Ok(without_data(alloc, Reply::Idle)),
         b"done" => Ok(without_data(alloc, Reply::FaultTaken)),
@@ -93,20 +99,27 @@ fn candidate(alloc: Global, line: &[u8]) -> Result<ToldReply, ReplyFault> {
     }
 }
 
-fn without_data(alloc: Global, reply: Reply) -> ToldReply {
+fn without_data(alloc: Global, reply: Reply) -> ToldReply
+    requires { data_length reply ≡ 0 }
+    ensures { HasItsData result }
+{
     ToldReply {
         reply,
         bytes: Vec::new(alloc),
     }
 }
 
-fn pending(alloc: Global, run: &[u8]) -> Result<ToldReply, ReplyFault> {
+fn pending(alloc: Global, run: &[u8]) -> Result<ToldReply, ReplyFault>
+    ensures { IfOk result HasItsData }
+{
     let run = run_number(run).ok_or(ReplyFault::Malformed)?;
     Ok(without_data(alloc, Reply::Pending { run }))
 }
 
 /// A completion: the queue, the entry, and the data where there is any.
-fn complete(alloc: Global, words: &[u8]) -> Result<ToldReply, ReplyFault> {
+fn complete(alloc: Global, words: &[u8]) -> Result<ToldReply, ReplyFault>
+    ensures { IfOk result HasItsData }
+{
     let (queue, behind) = cut(words, b' ').ok_or(ReplyFault::Malformed)?;
     let (entry, behind) = behind
         .split_at_checked(ENTRY_DIGITS)

@@ -33,7 +33,7 @@ use Rattle.image_store.proofs.HeaderParts.{header_parts}
 use Rattle.image_store.proofs.LoadedParts.{after_blocks, after_header, after_limits, after_rows, after_total}
 
 -- what fails has failed in the first part, or in the next behind what the first gave
-bind_fails : {X Y : Type 0} (P : LoadFault → Type 0) (read : Result X LoadFault) (next : X → Result Y LoadFault) (fault : LoadFault) → (read >>= next) ≡ Err fault
+pub bind_fails : {X Y : Type 0} (P : LoadFault → Type 0) (read : Result X LoadFault) (next : X → Result Y LoadFault) (fault : LoadFault) → (read >>= next) ≡ Err fault
     → ((first : LoadFault) → read ≡ Err first → P first) → ((x : X) → read ≡ Ok x → next x ≡ Err fault → P fault) → P fault
 bind_fails P (Ok x) next fault e first later = later x refl e
 bind_fails {Y = Y} P (Err found) next fault e first later = subst P (is_this {X = Y} found fault e) (first found refl)
@@ -128,11 +128,11 @@ zones_found zone capacity (suc n) xs fault e =
 abbrev IsOfEnd : LoadFault → Type 0
 IsOfEnd fault = fault ≢ Truncated → fault ≢ Trailing → ⊥
 
-short_if : (test : Bool) (got : Split) (fault : LoadFault) → cond test (Ok got) (Err Truncated) ≡ Err fault → fault ≡ Truncated
+pub short_if : (test : Bool) (got : Split) (fault : LoadFault) → cond test (Ok got) (Err Truncated) ≡ Err fault → fault ≡ Truncated
 short_if true got fault e = absurd cc
 short_if false got fault e = sym (is_this {X = Split} Truncated fault e)
 
-bytes_end : (n : ℕ) (bytes : List ℕ) (fault : LoadFault) → bytes_in n bytes ≡ Err fault → fault ≡ Truncated
+pub bytes_end : (n : ℕ) (bytes : List ℕ) (fault : LoadFault) → bytes_in n bytes ≡ Err fault → fault ≡ Truncated
 bytes_end n bytes fault e = short_if (nat_le n (length bytes)) (take n bytes, drop n bytes) fault e
 
 blocks_end : (block : ℕ) (zs : List CountedZone) (bytes : List ℕ) (fault : LoadFault) → blocks_in block zs bytes ≡ Err fault → fault ≡ Truncated
@@ -170,7 +170,7 @@ bind_pair : (r : Result Header LoadFault) (rest : List ℕ) → (r >>= (λ h. le
 bind_pair (Ok h) rest = refl
 bind_pair (Err first) rest = refl
 
-whole_text : (bytes : List ℕ) → 64 ≤ length bytes → namespace_in bytes ≡ (header_told (take 64 bytes) >>= λ h. after_header h (drop 64 bytes))
+pub whole_text : (bytes : List ℕ) → 64 ≤ length bytes → namespace_in bytes ≡ (header_told (take 64 bytes) >>= λ h. after_header h (drop 64 bytes))
 unfolding namespace_in
 whole_text bytes there =
     ap (λ (r : Result (Header × List ℕ) LoadFault). r >>= λ got. after_header got.0 got.1) (whole_header bytes there)
@@ -189,7 +189,7 @@ version_of front = find (λ version. pointwise (λ a b. a == b) (numbers version
 no_version : (told : Option Version) (bytes : List ℕ) → told ≡ None → (ok_or told Magic >>= header_of bytes) ≡ Err Magic
 no_version told bytes e = ap (λ (v : Option Version). ok_or v Magic >>= header_of bytes) e
 
-unknown : (told : Option Version) (fault : LoadFault) → ok_or told Magic ≡ Err fault → (told ≡ None) × (Magic ≡ fault)
+pub unknown : (told : Option Version) (fault : LoadFault) → ok_or told Magic ≡ Err fault → (told ≡ None) × (Magic ≡ fault)
 unknown None fault e = (refl, is_this {X = Version} Magic fault e)
 unknown (Some version) fault e = absurd cc
 
@@ -229,7 +229,7 @@ take_comm (suc m) zero xs = refl
 take_comm (suc m) (suc n) [] = refl
 take_comm (suc m) (suc n) (x ∷ xs) = ap (λ (ys : List ℕ). x ∷ ys) (take_comm m n xs)
 
-whole_rows : (h : Header) (rest : List ℕ) → h.geometry.zones * 8 ≤ length rest
+pub whole_rows : (h : Header) (rest : List ℕ) → h.geometry.zones * 8 ≤ length rest
     → after_header h rest ≡ (zones_in 0 h.geometry.capacity h.geometry.zones (take (h.geometry.zones * 8) rest) >>= λ zs. after_rows h zs (drop (h.geometry.zones * 8) rest))
 whole_rows h rest there =
     let s = h.geometry in
@@ -244,7 +244,7 @@ whole_rows h rest there =
     pair (Ok zs) behind = refl
     pair (Err first) behind = refl
 
-short_rows : (h : Header) (rest : List ℕ) → length rest < h.geometry.zones * 8 → after_header h rest ≡ Err Truncated
+pub short_rows : (h : Header) (rest : List ℕ) → length rest < h.geometry.zones * 8 → after_header h rest ≡ Err Truncated
 short_rows h rest short =
     ap (λ (r : Result Split LoadFault). r >>= (λ front. zones_in 0 h.geometry.capacity h.geometry.zones front.0 >>= λ zs. let all : Result (List CountedZone × List ℕ) LoadFault = Ok (zs, front.1) in all) >>= λ rows. after_rows h rows.0 rows.1)
     (bytes_short (h.geometry.zones * 8) rest short)
@@ -324,7 +324,7 @@ module _ (bytes other : List ℕ) (there : 64 ≤ length bytes) (longer : length
         | inr short ↦ λ whole alone same. absurd (whole (sym (is_this {X = ZonedNamespace} Truncated fault (sym (short_rows h (drop 64 bytes) short.1) ∙ e))))
       ]
 
-short_text : (bytes : List ℕ) → length bytes < 64 → namespace_in bytes ≡ Err Truncated
+pub short_text : (bytes : List ℕ) → length bytes < 64 → namespace_in bytes ≡ Err Truncated
 unfolding namespace_in
 short_text bytes short =
     ap (λ (r : Result Split LoadFault). r >>= (λ front. header_told front.0 >>= λ h. let all : Result (Header × List ℕ) LoadFault = Ok (h, front.1) in all) >>= λ got. after_header got.0 got.1)

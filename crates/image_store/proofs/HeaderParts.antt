@@ -38,7 +38,7 @@ some_version None version e = absurd cc
 some_version (Some found) version e = ap (λ (v : Version). Some v) (ok_is found version e)
 
 -- numbers that pass the tests of a geometry are those of its shape
-record ArePassed (told s : Shape) : Type 0 where
+pub record ArePassed (told s : Shape) : Type 0 where
   pub same : told ≡ s
   pub known : IsShape told
 
@@ -46,12 +46,12 @@ passed_by : (told s : Shape) (check : Option GeometryFault) → unless_failed (o
 passed_by told s None e = (refl, ok_is told s e)
 passed_by told s (Some first) e = absurd cc
 
-passed : (told s : Shape) → numbers_in told ≡ Ok s → ArePassed told s
+pub passed : (told s : Shape) → numbers_in told ≡ Ok s → ArePassed told s
 passed told s e =
     let p = passed_by told s (first_failed (shape_checks told)) e in
     record { same = p.1; known = shape_is told told (ap (λ (check : Option GeometryFault). unless_failed check told) p.0) }
 
-version_has : (version : Version) (s : Shape) (done : Unit {0}) → version_kept version s ≡ Ok done → Has version s
+pub version_has : (version : Version) (s : Shape) (done : Unit {0}) → version_kept version s ≡ Ok done → Has version s
 version_has version s done e =
     let zones : Option LoadFault = first_failed (demand (nat_le s.zones (numbers version).most_zones) (fault.Header (header_fault.VersionZones version s.zones)) ∷ []) in
     let a = both (has_block version s.block) (fault.Header (header_fault.VersionBlock version s.block)) zones (none_fails (first_failed (version_checks version s)) tt done e) in

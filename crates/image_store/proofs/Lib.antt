@@ -23,4 +23,5 @@ mod OnlyTextsLoad
 mod LoadedNamespaces
 mod CutTexts
 mod FaultPlaces
+mod FirstFaults
 pub mod Proved

@@ -10,4 +10,5 @@ pub mod Reading
 pub mod Streams
 pub mod Loading
 pub mod Laws
+pub mod FirstFault
 pub mod steps

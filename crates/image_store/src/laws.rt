@@ -1,5 +1,6 @@
 //! Laws of the texts of an image. Each function does nothing: what it ensures is the law.
 
+ghost use Rattle.image_store.specs.FirstFault.{FaultIsFirst};
 ghost use Rattle.image_store.specs.Laws.{CutTextsAreTruncated, EachVersionLoads, FaultsAreByPrefix, LastVersionHasAll, LoadedIsNamespace, LongerTextsAreTrailing, OnlyTextsLoad, SavedTextsLoad, ShapesAreTested, UpgradedStandsForTheSame, UpgradingTwiceIsOnce, VersionsAreKnown};
 
 /// What is saved loads again as the same namespace, and so does the text of each version that has its shape.
@@ -35,6 +36,11 @@ pub fn texts_have_one_length()
 /// A text is tested from its front: what stands behind the fault that it is refused with changes nothing of that.
 pub fn faults_are_by_prefix()
     ensures { FaultsAreByPrefix }
+{}
+
+/// The fault that a text is refused with is its first: it is there, and nothing before it is at fault.
+pub fn fault_is_first()
+    ensures { FaultIsFirst }
 {}
 
 /// The tests of a geometry accept each shape that there is, and no other.

@@ -1,1 +1,2 @@
 mod FirstChecks
+pub mod Proved

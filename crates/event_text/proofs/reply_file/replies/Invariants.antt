@@ -1,11 +1,13 @@
 use Rattle.std.proofs.Common.{◌≡◌, ◌+◌, ◌≤◌, ◌++◌, length, map}
 use Rattle.std.specs.Str.Lines.{lines}
-use Rattle.event_text.specs.ReplyFile.{told_text}
+use Rattle.std.specs.List.{All}
+use Rattle.event_text.specs.ReplyFile.{HasItsData, told_text}
 use Rattle.event_text.proofs.reply_file.replies.Given as goal
 
 abbrev pub invariant-loop-rest : goal.invariant-loop-rest
 invariant-loop-rest l = record {
   read : lines l.file ≡ map told_text l.told.items ++ lines l.rest;
+  whole : All HasItsData l.told.items;
   counted : l.number + length l.rest ≤ length l.file + 1;
 }
 
