@@ -12,3 +12,4 @@ pub mod SlotListings
 pub mod Fitting
 pub mod Programs
 pub mod LowestFaults
+pub mod Blanks

@@ -1,13 +1,17 @@
 -- Laws of assembly text.
-use Rattle.std.specs.Prelude.{◌≡◌, ◌<◌, ◌^◌, ℕ, ℤ, FitsSigned, List, [], Option, Some, Ok, Err, ◌⊎◌}
+use Rattle.std.specs.Prelude.{◌≡◌, ◌<◌, ◌^◌, ℕ, ℤ, FitsSigned, List, [], ◌∷◌, ◌++◌, Option, Some, Ok, Err, ◌⊎◌}
+use Rattle.std.specs.Char.{is_ascii}
+use Rattle.std.specs.List.{AllPass}
 use Rattle.std.specs.Int.{w16, w32}
 use Rattle.std.specs.Fmt.{signed_decimal}
 use Rattle.instruction_set.specs.declared.insn.Insn.{Insn}
 use Rattle.instruction_set.specs.Program.{IsProgram}
 use Rattle.instruction_set.specs.Spelling.{program_bytes}
+use Rattle.text_lines.specs.Laws.{AreBlanks}
 use Rattle.ebpf_asm.specs.declared.fault.AsmFault.{AsmFault}
 use Rattle.ebpf_asm.specs.declared.mnemonic.Mnemonic.{Mnemonic}
 use Rattle.ebpf_asm.specs.Assembly.{assembled, lines_of}
+use Rattle.ebpf_asm.specs.Line.{line_of}
 use Rattle.ebpf_asm.specs.LowestFault.{IsLowestFault}
 use Rattle.ebpf_asm.specs.Mnemonic.{mnemonic_text, mnemonic_named}
 use Rattle.ebpf_asm.specs.Operand.{register_of, immediate_of, wide_of, memory_of}
@@ -46,3 +50,11 @@ AssembledIsProgram =
 -- the fault of a text is that of the lowest line that has one by itself, or where none has, of the lowest that jumps amiss
 abbrev pub FaultIsLowest : Type 0
 FaultIsLowest = (text : List ℕ) (fault : AsmFault) → assembled text ≡ Err fault → IsLowestFault (lines_of text) fault
+
+-- blanks around a line change nothing of what it has (profile)
+abbrev pub BlanksDontCount : Type 0
+BlanksDontCount = (front line back : List ℕ) → AreBlanks front → AreBlanks back → line_of (front ++ (line ++ back)) ≡ line_of line
+
+-- nor does a comment behind it: `;` and whatever ASCII bytes stand behind that on the line (profile)
+abbrev pub CommentsDontCount : Type 0
+CommentsDontCount = (line rest : List ℕ) → AllPass is_ascii rest → line_of (line ++ 59 ∷ rest) ≡ line_of line

@@ -1,6 +1,6 @@
 //! Laws of assembly text. Each function does nothing: what it ensures is the law.
 
-ghost use Rattle.ebpf_asm.specs.Laws.{MnemonicsReadBack, RegistersReadBack, ImmediatesReadBack, WideValuesReadBack, MemoryOperandsReadBack, ListingsAssemble, AssembledIsProgram, FaultIsLowest};
+ghost use Rattle.ebpf_asm.specs.Laws.{MnemonicsReadBack, RegistersReadBack, ImmediatesReadBack, WideValuesReadBack, MemoryOperandsReadBack, ListingsAssemble, AssembledIsProgram, FaultIsLowest, BlanksDontCount, CommentsDontCount};
 
 /// What a text assembles to is nothing, where it has no instructions, or the bytes of a program.
 pub fn assembled_is_program()
@@ -40,4 +40,10 @@ pub fn wide_values_read_back()
 /// Each memory operand is read as it is listed.
 pub fn memory_operands_read_back()
     ensures { MemoryOperandsReadBack }
+{}
+
+/// Blanks around a line, and a comment behind it, change nothing of what the line has.
+pub fn blanks_and_comments_dont_count()
+    ensures blanks { BlanksDontCount }
+    ensures comments { CommentsDontCount }
 {}

@@ -1,0 +1,142 @@
+-- Blanks around a line, and a comment behind it, change nothing.
+use Rattle.std.proofs.Common.{◌≡◌, ℕ, ◌+◌, ◌==◌, suc, not, Bool, true, false, ◌&&◌, cond, List, [], ◌∷◌, ◌++◌, length, take, None, Err, refl, sym, ap, ◌∙◌, arith}
+use Rattle.std.specs.Char.{is_ascii}
+use Rattle.std.specs.List.{list_all, position_or_len}
+use Rattle.std.proofs.lemmas.Bool.Decides.{nat_tests}
+use Rattle.std.proofs.lemmas.List.Folds.{list_all-append}
+use Rattle.std.proofs.lemmas.List.Sums.{list_all-from_AllPass}
+use Rattle.text_lines.specs.Cut.{is_blank_byte, trimmed, uncommented, without_end_blanks, without_first_blanks}
+use Rattle.text_lines.specs.Laws.{AreBlanks}
+use Rattle.ebpf_asm.specs.declared.fault.FaultKind.TheVariants.{NotAscii}
+use Rattle.ebpf_asm.specs.Laws.{BlanksDontCount, CommentsDontCount}
+use Rattle.ebpf_asm.specs.Line.{Line, line_in, line_of}
+
+blank_is_ascii : (b : ℕ) → is_blank_byte b ≡ true → is_ascii b ≡ true
+blank_is_ascii b e = grind (arith, nat_tests)
+
+blank_is_code : (b : ℕ) → is_blank_byte b ≡ true → (b == 59) ≡ false
+blank_is_code b e = grind (arith, nat_tests)
+
+and_true : (b : Bool) → (b && true) ≡ b
+and_true true = refl
+and_true false = refl
+
+-- ---- ASCII
+
+blanks_ascii : (blanks : List ℕ) → AreBlanks blanks → list_all is_ascii blanks ≡ true
+blanks_ascii [] h = refl
+blanks_ascii (b ∷ blanks) h = rw (blank_is_ascii b h.0, blanks_ascii blanks h.1) refl
+
+ascii_before : (xs ys : List ℕ) → list_all is_ascii xs ≡ true → list_all is_ascii (xs ++ ys) ≡ list_all is_ascii ys
+ascii_before xs ys e = list_all-append is_ascii xs ys ∙ ap (λ (b : Bool). b && list_all is_ascii ys) e
+
+ascii_behind : (xs ys : List ℕ) → list_all is_ascii ys ≡ true → list_all is_ascii (xs ++ ys) ≡ list_all is_ascii xs
+ascii_behind xs ys e = list_all-append is_ascii xs ys ∙ ap (λ (b : Bool). list_all is_ascii xs && b) e ∙ and_true (list_all is_ascii xs)
+
+-- ---- comments
+
+abbrev code_length : List ℕ → ℕ
+code_length xs = position_or_len (λ (b : ℕ). b == 59) xs
+
+take_one : (n b : ℕ) (xs : List ℕ) → take (1 + n) (b ∷ xs) ≡ b ∷ take n xs
+take_one n b xs = ap (λ (k : ℕ). take k (b ∷ xs)) (let e : 1 + n ≡ suc n = omega arith in e)
+
+uncommented-cons : (b : ℕ) (xs : List ℕ) (test : Bool) → (b == 59) ≡ test → uncommented (b ∷ xs) ≡ cond test [] (b ∷ uncommented xs)
+uncommented-cons b xs true e = ap (λ (t : Bool). take (cond (not t) (1 + code_length xs) 0) (b ∷ xs)) e
+uncommented-cons b xs false e = ap (λ (t : Bool). take (cond (not t) (1 + code_length xs) 0) (b ∷ xs)) e ∙ take_one (code_length xs) b xs
+
+uncommented-comment : (line rest : List ℕ) → uncommented (line ++ 59 ∷ rest) ≡ uncommented line
+uncommented-comment [] rest = refl
+uncommented-comment (b ∷ line) rest = by (b == 59) refl (uncommented-comment line rest)
+  where
+    by : (test : Bool) → (b == 59) ≡ test → uncommented (line ++ 59 ∷ rest) ≡ uncommented line → uncommented ((b ∷ line) ++ 59 ∷ rest) ≡ uncommented (b ∷ line)
+    by true e later = uncommented-cons b (line ++ 59 ∷ rest) true e ∙ sym (uncommented-cons b line true e)
+    by false e later = uncommented-cons b (line ++ 59 ∷ rest) false e ∙ ap (λ (xs : List ℕ). b ∷ xs) later ∙ sym (uncommented-cons b line false e)
+
+abbrev refused : Line
+refused = record { label = None; insn = Err NotAscii; target = None }
+
+-- a line is what its bytes without comment and blanks are, where all its bytes are ASCII
+same_line : (xs ys : List ℕ) → list_all is_ascii xs ≡ list_all is_ascii ys → trimmed (uncommented xs) ≡ trimmed (uncommented ys) → line_of xs ≡ line_of ys
+unfolding line_of
+same_line xs ys ascii text =
+    ap (λ (t : Bool). cond t (line_in (trimmed (uncommented xs))) refused) ascii
+    ∙ ap (λ (code : List ℕ). cond (list_all is_ascii ys) (line_in code) refused) text
+
+pub comments_dont_count : CommentsDontCount
+comments_dont_count line rest h =
+    same_line (line ++ 59 ∷ rest) line (ascii_behind line (59 ∷ rest) (list_all-from_AllPass is_ascii rest h)) (ap trimmed (uncommented-comment line rest))
+
+-- ---- blanks in front
+
+uncommented-front : (front xs : List ℕ) → AreBlanks front → uncommented (front ++ xs) ≡ front ++ uncommented xs
+uncommented-front [] xs h = refl
+uncommented-front (b ∷ front) xs h = uncommented-cons b (front ++ xs) false (blank_is_code b h.0) ∙ ap (λ (ys : List ℕ). b ∷ ys) (uncommented-front front xs h.1)
+
+first-front : (front xs : List ℕ) → AreBlanks front → without_first_blanks (front ++ xs) ≡ without_first_blanks xs
+first-front [] xs h = refl
+first-front (b ∷ front) xs h = ap (λ (t : Bool). cond t (without_first_blanks (front ++ xs)) (b ∷ (front ++ xs))) h.0 ∙ first-front front xs h.1
+
+-- ---- blanks behind
+
+-- what of the blanks behind a line is no comment
+record AreBehind (line back : List ℕ) : Type 0 where
+  blanks : List ℕ
+  are : AreBlanks blanks
+  stand : uncommented (line ++ back) ≡ uncommented line ++ blanks
+
+uncommented-blanks : (blanks : List ℕ) → AreBlanks blanks → uncommented blanks ≡ blanks
+uncommented-blanks [] h = refl
+uncommented-blanks (b ∷ blanks) h = uncommented-cons b blanks false (blank_is_code b h.0) ∙ ap (λ (ys : List ℕ). b ∷ ys) (uncommented-blanks blanks h.1)
+
+behind : (line back : List ℕ) → AreBlanks back → AreBehind line back
+behind [] back h = record { blanks = back; are = h; stand = uncommented-blanks back h }
+behind (b ∷ line) back h = by (b == 59) refl (behind line back h)
+  where
+    by : (test : Bool) → (b == 59) ≡ test → AreBehind line back → AreBehind (b ∷ line) back
+    by true e later = record {
+      blanks = [];
+      are = tt;
+      stand = uncommented-cons b (line ++ back) true e ∙ sym (ap (λ (ys : List ℕ). ys ++ []) (uncommented-cons b line true e));
+    }
+    by false e later = record {
+      blanks = later.blanks;
+      are = later.are;
+      stand =
+          uncommented-cons b (line ++ back) false e
+          ∙ ap (λ (ys : List ℕ). b ∷ ys) later.stand
+          ∙ sym (ap (λ (ys : List ℕ). ys ++ later.blanks) (uncommented-cons b line false e));
+    }
+
+end-blanks : (blanks : List ℕ) → AreBlanks blanks → without_end_blanks blanks ≡ []
+end-blanks [] h = refl
+end-blanks (b ∷ blanks) h = rw (h.0, end-blanks blanks h.1) refl
+
+end-back : (text back : List ℕ) → AreBlanks back → without_end_blanks (text ++ back) ≡ without_end_blanks text
+end-back [] back h = end-blanks back h
+end-back (b ∷ text) back h = ap (λ (ys : List ℕ). cond (is_blank_byte b && (length ys == 0)) [] (b ∷ ys)) (end-back text back h)
+
+first-blanks : (blanks : List ℕ) → AreBlanks blanks → without_first_blanks blanks ≡ []
+first-blanks [] h = refl
+first-blanks (b ∷ blanks) h = ap (λ (t : Bool). cond t (without_first_blanks blanks) (b ∷ blanks)) h.0 ∙ first-blanks blanks h.1
+
+trimmed-back : (text back : List ℕ) → AreBlanks back → trimmed (text ++ back) ≡ trimmed text
+trimmed-back [] back h = ap without_end_blanks (first-blanks back h)
+trimmed-back (b ∷ text) back h = by (is_blank_byte b) refl (trimmed-back text back h)
+  where
+    trimmed_if : List ℕ → Bool → List ℕ
+    trimmed_if xs t = without_end_blanks (cond t (without_first_blanks xs) (b ∷ xs))
+
+    by : (test : Bool) → is_blank_byte b ≡ test → trimmed (text ++ back) ≡ trimmed text → trimmed ((b ∷ text) ++ back) ≡ trimmed (b ∷ text)
+    by true e later = ap (trimmed_if (text ++ back)) e ∙ later ∙ sym (ap (trimmed_if text) e)
+    by false e later = ap (trimmed_if (text ++ back)) e ∙ end-back (b ∷ text) back h ∙ sym (ap (trimmed_if text) e)
+
+pub blanks_dont_count : BlanksDontCount
+blanks_dont_count front line back in_front at_end =
+    let rest = behind line back at_end in
+    let code : trimmed (uncommented (front ++ (line ++ back))) ≡ trimmed (uncommented line) =
+    ap trimmed (uncommented-front front (line ++ back) in_front)
+    ∙ ap without_end_blanks (first-front front (uncommented (line ++ back)) in_front)
+    ∙ ap trimmed rest.stand
+    ∙ trimmed-back (uncommented line) rest.blanks rest.are in
+    same_line (front ++ (line ++ back)) line (ascii_before front (line ++ back) (blanks_ascii front in_front) ∙ ascii_behind line back (blanks_ascii back at_end)) code
