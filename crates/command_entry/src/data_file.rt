@@ -15,10 +15,10 @@ pub(crate) fn read_data<'a, F: Files>(path: &'a str, files: &mut F) -> Result<Ve
 {
     let data = read(path, files)?;
     if data.is_empty() {
-        return Err(Failure::DataRefused(path, DataFault::Empty));
+        return Err(refused(path, DataFault::Empty));
     }
     if data.len() > MOST_TRANSFER {
-        return Err(Failure::DataRefused(path, DataFault::TooLong));
+        return Err(refused(path, DataFault::TooLong(data.len())));
     }
     Ok(data)
 }
@@ -31,10 +31,14 @@ pub(crate) fn whole_blocks<'a>(
 ) -> Result<BlockCount, Failure<'a>> {
     let size = block.bytes();
     if bytes % size as usize != 0 {
-        return Err(Failure::DataRefused(path, DataFault::NotWholeBlocks(size)));
+        return Err(refused(path, DataFault::NotWholeBlocks { bytes, block: size }));
     }
     match block_count(bytes / size as usize) {
         Some(blocks) => Ok(blocks),
-        None => Err(Failure::DataRefused(path, DataFault::TooLong)),
+        None => Err(refused(path, DataFault::TooLong(bytes))),
     }
+}
+
+fn refused<'a>(path: &'a str, fault: DataFault) -> Failure<'a> {
+    Failure::DataRefused { path, fault }
 }

@@ -128,7 +128,7 @@ fn data_blocks<'a, F: Files>(
 ) -> Result<(BlockCount, Vec<u8>), Failure<'a>>
     ensures { F.made files.new ≡ F.made files.old }
 {
-    let block = block_size(number(matches, BLOCK)? as usize)?;
+    let block = block_size(number(matches, BLOCK)?)?;
     let path = required(matches, DATA);
     let data = read_data(path, files)?;
     let blocks = whole_blocks(path, data.len(), block)?;

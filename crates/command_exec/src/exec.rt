@@ -39,7 +39,7 @@ spaces or tabs, and `;` begins a comment.
   fault ZONE offline          a fault of a zone, which is then lost
 
 QUEUE is from 0 to 65535, RUN from 0 to 255 and ZONE from 0 to 4294967295, in decimal. ENTRY is 64 bytes and DATA any number \
-of bytes, in hexadecimal. Where a line isn't of this form, no event happens.
+of bytes, in hexadecimal. Where a line is not of this form, no event happens.
 
 What is printed, which `explain` says in words:
 
@@ -49,9 +49,9 @@ What is printed, which `explain` says in words:
   done                        a fault was taken
   refused                     a fault was refused
 
-Where a line can't be printed, no later event happens and no later turn is given, and the image is \
-written as those up to then left it. Where anything else fails, the image is as it was: the image or the command file can't be \
-read or is refused, or the new image can't be written. The new image is written beside the old one, as \
+Where a line cannot be printed, no later event happens and no later turn is given, and the image is \
+written as those up to then left it. Where anything else fails, the image is as it was: the image or the command file cannot be \
+read or is refused, or the new image cannot be written. The new image is written beside the old one, as \
 IMAGE.unfinished, and takes its place when it is whole.";
 
 const EXAMPLE: &str = "\

@@ -26,13 +26,13 @@ const LONG_ABOUT: &str = "\
 Says in words what each line that `exec` printed tells: of a completion the queue, the command identifier, \
 the status by its name with a sentence, and what the command gave; and what came of a turn or a fault.
 
-A completion doesn't name its command, and what its dwords 0 and 1 are depends on that: of an append they are \
+A completion does not name its command, and what its dwords 0 and 1 are depends on that: of an append they are \
 an LBA, of a run its records and its blocks. So without --commands both are said. With it each completion is \
 taken for that of the first submission in the command file that has its queue and its command identifier and no \
 completion yet, and is told as that command's, with each zone of a report on a line. This is right where the \
 commands of a queue that wait at the same time have identifiers that differ, as they must have.
 
-Of a file with a line that `exec` doesn't print nothing is explained, and `line LINE refused` tells the lowest.";
+Of a file with a line that `exec` does not print nothing is explained, and `line LINE refused` tells the lowest.";
 
 const EXAMPLE: &str = "\
 Example, in the folder of the sources:
@@ -139,11 +139,11 @@ fn tell_one<O: Write>(
             out,
             "pending {run}: run {run} was admitted, or had a turn, and has turns left"
         ),
-        Reply::Idle => writeln!(out, "idle: a turn for a run that isn't active"),
+        Reply::Idle => writeln!(out, "idle: a turn for a run that is not active"),
         Reply::FaultTaken => writeln!(out, "done: a zone has its fault"),
         Reply::FaultRefused => writeln!(
             out,
-            "refused: a fault of a zone that there isn't, that a run uses, or that is Offline and can't become Read Only"
+            "refused: a fault of a zone that does not exist, that a run uses, or that is Offline and cannot become Read Only"
         ),
     }
 }

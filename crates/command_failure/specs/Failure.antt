@@ -19,7 +19,7 @@ status_of (ImageRefused path fault) = 3
 status_of (AssemblyRefused path refusal) = 3
 status_of (ProgramRefused path refusal) = 3
 status_of (FrameRefused path refusal) = 3
-status_of (DataRefused file fault) = 3
+status_of (DataRefused path fault) = 3
 status_of NotAccepted = 3
 
 -- the exit status of the program: 0 where all was done, else that of the failure

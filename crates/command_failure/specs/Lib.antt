@@ -1,3 +1,4 @@
+pub mod DataFault
 pub mod Failure
 pub mod Lines
 pub mod UserTold

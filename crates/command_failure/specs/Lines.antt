@@ -13,6 +13,8 @@ use Rattle.image_store.specs.Geometry.{geometry_fault_number as geometry_number}
 use Rattle.image_store.specs.Refusal.{fault_of}
 use Rattle.image_store.specs.declared.fault.LoadFault.{LoadFault}
 use Rattle.image_store.specs.declared.refusal.GeometryRefusal.{GeometryRefusal}
+use Rattle.command_failure.specs.DataFault.{data_number}
+use Rattle.command_failure.specs.declared.data_fault.DataFault.{DataFault}
 use Rattle.command_failure.specs.declared.failure.Failure.{Failure}
 use Rattle.command_failure.specs.declared.failure.Failure.TheVariants.{CommandLine, NotText, NotInRange, CannotRead, CannotWrite, CannotPrint, NoMemory, LineRefused, ReplyRefused, GeometryRefused, ImageRefused, AssemblyRefused, ProgramRefused, FrameRefused, DataRefused, NotAccepted}
 
@@ -70,12 +72,12 @@ program_text path refusal =
 abbrev pub frame_text : List ℕ → FrameRefusal → Text
 frame_text path refusal = sentence (path ++ codes ", ") (codes "frame refused " ++ decimal (refused_byte refusal))
 
-abbrev pub data_text : List ℕ → Text
-data_text file = Around (file ++ codes " ") (10 ∷ [])
+abbrev pub data_text : List ℕ → DataFault → Text
+data_text path fault = sentence (path ++ codes ": ") (codes "data refused " ++ decimal (data_number fault))
 
 abbrev pub failure_text : Failure → Text
 failure_text (CommandLine error) = Elsewhere
-failure_text NotText = line (codes "error: a word of the command line isn't text")
+failure_text NotText = line (codes "error: a word of the command line is not text")
 failure_text (NotInRange option word least most) = range_text option.now word.now least most
 failure_text (CannotRead path) = line (codes "cannot read " ++ path.now)
 failure_text (CannotWrite path) = line (codes "cannot write " ++ path.now)
@@ -88,7 +90,7 @@ failure_text (ImageRefused path fault) = image_text path.now fault
 failure_text (AssemblyRefused path refusal) = assembly_text path.now refusal
 failure_text (ProgramRefused path refusal) = program_text path.now refusal
 failure_text (FrameRefused path refusal) = frame_text path.now refusal
-failure_text (DataRefused file fault) = data_text file.now
+failure_text (DataRefused path fault) = data_text path.now fault
 failure_text NotAccepted = Silence
 
 -- a stream grows by some words, with this in front of them and that behind them

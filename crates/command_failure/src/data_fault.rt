@@ -1,17 +1,37 @@
-//! Why the bytes of a file can't be moved by a command.
+//! Why the bytes of a file can't be moved by a command, or are no block.
+
+ghost use Rattle.std.specs.Prelude.{◌≡◌};
+ghost use Rattle.command_failure.specs.DataFault.{data_number};
 
 use nvme_entry::MOST_TRANSFER;
 use thiserror::Error;
 
-/// Why the bytes of a file can't be moved by a command of the device. Its text goes on from the file's name.
+/// Why a file of so many bytes can't be moved by a command of the device, or is no block.
 #[derive(Clone, Copy, Debug, PartialEq, Eq, Error)]
 pub enum DataFault {
-    #[error("has no bytes")]
+    #[error("0 bytes; from 1 to {most} are expected", most = MOST_TRANSFER)]
     Empty,
-    /// It has more bytes than one command moves.
-    #[error("has more than the {most} bytes that a command moves", most = MOST_TRANSFER)]
-    TooLong,
-    /// It isn't whole blocks of so many bytes.
-    #[error("isn't whole blocks of {0} bytes")]
-    NotWholeBlocks(u32),
+    /// They are more than one command moves.
+    #[error("{0} bytes; a command moves at most {most}", most = MOST_TRANSFER)]
+    TooLong(usize),
+    /// They aren't whole blocks.
+    #[error("{bytes} bytes; whole blocks of {block} are expected")]
+    NotWholeBlocks { bytes: usize, block: u32 },
+    /// No block has as many.
+    #[error("{0} bytes; a block has a power of 2 from 512 to 16384")]
+    NotABlock(usize),
+}
+
+impl DataFault {
+    /// The fault's number (profile).
+    pub fn number(self) -> u8
+        ensures { result ≡ data_number self }
+    {
+        match self {
+            DataFault::Empty => 1,
+            DataFault::TooLong(_) => 2,
+            DataFault::NotWholeBlocks { .. } => 3,
+            DataFault::NotABlock(_) => 4,
+        }
+    }
 }

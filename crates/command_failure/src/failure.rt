@@ -72,8 +72,11 @@ pub enum Failure<'a> {
         path: &'a str,
         refusal: FrameRefusal,
     },
-    /// A file isn't what a command can move.
-    DataRefused(&'a str, DataFault),
+    /// A file that is not what a command can move, or no block.
+    DataRefused {
+        path: &'a str,
+        fault: DataFault,
+    },
     /// What a verifier says of a program stands on standard output alone.
     NotAccepted,
 }
@@ -122,7 +125,7 @@ impl<'a> Failure<'a> {
             | Failure::AssemblyRefused { .. }
             | Failure::ProgramRefused { .. }
             | Failure::FrameRefused { .. }
-            | Failure::DataRefused(..)
+            | Failure::DataRefused { .. }
             | Failure::NotAccepted => 3,
         }
     }

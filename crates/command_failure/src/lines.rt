@@ -29,7 +29,7 @@ impl Failure<'_> {
         match self {
             // This text has a line end of its own.
             Failure::CommandLine(error) => write!(out, "{error}"),
-            Failure::NotText => print_line(out, "error: a word of the command line isn't text"),
+            Failure::NotText => print_line(out, "error: a word of the command line is not text"),
             Failure::NotInRange {
                 option,
                 word,
@@ -49,7 +49,7 @@ impl Failure<'_> {
             Failure::AssemblyRefused { path, refusal } => print_assembly(out, path, *refusal),
             Failure::ProgramRefused { path, refusal } => print_program(out, path, *refusal),
             Failure::FrameRefused { path, refusal } => print_frame(out, path, *refusal),
-            Failure::DataRefused(file, fault) => print_data(out, file, *fault),
+            Failure::DataRefused { path, fault } => print_data(out, path, *fault),
             Failure::NotAccepted => Ok(()),
         }
     }
@@ -162,11 +162,17 @@ fn print_frame<W: Write>(out: &mut W, path: &str, refusal: FrameRefusal) -> io::
     )
 }
 
-fn print_data<W: Write>(out: &mut W, file: &str, fault: DataFault) -> io::Result<()>
-    ensures { OnOk result (IsPrinted (data_text file.now) (W.contents out.old) (W.contents out.new)) }
+fn print_data<W: Write>(out: &mut W, path: &str, fault: DataFault) -> io::Result<()>
+    ensures { OnOk result (IsPrinted (data_text path.now fault) (W.contents out.old) (W.contents out.new)) }
 {
-    let words = Words::of(fault);
-    print_words(out, file, " ", words.as_str())
+    let number = fault.number();
+    print_refusal(
+        out,
+        path,
+        ": ",
+        fault,
+        format_args!("data refused {number}"),
+    )
 }
 
 /// Prints a sentence, in which the words of a fault stand behind a file's name and a mark, and a line for programs.

@@ -143,21 +143,19 @@ pub fn not_in_range<'a>(
 /// # Errors
 ///
 /// [`Failure::GeometryRefused`] where no block has as many, as `format` tells it.
-pub fn block_size<'a>(bytes: usize) -> Result<BlockSize, Failure<'a>>
+pub fn block_size<'a>(bytes: u32) -> Result<BlockSize, Failure<'a>>
     ensures same { IfOk result (λ block. block ≡ bytes) }
     ensures most { OnOk result (bytes ≤ LARGEST_BLOCK) }
     ensures told { IfErr result (λ failure. failure ≡ Failure.GeometryRefused (GeometryRefusal.BlockSize bytes)) }
     ensures refused { OnErr result (size_of_bytes bytes ≡ None) }
 {
-    let size = match u32::try_from(bytes) {
-        Ok(bytes) => BlockSize::new(bytes),
-        Err(_) => None,
-    };
-    match size {
+    match BlockSize::new(bytes) {
         Some(size) => {
             let _most = size.bytes();
             Ok(size)
         }
-        None => Err(Failure::GeometryRefused(GeometryRefusal::BlockSize(bytes))),
+        None => Err(Failure::GeometryRefused(GeometryRefusal::BlockSize(
+            bytes as usize,
+        ))),
     }
 }

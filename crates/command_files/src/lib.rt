@@ -13,4 +13,4 @@ pub use counted::Counted;
 pub use disk::{Disk, FileReader, FileWriter};
 pub use files::{FileFault, Files};
 pub use memory_files::{MemoryFiles, MemoryReader, MemoryWriter};
-pub use whole::{cannot_read, cannot_write, read, write};
+pub use whole::{cannot_read, cannot_write, read, size_as_block, write};

@@ -1,11 +1,13 @@
 //! Whole files, and what the user is told of one that fails.
 
-ghost use Rattle.std.specs.Prelude.{◌≡◌, ◌≢◌, IfErr, IfOk, IfSome, OnOk, OnErr};
+ghost use Rattle.std.specs.Prelude.{◌≡◌, ◌≢◌, ◌≤◌, IfErr, IfOk, IfSome, None, OnOk, OnErr};
+ghost use Rattle.program_interface.specs.BlockSize.{block_size as size_of_bytes};
 ghost use Rattle.command_files.specs.Made.{then_made};
 ghost use Rattle.command_files.specs.UserTold.{IsUnread, IsUnwritten};
 
 use crate::files::{FileFault, Files};
-use command_failure::Failure;
+use command_failure::{DataFault, Failure};
+use program_interface::{BlockSize, LARGEST_BLOCK};
 
 /// All bytes of a file.
 ///
@@ -38,6 +40,33 @@ pub fn write<'a, F: Files>(path: &'a str, bytes: &[u8], files: &mut F) -> Result
     match files.write(path, bytes) {
         Ok(()) => Ok(()),
         Err(error) => Err(cannot_write(path, error)),
+    }
+}
+
+/// The size of the block that a file of so many bytes is.
+///
+/// # Errors
+///
+/// [`Failure::DataRefused`] with its name where no block has as many.
+pub fn size_as_block<'a>(path: &'a str, bytes: usize) -> Result<BlockSize, Failure<'a>>
+    ensures same { IfOk result (λ block. block ≡ bytes) }
+    ensures most { OnOk result (bytes ≤ LARGEST_BLOCK) }
+    ensures told { IfErr result (λ failure. failure ≡ Failure.DataRefused path.entry (DataFault.NotABlock bytes)) }
+    ensures refused { OnErr result (size_of_bytes bytes ≡ None) }
+{
+    let size = match u32::try_from(bytes) {
+        Ok(bytes) => BlockSize::new(bytes),
+        Err(_) => None,
+    };
+    match size {
+        Some(size) => {
+            let _most = size.bytes();
+            Ok(size)
+        }
+        None => Err(Failure::DataRefused {
+            path,
+            fault: DataFault::NotABlock(bytes),
+        }),
     }
 }
 

@@ -57,7 +57,7 @@ Example: 4 zones of 8 blocks, 6 of them writable, at most 2 of the zones open an
 pub fn subcommand<'a>(alloc: Global) -> Result<Command<'a>, AllocError> {
     let image = Arg::new(alloc, IMAGE)
         .required(true)
-        .help("The image that is written");
+        .help("The image that is written; a file with this name is replaced, with all its data");
     let block = block_option(alloc, BLOCK);
     let zones = count(alloc, ZONES, "N", "The number of zones");
     let size = count(alloc, SIZE, "S", "Blocks of a zone");

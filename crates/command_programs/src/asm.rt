@@ -26,7 +26,7 @@ const LONG_ABOUT: &str = "\
 Assembles text to a program, a file of eBPF instructions (RFC 9669).
 
 A line has an optional label, as `next:`, and an optional instruction: a mnemonic, and operands \
-between commas. `;` begins a comment. Of text that isn't so, `assembly refused LINE REASON` tells the \
+between commas. `;` begins a comment. Of text that is not so, `assembly refused LINE REASON` tells the \
 first fault, and no file is written.";
 
 const EXAMPLE: &str = "\

@@ -97,7 +97,7 @@ impl Refused<'_> {
     ) -> io::Result<()> {
         let number = base.number();
         let Fact::Pointer { area, .. } = self.fact(base) else {
-            return writeln!(out, "r{number} isn't known to be an address");
+            return writeln!(out, "r{number} is not known to be an address");
         };
         let allowed = offsets_allowed(area, self.length(area), offset, size);
         if size == 0 {
@@ -111,7 +111,7 @@ impl Refused<'_> {
     /// How many bytes an emit can take, from its address to the end of the area.
     fn tell_length<O: Write>(&self, out: &mut O) -> io::Result<()> {
         let Fact::Pointer { area, high, .. } = self.fact(Register::R1) else {
-            return writeln!(out, "r1 isn't known to be an address");
+            return writeln!(out, "r1 is not known to be an address");
         };
         let most = bytes_behind(self.length(area), high);
         if most < 1 {

@@ -10,10 +10,8 @@ use crate::sizes::{limit_option, run_sizes};
 use crate::step_lines::{Emitting, tell_cause, tell_changes};
 use clap::{Arg, ArgAction, ArgMatches, Command};
 use command_failure::{Failure, printed};
-use command_files::arguments::{
-    and_argument, block_size, number, option, program_argument, required,
-};
-use command_files::{Files, read};
+use command_files::arguments::{and_argument, number, option, program_argument, required};
+use command_files::{Files, read, size_as_block};
 use instruction_set::Program;
 use interp::{Machine, Step};
 use program_interface::{
@@ -41,7 +39,7 @@ Runs a program on one block, with every check, and prints the slot of each instr
 executes, and then how the run ended:
 
   exit R0 STEPS HEX   by EXIT: R0, the number of steps and what was emitted (- for nothing)
-  trap SLOT CAUSE     at an instruction that can't be done
+  trap SLOT CAUSE     at an instruction that cannot be done
   fuel                after as many steps as it was given
 
   1 the next slot is outside the program
@@ -54,7 +52,7 @@ executes, and then how the run ended:
   8 an emit of no bytes, or over the limit
 
 With --registers each slot has its instruction behind it, and what that changed: the register that it \
-writes, with its word, or for emit how many bytes were emitted, and from where; or why it can't be done.
+writes, with its word, or for emit how many bytes were emitted, and from where; or why it cannot be done.
 
 The block is at LBA 0, the first and only one of its run. Its size is the file's length: a power of 2 \
 from 512 to 16384 bytes. As many may be emitted, where --emit says nothing.";
@@ -118,8 +116,9 @@ pub fn trace<'a, F: Files, O: Write>(
 {
     let asked = asked_for(matches)?;
     let program = read_program(alloc, required(matches, PROGRAM), files)?;
-    let block = read(required(matches, BLOCK), files)?;
-    let sizes = run_sizes(matches, block_size(block.len())?)?;
+    let path = required(matches, BLOCK);
+    let block = read(path, files)?;
+    let sizes = run_sizes(matches, size_as_block(path, block.len())?)?;
     run_asked(alloc, &program, block.as_slice(), sizes, asked, out)
 }
 

@@ -23,7 +23,7 @@ Prints the records of a file of output blocks, each in hexadecimal on a line of 
 
 Programs emit records, which the device packs into whole blocks: each record is a frame, its length \
 in two bytes (the lower one first) and then its bytes. Frames lie from a block's front on, and what \
-lies behind the last is zeros. Of a file with a byte that isn't so, nothing is printed, and \
+lies behind the last is zeros. Of a file with a byte that is not so, nothing is printed, and \
 `frame refused BYTE` tells the lowest such byte.";
 
 const EXAMPLE: &str = "\
@@ -63,21 +63,20 @@ pub fn unpack<'a, F: Files, O: Write>(
 ) -> Result<(), Failure<'a>>
     ensures { F.made files.new ≡ F.made files.old }
 {
-    let block = number(matches, BLOCK)?;
+    let block = block_size(number(matches, BLOCK)?)?;
     let path = required(matches, FILE);
     let file = read(path, files)?;
-    let text = text_of(alloc, path, file.as_slice(), block as usize)?;
+    let text = text_of(alloc, path, file.as_slice(), block)?;
     printed(out.write_all(text.as_bytes()))
 }
 
-/// The lines of the records in a file of output blocks of so many bytes.
+/// The lines of the records in a file of output blocks of this size.
 fn text_of<'a>(
     alloc: Global,
     path: &'a str,
     bytes: &[u8],
-    block: usize,
+    block: BlockSize,
 ) -> Result<String, Failure<'a>> {
-    let block = block_size(block)?;
     let records = records_of(alloc, bytes, block).map_err(|fault| refused(
         path, bytes, block, fault,
     ))?;

@@ -30,11 +30,11 @@ const BLOCK: &str = "block";
 const EXPLAIN: &str = "explain";
 
 const LONG_ABOUT: &str = "\
-Says whether a program is accepted for a block size and a limit of what it may emit on a block:
+Says whether a program is accepted for a block size and a limit of what it may emit for a block:
 
-  accepted N           it is, and has N instructions: on no block does it trap, take more than N \
+  accepted N           it is, and has N instructions: for no block does it trap, take more than N \
 steps, or emit more than E bytes
-  refused SLOT REASON  it isn't: the first slot that fails, and the number of the first reason
+  refused SLOT REASON  it is not: the first slot that fails, and the number of the first reason
 
   1 a jump backward               6 a store outside, or into the context or the block
   2 a jump to no instruction      7 a helper other than 1
@@ -93,7 +93,7 @@ pub fn verify<'a, F: Files, O: Write>(
 {
     let block = number(matches, BLOCK)?;
     let program = read_program(alloc, required(matches, PROGRAM), files)?;
-    let sizes = run_sizes(matches, block_size(block as usize)?)?;
+    let sizes = run_sizes(matches, block_size(block)?)?;
     let judgement = judge::<Intervals>(alloc, &program, sizes)?;
     let instructions = program.len();
     match judgement {

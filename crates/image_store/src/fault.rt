@@ -49,7 +49,7 @@ pub enum ZoneRowFault {
 /// Why an image could not be loaded.
 #[derive(Clone, Copy, Debug, PartialEq, Eq, Error)]
 pub enum LoadFault {
-    #[error("the image ends before its last block")]
+    #[error("the file is no whole image: its header, a zone row or a block is cut")]
     Truncated,
     #[error("the first 8 bytes are neither ZNSIMG01 nor ZNSIMG02")]
     Magic,

@@ -116,29 +116,21 @@ const FILES: &[Act] = &[
     Act::Put("short", &[(b"a", 511)]),
     Act::Put("most", &[(b"a", 131_072)]),
     Act::Put("long", &[(b"a", 131_584)]),
-    Act::Fails(
+    Act::Refuses(
         "zscli entry append --lba 8 --data none",
-        3,
-        "",
-        "none has no bytes\n",
+        "none: 0 bytes; from 1 to 131072 are expected\ndata refused 1\n",
     ),
-    Act::Fails(
+    Act::Refuses(
         "zscli entry write --lba 8 --data short",
-        3,
-        "",
-        "short isn't whole blocks of 512 bytes\n",
+        "short: 511 bytes; whole blocks of 512 are expected\ndata refused 3\n",
     ),
-    Act::Fails(
+    Act::Refuses(
         "zscli entry append --lba 8 --data long",
-        3,
-        "",
-        "long has more than the 131072 bytes that a command moves\n",
+        "long: 131584 bytes; a command moves at most 131072\ndata refused 2\n",
     ),
-    Act::Fails(
+    Act::Refuses(
         "zscli entry load --slot 0 --program long --emit 0",
-        3,
-        "",
-        "long has more than the 131072 bytes that a command moves\n",
+        "long: 131584 bytes; a command moves at most 131072\ndata refused 2\n",
     ),
     Act::Fails(
         "zscli entry append --lba 8 --data most --block 513",

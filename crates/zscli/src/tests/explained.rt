@@ -96,12 +96,12 @@ r1 is context + 0",
     Verify(
         "ldxdw r0, [r0+0]\nexit",
         0,
-        "refused 0 5\n   0  ldxdw r0, [r0+0]\na load outside: r0 isn't known to be an address\nr0 is 0",
+        "refused 0 5\n   0  ldxdw r0, [r0+0]\na load outside: r0 is not known to be an address\nr0 is 0",
     ),
     Verify(
         "ldxdw r6, [r2+0]\nldxb r0, [r6+0]\nexit",
         0,
-        "refused 1 5\n   1  ldxb r0, [r6+0]\na load outside: r6 isn't known to be an address\nr6 is any word",
+        "refused 1 5\n   1  ldxb r0, [r6+0]\na load outside: r6 is not known to be an address\nr6 is any word",
     ),
 ];
 
@@ -138,7 +138,7 @@ r2 is 1",
     Verify(
         "mov r1, 0\nmov r2, 1\ncall 1\nexit",
         3,
-        "refused 2 8\n   2  call 1\nan emit from an unknown address: r1 isn't known to be an address\nr1 is 0\nr2 is 1",
+        "refused 2 8\n   2  call 1\nan emit from an unknown address: r1 is not known to be an address\nr1 is 0\nr2 is 1",
     ),
     // No bytes are no frame.
     Verify(

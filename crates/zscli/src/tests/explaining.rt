@@ -181,8 +181,8 @@ queue 1, command 6: an entry that is no command: refused: Invalid Command Opcode
 none that is supported
 done: a zone has its fault
 queue 1, command 3: no submission of the command file waits for it: done; dwords 0 and 1: 0, 0
-refused: a fault of a zone that there isn't, that a run uses, or that is Offline and can't become Read Only
-idle: a turn for a run that isn't active
+refused: a fault of a zone that does not exist, that a run uses, or that is Offline and cannot become Read Only
+idle: a turn for a run that is not active
 pending 3: run 3 was admitted, or had a turn, and has turns left
 queue 2: 16 bytes that are no completion of this device
 ",

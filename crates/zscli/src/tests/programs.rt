@@ -113,7 +113,11 @@ const ASSEMBLED: &[Act] = &[
 
 const TRACED: &[Act] = &[
     Act::Start(MATCHING),
-    Act::Fails("zscli trace events events", 3, "", "geometry refused 1\n"),
+    Act::Put("short", &[(b"a", 100)]),
+    Act::Refuses(
+        "zscli trace events short",
+        "short: 100 bytes; a block has a power of 2 from 512 to 16384\ndata refused 4\n",
+    ),
     Act::Put("block", &[(b"\x07", 1), (b"\0", 511)]),
     Act::Prints(
         "zscli trace events block --emit 10",

@@ -57,12 +57,12 @@ const IMAGES: &[Act] = &[
     Act::Put("g1", &[]),
     Act::Refuses(
         "zscli exec g1 missing",
-        "g1: the image ends before its last block\nimage refused 10\n",
+        "g1: the file is no whole image: its header, a zone row or a block is cut\nimage refused 10\n",
     ),
     Act::Put("g1", &[(MAGIC, 1), (NUMBERS, 1), (EMPTY_ZONE, 3)]),
     Act::Refuses(
         "zscli zones g1",
-        "g1: the image ends before its last block\nimage refused 10\n",
+        "g1: the file is no whole image: its header, a zone row or a block is cut\nimage refused 10\n",
     ),
     Act::Put("g1", &[(b"ZNSIMG03", 1), (NUMBERS, 1), (EMPTY_ZONE, 4)]),
     Act::Refuses(
