@@ -1,4 +1,4 @@
-# The least nanoseconds that a command takes in so many rounds.
+# Sourced with `rounds` set. `best`: the least nanoseconds that a command takes in so many rounds.
 best() {
     least=
     for _ in $(seq "$rounds"); do

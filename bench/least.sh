@@ -1,4 +1,4 @@
-# The least number at the front of a line of what a command prints, in eight launches: where the system
+# Sourced. `least`: the least number at the front of a line of what a command prints, in eight launches: where the system
 # puts a program's stack decides how fast it is.
 least() {
     line=$1

@@ -37,18 +37,12 @@ cd "$here/.."
 ./zscli --help > /dev/null
 zscli=crates/zscli/out/zscli
 "$zscli" format "$work/zoned.img" --block 4096 --zones 4 --size 2048 --capacity 2048 --open 4 --active 4
-head -c 131072 /dev/urandom | xxd -p -c 131072 > "$work/data"
-zeros() { printf "%0$1d" 0; }
-# the logical block address is in the lower half of Command Dword 10
+head -c 131072 /dev/urandom > "$work/data"
 for number in $(seq 0 255); do
-    zone=$(printf '%02x%02x' 0 $((number / 64 * 8)))
-    printf 'submit 1 7d00000001000000%s%s0000%s1f000000%s ' "$(zeros 64)" "$zone" "$(zeros 8)" "$(zeros 24)"
-    cat "$work/data"
+    "$zscli" entry append --lba $((number / 64 * 2048)) --data "$work/data" --block 4096
 done > "$work/exec.cmd"
 for number in $(seq 0 255); do
-    first=$((number / 64 * 2048 + number % 64 * 32))
-    lba=$(printf '%02x%02x' $((first % 256)) $((first / 256)))
-    printf 'submit 1 0200000001000000%s%s0000%s1f000000%s\n' "$(zeros 64)" "$lba" "$(zeros 8)" "$(zeros 24)"
+    "$zscli" entry read --lba $((number / 64 * 2048 + number % 64 * 32)) --blocks 32
 done >> "$work/exec.cmd"
 cut -d ' ' -f 4 "$work/exec.cmd" > "$work/hex"
 run_file() {

@@ -34,27 +34,36 @@ END
 cp examples/empty.img "$work/image"
 "$zscli" exec "$work/image" "$work/given/events" > "$work/given/replies"
 
-# Prints an entry with this opcode, identifier, Command Dwords 10 to 15, and data behind it.
-entry() {
-    printf 'submit 1 %s00%s0001000000%064d%s%s%s%s%s%s %s\n' "$1" "$2" 0 "$3" "$4" "$5" "$6" "$7" "$8" "${9-}"
-}
+# a program that adds a block's first byte to a sum, and one that does nothing
+cat > "$work/adding.s" << 'END'
+ldxb r4, [r2+0]
+ldxdw r5, [r3+0]
+add r5, r4
+stxdw [r3+0], r5
+mov r0, 0
+exit
+END
+cat > "$work/nothing.s" << 'END'
+mov r0, 0
+exit
+END
+"$zscli" asm "$work/adding.s" "$work/adding"
+"$zscli" asm "$work/nothing.s" "$work/nothing"
 
-# a block of 7 and zeros; a program that adds its first byte to a sum, which runs; one that does nothing takes its
-# slot, and runs; the results before, between and behind
-zero=00000000
-adding=712400000000000079350000000000000f450000000000007b53000000000000b7000000000000009500000000000000
+# a block of 7 and zeros; the first program, which runs; the other takes its slot, and runs; the results before, between
+# and behind
 {
-    entry 7d 08 $zero $zero $zero $zero $zero $zero "07$(printf '%01022d' 0)"
-    entry 79 09 40000000 $zero $zero 03000000 $zero $zero
-    entry c1 01 $zero $zero 30000000 $zero $zero $zero $adding
-    entry c0 02 $zero $zero $zero $zero 40000000 $zero
+    "$zscli" entry append --lba 0 --data "$work/given/block" --cid 8
+    "$zscli" entry open --lba 64 --cid 9
+    "$zscli" entry load --slot 0 --program "$work/adding" --emit 0 --cid 1
+    "$zscli" entry run --slot 0 --from 0 --blocks 1 --to 64 --cid 2
     echo turn 0
-    entry c2 03 $zero $zero $zero $zero $zero $zero
-    entry c1 07 $zero $zero 10000000 $zero $zero $zero b7000000000000009500000000000000
-    entry c2 04 $zero $zero $zero $zero $zero $zero
-    entry c0 05 $zero $zero $zero $zero 40000000 $zero
+    "$zscli" entry result --slot 0 --cid 3
+    "$zscli" entry load --slot 0 --program "$work/nothing" --emit 0 --cid 7
+    "$zscli" entry result --slot 0 --cid 4
+    "$zscli" entry run --slot 0 --from 0 --blocks 1 --to 64 --cid 5
     echo turn 0
-    entry c2 06 $zero $zero $zero $zero $zero $zero
+    "$zscli" entry result --slot 0 --cid 6
 } > "$work/given/loads"
 
 # Runs the command with these words in a folder with the files, where a call fails: `KIND NUMBER`.
