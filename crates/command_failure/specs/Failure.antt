@@ -5,8 +5,8 @@ use Rattle.command_failure.specs.declared.failure.Failure.TheVariants.{CommandLi
 
 -- the exit status of a failure: 1 for a file or memory, 2 for the command line, 3 for input that is refused
 abbrev pub status_of : Failure → ℕ
-status_of (CannotRead path) = 1
-status_of (CannotWrite path) = 1
+status_of (CannotRead path cause) = 1
+status_of (CannotWrite path cause) = 1
 status_of CannotPrint = 1
 status_of NoMemory = 1
 status_of (CommandLine error) = 2

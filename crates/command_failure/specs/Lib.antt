@@ -1,4 +1,5 @@
 pub mod DataFault
 pub mod Failure
+pub mod FileCause
 pub mod Lines
 pub mod UserTold

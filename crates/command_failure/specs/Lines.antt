@@ -14,8 +14,10 @@ use Rattle.image_store.specs.Refusal.{fault_of}
 use Rattle.image_store.specs.declared.fault.LoadFault.{LoadFault}
 use Rattle.image_store.specs.declared.refusal.GeometryRefusal.{GeometryRefusal}
 use Rattle.command_failure.specs.DataFault.{data_number}
+use Rattle.command_failure.specs.FileCause.{cause_words}
 use Rattle.command_failure.specs.declared.data_fault.DataFault.{DataFault}
 use Rattle.command_failure.specs.declared.failure.Failure.{Failure}
+use Rattle.command_failure.specs.declared.file_cause.FileCause.{FileCause}
 use Rattle.command_failure.specs.declared.failure.Failure.TheVariants.{CommandLine, NotText, NotInRange, CannotRead, CannotWrite, CannotPrint, NoMemory, LineRefused, ReplyRefused, GeometryRefused, ImageRefused, AssemblyRefused, ProgramRefused, FrameRefused, DataRefused, NotAccepted}
 
 -- a text: one that is said here, one around words that another crate has, one that another crate has, or none
@@ -37,6 +39,13 @@ sentence front behind = Around front (10 ∷ behind ++ 10 ∷ [])
 abbrev pub range_text : List ℕ → List ℕ → ℕ → ℕ → Text
 range_text option word least most =
     line (codes "error: '" ++ word ++ codes "' for --" ++ option ++ codes " is not a number from " ++ decimal least ++ codes " to " ++ decimal most)
+
+-- a file that can't be read or written: its name, and why, where that is known
+abbrev pub unread_text : List ℕ → FileCause → Text
+unread_text path cause = line (codes "cannot read " ++ path ++ cause_words cause)
+
+abbrev pub unwritten_text : List ℕ → FileCause → Text
+unwritten_text path cause = line (codes "cannot write " ++ path ++ cause_words cause)
 
 -- a line of a file: what stands in front of why it is refused, and the line for programs
 abbrev pub line_front : List ℕ → ℕ → List ℕ
@@ -79,8 +88,8 @@ abbrev pub failure_text : Failure → Text
 failure_text (CommandLine error) = Elsewhere
 failure_text NotText = line (codes "error: a word of the command line is not text")
 failure_text (NotInRange option word least most) = range_text option.now word.now least most
-failure_text (CannotRead path) = line (codes "cannot read " ++ path.now)
-failure_text (CannotWrite path) = line (codes "cannot write " ++ path.now)
+failure_text (CannotRead path cause) = unread_text path.now cause
+failure_text (CannotWrite path cause) = unwritten_text path.now cause
 failure_text CannotPrint = line (codes "cannot write to standard output")
 failure_text NoMemory = line (codes "no memory")
 failure_text (LineRefused path number fault) = line_text path.now number

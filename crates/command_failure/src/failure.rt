@@ -8,6 +8,7 @@ ghost use Rattle.command_failure.specs.declared.failure.Failure.TheVariants.{NoM
 ghost use Rattle.command_failure.specs.UserTold.{told_of_command_line, told_of_commands, told_of_words};
 
 use crate::data_fault::DataFault;
+use crate::file_cause::FileCause;
 use ebpf_asm::AssemblyRefusal;
 use ebpf_decode::ProgramRefusal;
 use emit_append::FrameRefusal;
@@ -32,9 +33,9 @@ pub enum Failure<'a> {
         most: u64,
     },
     /// The file with this name can't be read.
-    CannotRead(&'a str),
+    CannotRead(&'a str, FileCause),
     /// The file with this name can't be written.
-    CannotWrite(&'a str),
+    CannotWrite(&'a str, FileCause),
     /// Standard output failed.
     CannotPrint,
     /// Memory is wanting.
@@ -113,8 +114,8 @@ impl<'a> Failure<'a> {
         ensures { result ≡ status_of self.now }
     {
         match self {
-            Failure::CannotRead(_)
-            | Failure::CannotWrite(_)
+            Failure::CannotRead(..)
+            | Failure::CannotWrite(..)
             | Failure::CannotPrint
             | Failure::NoMemory => 1,
             Failure::CommandLine(_) | Failure::NotText | Failure::NotInRange { .. } => 2,

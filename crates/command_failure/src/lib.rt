@@ -3,7 +3,9 @@
 
 mod data_fault;
 mod failure;
+mod file_cause;
 mod lines;
 
 pub use data_fault::DataFault;
 pub use failure::{Ending, Failure, conclude, printed};
+pub use file_cause::FileCause;

@@ -2,10 +2,11 @@
 
 ghost use Rattle.std.specs.Prelude.{◌++◌, ◌∷◌, [], codes, decimal, IfSome, OnOk};
 ghost use Rattle.std.specs.Io.KnownBytes.{Appends};
-ghost use Rattle.command_failure.specs.Lines.{IsPrinted, assembly_text, at_line, data_text, frame_text, geometry_text, image_text, line, line_front, line_text, program_text, range_text, reply_text, sentence, failure_text};
+ghost use Rattle.command_failure.specs.Lines.{IsPrinted, assembly_text, at_line, data_text, frame_text, geometry_text, image_text, line, line_front, line_text, program_text, range_text, reply_text, sentence, failure_text, unread_text, unwritten_text};
 
 use crate::data_fault::DataFault;
 use crate::failure::Failure;
+use crate::file_cause::FileCause;
 use ebpf_asm::AssemblyRefusal;
 use ebpf_decode::ProgramRefusal;
 use emit_append::FrameRefusal;
@@ -36,8 +37,8 @@ impl Failure<'_> {
                 least,
                 most,
             } => print_range(out, option, word, *least, *most),
-            Failure::CannotRead(path) => print_line(out, format_args!("cannot read {path}")),
-            Failure::CannotWrite(path) => print_line(out, format_args!("cannot write {path}")),
+            Failure::CannotRead(path, cause) => print_unread(out, path, *cause),
+            Failure::CannotWrite(path, cause) => print_unwritten(out, path, *cause),
             Failure::CannotPrint => print_line(out, "cannot write to standard output"),
             Failure::NoMemory => print_line(out, "no memory"),
             Failure::LineRefused { path, line, fault } => {
@@ -60,6 +61,20 @@ fn print_line<W: Write, D: Display + Drop>(out: &mut W, text: D) -> io::Result<(
     ensures { OnOk result (IfSome (D.output text) (λ text. IsPrinted (line text) (W.contents out.old) (W.contents out.new))) }
 {
     writeln!(out, "{text}")
+}
+
+fn print_unread<W: Write>(out: &mut W, path: &str, cause: FileCause) -> io::Result<()>
+    ensures { OnOk result (IsPrinted (unread_text path.now cause) (W.contents out.old) (W.contents out.new)) }
+{
+    let words = cause.words();
+    print_line(out, format_args!("cannot read {path}{words}"))
+}
+
+fn print_unwritten<W: Write>(out: &mut W, path: &str, cause: FileCause) -> io::Result<()>
+    ensures { OnOk result (IsPrinted (unwritten_text path.now cause) (W.contents out.old) (W.contents out.new)) }
+{
+    let words = cause.words();
+    print_line(out, format_args!("cannot write {path}{words}"))
 }
 
 fn print_range<W: Write>(

@@ -6,6 +6,7 @@ ghost use Rattle.command_files.specs.Made.{Made, then_made};
 ghost use Rattle.command_files.specs.UserTold.{told_of_file};
 ghost use Rattle.command_files.specs.declared.files.FileFault.TheVariants.{Memory};
 
+use command_failure::FileCause;
 use image_store::{Sink, Source};
 use std::alloc::AllocError;
 use std::io::{self, ErrorKind};
@@ -14,7 +15,7 @@ use std::io::{self, ErrorKind};
 #[derive(Clone, Copy, Debug, PartialEq, Eq)]
 pub enum FileFault {
     /// It can't be opened, or reading or writing it failed.
-    Failed,
+    Failed(FileCause),
     /// No memory for what it holds.
     Memory,
 }
@@ -94,7 +95,15 @@ impl From<io::Error> for FileFault {
     fn from(error: io::Error) -> FileFault {
         match error.kind() {
             ErrorKind::OutOfMemory => FileFault::Memory,
-            _ => FileFault::Failed,
+            ErrorKind::NotFound => FileFault::Failed(FileCause::NotFound),
+            ErrorKind::PermissionDenied => FileFault::Failed(FileCause::PermissionDenied),
+            ErrorKind::NotADirectory => FileFault::Failed(FileCause::NotADirectory),
+            ErrorKind::IsADirectory => FileFault::Failed(FileCause::IsADirectory),
+            ErrorKind::ReadOnlyFilesystem => FileFault::Failed(FileCause::ReadOnly),
+            ErrorKind::StorageFull | ErrorKind::QuotaExceeded => {
+                FileFault::Failed(FileCause::NoRoom)
+            }
+            _ => FileFault::Failed(FileCause::Other),
         }
     }
 }

@@ -5,6 +5,7 @@ ghost use Rattle.command_files.specs.Made.{Made};
 ghost use Rattle.command_files.specs.MemoryFiles.{bytes_named, last_named, made_of};
 
 use crate::files::{FileFault, Files};
+use command_failure::FileCause;
 use image_store::{Sink, Source, StreamFault};
 use std::alloc::{AllocError, Global};
 
@@ -104,13 +105,13 @@ impl Files for MemoryFiles {
     ghost contents = { λ memory path. bytes_named memory.files.items path };
 
     fn read(&mut self, path: &str) -> Result<Vec<u8>, FileFault> {
-        let bytes = self.bytes(path).ok_or(FileFault::Failed)?;
+        let bytes = self.bytes(path).ok_or(FileFault::Failed(FileCause::NotFound))?;
         Ok(Vec::from_slice(self.alloc, bytes)?)
     }
 
     fn write(&mut self, path: &str, bytes: &[u8]) -> Result<(), FileFault> {
         if bytes.len() > self.room {
-            return Err(FileFault::Failed);
+            return Err(FileFault::Failed(FileCause::NoRoom));
         }
         Ok(self.put(path, bytes)?)
     }

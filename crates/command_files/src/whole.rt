@@ -3,7 +3,7 @@
 ghost use Rattle.std.specs.Prelude.{◌≡◌, ◌≢◌, ◌≤◌, IfErr, IfOk, IfSome, None, OnOk, OnErr};
 ghost use Rattle.program_interface.specs.BlockSize.{block_size as size_of_bytes};
 ghost use Rattle.command_files.specs.Made.{then_made};
-ghost use Rattle.command_files.specs.UserTold.{IsUnread, IsUnwritten};
+ghost use Rattle.command_files.specs.UserTold.{IsUnread, IsUnwritten, told_unread, told_unwritten};
 
 use crate::files::{FileFault, Files};
 use command_failure::{DataFault, Failure};
@@ -72,26 +72,24 @@ pub fn size_as_block<'a>(path: &'a str, bytes: usize) -> Result<BlockSize, Failu
 
 /// The failure of reading a file.
 pub fn cannot_read<'a>(path: &'a str, error: FileFault) -> Failure<'a>
-    ensures failed { error ≡ FileFault.Failed → result ≡ Failure.CannotRead path.entry }
-    ensures memory { error ≡ FileFault.Memory → result ≡ Failure.NoMemory }
+    ensures told { result ≡ told_unread path.entry error }
     ensures unread { IsUnread path.entry result }
     ensures not_printing { result ≢ Failure.CannotPrint }
 {
     match error {
-        FileFault::Failed => Failure::CannotRead(path),
+        FileFault::Failed(cause) => Failure::CannotRead(path, cause),
         FileFault::Memory => Failure::NoMemory,
     }
 }
 
 /// The failure of writing a file.
 pub fn cannot_write<'a>(path: &'a str, error: FileFault) -> Failure<'a>
-    ensures failed { error ≡ FileFault.Failed → result ≡ Failure.CannotWrite path.entry }
-    ensures memory { error ≡ FileFault.Memory → result ≡ Failure.NoMemory }
+    ensures told { result ≡ told_unwritten path.entry error }
     ensures unwritten { IsUnwritten path.entry result }
     ensures not_printing { result ≢ Failure.CannotPrint }
 {
     match error {
-        FileFault::Failed => Failure::CannotWrite(path),
+        FileFault::Failed(cause) => Failure::CannotWrite(path, cause),
         FileFault::Memory => Failure::NoMemory,
     }
 }

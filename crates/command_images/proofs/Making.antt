@@ -59,7 +59,7 @@ spells_none matches option least most (NotInRange told word low high) is = tt
 spells_none matches option least most _ is = absurd is.0
 
 unwritten_shape : (matches : ArgMatches) (path : Bor (List ℕ)) (failure : Failure) → IsUnwritten path failure → RefusesShape matches failure
-unwritten_shape matches path (CannotWrite told) is = tt
+unwritten_shape matches path (CannotWrite told cause) is = tt
 unwritten_shape matches path NoMemory is = tt
 unwritten_shape matches path _ is = absurd is
 
@@ -70,7 +70,7 @@ shape_of_writing matches path (Err failure) is = unwritten_shape matches path fa
 -- nor is that a refused image
 unwritten_image : (path : Bor (List ℕ)) (known : Option (List ℕ)) (failure : Failure) → IsUnwritten path failure → IfSome known (RefusesImage failure)
 unwritten_image path None failure is = tt
-unwritten_image path (Some bytes) (CannotWrite told) is = tt
+unwritten_image path (Some bytes) (CannotWrite told cause) is = tt
 unwritten_image path (Some bytes) NoMemory is = tt
 unwritten_image path (Some bytes) _ is = absurd is
 

@@ -8,7 +8,7 @@ ghost use Rattle.command_files.specs.UserTold.{IsUnwritten};
 ghost use Rattle.command_images.specs.UserTold.{RefusesImage};
 ghost use Rattle.command_images.specs.steps.Told.{told_of_image};
 
-use command_failure::Failure;
+use command_failure::{Failure, FileCause};
 use command_files::{Files, cannot_read, cannot_write};
 use image_store::{Image, LoadFault};
 use std::alloc::Global;
@@ -40,7 +40,7 @@ fn refused<'a>(path: &'a str, fault: LoadFault) -> Failure<'a>
     ensures { result ≡ told_of_image path.entry fault }
 {
     match fault {
-        LoadFault::Stream => Failure::CannotRead(path),
+        LoadFault::Stream => Failure::CannotRead(path, FileCause::Other),
         LoadFault::Memory => Failure::NoMemory,
         _ => Failure::ImageRefused { path, fault },
     }
@@ -64,7 +64,7 @@ pub fn save<'a, F: Files>(image: &Image, path: &'a str, files: &mut F) -> Result
     };
     if image.save(&mut file).is_err() {
         files.discard(file);
-        return Err(Failure::CannotWrite(path));
+        return Err(Failure::CannotWrite(path, FileCause::Other));
     }
     match files.finish(path, file) {
         Ok(()) => Ok(()),

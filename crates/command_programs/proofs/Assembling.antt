@@ -39,7 +39,7 @@ none_of_fault source path text (Fault fault) _ is found = absurd is
 none_of_fault source path text Memory failure is found = subst (λ (f : Failure). MakesNone source path text f) (sym is) tt
 
 unwritten : (source path : Bor (List ℕ)) (text : List ℕ) (failure : Failure) → IsUnwritten path failure → MakesNone source path text failure
-unwritten source path text (CannotWrite told) is = is
+unwritten source path text (CannotWrite told cause) is = is
 unwritten source path text NoMemory is = tt
 unwritten source path text _ is = absurd is
 
@@ -50,7 +50,7 @@ none_of_writing source path text (Err failure) is = unwritten source path text f
 -- the source file couldn't be read
 pub fails_unread : (contents : List ℕ → Option (List ℕ)) (source : Bor (List ℕ)) (asked named : List ℕ) → source.now ≡ asked
     → (failure : Failure) → IsUnread source failure → AsmFails contents asked named failure
-fails_unread contents source asked named is_asked (CannotRead told) is = ap (λ (b : Bor (List ℕ)). b.now) is ∙ is_asked
+fails_unread contents source asked named is_asked (CannotRead told cause) is = ap (λ (b : Bor (List ℕ)). b.now) is ∙ is_asked
 fails_unread contents source asked named is_asked NoMemory is = tt
 fails_unread contents source asked named is_asked _ is = absurd is
 
@@ -67,7 +67,7 @@ module _ (contents : List ℕ → Option (List ℕ)) (source path : Bor (List �
     ap (λ (b : Bor (List ℕ)). b.now) fails.0 ∙ is_asked,
     subst (λ (s : List ℕ). IfSome (contents s) (λ bytes. assembled bytes ≡ Err refusal.fault)) is_asked (at_fault (contents source.now) text slice refusal.fault slice_is is fails.1),
   )
-  fails_none text slice slice_is is (CannotWrite told) fails = ap (λ (b : Bor (List ℕ)). b.now) fails ∙ is_named
+  fails_none text slice slice_is is (CannotWrite told cause) fails = ap (λ (b : Bor (List ℕ)). b.now) fails ∙ is_named
   fails_none text slice slice_is is NoMemory fails = tt
   fails_none text slice slice_is is _ fails = absurd fails
 

@@ -8,7 +8,7 @@ use Rattle.command_failure.specs.declared.failure.Failure.TheVariants.{NoMemory,
 -- written, or want of memory, and nothing else
 abbrev pub AsmFails : (List ℕ → Option (List ℕ)) → List ℕ → List ℕ → Failure → Type 0
 AsmFails contents source path (AssemblyRefused told refusal) = (told.now ≡ source) × IfSome (contents source) (λ text. assembled text ≡ Err refusal.fault)
-AsmFails contents source path (CannotRead told) = told.now ≡ source
-AsmFails contents source path (CannotWrite told) = told.now ≡ path
+AsmFails contents source path (CannotRead told cause) = told.now ≡ source
+AsmFails contents source path (CannotWrite told cause) = told.now ≡ path
 AsmFails contents source path NoMemory = Unit {0}
 AsmFails contents source path _ = ⊥

@@ -1,6 +1,7 @@
 //! Calls the files of the system, one after another, in the folder that the program runs in, and prints what each gives.
 #![tactic(auto)]
 
+use command_failure::FileCause;
 use command_files::{Disk, FileFault, Files};
 use image_store::{Sink, Source};
 use std::io::{self, Write};
@@ -97,11 +98,11 @@ fn begun<F: Files>(files: &mut F, path: &str) -> Result<F::Writer, FileFault> {
     let mut file = files.begin(path)?;
     match file.write(b"in ") {
         Ok(_) => {}
-        Err(_) => return Err(FileFault::Failed),
+        Err(_) => return Err(FileFault::Failed(FileCause::Other)),
     }
     match file.write(b"pieces") {
         Ok(_) => Ok(file),
-        Err(_) => Err(FileFault::Failed),
+        Err(_) => Err(FileFault::Failed(FileCause::Other)),
     }
 }
 

@@ -7,6 +7,7 @@ use Rattle.image_store.specs.declared.fault.LoadFault.{LoadFault}
 use Rattle.image_store.specs.declared.fault.LoadFault.TheVariants.{Stream, Memory}
 use Rattle.image_store.specs.declared.geometry.GeometryFault.{GeometryFault}
 use Rattle.command_failure.specs.declared.failure.Failure.{Failure}
+use Rattle.command_failure.specs.declared.file_cause.FileCause.TheVariants.{Other}
 use Rattle.command_failure.specs.declared.failure.Failure.TheVariants.{CannotRead, GeometryRefused, ImageRefused, NoMemory}
 
 -- those of the numbers that have the fault
@@ -15,6 +16,6 @@ told_of_geometry fault shape = GeometryRefused (refusal_of fault shape)
 
 -- the fault, but where the stream or memory failed, which says nothing of the file
 abbrev pub told_of_image : Bor (List ℕ) → LoadFault → Failure
-told_of_image path Stream = CannotRead path
+told_of_image path Stream = CannotRead path Other
 told_of_image path Memory = NoMemory
 told_of_image path fault = ImageRefused path fault

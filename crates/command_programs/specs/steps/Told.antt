@@ -21,7 +21,7 @@ IsToldOfAssembly path assembly.Memory failure = failure ≡ NoMemory
 -- why no program is made of a text: its first fault, a file that can't be written, or want of memory
 abbrev pub MakesNone : Bor (List ℕ) → Bor (List ℕ) → List ℕ → Failure → Type 0
 MakesNone source path text (AssemblyRefused told refusal) = (told ≡ source) × (assembled text ≡ Err refusal.fault)
-MakesNone source path text (CannotWrite told) = told ≡ path
+MakesNone source path text (CannotWrite told cause) = told ≡ path
 MakesNone source path text NoMemory = Unit {0}
 MakesNone source path text _ = ⊥
 

@@ -142,7 +142,7 @@ const FILES: &[Act] = &[
         "zscli entry append --lba 8 --data gone",
         1,
         "",
-        "cannot read gone\n",
+        "cannot read gone: no such file or folder\n",
     ),
     Act::Stops(
         "zscli entry append --lba 8 --data most",

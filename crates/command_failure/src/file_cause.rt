@@ -1,0 +1,34 @@
+//! Why a file can't be read or written.
+
+ghost use Rattle.std.specs.Prelude.{◌≡◌};
+ghost use Rattle.command_failure.specs.FileCause.{cause_words};
+
+/// Why a file can't be read or written, as far as the system tells.
+#[derive(Clone, Copy, Debug, PartialEq, Eq)]
+pub enum FileCause {
+    NotFound,
+    PermissionDenied,
+    NotADirectory,
+    IsADirectory,
+    ReadOnly,
+    NoRoom,
+    /// Another one, or none that is told.
+    Other,
+}
+
+impl FileCause {
+    /// What the user is told behind the file's name: nothing of another cause.
+    pub(crate) fn words(self) -> &'static str
+        ensures { result.now ≡ cause_words self }
+    {
+        match self {
+            FileCause::NotFound => ": no such file or folder",
+            FileCause::PermissionDenied => ": permission denied",
+            FileCause::NotADirectory => ": a part of its path is no folder",
+            FileCause::IsADirectory => ": it is a folder",
+            FileCause::ReadOnly => ": the file system is read-only",
+            FileCause::NoRoom => ": no room is left",
+            FileCause::Other => "",
+        }
+    }
+}
