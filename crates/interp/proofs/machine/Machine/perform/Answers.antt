@@ -7,8 +7,8 @@ returns-in-LoadImmediate-clause-answer c program slot = c.perform_load.ensures.a
 pub returns-in-StoreImmediate-clause-answer : goal.returns-in-StoreImmediate-clause-answer
 returns-in-StoreImmediate-clause-answer c program slot = c.perform_store.ensures.answer program c.args.limit slot c.args.group.now
 
-pub returns-in-Arithmetic-clause-answer : goal.returns-in-Arithmetic-clause-answer
-returns-in-Arithmetic-clause-answer c program slot = c.perform_arithmetic.ensures.answer program c.args.limit slot c.args.group.now
+pub returns-in-Negate-clause-answer : goal.returns-in-Negate-clause-answer
+returns-in-Negate-clause-answer c program slot = c.perform_unary.ensures.answer program c.args.limit slot c.args.group.now
 
 pub returns-then-helper-eq-EMIT-clause-answer : goal.returns-then-helper-eq-EMIT-clause-answer
 returns-then-helper-eq-EMIT-clause-answer c program slot =
