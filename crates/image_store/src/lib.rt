@@ -13,8 +13,6 @@ mod memory_streams;
 mod refusal;
 mod save;
 mod streams;
-#[cfg(test)]
-mod tests;
 mod version;
 mod zone_row;
 

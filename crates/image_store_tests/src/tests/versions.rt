@@ -1,7 +1,9 @@
 //! Images of version 1, what is saved of them, and the limits of either version.
 
 use super::{bad_header, changed, fault_of, fault_of_front, written};
-use crate::{Buffer, Geometry, GeometryFault, HeaderFault, Image, Limits, LoadFault, Version};
+use image_store::{
+    Buffer, Geometry, GeometryFault, HeaderFault, Image, Limits, LoadFault, Version,
+};
 use std::alloc::{AllocError, Global};
 use std::test::Fail;
 

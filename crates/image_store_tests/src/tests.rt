@@ -1,6 +1,6 @@
 //! What no clause says: images that were written down byte by byte, and what is told of bytes that are none.
 
-use crate::{
+use image_store::{
     Buffer, Geometry, GeometryFault, GeometryRefusal, HeaderFault, Image, Limits, LoadFault, Sink,
     Version, ZoneRowFault,
 };

@@ -11,7 +11,7 @@ use Rattle.zone_resources.proofs.Proved.{counts_follow_one}
 use Rattle.image_store.specs.ImageInMemory.{no_counted_zone}
 use Rattle.image_store.specs.Geometry.{Shape}
 use Rattle.image_store.specs.Namespace.{counted, counted_zones, zone_at}
-use Rattle.image_store.proofs.tests.an_appended_block_is_saved.Goals as goal
+use Rattle.image_store_tests.proofs.tests.an_appended_block_is_saved.Goals as goal
 
 most_one : (counted : Bool) → one_if counted ≤ 1
 most_one true = omega arith

@@ -1,7 +1,7 @@
 //! Images with one bit changed: each is refused, or is the image that its text says.
 
 use super::changed;
-use crate::{Buffer, Image};
+use image_store::{Buffer, Image};
 use std::alloc::{AllocError, Global};
 use std::process::Abort;
 use std::test::Fail;

@@ -3,7 +3,7 @@
 ghost use Rattle.std.specs.Prelude.{◌≤◌};
 
 use super::written;
-use crate::{Buffer, Image, LoadFault, Sink, Source, StreamFault};
+use image_store::{Buffer, Image, LoadFault, Sink, Source, StreamFault};
 use std::alloc::Global;
 use std::process::Abort;
 use std::test::Fail;
