@@ -18,6 +18,3 @@ pub use assembly::assemble;
 pub use fault::{AsmFault, AssembleFault, FaultKind};
 pub use listing::{disassemble, disassemble_with_slots, instruction_text};
 pub use refusal::AssemblyRefusal;
-
-#[cfg(test)]
-mod tests;

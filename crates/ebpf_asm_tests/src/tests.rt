@@ -1,4 +1,4 @@
-use super::*;
+use ebpf_asm::{AsmFault, AssembleFault, AssemblyRefusal, FaultKind, assemble, disassemble};
 use ebpf_decode::decode;
 use std::alloc::Global;
 use std::process::Abort;
