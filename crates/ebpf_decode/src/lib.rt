@@ -13,6 +13,3 @@ pub use decoding::decode;
 pub use encoding::{encode, push_instruction};
 pub use fault::{DecodeFault, Fault, FaultKind};
 pub use refusal::ProgramRefusal;
-
-#[cfg(test)]
-mod tests;

@@ -1,4 +1,4 @@
-use super::*;
+use ebpf_decode::{DecodeFault, Fault, FaultKind, decode, encode, push_instruction};
 use instruction_set::{Insn, Operation, Register, Size, Source, Width};
 use std::alloc::Global;
 use std::test::Fail;
