@@ -11,8 +11,6 @@ mod read;
 mod receive;
 mod resources;
 mod send;
-#[cfg(test)]
-mod tests;
 mod transfer;
 mod write;
 

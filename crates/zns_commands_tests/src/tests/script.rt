@@ -2,11 +2,14 @@
 
 ghost use Rattle.std.specs.Prelude.{◌≡◌, ◌≤◌, length};
 
-use crate::*;
 use nvme_entry::Completion;
 use std::alloc::Global;
 use std::process::Abort;
 use std::test::Fail;
+use zns_commands::{
+    Answer, BlockCount, DwordCount, FaultState, Geometry, Holds, Image, Limits, MOST_TRANSFER,
+    Namespace, StandardCommand, Status, ZoneFilter,
+};
 use zone_state::{Action, ZoneState};
 
 pub const BLOCK: usize = 512;

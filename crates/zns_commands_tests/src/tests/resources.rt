@@ -1,8 +1,8 @@
 //! The limits on open and active zones, and the zones that give way.
 
 use super::script::*;
-use crate::{FaultState, Holds, Status};
 use std::test::Fail;
+use zns_commands::{FaultState, Holds, Status};
 use zone_state::Action;
 
 #[test]

@@ -1,8 +1,8 @@
 //! What is written, and what is read of it.
 
 use super::script::*;
-use crate::{BlockCount, StandardCommand, Status};
 use std::test::Fail;
+use zns_commands::{BlockCount, StandardCommand, Status};
 
 #[test]
 fn appends_are_answered_and_read(rt: HostRuntime) -> Result<(), Fail> {

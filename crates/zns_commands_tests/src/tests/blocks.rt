@@ -1,8 +1,8 @@
 //! Blocks that an open zone takes without a command.
 
 use super::script::*;
-use crate::*;
 use std::test::Fail;
+use zns_commands::{BlockCount, Holds, MOST_TRANSFER, Namespace, StandardCommand};
 
 /// Writes one block to a zone, if it is open and isn't full.
 fn put(namespace: &mut Namespace, zone: u32, bytes: &[u8]) -> bool {

@@ -1,8 +1,8 @@
 //! Reports of zones.
 
 use super::script::*;
-use crate::{Status, ZoneFilter};
 use std::test::Fail;
+use zns_commands::{Status, ZoneFilter};
 use zone_state::Action;
 
 #[test]

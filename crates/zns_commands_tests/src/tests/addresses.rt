@@ -1,8 +1,8 @@
 //! Addresses at the end of the namespace, which has 32 blocks, and behind it.
 
 use super::script::*;
-use crate::{StandardCommand, Status, ZoneFilter};
 use std::test::Fail;
+use zns_commands::{StandardCommand, Status, ZoneFilter};
 use zone_state::Action;
 
 const PAST: Status = Status::LBA_OUT_OF_RANGE;

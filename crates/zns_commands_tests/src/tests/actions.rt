@@ -1,8 +1,8 @@
 //! Zone send actions and zone faults.
 
 use super::script::*;
-use crate::{FaultState, Status};
 use std::test::Fail;
+use zns_commands::{FaultState, Status};
 use zone_state::Action;
 
 #[test]
