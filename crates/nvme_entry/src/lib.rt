@@ -12,8 +12,6 @@ mod filter;
 pub mod laws;
 mod program_slot;
 mod report;
-#[cfg(test)]
-mod tests;
 
 pub use command::{
     BlockCount, Command, DwordCount, LoadCommand, MOST_TRANSFER, Opcode, RunCommand,

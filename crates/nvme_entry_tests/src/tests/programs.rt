@@ -1,7 +1,7 @@
 //! Entries of the commands for programs.
 
 use super::entry_of;
-use crate::*;
+use nvme_entry::{BlockCount, Command, Entry, LoadCommand, ProgramSlot, RunCommand, Status};
 use std::test::Fail;
 
 #[test]

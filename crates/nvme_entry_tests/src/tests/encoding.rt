@@ -1,7 +1,10 @@
 //! Entries made of commands.
 
 use super::entry_of;
-use crate::*;
+use nvme_entry::{
+    BlockCount, Command, DwordCount, Entry, LoadCommand, ProgramSlot, RunCommand, StandardCommand,
+    ZoneFilter,
+};
 use std::test::Fail;
 use zone_state::Action;
 

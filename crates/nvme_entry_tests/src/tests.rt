@@ -4,7 +4,10 @@ mod encoding;
 mod programs;
 mod reading;
 
-use super::*;
+use nvme_entry::{
+    BlockCount, Command, Completion, DwordCount, Entry, MOST_TRANSFER, Report, StandardCommand,
+    Status, ZoneFilter,
+};
 use std::test::Fail;
 use zone_state::{Action, Zone, ZoneState};
 

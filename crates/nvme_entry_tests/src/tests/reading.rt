@@ -1,7 +1,7 @@
 //! What a host reads back.
 
 use super::zeros_but;
-use crate::*;
+use nvme_entry::{Completion, Status, ZoneDescriptor, zones_told};
 use zone_state::ZoneState;
 
 #[test]
