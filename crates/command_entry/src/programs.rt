@@ -10,7 +10,7 @@ use clap::{Arg, ArgAction, ArgMatches, Command};
 use command_failure::Failure;
 use command_files::Files;
 use command_files::arguments::{
-    and_argument, emit_option, number, option, program_argument, required,
+    EMIT, PROGRAM, and_argument, emit_option, number, option, program_argument, required,
 };
 use nvme_entry::{LoadCommand, RunCommand};
 use std::alloc::{AllocError, Global};
@@ -23,9 +23,8 @@ pub(crate) const RESULT: &str = "result";
 
 const SLOT: &str = "slot";
 
-const PROGRAM: &str = "program";
-
-const EMIT: &str = "emit";
+/// How the program stands among the options of `load`.
+const PROGRAM_OPTION: &str = "program";
 
 const FROM: &str = "from";
 
@@ -37,8 +36,8 @@ const ARGUMENT: &str = "argument";
 
 /// How `load` stands on the command line.
 pub(crate) fn load_command<'a>(alloc: Global) -> Result<Command<'a>, AllocError> {
-    let program = program_argument(alloc, PROGRAM)
-        .long(PROGRAM)
+    let program = program_argument(alloc)
+        .long(PROGRAM_OPTION)
         .value_name("FILE")
         .action(ArgAction::Set);
     let command = Command::new(alloc, LOAD)
@@ -46,7 +45,7 @@ pub(crate) fn load_command<'a>(alloc: Global) -> Result<Command<'a>, AllocError>
         .after_help("Example:\n\n  zscli entry load --slot 0 --program filter.bin --emit 66");
     let command = and_argument(Ok(command), slot_option(alloc));
     let command = and_argument(command, program);
-    let command = and_argument(command, emit_option(alloc, EMIT));
+    let command = and_argument(command, emit_option(alloc));
     and_target(alloc, command)
 }
 

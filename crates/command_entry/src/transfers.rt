@@ -9,7 +9,9 @@ use crate::printing::and_target;
 use clap::{Arg, ArgMatches, Command};
 use command_failure::Failure;
 use command_files::Files;
-use command_files::arguments::{and_argument, block_option, block_size, number, option, required};
+use command_files::arguments::{
+    BLOCK, and_argument, block_option, block_size, number, option, required,
+};
 use nvme_entry::{BlockCount, StandardCommand};
 use std::alloc::{AllocError, Global};
 
@@ -22,8 +24,6 @@ pub(crate) const READ: &str = "read";
 const LBA: &str = "lba";
 
 const DATA: &str = "data";
-
-const BLOCK: &str = "block";
 
 const BLOCKS: &str = "blocks";
 
@@ -74,9 +74,7 @@ fn and_data<'a>(
     let data = option(alloc, DATA, "FILE")
         .required(true)
         .help("The file: whole blocks, at most 131072 bytes");
-    let block = block_option(alloc, BLOCK)
-        .required(false)
-        .default_value("512");
+    let block = block_option(alloc).required(false).default_value("512");
     let command = and_argument(Ok(command), lba_option(alloc, address));
     let command = and_argument(command, data);
     let command = and_argument(command, block);

@@ -11,7 +11,7 @@ use clap::{Arg, ArgMatches, Command};
 use command_failure::Failure;
 use command_files::arguments::{and_argument, required};
 use command_files::{Files, read};
-use command_images::image_file;
+use command_images::image_file::{self, IMAGE};
 use event_text::Lines;
 use runner::{Device, Event, Stopped};
 use std::alloc::{AllocError, Global};
@@ -20,8 +20,6 @@ use zns_commands::{Image, MOST_TRANSFER};
 
 /// The command's name.
 pub const NAME: &str = "exec";
-
-const IMAGE: &str = "IMAGE";
 
 const COMMANDS: &str = "COMMANDS";
 

@@ -2,7 +2,7 @@
 
 use crate::command_words::CommandWords;
 use crate::refusal_words::ReasonWords;
-use crate::report_words::tell_report;
+use crate::report_words::print_report;
 use command_files::Counted;
 use nvme_entry::{Command, Completion, Entry, StandardCommand, Status};
 use std::io::{self, Write};
@@ -19,7 +19,7 @@ pub(crate) enum Answered {
 }
 
 /// Prints what a completion and its data tell of its command.
-pub(crate) fn tell_completion<O: Write>(
+pub(crate) fn print_completion<O: Write>(
     completion: &Completion,
     data: &[u8],
     answered: &Answered,
@@ -29,25 +29,25 @@ pub(crate) fn tell_completion<O: Write>(
     let cid = completion.cid;
     write!(out, "queue {queue}, command {cid}: ")?;
     match answered {
-        Answered::Unnamed => tell_unnamed(completion, data, out),
+        Answered::Unnamed => print_unnamed(completion, data, out),
         Answered::NotThere => {
             write!(out, "no submission of the command file waits for it: ")?;
-            tell_unnamed(completion, data, out)
+            print_unnamed(completion, data, out)
         }
         Answered::Submitted(entry) => match Entry::decode(entry) {
-            Ok(command) => tell_of_command(completion, data, &command, out),
+            Ok(command) => print_of_command(completion, data, &command, out),
             Err(_) => {
                 write!(out, "an entry that is no command: ")?;
-                tell_unnamed(completion, data, out)
+                print_unnamed(completion, data, out)
             }
         },
     }
 }
 
 /// Prints what is certain whatever the command is.
-fn tell_unnamed<O: Write>(completion: &Completion, data: &[u8], out: &mut O) -> io::Result<()> {
+fn print_unnamed<O: Write>(completion: &Completion, data: &[u8], out: &mut O) -> io::Result<()> {
     if completion.status != Status::SUCCESS {
-        return tell_refusal(completion, out);
+        return print_refusal(completion, out);
     }
     let dw0 = completion.dw0;
     let dw1 = completion.dw1;
@@ -69,7 +69,7 @@ fn tell_unnamed<O: Write>(completion: &Completion, data: &[u8], out: &mut O) -> 
 }
 
 /// Prints a command and how it ended.
-fn tell_of_command<O: Write>(
+fn print_of_command<O: Write>(
     completion: &Completion,
     data: &[u8],
     command: &Command,
@@ -78,14 +78,14 @@ fn tell_of_command<O: Write>(
     let words = CommandWords(command);
     write!(out, "{words}: ")?;
     if completion.status != Status::SUCCESS {
-        return tell_refusal(completion, out);
+        return print_refusal(completion, out);
     }
     match command {
         Command::Standard(StandardCommand::Append { .. }) => {
             let lba = first_block(completion);
             writeln!(out, "the first is at LBA {lba}")
         }
-        Command::Standard(StandardCommand::Receive { .. }) => tell_report(data, out),
+        Command::Standard(StandardCommand::Receive { .. }) => print_report(data, out),
         Command::Run(_) => {
             let records = Counted(u64::from(completion.dw0), "record");
             let blocks = Counted(u64::from(completion.dw1), "block");
@@ -101,7 +101,7 @@ fn tell_of_command<O: Write>(
 }
 
 /// Prints why a command was refused.
-fn tell_refusal<O: Write>(completion: &Completion, out: &mut O) -> io::Result<()> {
+fn print_refusal<O: Write>(completion: &Completion, out: &mut O) -> io::Result<()> {
     let status = completion.status;
     write!(out, "refused: {status}")?;
     let dw0 = completion.dw0;

@@ -3,7 +3,7 @@
 ghost use Rattle.std.specs.Prelude.{◌≡◌};
 ghost use Rattle.command_explain.specs.steps.Told.{told_of_replies};
 
-use crate::completion_words::{Answered, tell_completion};
+use crate::completion_words::{Answered, print_completion};
 use crate::waiting::Waiting;
 use clap::{Arg, ArgMatches, Command};
 use command_failure::{Failure, printed};
@@ -80,7 +80,7 @@ pub fn explain<'a, F: Files, O: Write>(
         Some(path) => Some(submissions(alloc, path, files)?),
         None => None,
     };
-    printed(tell(printed_replies.as_slice(), &mut waiting, out))
+    printed(print_replies(printed_replies.as_slice(), &mut waiting, out))
 }
 
 /// The submissions of a command file.
@@ -107,18 +107,18 @@ fn no_replies<'a>(path: &'a str, error: RepliesFault) -> Failure<'a>
 }
 
 /// Prints each reply in words.
-fn tell<O: Write>(
+fn print_replies<O: Write>(
     replies: &[ToldReply],
     waiting: &mut Option<Waiting>,
     out: &mut O,
 ) -> io::Result<()> {
     for told in replies {
-        tell_one(told.reply, told.bytes.as_slice(), waiting, out)?;
+        print_reply(told.reply, told.bytes.as_slice(), waiting, out)?;
     }
     Ok(())
 }
 
-fn tell_one<O: Write>(
+fn print_reply<O: Write>(
     reply: Reply,
     data: &[u8],
     waiting: &mut Option<Waiting>,
@@ -128,7 +128,7 @@ fn tell_one<O: Write>(
         Reply::Complete { queue, entry, .. } => match completion_from(queue, &entry) {
             Some(completion) => {
                 let answered = answered(waiting, &completion);
-                tell_completion(&completion, data, &answered, out)
+                print_completion(&completion, data, &answered, out)
             }
             None => writeln!(
                 out,

@@ -5,13 +5,13 @@ use nvme_entry::{DESCRIPTOR_BYTES, HEADER_BYTES, ZoneDescriptor, zones_told};
 use std::io::{self, Write};
 
 /// Prints what a report tells: how many zones, and on a line each those whose descriptors it has.
-pub(crate) fn tell_report<O: Write>(report: &[u8], out: &mut O) -> io::Result<()> {
+pub(crate) fn print_report<O: Write>(report: &[u8], out: &mut O) -> io::Result<()> {
     match report.split_first_chunk::<HEADER_BYTES>() {
         Some((header, descriptors)) => {
             let told = zones_told(header);
             let zones = Counted(told, "zone");
             writeln!(out, "{zones}")?;
-            tell_zones(told, descriptors, out)
+            print_zones(told, descriptors, out)
         }
         None => {
             let bytes = Counted(report.len() as u64, "byte");
@@ -21,20 +21,20 @@ pub(crate) fn tell_report<O: Write>(report: &[u8], out: &mut O) -> io::Result<()
 }
 
 /// Prints the zones of so many descriptors, or of as many as there are.
-fn tell_zones<O: Write>(told: u64, descriptors: &[u8], out: &mut O) -> io::Result<()> {
+fn print_zones<O: Write>(told: u64, descriptors: &[u8], out: &mut O) -> io::Result<()> {
     let mut rest = descriptors;
     for _zone in 0..told {
         let Some((bytes, behind)) = rest.split_first_chunk::<DESCRIPTOR_BYTES>() else {
             break;
         };
-        tell_zone(bytes, out)?;
+        print_zone(bytes, out)?;
         rest = behind;
     }
     Ok(())
 }
 
 /// Prints a zone. The type and the attributes are those of every descriptor that is read.
-fn tell_zone<O: Write>(bytes: &[u8; DESCRIPTOR_BYTES], out: &mut O) -> io::Result<()> {
+fn print_zone<O: Write>(bytes: &[u8; DESCRIPTOR_BYTES], out: &mut O) -> io::Result<()> {
     let Some(zone) = ZoneDescriptor::decode(bytes) else {
         return writeln!(
             out,

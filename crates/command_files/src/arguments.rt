@@ -13,6 +13,15 @@ use image_store::GeometryRefusal;
 use program_interface::{BlockSize, LARGEST_BLOCK};
 use std::alloc::{AllocError, Global};
 
+/// The option that [`block_option`] describes.
+pub const BLOCK: &str = "block";
+
+/// The option that [`emit_option`] describes.
+pub const EMIT: &str = "emit";
+
+/// The argument that [`program_argument`] describes.
+pub const PROGRAM: &str = "PROGRAM";
+
 /// The option `--NAME LETTER`.
 pub fn option<'a>(alloc: Global, name: &'a str, letter: &'a str) -> Arg<'a> {
     Arg::new(alloc, name)
@@ -22,22 +31,22 @@ pub fn option<'a>(alloc: Global, name: &'a str, letter: &'a str) -> Arg<'a> {
 }
 
 /// The option that gives the bytes of a block, which is required.
-pub fn block_option<'a>(alloc: Global, name: &'a str) -> Arg<'a> {
-    option(alloc, name, "B")
+pub fn block_option<'a>(alloc: Global) -> Arg<'a> {
+    option(alloc, BLOCK, "B")
         .required(true)
         .help("Bytes of a block: a power of 2 from 512 to 16384")
 }
 
 /// The option that gives the most bytes that may be emitted for a block, which is required.
-pub fn emit_option<'a>(alloc: Global, name: &'a str) -> Arg<'a> {
-    option(alloc, name, "E").required(true).help(
+pub fn emit_option<'a>(alloc: Global) -> Arg<'a> {
+    option(alloc, EMIT, "E").required(true).help(
         "The most bytes that may be emitted for a block, two for each record counted: at most a block's",
     )
 }
 
 /// The argument that names the file of a program, which is required.
-pub fn program_argument<'a>(alloc: Global, name: &'a str) -> Arg<'a> {
-    Arg::new(alloc, name)
+pub fn program_argument<'a>(alloc: Global) -> Arg<'a> {
+    Arg::new(alloc, PROGRAM)
         .required(true)
         .help("The program, as instruction bytes")
 }
@@ -154,8 +163,6 @@ pub fn block_size<'a>(bytes: u32) -> Result<BlockSize, Failure<'a>>
             let _most = size.bytes();
             Ok(size)
         }
-        None => Err(Failure::GeometryRefused(GeometryRefusal::BlockSize(
-            bytes as usize,
-        ))),
+        None => Err(Failure::GeometryRefused(GeometryRefusal::BlockSize(bytes as usize))),
     }
 }

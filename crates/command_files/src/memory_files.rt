@@ -105,7 +105,9 @@ impl Files for MemoryFiles {
     ghost contents = { λ memory path. bytes_named memory.files.items path };
 
     fn read(&mut self, path: &str) -> Result<Vec<u8>, FileFault> {
-        let bytes = self.bytes(path).ok_or(FileFault::Failed(FileCause::NotFound))?;
+        let bytes = self
+            .bytes(path)
+            .ok_or(FileFault::Failed(FileCause::NotFound))?;
         Ok(Vec::from_slice(self.alloc, bytes)?)
     }
 

@@ -8,20 +8,16 @@ ghost use Rattle.command_images.specs.Images.{IsAskedFor, MakesEmpty};
 ghost use Rattle.command_images.specs.UserTold.{RefusesShape};
 ghost use Rattle.command_images.specs.steps.Told.{told_of_geometry};
 
-use crate::image_file;
+use crate::image_file::{self, IMAGE};
 use clap::{Arg, ArgMatches, Command};
 use command_failure::Failure;
 use command_files::Files;
-use command_files::arguments::{and_argument, block_option, number, option, required};
+use command_files::arguments::{BLOCK, and_argument, block_option, number, option, required};
 use image_store::{Geometry, GeometryFault, GeometryRefusal, Image, Limits};
 use std::alloc::{AllocError, Global};
 
 /// The command's name.
 pub const NAME: &str = "format";
-
-const IMAGE: &str = "IMAGE";
-
-const BLOCK: &str = "block";
 
 const ZONES: &str = "zones";
 
@@ -55,10 +51,10 @@ Example: 4 zones of 8 blocks, 6 of them writable, at most 2 of the zones open an
 ///
 /// Want of memory.
 pub fn subcommand<'a>(alloc: Global) -> Result<Command<'a>, AllocError> {
-    let image = Arg::new(alloc, IMAGE)
-        .required(true)
-        .help("The image that is written; a file with this name is replaced, with all its data");
-    let block = block_option(alloc, BLOCK);
+    let image = Arg::new(alloc, IMAGE).required(true).help(
+        "The image that is written; a file with this name is replaced, with all its data",
+    );
+    let block = block_option(alloc);
     let zones = count(alloc, ZONES, "N", "The number of zones");
     let size = count(alloc, SIZE, "S", "Blocks of a zone");
     let capacity = count(alloc, CAPACITY, "C", "Blocks of a zone that can be written");

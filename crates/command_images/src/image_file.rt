@@ -13,6 +13,9 @@ use command_files::{Files, cannot_read, cannot_write};
 use image_store::{Image, LoadFault};
 use std::alloc::Global;
 
+/// The argument that names the file of an image.
+pub const IMAGE: &str = "IMAGE";
+
 /// The image that a file holds.
 ///
 /// # Errors

@@ -6,7 +6,7 @@ ghost use Rattle.command_files.specs.Made.{MakesOne};
 ghost use Rattle.command_images.specs.Images.{MakesAnew};
 ghost use Rattle.command_images.specs.UserTold.{RefusesImage};
 
-use crate::image_file;
+use crate::image_file::{self, IMAGE};
 use clap::{Arg, ArgMatches, Command};
 use command_failure::Failure;
 use command_files::Files;
@@ -15,8 +15,6 @@ use std::alloc::{AllocError, Global};
 
 /// The command's name.
 pub const NAME: &str = "upgrade";
-
-const IMAGE: &str = "IMAGE";
 
 const LONG_ABOUT: &str = "\
 Loads an image, of version 1 or 2, and saves it as version 2 in its place. The namespace is the same: its \

@@ -2,7 +2,7 @@
 
 ghost use Rattle.std.specs.Prelude.{◌≡◌};
 
-use crate::image_file;
+use crate::image_file::{self, IMAGE};
 use clap::{Arg, ArgMatches, Command};
 use command_failure::{Failure, printed};
 use command_files::Files;
@@ -13,8 +13,6 @@ use zone_state::Zone;
 
 /// The command's name.
 pub const NAME: &str = "zones";
-
-const IMAGE: &str = "IMAGE";
 
 const LONG_ABOUT: &str = "\
 Prints the zones of an image, each on a line: its number, its state and how many of its blocks are \

@@ -6,15 +6,13 @@ use crate::program::read_program;
 use clap::{Arg, ArgAction, ArgMatches, Command};
 use command_failure::{Failure, printed};
 use command_files::Files;
-use command_files::arguments::{and_argument, program_argument, required};
+use command_files::arguments::{PROGRAM, and_argument, program_argument, required};
 use ebpf_asm::{disassemble, disassemble_with_slots};
 use std::alloc::{AllocError, Global};
 use std::io::Write;
 
 /// The command's name.
 pub const NAME: &str = "disasm";
-
-const PROGRAM: &str = "PROGRAM";
 
 const SLOTS: &str = "slots";
 
@@ -52,7 +50,7 @@ pub fn subcommand<'a>(alloc: Global) -> Result<Command<'a>, AllocError> {
         .about("Prints a program as assembly text")
         .long_about(LONG_ABOUT)
         .after_help(EXAMPLE);
-    let command = and_argument(Ok(command), program_argument(alloc, PROGRAM));
+    let command = and_argument(Ok(command), program_argument(alloc));
     and_argument(command, slots)
 }
 

@@ -24,26 +24,26 @@ pub(crate) struct Refused<'p> {
 
 impl Refused<'_> {
     /// Prints the reason, and a line for each register that the instruction reads.
-    pub(crate) fn tell<O: Write>(&self, reason: Reason, out: &mut O) -> io::Result<()> {
+    pub(crate) fn print<O: Write>(&self, reason: Reason, out: &mut O) -> io::Result<()> {
         write!(out, "{reason}: ")?;
         match reason {
-            Reason::JumpBack | Reason::JumpOutside => self.tell_target(reason, out)?,
+            Reason::JumpBack | Reason::JumpOutside => self.print_target(reason, out)?,
             Reason::FallsOff => writeln!(out, "no instruction stands behind it")?,
             Reason::WriteToFramePointer => writeln!(out, "a program can only read it")?,
-            Reason::LoadOutside => self.tell_access(out)?,
-            Reason::StoreOutside => self.tell_store(out)?,
-            Reason::UnknownHelper => tell_helper(self.insn, out)?,
-            Reason::EmitAddress => self.tell_address(out)?,
-            Reason::EmitLength => self.tell_length(out)?,
-            Reason::EmitLimit => self.tell_limit(out)?,
+            Reason::LoadOutside => self.print_access(out)?,
+            Reason::StoreOutside => self.print_store(out)?,
+            Reason::UnknownHelper => print_helper(self.insn, out)?,
+            Reason::EmitAddress => self.print_address(out)?,
+            Reason::EmitLength => self.print_length(out)?,
+            Reason::EmitLimit => self.print_limit(out)?,
         }
         let [first, second] = registers_read(self.insn);
-        self.tell_register(first, out)?;
-        self.tell_register(second, out)
+        self.print_register(first, out)?;
+        self.print_register(second, out)
     }
 
     /// Where a jump leads.
-    fn tell_target<O: Write>(&self, reason: Reason, out: &mut O) -> io::Result<()> {
+    fn print_target<O: Write>(&self, reason: Reason, out: &mut O) -> io::Result<()> {
         let distance = self.insn.distance().unwrap_or(0);
         let target = i128::from(Insn::target(self.slot, distance));
         let slots = self.slots as i128;
@@ -57,38 +57,38 @@ impl Refused<'_> {
     }
 
     /// Where the register of an address may point so that all bytes of the access lie in its area.
-    fn tell_access<O: Write>(&self, out: &mut O) -> io::Result<()> {
+    fn print_access<O: Write>(&self, out: &mut O) -> io::Result<()> {
         match self.insn.access() {
-            Some(access) => self.tell_accessed(access, out),
+            Some(access) => self.print_accessed(access, out),
             None => writeln!(out, "of no bytes"),
         }
     }
 
     /// The same of a store, or that the area is one to read.
-    fn tell_store<O: Write>(&self, out: &mut O) -> io::Result<()> {
+    fn print_store<O: Write>(&self, out: &mut O) -> io::Result<()> {
         match self.insn.access() {
             Some(access) => match self.fact(access.base) {
                 Fact::Pointer { area, .. } if !area.is_writable() => {
                     let number = access.base.number();
                     writeln!(out, "r{number} leads to what a program can only read")
                 }
-                _ => self.tell_accessed(access, out),
+                _ => self.print_accessed(access, out),
             },
             None => writeln!(out, "of no bytes"),
         }
     }
 
     /// The address of an emit, which has to lie in an area or at its end.
-    fn tell_address<O: Write>(&self, out: &mut O) -> io::Result<()> {
-        self.tell_allowed(Register::R1, 0, 0, out)
+    fn print_address<O: Write>(&self, out: &mut O) -> io::Result<()> {
+        self.print_allowed(Register::R1, 0, 0, out)
     }
 
-    fn tell_accessed<O: Write>(&self, access: Access, out: &mut O) -> io::Result<()> {
-        self.tell_allowed(access.base, access.offset, access.size, out)
+    fn print_accessed<O: Write>(&self, access: Access, out: &mut O) -> io::Result<()> {
+        self.print_allowed(access.base, access.offset, access.size, out)
     }
 
     /// Where a register may point, so that so many bytes at an offset from there lie in its area.
-    fn tell_allowed<O: Write>(
+    fn print_allowed<O: Write>(
         &self,
         base: Register,
         offset: i16,
@@ -109,7 +109,7 @@ impl Refused<'_> {
     }
 
     /// How many bytes an emit can take, from its address to the end of the area.
-    fn tell_length<O: Write>(&self, out: &mut O) -> io::Result<()> {
+    fn print_length<O: Write>(&self, out: &mut O) -> io::Result<()> {
         let Fact::Pointer { area, high, .. } = self.fact(Register::R1) else {
             return writeln!(out, "r1 is not known to be an address");
         };
@@ -122,7 +122,7 @@ impl Refused<'_> {
     }
 
     /// What the group has with this emit, and what it may have.
-    fn tell_limit<O: Write>(&self, out: &mut O) -> io::Result<()> {
+    fn print_limit<O: Write>(&self, out: &mut O) -> io::Result<()> {
         let (emitted, limit) = (self.facts.emitted as u64, self.sizes.limit());
         let most = self.facts.get(Register::R2).bounds().high;
         let before = Counted(emitted, "byte");
@@ -136,7 +136,7 @@ impl Refused<'_> {
     }
 
     /// A line that says what is known of a register.
-    fn tell_register<O: Write>(&self, register: Option<Register>, out: &mut O) -> io::Result<()> {
+    fn print_register<O: Write>(&self, register: Option<Register>, out: &mut O) -> io::Result<()> {
         match register {
             Some(register) => {
                 let (number, fact) = (register.number(), self.fact(register));
@@ -170,7 +170,7 @@ fn bytes_behind(length: u32, offset: i32) -> i64 {
     i64::from(length) - i64::from(offset)
 }
 
-fn tell_helper<O: Write>(insn: &Insn, out: &mut O) -> io::Result<()> {
+fn print_helper<O: Write>(insn: &Insn, out: &mut O) -> io::Result<()> {
     match *insn {
         Insn::Call { helper } => writeln!(out, "it calls {helper}"),
         _ => writeln!(out, "it calls none"),

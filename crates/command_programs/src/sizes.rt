@@ -4,18 +4,10 @@ ghost use Rattle.std.specs.Prelude.{◌≤◌, codes, IfOk, IfErr};
 ghost use Rattle.clap.specs.Matches.{found_of, first_value};
 ghost use Rattle.command_programs.specs.steps.Sizes.{AreAskedFor, IsLimit, IsOverBlock};
 
-use clap::{Arg, ArgMatches};
+use clap::ArgMatches;
 use command_failure::Failure;
-use command_files::arguments::{emit_option, not_in_range, number_in};
+use command_files::arguments::{EMIT, not_in_range, number_in};
 use program_interface::{BlockSize, RunSizes};
-use std::alloc::Global;
-
-const EMIT: &str = "emit";
-
-/// The option that gives the most bytes that may be emitted for a block.
-pub(crate) fn limit_option<'a>(alloc: Global) -> Arg<'a> {
-    emit_option(alloc, EMIT)
-}
 
 /// Blocks of this size, for each of which at most as many bytes may be emitted as `--emit` says, or all of a block's where
 /// it says nothing.

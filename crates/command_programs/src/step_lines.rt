@@ -44,7 +44,7 @@ impl Emitting {
 }
 
 /// Prints a step that was taken: the slot of its instruction, that, and what it changed.
-pub(crate) fn tell_changes<'a, O: Write>(
+pub(crate) fn print_changes<'a, O: Write>(
     alloc: Global,
     slot: usize,
     insn: &Insn,
@@ -55,7 +55,7 @@ pub(crate) fn tell_changes<'a, O: Write>(
     let text = instruction_text(alloc, insn)?;
     printed(write!(out, "{slot:4}  {text}"))?;
     if let Insn::Call { .. } = *insn {
-        printed(tell_emit(emitting, out))?;
+        printed(print_emit(emitting, out))?;
     }
     if let Some(register) = changed(insn) {
         let (number, word) = (register.number(), machine.register(register));
@@ -65,7 +65,7 @@ pub(crate) fn tell_changes<'a, O: Write>(
 }
 
 /// Prints an instruction that can't be done, behind its slot, and why.
-pub(crate) fn tell_cause<'a, O: Write>(
+pub(crate) fn print_cause<'a, O: Write>(
     alloc: Global,
     slot: usize,
     insn: &Insn,
@@ -77,7 +77,7 @@ pub(crate) fn tell_cause<'a, O: Write>(
 }
 
 /// Prints what was emitted.
-fn tell_emit<O: Write>(emitting: Emitting, out: &mut O) -> io::Result<()> {
+fn print_emit<O: Write>(emitting: Emitting, out: &mut O) -> io::Result<()> {
     let length = Counted(emitting.length, "byte");
     match emitting.place() {
         Some(place) => write!(out, "  emit {length} at {place}"),

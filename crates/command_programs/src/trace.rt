@@ -6,11 +6,13 @@ ghost use Rattle.interp.specs.Machine.{machine_slot, steps_of, group_length};
 ghost use Rattle.program_interface.specs.Context.{context_bytes};
 
 use crate::program::read_program;
-use crate::sizes::{limit_option, run_sizes};
-use crate::step_lines::{Emitting, tell_cause, tell_changes};
+use crate::sizes::run_sizes;
+use crate::step_lines::{Emitting, print_cause, print_changes};
 use clap::{Arg, ArgAction, ArgMatches, Command};
 use command_failure::{Failure, printed};
-use command_files::arguments::{and_argument, number, option, program_argument, required};
+use command_files::arguments::{
+    PROGRAM, and_argument, emit_option, number, option, program_argument, required,
+};
 use command_files::{Files, read, size_as_block};
 use instruction_set::Program;
 use interp::{Machine, Step};
@@ -23,8 +25,6 @@ use std::io::{self, Write};
 
 /// The command's name.
 pub const NAME: &str = "trace";
-
-const PROGRAM: &str = "PROGRAM";
 
 const BLOCK: &str = "BLOCK";
 
@@ -92,9 +92,9 @@ pub fn subcommand<'a>(alloc: Global) -> Result<Command<'a>, AllocError> {
         .about("Runs a program on one block, step by step")
         .long_about(LONG_ABOUT)
         .after_help(EXAMPLE);
-    let command = and_argument(Ok(command), program_argument(alloc, PROGRAM));
+    let command = and_argument(Ok(command), program_argument(alloc));
     let command = and_argument(command, block);
-    let command = and_argument(command, limit_option(alloc).required(false));
+    let command = and_argument(command, emit_option(alloc).required(false));
     let command = and_argument(command, argument);
     let command = and_argument(command, fuel);
     and_argument(command, registers)
@@ -220,21 +220,21 @@ impl Tracer<'_> {
             let slot = machine.slot();
             let emitting = Emitting::by(machine);
             match machine.step(self.program, limit, group) {
-                Step::Next => self.tell(slot, machine, emitting, out)?,
+                Step::Next => self.print_step(slot, machine, emitting, out)?,
                 Step::Exit { r0 } => {
-                    self.tell(slot, machine, emitting, out)?;
+                    self.print_step(slot, machine, emitting, out)?;
                     let steps = machine.steps();
                     let group = hex::encode(self.alloc, &group[..machine.group_len()])?;
-                    return printed(tell_exit(out, r0, steps, group.as_str()));
+                    return printed(print_exit(out, r0, steps, group.as_str()));
                 }
-                Step::Trap { slot, cause } => return self.tell_trap(slot, cause, out),
+                Step::Trap { slot, cause } => return self.print_trap(slot, cause, out),
             }
         }
         printed(writeln!(out, "fuel"))
     }
 
     /// Prints a step that was taken: the slot of its instruction and, if that is asked for, what it changed.
-    fn tell<'a, O: Write>(
+    fn print_step<'a, O: Write>(
         &self,
         slot: usize,
         machine: &Machine<'_>,
@@ -243,7 +243,7 @@ impl Tracer<'_> {
     ) -> Result<(), Failure<'a>> {
         match self.program.at(slot) {
             Some(insn) if self.registers => {
-                tell_changes(self.alloc, slot, insn, machine, emitting, out)
+                print_changes(self.alloc, slot, insn, machine, emitting, out)
             }
             _ => printed(writeln!(out, "{slot}")),
         }
@@ -251,14 +251,14 @@ impl Tracer<'_> {
 
     /// Prints the end of a run by a trap: the slot of the instruction and the cause, and if that is asked for the
     /// instruction before it.
-    fn tell_trap<'a, O: Write>(
+    fn print_trap<'a, O: Write>(
         &self,
         slot: usize,
         cause: Cause,
         out: &mut O,
     ) -> Result<(), Failure<'a>> {
         match self.program.at(slot) {
-            Some(insn) if self.registers => tell_cause(self.alloc, slot, insn, cause, out)?,
+            Some(insn) if self.registers => print_cause(self.alloc, slot, insn, cause, out)?,
             _ => {}
         }
         let number = cause.number();
@@ -267,7 +267,7 @@ impl Tracer<'_> {
 }
 
 /// Prints the end of a run by EXIT, with what it emitted in hexadecimal.
-fn tell_exit<O: Write>(out: &mut O, r0: u64, steps: u64, group: &str) -> io::Result<()> {
+fn print_exit<O: Write>(out: &mut O, r0: u64, steps: u64, group: &str) -> io::Result<()> {
     let group = if group.is_empty() { "-" } else { group };
     writeln!(out, "exit {r0} {steps} {group}")
 }

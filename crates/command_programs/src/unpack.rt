@@ -5,7 +5,7 @@ ghost use Rattle.command_programs.specs.steps.Told.{IsToldOfFrame};
 
 use clap::{Arg, ArgMatches, Command};
 use command_failure::{Failure, printed};
-use command_files::arguments::{and_argument, block_option, block_size, number, required};
+use command_files::arguments::{BLOCK, and_argument, block_option, block_size, number, required};
 use command_files::{Files, read};
 use emit_append::{BlockSize, FrameRefusal, UnpackFault, unpack as records_of};
 use std::alloc::{AllocError, Global};
@@ -15,8 +15,6 @@ use std::io::Write;
 pub const NAME: &str = "unpack";
 
 const FILE: &str = "FILE";
-
-const BLOCK: &str = "block";
 
 const LONG_ABOUT: &str = "\
 Prints the records of a file of output blocks, each in hexadecimal on a line of its own.
@@ -40,7 +38,7 @@ pub fn subcommand<'a>(alloc: Global) -> Result<Command<'a>, AllocError> {
     let file = Arg::new(alloc, FILE)
         .required(true)
         .help("The output blocks");
-    let block = block_option(alloc, BLOCK);
+    let block = block_option(alloc);
     let command = Command::new(alloc, NAME)
         .about("Prints the records of output blocks")
         .long_about(LONG_ABOUT)

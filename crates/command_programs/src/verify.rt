@@ -4,12 +4,13 @@ ghost use Rattle.std.specs.Prelude.{◌≡◌};
 
 use crate::program::read_program;
 use crate::refusal_lines::Refused;
-use crate::sizes::{limit_option, run_sizes};
+use crate::sizes::run_sizes;
 use accepted_programs::{Facts, Refusal};
 use clap::{Arg, ArgAction, ArgMatches, Command};
 use command_failure::{Failure, printed};
 use command_files::arguments::{
-    and_argument, block_option, block_size, number, program_argument, required,
+    BLOCK, PROGRAM, and_argument, block_option, block_size, emit_option, number, program_argument,
+    required,
 };
 use command_files::{Counted, Files};
 use ebpf_asm::instruction_text;
@@ -22,10 +23,6 @@ use verifier::{Judgement, judge};
 
 /// The command's name.
 pub const NAME: &str = "verify";
-
-const PROGRAM: &str = "PROGRAM";
-
-const BLOCK: &str = "block";
 
 const EXPLAIN: &str = "explain";
 
@@ -71,9 +68,9 @@ pub fn subcommand<'a>(alloc: Global) -> Result<Command<'a>, AllocError> {
         .about("Says whether a program is accepted")
         .long_about(LONG_ABOUT)
         .after_help(EXAMPLE);
-    let command = and_argument(Ok(command), program_argument(alloc, PROGRAM));
-    let command = and_argument(command, block_option(alloc, BLOCK));
-    let command = and_argument(command, limit_option(alloc));
+    let command = and_argument(Ok(command), program_argument(alloc));
+    let command = and_argument(command, block_option(alloc));
+    let command = and_argument(command, emit_option(alloc));
     and_argument(command, explain)
 }
 
@@ -99,10 +96,10 @@ pub fn verify<'a, F: Files, O: Write>(
     match judgement {
         Judgement::Accepted { most_emitted } => {
             let explained = matches.get_flag(EXPLAIN).then_some(most_emitted);
-            printed(tell_accepted(instructions, explained, out))
+            printed(print_accepted(instructions, explained, out))
         }
         Judgement::Refused { refusal, facts } => {
-            printed(tell_refused(refusal, out))?;
+            printed(print_refused(refusal, out))?;
             if matches.get_flag(EXPLAIN) {
                 explain_refused(alloc, &program, sizes, refusal, &*facts, out)?;
             }
@@ -112,7 +109,7 @@ pub fn verify<'a, F: Files, O: Write>(
 }
 
 /// Prints that a program of so many instructions is accepted and, if that is asked for, the most that a block can take.
-fn tell_accepted<O: Write>(
+fn print_accepted<O: Write>(
     instructions: usize,
     most_emitted: Option<usize>,
     out: &mut O,
@@ -148,10 +145,10 @@ fn explain_refused<'a, O: Write>(
         facts,
     };
     printed(writeln!(out, "{slot:4}  {text}"))?;
-    printed(refused.tell(reason, out))
+    printed(refused.print(reason, out))
 }
 
-fn tell_refused<O: Write>(refusal: Refusal, out: &mut O) -> io::Result<()> {
+fn print_refused<O: Write>(refusal: Refusal, out: &mut O) -> io::Result<()> {
     let Refusal { slot, reason } = refusal;
     let number = reason.number();
     writeln!(out, "refused {slot} {number}")

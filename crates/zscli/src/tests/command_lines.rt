@@ -6,8 +6,18 @@ use std::test::Fail;
 const ENDS: &[Act] = &[
     Act::Start(b"turn 0"),
     Act::Prints(EXEC, "idle\n"),
-    Act::Fails("zscli exec g1 missing", 1, "", "cannot read missing: no such file or folder\n"),
-    Act::Fails("zscli exec g3 missing", 1, "", "cannot read g3: no such file or folder\n"),
+    Act::Fails(
+        "zscli exec g1 missing",
+        1,
+        "",
+        "cannot read missing: no such file or folder\n",
+    ),
+    Act::Fails(
+        "zscli exec g3 missing",
+        1,
+        "",
+        "cannot read g3: no such file or folder\n",
+    ),
 ];
 
 const USAGE: &[Act] = &[

@@ -199,7 +199,12 @@ const REFUSED: &[Act] = &[
         "",
         "line 2 refused\n",
     ),
-    Act::Fails("zscli explain none", 1, "", "cannot read none: no such file or folder\n"),
+    Act::Fails(
+        "zscli explain none",
+        1,
+        "",
+        "cannot read none: no such file or folder\n",
+    ),
     Act::Tells("zscli explain", 2),
     Act::Put("replies", &[(b"idle\ndone\nturn 0\nrefused 1\n", 1)]),
     Act::Refuses(

@@ -107,7 +107,12 @@ const LEFT: &[Act] = &[
     Act::Start(b"fault 0 offline\nturn 256"),
     Act::Fails(EXEC, 3, "", "line 2 refused\n"),
     Act::Has("g1", EMPTY_IMAGE),
-    Act::Fails("zscli exec g1 missing", 1, "", "cannot read missing: no such file or folder\n"),
+    Act::Fails(
+        "zscli exec g1 missing",
+        1,
+        "",
+        "cannot read missing: no such file or folder\n",
+    ),
 ];
 
 /// The zone is lost whose line isn't printed, and no later one.

@@ -34,7 +34,12 @@ const FRAMED: Parts = &[(b"\x03\0abc", 1), (b"\0", 507)];
 const LISTED: &[Act] = &[
     Act::Start(MATCHING),
     Act::Prints("zscli disasm events", LISTING),
-    Act::Fails("zscli disasm none", 1, "", "cannot read none: no such file or folder\n"),
+    Act::Fails(
+        "zscli disasm none",
+        1,
+        "",
+        "cannot read none: no such file or folder\n",
+    ),
 ];
 
 /// A wide instruction takes slots 0 and 1.
@@ -108,7 +113,12 @@ const ASSEMBLED: &[Act] = &[
     Act::Prints("zscli asm events made", ""),
     Act::Has("made", &[(MATCHING, 1)]),
     Act::Room(55),
-    Act::Fails("zscli asm events made", 1, "", "cannot write made: no room is left\n"),
+    Act::Fails(
+        "zscli asm events made",
+        1,
+        "",
+        "cannot write made: no room is left\n",
+    ),
 ];
 
 const TRACED: &[Act] = &[
