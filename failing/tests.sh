@@ -1,6 +1,6 @@
 #!/bin/sh
-# Runs each test of the crates with these names, or of those whose calls ask for memory, again and again, and has one
-# request for memory refused each time, a later one with each run. Prints for each crate how many runs ended with an
+# Runs each test of the crates with these names, or of those that test what asks for memory, again and again, and has
+# one request for memory refused each time, a later one with each run. Prints for each crate how many runs ended with an
 # error (status 101), by an assertion (134), since a call answered want of memory, or as they should (0), since the
 # test takes that for an answer. Ends with status 1 where a run was stopped by a fault or did not end.
 set -eu
@@ -30,7 +30,7 @@ series() {
     done
 }
 
-for crate in ${*:-ebpf_decode ebpf_asm image_store emit_append runner}; do
+for crate in ${*:-ebpf_decode_tests ebpf_asm_tests image_store_tests emit_append runner_tests}; do
     (cd "crates/$crate" && rt test) > "$work/log"
     tests=$PWD/crates/$crate/out/${crate}_tests
     : > "$work/ends"
