@@ -5,6 +5,3 @@ mod machine;
 mod memory;
 
 pub use machine::{Exit, Flow, Machine, Step};
-
-#[cfg(test)]
-mod tests;

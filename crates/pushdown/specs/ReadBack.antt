@@ -127,7 +127,7 @@ module _ {D : Type 0} (operations : Operations D) where
         × (BlocksAreRead (state_after operations later after_turn) pointer blocks
         × (unpacked s.namespace.block (concat blocks) ≡ Ok (flat_map (λ group. group) records))))
 
-    -- until the destination is reset, goes offline or is lost
+    -- until the destination is reset or goes offline
     abbrev pub IsReadBack : Type 0
     IsReadBack =
         before < length turns → NoEventClears destination later after_turn
@@ -160,7 +160,7 @@ WrittenIsRead operations =
     → ReadsGive operations s (z * s.namespace.size + at) blocks (bytes_of (take blocks (drop at (blocks_at s z))))
 
 -- what an Append that succeeds put in is read from the address that its completion tells, whatever
--- events happen in between, until the zone is reset, goes offline or is lost
+-- events happen in between, until the zone is reset or goes offline
 abbrev pub AppendsReadBack : {D : Type 0} → Operations D → Type 0
 AppendsReadBack operations =
     (s : State) → IsNamespace s.namespace

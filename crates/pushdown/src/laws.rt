@@ -125,7 +125,7 @@ pub fn uncleared_zones_keep_blocks<D: Domain>()
 {}
 
 /// The data of an Append that succeeds is what a Read of the assigned address gives, whatever events
-/// happen in between, until the zone is reset, goes offline or is lost.
+/// happen in between, until the zone is reset or goes offline.
 pub fn appended_blocks_read_back<D: Domain>()
     ensures { AppendsReadBack D.operations }
 {}
@@ -137,7 +137,7 @@ pub fn written_blocks_read_back<D: Domain>()
 {}
 
 /// What a run has appended is read from where its destination ended at admission, after each of its turns
-/// and whatever events happen then, until the destination is reset, goes offline or is lost. After its last
+/// and whatever events happen then, until the destination is reset or goes offline. After its last
 /// turn the blocks that are read there unpack to the records that its program emitted, in order.
 pub fn appended_by_runs_reads_back<D: Domain>()
     ensures { RunsReadBack D.operations }

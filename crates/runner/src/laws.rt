@@ -44,7 +44,7 @@ pub fn only_loads_change_slots()
 {}
 
 /// What an Append that succeeds puts in is what a Read of the assigned address gives, whatever events happen
-/// in between, until the zone is reset, goes offline or is lost. It holds in every state with a sound
+/// in between, until the zone is reset or goes offline. It holds in every state with a sound
 /// namespace, as those are that events leave.
 pub fn appended_blocks_read_back()
     ensures { AppendsReadBack intervals }

@@ -113,7 +113,7 @@ abbrev pub AreRead : ZonedNamespace → ℕ → ℕ → List ℕ → Type 0
 AreRead ns lba blocks bytes = (holds : Holds) → meaning ns holds (Read lba blocks) [] ≡ success_effect ns 0 bytes
 
 -- what an Append that succeeds put in is read from the address that its completion tells, whatever
--- commands and faults come in between, until the zone is reset, goes offline or is lost
+-- commands and faults come in between, until the zone is reset or goes offline
 abbrev pub AppendedReadsBack : Type 0
 AppendedReadsBack =
     (ns : ZonedNamespace) (holds : Holds) (lba blocks : ℕ) (input : List ℕ) (events : List NamespaceEvent)

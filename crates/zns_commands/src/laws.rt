@@ -38,7 +38,7 @@ pub fn refused_commands_change_nothing()
 {}
 
 /// The data of an Append that succeeds is what a Read of the assigned address gives, whatever commands
-/// and faults come in between, until the zone is reset, goes offline or is lost.
+/// and faults come in between, until the zone is reset or goes offline.
 pub fn appended_blocks_read_back()
     ensures { AppendedReadsBack }
 {}

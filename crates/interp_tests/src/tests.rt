@@ -4,9 +4,9 @@ ghost use Rattle.std.specs.Prelude.{◌≡◌, ◌≤◌, length};
 
 mod vectors;
 
-use crate::{Machine, Step};
 use ebpf_decode::decode;
 use instruction_set::Program;
+use interp::{Machine, Step};
 use program_interface::{Area, LARGEST_BLOCK};
 use program_meaning::{Cause, End};
 use std::alloc::Global;
