@@ -16,7 +16,6 @@ use zone_resources::RUNS;
 use zone_state::{Action, ZoneState};
 
 mod accepting;
-mod actions;
 mod admitting;
 mod draining;
 mod holds;

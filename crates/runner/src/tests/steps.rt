@@ -27,22 +27,12 @@ pub(super) const CLOSE: u32 = 1;
 
 pub(super) const FINISH: u32 = 2;
 
-pub(super) const OPEN: u32 = 3;
-
 pub(super) const RESET: u32 = 4;
-
-pub(super) const OFFLINE: u32 = 5;
 
 /// The same of all zones.
 pub(super) const CLOSE_ALL: u32 = 0x101;
 
-pub(super) const FINISH_ALL: u32 = 0x102;
-
-pub(super) const OPEN_ALL: u32 = 0x103;
-
 pub(super) const RESET_ALL: u32 = 0x104;
-
-pub(super) const OFFLINE_ALL: u32 = 0x105;
 
 /// Statuses as the upper half of a completion's Dword 3 has them, with a phase tag of 0: the code from bit 1 on,
 /// and its type from bit 9 on (NVMe Base 2.0, 3.3.3.2).
@@ -56,15 +46,7 @@ pub(super) const ZONE_BOUNDARY_ERROR: u16 = 0x0370;
 
 pub(super) const ZONE_IS_FULL: u16 = 0x0372;
 
-pub(super) const ZONE_IS_READ_ONLY: u16 = 0x0374;
-
 pub(super) const ZONE_IS_OFFLINE: u16 = 0x0376;
-
-pub(super) const TOO_MANY_ACTIVE_ZONES: u16 = 0x037a;
-
-pub(super) const TOO_MANY_OPEN_ZONES: u16 = 0x037c;
-
-pub(super) const INVALID_TRANSITION: u16 = 0x037e;
 
 /// From here on they are profile.
 pub(super) const ZONE_HELD: u16 = 0x0f80;

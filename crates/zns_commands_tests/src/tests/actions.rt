@@ -19,6 +19,7 @@ fn actions_change_states(rt: HostRuntime) -> Result<(), Fail> {
         Step::Uses(0, 0),
         send(24, Action::Finish, OK),
         send(24, Action::Open, Status::INVALID_ZONE_STATE_TRANSITION),
+        append(24, 1, Status::ZONE_IS_FULL),
         send(25, Action::Reset, Status::INVALID_FIELD_IN_COMMAND),
         send(32, Action::Reset, Status::LBA_OUT_OF_RANGE),
         send(24, Action::Reset, OK),

@@ -15,6 +15,8 @@ fn appends_and_writes_make_room(rt: HostRuntime) -> Result<(), Fail> {
         append(16, 1, OK),
         Step::Leaves([CLOSED, IMPLICIT, IMPLICIT, EMPTY]),
         append(24, 1, Status::TOO_MANY_ACTIVE_ZONES),
+        append(0, 1, OK),
+        Step::Leaves([IMPLICIT, CLOSED, IMPLICIT, EMPTY]),
         // And to a write.
         Step::Begin,
         append(0, 1, OK),
