@@ -1,6 +1,7 @@
 #!/bin/sh
 # Compares the programs in the tests of filters with what clang makes of this folder's files today, for both versions of the
-# instruction set, and of those of spills/. Prints the digits of those that aren't there, and then ends with status 1.
+# instruction set, and of those of spills/ and refused/. Prints the digits of those that aren't there, and then ends with
+# status 1.
 set -eu
 cd "$(dirname "$0")"
 work=$(mktemp -d)
@@ -31,7 +32,9 @@ for version in v2 v3; do
     make -s TO="$work/$version" CPU=$version
     compare $version "$work/$version" ../crates/compiled_filters/src/tests/examples/*.rt
 done
-mkdir "$work/spills"
+mkdir "$work/spills" "$work/refused"
 make -s -C spills TO="$work/spills"
 compare program "$work/spills" ../crates/compiled_filters/src/tests/spills/*.rt
+make -s -C refused TO="$work/refused"
+compare program "$work/refused" ../crates/compiled_filters/src/tests/refused.rt
 exit $status

@@ -3,6 +3,7 @@
 ghost use Rattle.std.specs.Prelude.{◌≡◌, IfOk};
 
 mod examples;
+mod refused;
 mod spills;
 
 use program_interface::{BlockSize, RunSizes};

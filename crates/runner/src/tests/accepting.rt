@@ -16,7 +16,6 @@ mod arithmetic;
 mod domains;
 mod emits;
 mod ends;
-mod from_c;
 mod kept;
 mod rows;
 mod runs;

@@ -114,6 +114,12 @@ const INDICES: &[Row] = &[
         0,
         Accepted(5),
     ),
+    // By any number, which may be zero.
+    Text(
+        "ldxb r6, [r2+0]\nldxw r7, [r1+12]\ndiv r6, r7\nadd r2, r6\nldxb r0, [r2+256]\nexit",
+        0,
+        Accepted(6),
+    ),
     // A division by zero gives 0.
     Text(
         "ldxb r6, [r2+0]\ndiv r6, 0\nadd r2, r6\nldxb r0, [r2+511]\nexit",
