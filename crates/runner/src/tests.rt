@@ -1,56 +1,31 @@
-//! A Load that has memory succeeds, an image is the one of now, and each call on its happy path.
+//! The image of a device while a run goes on, and replies that are handed out with their data.
 
 ghost use Rattle.std.proofs.Common.{◌∙◌, ap, append_assoc, rules};
 ghost use Rattle.std.specs.Prelude.{◌≡◌, ◌≤◌, ◌++◌, length, map};
-ghost use Rattle.nvme_entry.specs.Encoding.{program_length};
 
 use super::*;
-use nvme_entry::{
-    BlockCount, Command, Entry, LoadCommand, ProgramSlot, RunCommand, StandardCommand,
-};
+use programs::EMITTING;
+use scenes::{ALL_EMPTY, FOUR_ZONES, check_steps, check_zones, device_of};
 use std::alloc::Global;
 use std::process::Abort;
 use std::test::Fail;
-use zns_commands::{FaultState, Geometry, Image, Limits, MOST_TRANSFER};
-use zone_resources::RUNS;
-use zone_state::{Action, ZoneState};
+use steps::Expected::{Done, DoneWith, Faulted, Idle, Pending};
+use steps::{Case, Step, bytes_of};
+use zns_commands::{FaultState, MOST_TRANSFER};
+use zone_state::Action;
 
 mod accepting;
 mod admitting;
 mod draining;
 mod holds;
 mod loading;
+mod programs;
 mod refusing;
 mod running;
 mod scenes;
 mod states;
 mod steps;
 mod submissions;
-
-const BLOCK: usize = 512;
-
-/// The blocks of a zone.
-const ZONE: u64 = 8;
-
-/// Emits the first 8 bytes of a block, and returns 0.
-const EMITTING: [u8; 40] = [
-    0xBF, 0x21, 0, 0, 0, 0, 0, 0, 0xB7, 2, 0, 0, 8, 0, 0, 0, 0x85, 0, 0, 0, 1, 0, 0, 0, 0xB7, 0, 0,
-    0, 0, 0, 0, 0, 0x95, 0, 0, 0, 0, 0, 0, 0,
-];
-
-/// The limit of a run that emits 8 bytes with their length.
-const LIMIT: u32 = 10;
-
-/// A device of nine empty zones, which may all be open.
-fn device(rt: &impl Abort, alloc: Global) -> Device {
-    let limits = Limits {
-        open_limit: 9,
-        active_limit: 9,
-    };
-    let geometry = Geometry::new(512, 9, 8, 8, limits).expect(rt, "a geometry");
-    let image = Image::empty(alloc, geometry).expect(rt, "memory");
-    Device::new(alloc, image)
-}
 
 /// Room for the data of a reply.
 fn room(rt: &impl Abort, alloc: Global) -> Vec<u8>
@@ -59,178 +34,36 @@ fn room(rt: &impl Abort, alloc: Global) -> Vec<u8>
     vec![in alloc; 0; MOST_TRANSFER].expect(rt, "memory")
 }
 
-/// A submission of a command to queue 3 under the identifier 5, with the data beside it.
-fn submit(command: Command, input: Vec<u8>) -> Event
-    requires { program_length command ≤ MOST_TRANSFER }
-{
-    Event::Submit {
-        queue: 3,
-        entry: Entry::encode(command, 5),
-        input,
-    }
-}
+/// A run of two blocks up to its last turn.
+const UP_TO_ITS_LAST_TURN: &[Case] = &[
+    (Step::Append(1, 0, "07*1024"), Done(1)),
+    (Step::Send(2, 8, Action::Open), Done(2)),
+    (Step::Load(3, 0, 10, EMITTING), Done(3)),
+    (Step::Run(4, 0, 2, 8), Pending(0)),
+    (Step::Turns(0, 1), Pending(0)),
+];
 
-/// So many blocks, at least one.
-fn count(blocks: u8) -> BlockCount {
-    BlockCount::from_zero_based(u16::from(blocks.saturating_sub(1)))
-}
-
-fn program_slot(rt: &impl Abort, number: u8) -> ProgramSlot {
-    ProgramSlot::new(u32::from(number)).expect(rt, "a program slot")
-}
-
-/// Its completion, with these dwords and so many bytes of data.
-fn success(dw0: u8, dw1: u8, length: usize) -> Reply {
-    Reply::Complete {
-        queue: 3,
-        entry: [dw0, 0, 0, 0, dw1, 0, 0, 0, 0, 0, 3, 0, 5, 0, 0, 0],
-        length,
-    }
-}
-
-/// So many blocks of sevens.
-fn sevens(rt: &impl Abort, alloc: Global, blocks: u8) -> Vec<u8> {
-    vec![in alloc; 7; usize::from(blocks) * BLOCK].expect(rt, "memory")
-}
-
-/// An Append of blocks of sevens to the first zone.
-fn append_blocks(rt: &impl Abort, alloc: Global, blocks: u8) -> Event {
-    let command = StandardCommand::Append {
-        lba: 0,
-        blocks: count(blocks),
-    };
-    submit(Command::Standard(command), sevens(rt, alloc, blocks))
-}
-
-/// An Append of two of them.
-fn append(rt: &impl Abort, alloc: Global) -> Event {
-    append_blocks(rt, alloc, 2)
-}
-
-/// A Write of one block of sevens.
-fn write(rt: &impl Abort, alloc: Global, lba: u64) -> Event {
-    let command = StandardCommand::Write {
-        lba,
-        blocks: count(1),
-    };
-    submit(Command::Standard(command), sevens(rt, alloc, 1))
-}
-
-/// Opens a zone.
-fn open(alloc: Global, zone: u8) -> Event {
-    let command = StandardCommand::Send {
-        lba: u64::from(zone) * ZONE,
-        action: Action::Open,
-        select_all: false,
-    };
-    submit(Command::Standard(command), Vec::new(alloc))
-}
-
-/// Loads the program that emits.
-fn load(rt: &impl Abort, alloc: Global, slot: u8) -> Event {
-    let program = Vec::from_slice(alloc, &EMITTING).expect(rt, "memory");
-    let command = LoadCommand {
-        slot: program_slot(rt, slot),
-        limit: LIMIT,
-        bytes: EMITTING.len() as u32,
-    };
-    submit(Command::Load(command), program)
-}
-
-/// Runs the program of a slot over the two blocks of the first zone, to a zone.
-fn run(rt: &impl Abort, alloc: Global, slot: u8, zone: u8) -> Event {
-    let command = RunCommand {
-        lba: 0,
-        blocks: count(2),
-        slot: program_slot(rt, slot),
-        argument: 0,
-        destination: u64::from(zone) * ZONE,
-    };
-    submit(Command::Run(command), Vec::new(alloc))
-}
-
-/// Reads one block.
-fn read(alloc: Global, lba: u64) -> Event {
-    let command = StandardCommand::Read {
-        lba,
-        blocks: count(1),
-    };
-    submit(Command::Standard(command), Vec::new(alloc))
-}
-
-/// Does events, and compares the reply to each with the one beside it.
-fn compare(rt: &impl Abort, device: &mut Device, output: &mut [u8], steps: &[(Event, Reply)])
-    requires { MOST_TRANSFER ≤ length output.old }
-{
-    for (index, step) in steps.iter().enumerate() {
-        assert_eq!(rt; device.apply(&step.0, output), step.1, "at {index}");
-    }
-}
-
-/// A zone's state, and how many of its blocks are written.
-fn seen(device: &Device, zone: usize) -> Option<(ZoneState, u32)> {
-    let zone = device.image().zones().get(zone)?;
-    Some((zone.state(), zone.written()))
-}
+const FROM_THERE_ON: &[Case] = &[
+    (Step::Turns(0, 1), DoneWith(4, 2, 1)),
+    (Step::Turns(0, 1), Idle),
+    (Step::Read(5, 8, 1, "0800 07*8 0800 07*8 00*492"), Done(5)),
+    (Step::Fault(0, FaultState::ReadOnly), Faulted),
+];
 
 #[test]
-fn a_load_that_has_memory_succeeds(rt: HostRuntime) {
+fn an_image_is_the_one_of_now(rt: HostRuntime) -> Result<(), Fail> {
     let alloc = rt.alloc();
-    let mut device = device(&rt, alloc);
-    let mut data = room(&rt, alloc);
-    let result = submit(Command::Result(program_slot(&rt, 0)), Vec::new(alloc));
-    let steps = [
-        (load(&rt, alloc, 0), success(0, 0, 0)),
-        (result, success(0, 0, 1024)),
-    ];
-    // the result of a program that hasn't run is zeros
-    data[0] = 1;
-    compare(&rt, &mut device, &mut data, &steps);
-    assert!(rt; data.starts_with(&[0; 1024]));
-}
-
-#[test]
-fn an_image_is_the_one_of_now(rt: HostRuntime) {
-    let alloc = rt.alloc();
-    let mut device = device(&rt, alloc);
-    let mut data = room(&rt, alloc);
-    assert_eq!(rt; seen(&device, 0), Some((ZoneState::Empty, 0)));
-    let append = [(append(&rt, alloc), success(0, 0, 0))];
-    compare(&rt, &mut device, &mut data, &append);
-    assert_eq!(rt; seen(&device, 0), Some((ZoneState::ImplicitlyOpened, 2)));
-    let fault = Event::Fault {
-        zone: 0,
-        state: FaultState::ReadOnly,
-    };
-    compare(&rt, &mut device, &mut data, &[(fault, Reply::FaultTaken)]);
-    assert_eq!(rt; seen(&device, 0), Some((ZoneState::ReadOnly, 2)));
-}
-
-#[test]
-fn a_run_takes_a_turn_for_each_block(rt: HostRuntime) {
-    let alloc = rt.alloc();
-    let mut device = device(&rt, alloc);
-    let mut data = room(&rt, alloc);
-    let first = [
-        (append(&rt, alloc), success(0, 0, 0)),
-        (open(alloc, 1), success(0, 0, 0)),
-        (load(&rt, alloc, 0), success(0, 0, 0)),
-        (run(&rt, alloc, 0, 1), Reply::Pending { run: 0 }),
-        (Event::Turn { run: 0 }, Reply::Pending { run: 0 }),
-    ];
-    compare(&rt, &mut device, &mut data, &first);
-    assert_eq!(rt; seen(&device, 1), Some((ZoneState::ExplicitlyOpened, 0)));
-    let last = [
-        (Event::Turn { run: 0 }, success(2, 1, 0)),
-        (Event::Turn { run: 0 }, Reply::Idle),
-        (read(alloc, ZONE), success(0, 0, BLOCK)),
-    ];
-    compare(&rt, &mut device, &mut data, &last);
-    assert_eq!(rt; seen(&device, 1), Some((ZoneState::ExplicitlyOpened, 1)));
-    let frames = [
-        8, 0, 7, 7, 7, 7, 7, 7, 7, 7, 8, 0, 7, 7, 7, 7, 7, 7, 7, 7, 0,
-    ];
-    assert!(rt; data.starts_with(&frames));
+    let mut device = device_of(alloc, &FOUR_ZONES, ALL_EMPTY)?;
+    let mut room = room(&rt, alloc);
+    let data = room.as_mut_slice();
+    let scene = "before its last turn";
+    check_steps(&rt, alloc, &mut device, data, scene, UP_TO_ITS_LAST_TURN)?;
+    let zones = "implicit 2, explicit 0, empty 0, empty 0";
+    check_zones(&rt, alloc, &device, scene, zones)?;
+    let scene = "behind it";
+    check_steps(&rt, alloc, &mut device, data, scene, FROM_THERE_ON)?;
+    let zones = "readonly 2, explicit 1, empty 0, empty 0";
+    check_zones(&rt, alloc, &device, scene, zones)
 }
 
 /// Keeps replies, and refuses those that it has no room or no memory for.
@@ -282,76 +115,52 @@ impl Out for Kept {
     }
 }
 
-/// Compares the replies that were kept with these, also in how much data they have.
-fn compare_kept(rt: &impl Abort, out: &Kept, replies: &[Reply]) {
-    assert_eq!(rt; out.replies.len(), replies.len());
-    for (index, kept) in out.replies.iter().enumerate() {
-        assert_eq!(rt; kept.0, replies[index], "at {index}");
-        assert_eq!(rt; kept.1.len(), kept.0.data_length(), "at {index}");
+/// Events of a run, and what is replied to each.
+const SERVED: &[Case] = &[
+    (Step::Append(1, 0, "07*1024"), Done(1)),
+    (Step::Send(2, 8, Action::Open), Done(2)),
+    (Step::Load(3, 0, 10, EMITTING), Done(3)),
+    (Step::Run(4, 0, 2, 8), Pending(0)),
+    (Step::Read(5, 1, 1, "07*512"), Done(5)),
+];
+
+/// The turns that are left.
+const DRAINED: &[Case] = &[
+    (Step::Turns(0, 1), Pending(0)),
+    (Step::Turns(0, 1), DoneWith(4, 2, 1)),
+];
+
+/// What happens in these steps.
+fn events_of(alloc: Global, steps: &[Case]) -> Result<Vec<Event>, Fail> {
+    let mut events = Vec::new(alloc);
+    for (step, _) in steps {
+        events.push(step.event(alloc)?)?;
     }
+    Ok(events)
+}
+
+/// Compares the replies that were kept, and their data, with those of steps.
+fn check_kept(rt: &impl Abort, alloc: Global, out: &Kept, steps: &[Case]) -> Result<(), Fail> {
+    assert_eq!(rt; out.replies.len(), steps.len());
+    for (case, kept) in steps.iter().zip(out.replies.iter()) {
+        let gives = bytes_of(alloc, case.0.gives())?;
+        assert_eq!(rt; kept.0, case.1.reply(gives.len()));
+        assert_eq!(rt; kept.1.as_slice(), gives.as_slice());
+        assert_eq!(rt; kept.1.len(), kept.0.data_length());
+    }
+    Ok(())
 }
 
 #[test]
 fn replies_are_handed_out_with_their_data(rt: HostRuntime) -> Result<(), Fail> {
     let alloc = rt.alloc();
-    let mut device = device(&rt, alloc);
-    let mut data = room(&rt, alloc);
-    let mut out = Kept::new(alloc, usize::MAX);
-    let events = [
-        append(&rt, alloc),
-        open(alloc, 1),
-        load(&rt, alloc, 0),
-        run(&rt, alloc, 0, 1),
-        read(alloc, 1),
-    ];
-    device.serve(&events, &mut data, &mut out)?;
-    device.drain(&mut data, &mut out)?;
-    let replies = [
-        success(0, 0, 0),
-        success(0, 0, 0),
-        success(0, 0, 0),
-        Reply::Pending { run: 0 },
-        success(0, 0, BLOCK),
-        Reply::Pending { run: 0 },
-        success(2, 1, 0),
-    ];
-    compare_kept(&rt, &out, &replies);
-    assert_eq!(rt; out.replies.len(), 7);
-    assert_eq!(rt; out.replies[4].1.as_slice(), [7; BLOCK].as_slice());
-    Ok(())
-}
-
-#[test]
-fn all_runs_are_drained(rt: HostRuntime) -> Result<(), Fail> {
-    let alloc = rt.alloc();
-    let mut device = device(&rt, alloc);
+    let mut device = device_of(alloc, &FOUR_ZONES, ALL_EMPTY)?;
     let mut room = room(&rt, alloc);
     let data = room.as_mut_slice();
-    let append = [(append(&rt, alloc), success(0, 0, 0))];
-    compare(&rt, &mut device, data, &append);
-    for number in 0..RUNS as u8 {
-        let steps = [
-            (load(&rt, alloc, number), success(0, 0, 0)),
-            (open(alloc, number + 1), success(0, 0, 0)),
-            (
-                run(&rt, alloc, number, number + 1),
-                Reply::Pending { run: number },
-            ),
-        ];
-        compare(&rt, &mut device, data, &steps);
-    }
-    let mut out = Kept::new(alloc, usize::MAX);
-    device.drain(data, &mut out)?;
-    let mut replies = Vec::new(alloc);
-    for run in 0..RUNS as u8 {
-        replies.push(Reply::Pending { run })?;
-        replies.push(success(2, 1, 0))?;
-    }
-    compare_kept(&rt, &out, &replies);
-    let last = [
-        (write(&rt, alloc, 2), success(0, 0, 0)),
-        (append_blocks(&rt, alloc, 1), success(3, 0, 0)),
-    ];
-    compare(&rt, &mut device, data, &last);
-    Ok(())
+    let mut served = Kept::new(alloc, usize::MAX);
+    device.serve(&events_of(alloc, SERVED)?, data, &mut served)?;
+    check_kept(&rt, alloc, &served, SERVED)?;
+    let mut drained = Kept::new(alloc, usize::MAX);
+    device.drain(data, &mut drained)?;
+    check_kept(&rt, alloc, &drained, DRAINED)
 }

@@ -1,15 +1,21 @@
 //! What active runs keep from their zones.
 
-use super::scenes::{G1, Scene, play};
+use super::programs::RETURNING;
+use super::scenes::{FOUR_ZONES, Scene, play};
 use super::steps::Expected::{Done, DoneWith, FaultRefused, Pending, Refused};
-use super::steps::{CLOSE, CLOSE_ALL, Case, FINISH, RESET, RESET_ALL, RETURNING, Step, ZONE_HELD};
+use super::steps::{Case, Step};
+use nvme_entry::Status;
 use std::test::Fail;
 use zns_commands::FaultState;
+use zone_state::Action;
 
 const RESET_OF_ALL: &[Case] = &[
     (Step::Load(1, 0, 0, RETURNING), Done(1)),
     (Step::Run(2, 16, 1, 8), Pending(0)),
-    (Step::Send(5, 0, RESET_ALL), Refused(5, ZONE_HELD)),
+    (
+        Step::SendAll(5, Action::Reset),
+        Refused(5, Status::ZONE_HELD),
+    ),
     (Step::Turns(0, 1), Done(2)),
 ];
 
@@ -19,31 +25,46 @@ const BETWEEN: &[Case] = &[
     (Step::Run(2, 0, 2, 8), Pending(0)),
     (Step::Turns(0, 1), Pending(0)),
     // Its source.
-    (Step::Send(3, 0, RESET), Refused(3, ZONE_HELD)),
+    (
+        Step::Send(3, 0, Action::Reset),
+        Refused(3, Status::ZONE_HELD),
+    ),
     (Step::Fault(0, FaultState::ReadOnly), FaultRefused),
     (Step::Fault(0, FaultState::Offline), FaultRefused),
     // Its destination.
-    (Step::Append(4, 8, "01 00*511"), Refused(4, ZONE_HELD)),
-    (Step::Write(5, 9, "01 00*511"), Refused(5, ZONE_HELD)),
-    (Step::Send(6, 8, FINISH), Refused(6, ZONE_HELD)),
+    (
+        Step::Append(4, 8, "01 00*511"),
+        Refused(4, Status::ZONE_HELD),
+    ),
+    (
+        Step::Write(5, 9, "01 00*511"),
+        Refused(5, Status::ZONE_HELD),
+    ),
+    (
+        Step::Send(6, 8, Action::Finish),
+        Refused(6, Status::ZONE_HELD),
+    ),
     (Step::Fault(1, FaultState::ReadOnly), FaultRefused),
     (Step::Read(7, 8, 1, "02 00*511"), Done(7)),
     // A third zone is opened: zone 2 gives way, and not zone 1, which is lower.
     (Step::Write(8, 24, "01 00*511"), Done(8)),
     (Step::Turns(0, 1), Done(2)),
     // Nothing is held any more.
-    (Step::Send(9, 0, RESET), Done(9)),
+    (Step::Send(9, 0, Action::Reset), Done(9)),
 ];
 
 const CLOSING: &[Case] = &[
     (Step::Load(1, 0, 0, RETURNING), Done(1)),
     (Step::Run(2, 0, 2, 8), Pending(0)),
     // Close of all would take the destination.
-    (Step::Send(3, 0, CLOSE_ALL), Refused(3, ZONE_HELD)),
+    (
+        Step::SendAll(3, Action::Close),
+        Refused(3, Status::ZONE_HELD),
+    ),
     // The source may be appended to, closed and finished.
     (Step::Append(4, 0, "01 00*511"), DoneWith(4, 2, 0)),
-    (Step::Send(5, 0, CLOSE), Done(5)),
-    (Step::Send(6, 0, FINISH), Done(6)),
+    (Step::Send(5, 0, Action::Close), Done(5)),
+    (Step::Send(6, 0, Action::Finish), Done(6)),
     (Step::Turns(0, 1), Pending(0)),
     (Step::Turns(0, 1), Done(2)),
 ];
@@ -51,7 +72,7 @@ const CLOSING: &[Case] = &[
 const SCENES: &[Scene] = &[
     Scene {
         name: "all zones but a source",
-        shape: G1,
+        shape: FOUR_ZONES,
         zones: "full 01*6, explicit, full 02*6, empty",
         steps: RESET_OF_ALL,
         drained: &[],
@@ -59,7 +80,7 @@ const SCENES: &[Scene] = &[
     },
     Scene {
         name: "zones of a run",
-        shape: G1,
+        shape: FOUR_ZONES,
         zones: "full 01*6, implicit 02, implicit 03, empty",
         steps: BETWEEN,
         drained: &[],
@@ -67,7 +88,7 @@ const SCENES: &[Scene] = &[
     },
     Scene {
         name: "a source is closed and finished",
-        shape: G1,
+        shape: FOUR_ZONES,
         zones: "implicit 01 02, explicit, empty, empty",
         steps: CLOSING,
         drained: &[],

@@ -2,13 +2,19 @@
 
 ghost use Rattle.std.specs.Prelude.{◌≡◌, ◌+◌, ◌<◌, ◌≤◌, ◌^◌, length};
 
-use super::{Kept, append, open, read, room, run};
+use super::programs::EMITTING;
+use super::scenes::{EIGHT_ZONES, Zones, device_of};
+use super::steps::Step;
+use super::{Kept, room};
 use crate::{Device, Event, Out, Reply};
 use image_store::Buffer;
 use std::alloc::Global;
 use std::process::Abort;
 use std::test::Fail;
 use zns_commands::{FaultState, MOST_TRANSFER};
+use zone_state::Action;
+
+const EIGHT_EMPTY: Zones = "empty, empty, empty, empty, empty, empty, empty, empty";
 
 /// What a device replies to all that it does, and the text of the image that it leaves.
 #[derive(Drop)]
@@ -17,26 +23,30 @@ struct Whole {
     image: Vec<u8>,
 }
 
-/// Events with two runs, of which the second has a turn left.
-fn events(rt: &impl Abort, alloc: Global) -> [Event; 13] {
-    [
-        append(rt, alloc),
-        open(alloc, 1),
-        open(alloc, 2),
-        super::load(rt, alloc, 0),
-        run(rt, alloc, 0, 1),
-        Event::Turn { run: 0 },
-        run(rt, alloc, 0, 2),
-        Event::Fault {
-            zone: 3,
-            state: FaultState::Offline,
-        },
-        Event::Turn { run: 0 },
-        Event::Turn { run: 0 },
-        read(alloc, 8),
-        super::load(rt, alloc, 0),
-        Event::Turn { run: 1 },
-    ]
+/// Two runs, of which the second has a turn left.
+const STEPS: &[Step] = &[
+    Step::Append(1, 0, "07*1024"),
+    Step::Send(2, 8, Action::Open),
+    Step::Send(3, 16, Action::Open),
+    Step::Load(4, 0, 10, EMITTING),
+    Step::Run(5, 0, 2, 8),
+    Step::Turns(0, 1),
+    Step::Run(6, 0, 2, 16),
+    Step::Fault(3, FaultState::Offline),
+    Step::Turns(0, 1),
+    Step::Turns(0, 1),
+    Step::Read(7, 8, 1, ""),
+    Step::Load(8, 0, 10, EMITTING),
+    Step::Turns(1, 1),
+];
+
+/// What happens in them.
+fn events(alloc: Global) -> Result<Vec<Event>, Fail> {
+    let mut events = Vec::new(alloc);
+    for step in STEPS {
+        events.push(step.event(alloc)?)?;
+    }
+    Ok(events)
 }
 
 /// Does events and then the turns that are left. An `Err` tells how many of both were done where a reply was refused.
@@ -67,7 +77,7 @@ fn saved(alloc: Global, device: &Device) -> Result<Vec<u8>, Fail> {
 
 /// Does all where each reply is taken.
 fn all_taken(rt: &impl Abort, alloc: Global, events: &[Event]) -> Result<Whole, Fail> {
-    let mut device = super::device(rt, alloc);
+    let mut device = device_of(alloc, &EIGHT_ZONES, EIGHT_EMPTY)?;
     let mut data = room(rt, alloc);
     let mut out = Kept::new(alloc, usize::MAX);
     let done = serve_and_drain(&mut device, events, data.as_mut_slice(), &mut out);
@@ -86,7 +96,7 @@ fn check_refused(
     taken: usize,
 ) -> Result<(), Fail> {
     let done = taken.saturating_add(1);
-    let mut device = super::device(rt, alloc);
+    let mut device = device_of(alloc, &EIGHT_ZONES, EIGHT_EMPTY)?;
     let mut data = room(rt, alloc);
     let mut first = Kept::new(alloc, taken);
     let stopped = serve_and_drain(&mut device, events, data.as_mut_slice(), &mut first);
@@ -114,7 +124,7 @@ fn check_refused(
 #[test]
 fn each_reply_is_refused_in_turn(rt: HostRuntime) -> Result<(), Fail> {
     let alloc = rt.alloc();
-    let events = events(&rt, alloc);
+    let events = events(alloc)?;
     let whole = all_taken(&rt, alloc, &events)?;
     assert_eq!(rt; whole.out.replies.len(), 14);
     for taken in 0..14 {
@@ -126,10 +136,10 @@ fn each_reply_is_refused_in_turn(rt: HostRuntime) -> Result<(), Fail> {
 #[test]
 fn turns_of_no_run(rt: HostRuntime) -> Result<(), Fail> {
     let alloc = rt.alloc();
-    let mut device = super::device(&rt, alloc);
+    let mut device = device_of(alloc, &EIGHT_ZONES, EIGHT_EMPTY)?;
     let mut data = room(&rt, alloc);
     let mut out = Kept::new(alloc, usize::MAX);
-    let events = events(&rt, alloc);
+    let events = events(alloc)?;
     device.serve(
         events.get(..5).unwrap_or(&[]),
         data.as_mut_slice(),

@@ -1,8 +1,10 @@
 //! Runs, turn by turn.
 
-use super::scenes::{G1, G2, Scene, play};
+use super::programs::{ADDING_THREE, GROWING, MATCHING, RETURNING};
+use super::scenes::{FOUR_ZONES, Scene, TWO_LONG_ZONES, play};
 use super::steps::Expected::{Done, DoneWith, Idle, Pending, Refused};
-use super::steps::{Case, MATCHING, RETURNING, Step, ZONE_IS_FULL};
+use super::steps::{Case, Step};
+use nvme_entry::Status;
 use std::test::Fail;
 
 const TURNS: &[Case] = &[
@@ -36,19 +38,8 @@ const PACKED: &[Case] = &[
     ),
 ];
 
-/// Adds the first bytes of blocks in scratch, and returns 1 for the third block.
 const SUMMING: &[Case] = &[
-    (
-        Step::Load(
-            1,
-            0,
-            0,
-            "\
-7124000000000000 7935000000000000 0f45000000000000 7b53000000000000 6116080000000000 b700000000000000 \
-5506010002000000 b700000001000000 9500000000000000",
-        ),
-        Done(1),
-    ),
+    (Step::Load(1, 0, 0, ADDING_THREE), Done(1)),
     (Step::Run(2, 0, 10, 64), Pending(0)),
     (Step::Turns(0, 2), Pending(0)),
     (Step::Turns(0, 1), Done(2)),
@@ -60,12 +51,7 @@ const SUMMING: &[Case] = &[
 /// Emits a byte, and returns 1.
 const ENDING: &[Case] = &[
     (
-        Step::Load(
-            1,
-            0,
-            3,
-            "bf21000000000000 b702000001000000 8500000001000000 b700000001000000 9500000000000000",
-        ),
+        Step::Load(1, 0, 3, "mov r1, r2\nmov r2, 1\ncall 1\nmov r0, 1\nexit"),
         Done(1),
     ),
     (Step::Run(2, 0, 3, 8), Pending(0)),
@@ -74,19 +60,8 @@ const ENDING: &[Case] = &[
     (Step::Read(3, 8, 1, "010009 00*509"), Done(3)),
 ];
 
-/// Emits as many of a block's first bytes as its first byte tells, and one more.
-const GROWING: &[Case] = &[
-    (
-        Step::Load(
-            1,
-            0,
-            10,
-            "\
-7126000000000000 5706000007000000 0706000001000000 bf21000000000000 bf62000000000000 8500000001000000 \
-b700000000000000 9500000000000000",
-        ),
-        Done(1),
-    ),
+const MANY_LENGTHS: &[Case] = &[
+    (Step::Load(1, 0, 10, GROWING), Done(1)),
     (Step::Run(2, 0, 2, 8), Pending(0)),
     (Step::Turns(0, 1), Pending(0)),
     (Step::Turns(0, 1), DoneWith(2, 2, 1)),
@@ -99,19 +74,11 @@ b700000000000000 9500000000000000",
 /// Emits the context.
 const TOLD: &[Case] = &[
     (
-        Step::Load(
-            1,
-            5,
-            34,
-            "b702000020000000 8500000001000000 b700000000000000 9500000000000000",
-        ),
+        Step::Load(1, 5, 34, "mov r2, 32\ncall 1\nmov r0, 0\nexit"),
         Done(1),
     ),
     // 2 blocks from block 1 on, by slot 5 and with argument abcdh.
-    (
-        Step::Entry(0xc0, 2, [1, 0, 0x5_0001, 0xabcd, 8, 0], ""),
-        Pending(0),
-    ),
+    (Step::RunOf(2, (5, 0xabcd), 1, 2, 8), Pending(0)),
     (Step::Turns(0, 1), Pending(0)),
     (Step::Turns(0, 1), DoneWith(2, 2, 1)),
     // The address, the index and the number of blocks, the size of a block, and the argument.
@@ -169,13 +136,16 @@ const FILLING: &[Case] = &[
     (Step::Turns(0, 1), Pending(0)),
     (Step::Turns(0, 1), DoneWith(2, 2, 1)),
     // The zone is Full.
-    (Step::Append(3, 8, "00*512"), Refused(3, ZONE_IS_FULL)),
+    (
+        Step::Append(3, 8, "00*512"),
+        Refused(3, Status::ZONE_IS_FULL),
+    ),
 ];
 
 const EMITTED: &[Scene] = &[
     Scene {
         name: "a turn for each block",
-        shape: G1,
+        shape: FOUR_ZONES,
         zones: "implicit 01 02 03, explicit, empty, empty",
         steps: TURNS,
         drained: &[],
@@ -183,7 +153,7 @@ const EMITTED: &[Scene] = &[
     },
     Scene {
         name: "groups are packed into blocks",
-        shape: G2,
+        shape: TWO_LONG_ZONES,
         zones: "closed 07*52, explicit",
         steps: PACKED,
         drained: &[],
@@ -191,7 +161,7 @@ const EMITTED: &[Scene] = &[
     },
     Scene {
         name: "scratch lasts from block to block",
-        shape: G2,
+        shape: TWO_LONG_ZONES,
         zones: "closed 01 02 03 04 05 06 07 08 09 0a, explicit",
         steps: SUMMING,
         drained: &[],
@@ -199,7 +169,7 @@ const EMITTED: &[Scene] = &[
     },
     Scene {
         name: "a program ends its run",
-        shape: G1,
+        shape: FOUR_ZONES,
         zones: "implicit 09 08 07, explicit, empty, empty",
         steps: ENDING,
         drained: &[],
@@ -207,15 +177,15 @@ const EMITTED: &[Scene] = &[
     },
     Scene {
         name: "records of many lengths",
-        shape: G1,
+        shape: FOUR_ZONES,
         zones: "implicit 03 07, explicit, empty, empty",
-        steps: GROWING,
+        steps: MANY_LENGTHS,
         drained: &[],
         left: "implicit 2, explicit 1, empty 0, empty 0",
     },
     Scene {
         name: "what a program is told",
-        shape: G1,
+        shape: FOUR_ZONES,
         zones: "implicit 01 02 03, explicit, empty, empty",
         steps: TOLD,
         drained: &[],
@@ -231,7 +201,7 @@ fn what_runs_emit_and_leave(rt: HostRuntime) -> Result<(), Fail> {
 const TURNS_OF_RUNS: &[Scene] = &[
     Scene {
         name: "turns of two runs, one after the other",
-        shape: G1,
+        shape: FOUR_ZONES,
         zones: "closed 07 07, implicit 07 07, explicit, empty",
         steps: IN_TURN,
         drained: &[],
@@ -239,7 +209,7 @@ const TURNS_OF_RUNS: &[Scene] = &[
     },
     Scene {
         name: "turns of two runs, the second before the first",
-        shape: G1,
+        shape: FOUR_ZONES,
         zones: "closed 07 07, implicit 07 07, explicit, empty",
         steps: ONE_BY_ONE,
         drained: &[],
@@ -247,7 +217,7 @@ const TURNS_OF_RUNS: &[Scene] = &[
     },
     Scene {
         name: "a turn fills its zone",
-        shape: G1,
+        shape: FOUR_ZONES,
         zones: "closed 07 07, implicit 01 02 03 04 05, empty, empty",
         steps: FILLING,
         drained: &[],

@@ -2,7 +2,7 @@
 
 ghost use Rattle.std.specs.Prelude.{◌≤◌, length};
 
-use super::steps::{Case, Expected, bytes_of, low};
+use super::steps::{Case, Expected, bytes_of};
 use super::{Kept, room};
 use crate::{Device, Event, Reply};
 use image_store::Version;
@@ -11,24 +11,55 @@ use std::process::Abort;
 use std::test::Fail;
 use zns_commands::{Image, MOST_TRANSFER};
 
-/// The numbers of a namespace: the bytes of a block, the zones, the blocks of a zone, how many of them can be
-/// written, and the most zones that are open, and active.
-pub(super) type Shape = [u32; 6];
+/// The bytes of a block.
+const BLOCK: u32 = 512;
+
+/// The numbers of a namespace.
+#[derive(Clone, Copy)]
+pub(super) struct Shape {
+    zones: u32,
+    /// The blocks of a zone.
+    size: u32,
+    /// How many of them can be written.
+    capacity: u32,
+    open_limit: u32,
+    active_limit: u32,
+}
 
 /// Zones: the state of each, and then the first byte of each of its blocks, whose others are zeros.
 pub(super) type Zones = &'static str;
 
-/// 4 zones of 8 blocks, 6 of them writable, at most 2 open and 3 active.
-pub(super) const G1: Shape = [512, 4, 8, 6, 2, 3];
+pub(super) const FOUR_ZONES: Shape = Shape {
+    zones: 4,
+    size: 8,
+    capacity: 6,
+    open_limit: 2,
+    active_limit: 3,
+};
 
-/// 2 zones of 64 blocks, at most 2 open and active.
-pub(super) const G2: Shape = [512, 2, 64, 64, 2, 2];
+pub(super) const TWO_LONG_ZONES: Shape = Shape {
+    zones: 2,
+    size: 64,
+    capacity: 64,
+    open_limit: 2,
+    active_limit: 2,
+};
 
-/// 8 zones of 8 blocks, at most 6 open and active.
-pub(super) const G3: Shape = [512, 8, 8, 8, 6, 6];
+pub(super) const EIGHT_ZONES: Shape = Shape {
+    zones: 8,
+    size: 8,
+    capacity: 8,
+    open_limit: 6,
+    active_limit: 6,
+};
 
-/// 12 zones of 8 blocks, at most 10 open and active.
-pub(super) const G4: Shape = [512, 12, 8, 8, 10, 10];
+pub(super) const TWELVE_ZONES: Shape = Shape {
+    zones: 12,
+    size: 8,
+    capacity: 8,
+    open_limit: 10,
+    active_limit: 10,
+};
 
 /// 4 zones without blocks.
 pub(super) const ALL_EMPTY: Zones = "empty, empty, empty, empty";
@@ -63,30 +94,28 @@ pub(super) fn play(rt: &impl Abort, alloc: Global, scenes: &[Scene]) -> Result<(
 }
 
 fn play_one(rt: &impl Abort, alloc: Global, scene: &Scene) -> Result<(), Fail> {
-    let mut device = Device::new(alloc, image_of(alloc, &scene.shape, scene.zones)?);
+    let mut device = device_of(alloc, &scene.shape, scene.zones)?;
     let mut room = room(rt, alloc);
     let data = room.as_mut_slice();
-    check_steps(rt, alloc, &mut device, data, scene)?;
+    check_steps(rt, alloc, &mut device, data, scene.name, scene.steps)?;
     check_drained(rt, alloc, &mut device, data, scene)?;
-    check_zones(rt, alloc, &device, scene)
+    check_zones(rt, alloc, &device, scene.name, scene.left)
 }
 
 /// Does the steps of a scene, and compares the replies.
-fn check_steps(
+pub(super) fn check_steps(
     rt: &impl Abort,
     alloc: Global,
     device: &mut Device,
     output: &mut [u8],
-    scene: &Scene,
+    scene: &'static str,
+    steps: &[Case],
 ) -> Result<(), Fail>
     requires { MOST_TRANSFER ≤ length output.old }
     ensures { MOST_TRANSFER ≤ length output.new }
 {
-    for (step, case) in scene.steps.iter().enumerate() {
-        let at = At {
-            scene: scene.name,
-            step,
-        };
+    for (step, case) in steps.iter().enumerate() {
+        let at = At { scene, step };
         check(rt, alloc, device, output, &at, case)?;
     }
     Ok(())
@@ -148,7 +177,13 @@ fn check_drained(
 }
 
 /// Compares the zones with those that have to be left.
-fn check_zones(rt: &impl Abort, alloc: Global, device: &Device, scene: &Scene) -> Result<(), Fail> {
+pub(super) fn check_zones(
+    rt: &impl Abort,
+    alloc: Global,
+    device: &Device,
+    scene: &str,
+    zones: &str,
+) -> Result<(), Fail> {
     let mut left = String::new(alloc);
     for zone in device.image().zones() {
         if !left.is_empty() {
@@ -157,22 +192,29 @@ fn check_zones(rt: &impl Abort, alloc: Global, device: &Device, scene: &Scene) -
         let (state, written) = (zone.state().word(), zone.written());
         left.push_str(format!(in alloc; "{state} {written}")?.as_str())?;
     }
-    assert_eq!(rt; left.as_str(), scene.left, "{}", scene.name);
+    assert_eq!(rt; left.as_str(), zones, "{scene}");
     Ok(())
 }
 
-/// The image of these zones.
-fn image_of(alloc: Global, shape: &Shape, zones: &str) -> Result<Image, Fail> {
+/// A device of these zones.
+pub(super) fn device_of(alloc: Global, shape: &Shape, zones: &str) -> Result<Device, Fail> {
     let mut bytes = Vec::new(alloc);
     write_image(&mut bytes, shape, zones)?;
     let mut source = bytes.as_slice();
-    Ok(Image::load(alloc, &mut source)?)
+    Ok(Device::new(alloc, Image::load(alloc, &mut source)?))
 }
 
 /// Writes the bytes of an image.
 fn write_image(to: &mut Vec<u8>, shape: &Shape, zones: &str) -> Result<(), Fail> {
     to.extend_from_slice(&Version::Two.magic())?;
-    for number in shape {
+    for number in [
+        BLOCK,
+        shape.zones,
+        shape.size,
+        shape.capacity,
+        shape.open_limit,
+        shape.active_limit,
+    ] {
         to.extend_from_slice(&number.to_le_bytes())?;
     }
     let mut total = 0u64;
@@ -192,9 +234,9 @@ fn write_image(to: &mut Vec<u8>, shape: &Shape, zones: &str) -> Result<(), Fail>
 
 fn write_zone_row(to: &mut Vec<u8>, zone: &str) -> Result<(), Fail> {
     let (state, _) = zone.split_once(' ').unwrap_or((zone, ""));
-    let blocks = firsts_of(*to.allocator(), zone)?.len();
+    let blocks = u32::try_from(firsts_of(*to.allocator(), zone)?.len())?;
     to.extend_from_slice(&[code_of(state), 0, 0, 0])?;
-    to.extend_from_slice(&low(blocks as u64).to_le_bytes())?;
+    to.extend_from_slice(&blocks.to_le_bytes())?;
     Ok(())
 }
 

@@ -1,13 +1,13 @@
 //! Runs from and to zones of each state, and runs in each other's zones.
 
-use super::scenes::{G1, G3, Scene, Zones, play};
+use super::programs::{MATCHING, RETURNING};
+use super::scenes::{EIGHT_ZONES, FOUR_ZONES, Scene, Zones, play};
 use super::steps::Expected::{self, Done, DoneWith, FaultRefused, Faulted, Pending, Refused};
-use super::steps::{
-    A_BLOCK, Case, DESTINATION_NOT_OPEN, FINISH, MATCHING, RESET, RETURNING, SOURCE_NOT_WRITTEN,
-    Step, ZONE_HELD, ZONE_IS_OFFLINE,
-};
+use super::steps::{A_BLOCK, Case, Step};
+use nvme_entry::Status;
 use std::test::Fail;
 use zns_commands::FaultState;
+use zone_state::Action;
 
 /// A zone of each state, and one more that is open.
 const EACH_STATE: Zones =
@@ -19,9 +19,9 @@ const EACH_STATE_LISTED: &str =
 
 const DONE: Expected = Done(2);
 
-const NOT_OPEN: Expected = Refused(2, DESTINATION_NOT_OPEN);
+const NOT_OPEN: Expected = Refused(2, Status::DESTINATION_NOT_OPEN);
 
-const HELD: Expected = Refused(5, ZONE_HELD);
+const HELD: Expected = Refused(5, Status::ZONE_HELD);
 
 const LOADED: Case = (Step::Load(1, 0, 0, RETURNING), Done(1));
 
@@ -41,8 +41,11 @@ const FROM: &[Case] = &[
     (Step::Run(2, 32, 1, 56), Pending(0)),
     ITS_TURN,
     // Nothing is written in a zone that is Empty, and nothing can be read from one that is Offline.
-    (Step::Run(2, 40, 1, 56), Refused(2, SOURCE_NOT_WRITTEN)),
-    (Step::Run(2, 48, 1, 56), Refused(2, ZONE_IS_OFFLINE)),
+    (
+        Step::Run(2, 40, 1, 56),
+        Refused(2, Status::SOURCE_NOT_WRITTEN),
+    ),
+    (Step::Run(2, 48, 1, 56), Refused(2, Status::ZONE_IS_OFFLINE)),
 ];
 
 const TO: &[Case] = &[
@@ -66,8 +69,8 @@ const CROSSED: &[Case] = &[
     // Each zone is a destination, whatever else it is.
     (Step::Append(5, 0, A_BLOCK), HELD),
     (Step::Append(5, 8, A_BLOCK), HELD),
-    (Step::Send(5, 0, RESET), HELD),
-    (Step::Send(5, 8, FINISH), HELD),
+    (Step::Send(5, 0, Action::Reset), HELD),
+    (Step::Send(5, 8, Action::Finish), HELD),
     (Step::Run(5, 0, 1, 8), HELD),
     (Step::Fault(0, FaultState::Offline), FaultRefused),
     (Step::Fault(1, FaultState::ReadOnly), FaultRefused),
@@ -88,13 +91,13 @@ const CROSSED: &[Case] = &[
     ),
     // Nothing is held any more.
     (Step::Fault(0, FaultState::ReadOnly), Faulted),
-    (Step::Send(4, 8, RESET), Done(4)),
+    (Step::Send(4, 8, Action::Reset), Done(4)),
 ];
 
 const SCENES: &[Scene] = &[
     Scene {
         name: "runs from a zone of each state",
-        shape: G3,
+        shape: EIGHT_ZONES,
         zones: EACH_STATE,
         steps: FROM,
         drained: &[],
@@ -102,7 +105,7 @@ const SCENES: &[Scene] = &[
     },
     Scene {
         name: "runs to a zone of each state",
-        shape: G3,
+        shape: EIGHT_ZONES,
         zones: EACH_STATE,
         steps: TO,
         drained: &[],
@@ -110,7 +113,7 @@ const SCENES: &[Scene] = &[
     },
     Scene {
         name: "two runs in each other's zones, and a fault between their turns",
-        shape: G1,
+        shape: FOUR_ZONES,
         zones: "implicit 07 07, implicit 07 07, empty, empty",
         steps: CROSSED,
         drained: &[],

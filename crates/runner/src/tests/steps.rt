@@ -1,9 +1,19 @@
 //! What happens to a device, as data: steps, each with the reply that it has to get.
 
+ghost use Rattle.std.specs.Prelude.{◌≤◌};
+ghost use Rattle.nvme_entry.specs.Encoding.{program_length};
+
+use super::programs::Text;
 use crate::{Event, Reply};
+use ebpf_asm::assemble;
+use nvme_entry::{
+    BlockCount, Command, Completion, Entry, LoadCommand, ProgramSlot, RunCommand, StandardCommand,
+    Status,
+};
 use std::alloc::{AllocError, Global};
 use std::test::Fail;
-use zns_commands::FaultState;
+use zns_commands::{FaultState, MOST_TRANSFER};
+use zone_state::Action;
 
 /// Bytes in hexadecimal: words, where `a5*512` stands for 512 bytes a5h.
 pub(super) type Bytes = &'static str;
@@ -14,61 +24,10 @@ pub(super) type Case = (Step, Expected);
 /// A block of 512 bytes.
 pub(super) const A_BLOCK: Bytes = "a5*512";
 
-/// Ends each block run with R0 = 0, and emits nothing.
-pub(super) const RETURNING: Bytes = "b700000000000000 9500000000000000";
+/// The queue that entries come from.
+const QUEUE: u16 = 3;
 
-/// Emits the first 8 bytes of a block whose first byte is 7.
-pub(super) const MATCHING: Bytes = "\
-7126000000000000 5506030007000000 bf21000000000000 b702000008000000 8500000001000000 b700000000000000 \
-9500000000000000";
-
-/// The actions of Zone Management Send as Command Dword 13 has them (ZNS 1.1, 3.4.3).
-pub(super) const CLOSE: u32 = 1;
-
-pub(super) const FINISH: u32 = 2;
-
-pub(super) const RESET: u32 = 4;
-
-/// The same of all zones.
-pub(super) const CLOSE_ALL: u32 = 0x101;
-
-pub(super) const RESET_ALL: u32 = 0x104;
-
-/// Statuses as the upper half of a completion's Dword 3 has them, with a phase tag of 0: the code from bit 1 on,
-/// and its type from bit 9 on (NVMe Base 2.0, 3.3.3.2).
-pub(super) const INVALID_OPCODE: u16 = 0x0002;
-
-pub(super) const INVALID_FIELD: u16 = 0x0004;
-
-pub(super) const LBA_OUT_OF_RANGE: u16 = 0x0100;
-
-pub(super) const ZONE_BOUNDARY_ERROR: u16 = 0x0370;
-
-pub(super) const ZONE_IS_FULL: u16 = 0x0372;
-
-pub(super) const ZONE_IS_OFFLINE: u16 = 0x0376;
-
-/// From here on they are profile.
-pub(super) const ZONE_HELD: u16 = 0x0f80;
-
-pub(super) const NO_SUCH_PROGRAM: u16 = 0x0f82;
-
-const PROGRAM_REFUSED: u16 = 0x0f84;
-
-pub(super) const NO_RUN_FREE: u16 = 0x0f86;
-
-pub(super) const SOURCE_NOT_WRITTEN: u16 = 0x0f88;
-
-pub(super) const DESTINATION_NOT_OPEN: u16 = 0x0f8a;
-
-pub(super) const DESTINATION_LACKS_ROOM: u16 = 0x0f8c;
-
-pub(super) const SOURCE_IS_DESTINATION: u16 = 0x0f92;
-
-pub(super) const PROGRAM_IN_USE: u16 = 0x0f94;
-
-/// Something that happens. Entries come from queue 1; their first number is the command identifier, and blocks
-/// are counted from 1.
+/// Something that happens. The first number of an entry is its command identifier, and blocks are counted from 1.
 #[derive(Clone, Copy)]
 pub(super) enum Step {
     /// So many turns of a run, with the same reply each.
@@ -76,36 +35,42 @@ pub(super) enum Step {
     /// A zone fails.
     Fault(u32, FaultState),
     /// A Write to an address, of blocks of these bytes.
-    Write(u8, u32, Bytes),
+    Write(u16, u64, Bytes),
     /// A Zone Append to the zone of an address, of blocks of these bytes.
-    Append(u8, u32, Bytes),
+    Append(u16, u64, Bytes),
     /// A Read of so many blocks from an address on, and what it gives.
-    Read(u8, u32, u32, Bytes),
-    /// A Zone Management Send to an address, with this Command Dword 13.
-    Send(u8, u32, u32),
-    /// A Load into a slot, with the most bytes that may be emitted for a block.
-    Load(u8, u32, u32, Bytes),
+    Read(u16, u64, u32, Bytes),
+    /// A Zone Management Send to an address.
+    Send(u16, u64, Action),
+    /// The same to all zones.
+    SendAll(u16, Action),
+    /// A Load of a program into a slot, with the most bytes that may be emitted for a block.
+    Load(u16, u8, u32, Text),
+    /// A Load of these bytes.
+    LoadBytes(u16, u8, u32, Bytes),
     /// A Run of slot 0 over so many blocks from an address on, to the zone of an address.
-    Run(u8, u64, u32, u64),
+    Run(u16, u64, u32, u64),
+    /// The same of a slot, with an argument.
+    RunOf(u16, (u8, u32), u64, u32, u64),
     /// A Result of a slot, and what it gives.
-    Result(u8, u32, Bytes),
-    /// An entry with this opcode, with Command Dwords 10 to 15 and the bytes beside it.
-    Entry(u8, u8, [u32; 6], Bytes),
+    Result(u16, u8, Bytes),
+    /// An entry that no command has, or not with the bytes beside it: its opcode, and Command Dwords 10 to 15.
+    Entry(u16, u8, [u32; 6], Bytes),
     /// An entry with this opcode and these flags, its byte 1.
-    Flags(u8, u8, u8),
+    Flags(u16, u8, u8),
 }
 
 /// The reply that is expected of a device.
 #[derive(Clone, Copy)]
 pub(super) enum Expected {
     /// The command with this identifier is done.
-    Done(u8),
+    Done(u16),
     /// The same, with these Dwords 0 and 1.
-    DoneWith(u8, u32, u32),
-    /// It is refused, with this status.
-    Refused(u8, u16),
+    DoneWith(u16, u32, u32),
+    /// It is refused.
+    Refused(u16, Status),
     /// Its program is refused, for this slot and this reason.
-    ProgramRefused(u8, u32, u32),
+    ProgramRefused(u16, u32, u32),
     /// This run was admitted, or has turns left.
     Pending(u8),
     /// The run isn't active.
@@ -114,43 +79,6 @@ pub(super) enum Expected {
     Faulted,
     /// It can't have it.
     FaultRefused,
-}
-
-/// Fields of an entry: its opcode, flags, the command identifier, and Command Dwords 10 to 15.
-#[derive(Clone, Copy)]
-struct Fields {
-    opcode: u8,
-    flags: u8,
-    cid: u8,
-    dwords: [u32; 6],
-}
-
-impl Fields {
-    /// An entry to namespace 1.
-    fn entry(&self) -> [u8; 64] {
-        let [first, second, third, fourth, fifth, sixth] = self.dwords;
-        let mut entry = [0; 64];
-        entry[0] = self.opcode;
-        entry[1] = self.flags;
-        entry[2] = self.cid;
-        entry[4] = 1;
-        entry[40..44].copy_from_slice(&first.to_le_bytes());
-        entry[44..48].copy_from_slice(&second.to_le_bytes());
-        entry[48..52].copy_from_slice(&third.to_le_bytes());
-        entry[52..56].copy_from_slice(&fourth.to_le_bytes());
-        entry[56..60].copy_from_slice(&fifth.to_le_bytes());
-        entry[60..64].copy_from_slice(&sixth.to_le_bytes());
-        entry
-    }
-}
-
-fn with_fields(opcode: u8, cid: u8, dwords: [u32; 6]) -> Option<Fields> {
-    Some(Fields {
-        opcode,
-        flags: 0,
-        cid,
-        dwords,
-    })
 }
 
 impl Step {
@@ -164,29 +92,66 @@ impl Step {
 
     /// What happens.
     pub(super) fn event(self, alloc: Global) -> Result<Event, Fail> {
-        let input = bytes_of(alloc, self.beside())?;
-        if let Some(fields) = self.fields(low(input.len() as u64)) {
-            return Ok(Event::Submit {
-                queue: 1,
-                entry: fields.entry(),
-                input,
-            });
-        }
+        let beside = self.beside(alloc)?;
         match self {
             Step::Turns(run, _) => Ok(Event::Turn { run }),
             Step::Fault(zone, state) => Ok(Event::Fault { zone, state }),
-            _ => Err(Fail::from("a step without an event")),
+            Step::Load(cid, slot, limit, _) => load(cid, slot, limit, beside),
+            Step::LoadBytes(cid, slot, limit, _) => load(cid, slot, limit, beside),
+            Step::Run(cid, lba, blocks, to) => {
+                let run = run_of((0, 0), lba, blocks, to)?;
+                Ok(submit(Command::Run(run), cid, beside))
+            }
+            Step::RunOf(cid, of, lba, blocks, to) => {
+                let run = run_of(of, lba, blocks, to)?;
+                Ok(submit(Command::Run(run), cid, beside))
+            }
+            Step::Result(cid, slot, _) => {
+                Ok(submit(Command::Result(slot_of(slot)?), cid, beside))
+            }
+            Step::Entry(cid, opcode, dwords, _) => {
+                Ok(submitted(entry_of(cid, [opcode, 0], dwords), beside))
+            }
+            Step::Flags(cid, opcode, flags) => {
+                Ok(submitted(entry_of(cid, [opcode, flags], [0; 6]), beside))
+            }
+            _ => {
+                let (cid, command) = self.standard(beside.len())?;
+                Ok(submit(Command::Standard(command), cid, beside))
+            }
+        }
+    }
+
+    /// The command of the standards that it submits, behind its identifier, with so many bytes beside it.
+    fn standard(self, bytes: usize) -> Result<(u16, StandardCommand), Fail> {
+        match self {
+            Step::Write(cid, lba, _) => {
+                let blocks = blocks_of(bytes)?;
+                Ok((cid, StandardCommand::Write { lba, blocks }))
+            }
+            Step::Append(cid, lba, _) => {
+                let blocks = blocks_of(bytes)?;
+                Ok((cid, StandardCommand::Append { lba, blocks }))
+            }
+            Step::Read(cid, lba, blocks, _) => {
+                let blocks = count(blocks)?;
+                Ok((cid, StandardCommand::Read { lba, blocks }))
+            }
+            Step::Send(cid, lba, action) => Ok((cid, send(lba, action, false))),
+            Step::SendAll(cid, action) => Ok((cid, send(0, action, true))),
+            _ => Err(Fail::from("no command of the standards")),
         }
     }
 
     /// The bytes beside its entry.
-    fn beside(self) -> Bytes {
+    fn beside(self, alloc: Global) -> Result<Vec<u8>, Fail> {
         match self {
-            Step::Write(_, _, beside) => beside,
-            Step::Append(_, _, beside) => beside,
-            Step::Load(_, _, _, program) => program,
-            Step::Entry(_, _, _, beside) => beside,
-            _ => "",
+            Step::Load(_, _, _, program) => Ok(assemble(alloc, program.as_bytes())?),
+            Step::LoadBytes(_, _, _, program) => bytes_of(alloc, program),
+            Step::Write(_, _, beside) => bytes_of(alloc, beside),
+            Step::Append(_, _, beside) => bytes_of(alloc, beside),
+            Step::Entry(_, _, _, beside) => bytes_of(alloc, beside),
+            _ => Ok(Vec::new(alloc)),
         }
     }
 
@@ -198,47 +163,100 @@ impl Step {
             _ => "",
         }
     }
+}
 
-    /// The fields of the entry that it submits, if it does, with so many bytes beside it.
-    fn fields(self, bytes: u32) -> Option<Fields> {
-        let last = (bytes / 512).wrapping_sub(1);
-        match self {
-            Step::Write(cid, lba, _) => with_fields(0x01, cid, [lba, 0, last, 0, 0, 0]),
-            Step::Append(cid, lba, _) => with_fields(0x7d, cid, [lba, 0, last, 0, 0, 0]),
-            Step::Read(cid, lba, blocks, _) => {
-                with_fields(0x02, cid, [lba, 0, blocks.wrapping_sub(1), 0, 0, 0])
-            }
-            Step::Send(cid, lba, dword) => with_fields(0x79, cid, [lba, 0, 0, dword, 0, 0]),
-            Step::Load(cid, slot, limit, _) => {
-                with_fields(0xc1, cid, [slot, limit, bytes, 0, 0, 0])
-            }
-            Step::Run(cid, lba, blocks, to) => {
-                let last = blocks.wrapping_sub(1);
-                let dwords = [low(lba), low(lba >> 32), last, 0, low(to), low(to >> 32)];
-                with_fields(0xc0, cid, dwords)
-            }
-            Step::Result(cid, slot, _) => with_fields(0xc2, cid, [slot, 0, 0, 0, 0, 0]),
-            Step::Entry(opcode, cid, dwords, _) => with_fields(opcode, cid, dwords),
-            Step::Flags(opcode, cid, flags) => Some(Fields {
-                opcode,
-                flags,
-                cid,
-                dwords: [0; 6],
-            }),
-            _ => None,
-        }
+/// So many blocks.
+fn count(blocks: u32) -> Result<BlockCount, Fail> {
+    let last = u16::try_from(blocks.wrapping_sub(1))?;
+    Ok(BlockCount::from_zero_based(last))
+}
+
+/// The blocks of so many bytes.
+fn blocks_of(bytes: usize) -> Result<BlockCount, Fail> {
+    count(u32::try_from(bytes / 512)?)
+}
+
+fn slot_of(number: u8) -> Result<ProgramSlot, Fail> {
+    let Some(slot) = ProgramSlot::new(u32::from(number)) else {
+        return Err(Fail::from("no slot"));
+    };
+    Ok(slot)
+}
+
+fn send(lba: u64, action: Action, select_all: bool) -> StandardCommand {
+    StandardCommand::Send {
+        lba,
+        action,
+        select_all,
     }
+}
+
+/// A Run of a slot with an argument.
+fn run_of(of: (u8, u32), lba: u64, blocks: u32, destination: u64) -> Result<RunCommand, Fail> {
+    Ok(RunCommand {
+        lba,
+        blocks: count(blocks)?,
+        slot: slot_of(of.0)?,
+        argument: of.1,
+        destination,
+    })
+}
+
+/// A submission of a Load.
+fn load(cid: u16, slot: u8, limit: u32, program: Vec<u8>) -> Result<Event, Fail> {
+    if program.len() > MOST_TRANSFER {
+        return Err(Fail::from("a program that no Load takes"));
+    }
+    let command = LoadCommand {
+        slot: slot_of(slot)?,
+        limit,
+        bytes: program.len() as u32,
+    };
+    Ok(submit(Command::Load(command), cid, program))
+}
+
+/// A submission of a command, with bytes beside it.
+fn submit(command: Command, cid: u16, input: Vec<u8>) -> Event
+    requires { program_length command ≤ MOST_TRANSFER }
+{
+    submitted(Entry::encode(command, cid), input)
+}
+
+fn submitted(entry: [u8; 64], input: Vec<u8>) -> Event {
+    Event::Submit {
+        queue: QUEUE,
+        entry,
+        input,
+    }
+}
+
+/// The entry to namespace 1 that begins with these bytes, and has these Command Dwords 10 to 15.
+fn entry_of(cid: u16, first: [u8; 2], dwords: [u32; 6]) -> [u8; 64] {
+    let [cdw10, cdw11, cdw12, cdw13, cdw14, cdw15] = dwords;
+    let mut entry = [0; 64];
+    entry[0..2].copy_from_slice(&first);
+    entry[2..4].copy_from_slice(&cid.to_le_bytes());
+    entry[4] = 1;
+    entry[40..44].copy_from_slice(&cdw10.to_le_bytes());
+    entry[44..48].copy_from_slice(&cdw11.to_le_bytes());
+    entry[48..52].copy_from_slice(&cdw12.to_le_bytes());
+    entry[52..56].copy_from_slice(&cdw13.to_le_bytes());
+    entry[56..60].copy_from_slice(&cdw14.to_le_bytes());
+    entry[60..64].copy_from_slice(&cdw15.to_le_bytes());
+    entry
 }
 
 impl Expected {
     /// The reply, where so many bytes are given.
     pub(super) fn reply(self, length: usize) -> Reply {
         match self {
-            Expected::Done(cid) => complete(cid, [0, 0], 0, length),
-            Expected::DoneWith(cid, first, second) => complete(cid, [first, second], 0, length),
+            Expected::Done(cid) => complete(cid, [0, 0], Status::SUCCESS, length),
+            Expected::DoneWith(cid, first, second) => {
+                complete(cid, [first, second], Status::SUCCESS, length)
+            }
             Expected::Refused(cid, status) => complete(cid, [0, 0], status, length),
             Expected::ProgramRefused(cid, slot, reason) => {
-                complete(cid, [slot, reason], PROGRAM_REFUSED, length)
+                complete(cid, [slot, reason], Status::PROGRAM_REFUSED, length)
             }
             Expected::Pending(run) => Reply::Pending { run },
             Expected::Idle => Reply::Idle,
@@ -248,17 +266,18 @@ impl Expected {
     }
 }
 
-/// A completion to queue 1.
-fn complete(cid: u8, dwords: [u32; 2], status: u16, length: usize) -> Reply {
-    let mut entry = [0; 16];
-    entry[0..4].copy_from_slice(&dwords[0].to_le_bytes());
-    entry[4..8].copy_from_slice(&dwords[1].to_le_bytes());
-    entry[10] = 1;
-    entry[12] = cid;
-    entry[14..16].copy_from_slice(&status.to_le_bytes());
+/// The completion of a command.
+fn complete(cid: u16, dwords: [u32; 2], status: Status, length: usize) -> Reply {
+    let completion = Completion {
+        dw0: dwords[0],
+        dw1: dwords[1],
+        queue: QUEUE,
+        cid,
+        status,
+    };
     Reply::Complete {
-        queue: 1,
-        entry,
+        queue: QUEUE,
+        entry: completion.encode(),
         length,
     }
 }
@@ -278,9 +297,4 @@ fn push_times(text: &mut String, digits: &str, times: usize) -> Result<(), Alloc
         text.push_str(digits)?;
     }
     Ok(())
-}
-
-/// The lower dword of a number.
-pub(super) fn low(number: u64) -> u32 {
-    (number & 0xffff_ffff) as u32
 }

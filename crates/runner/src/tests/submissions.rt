@@ -1,15 +1,22 @@
 //! Entries that are refused, and faults, on an image of Empty zones.
 
-use super::scenes::{ALL_EMPTY, G1, Scene, play};
+use super::scenes::{ALL_EMPTY, FOUR_ZONES, Scene, play};
 use super::steps::Expected::{FaultRefused, Faulted, Refused};
-use super::steps::{A_BLOCK, Case, INVALID_FIELD, INVALID_OPCODE, Step};
+use super::steps::{A_BLOCK, Case, Step};
+use nvme_entry::Status;
 use std::test::Fail;
 use zns_commands::FaultState;
 
 const ENTRIES_THAT_ARE_REFUSED: &[Case] = &[
     // Opcode 3, which there isn't, and flags.
-    (Step::Flags(0x03, 6, 0x01), Refused(6, INVALID_OPCODE)),
-    (Step::Append(6, 9, A_BLOCK), Refused(6, INVALID_FIELD)),
+    (
+        Step::Flags(6, 0x03, 0x01),
+        Refused(6, Status::INVALID_COMMAND_OPCODE),
+    ),
+    (
+        Step::Append(6, 9, A_BLOCK),
+        Refused(6, Status::INVALID_FIELD_IN_COMMAND),
+    ),
 ];
 
 const FAULTS: &[Case] = &[
@@ -23,7 +30,7 @@ const FAULTS: &[Case] = &[
 const SCENES: &[Scene] = &[
     Scene {
         name: "entries that are refused",
-        shape: G1,
+        shape: FOUR_ZONES,
         zones: ALL_EMPTY,
         steps: ENTRIES_THAT_ARE_REFUSED,
         drained: &[],
@@ -31,7 +38,7 @@ const SCENES: &[Scene] = &[
     },
     Scene {
         name: "faults of zones",
-        shape: G1,
+        shape: FOUR_ZONES,
         zones: ALL_EMPTY,
         steps: FAULTS,
         drained: &[],

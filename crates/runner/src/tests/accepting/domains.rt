@@ -1,120 +1,105 @@
 //! What is refused over constants and over intervals.
 
-use super::{EMIT, EXIT, FIRST_BYTE, GROWING, MATCHING, MOVE_ZERO, refusal};
+use super::super::programs::{
+    BOUNDED, GROWING, INDEXED, INDEXED_TWO, MATCHING, RETURNING, TWO_FRAMES,
+};
+use super::{program, sizes};
 use interval_domain::{Constants, Intervals};
+use std::alloc::Global;
+use std::process::Abort;
 use std::test::Fail;
+use verifier::{VerifyFault, verify};
+use word_domain::Domain;
 
 /// A slot and the number of a reason, where a program is refused.
 type Refused = Option<(usize, u8)>;
 
-const ADD_TO_BLOCK: u64 = 0x0f62_0000_0000_0000; // add r2, r6
+/// Programs of which both say the same, each with the limit of its groups.
+const AGREED: &[(&str, u32, Refused)] = &[
+    (RETURNING, 16, None),
+    // The least reason of the first slot.
+    ("mov r0, 0\nja -2\nexit", 16, Some((1, 1))),
+    ("ja +1\nlddw r0, 0\nexit", 16, Some((0, 2))),
+    ("mov r0, 0", 16, Some((0, 3))),
+    ("mov r10, 0\nexit", 16, Some((0, 4))),
+    ("ldxdw r0, [r2+505]\nexit", 16, Some((0, 5))),
+    ("stb [r2+0], 1\nexit", 16, Some((0, 6))),
+    ("stxdw [r1+0], r0\nexit", 0, Some((0, 6))),
+    ("call 2\nexit", 16, Some((0, 7))),
+    ("mov r1, 0\ncall 1\nexit", 16, Some((1, 8))),
+    ("mov r1, 0\nmov r2, 1\ncall 1\nexit", 3, Some((2, 8))),
+    ("call 1\nexit", 16, Some((0, 9))),
+    // Jumps out of the program.
+    ("ja -5\nexit", 0, Some((0, 1))),
+    ("ja +1\nexit", 0, Some((0, 2))),
+    // A slot that nothing leads to.
+    ("ja +1\nldxdw r0, [r0+0]\nexit", 16, None),
+    ("jeq r0, 0, +1\nldxdw r0, [r0+0]\nexit", 0, None),
+    // A signed compare rules out no edge.
+    (
+        "ldxb r6, [r2+0]\njsgt r6, -1, +2\nmov r0, 0\nexit\nldxdw r0, [r0+0]\nexit",
+        0,
+        Some((4, 5)),
+    ),
+    (MATCHING, 10, None),
+    (MATCHING, 9, Some((4, 10))),
+    // A group that grows along one of two ways.
+    (TWO_FRAMES, 16, None),
+    (TWO_FRAMES, 15, Some((8, 10))),
+];
 
-const LOAD_FROM_ZERO: u64 = 0x7900_0000_0000_0000; // ldxdw r0, [r0+0]
+/// Programs, each with the limit of its groups and the bytes of a block, and what refuses them over constants and over
+/// intervals.
+const WITH_BOUNDS: &[(&str, u32, u32, Refused, Refused)] = &[
+    // An index that is bounded.
+    (INDEXED, 0, 512, Some((3, 5)), None),
+    (INDEXED_TWO, 0, 512, Some((3, 5)), Some((3, 5))),
+    (INDEXED_TWO, 0, 1024, Some((3, 5)), None),
+    (BOUNDED, 0, 512, Some((3, 5)), None),
+    (
+        "ldxb r6, [r2+0]\njgt r6, 99, +3\nadd r2, r6\nldxb r0, [r2+413]\nmov r0, 0\nexit",
+        0,
+        512,
+        Some((3, 5)),
+        Some((3, 5)),
+    ),
+    // A length that is bounded.
+    (GROWING, 10, 512, Some((5, 9)), None),
+    (GROWING, 9, 512, Some((5, 9)), Some((5, 10))),
+];
 
-/// Loads, by this instruction, from a place that the block's first two bytes tell.
-pub(super) fn masked(load: u64) -> [u64; 6] {
-    [
-        0x6926_0000_0000_0000, // ldxh r6, [r2+0]
-        0x5706_0000_ff01_0000, // and r6, 511
-        ADD_TO_BLOCK,
-        load,
-        MOVE_ZERO,
-        EXIT,
-    ]
+/// Where and why a program is refused.
+fn refusal<D: Domain>(alloc: Global, text: &str, limit: u32, block: u32) -> Result<Refused, Fail> {
+    match verify::<D>(alloc, program(alloc, text)?, sizes(limit, block)?) {
+        Ok(_) => Ok(None),
+        Err(VerifyFault::Refused(refusal)) => Ok(Some((refusal.slot, refusal.reason.number()))),
+        Err(VerifyFault::Memory) => Err(Fail::from("no memory")),
+    }
 }
 
-/// Loads, by this instruction, from a place up to 99 bytes further.
-pub(super) fn bounded(load: u64) -> [u64; 6] {
-    [
-        FIRST_BYTE,
-        0x2506_0300_6300_0000, // jgt r6, 99, +3
-        ADD_TO_BLOCK,
-        load,
-        MOVE_ZERO,
-        EXIT,
-    ]
-}
-
-/// Where and why a program is refused over constants, and over intervals.
-fn refusals(
-    rt: &HostRuntime,
-    slots: &[u64],
-    limit: u32,
-    block: u32,
-) -> Result<(Refused, Refused), Fail> {
-    let constants = refusal::<Constants>(rt.alloc(), slots, limit, block)?;
-    let intervals = refusal::<Intervals>(rt.alloc(), slots, limit, block)?;
-    Ok((constants, intervals))
-}
-
-#[test]
-fn an_index_that_is_bounded(rt: HostRuntime) -> Result<(), Fail> {
-    let (byte, half_word) = (0x7120_0000_0000_0000, 0x6920_0000_0000_0000); // ldxb, ldxh r0, [r2+0]
-    let outside = Some((3, 5));
-    assert_eq!(rt; refusals(&rt, &masked(byte), 0, 512)?, (outside, None));
-    assert_eq!(rt;
-        refusals(&rt, &masked(half_word), 0, 512)?,
-        (outside, outside)
-    );
-    assert_eq!(rt;
-        refusals(&rt, &masked(half_word), 0, 1024)?,
-        (outside, None)
-    );
-    let (last, behind) = (0x7120_9c01_0000_0000, 0x7120_9d01_0000_0000); // ldxb r0, [r2+412], [r2+413]
-    assert_eq!(rt; refusals(&rt, &bounded(last), 0, 512)?, (outside, None));
-    assert_eq!(rt;
-        refusals(&rt, &bounded(behind), 0, 512)?,
-        (outside, outside)
-    );
+/// Compares what refuses a program over constants, and over intervals.
+fn check(
+    rt: &impl Abort,
+    alloc: Global,
+    text: &str,
+    sizes: (u32, u32),
+    refused: (Refused, Refused),
+) -> Result<(), Fail> {
+    let (limit, block) = sizes;
+    let constants = refusal::<Constants>(alloc, text, limit, block)?;
+    let intervals = refusal::<Intervals>(alloc, text, limit, block)?;
+    assert_eq!(rt; (constants, intervals), refused, "{text}");
     Ok(())
 }
 
 #[test]
-fn a_length_that_is_bounded(rt: HostRuntime) -> Result<(), Fail> {
-    let unknown = Some((5, 9));
-    assert_eq!(rt; refusals(&rt, &GROWING, 10, 512)?, (unknown, None));
-    assert_eq!(rt; refusals(&rt, &GROWING, 9, 512)?, (unknown, Some((5, 10))));
-    Ok(())
-}
-
-#[test]
-fn programs_on_which_they_agree(rt: HostRuntime) -> Result<(), Fail> {
-    let refused = Some((4, 10));
-    assert_eq!(rt; refusals(&rt, &MATCHING, 10, 512)?, (None, None));
-    assert_eq!(rt; refusals(&rt, &MATCHING, 9, 512)?, (refused, refused));
-    // mov r1, 0 and mov r2, 1
-    let from_zero = [0xb701_0000_0000_0000, 0xb702_0000_0100_0000, EMIT, EXIT];
-    let refused = Some((2, 8));
-    assert_eq!(rt; refusals(&rt, &from_zero, 3, 512)?, (refused, refused));
-    // jeq r0, 0, +1
-    let jumped_over = [0x1500_0100_0000_0000, LOAD_FROM_ZERO, EXIT];
-    assert_eq!(rt; refusals(&rt, &jumped_over, 0, 512)?, (None, None));
-    // jsgt r6, -1, +2
-    let signed = [
-        FIRST_BYTE,
-        0x6506_0200_ffff_ffff,
-        MOVE_ZERO,
-        EXIT,
-        LOAD_FROM_ZERO,
-        EXIT,
-    ];
-    let refused = Some((4, 5));
-    assert_eq!(rt; refusals(&rt, &signed, 0, 512)?, (refused, refused));
-    // stxdw [r1+0], r0
-    let refused = Some((0, 6));
-    assert_eq!(rt;
-        refusals(&rt, &[0x7b01_0000_0000_0000, EXIT], 0, 512)?,
-        (refused, refused)
-    );
-    // ja -5, and ja +1 behind the last slot
-    let (back, outside) = (Some((0, 1)), Some((0, 2)));
-    assert_eq!(rt;
-        refusals(&rt, &[0x0500_fbff_0000_0000, EXIT], 0, 512)?,
-        (back, back)
-    );
-    assert_eq!(rt;
-        refusals(&rt, &[0x0500_0100_0000_0000, EXIT], 0, 512)?,
-        (outside, outside)
-    );
+fn over_constants_and_over_intervals(rt: HostRuntime) -> Result<(), Fail> {
+    let alloc = rt.alloc();
+    for (text, limit, refused) in AGREED {
+        check(&rt, alloc, text, (*limit, 512), (*refused, *refused))?;
+    }
+    for (text, limit, block, constants, intervals) in WITH_BOUNDS {
+        check(&rt, alloc, text, (*limit, *block), (*constants, *intervals))?;
+    }
     Ok(())
 }
