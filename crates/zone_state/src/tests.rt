@@ -1,107 +1,19 @@
 use super::*;
 use std::test::Fail;
 
-/// What people read for each status that a device gives, and for one that none gives.
+/// What people read for a status of each type, and for two that no device gives.
 const SENTENCES: &[(Status, &str)] = &[
     (
         Status::SUCCESS,
         "Successful Completion (type 0h, code 00h): the command is done",
     ),
     (
-        Status::INVALID_COMMAND_OPCODE,
-        "Invalid Command Opcode (type 0h, code 01h): the opcode is none that is supported",
-    ),
-    (
-        Status::INVALID_FIELD_IN_COMMAND,
-        "Invalid Field in Command (type 0h, code 02h): a field has a value that it may not have, or the data is \
-not as long as the fields say",
-    ),
-    (
-        Status::INVALID_NAMESPACE_OR_FORMAT,
-        "Invalid Namespace or Format (type 0h, code 0Bh): the namespace is not 1",
-    ),
-    (
-        Status::LBA_OUT_OF_RANGE,
-        "LBA Out of Range (type 0h, code 80h): the blocks are not all in the namespace",
-    ),
-    (
-        Status::ZONE_BOUNDARY_ERROR,
-        "Zone Boundary Error (type 1h, code B8h): a Read or the source of a Run passes its zone's end, or a write \
-its zone's capacity",
-    ),
-    (
         Status::ZONE_IS_FULL,
         "Zone Is Full (type 1h, code B9h): a write to a Full zone",
     ),
     (
-        Status::ZONE_IS_READ_ONLY,
-        "Zone Is Read Only (type 1h, code BAh): a write to a Read Only zone",
-    ),
-    (
-        Status::ZONE_IS_OFFLINE,
-        "Zone Is Offline (type 1h, code BBh): a Read of an Offline zone, a Run from one, or a write to one",
-    ),
-    (
-        Status::ZONE_INVALID_WRITE,
-        "Zone Invalid Write (type 1h, code BCh): a Write that does not begin at the zone's write pointer",
-    ),
-    (
-        Status::TOO_MANY_ACTIVE_ZONES,
-        "Too Many Active Zones (type 1h, code BDh): an active resource is wanted and none is free",
-    ),
-    (
-        Status::TOO_MANY_OPEN_ZONES,
-        "Too Many Open Zones (type 1h, code BEh): an open resource is wanted, none is free and no zone can be \
-closed",
-    ),
-    (
-        Status::INVALID_ZONE_STATE_TRANSITION,
-        "Invalid Zone State Transition (type 1h, code BFh): the zone's state does not allow the action",
-    ),
-    (
         Status::ZONE_HELD,
         "Zone Held (type 7h, code C0h; profile): an active run holds the zone against the command",
-    ),
-    (
-        Status::NO_SUCH_PROGRAM,
-        "No Such Program (type 7h, code C1h; profile): the slot has no program",
-    ),
-    (
-        Status::PROGRAM_REFUSED,
-        "Program Refused (type 7h, code C2h; profile): the bytes are no program, or it isn't accepted",
-    ),
-    (
-        Status::NO_RUN_FREE,
-        "No Run Free (type 7h, code C3h; profile): as many runs are active as can be",
-    ),
-    (
-        Status::SOURCE_NOT_WRITTEN,
-        "Source Not Written (type 7h, code C4h; profile): not all of the blocks that the run is to read are written",
-    ),
-    (
-        Status::DESTINATION_NOT_OPEN,
-        "Destination Not Open (type 7h, code C5h; profile): the zone that the run is to append to isn't open",
-    ),
-    (
-        Status::DESTINATION_LACKS_ROOM,
-        "Destination Lacks Room (type 7h, code C6h; profile): the zone that the run is to append to has less room \
-than the run may need",
-    ),
-    (
-        Status::WANT_OF_MEMORY,
-        "Want of Memory (type 7h, code C7h; profile): there is no memory for the program; nothing has changed",
-    ),
-    (
-        Status::PROGRAM_TRAPPED,
-        "Program Trapped (type 7h, code C8h; profile): the run's program could not go on",
-    ),
-    (
-        Status::SOURCE_IS_DESTINATION,
-        "Source Is Destination (type 7h, code C9h; profile): the run's source and its destination are one zone",
-    ),
-    (
-        Status::PROGRAM_IN_USE,
-        "Program in Use (type 7h, code CAh; profile): an active run uses the slot's program",
     ),
     (
         Status {
@@ -129,7 +41,7 @@ fn statuses_have_sentences(rt: HostRuntime) -> Result<(), Fail> {
 }
 
 #[test]
-fn statuses_have_the_standards_numbers(rt: HostRuntime) {
+fn statuses_have_the_standards_numbers_and_a_name(rt: HostRuntime) -> Result<(), Fail> {
     let statuses = [
         (Status::SUCCESS, 0x0, 0x00),
         (Status::INVALID_COMMAND_OPCODE, 0x0, 0x01),
@@ -159,8 +71,11 @@ fn statuses_have_the_standards_numbers(rt: HostRuntime) {
     for (status, kind, code) in statuses {
         assert_eq!(rt; (status.kind.number(), status.code), (kind, code));
         assert_eq!(rt; StatusType::from_number(kind), Some(status.kind));
+        let told = status.to_string(rt.alloc())?;
+        assert!(rt; !told.as_str().starts_with("unknown"), "{status:?}");
     }
     assert_eq!(rt; StatusType::from_number(0x2), None);
+    Ok(())
 }
 
 #[test]
