@@ -44,7 +44,7 @@ fn addresses_of_no_block(rt: HostRuntime) -> Result<(), Fail> {
 
 #[test]
 fn the_last_blocks(rt: HostRuntime) -> Result<(), Fail> {
-    let last_zone = [zone(0x1, 24, 24), NONE, NONE, NONE];
+    let last_zone = [zone(EMPTY, 24, 24), NONE, NONE, NONE];
     let steps = [
         // The last block is there, and the next isn't.
         Step::Begin,

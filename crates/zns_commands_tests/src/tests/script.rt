@@ -105,9 +105,9 @@ pub fn send_all(action: Action, status: Status) -> Step {
     Step::Execute(command, 0, status)
 }
 
-/// The descriptor of a zone in the state with this code, which can hold 6 blocks.
-pub fn zone(code: u64, lowest: u64, pointer: u64) -> Descriptor {
-    [(code << 12) | 0x02, 6, lowest, pointer]
+/// The descriptor of a zone in this state, which can hold 6 blocks.
+pub fn zone(state: ZoneState, lowest: u64, pointer: u64) -> Descriptor {
+    [(u64::from(state.code()) << 12) | 0x02, 6, lowest, pointer]
 }
 
 /// Four zones of 8 blocks of 512 bytes, 6 of them writable; 2 zones may be open and 3 active.
