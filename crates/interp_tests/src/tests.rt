@@ -7,7 +7,7 @@ mod vectors;
 use ebpf_decode::decode;
 use instruction_set::Program;
 use interp::{Machine, Step};
-use program_interface::{Area, LARGEST_BLOCK};
+use program_interface::LARGEST_BLOCK;
 use program_meaning::{Cause, End};
 use std::alloc::Global;
 use std::process::Abort;
@@ -223,18 +223,4 @@ fn the_least_cause_of_a_trap(rt: HostRuntime) -> Result<(), Fail> {
         1,
         Cause::EmitLength,
     )
-}
-
-#[test]
-fn the_areas_of_memory(rt: HostRuntime) {
-    let areas = [
-        (Area::Context, 0x1_0000_0000, 32),
-        (Area::Block, 0x2_0000_0000, 4096),
-        (Area::Stack, 0x3_0000_0000, 512),
-        (Area::Scratch, 0x4_0000_0000, 1024),
-    ];
-    for (area, address, length) in areas {
-        assert_eq!(rt; area.address(), address);
-        assert_eq!(rt; area.length(4096), length);
-    }
 }

@@ -48,9 +48,18 @@ fn tells_a_program_of_its_block(rt: HostRuntime) {
 
 #[test]
 fn starts_with_the_areas_at_hand(rt: HostRuntime) {
+    let areas = [
+        (Area::Context, 0x1_0000_0000, 32),
+        (Area::Block, 0x2_0000_0000, 4096),
+        (Area::Stack, 0x3_0000_0000, 512),
+        (Area::Scratch, 0x4_0000_0000, 1024),
+    ];
+    for (area, address, length) in areas {
+        assert_eq!(rt; area.address(), address);
+        assert_eq!(rt; area.length(4096), length);
+    }
     let registers = start_registers();
     assert_eq!(rt; registers[2], Area::Block.address());
     assert_eq!(rt; registers[10], Area::Stack.address() + 512);
-    assert_eq!(rt; Area::Scratch.length(512), 1024);
     assert_eq!(rt; MOST_SLOTS, 4096);
 }

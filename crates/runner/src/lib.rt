@@ -12,8 +12,6 @@ mod loaded_program;
 mod places;
 mod results;
 mod submission;
-#[cfg(test)]
-mod tests;
 mod turn;
 
 pub use device::{Device, Stopped};

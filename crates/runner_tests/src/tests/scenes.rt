@@ -4,8 +4,8 @@ ghost use Rattle.std.specs.Prelude.{◌≤◌, length};
 
 use super::steps::{Case, Expected, bytes_of};
 use super::{Kept, room};
-use crate::{Device, Event, Reply};
 use image_store::Version;
+use runner::{Device, Event, Reply};
 use std::alloc::Global;
 use std::process::Abort;
 use std::test::Fail;

@@ -3,8 +3,8 @@
 ghost use Rattle.std.proofs.Common.{◌∙◌, ap, append_assoc, rules};
 ghost use Rattle.std.specs.Prelude.{◌≡◌, ◌≤◌, ◌++◌, length, map};
 
-use super::*;
 use programs::EMITTING;
+use runner::{Device, Event, NotTaken, Out, Reply};
 use scenes::{ALL_EMPTY, FOUR_ZONES, check_steps, check_zones, device_of};
 use std::alloc::Global;
 use std::process::Abort;

@@ -4,12 +4,12 @@ ghost use Rattle.std.specs.Prelude.{◌≤◌};
 ghost use Rattle.nvme_entry.specs.Encoding.{program_length};
 
 use super::programs::Text;
-use crate::{Event, Reply};
 use ebpf_asm::assemble;
 use nvme_entry::{
     BlockCount, Command, Completion, Entry, LoadCommand, ProgramSlot, RunCommand, StandardCommand,
     Status,
 };
+use runner::{Event, Reply};
 use std::alloc::{AllocError, Global};
 use std::test::Fail;
 use zns_commands::{FaultState, MOST_TRANSFER};
