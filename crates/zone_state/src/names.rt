@@ -97,7 +97,7 @@ const MEANINGS: &[Meaning] = &[
     Meaning {
         status: Status::PROGRAM_REFUSED,
         name: "Program Refused",
-        sentence: "the bytes are no program, or it isn't accepted",
+        sentence: "the bytes are no program, or it is not accepted",
     },
     Meaning {
         status: Status::NO_RUN_FREE,
@@ -112,7 +112,7 @@ const MEANINGS: &[Meaning] = &[
     Meaning {
         status: Status::DESTINATION_NOT_OPEN,
         name: "Destination Not Open",
-        sentence: "the zone that the run is to append to isn't open",
+        sentence: "the zone that the run is to append to is not open",
     },
     Meaning {
         status: Status::DESTINATION_LACKS_ROOM,

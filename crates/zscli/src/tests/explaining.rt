@@ -176,7 +176,7 @@ queue 1, command 3: write of 1 block from LBA 10 on: refused: Zone Is Full (type
 queue 1, command 3: open of all zones that it takes: done
 queue 1, command 8: result of slot 0: 2 bytes
 queue 1, command 9: load of 0 bytes into slot 0: refused: Program Refused (type 7h, code C2h; profile): the bytes \
-are no program, or it isn't accepted; slot 3, reason 10 (an emit over the limit)
+are no program, or it is not accepted; slot 3, reason 10 (an emit over the limit)
 queue 1, command 6: an entry that is no command: refused: Invalid Command Opcode (type 0h, code 01h): the opcode is \
 none that is supported
 done: a zone has its fault
