@@ -3,7 +3,7 @@ use Rattle.std.proofs.Common.{◌≡◌, ℕ, zero, suc, ◌<◌, ◌≤◌, ◌
 use Rattle.std.proofs.lemmas.Bool.{cases_lt, eqb-true, eqb-false}
 use Rattle.std.specs.Option.{option_map, option_or}
 use Rattle.instruction_set.specs.Program.{instruction_at}
-use Rattle.instruction_set.specs.declared.insn.Insn.{Insn}
+use Rattle.instruction_set.specs.declared.instruction.Instruction.{Instruction}
 use Rattle.instruction_set.proofs.Proved.{begins_inside}
 use Rattle.program_interface.specs.RunSizes.{Sizes}
 use Rattle.word_domain.specs.Domain.{Operations}
@@ -113,7 +113,7 @@ none_before : (before last : Option Refusal) → option_or before last ≡ None 
 none_before None last e = (refl, e)
 none_before (Some r) last e = cc
 
-module _ {D : Type 0} (operations : Operations D) (program : List (Option Insn)) (sizes : Sizes) where
+module _ {D : Type 0} (operations : Operations D) (program : List (Option Instruction)) (sizes : Sizes) where
   abbrev IsFirst : Refusal → Type 0
   IsFirst r = IsFirstRefusal operations program sizes r
 
@@ -123,7 +123,7 @@ module _ {D : Type 0} (operations : Operations D) (program : List (Option Insn))
   abbrev below : ℕ → Option Refusal
   below n = refusal_below operations program sizes n
 
-  abbrev at : ℕ → Option Insn → Option (Facts D) → Option Refusal
+  abbrev at : ℕ → Option Instruction → Option (Facts D) → Option Refusal
   at slot i facts = refusal_at operations program sizes slot i facts
 
   abbrev known_at : ℕ → Option (Facts D)
@@ -152,7 +152,7 @@ module _ {D : Type 0} (operations : Operations D) (program : List (Option Insn))
 
   -- ---- a refusal
 
-  first_reason : (slot : ℕ) (i : Insn) (facts : Facts D) (reason : Reason) → HasFacts operations program sizes slot i facts
+  first_reason : (slot : ℕ) (i : Instruction) (facts : Facts D) (reason : Reason) → HasFacts operations program sizes slot i facts
       → reason_of operations program sizes slot facts i ≡ Some reason → ((s : ℕ) → s < slot → PassesAt s)
       → IsFirst (refused_at slot reason)
   first_reason slot i facts reason has e lower = record {
@@ -164,7 +164,7 @@ module _ {D : Type 0} (operations : Operations D) (program : List (Option Insn))
     lowest = lower;
   }
 
-  first_told : (slot : ℕ) (i : Insn) (facts : Facts D) (reason : Option Reason) (r : Refusal) → HasFacts operations program sizes slot i facts
+  first_told : (slot : ℕ) (i : Instruction) (facts : Facts D) (reason : Option Reason) (r : Refusal) → HasFacts operations program sizes slot i facts
       → reason_of operations program sizes slot facts i ≡ reason → option_map (refused_at slot) reason ≡ Some r
       → ((s : ℕ) → s < slot → PassesAt s) → IsFirst r
   first_told slot i facts None r has is e lower = cc
@@ -172,7 +172,7 @@ module _ {D : Type 0} (operations : Operations D) (program : List (Option Insn))
       let same : refused_at slot reason ≡ r = cc in
       subst IsFirst same (first_reason slot i facts reason has is lower)
 
-  first_here : (slot : ℕ) (i : Option Insn) (facts : Option (Facts D)) (r : Refusal) → instruction_at program slot ≡ i
+  first_here : (slot : ℕ) (i : Option Instruction) (facts : Option (Facts D)) (r : Refusal) → instruction_at program slot ≡ i
       → known_at slot ≡ facts → at slot i facts ≡ Some r → ((s : ℕ) → s < slot → PassesAt s) → IsFirst r
   first_here slot (Some i) (Some facts) r begins known e lower =
       first_told slot i facts (reason_of operations program sizes slot facts i) r (record { begins = begins; are = known }) refl e lower
@@ -193,7 +193,7 @@ module _ {D : Type 0} (operations : Operations D) where
   pub refusal_is_first : RefusalIsFirst operations
   refusal_is_first program sizes r e = first_below operations program sizes (length program) r e
 
-  begins_by : (i : Insn) (found : Option Insn) → found ≡ Some i → IsSome found
+  begins_by : (i : Instruction) (found : Option Instruction) → found ≡ Some i → IsSome found
   begins_by i found e = rw e refl
 
   pub accepted_fails_nowhere : AcceptedFailsNowhere operations

@@ -5,7 +5,7 @@ use Rattle.std.proofs.lemmas.Bool.{eq-eqb}
 use Rattle.std.specs.List.{AllByRecursion}
 use Rattle.instruction_set.specs.Instruction.{distance_of}
 use Rattle.instruction_set.specs.Program.{instruction_at}
-use Rattle.instruction_set.specs.declared.insn.Insn.{Insn}
+use Rattle.instruction_set.specs.declared.instruction.Instruction.{Instruction}
 use Rattle.program_meaning.specs.State.{IsState, State}
 use Rattle.program_interface.specs.declared.area.Area.TheVariants.{Stack}
 use Rattle.word_domain.specs.Domain.{IsSound, Operations}
@@ -84,13 +84,13 @@ module _ {D : Type 0} {IsFact : D → Type 0} {contains : D → ℕ → Type 0} 
     given_where false facts e h = cc
 
     module _ (block : ℕ) where
-      abbrev behind : Insn → ℕ → Facts D → ℕ → Option (Facts D)
+      abbrev behind : Instruction → ℕ → Facts D → ℕ → Option (Facts D)
       behind i slot facts other = if slot_behind slot i == other then facts_behind operations block i facts else None
 
-      abbrev ahead : Insn → ℕ → Facts D → ℕ → Option (Facts D)
+      abbrev ahead : Instruction → ℕ → Facts D → ℕ → Option (Facts D)
       ahead i slot facts other = if leads slot (distance_of i) other then facts_at_target operations block i facts else None
 
-      gives_keeps : (i : Option Insn) (slot : ℕ) (facts : Option (Facts D)) (other : ℕ) (sofar : Option (Facts D))
+      gives_keeps : (i : Option Instruction) (slot : ℕ) (facts : Option (Facts D)) (other : ℕ) (sofar : Option (Facts D))
           → SomeAreFacts IsFact facts → SomeAreFacts IsFact sofar → MeetsSome contains sofar s
           → MeetsSome contains (gives operations block i slot facts other sofar) s
       gives_keeps (Some i) slot (Some facts) other sofar are before h =
@@ -102,7 +102,7 @@ module _ {D : Type 0} {IsFact : D → Type 0} {contains : D → ℕ → Type 0} 
       gives_keeps (Some i) slot None other sofar are before h = h
       gives_keeps None slot facts other sofar are before h = h
 
-      gives_along : (i : Insn) (facts : Facts D) (from : State) (sofar : Option (Facts D)) (taken : Bool)
+      gives_along : (i : Instruction) (facts : Facts D) (from : State) (sofar : Option (Facts D)) (taken : Bool)
           → AreFacts IsFact facts → SomeAreFacts IsFact sofar → IsAlong contains operations block i facts from s taken
           → MeetsSome contains (gives operations block (Some i) from.slot (Some facts) s.slot sofar) s
       gives_along i facts from sofar false are before h =
@@ -121,7 +121,7 @@ module _ {D : Type 0} {IsFact : D → Type 0} {contains : D → ℕ → Type 0} 
           (given_where (leads from.slot (distance_of i) s.slot) (facts_at_target operations block i facts) h.0 h.1)
 
       -- ---- what all slots give
-      module _ (program : List (Option Insn)) where
+      module _ (program : List (Option Instruction)) where
         abbrev given : ℕ → ℕ → Option (Facts D)
         given slot other = given_below operations block program slot other
 
@@ -146,7 +146,7 @@ module _ {D : Type 0} {IsFact : D → Type 0} {contains : D → ℕ → Type 0} 
             subst P all (given_more (other - suc slot) (suc slot) other h)
 
         -- a state that a step leads to meets what is known at its slot
-        pub arrives : (i : Insn) (facts : Facts D) (from : State) → instruction_at program from.slot ≡ Some i
+        pub arrives : (i : Instruction) (facts : Facts D) (from : State) → instruction_at program from.slot ≡ Some i
             → facts_at operations block program from.slot ≡ Some facts → Moved contains operations block i facts from s
             → MeetsSome contains (facts_at operations block program s.slot) s
         arrives i facts from at known moved =

@@ -5,10 +5,10 @@ use Rattle.std.specs.List.{AllByRecursion}
 use Rattle.std.specs.Prelude.{◌==◌, ◌&&◌, nat_le, unwrap_or, if◌then◌else◌}
 use Rattle.instruction_set.specs.Instruction.{distance_of, immediate_word, size_of}
 use Rattle.instruction_set.specs.Program.{instruction_at}
-use Rattle.instruction_set.specs.declared.insn.Insn.{Insn}
-use Rattle.instruction_set.specs.declared.insn.Insn.TheVariants.{LoadImmediate, Load, LoadSigned, StoreImmediate, StoreRegister, Arithmetic, Negate, MoveSigned, SwapBytes, Jump, JumpLong, Branch, Call, Exit}
-use Rattle.instruction_set.specs.declared.insn.Source.{Source}
-use Rattle.instruction_set.specs.declared.insn.Source.TheVariants.{Immediate, Register}
+use Rattle.instruction_set.specs.declared.instruction.Instruction.{Instruction}
+use Rattle.instruction_set.specs.declared.instruction.Instruction.TheVariants.{LoadImmediate, Load, LoadSigned, StoreImmediate, StoreRegister, Arithmetic, Negate, MoveSigned, SwapBytes, Jump, JumpLong, Branch, Call, Exit}
+use Rattle.instruction_set.specs.declared.instruction.Source.{Source}
+use Rattle.instruction_set.specs.declared.instruction.Source.TheVariants.{Immediate, Register}
 use Rattle.instruction_set.specs.declared.operation.Relation.{Relation}
 use Rattle.instruction_set.specs.declared.operation.Size.{Size}
 use Rattle.instruction_set.specs.declared.operation.Size.TheVariants.{Byte, HalfWord, Word, DoubleWord}
@@ -179,7 +179,7 @@ module _ {D : Type 0} {IsFact : D → Type 0} {operations : Operations D} (give 
   loaded_is facts Word src offset are = give.loaded Word
 
   module _ (block : ℕ) where
-    behind_facts : (i : Insn) (facts : Facts D) → AreFacts IsFact facts
+    behind_facts : (i : Instruction) (facts : Facts D) → AreFacts IsFact facts
         → SomeAreFacts IsFact (facts_behind operations block i facts)
     behind_facts (LoadImmediate dst value) facts are =
         with_facts facts dst _ are (give.constant (value % 2 ^ 64) (mod-lt value (lit< tt)))
@@ -213,7 +213,7 @@ module _ {D : Type 0} {IsFact : D → Type 0} {operations : Operations D} (give 
     }
     behind_facts Exit facts are = tt
 
-    target_facts : (i : Insn) (facts : Facts D) → AreFacts IsFact facts
+    target_facts : (i : Instruction) (facts : Facts D) → AreFacts IsFact facts
         → SomeAreFacts IsFact (facts_at_target operations block i facts)
     target_facts (Jump distance) facts are = are
     target_facts (JumpLong distance) facts are = are
@@ -232,12 +232,12 @@ module _ {D : Type 0} {IsFact : D → Type 0} {operations : Operations D} (give 
     target_facts Exit facts are = tt
 
     -- what a slot gives to another, if it leads there
-    pub behind_given : (i : Insn) (slot : ℕ) (facts : Facts D) (other : ℕ) → AreFacts IsFact facts
+    pub behind_given : (i : Instruction) (slot : ℕ) (facts : Facts D) (other : ℕ) → AreFacts IsFact facts
         → SomeAreFacts IsFact (if slot_behind slot i == other then facts_behind operations block i facts else None)
     behind_given i slot facts other are =
         chosen IsFact (slot_behind slot i == other) (facts_behind operations block i facts) (behind_facts i facts are)
 
-    pub ahead_given : (i : Insn) (slot : ℕ) (facts : Facts D) (other : ℕ) → AreFacts IsFact facts
+    pub ahead_given : (i : Instruction) (slot : ℕ) (facts : Facts D) (other : ℕ) → AreFacts IsFact facts
         → SomeAreFacts IsFact (if leads slot (distance_of i) other then facts_at_target operations block i facts else None)
     ahead_given i slot facts other are =
         chosen IsFact (leads slot (distance_of i) other) (facts_at_target operations block i facts) (target_facts i facts are)
@@ -277,7 +277,7 @@ module _ {D : Type 0} {IsFact : D → Type 0} {operations : Operations D} (give 
         cells = no_cell_facts IsFact;
       }
 
-  gives_facts : (block : ℕ) (i : Option Insn) (slot : ℕ) (facts : Option (Facts D)) (other : ℕ) (sofar : Option (Facts D))
+  gives_facts : (block : ℕ) (i : Option Instruction) (slot : ℕ) (facts : Option (Facts D)) (other : ℕ) (sofar : Option (Facts D))
       → SomeAreFacts IsFact facts → SomeAreFacts IsFact sofar
       → SomeAreFacts IsFact (gives operations block i slot facts other sofar)
   gives_facts block (Some i) slot (Some facts) other sofar are before =
@@ -286,7 +286,7 @@ module _ {D : Type 0} {IsFact : D → Type 0} {operations : Operations D} (give 
   gives_facts block (Some i) slot None other sofar are before = before
   gives_facts block None slot facts other sofar are before = before
 
-  pub given_facts : (block : ℕ) (program : List (Option Insn)) (slot other : ℕ)
+  pub given_facts : (block : ℕ) (program : List (Option Instruction)) (slot other : ℕ)
       → SomeAreFacts IsFact (given_below operations block program slot other)
   given_facts block program zero other = chosen IsFact (other == 0) (Some (facts_at_start operations)) start_are
   given_facts block program (suc slot) other =
@@ -295,7 +295,7 @@ module _ {D : Type 0} {IsFact : D → Type 0} {operations : Operations D} (give 
       (given_facts block program slot other)
 
   -- the facts that are known at a slot
-  pub known_facts : (block : ℕ) (program : List (Option Insn)) (slot : ℕ) (facts : Facts D)
+  pub known_facts : (block : ℕ) (program : List (Option Instruction)) (slot : ℕ) (facts : Facts D)
       → facts_at operations block program slot ≡ Some facts → AreFacts IsFact facts
   known_facts block program slot facts known =
       let P : Option (Facts D) → Type 0 = λ o. SomeAreFacts IsFact o in

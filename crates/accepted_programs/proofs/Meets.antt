@@ -2,7 +2,7 @@
 use Rattle.std.specs.Prelude.{ℕ, Bool, true, false, ◌≡◌, ◌<◌, ◌≤◌, List, [], ◌∷◌, length, drop, get_or, ◌*◌, Option, Some, None}
 use Rattle.byteorder.specs.Endian.{little_number}
 use Rattle.instruction_set.specs.Instruction.{distance_of}
-use Rattle.instruction_set.specs.declared.insn.Insn.{Insn}
+use Rattle.instruction_set.specs.declared.instruction.Instruction.{Instruction}
 use Rattle.program_meaning.specs.State.{State}
 use Rattle.word_domain.specs.Domain.{Operations}
 use Rattle.accepted_programs.specs.Facts.{facts_at_target, facts_behind, leads, slot_behind}
@@ -32,7 +32,7 @@ module _ {D : Type 0} (contains : D → ℕ → Type 0) where
   MeetsSome None s = ⊥
   MeetsSome (Some facts) s = Meets facts s
 
-  module _ (operations : Operations D) (block : ℕ) (i : Insn) (facts : Facts D) (s s' : State) where
+  module _ (operations : Operations D) (block : ℕ) (i : Instruction) (facts : Facts D) (s s' : State) where
     -- the second state is at the end of an edge of the instruction, taken or not, and meets what the edge
     -- gives
     abbrev pub IsAlong : Bool → Type 0

@@ -7,10 +7,10 @@ use Rattle.std.specs.Int.{w16}
 use Rattle.std.specs.Prelude.{◌&&◌, FitsSigned, nat_le, unwrap_or, if◌then◌else◌}
 use Rattle.instruction_set.specs.Instruction.{access_of, distance_of, immediate_word, signed_size_of, size_of, target}
 use Rattle.instruction_set.specs.Spelling.{first_slot}
-use Rattle.instruction_set.specs.declared.insn.Insn.{Insn}
-use Rattle.instruction_set.specs.declared.insn.Insn.TheVariants.{LoadImmediate, Load, LoadSigned, StoreImmediate, StoreRegister, Arithmetic, Negate, MoveSigned, SwapBytes, Jump, JumpLong, Branch, Call, Exit}
-use Rattle.instruction_set.specs.declared.insn.Source.{Source}
-use Rattle.instruction_set.specs.declared.insn.Source.TheVariants.{Immediate, Register}
+use Rattle.instruction_set.specs.declared.instruction.Instruction.{Instruction}
+use Rattle.instruction_set.specs.declared.instruction.Instruction.TheVariants.{LoadImmediate, Load, LoadSigned, StoreImmediate, StoreRegister, Arithmetic, Negate, MoveSigned, SwapBytes, Jump, JumpLong, Branch, Call, Exit}
+use Rattle.instruction_set.specs.declared.instruction.Source.{Source}
+use Rattle.instruction_set.specs.declared.instruction.Source.TheVariants.{Immediate, Register}
 use Rattle.instruction_set.specs.declared.operation.Relation.{Relation}
 use Rattle.instruction_set.specs.declared.operation.Size.{Size}
 use Rattle.instruction_set.specs.declared.operation.Size.TheVariants.{Byte, HalfWord, Word, DoubleWord}
@@ -42,7 +42,7 @@ use Rattle.accepted_programs.proofs.Meets.{Meets, MeetsSome, Moved}
 use Rattle.accepted_programs.proofs.Registers.{belong_drop, belong_refined, belong_replicate, belong_set, belongs, compared, compared_belongs, compares_low, constant_belongs, one_register, source_belongs}
 use Rattle.accepted_programs.specs.declared.facts.Facts.{Facts}
 
-behind_is_later : (slot : ℕ) (i : Insn) → slot < slot_behind slot i
+behind_is_later : (slot : ℕ) (i : Instruction) → slot < slot_behind slot i
 behind_is_later slot (LoadImmediate dst value) = omega arith
 behind_is_later slot i = omega arith
 
@@ -64,7 +64,7 @@ module _ {D : Type 0} {IsFact : D → Type 0} {contains : D → ℕ → Type 0} 
       (long : length s.memory.block ≡ block) (are : AreFacts IsFact facts) (meets : Meets contains facts s) where
     -- ---- where it leads
 
-    behind : (i : Insn) → next_slot s.slot s.registers i ≡ pos (slot_behind s.slot i)
+    behind : (i : Instruction) → next_slot s.slot s.registers i ≡ pos (slot_behind s.slot i)
         → MeetsSome contains (facts_behind operations block i facts) (after s i)
         → Moved contains operations block i facts s (after s i)
     behind i next met = record {
@@ -73,7 +73,7 @@ module _ {D : Type 0} {IsFact : D → Type 0} {contains : D → ℕ → Type 0} 
       forward = rw next (behind_is_later s.slot i);
     }
 
-    ahead : (i : Insn) (distance : ℤ) → distance_of i ≡ Some distance → goes_back (Some distance) ≡ false
+    ahead : (i : Instruction) (distance : ℤ) → distance_of i ≡ Some distance → goes_back (Some distance) ≡ false
         → next_slot s.slot s.registers i ≡ target s.slot distance
         → MeetsSome contains (facts_at_target operations block i facts) (after s i)
         → Moved contains operations block i facts s (after s i)
@@ -267,7 +267,7 @@ module _ {D : Type 0} {IsFact : D → Type 0} {contains : D → ℕ → Type 0} 
         (ap (λ (t : Bool). cond t (target s.slot distance) (pos (s.slot + 1))) answer)
         (along_meets false width relation dst source _ answer)
 
-    moves : (i : Insn) → FitsSigned w16 (first_slot i).offset → is_exit i ≡ false → goes_back (distance_of i) ≡ false
+    moves : (i : Instruction) → FitsSigned w16 (first_slot i).offset → is_exit i ≡ false → goes_back (distance_of i) ≡ false
         → stores_outside operations block facts (access_of i) ≡ false → Moved contains operations block i facts s (after s i)
     moves (LoadImmediate dst value) near goes forth inside =
         behind (LoadImmediate dst value) refl
@@ -313,7 +313,7 @@ module _ {D : Type 0} {IsFact : D → Type 0} {contains : D → ℕ → Type 0} 
     moves Exit near goes forth inside = cc
 
   -- the theorem; of the reasons to refuse, a jump back and a store outside bear on it
-  pub moved : (program : List (Option Insn)) (sizes : Sizes) (i : Insn) (facts : Facts D) (s : State)
+  pub moved : (program : List (Option Instruction)) (sizes : Sizes) (i : Instruction) (facts : Facts D) (s : State)
       → AreSizes sizes → IsState s → length s.memory.block ≡ sizes.block → AreFacts IsFact facts → Meets contains facts s
       → FitsSigned w16 (first_slot i).offset → is_exit i ≡ false
       → reason_of operations program sizes s.slot facts i ≡ None

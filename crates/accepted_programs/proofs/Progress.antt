@@ -3,24 +3,24 @@ use Rattle.std.specs.Prelude.{ℕ, zero, suc, ◌≡◌, ◌+◌, ◌<◌, ◌�
 use Rattle.std.proofs.Common.{arith}
 use Rattle.std.proofs.Math.Nat.{le_of_lt}
 use Rattle.std.proofs.lemmas.List.Sums.{sum_by-cons}
-use Rattle.instruction_set.specs.declared.insn.Insn.{Insn}
+use Rattle.instruction_set.specs.declared.instruction.Instruction.{Instruction}
 use Rattle.program_meaning.specs.Step.{IsAt}
 
 -- ---- behind an instruction there are fewer than from there on
-one_more : (n : ℕ) (i : Insn) (slots : List (Option Insn)) → n ≤ count_by is_some slots
+one_more : (n : ℕ) (i : Instruction) (slots : List (Option Instruction)) → n ≤ count_by is_some slots
     → n < count_by is_some (Some i ∷ slots)
 one_more n i slots h =
     let count : count_by is_some (Some i ∷ slots) ≡ 1 + count_by is_some slots =
-    sum_by-cons (λ (slot : Option Insn). if is_some slot then 1 else 0) (Some i) slots in
+    sum_by-cons (λ (slot : Option Instruction). if is_some slot then 1 else 0) (Some i) slots in
     omega (arith, count, h)
 
-fewer_behind : (m : ℕ) (slots : List (Option Insn)) → count_by is_some (drop m slots) ≤ count_by is_some slots
+fewer_behind : (m : ℕ) (slots : List (Option Instruction)) → count_by is_some (drop m slots) ≤ count_by is_some slots
 fewer_behind zero slots = omega arith
 fewer_behind (suc m) [] = omega arith
 fewer_behind (suc m) (Some i ∷ slots) = le_of_lt (one_more _ i slots (fewer_behind m slots))
 fewer_behind (suc m) (None ∷ slots) = fewer_behind m slots
 
-pub fewer : (slots : List (Option Insn)) (k m : ℕ) → IsAt slots k → k < m
+pub fewer : (slots : List (Option Instruction)) (k m : ℕ) → IsAt slots k → k < m
     → count_by is_some (drop m slots) < count_by is_some (drop k slots)
 fewer [] k m here before = cc
 fewer (slot ∷ slots) k zero here before = absurd (omega arith)
@@ -28,10 +28,10 @@ fewer (None ∷ slots) zero (suc m) here before = cc
 fewer (Some i ∷ slots) zero (suc m) here before = one_more _ i slots (fewer_behind m slots)
 fewer (slot ∷ slots) (suc k) (suc m) here before = fewer slots k m here (omega arith)
 
-pub some_left : (slots : List (Option Insn)) (k : ℕ) → IsAt slots k → 1 ≤ count_by is_some (drop k slots)
+pub some_left : (slots : List (Option Instruction)) (k : ℕ) → IsAt slots k → 1 ≤ count_by is_some (drop k slots)
 some_left slots k here = let less = fewer slots k (suc k) here (omega arith) in omega (arith, less)
 
-pub begins_within : (slots : List (Option Insn)) (k : ℕ) → IsAt slots k → k < length slots
+pub begins_within : (slots : List (Option Instruction)) (k : ℕ) → IsAt slots k → k < length slots
 begins_within [] k here = cc
 begins_within (slot ∷ slots) zero here = omega arith
 begins_within (slot ∷ slots) (suc k) here = let rest = begins_within slots k here in omega (arith, rest)

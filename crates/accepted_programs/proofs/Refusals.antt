@@ -2,7 +2,7 @@
 use Rattle.std.proofs.Common.{◌≡◌, ℕ, zero, suc, ◌<◌, List, length, Option, Some, None, arith}
 use Rattle.std.specs.Option.{option_map, option_or}
 use Rattle.instruction_set.specs.Program.{instruction_at}
-use Rattle.instruction_set.specs.declared.insn.Insn.{Insn}
+use Rattle.instruction_set.specs.declared.instruction.Instruction.{Instruction}
 use Rattle.program_interface.specs.RunSizes.{Sizes}
 use Rattle.word_domain.specs.Domain.{Operations}
 use Rattle.accepted_programs.specs.Accepted.{all_reasons, fails, reason_of, refusal_at, refusal_below, refused_at}
@@ -34,7 +34,7 @@ module _ {D : Type 0} (operations : Operations D) where
   at_its_slot program sizes slot (Some i) None r e = cc
   at_its_slot program sizes slot None facts r e = cc
 
-  refused_below : (program : List (Option Insn)) (sizes : Sizes) (n : ℕ) (r : Refusal)
+  refused_below : (program : List (Option Instruction)) (sizes : Sizes) (n : ℕ) (r : Refusal)
       → refusal_below operations program sizes n ≡ Some r → r.slot < n
   refused_below program sizes zero r e = cc
   refused_below program sizes (suc n) r e =

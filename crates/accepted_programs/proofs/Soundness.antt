@@ -4,7 +4,7 @@ use Rattle.std.proofs.Common.{arith, inl, inr, lit<, refl, ap, subst, ◌∙◌}
 use Rattle.std.specs.Option.{option_map, option_or}
 use Rattle.std.proofs.lemmas.Bool.{cases_lt}
 use Rattle.instruction_set.specs.Program.{instruction_at, instruction_count}
-use Rattle.instruction_set.specs.declared.insn.Insn.{Insn}
+use Rattle.instruction_set.specs.declared.instruction.Instruction.{Instruction}
 use Rattle.program_meaning.proofs.Proved.{begins_at_instruction, keeps_group_limit, keeps_read_only, keeps_state, leads_to_instruction}
 use Rattle.program_meaning.specs.Cause.{is_exit, least_cause}
 use Rattle.program_meaning.specs.Effect.{register}
@@ -36,12 +36,12 @@ use Rattle.accepted_programs.specs.declared.reason.Reason.{Reason}
 use Rattle.accepted_programs.specs.declared.reason.Refusal.{Refusal}
 
 -- ---- a step that nothing hinders
-decided_goes : (s : State) (i : Insn) (least : Option Cause) → least ≡ None → is_exit i ≡ false
+decided_goes : (s : State) (i : Instruction) (least : Option Cause) → least ≡ None → is_exit i ≡ false
     → decided s i least ≡ Goes (after s i)
 decided_goes s i None e runs_on = rw runs_on refl
 decided_goes s i (Some cause) e runs_on = cc
 
-decided_ends : (s : State) (i : Insn) (least : Option Cause) → least ≡ None → is_exit i ≡ true
+decided_ends : (s : State) (i : Instruction) (least : Option Cause) → least ≡ None → is_exit i ≡ true
     → decided s i least ≡ Ends (register s 0) s
 decided_ends s i None e exits = rw exits refl
 decided_ends s i (Some cause) e exits = cc
@@ -52,7 +52,7 @@ by_test P false f g = g refl
 
 module _ {D : Type 0} (contains : D → ℕ → Type 0) (operations : Operations D) where
   -- what holds of each state of a run
-  record Stands (program : List (Option Insn)) (sizes : Sizes) (s : State) : Type 0 where
+  record Stands (program : List (Option Instruction)) (sizes : Sizes) (s : State) : Type 0 where
     is : IsState s
     block_long : length s.memory.block ≡ sizes.block
     here : IsAt program s.slot
@@ -75,7 +75,7 @@ module _ {D : Type 0} {IsFact : D → Type 0} {contains : D → ℕ → Type 0} 
         group = omega arith;
       }
 
-  module _ (program : List (Option Insn)) (short : HasShortOffsets program) (sizes : Sizes) (are_sizes : AreSizes sizes)
+  module _ (program : List (Option Instruction)) (short : HasShortOffsets program) (sizes : Sizes) (are_sizes : AreSizes sizes)
       (accepted : refusal operations program sizes ≡ None) where
     -- ---- no refusal
     refused_not : (refuses : Reason → Refusal) (reason : Option Reason) → option_map refuses reason ≡ None → reason ≡ None
@@ -105,7 +105,7 @@ module _ {D : Type 0} {IsFact : D → Type 0} {contains : D → ℕ → Type 0} 
               subst P same last
         ]
 
-    no_reason : (i : Insn) (facts : Facts D) (slot : ℕ) → IsAt program slot → instruction_at program slot ≡ Some i
+    no_reason : (i : Instruction) (facts : Facts D) (slot : ℕ) → IsAt program slot → instruction_at program slot ≡ Some i
         → known_at slot ≡ Some facts → reason_of operations program sizes slot facts i ≡ None
     no_reason i facts slot here begins known =
         let none = none_at (length program) slot accepted (begins_within program slot here) in
@@ -115,7 +115,7 @@ module _ {D : Type 0} {IsFact : D → Type 0} {contains : D → ℕ → Type 0} 
     abbrev Holds : State → Type 0
     Holds s = Stands contains operations program sizes s
 
-    next : (i : Insn) (facts : Facts D) (s : State) → Holds s → step_of program sizes.limit s i ≡ Goes (after s i)
+    next : (i : Instruction) (facts : Facts D) (s : State) → Holds s → step_of program sizes.limit s i ≡ Goes (after s i)
         → instruction_at program s.slot ≡ Some i → known_at s.slot ≡ Some facts
         → Moved contains operations sizes.block i facts s (after s i) → Holds (after s i)
     next i facts s holds goes begins known there =
@@ -137,10 +137,10 @@ module _ {D : Type 0} {IsFact : D → Type 0} {contains : D → ℕ → Type 0} 
     module _ (bound : ℕ) (bounds : Bounds bound) (most n : ℕ) (s : State) (holds : Holds s) (one_left : n < most)
         (more : State → BlockRun)
         (rest : (s' : State) → Holds s' → s.slot < s'.slot → Exits most bound (more s')) where
-      abbrev Done : Option Insn → Type 0
+      abbrev Done : Option Instruction → Type 0
       Done at = Exits most bound (continued n s more (step_at program sizes.limit s at))
 
-      done_by : (i : Insn) (facts : Facts D) → instruction_at program s.slot ≡ Some i
+      done_by : (i : Instruction) (facts : Facts D) → instruction_at program s.slot ≡ Some i
           → known_at s.slot ≡ Some facts → Meets contains facts s → Done (Some i)
       done_by i facts begins known meets =
           let reason = no_reason i facts s.slot holds.here begins known in
@@ -155,7 +155,7 @@ module _ {D : Type 0} {IsFact : D → Type 0} {contains : D → ℕ → Type 0} 
           let there = moved sound program sizes i facts s are_sizes holds.is holds.block_long are meets near runs_on reason in
           rw goes (rest (after s i) (next i facts s holds goes begins known there) there.forward))
 
-      done_at : (at : Option Insn) (known : Option (Facts D)) → instruction_at program s.slot ≡ at
+      done_at : (at : Option Instruction) (known : Option (Facts D)) → instruction_at program s.slot ≡ at
           → known_at s.slot ≡ known → is_some at ≡ true → MeetsSome contains known s → Done at
       done_at (Some i) (Some facts) begins known here meets = done_by i facts begins known meets
       done_at None known begins e here meets = cc

@@ -8,8 +8,8 @@ use Rattle.std.specs.Prelude.{◌==◌, if◌then◌else◌, nat_le, nat_lt, sli
 use Rattle.instruction_set.specs.Instruction.{access_of, distance_of, is_emit, signed_size_of, size_of, target}
 use Rattle.instruction_set.specs.Program.{instruction_in}
 use Rattle.instruction_set.specs.Spelling.{first_slot}
-use Rattle.instruction_set.specs.declared.insn.Insn.{Insn}
-use Rattle.instruction_set.specs.declared.insn.Insn.TheVariants.{LoadImmediate, Load, LoadSigned, StoreImmediate, StoreRegister, Arithmetic, Negate, MoveSigned, SwapBytes, Jump, JumpLong, Branch, Call, Exit}
+use Rattle.instruction_set.specs.declared.instruction.Instruction.{Instruction}
+use Rattle.instruction_set.specs.declared.instruction.Instruction.TheVariants.{LoadImmediate, Load, LoadSigned, StoreImmediate, StoreRegister, Arithmetic, Negate, MoveSigned, SwapBytes, Jump, JumpLong, Branch, Call, Exit}
 use Rattle.instruction_set.specs.declared.operation.SignedSize.{SignedSize}
 use Rattle.instruction_set.specs.declared.operation.SignedSize.TheVariants as signed
 use Rattle.instruction_set.specs.declared.operation.Size.{Size}
@@ -73,14 +73,14 @@ of_all test fail reason.EmitLimit = fail.1.1.1.1.1.1.1.1.1.0
 -- ---- where it leads
 
 -- an instruction begins at what a program has at a slot
-stands : (begun : Option (Option Insn)) → not (is_some (instruction_in begun)) ≡ false
+stands : (begun : Option (Option Instruction)) → not (is_some (instruction_in begun)) ≡ false
     → (is_outside begun ≡ false) × (is_inside_wide begun ≡ false)
 stands None e = cc
 stands (Some None) e = cc
 stands (Some (Some i)) e = (refl, refl)
 
-module _ (program : List (Option Insn)) (limit : ℕ) where
-  goes_on : (s : State) (i : Insn) → leads_nowhere program s.slot (distance_of i) ≡ false
+module _ (program : List (Option Instruction)) (limit : ℕ) where
+  goes_on : (s : State) (i : Instruction) → leads_nowhere program s.slot (distance_of i) ≡ false
       → (if turns_away i then false else not (begins_at program (pos (slot_behind s.slot i)))) ≡ false
       → (holds program limit s i cause.NextOutside ≡ false) × (holds program limit s i cause.NextInsideWide ≡ false)
   goes_on s (LoadImmediate dst value) there behind = stands _ behind
@@ -168,7 +168,7 @@ module _ {D : Type 0} {IsFact : D → Type 0} {contains : D → ℕ → Type 0} 
         let inside = lies area r offset size near counted told in
         rw (long, areas_are_apart block area (address_from s.registers r offset) size fits inside) some
 
-    accesses : (i : Insn) → FitsSigned w16 (first_slot i).offset → loads_outside operations block facts (access_of i) ≡ false
+    accesses : (i : Instruction) → FitsSigned w16 (first_slot i).offset → loads_outside operations block facts (access_of i) ≡ false
         → stores_outside operations block facts (access_of i) ≡ false
         → (machine.loads_outside s i ≡ false) × (machine.stores_outside s i ≡ false)
     accesses (LoadImmediate dst value) near load store = (refl, refl)
@@ -239,7 +239,7 @@ module _ {D : Type 0} {IsFact : D → Type 0} {contains : D → ℕ → Type 0} 
         let (some, told) = or_parts (least == 0) _ length in
         (emits_inside _ most refl told bounded.1 (counted limit), emits_well some limit)
 
-    module _ (program : List (Option Insn)) (i : Insn) (near : FitsSigned w16 (first_slot i).offset)
+    module _ (program : List (Option Instruction)) (i : Instruction) (near : FitsSigned w16 (first_slot i).offset)
         (accepted : reason_of operations program sizes s.slot facts i ≡ None) where
       -- each check passes, so no cause holds
       passed : (r : Reason) → fails operations program sizes s.slot facts i r ≡ false
@@ -258,7 +258,7 @@ module _ {D : Type 0} {IsFact : D → Type 0} {contains : D → ℕ → Type 0} 
       free cause.EmitLength = (emits (is_emit i) (passed reason.EmitLength) (passed reason.EmitLimit)).1
 
   -- no cause hinders an instruction that passes all checks
-  pub unhindered : (program : List (Option Insn)) (sizes : Sizes) (i : Insn) (facts : Facts D) (s : State)
+  pub unhindered : (program : List (Option Instruction)) (sizes : Sizes) (i : Instruction) (facts : Facts D) (s : State)
       → AreSizes sizes → IsState s → length s.memory.block ≡ sizes.block → AreFacts IsFact facts → Meets contains facts s
       → FitsSigned w16 (first_slot i).offset → reason_of operations program sizes s.slot facts i ≡ None
       → least_cause program sizes.limit s i ≡ None

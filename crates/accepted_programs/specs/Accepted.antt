@@ -6,8 +6,8 @@ use Rattle.instruction_set.specs.Program.{instruction_at, instruction_in}
 use Rattle.instruction_set.specs.declared.access.Access.{Access}
 use Rattle.instruction_set.specs.declared.access.AccessKind.{AccessKind}
 use Rattle.instruction_set.specs.declared.access.AccessKind.TheVariants as kinds
-use Rattle.instruction_set.specs.declared.insn.Insn.{Insn}
-use Rattle.instruction_set.specs.declared.insn.Insn.TheVariants.{Jump, JumpLong, Exit}
+use Rattle.instruction_set.specs.declared.instruction.Instruction.{Instruction}
+use Rattle.instruction_set.specs.declared.instruction.Instruction.TheVariants.{Jump, JumpLong, Exit}
 use Rattle.program_meaning.specs.Cause.{calls_unknown, slot_in}
 use Rattle.program_interface.specs.Area.{is_writable}
 use Rattle.program_interface.specs.declared.area.Area.{Area}
@@ -37,19 +37,19 @@ all_reasons =
     ∷ EmitAddress ∷ EmitLength ∷ EmitLimit ∷ []
 
 -- does an instruction begin at this slot of a program?
-abbrev pub begins_at : List (Option Insn) → ℤ → Bool
+abbrev pub begins_at : List (Option Instruction) → ℤ → Bool
 begins_at program slot = is_some (instruction_in (slot_in program slot))
 
 abbrev pub goes_back : Option ℤ → Bool
 goes_back (Some distance) = int_lt distance (pos 0)
 goes_back None = false
 
-abbrev pub leads_nowhere : List (Option Insn) → ℕ → Option ℤ → Bool
+abbrev pub leads_nowhere : List (Option Instruction) → ℕ → Option ℤ → Bool
 leads_nowhere program slot (Some distance) = not (begins_at program (target slot distance))
 leads_nowhere program slot None = false
 
 -- does an instruction always leave the slots in a row?
-abbrev pub turns_away : Insn → Bool
+abbrev pub turns_away : Instruction → Bool
 turns_away (Jump distance) = true
 turns_away (JumpLong distance) = true
 turns_away Exit = true
@@ -93,9 +93,9 @@ module _ {D : Type 0} (operations : Operations D) where
   abbrev pub greatest_length : Facts D → ℕ
   greatest_length facts = (operations.bounds (fact operations facts 2)).high
 
-  module _ (program : List (Option Insn)) (sizes : Sizes) where
+  module _ (program : List (Option Instruction)) (sizes : Sizes) where
     -- the reasons, each for itself
-    abbrev pub fails : ℕ → Facts D → Insn → Reason → Bool
+    abbrev pub fails : ℕ → Facts D → Instruction → Reason → Bool
     fails slot facts i JumpBack = goes_back (distance_of i)
     fails slot facts i JumpOutside = leads_nowhere program slot (distance_of i)
     fails slot facts i FallsOff = if turns_away i then false else not (begins_at program (pos (slot_behind slot i)))
@@ -109,11 +109,11 @@ module _ {D : Type 0} (operations : Operations D) where
     fails slot facts i EmitLimit = is_emit i && nat_lt sizes.limit (facts.emitted + 2 + greatest_length facts)
 
     -- the least reason to refuse an instruction at a slot with these facts
-    abbrev pub reason_of : ℕ → Facts D → Insn → Option Reason
+    abbrev pub reason_of : ℕ → Facts D → Instruction → Option Reason
     reason_of slot facts i = find (fails slot facts i) all_reasons
 
     -- the refusal of a slot; one with no facts isn't looked at
-    abbrev pub refusal_at : ℕ → Option Insn → Option (Facts D) → Option Refusal
+    abbrev pub refusal_at : ℕ → Option Instruction → Option (Facts D) → Option Refusal
     refusal_at slot (Some i) (Some facts) = option_map (refused_at slot) (reason_of slot facts i)
     refusal_at slot _ _ = None
 

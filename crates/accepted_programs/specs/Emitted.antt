@@ -1,6 +1,6 @@
 -- How many bytes a group is known to have.
 use Rattle.std.specs.Prelude.{ℕ, zero, suc, List, length, max, Option, Some, None}
-use Rattle.instruction_set.specs.declared.insn.Insn.{Insn}
+use Rattle.instruction_set.specs.declared.instruction.Instruction.{Instruction}
 use Rattle.word_domain.specs.Domain.{Operations}
 use Rattle.accepted_programs.specs.Facts.{facts_at}
 use Rattle.accepted_programs.specs.declared.facts.Facts.{Facts}
@@ -10,7 +10,7 @@ abbrev pub group_in : {D : Type 0} → Option (Facts D) → ℕ
 group_in (Some facts) = facts.emitted
 group_in None = 0
 
-module _ {D : Type 0} (operations : Operations D) (program : List (Option Insn)) where
+module _ {D : Type 0} (operations : Operations D) (program : List (Option Instruction)) where
   -- the greatest bound on the group at the slots below this one, beside a block of this length
   abbrev pub most_below : ℕ → ℕ → ℕ
   most_below block zero = 0

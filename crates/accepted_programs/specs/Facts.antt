@@ -4,10 +4,10 @@ use Rattle.std.specs.Option.{option_or}
 use Rattle.std.specs.Ordering.{int_eq}
 use Rattle.instruction_set.specs.Instruction.{distance_of, immediate_word, size_of, target}
 use Rattle.instruction_set.specs.Program.{instruction_at, slots_taken}
-use Rattle.instruction_set.specs.declared.insn.Insn.{Insn}
-use Rattle.instruction_set.specs.declared.insn.Insn.TheVariants.{LoadImmediate, Load, LoadSigned, StoreImmediate, StoreRegister, Arithmetic, Negate, MoveSigned, SwapBytes, Jump, JumpLong, Branch, Call}
-use Rattle.instruction_set.specs.declared.insn.Source.{Source}
-use Rattle.instruction_set.specs.declared.insn.Source.TheVariants.{Immediate, Register}
+use Rattle.instruction_set.specs.declared.instruction.Instruction.{Instruction}
+use Rattle.instruction_set.specs.declared.instruction.Instruction.TheVariants.{LoadImmediate, Load, LoadSigned, StoreImmediate, StoreRegister, Arithmetic, Negate, MoveSigned, SwapBytes, Jump, JumpLong, Branch, Call}
+use Rattle.instruction_set.specs.declared.instruction.Source.{Source}
+use Rattle.instruction_set.specs.declared.instruction.Source.TheVariants.{Immediate, Register}
 use Rattle.instruction_set.specs.declared.operation.Relation.{Relation}
 use Rattle.instruction_set.specs.declared.operation.Size.{Size}
 use Rattle.instruction_set.specs.declared.operation.Size.TheVariants.{DoubleWord}
@@ -22,7 +22,7 @@ use Rattle.accepted_programs.specs.Cells.{cell_of, filled, is_stack, join_cells,
 use Rattle.accepted_programs.specs.declared.facts.Facts.{Facts}
 
 -- the slot behind an instruction
-abbrev pub slot_behind : ℕ → Insn → ℕ
+abbrev pub slot_behind : ℕ → Instruction → ℕ
 slot_behind slot i = slot + slots_taken i
 
 -- does a jump at one slot lead to another?
@@ -126,14 +126,14 @@ module _ {D : Type 0} (operations : Operations D) where
   -- ---- words that instructions leave
 
   -- the destination of a load, and what is known of the word there; none of another instruction
-  abbrev pub loaded_word : Insn → Facts D → Option (ℕ × D)
+  abbrev pub loaded_word : Instruction → Facts D → Option (ℕ × D)
   loaded_word (LoadImmediate dst value) facts = Some (dst, operations.constant (value % 2 ^ 64))
   loaded_word (Load size dst src offset) facts = Some (dst, loaded_fact facts size src offset)
   loaded_word (LoadSigned size dst src offset) facts = Some (dst, operations.loaded_signed size)
   loaded_word _ facts = None
 
   -- the same of an instruction that computes
-  abbrev pub computed_word : Insn → Facts D → Option (ℕ × D)
+  abbrev pub computed_word : Instruction → Facts D → Option (ℕ × D)
   computed_word (Arithmetic width operation dst source) facts =
       Some (dst, operations.alu (word.Binary width operation) (fact facts dst) (source_fact facts source))
   computed_word (Negate width dst) facts =
@@ -171,7 +171,7 @@ module _ {D : Type 0} (operations : Operations D) where
   -- ---- what is known at a slot, beside a block of this length, which tells the area of a store
   module _ (block : ℕ) where
     -- at the slot behind an instruction; none where it doesn't go on there
-    abbrev pub facts_behind : Insn → Facts D → Option (Facts D)
+    abbrev pub facts_behind : Instruction → Facts D → Option (Facts D)
     facts_behind (StoreImmediate size dst offset value) facts = Some (after_store block facts size dst offset None)
     facts_behind (StoreRegister size dst src offset) facts =
         Some (after_store block facts size dst offset (kept facts size src))
@@ -180,7 +180,7 @@ module _ {D : Type 0} (operations : Operations D) where
     facts_behind i facts = with_word facts (option_or (loaded_word i facts) (computed_word i facts))
 
     -- at the target of a jump that is taken; none where there is no such edge
-    abbrev pub facts_at_target : Insn → Facts D → Option (Facts D)
+    abbrev pub facts_at_target : Instruction → Facts D → Option (Facts D)
     facts_at_target (Jump distance) facts = Some facts
     facts_at_target (JumpLong distance) facts = Some facts
     facts_at_target (Branch width relation dst source distance) facts = along true width relation dst source facts
@@ -188,7 +188,7 @@ module _ {D : Type 0} (operations : Operations D) where
 
     -- what the instruction at one slot, with the facts there, gives to another: along the edge that isn't
     -- taken, then along the taken one
-    abbrev pub gives : Option Insn → ℕ → Option (Facts D) → ℕ → Option (Facts D) → Option (Facts D)
+    abbrev pub gives : Option Instruction → ℕ → Option (Facts D) → ℕ → Option (Facts D) → Option (Facts D)
     gives (Some i) slot (Some facts) other sofar =
         merge
         (merge sofar (if slot_behind slot i == other then facts_behind i facts else None))
@@ -197,11 +197,11 @@ module _ {D : Type 0} (operations : Operations D) where
 
     -- the join of what the slots below this one give to another, in their order; the first slot has the
     -- facts of the start
-    abbrev pub given_below : List (Option Insn) → ℕ → ℕ → Option (Facts D)
+    abbrev pub given_below : List (Option Instruction) → ℕ → ℕ → Option (Facts D)
     given_below program zero other = if other == 0 then Some facts_at_start else None
     given_below program (suc slot) other =
         gives (instruction_at program slot) slot (given_below program slot slot) other (given_below program slot other)
 
     -- the facts at a slot: what all slots before it give to it; none where none leads to it
-    abbrev pub facts_at : List (Option Insn) → ℕ → Option (Facts D)
+    abbrev pub facts_at : List (Option Instruction) → ℕ → Option (Facts D)
     facts_at program slot = given_below program slot slot

@@ -1,7 +1,7 @@
 -- What acceptance is worth, and what a refusal tells.
 use Rattle.std.specs.Prelude.{ℕ, ◌≡◌, ◌<◌, ◌≤◌, List, length, Option, Some, None}
 use Rattle.instruction_set.specs.Program.{IsProgram, instruction_count}
-use Rattle.instruction_set.specs.declared.insn.Insn.{Insn}
+use Rattle.instruction_set.specs.declared.instruction.Instruction.{Instruction}
 use Rattle.program_meaning.specs.BlockRun.{block_run_of}
 use Rattle.program_meaning.specs.State.{IsState, at_start}
 use Rattle.program_meaning.specs.TrapFree.{NeverTraps}
@@ -15,13 +15,13 @@ use Rattle.accepted_programs.specs.declared.reason.Refusal.{Refusal}
 
 -- a program that these operations accept never traps
 abbrev pub AcceptedNeverTraps : {D : Type 0} → Operations D → Type 0
-AcceptedNeverTraps operations = (program : List (Option Insn)) → IsProgram program → (sizes : Sizes) → AreSizes sizes
+AcceptedNeverTraps operations = (program : List (Option Instruction)) → IsProgram program → (sizes : Sizes) → AreSizes sizes
     → refusal operations program sizes ≡ None → NeverTraps program sizes.limit sizes.block
 
 -- over every block of the length, every context and every scratch, a program that these operations accept emits no more
 -- than a group is known to have at some slot
 abbrev pub AcceptedEmitsNoMore : {D : Type 0} → Operations D → Type 0
-AcceptedEmitsNoMore operations = (program : List (Option Insn)) → IsProgram program → (sizes : Sizes) → AreSizes sizes
+AcceptedEmitsNoMore operations = (program : List (Option Instruction)) → IsProgram program → (sizes : Sizes) → AreSizes sizes
     → refusal operations program sizes ≡ None
     → (bytes context scratch : List ℕ) → length bytes ≡ sizes.block → IsState (at_start bytes context scratch)
     → length (block_run_of program sizes.limit (instruction_count program) 0 (at_start bytes context scratch)).state.group
@@ -29,15 +29,15 @@ AcceptedEmitsNoMore operations = (program : List (Option Insn)) → IsProgram pr
 
 -- the slot of a refusal is one of the program's, and so below the most slots of a program
 abbrev pub RefusalIsInside : {D : Type 0} → Operations D → Type 0
-RefusalIsInside operations = (program : List (Option Insn)) → IsProgram program → (sizes : Sizes) (r : Refusal)
+RefusalIsInside operations = (program : List (Option Instruction)) → IsProgram program → (sizes : Sizes) (r : Refusal)
     → refusal operations program sizes ≡ Some r → (r.slot < length program) × (r.slot < MOST_SLOTS)
 
 -- what is told of a program that is refused is its first refusal: of the lowest slot where a check fails, the least reason
 abbrev pub RefusalIsFirst : {D : Type 0} → Operations D → Type 0
-RefusalIsFirst operations = (program : List (Option Insn)) (sizes : Sizes) (r : Refusal)
+RefusalIsFirst operations = (program : List (Option Instruction)) (sizes : Sizes) (r : Refusal)
     → refusal operations program sizes ≡ Some r → IsFirstRefusal operations program sizes r
 
 -- no slot of a program that is accepted fails a check
 abbrev pub AcceptedFailsNowhere : {D : Type 0} → Operations D → Type 0
-AcceptedFailsNowhere operations = (program : List (Option Insn)) (sizes : Sizes)
+AcceptedFailsNowhere operations = (program : List (Option Instruction)) (sizes : Sizes)
     → refusal operations program sizes ≡ None → (slot : ℕ) → Passes operations program sizes slot

@@ -5,7 +5,7 @@ ghost use Rattle.program_interface.specs.declared.TheConstants.{MOST_SLOTS};
 
 use accepted_programs::{Facts, Reason};
 use command_files::Counted;
-use instruction_set::{Access, Insn, Operation, Register, Source};
+use instruction_set::{Access, Instruction, Operation, Register, Source};
 use interval_domain::{Fact, Intervals};
 use program_interface::{Area, EMIT, FRAME_LENGTH_BYTES, RunSizes};
 use std::io::{self, Write};
@@ -16,7 +16,7 @@ use word_domain::{Domain, Offsets};
 pub(crate) struct Refused<'p> {
     pub(crate) slots: usize,
     pub(crate) slot: usize,
-    pub(crate) insn: &'p Insn,
+    pub(crate) instruction: &'p Instruction,
     pub(crate) sizes: RunSizes,
     pub(crate) facts: &'p Facts<Intervals>,
     ghost within: { slot < MOST_SLOTS },
@@ -32,20 +32,20 @@ impl Refused<'_> {
             Reason::WriteToFramePointer => writeln!(out, "a program can only read it")?,
             Reason::LoadOutside => self.print_access(out)?,
             Reason::StoreOutside => self.print_store(out)?,
-            Reason::UnknownHelper => print_helper(self.insn, out)?,
+            Reason::UnknownHelper => print_helper(self.instruction, out)?,
             Reason::EmitAddress => self.print_address(out)?,
             Reason::EmitLength => self.print_length(out)?,
             Reason::EmitLimit => self.print_limit(out)?,
         }
-        let [first, second] = registers_read(self.insn);
+        let [first, second] = registers_read(self.instruction);
         self.print_register(first, out)?;
         self.print_register(second, out)
     }
 
     /// Where a jump leads.
     fn print_target<O: Write>(&self, reason: Reason, out: &mut O) -> io::Result<()> {
-        let distance = self.insn.distance().unwrap_or(0);
-        let target = i128::from(Insn::target(self.slot, distance));
+        let distance = self.instruction.distance().unwrap_or(0);
+        let target = i128::from(Instruction::target(self.slot, distance));
         let slots = self.slots as i128;
         if target < 0 || target >= slots {
             writeln!(out, "to slot {target}, of {slots} slots")
@@ -58,7 +58,7 @@ impl Refused<'_> {
 
     /// Where the register of an address may point so that all bytes of the access lie in its area.
     fn print_access<O: Write>(&self, out: &mut O) -> io::Result<()> {
-        match self.insn.access() {
+        match self.instruction.access() {
             Some(access) => self.print_accessed(access, out),
             None => writeln!(out, "of no bytes"),
         }
@@ -66,7 +66,7 @@ impl Refused<'_> {
 
     /// The same of a store, or that the area is one to read.
     fn print_store<O: Write>(&self, out: &mut O) -> io::Result<()> {
-        match self.insn.access() {
+        match self.instruction.access() {
             Some(access) => match self.fact(access.base) {
                 Fact::Pointer { area, .. } if !area.is_writable() => {
                     let number = access.base.number();
@@ -170,36 +170,37 @@ fn bytes_behind(length: u32, offset: i32) -> i64 {
     i64::from(length) - i64::from(offset)
 }
 
-fn print_helper<O: Write>(insn: &Insn, out: &mut O) -> io::Result<()> {
-    match *insn {
-        Insn::Call { helper } => writeln!(out, "it calls {helper}"),
+fn print_helper<O: Write>(instruction: &Instruction, out: &mut O) -> io::Result<()> {
+    match *instruction {
+        Instruction::Call { helper } => writeln!(out, "it calls {helper}"),
         _ => writeln!(out, "it calls none"),
     }
 }
 
 /// The registers that an instruction reads, each once: those of an emit are R1 and R2.
-fn registers_read(insn: &Insn) -> [Option<Register>; 2] {
-    match *insn {
-        Insn::Load { src, .. } | Insn::LoadSigned { src, .. } | Insn::MoveSigned { src, .. } => {
-            [Some(src), None]
-        }
-        Insn::StoreImmediate { dst, .. } | Insn::Negate { dst, .. } | Insn::SwapBytes { dst, .. } =>
-            [Some(dst), None],
-        Insn::StoreRegister { dst, src, .. } => both(dst, Source::Register(src)),
-        Insn::Arithmetic {
+fn registers_read(instruction: &Instruction) -> [Option<Register>; 2] {
+    match *instruction {
+        Instruction::Load { src, .. }
+        | Instruction::LoadSigned { src, .. }
+        | Instruction::MoveSigned { src, .. } => { [Some(src), None] }
+        Instruction::StoreImmediate { dst, .. }
+        | Instruction::Negate { dst, .. }
+        | Instruction::SwapBytes { dst, .. } => [Some(dst), None],
+        Instruction::StoreRegister { dst, src, .. } => both(dst, Source::Register(src)),
+        Instruction::Arithmetic {
             operation: Operation::Move,
             source,
             ..
         } => [register_in(source), None],
-        Insn::Arithmetic { dst, source, .. } | Insn::Branch { dst, source, .. } => {
+        Instruction::Arithmetic { dst, source, .. } | Instruction::Branch { dst, source, .. } => {
             both(dst, source)
         }
-        Insn::Call { helper: EMIT } => [Some(Register::R1), Some(Register::R2)],
-        Insn::LoadImmediate { .. }
-        | Insn::Jump { .. }
-        | Insn::JumpLong { .. }
-        | Insn::Call { .. }
-        | Insn::Exit => [None, None],
+        Instruction::Call { helper: EMIT } => [Some(Register::R1), Some(Register::R2)],
+        Instruction::LoadImmediate { .. }
+        | Instruction::Jump { .. }
+        | Instruction::JumpLong { .. }
+        | Instruction::Call { .. }
+        | Instruction::Exit => [None, None],
     }
 }
 

@@ -3,7 +3,7 @@
 use command_failure::{Failure, printed};
 use command_files::Counted;
 use ebpf_asm::instruction_text;
-use instruction_set::{Insn, Register};
+use instruction_set::{Instruction, Register};
 use interp::Machine;
 use program_interface::{Area, REGISTERS};
 use program_meaning::Cause;
@@ -47,17 +47,17 @@ impl Emitting {
 pub(crate) fn print_changes<'a, O: Write>(
     alloc: Global,
     slot: usize,
-    insn: &Insn,
+    instruction: &Instruction,
     machine: &Machine<'_>,
     emitting: Emitting,
     out: &mut O,
 ) -> Result<(), Failure<'a>> {
-    let text = instruction_text(alloc, insn)?;
+    let text = instruction_text(alloc, instruction)?;
     printed(write!(out, "{slot:4}  {text}"))?;
-    if let Insn::Call { .. } = *insn {
+    if let Instruction::Call { .. } = *instruction {
         printed(print_emit(emitting, out))?;
     }
-    if let Some(register) = changed(insn) {
+    if let Some(register) = changed(instruction) {
         let (number, word) = (register.number(), machine.register(register));
         printed(write!(out, "  r{number} = {word:#x}"))?;
     }
@@ -68,11 +68,11 @@ pub(crate) fn print_changes<'a, O: Write>(
 pub(crate) fn print_cause<'a, O: Write>(
     alloc: Global,
     slot: usize,
-    insn: &Insn,
+    instruction: &Instruction,
     cause: Cause,
     out: &mut O,
 ) -> Result<(), Failure<'a>> {
-    let text = instruction_text(alloc, insn)?;
+    let text = instruction_text(alloc, instruction)?;
     printed(writeln!(out, "{slot:4}  {text}: {cause}"))
 }
 
@@ -87,11 +87,11 @@ fn print_emit<O: Write>(emitting: Emitting, out: &mut O) -> io::Result<()> {
 
 /// The register that an instruction changes: its destination, and for a call R0, which has the result (of R1 to R5
 /// nothing is left).
-fn changed(insn: &Insn) -> Option<Register> {
-    if let Insn::Call { .. } = *insn {
+fn changed(instruction: &Instruction) -> Option<Register> {
+    if let Instruction::Call { .. } = *instruction {
         return Some(Register::R0);
     }
     (0..REGISTERS as u8)
         .map(|number| Register::from_number(number))
-        .find(|register| insn.writes(*register))
+        .find(|register| instruction.writes(*register))
 }

@@ -242,8 +242,8 @@ impl Tracer<'_> {
         out: &mut O,
     ) -> Result<(), Failure<'a>> {
         match self.program.at(slot) {
-            Some(insn) if self.registers => {
-                print_changes(self.alloc, slot, insn, machine, emitting, out)
+            Some(instruction) if self.registers => {
+                print_changes(self.alloc, slot, instruction, machine, emitting, out)
             }
             _ => printed(writeln!(out, "{slot}")),
         }
@@ -258,7 +258,13 @@ impl Tracer<'_> {
         out: &mut O,
     ) -> Result<(), Failure<'a>> {
         match self.program.at(slot) {
-            Some(insn) if self.registers => print_cause(self.alloc, slot, insn, cause, out)?,
+            Some(instruction) if self.registers => print_cause(
+                self.alloc,
+                slot,
+                instruction,
+                cause,
+                out,
+            )?,
             _ => {}
         }
         let number = cause.number();

@@ -133,14 +133,14 @@ fn explain_refused<'a, O: Write>(
     out: &mut O,
 ) -> Result<(), Failure<'a>> {
     let Refusal { slot, reason } = refusal;
-    let Some(insn) = program.at(slot) else {
+    let Some(instruction) = program.at(slot) else {
         return Ok(());
     };
-    let text = instruction_text(alloc, insn)?;
+    let text = instruction_text(alloc, instruction)?;
     let refused = Refused {
         slots: program.slots(),
         slot,
-        insn,
+        instruction,
         sizes,
         facts,
     };

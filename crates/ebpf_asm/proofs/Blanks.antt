@@ -54,7 +54,7 @@ uncommented-comment (b ∷ line) rest = by (b == 59) refl (uncommented-comment l
     by false e later = uncommented-cons b (line ++ 59 ∷ rest) false e ∙ ap (λ (xs : List ℕ). b ∷ xs) later ∙ sym (uncommented-cons b line false e)
 
 abbrev refused : Line
-refused = record { label = None; insn = Err NotAscii; target = None }
+refused = record { label = None; instruction = Err NotAscii; target = None }
 
 -- a line is what its bytes without comment and blanks are, where all its bytes are ASCII
 same_line : (xs ys : List ℕ) → list_all is_ascii xs ≡ list_all is_ascii ys → trimmed (uncommented xs) ≡ trimmed (uncommented ys) → line_of xs ≡ line_of ys

@@ -7,10 +7,10 @@ use Rattle.std.specs.Char.{is_ascii, is_ascii_digit}
 use Rattle.std.specs.Str.{bytes_eq}
 use Rattle.std.proofs.lemmas.Bool.{and_parts, leb-true}
 use Rattle.std.proofs.lemmas.Int.{ints}
-use Rattle.instruction_set.specs.declared.insn.Insn.{Insn}
-use Rattle.instruction_set.specs.declared.insn.Insn.TheVariants as insns
-use Rattle.instruction_set.specs.declared.insn.Source.{Source}
-use Rattle.instruction_set.specs.declared.insn.Source.TheVariants as sources
+use Rattle.instruction_set.specs.declared.instruction.Instruction.{Instruction}
+use Rattle.instruction_set.specs.declared.instruction.Instruction.TheVariants as instructions
+use Rattle.instruction_set.specs.declared.instruction.Source.{Source}
+use Rattle.instruction_set.specs.declared.instruction.Source.TheVariants as sources
 use Rattle.instruction_set.specs.declared.operation.Operation.{Operation}
 use Rattle.instruction_set.specs.declared.operation.Operation.TheVariants.{SignedDivide, SignedModulo}
 use Rattle.instruction_set.specs.declared.operation.SignExtension.{SignExtension}
@@ -300,7 +300,7 @@ statement_fits text =
 
 -- an instruction, if there is one, fits
 abbrev pub LineFits : Line → Type 0
-LineFits line = IfOk line.insn (λ insn. IfSome insn Fits)
+LineFits line = IfOk line.instruction (λ instruction. IfSome instruction Fits)
 
 with_fits : (label : Option (List ℕ)) (read : Result Statement FaultKind) → IfOk read StatementFits → LineFits (with_statement label read)
 with_fits label (Ok statement) h = h
@@ -309,7 +309,7 @@ with_fits label (Err kind) h = tt
 labelled_fits : (label : Option (List ℕ)) (text : List ℕ) → LineFits (labelled label text)
 labelled_fits label text = by_length (eqb (length text) 0)
   where
-    by_length : (b : Bool) → LineFits (cond b (record { label = label; insn = Ok None; target = None }) (with_statement label (statement_of text)))
+    by_length : (b : Bool) → LineFits (cond b (record { label = label; instruction = Ok None; target = None }) (with_statement label (statement_of text)))
     by_length true = tt
     by_length false = with_fits label (statement_of text) (statement_fits text)
 
@@ -320,7 +320,7 @@ line_fits bytes = by_ascii (list_all is_ascii bytes)
     text : List ℕ
     text = trimmed (uncommented bytes)
 
-    by_ascii : (b : Bool) → LineFits (cond b (line_in text) (record { label = None; insn = Err NotAscii; target = None }))
+    by_ascii : (b : Bool) → LineFits (cond b (line_in text) (record { label = None; instruction = Err NotAscii; target = None }))
     by_ascii true = let parts = split_label text (cut_at 58 text) in labelled_fits parts.0 (trimmed parts.1)
     by_ascii false = tt
 
@@ -331,29 +331,29 @@ lines_fit (bytes ∷ all) = (line_fits bytes, lines_fit all)
 -- ---- jumps
 
 -- an instruction that fits and takes as many slots as another
-abbrev pub Fills : Insn → Insn → Type 0
-Fills insn made = Fits made × (slots_taken made ≡ slots_taken insn)
+abbrev pub Fills : Instruction → Instruction → Type 0
+Fills instruction made = Fits made × (slots_taken made ≡ slots_taken instruction)
 
-fitting_fits : (jump : ℤ → Insn) (distance : Result ℤ FaultKind) (P : ℤ → Type 0) (Q : Insn → Type 0) → IfOk distance P → ((z : ℤ) → P z → Q (jump z)) → IfOk (fitting jump distance) Q
+fitting_fits : (jump : ℤ → Instruction) (distance : Result ℤ FaultKind) (P : ℤ → Type 0) (Q : Instruction → Type 0) → IfOk distance P → ((z : ℤ) → P z → Q (jump z)) → IfOk (fitting jump distance) Q
 fitting_fits jump (Ok z) P Q h made = made z h
 fitting_fits jump (Err fault) P Q h made = tt
 
-jump_by_fits : (insn : Insn) (distance : ℤ) → Fits insn → IfOk (jump_by insn distance) (Fills insn)
-jump_by_fits (insns.Jump unknown) distance fits =
-    fitting_fits insns.Jump (short_of distance) (FitsSigned w16) (Fills (insns.Jump unknown)) (short_fits distance)
+jump_by_fits : (instruction : Instruction) (distance : ℤ) → Fits instruction → IfOk (jump_by instruction distance) (Fills instruction)
+jump_by_fits (instructions.Jump unknown) distance fits =
+    fitting_fits instructions.Jump (short_of distance) (FitsSigned w16) (Fills (instructions.Jump unknown)) (short_fits distance)
     (λ z h. (record { dst = fits.dst; src = fits.src; offset = h; immediate = fits.immediate; value = tt }, refl))
-jump_by_fits (insns.JumpLong unknown) distance fits =
-    fitting_fits insns.JumpLong (long_of distance) (FitsSigned w32) (Fills (insns.JumpLong unknown)) (long_fits distance)
+jump_by_fits (instructions.JumpLong unknown) distance fits =
+    fitting_fits instructions.JumpLong (long_of distance) (FitsSigned w32) (Fills (instructions.JumpLong unknown)) (long_fits distance)
     (λ z h. (record { dst = fits.dst; src = fits.src; offset = fits.offset; immediate = h; value = tt }, refl))
-jump_by_fits (insns.Branch width relation dst source unknown) distance fits =
-    fitting_fits (insns.Branch width relation dst source) (short_of distance) (FitsSigned w16) (Fills (insns.Branch width relation dst source unknown)) (short_fits distance)
+jump_by_fits (instructions.Branch width relation dst source unknown) distance fits =
+    fitting_fits (instructions.Branch width relation dst source) (short_of distance) (FitsSigned w16) (Fills (instructions.Branch width relation dst source unknown)) (short_fits distance)
     (λ z h. (record { dst = fits.dst; src = fits.src; offset = h; immediate = fits.immediate; value = tt }, refl))
-jump_by_fits insn distance fits = (fits, refl)
+jump_by_fits instruction distance fits = (fits, refl)
 
-pub resolved_fits : (labels : LabelMap) (slot : ℕ) (insn : Insn) (target : Option (List ℕ)) → Fits insn → IfOk (resolved labels slot insn target) (Fills insn)
-resolved_fits labels slot insn None fits = (fits, refl)
-resolved_fits labels slot insn (Some name) fits = by_label (labels name)
+pub resolved_fits : (labels : LabelMap) (slot : ℕ) (instruction : Instruction) (target : Option (List ℕ)) → Fits instruction → IfOk (resolved labels slot instruction target) (Fills instruction)
+resolved_fits labels slot instruction None fits = (fits, refl)
+resolved_fits labels slot instruction (Some name) fits = by_label (labels name)
   where
-    by_label : (to : Option ℕ) → IfOk (jump_to insn slot to) (Fills insn)
+    by_label : (to : Option ℕ) → IfOk (jump_to instruction slot to) (Fills instruction)
     by_label None = tt
-    by_label (Some to) = jump_by_fits insn (pos to -ℤ pos (slot + 1)) fits
+    by_label (Some to) = jump_by_fits instruction (pos to -ℤ pos (slot + 1)) fits

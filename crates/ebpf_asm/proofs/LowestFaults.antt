@@ -5,7 +5,7 @@ use Rattle.std.specs.Option.{option_and_then}
 use Rattle.std.specs.Result.{result_err}
 use Rattle.std.proofs.lemmas.Bool.{ltb-true, ltb-false}
 use Rattle.std.proofs.lemmas.List.{append-nil, length-append}
-use Rattle.instruction_set.specs.declared.insn.Insn.{Insn}
+use Rattle.instruction_set.specs.declared.instruction.Instruction.{Instruction}
 use Rattle.ebpf_asm.specs.declared.fault.AsmFault.{AsmFault}
 use Rattle.ebpf_asm.specs.declared.fault.FaultKind.{FaultKind}
 use Rattle.ebpf_asm.specs.Line.{Line, slots_in}
@@ -65,7 +65,7 @@ pushed before rest all line are = are ∙ sym (append_assoc before (line ∷ [])
 -- ---- the first pass
 
 abbrev own : List Line → Line → Option FaultKind
-own before line = line_fault (is_twice before line) (slot_count before) line.insn
+own before line = line_fault (is_twice before line) (slot_count before) line.instruction
 
 module _ (all : List Line) where
   abbrev OwnBelow : List Line → Type 0
@@ -108,12 +108,12 @@ module _ (all : List Line) where
   -- ---- the second pass
 
   abbrev jump : List Line → Line → Option FaultKind
-  jump before line = jump_fault_of (label_map all) (slot_count before) line.insn line.target
+  jump before line = jump_fault_of (label_map all) (slot_count before) line.instruction line.target
 
   abbrev JumpBelow : List Line → Type 0
   JumpBelow before = (k : ℕ) → k < length before → jump_fault all k ≡ None
 
-  jump_read : (before : List Line) (fault : AsmFault) (read : Result Insn FaultKind) (later : Result (List ℕ) AsmFault) → JumpBelow before
+  jump_read : (before : List Line) (fault : AsmFault) (read : Result Instruction FaultKind) (later : Result (List ℕ) AsmFault) → JumpBelow before
       → jump_fault all (length before) ≡ result_err read → before_later (length before + 1) read later ≡ Err fault
       → (jump_fault all (length before) ≡ None → later ≡ Err fault → IsLowest (jump_fault all) fault) → IsLowest (jump_fault all) fault
   jump_read before fault (Err kind) later below here e more =
@@ -127,12 +127,12 @@ module _ (all : List Line) where
   jump_read before fault (Ok made) (Err lower) below here e more = more here e
   jump_read before fault (Ok made) (Ok bytes) below here e more = absurd cc
 
-  jump_told : (before : List Line) (fault : AsmFault) (insn : Result (Option Insn) FaultKind) (target : Option (List ℕ)) (later : Result (List ℕ) AsmFault) → JumpBelow before
-      → jump_fault all (length before) ≡ jump_fault_of (label_map all) (slot_count before) insn target
-      → bytes_of (label_map all) (length before + 1) (slot_count before) insn target later ≡ Err fault
+  jump_told : (before : List Line) (fault : AsmFault) (instruction : Result (Option Instruction) FaultKind) (target : Option (List ℕ)) (later : Result (List ℕ) AsmFault) → JumpBelow before
+      → jump_fault all (length before) ≡ jump_fault_of (label_map all) (slot_count before) instruction target
+      → bytes_of (label_map all) (length before + 1) (slot_count before) instruction target later ≡ Err fault
       → (jump_fault all (length before) ≡ None → later ≡ Err fault → IsLowest (jump_fault all) fault) → IsLowest (jump_fault all) fault
-  jump_told before fault (Ok (Some insn)) target later below here e more =
-      jump_read before fault (resolved (label_map all) (slot_count before) insn target) later below here e more
+  jump_told before fault (Ok (Some instruction)) target later below here e more =
+      jump_read before fault (resolved (label_map all) (slot_count before) instruction target) later below here e more
   jump_told before fault (Ok None) target later below here e more = more here e
   jump_told before fault (Err kind) target later below here e more = more here e
 
@@ -141,8 +141,8 @@ module _ (all : List Line) where
   jump_lowest before [] number slot fault are n s below e = absurd cc
   jump_lowest before (line ∷ rest) number slot fault are n s below e =
       let later = bytes_from (label_map all) (number + 1) (slot + slots_in line) rest in
-      jump_told before fault line.insn line.target later below (at_behind jump before rest all line are)
-      (ap (λ m. bytes_of (label_map all) m (slot_count before) line.insn line.target later) (sym n) ∙ ap (λ t. bytes_of (label_map all) number t line.insn line.target later) (sym s) ∙ e)
+      jump_told before fault line.instruction line.target later below (at_behind jump before rest all line are)
+      (ap (λ m. bytes_of (label_map all) m (slot_count before) line.instruction line.target later) (sym n) ∙ ap (λ t. bytes_of (label_map all) number t line.instruction line.target later) (sym s) ∙ e)
       (λ here behind.
       jump_lowest (before ++ line ∷ []) rest (number + 1) (slot + slots_in line) fault (pushed before rest all line are)
       (omega (arith, n, length-append before (line ∷ []))) (omega (arith, s, slot_count-push before line))

@@ -6,13 +6,13 @@ use Rattle.std.specs.Str.{bytes_eq}
 use Rattle.std.proofs.lemmas.List.{append-nil, drop_more, drop-map, take_more, take-map, map_push, length-map, length-take}
 use Rattle.std.proofs.lemmas.Bool.{ltb-false}
 use Rattle.std.proofs.lemmas.Slice.Eq.{bytes_eq-Decides}
-use Rattle.instruction_set.specs.declared.insn.Insn.{Insn}
+use Rattle.instruction_set.specs.declared.instruction.Instruction.{Instruction}
 use Rattle.instruction_set.specs.Spelling.{spelling}
 use Rattle.ebpf_asm.specs.declared.fault.AsmFault.{AsmFault}
 use Rattle.ebpf_asm.specs.declared.fault.FaultKind.{FaultKind}
 use Rattle.ebpf_asm.specs.declared.fault.FaultKind.TheVariants.{TooLong}
 use Rattle.ebpf_asm.specs.declared.line as code
-use Rattle.ebpf_asm.specs.Line.{Line, slots_in, slots_of_insn}
+use Rattle.ebpf_asm.specs.Line.{Line, slots_in, slots_of_instruction}
 use Rattle.ebpf_asm.specs.steps.LineView.{line_view, line_views}
 use Rattle.ebpf_asm.specs.Assembly.{LabelMap, label_at, labels_from, label_map, slot_named, slot_count, is_twice, line_fault, first_fault, resolved, before_later, bytes_of, bytes_from, told_first}
 use Rattle.ebpf_asm.specs.steps.Labels.{with_label}
@@ -84,12 +84,12 @@ pub record HasRead (before rest all : List Line) (labels : LabelMap) (slots : �
 pub HasRead-start : (all : List Line) (labels : LabelMap) → ((name : List ℕ) → labels name ≡ None) → HasRead [] all all labels 0
 HasRead-start all labels empty = record { named = empty; counted = refl; room = omega arith; fault = refl }
 
-pub fits_if : (slots n : ℕ) (insn : Result (Option Insn) FaultKind) (twice : Bool) → line_fault twice slots insn ≡ None → n ≡ slots_of_insn insn → (twice ≡ false) × (slots + n ≤ 4096)
-fits_if slots n insn true e same = absurd cc
+pub fits_if : (slots n : ℕ) (instruction : Result (Option Instruction) FaultKind) (twice : Bool) → line_fault twice slots instruction ≡ None → n ≡ slots_of_instruction instruction → (twice ≡ false) × (slots + n ≤ 4096)
+fits_if slots n instruction true e same = absurd cc
 fits_if slots n (Err kind) false e same = absurd cc
-fits_if slots n (Ok insn) false e same = (refl, fits (ltb 4096 (slots + slots_of_insn (Ok insn))) refl e)
+fits_if slots n (Ok instruction) false e same = (refl, fits (ltb 4096 (slots + slots_of_instruction (Ok instruction))) refl e)
   where
-    fits : (b : Bool) → ltb 4096 (slots + slots_of_insn (Ok insn)) ≡ b → cond b (Some TooLong) None ≡ None → slots + n ≤ 4096
+    fits : (b : Bool) → ltb 4096 (slots + slots_of_instruction (Ok instruction)) ≡ b → cond b (Some TooLong) None ≡ None → slots + n ≤ 4096
     fits true f h = absurd cc
     fits false f h = rw same (ltb-false _ _ f)
 
@@ -106,21 +106,21 @@ same_twice before rest all line twice labels slots h known = known ∙ known_in 
 
 -- the fault that the lines told first have is this line's, or a later one's
 told_here : (before rest all : List Line) (line : Line) (twice : Bool) (fault : Option FaultKind) (labels : LabelMap) (slots : ℕ)
-    → HasRead before (line ∷ rest) all labels slots → twice ≡ is_some (option_and_then labels line.label) → fault ≡ line_fault twice slots line.insn
+    → HasRead before (line ∷ rest) all labels slots → twice ≡ is_some (option_and_then labels line.label) → fault ≡ line_fault twice slots line.instruction
     → first_fault [] all ≡ told_first (length before + 1) fault (first_fault (before ++ line ∷ []) rest)
 told_here before rest all line twice fault labels slots h known told =
     let n = length before + 1 in
     let later = first_fault (before ++ line ∷ []) rest in
     sym h.fault
-    ∙ ap (λ t. told_first n (line_fault t (slot_count before) line.insn) later) (sym (same_twice before (line ∷ rest) all line twice labels slots h known))
-    ∙ ap (λ s. told_first n (line_fault twice s line.insn) later) (sym h.counted)
+    ∙ ap (λ t. told_first n (line_fault t (slot_count before) line.instruction) later) (sym (same_twice before (line ∷ rest) all line twice labels slots h known))
+    ∙ ap (λ s. told_first n (line_fault twice s line.instruction) later) (sym h.counted)
     ∙ ap (λ f. told_first n f later) (sym told)
 
 pub HasRead-more : (before rest all : List Line) (line : Line) (twice : Bool) (fault : Option FaultKind) (labels more : LabelMap) (slots n : ℕ)
-    → HasRead before (line ∷ rest) all labels slots → twice ≡ is_some (option_and_then labels line.label) → fault ≡ line_fault twice slots line.insn → fault ≡ None
+    → HasRead before (line ∷ rest) all labels slots → twice ≡ is_some (option_and_then labels line.label) → fault ≡ line_fault twice slots line.instruction → fault ≡ None
     → ((name : List ℕ) → more name ≡ with_label labels line.label slots name) → n ≡ slots_in line → HasRead (before ++ line ∷ []) rest all more (slots + n)
 HasRead-more before rest all line twice fault labels more slots n h known told none put taken =
-    let once = fits_if slots n line.insn twice (sym told ∙ none) taken in
+    let once = fits_if slots n line.instruction twice (sym told ∙ none) taken in
     let twice_is = sym (same_twice before (line ∷ rest) all line twice labels slots h known) ∙ once.0 in
     record {
       named = λ name. put name ∙ with_same labels (label_map before) line.label slots name h.named ∙ ap (λ s. with_label (label_map before) line.label s name) h.counted ∙ sym (label_map-push before line name twice_is);
@@ -130,7 +130,7 @@ HasRead-more before rest all line twice fault labels more slots n h known told n
     }
 
 pub HasRead-fault : (before rest all : List Line) (line : Line) (twice : Bool) (kind : FaultKind) (labels : LabelMap) (slots : ℕ)
-    → HasRead before (line ∷ rest) all labels slots → twice ≡ is_some (option_and_then labels line.label) → Some kind ≡ line_fault twice slots line.insn
+    → HasRead before (line ∷ rest) all labels slots → twice ≡ is_some (option_and_then labels line.label) → Some kind ≡ line_fault twice slots line.instruction
     → first_fault [] all ≡ Some (record { line = length before + 1; kind = kind })
 HasRead-fault before rest all line twice kind labels slots h known told = told_here before rest all line twice (Some kind) labels slots h known told
 
@@ -150,29 +150,29 @@ joined-nothing : (r : Result (List ℕ) AsmFault) → joined [] r ≡ r
 joined-nothing (Ok bytes) = refl
 joined-nothing (Err fault) = refl
 
-joined-joined : (front : List ℕ) (number : ℕ) (insn : Insn) (later : Result (List ℕ) AsmFault) → joined front (before_later number (Ok insn) later) ≡ joined (front ++ spelling insn) later
-joined-joined front number insn (Ok bytes) = ap (λ (b : List ℕ). Ok b) (sym (append_assoc front (spelling insn) bytes))
-joined-joined front number insn (Err fault) = refl
+joined-joined : (front : List ℕ) (number : ℕ) (instruction : Instruction) (later : Result (List ℕ) AsmFault) → joined front (before_later number (Ok instruction) later) ≡ joined (front ++ spelling instruction) later
+joined-joined front number instruction (Ok bytes) = ap (λ (b : List ℕ). Ok b) (sym (append_assoc front (spelling instruction) bytes))
+joined-joined front number instruction (Err fault) = refl
 
 pub HasMade-start : (all : List Line) (labels : LabelMap) → slot_count all ≤ 4096 → HasMade all all labels 1 0 []
 HasMade-start all labels h = record { so_far = joined-nothing (bytes_from labels 1 0 all); room = omega (arith, h) }
 
 -- a line without an instruction
-pub HasMade-nothing : (left all : List Line) (line : Line) (labels : LabelMap) (number slot : ℕ) (bytes : List ℕ) → ((insn : Insn) → line.insn ≡ Ok (Some insn) → ⊥)
+pub HasMade-nothing : (left all : List Line) (line : Line) (labels : LabelMap) (number slot : ℕ) (bytes : List ℕ) → ((instruction : Instruction) → line.instruction ≡ Ok (Some instruction) → ⊥)
     → HasMade (line ∷ left) all labels number slot bytes → HasMade left all labels (number + 1) slot bytes
-HasMade-nothing left all line labels number slot bytes none h = at line.insn refl
+HasMade-nothing left all line labels number slot bytes none h = at line.instruction refl
   where
     later : ℕ → Result (List ℕ) AsmFault
     later s = bytes_from labels (number + 1) s left
 
-    at : (insn : Result (Option Insn) FaultKind) → line.insn ≡ insn → HasMade left all labels (number + 1) slot bytes
-    at (Ok (Some insn)) e = absurd (none insn e)
-    at (Ok None) e = record { so_far = ap (λ s. joined bytes (bytes_from labels (number + 1) s left)) (omega (arith, ap slots_of_insn e)) ∙ ap (λ i. joined bytes (bytes_of labels number slot i line.target (bytes_from labels (number + 1) (slot + slots_in line) left))) (sym e) ∙ h.so_far; room = omega (arith, h.room, ap slots_of_insn e) }
-    at (Err kind) e = record { so_far = ap (λ s. joined bytes (bytes_from labels (number + 1) s left)) (omega (arith, ap slots_of_insn e)) ∙ ap (λ i. joined bytes (bytes_of labels number slot i line.target (bytes_from labels (number + 1) (slot + slots_in line) left))) (sym e) ∙ h.so_far; room = omega (arith, h.room, ap slots_of_insn e) }
+    at : (instruction : Result (Option Instruction) FaultKind) → line.instruction ≡ instruction → HasMade left all labels (number + 1) slot bytes
+    at (Ok (Some instruction)) e = absurd (none instruction e)
+    at (Ok None) e = record { so_far = ap (λ s. joined bytes (bytes_from labels (number + 1) s left)) (omega (arith, ap slots_of_instruction e)) ∙ ap (λ i. joined bytes (bytes_of labels number slot i line.target (bytes_from labels (number + 1) (slot + slots_in line) left))) (sym e) ∙ h.so_far; room = omega (arith, h.room, ap slots_of_instruction e) }
+    at (Err kind) e = record { so_far = ap (λ s. joined bytes (bytes_from labels (number + 1) s left)) (omega (arith, ap slots_of_instruction e)) ∙ ap (λ i. joined bytes (bytes_of labels number slot i line.target (bytes_from labels (number + 1) (slot + slots_in line) left))) (sym e) ∙ h.so_far; room = omega (arith, h.room, ap slots_of_instruction e) }
 
-pub HasMade-more : (left all : List Line) (line : Line) (labels : LabelMap) (number slot n : ℕ) (bytes more : List ℕ) (insn made : Insn) → line.insn ≡ Ok (Some insn) → Ok made ≡ resolved labels slot insn line.target
+pub HasMade-more : (left all : List Line) (line : Line) (labels : LabelMap) (number slot n : ℕ) (bytes more : List ℕ) (instruction made : Instruction) → line.instruction ≡ Ok (Some instruction) → Ok made ≡ resolved labels slot instruction line.target
     → more ≡ bytes ++ spelling made → n ≡ slots_in line → HasMade (line ∷ left) all labels number slot bytes → HasMade left all labels (number + 1) (slot + n) more
-HasMade-more left all line labels number slot n bytes more insn made e r m taken h =
+HasMade-more left all line labels number slot n bytes more instruction made e r m taken h =
     let later = bytes_from labels (number + 1) (slot + slots_in line) left in
     record {
       so_far = ap (λ s. joined more (bytes_from labels (number + 1) (slot + s) left)) taken ∙ ap (λ b. joined b later) m ∙ sym (joined-joined bytes number made later)
@@ -180,9 +180,9 @@ HasMade-more left all line labels number slot n bytes more insn made e r m taken
       room = omega (arith, h.room);
     }
 
-pub HasMade-fault : (left all : List Line) (line : Line) (labels : LabelMap) (number slot : ℕ) (bytes : List ℕ) (insn : Insn) (kind : FaultKind) → line.insn ≡ Ok (Some insn) → Err kind ≡ resolved labels slot insn line.target
+pub HasMade-fault : (left all : List Line) (line : Line) (labels : LabelMap) (number slot : ℕ) (bytes : List ℕ) (instruction : Instruction) (kind : FaultKind) → line.instruction ≡ Ok (Some instruction) → Err kind ≡ resolved labels slot instruction line.target
     → HasMade (line ∷ left) all labels number slot bytes → bytes_from labels 1 0 all ≡ Err (record { line = number; kind = kind })
-HasMade-fault left all line labels number slot bytes insn kind e r h =
+HasMade-fault left all line labels number slot bytes instruction kind e r h =
     let later = bytes_from labels (number + 1) (slot + slots_in line) left in
     sym h.so_far ∙ ap (λ i. joined bytes (bytes_of labels number slot i line.target later)) e ∙ ap (λ i. joined bytes (before_later number i later)) (sym r)
 
@@ -195,7 +195,7 @@ counted_before : (all : List code.Line.Line) (i : ℕ) → i < length all → le
 counted_before all i lt = omega (arith, length-take i (line_views all), length-map all line_view)
 
 pub read_fault : (all : List code.Line.Line) (i : ℕ) (line : code.Line.Line) (twice : Bool) (kind : FaultKind) (labels : LabelMap) (slots : ℕ) → i < length all → line ≡ get_or all i line
-    → HasRead (take i (line_views all)) (drop i (line_views all)) (line_views all) labels slots → twice ≡ is_some (option_and_then labels (line_view line).label) → Some kind ≡ line_fault twice slots line.insn
+    → HasRead (take i (line_views all)) (drop i (line_views all)) (line_views all) labels slots → twice ≡ is_some (option_and_then labels (line_view line).label) → Some kind ≡ line_fault twice slots line.instruction
     → first_fault [] (line_views all) ≡ Some (record { line = i + 1; kind = kind })
 read_fault all i line twice kind labels slots lt is h known told =
     let views = line_views all in
@@ -204,8 +204,8 @@ read_fault all i line twice kind labels slots lt is h known told =
     ∙ ap (λ (n : ℕ). Some (record { line = n + 1; kind = kind })) (counted_before all i lt)
 
 pub read_more : (all : List code.Line.Line) (i : ℕ) (line : code.Line.Line) (twice : Bool) (fault : Option FaultKind) (labels more : LabelMap) (slots n : ℕ) → i < length all → line ≡ get_or all i line
-    → HasRead (take i (line_views all)) (drop i (line_views all)) (line_views all) labels slots → twice ≡ is_some (option_and_then labels (line_view line).label) → fault ≡ line_fault twice slots line.insn → fault ≡ None
-    → ((name : List ℕ) → more name ≡ with_label labels (line_view line).label slots name) → n ≡ slots_of_insn line.insn
+    → HasRead (take i (line_views all)) (drop i (line_views all)) (line_views all) labels slots → twice ≡ is_some (option_and_then labels (line_view line).label) → fault ≡ line_fault twice slots line.instruction → fault ≡ None
+    → ((name : List ℕ) → more name ≡ with_label labels (line_view line).label slots name) → n ≡ slots_of_instruction line.instruction
     → HasRead (take (i + 1) (line_views all)) (drop (i + 1) (line_views all)) (line_views all) more (slots + n)
 read_more all i line twice fault labels more slots n lt is h known told none put taken =
     let views = line_views all in
@@ -217,19 +217,19 @@ at_line : (all : List code.Line.Line) (i : ℕ) (line : code.Line.Line) (labels 
     → HasMade (drop i (line_views all)) (line_views all) labels (i + 1) slot bytes → HasMade (line_view line ∷ drop (i + 1) (line_views all)) (line_views all) labels (i + 1) slot bytes
 at_line all i line labels slot bytes lt is h = subst (λ (ls : List Line). HasMade ls (line_views all) labels (i + 1) slot bytes) (drop_lines all i line lt is) h
 
-pub made_nothing : (all : List code.Line.Line) (i : ℕ) (line : code.Line.Line) (labels : LabelMap) (slot : ℕ) (bytes : List ℕ) → i < length all → line ≡ get_or all i line → ((insn : Insn) → line.insn ≡ Ok (Some insn) → ⊥)
+pub made_nothing : (all : List code.Line.Line) (i : ℕ) (line : code.Line.Line) (labels : LabelMap) (slot : ℕ) (bytes : List ℕ) → i < length all → line ≡ get_or all i line → ((instruction : Instruction) → line.instruction ≡ Ok (Some instruction) → ⊥)
     → HasMade (drop i (line_views all)) (line_views all) labels (i + 1) slot bytes → HasMade (drop (i + 1) (line_views all)) (line_views all) labels (i + 1 + 1) slot bytes
 made_nothing all i line labels slot bytes lt is none h =
     HasMade-nothing (drop (i + 1) (line_views all)) (line_views all) (line_view line) labels (i + 1) slot bytes none (at_line all i line labels slot bytes lt is h)
 
-pub made_more : (all : List code.Line.Line) (i : ℕ) (line : code.Line.Line) (labels : LabelMap) (slot n : ℕ) (bytes more : List ℕ) (insn made : Insn) → i < length all → line ≡ get_or all i line
-    → line.insn ≡ Ok (Some insn) → Ok made ≡ resolved labels slot insn (line_view line).target → more ≡ bytes ++ spelling made → n ≡ slots_of_insn line.insn
+pub made_more : (all : List code.Line.Line) (i : ℕ) (line : code.Line.Line) (labels : LabelMap) (slot n : ℕ) (bytes more : List ℕ) (instruction made : Instruction) → i < length all → line ≡ get_or all i line
+    → line.instruction ≡ Ok (Some instruction) → Ok made ≡ resolved labels slot instruction (line_view line).target → more ≡ bytes ++ spelling made → n ≡ slots_of_instruction line.instruction
     → HasMade (drop i (line_views all)) (line_views all) labels (i + 1) slot bytes → HasMade (drop (i + 1) (line_views all)) (line_views all) labels (i + 1 + 1) (slot + n) more
-made_more all i line labels slot n bytes more insn made lt is e r m taken h =
-    HasMade-more (drop (i + 1) (line_views all)) (line_views all) (line_view line) labels (i + 1) slot n bytes more insn made e r m taken (at_line all i line labels slot bytes lt is h)
+made_more all i line labels slot n bytes more instruction made lt is e r m taken h =
+    HasMade-more (drop (i + 1) (line_views all)) (line_views all) (line_view line) labels (i + 1) slot n bytes more instruction made e r m taken (at_line all i line labels slot bytes lt is h)
 
-pub made_fault : (all : List code.Line.Line) (i : ℕ) (line : code.Line.Line) (labels : LabelMap) (slot : ℕ) (bytes : List ℕ) (insn : Insn) (kind : FaultKind) → i < length all → line ≡ get_or all i line
-    → line.insn ≡ Ok (Some insn) → Err kind ≡ resolved labels slot insn (line_view line).target
+pub made_fault : (all : List code.Line.Line) (i : ℕ) (line : code.Line.Line) (labels : LabelMap) (slot : ℕ) (bytes : List ℕ) (instruction : Instruction) (kind : FaultKind) → i < length all → line ≡ get_or all i line
+    → line.instruction ≡ Ok (Some instruction) → Err kind ≡ resolved labels slot instruction (line_view line).target
     → HasMade (drop i (line_views all)) (line_views all) labels (i + 1) slot bytes → bytes_from labels 1 0 (line_views all) ≡ Err (record { line = i + 1; kind = kind })
-made_fault all i line labels slot bytes insn kind lt is e r h =
-    HasMade-fault (drop (i + 1) (line_views all)) (line_views all) (line_view line) labels (i + 1) slot bytes insn kind e r (at_line all i line labels slot bytes lt is h)
+made_fault all i line labels slot bytes instruction kind lt is e r h =
+    HasMade-fault (drop (i + 1) (line_views all)) (line_views all) (line_view line) labels (i + 1) slot bytes instruction kind e r (at_line all i line labels slot bytes lt is h)

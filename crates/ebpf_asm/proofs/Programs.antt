@@ -3,12 +3,12 @@ use Rattle.std.proofs.Common.{◌≡◌, ℕ, ◌+◌, ◌≤◌, Bool, true, fa
 use Rattle.std.specs.Prelude.{IfOk, IfSome}
 use Rattle.std.specs.List.{AllByRecursion, flat_map}
 use Rattle.std.specs.Str.Lines.{lines}
-use Rattle.instruction_set.specs.declared.insn.Insn.{Insn}
+use Rattle.instruction_set.specs.declared.instruction.Instruction.{Instruction}
 use Rattle.instruction_set.specs.Program.{IsProgram, is_wide, slots_of, slots_taken}
 use Rattle.instruction_set.specs.Spelling.{Fits, spelling, program_bytes}
 use Rattle.ebpf_asm.specs.declared.fault.AsmFault.{AsmFault}
 use Rattle.ebpf_asm.specs.declared.fault.FaultKind.{FaultKind}
-use Rattle.ebpf_asm.specs.Line.{Line, slots_in, slots_of_insn}
+use Rattle.ebpf_asm.specs.Line.{Line, slots_in, slots_of_instruction}
 use Rattle.ebpf_asm.specs.Assembly.{LabelMap, before_later, bytes_from, bytes_of, first_fault, is_twice, label_map, line_fault, lines_of, resolved, slot_count, told_first, unless_faulty}
 use Rattle.ebpf_asm.specs.Laws.{AssembledIsProgram}
 use Rattle.ebpf_asm.proofs.Fitting.{Fills, LineFits, lines_fit, resolved_fits}
@@ -24,8 +24,8 @@ none_told number (Some kind) later e = absurd cc
 room : (before rest : List Line) → slot_count before ≤ 4096 → first_fault before rest ≡ None → slot_count before + slot_count rest ≤ 4096
 room before [] h e = omega (arith, h)
 room before (line ∷ rest) h e =
-    let none = none_told (length before + 1) (line_fault (is_twice before line) (slot_count before) line.insn) (first_fault (before ++ line ∷ []) rest) e in
-    let fits = fits_if (slot_count before) (slots_in line) line.insn (is_twice before line) none.0 refl in
+    let none = none_told (length before + 1) (line_fault (is_twice before line) (slot_count before) line.instruction) (first_fault (before ++ line ∷ []) rest) e in
+    let fits = fits_if (slot_count before) (slots_in line) line.instruction (is_twice before line) none.0 refl in
     let more = room (before ++ line ∷ []) rest (omega (arith, fits.1, slot_count-push before line)) none.1 in
     omega (arith, more, slot_count-push before line)
 
@@ -33,47 +33,47 @@ room before (line ∷ rest) h e =
 
 -- bytes that instructions spell, which take so many slots
 record Spells (bytes : List ℕ) (slots : ℕ) : Type 0 where
-  pub insns : List Insn
-  pub fits : AllByRecursion Fits insns
-  pub spelled : bytes ≡ flat_map spelling insns
-  pub counted : length (slots_of insns) ≡ slots
+  pub instructions : List Instruction
+  pub fits : AllByRecursion Fits instructions
+  pub spelled : bytes ≡ flat_map spelling instructions
+  pub counted : length (slots_of instructions) ≡ slots
 
-counted_more : (insn : Insn) (insns : List Insn) → length (slots_of (insn ∷ insns)) ≡ slots_taken insn + length (slots_of insns)
-counted_more insn insns = by_wide (is_wide insn)
+counted_more : (instruction : Instruction) (instructions : List Instruction) → length (slots_of (instruction ∷ instructions)) ≡ slots_taken instruction + length (slots_of instructions)
+counted_more instruction instructions = by_wide (is_wide instruction)
   where
-    by_wide : (b : Bool) → length (cond b (Some insn ∷ None ∷ slots_of insns) (Some insn ∷ slots_of insns)) ≡ cond b 2 1 + length (slots_of insns)
+    by_wide : (b : Bool) → length (cond b (Some instruction ∷ None ∷ slots_of instructions) (Some instruction ∷ slots_of instructions)) ≡ cond b 2 1 + length (slots_of instructions)
     by_wide true = omega arith
     by_wide false = omega arith
 
-one_more : (number slots : ℕ) (insn : Insn) (read : Result Insn FaultKind) (later : Result (List ℕ) AsmFault) (bytes : List ℕ) → IfOk read (Fills insn)
-    → ((more : List ℕ) → later ≡ Ok more → Spells more slots) → before_later number read later ≡ Ok bytes → Spells bytes (slots_taken insn + slots)
-one_more number slots insn (Err kind) later bytes fits rest e = absurd cc
-one_more number slots insn (Ok made) (Err fault) bytes fits rest e = absurd cc
-one_more number slots insn (Ok made) (Ok more) bytes fits rest e =
+one_more : (number slots : ℕ) (instruction : Instruction) (read : Result Instruction FaultKind) (later : Result (List ℕ) AsmFault) (bytes : List ℕ) → IfOk read (Fills instruction)
+    → ((more : List ℕ) → later ≡ Ok more → Spells more slots) → before_later number read later ≡ Ok bytes → Spells bytes (slots_taken instruction + slots)
+one_more number slots instruction (Err kind) later bytes fits rest e = absurd cc
+one_more number slots instruction (Ok made) (Err fault) bytes fits rest e = absurd cc
+one_more number slots instruction (Ok made) (Ok more) bytes fits rest e =
     let behind = rest more refl in
     let are : bytes ≡ spelling made ++ more = cc in
     record {
-      insns = made ∷ behind.insns;
+      instructions = made ∷ behind.instructions;
       fits = (fits.0, behind.fits);
       spelled = are ∙ ap (λ (b : List ℕ). spelling made ++ b) behind.spelled;
-      counted = omega (arith, counted_more made behind.insns, fits.1, behind.counted);
+      counted = omega (arith, counted_more made behind.instructions, fits.1, behind.counted);
     }
 
 no_slot : (bytes : List ℕ) (slots : ℕ) → Spells bytes slots → Spells bytes (0 + slots)
 no_slot bytes slots h = let same : slots ≡ 0 + slots = omega arith in subst (λ (n : ℕ). Spells bytes n) same h
 
-at_line : (labels : LabelMap) (number slot slots : ℕ) (insn : Result (Option Insn) FaultKind) (target : Option (List ℕ)) (later : Result (List ℕ) AsmFault) (bytes : List ℕ)
-    → IfOk insn (λ i. IfSome i Fits) → ((more : List ℕ) → later ≡ Ok more → Spells more slots)
-    → bytes_of labels number slot insn target later ≡ Ok bytes → Spells bytes (slots_of_insn insn + slots)
-at_line labels number slot slots (Ok (Some insn)) target later bytes fits rest e =
-    one_more number slots insn (resolved labels slot insn target) later bytes (resolved_fits labels slot insn target fits) rest e
+at_line : (labels : LabelMap) (number slot slots : ℕ) (instruction : Result (Option Instruction) FaultKind) (target : Option (List ℕ)) (later : Result (List ℕ) AsmFault) (bytes : List ℕ)
+    → IfOk instruction (λ i. IfSome i Fits) → ((more : List ℕ) → later ≡ Ok more → Spells more slots)
+    → bytes_of labels number slot instruction target later ≡ Ok bytes → Spells bytes (slots_of_instruction instruction + slots)
+at_line labels number slot slots (Ok (Some instruction)) target later bytes fits rest e =
+    one_more number slots instruction (resolved labels slot instruction target) later bytes (resolved_fits labels slot instruction target fits) rest e
 at_line labels number slot slots (Ok None) target later bytes fits rest e = no_slot bytes slots (rest bytes e)
 at_line labels number slot slots (Err kind) target later bytes fits rest e = no_slot bytes slots (rest bytes e)
 
 spells : (labels : LabelMap) (number slot : ℕ) (all : List Line) (bytes : List ℕ) → AllByRecursion LineFits all → bytes_from labels number slot all ≡ Ok bytes → Spells bytes (slot_count all)
-spells labels number slot [] bytes fits e = record { insns = []; fits = tt; spelled = let none : bytes ≡ [] = cc in none; counted = refl }
+spells labels number slot [] bytes fits e = record { instructions = []; fits = tt; spelled = let none : bytes ≡ [] = cc in none; counted = refl }
 spells labels number slot (line ∷ rest) bytes fits e =
-    at_line labels number slot (slot_count rest) line.insn line.target (bytes_from labels (number + 1) (slot + slots_in line) rest) bytes fits.0
+    at_line labels number slot (slot_count rest) line.instruction line.target (bytes_from labels (number + 1) (slot + slots_in line) rest) bytes fits.0
     (λ more h. spells labels (number + 1) (slot + slots_in line) rest more fits.1 h) e
 
 -- ---- the program
@@ -82,20 +82,20 @@ no_fault : (fault : Option AsmFault) (read : Result (List ℕ) AsmFault) (bytes 
 no_fault None read bytes e = (refl, e)
 no_fault (Some fault) read bytes e = absurd cc
 
-some_slot : (insn : Insn) (insns : List Insn) → 1 ≤ length (slots_of (insn ∷ insns))
-some_slot insn insns = by_wide (is_wide insn)
+some_slot : (instruction : Instruction) (instructions : List Instruction) → 1 ≤ length (slots_of (instruction ∷ instructions))
+some_slot instruction instructions = by_wide (is_wide instruction)
   where
-    by_wide : (b : Bool) → 1 ≤ length (cond b (Some insn ∷ None ∷ slots_of insns) (Some insn ∷ slots_of insns))
+    by_wide : (b : Bool) → 1 ≤ length (cond b (Some instruction ∷ None ∷ slots_of instructions) (Some instruction ∷ slots_of instructions))
     by_wide true = omega arith
     by_wide false = omega arith
 
-program : (insns : List Insn) (bytes : List ℕ) → AllByRecursion Fits insns → bytes ≡ flat_map spelling insns → length (slots_of insns) ≤ 4096
-    → (bytes ≡ []) ⊎ ((slots : List (Option Insn)) × IsProgram slots × (bytes ≡ program_bytes slots))
+program : (instructions : List Instruction) (bytes : List ℕ) → AllByRecursion Fits instructions → bytes ≡ flat_map spelling instructions → length (slots_of instructions) ≤ 4096
+    → (bytes ≡ []) ⊎ ((slots : List (Option Instruction)) × IsProgram slots × (bytes ≡ program_bytes slots))
 program [] bytes fits spelled most = inl spelled
-program (insn ∷ insns) bytes fits spelled most = inr (
-  slots_of (insn ∷ insns),
-  record { instructions = insn ∷ insns; layout = refl; fits = fits; some = some_slot insn insns; most = most },
-  spelled ∙ sym (ap (flat_map spelling) (instructions_again (insn ∷ insns))),
+program (instruction ∷ instructions) bytes fits spelled most = inr (
+  slots_of (instruction ∷ instructions),
+  record { instructions = instruction ∷ instructions; layout = refl; fits = fits; some = some_slot instruction instructions; most = most },
+  spelled ∙ sym (ap (flat_map spelling) (instructions_again (instruction ∷ instructions))),
 )
 
 pub assembled_is_program : AssembledIsProgram
@@ -103,4 +103,4 @@ assembled_is_program text bytes e =
     let all = lines_of text in
     let done = no_fault (first_fault [] all) (bytes_from (label_map all) 1 0 all) bytes e in
     let made = spells (label_map all) 1 0 all bytes (lines_fit (lines text)) done.1 in
-    program made.insns bytes made.fits made.spelled (omega (arith, made.counted, room [] all (omega arith) done.0))
+    program made.instructions bytes made.fits made.spelled (omega (arith, made.counted, room [] all (omega arith) done.0))

@@ -9,10 +9,10 @@ use Rattle.std.proofs.Math.Dec.{eqb-suc-zero}
 use Rattle.std.proofs.lemmas.Bool.{le-ltb}
 use Rattle.std.proofs.lemmas.List.{take_all, take_at, drop_at, append-nil, length-append}
 use Rattle.std.proofs.lemmas.List.Folds.{list_all-append}
-use Rattle.instruction_set.specs.declared.insn.Insn.{Insn}
-use Rattle.instruction_set.specs.declared.insn.Insn.TheVariants.{LoadImmediate, Load, LoadSigned, StoreImmediate, StoreRegister, Arithmetic, Negate, MoveSigned, SwapBytes, Jump, JumpLong, Branch, Call, Exit}
-use Rattle.instruction_set.specs.declared.insn.Source.{Source}
-use Rattle.instruction_set.specs.declared.insn.Source.TheVariants as sources
+use Rattle.instruction_set.specs.declared.instruction.Instruction.{Instruction}
+use Rattle.instruction_set.specs.declared.instruction.Instruction.TheVariants.{LoadImmediate, Load, LoadSigned, StoreImmediate, StoreRegister, Arithmetic, Negate, MoveSigned, SwapBytes, Jump, JumpLong, Branch, Call, Exit}
+use Rattle.instruction_set.specs.declared.instruction.Source.{Source}
+use Rattle.instruction_set.specs.declared.instruction.Source.TheVariants as sources
 use Rattle.instruction_set.specs.Program.{IsProgram, is_wide, slots_of}
 use Rattle.instruction_set.specs.Spelling.{Fits, spelling, instructions_of, program_bytes}
 use Rattle.ebpf_asm.specs.declared.mnemonic.Mnemonic.{Mnemonic}
@@ -25,7 +25,7 @@ use Rattle.text_lines.specs.Cut.{is_blank_byte, trimmed, uncommented, without_en
 use Rattle.ebpf_asm.specs.Statement.{Statement, statement_of, statement_with, operands_of, one_of, two_of, three_of, none_of}
 use Rattle.ebpf_asm.specs.Line.{Line, line_of, line_in, labelled, behind_label, split_label, with_statement, slots_in}
 use Rattle.ebpf_asm.specs.Assembly.{LabelMap, lines_of, slot_count, first_fault, bytes_from, label_map, before_later, told_first, assembled, assembled_lines, unless_faulty}
-use Rattle.ebpf_asm.specs.Listing.{mnemonic_of, operand_texts, operands_text, further_texts, insn_text, line_text, listing, source_text}
+use Rattle.ebpf_asm.specs.Listing.{mnemonic_of, operand_texts, operands_text, further_texts, text_of_instruction, line_text, listing, source_text}
 use Rattle.text_lines.proofs.Proved.{cut_is_after_first_line}
 use Rattle.ebpf_asm.proofs.Passes.{slot_count-push}
 use Rattle.ebpf_asm.proofs.Names.{mnemonic_again, mnemonic_plain}
@@ -36,14 +36,14 @@ use Rattle.ebpf_asm.proofs.RoundLines.{IsPlain, IsText, AreTexts, plain, inline,
 -- ---- an instruction's text
 
 -- these operands are read as the instruction
-abbrev pub Again : Insn → List (List ℕ) → Type 0
-Again insn [] = statement_of (mnemonic_text (mnemonic_of insn) ++ []) ≡ Ok (insn, None)
-Again insn (first ∷ others) = statement_with (mnemonic_of insn) (first ∷ others) ≡ Ok (insn, None)
+abbrev pub Again : Instruction → List (List ℕ) → Type 0
+Again instruction [] = statement_of (mnemonic_text (mnemonic_of instruction) ++ []) ≡ Ok (instruction, None)
+Again instruction (first ∷ others) = statement_with (mnemonic_of instruction) (first ∷ others) ≡ Ok (instruction, None)
 
 -- the operands are texts, and are read as the instruction
-pub record IsListed (insn : Insn) : Type 0 where
-  pub texts : AreTexts (operand_texts insn)
-  pub again : Again insn (operand_texts insn)
+pub record IsListed (instruction : Instruction) : Type 0 where
+  pub texts : AreTexts (operand_texts instruction)
+  pub again : Again instruction (operand_texts instruction)
 
 abbrev IsSource : Source → Type 0
 IsSource (sources.Immediate z) = FitsSigned w32 z
@@ -65,7 +65,7 @@ is_branch_source : (width : _) (relation : _) (dst : ℕ) (source : Source) (dis
 is_branch_source width relation dst (sources.Immediate z) distance fits = fits.immediate
 is_branch_source width relation dst (sources.Register n) distance fits = fits.src
 
-pub listed : (insn : Insn) → Fits insn → IsListed insn
+pub listed : (instruction : Instruction) → Fits instruction → IsListed instruction
 unfolding statement_of operands_of statement_with one_of two_of three_of none_of
 listed (LoadImmediate dst value) fits = record {
   texts = (register_is_text dst fits.dst, (wide_is_text value fits.value, tt));
@@ -189,29 +189,29 @@ line_again : (text : List ℕ) → list_all inline text ≡ true → trimmed tex
 unfolding line_of
 line_again text h ends some =
     let clean : uncommented text ≡ text = ap (λ n. take n text) (place_none (λ b. eqb b 59) text (weaker inline (λ b. not (eqb b 59)) inline_no_semicolon text h)) ∙ take_all (length text) text (omega arith) in
-    ap (λ b. cond b (line_in (trimmed (uncommented text))) (record { label = None; insn = Err NotAscii; target = None })) (weaker inline is_ascii inline_ascii text h)
+    ap (λ b. cond b (line_in (trimmed (uncommented text))) (record { label = None; instruction = Err NotAscii; target = None })) (weaker inline is_ascii inline_ascii text h)
     ∙ ap (λ t. line_in (trimmed t)) clean ∙ ap line_in ends
     ∙ ap (λ c. behind_label (split_label text c)) (cut_none 58 text (weaker inline (λ b. not (eqb b 58)) inline_no_colon text h))
-    ∙ ap (labelled None) ends ∙ nothing_else (length text) (record { label = None; insn = Ok None; target = None }) (with_statement None (statement_of text)) some
+    ∙ ap (labelled None) ends ∙ nothing_else (length text) (record { label = None; instruction = Ok None; target = None }) (with_statement None (statement_of text)) some
 
-abbrev pub line_with : Insn → Line
-line_with insn = record { label = None; insn = Ok (Some insn); target = None }
+abbrev pub line_with : Instruction → Line
+line_with instruction = record { label = None; instruction = Ok (Some instruction); target = None }
 
-statement_listed : (insn : Insn) (texts : List (List ℕ)) → AreTexts texts → Again insn texts → statement_of (mnemonic_text (mnemonic_of insn) ++ operands_text texts) ≡ Ok (insn, None)
-statement_listed insn [] h again = again
-statement_listed insn (first ∷ others) h again = statement_again (mnemonic_of insn) first others h ∙ again
+statement_listed : (instruction : Instruction) (texts : List (List ℕ)) → AreTexts texts → Again instruction texts → statement_of (mnemonic_text (mnemonic_of instruction) ++ operands_text texts) ≡ Ok (instruction, None)
+statement_listed instruction [] h again = again
+statement_listed instruction (first ∷ others) h again = statement_again (mnemonic_of instruction) first others h ∙ again
 
-inline_insn : (insn : Insn) → IsListed insn → list_all inline (insn_text insn) ≡ true
-inline_insn insn h =
-    inline_append (mnemonic_text (mnemonic_of insn)) (operands_text (operand_texts insn)) (plain_is_inline (mnemonic_text (mnemonic_of insn)) (mnemonic_plain (mnemonic_of insn))) (inline_operands (operand_texts insn) h.texts)
+inline_instruction : (instruction : Instruction) → IsListed instruction → list_all inline (text_of_instruction instruction) ≡ true
+inline_instruction instruction h =
+    inline_append (mnemonic_text (mnemonic_of instruction)) (operands_text (operand_texts instruction)) (plain_is_inline (mnemonic_text (mnemonic_of instruction)) (mnemonic_plain (mnemonic_of instruction))) (inline_operands (operand_texts instruction) h.texts)
 
-insn_line : (insn : Insn) → IsListed insn → line_of (insn_text insn) ≡ line_with insn
-insn_line insn h =
-    let m = mnemonic_text (mnemonic_of insn) in
-    let word = text_is_some (mnemonic_of insn) in
-    let ends : trimmed (insn_text insn) ≡ insn_text insn = ap without_end_blanks (first_text m (operands_text (operand_texts insn)) word) ∙ end_operands m (operand_texts insn) word h.texts in
-    line_again (insn_text insn) (inline_insn insn h) ends (omega (arith, length-append m (operands_text (operand_texts insn)), word.some))
-    ∙ ap (with_statement None) (statement_listed insn (operand_texts insn) h.texts h.again)
+instruction_line : (instruction : Instruction) → IsListed instruction → line_of (text_of_instruction instruction) ≡ line_with instruction
+instruction_line instruction h =
+    let m = mnemonic_text (mnemonic_of instruction) in
+    let word = text_is_some (mnemonic_of instruction) in
+    let ends : trimmed (text_of_instruction instruction) ≡ text_of_instruction instruction = ap without_end_blanks (first_text m (operands_text (operand_texts instruction)) word) ∙ end_operands m (operand_texts instruction) word h.texts in
+    line_again (text_of_instruction instruction) (inline_instruction instruction h) ends (omega (arith, length-append m (operands_text (operand_texts instruction)), word.some))
+    ∙ ap (with_statement None) (statement_listed instruction (operand_texts instruction) h.texts h.again)
 
 -- ---- the lines
 
@@ -220,66 +220,66 @@ no_return_at [] k h = refl
 no_return_at (b ∷ l) zero h = not_true (eqb b 13) (both_true (not (eqb b 13)) (list_all (λ c. not (eqb c 13)) l) h).0
 no_return_at (b ∷ l) (suc k) h = no_return_at l k (both_true (not (eqb b 13)) (list_all (λ c. not (eqb c 13)) l) h).1
 
-lines_again : (insns : List Insn) → AllByRecursion IsListed insns → lines (flat_map line_text insns) ≡ map insn_text insns
+lines_again : (instructions : List Instruction) → AllByRecursion IsListed instructions → lines (flat_map line_text instructions) ≡ map text_of_instruction instructions
 lines_again [] h = refl
-lines_again (insn ∷ insns) h =
-    let text = insn_text insn in
-    let rest = flat_map line_text insns in
-    let bytes = inline_insn insn h.0 in
+lines_again (instruction ∷ instructions) h =
+    let text = text_of_instruction instruction in
+    let rest = flat_map line_text instructions in
+    let bytes = inline_instruction instruction h.0 in
     let stripped : strip_carriage_return text ≡ text = ap (λ c. cond c (take (length text - 1) text) text) (no_return_at text (length text - 1) (weaker inline (λ b. not (eqb b 13)) inline_no_return text bytes)) in
     ap lines (append_assoc text (10 ∷ []) rest)
     ∙ cut_is_after_first_line (text ++ 10 ∷ rest) text rest (cut_some 10 text rest refl (weaker inline (λ b. not (eqb b 10)) inline_no_newline text bytes))
     ∙ ap (λ l. l ∷ lines rest) stripped
-    ∙ ap (λ ls. text ∷ ls) (lines_again insns h.1)
+    ∙ ap (λ ls. text ∷ ls) (lines_again instructions h.1)
 
-read_again : (insns : List Insn) → AllByRecursion IsListed insns → map line_of (map insn_text insns) ≡ map line_with insns
+read_again : (instructions : List Instruction) → AllByRecursion IsListed instructions → map line_of (map text_of_instruction instructions) ≡ map line_with instructions
 read_again [] h = refl
-read_again (insn ∷ insns) h = rw (insn_line insn h.0, read_again insns h.1) refl
+read_again (instruction ∷ instructions) h = rw (instruction_line instruction h.0, read_again instructions h.1) refl
 
 -- ---- the passes
 
-no_fault : (before : List Line) (insns : List Insn) → slot_count before + slot_count (map line_with insns) ≤ 4096 → first_fault before (map line_with insns) ≡ None
+no_fault : (before : List Line) (instructions : List Instruction) → slot_count before + slot_count (map line_with instructions) ≤ 4096 → first_fault before (map line_with instructions) ≡ None
 no_fault before [] h = refl
-no_fault before (insn ∷ insns) h =
-    let line = line_with insn in
-    let later = no_fault (before ++ line ∷ []) insns (omega (arith, h, slot_count-push before line)) in
-    ap (λ c. told_first (length before + 1) (cond c (Some TooLong) None) (first_fault (before ++ line ∷ []) (map line_with insns))) (le-ltb 4096 (slot_count before + slots_in line) (omega (arith, h))) ∙ later
+no_fault before (instruction ∷ instructions) h =
+    let line = line_with instruction in
+    let later = no_fault (before ++ line ∷ []) instructions (omega (arith, h, slot_count-push before line)) in
+    ap (λ c. told_first (length before + 1) (cond c (Some TooLong) None) (first_fault (before ++ line ∷ []) (map line_with instructions))) (le-ltb 4096 (slot_count before + slots_in line) (omega (arith, h))) ∙ later
 
-bytes_again : (labels : LabelMap) (number slot : ℕ) (insns : List Insn) → bytes_from labels number slot (map line_with insns) ≡ Ok (flat_map spelling insns)
+bytes_again : (labels : LabelMap) (number slot : ℕ) (instructions : List Instruction) → bytes_from labels number slot (map line_with instructions) ≡ Ok (flat_map spelling instructions)
 bytes_again labels number slot [] = refl
-bytes_again labels number slot (insn ∷ insns) = ap (before_later number (Ok insn)) (bytes_again labels (number + 1) (slot + slots_in (line_with insn)) insns)
+bytes_again labels number slot (instruction ∷ instructions) = ap (before_later number (Ok instruction)) (bytes_again labels (number + 1) (slot + slots_in (line_with instruction)) instructions)
 
-slots_counted : (insns : List Insn) → slot_count (map line_with insns) ≡ length (slots_of insns)
+slots_counted : (instructions : List Instruction) → slot_count (map line_with instructions) ≡ length (slots_of instructions)
 slots_counted [] = refl
-slots_counted (insn ∷ insns) = one (is_wide insn) (slots_counted insns)
+slots_counted (instruction ∷ instructions) = one (is_wide instruction) (slots_counted instructions)
   where
-    one : (b : Bool) → slot_count (map line_with insns) ≡ length (slots_of insns) → cond b 2 1 + slot_count (map line_with insns) ≡ length (cond b (Some insn ∷ None ∷ slots_of insns) (Some insn ∷ slots_of insns))
+    one : (b : Bool) → slot_count (map line_with instructions) ≡ length (slots_of instructions) → cond b 2 1 + slot_count (map line_with instructions) ≡ length (cond b (Some instruction ∷ None ∷ slots_of instructions) (Some instruction ∷ slots_of instructions))
     one true e = omega (arith, e)
     one false e = omega (arith, e)
 
-pub instructions_again : (insns : List Insn) → instructions_of (slots_of insns) ≡ insns
+pub instructions_again : (instructions : List Instruction) → instructions_of (slots_of instructions) ≡ instructions
 instructions_again [] = refl
-instructions_again (insn ∷ insns) = one (is_wide insn) ∙ ap (λ is. insn ∷ is) (instructions_again insns)
+instructions_again (instruction ∷ instructions) = one (is_wide instruction) ∙ ap (λ is. instruction ∷ is) (instructions_again instructions)
   where
-    one : (b : Bool) → filter_map (λ i. i) (cond b (Some insn ∷ None ∷ slots_of insns) (Some insn ∷ slots_of insns)) ≡ insn ∷ filter_map (λ i. i) (slots_of insns)
+    one : (b : Bool) → filter_map (λ i. i) (cond b (Some instruction ∷ None ∷ slots_of instructions) (Some instruction ∷ slots_of instructions)) ≡ instruction ∷ filter_map (λ i. i) (slots_of instructions)
     one true = refl
     one false = refl
 
-all_listed : (insns : List Insn) → AllByRecursion Fits insns → AllByRecursion IsListed insns
+all_listed : (instructions : List Instruction) → AllByRecursion Fits instructions → AllByRecursion IsListed instructions
 all_listed [] h = tt
-all_listed (insn ∷ insns) h = (listed insn h.0, all_listed insns h.1)
+all_listed (instruction ∷ instructions) h = (listed instruction h.0, all_listed instructions h.1)
 
-insns_again : (insns : List Insn) → AllByRecursion Fits insns → length (slots_of insns) ≤ 4096 → assembled (flat_map line_text insns) ≡ Ok (flat_map spelling insns)
-insns_again insns fits most =
-    let good = all_listed insns fits in
-    let all : lines_of (flat_map line_text insns) ≡ map line_with insns = ap (map line_of) (lines_again insns good) ∙ read_again insns good in
+lines_assemble : (instructions : List Instruction) → AllByRecursion Fits instructions → length (slots_of instructions) ≤ 4096 → assembled (flat_map line_text instructions) ≡ Ok (flat_map spelling instructions)
+lines_assemble instructions fits most =
+    let good = all_listed instructions fits in
+    let all : lines_of (flat_map line_text instructions) ≡ map line_with instructions = ap (map line_of) (lines_again instructions good) ∙ read_again instructions good in
     ap assembled_lines all
-    ∙ ap (λ f. unless_faulty f (bytes_from (label_map (map line_with insns)) 1 0 (map line_with insns))) (no_fault [] insns (omega (arith, most, slots_counted insns)))
-    ∙ bytes_again (label_map (map line_with insns)) 1 0 insns
+    ∙ ap (λ f. unless_faulty f (bytes_from (label_map (map line_with instructions)) 1 0 (map line_with instructions))) (no_fault [] instructions (omega (arith, most, slots_counted instructions)))
+    ∙ bytes_again (label_map (map line_with instructions)) 1 0 instructions
 
-pub listing_again : (slots : List (Option Insn)) → IsProgram slots → assembled (listing slots) ≡ Ok (program_bytes slots)
+pub listing_again : (slots : List (Option Instruction)) → IsProgram slots → assembled (listing slots) ≡ Ok (program_bytes slots)
 listing_again slots p =
-    let insns : instructions_of slots ≡ p.instructions = ap instructions_of p.layout ∙ instructions_again p.instructions in
-    ap (λ is. assembled (flat_map line_text is)) insns
-    ∙ insns_again p.instructions p.fits (subst (λ (ss : List (Option Insn)). length ss ≤ 4096) p.layout p.most)
-    ∙ sym (ap (λ (is : List Insn). Ok (flat_map spelling is)) insns)
+    let instructions : instructions_of slots ≡ p.instructions = ap instructions_of p.layout ∙ instructions_again p.instructions in
+    ap (λ is. assembled (flat_map line_text is)) instructions
+    ∙ lines_assemble p.instructions p.fits (subst (λ (ss : List (Option Instruction)). length ss ≤ 4096) p.layout p.most)
+    ∙ sym (ap (λ (is : List Instruction). Ok (flat_map spelling is)) instructions)

@@ -3,8 +3,8 @@ use Rattle.std.specs.Prelude.{ℕ, ℤ, pos, ◌-ℤ◌, ◌+◌, nat_lt, if◌t
 use Rattle.std.specs.Map.{lookup}
 use Rattle.std.specs.Str.{bytes_eq}
 use Rattle.std.specs.Str.Lines.{lines}
-use Rattle.instruction_set.specs.declared.insn.Insn.{Insn}
-use Rattle.instruction_set.specs.declared.insn.Insn.TheVariants.{Jump, JumpLong, Branch}
+use Rattle.instruction_set.specs.declared.instruction.Instruction.{Instruction}
+use Rattle.instruction_set.specs.declared.instruction.Instruction.TheVariants.{Jump, JumpLong, Branch}
 use Rattle.instruction_set.specs.Spelling.{spelling}
 use Rattle.program_interface.specs.declared.TheConstants.{MOST_SLOTS}
 use Rattle.ebpf_asm.specs.declared.fault.AsmFault.{AsmFault}
@@ -13,7 +13,7 @@ use Rattle.ebpf_asm.specs.declared.fault.AssembleFault.TheVariants as errors
 use Rattle.ebpf_asm.specs.declared.fault.FaultKind.{FaultKind}
 use Rattle.ebpf_asm.specs.declared.fault.FaultKind.TheVariants.{LabelTwice, TooLong, UnknownLabel, LabelTooFar}
 use Rattle.ebpf_asm.specs.Operand.{short_of, long_of}
-use Rattle.ebpf_asm.specs.Line.{Line, line_of, slots_in, slots_of_insn}
+use Rattle.ebpf_asm.specs.Line.{Line, line_of, slots_in, slots_of_instruction}
 
 -- the slots that lines take
 abbrev pub slot_count : List Line → ℕ
@@ -41,12 +41,12 @@ abbrev pub label_map : List Line → LabelMap
 label_map all name = slot_named (labels_from 0 all) name
 
 -- what is wrong with a line, apart from where its jump leads: its label is an earlier line's, or it can't be read, or its instruction ends behind slot 4095
-abbrev pub insn_fault : ℕ → Result (Option Insn) FaultKind → Option FaultKind
-insn_fault slots (Err kind) = Some kind
-insn_fault slots (Ok insn) = if nat_lt MOST_SLOTS (slots + slots_of_insn (Ok insn)) then Some TooLong else None
+abbrev pub instruction_fault : ℕ → Result (Option Instruction) FaultKind → Option FaultKind
+instruction_fault slots (Err kind) = Some kind
+instruction_fault slots (Ok instruction) = if nat_lt MOST_SLOTS (slots + slots_of_instruction (Ok instruction)) then Some TooLong else None
 
-abbrev pub line_fault : Bool → ℕ → Result (Option Insn) FaultKind → Option FaultKind
-line_fault twice slots insn = if twice then Some LabelTwice else insn_fault slots insn
+abbrev pub line_fault : Bool → ℕ → Result (Option Instruction) FaultKind → Option FaultKind
+line_fault twice slots instruction = if twice then Some LabelTwice else instruction_fault slots instruction
 
 -- is a line's label the label of one of these lines?
 abbrev pub is_twice : List Line → Line → Bool
@@ -60,37 +60,37 @@ told_first number None later = later
 abbrev pub first_fault : List Line → List Line → Option AsmFault
 first_fault before [] = None
 first_fault before (line ∷ rest) =
-    told_first (length before + 1) (line_fault (is_twice before line) (slot_count before) line.insn) (first_fault (before ++ line ∷ []) rest)
+    told_first (length before + 1) (line_fault (is_twice before line) (slot_count before) line.instruction) (first_fault (before ++ line ∷ []) rest)
 
 -- the instruction with this distance, where its field takes it
-abbrev pub fitting : (ℤ → Insn) → Result ℤ FaultKind → Result Insn FaultKind
+abbrev pub fitting : (ℤ → Instruction) → Result ℤ FaultKind → Result Instruction FaultKind
 fitting jump (Ok distance) = Ok (jump distance)
 fitting jump (Err fault) = Err LabelTooFar
 
-abbrev pub jump_by : Insn → ℤ → Result Insn FaultKind
+abbrev pub jump_by : Instruction → ℤ → Result Instruction FaultKind
 jump_by (Jump unknown) distance = fitting Jump (short_of distance)
 jump_by (JumpLong unknown) distance = fitting JumpLong (long_of distance)
 jump_by (Branch width relation dst source unknown) distance = fitting (Branch width relation dst source) (short_of distance)
-jump_by insn distance = Ok insn
+jump_by instruction distance = Ok instruction
 
 -- distances count from the next slot (RFC 9669, 4.3)
-abbrev pub jump_to : Insn → ℕ → Option ℕ → Result Insn FaultKind
-jump_to insn slot None = Err UnknownLabel
-jump_to insn slot (Some target) = jump_by insn (pos target -ℤ pos (slot + 1))
+abbrev pub jump_to : Instruction → ℕ → Option ℕ → Result Instruction FaultKind
+jump_to instruction slot None = Err UnknownLabel
+jump_to instruction slot (Some target) = jump_by instruction (pos target -ℤ pos (slot + 1))
 
 -- an instruction at a slot, its distance leading to the label that it names
-abbrev pub resolved : LabelMap → ℕ → Insn → Option (List ℕ) → Result Insn FaultKind
-resolved labels slot insn None = Ok insn
-resolved labels slot insn (Some name) = jump_to insn slot (labels name)
+abbrev pub resolved : LabelMap → ℕ → Instruction → Option (List ℕ) → Result Instruction FaultKind
+resolved labels slot instruction None = Ok instruction
+resolved labels slot instruction (Some name) = jump_to instruction slot (labels name)
 
 -- the bytes of a line's instruction, before the bytes of the later lines
-abbrev pub before_later : ℕ → Result Insn FaultKind → Result (List ℕ) AsmFault → Result (List ℕ) AsmFault
+abbrev pub before_later : ℕ → Result Instruction FaultKind → Result (List ℕ) AsmFault → Result (List ℕ) AsmFault
 before_later number (Err kind) later = Err (record { line = number; kind = kind })
-before_later number (Ok insn) (Err fault) = Err fault
-before_later number (Ok insn) (Ok bytes) = Ok (spelling insn ++ bytes)
+before_later number (Ok instruction) (Err fault) = Err fault
+before_later number (Ok instruction) (Ok bytes) = Ok (spelling instruction ++ bytes)
 
-abbrev pub bytes_of : LabelMap → ℕ → ℕ → Result (Option Insn) FaultKind → Option (List ℕ) → Result (List ℕ) AsmFault → Result (List ℕ) AsmFault
-bytes_of labels number slot (Ok (Some insn)) target later = before_later number (resolved labels slot insn target) later
+abbrev pub bytes_of : LabelMap → ℕ → ℕ → Result (Option Instruction) FaultKind → Option (List ℕ) → Result (List ℕ) AsmFault → Result (List ℕ) AsmFault
+bytes_of labels number slot (Ok (Some instruction)) target later = before_later number (resolved labels slot instruction target) later
 bytes_of labels number slot (Ok None) target later = later
 bytes_of labels number slot (Err kind) target later = later
 
@@ -98,7 +98,7 @@ bytes_of labels number slot (Err kind) target later = later
 abbrev pub bytes_from : LabelMap → ℕ → ℕ → List Line → Result (List ℕ) AsmFault
 bytes_from labels number slot [] = Ok []
 bytes_from labels number slot (line ∷ rest) =
-    bytes_of labels number slot line.insn line.target (bytes_from labels (number + 1) (slot + slots_in line) rest)
+    bytes_of labels number slot line.instruction line.target (bytes_from labels (number + 1) (slot + slots_in line) rest)
 
 abbrev pub unless_faulty : Option AsmFault → Result (List ℕ) AsmFault → Result (List ℕ) AsmFault
 unless_faulty (Some fault) bytes = Err fault

@@ -4,7 +4,7 @@ use Rattle.std.specs.Char.{is_ascii}
 use Rattle.std.specs.List.{AllPass}
 use Rattle.std.specs.Int.{w16, w32}
 use Rattle.std.specs.Fmt.{signed_decimal}
-use Rattle.instruction_set.specs.declared.insn.Insn.{Insn}
+use Rattle.instruction_set.specs.declared.instruction.Instruction.{Instruction}
 use Rattle.instruction_set.specs.Program.{IsProgram}
 use Rattle.instruction_set.specs.Spelling.{program_bytes}
 use Rattle.text_lines.specs.Laws.{AreBlanks}
@@ -39,13 +39,13 @@ MemoryOperandsReadBack = (base : ℕ) (offset : ℤ) → base < 11 → FitsSigne
 
 -- the listing of a program assembles to its bytes
 abbrev pub ListingsAssemble : Type 0
-ListingsAssemble = (slots : List (Option Insn)) → IsProgram slots → assembled (listing slots) ≡ Ok (program_bytes slots)
+ListingsAssemble = (slots : List (Option Instruction)) → IsProgram slots → assembled (listing slots) ≡ Ok (program_bytes slots)
 
 -- what a text assembles to is nothing, where it has no instructions, or the bytes of a program
 abbrev pub AssembledIsProgram : Type 0
 AssembledIsProgram =
     (text bytes : List ℕ) → assembled text ≡ Ok bytes
-    → (bytes ≡ []) ⊎ ((slots : List (Option Insn)) × IsProgram slots × (bytes ≡ program_bytes slots))
+    → (bytes ≡ []) ⊎ ((slots : List (Option Instruction)) × IsProgram slots × (bytes ≡ program_bytes slots))
 
 -- the fault of a text is that of the lowest line that has one by itself, or where none has, of the lowest that jumps amiss
 abbrev pub FaultIsLowest : Type 0

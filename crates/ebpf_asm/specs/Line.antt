@@ -2,7 +2,7 @@
 use Rattle.std.specs.Prelude.{ℕ, ◌==◌, if◌then◌else◌, List, length, Option, Some, None, Result, Ok, Err}
 use Rattle.std.specs.List.{list_all}
 use Rattle.std.specs.Char.{is_ascii}
-use Rattle.instruction_set.specs.declared.insn.Insn.{Insn}
+use Rattle.instruction_set.specs.declared.instruction.Instruction.{Instruction}
 use Rattle.instruction_set.specs.Program.{slots_taken}
 use Rattle.ebpf_asm.specs.declared.fault.FaultKind.{FaultKind}
 use Rattle.ebpf_asm.specs.declared.fault.FaultKind.TheVariants.{NotAscii}
@@ -13,7 +13,7 @@ use Rattle.ebpf_asm.specs.Statement.{Statement, statement_of}
 -- what a line has: a label; an instruction, or what is wrong with it; and the label that its instruction jumps to, the distance being 0 then
 pub record Line : Type 0 where
   pub label : Option (List ℕ)
-  pub insn : Result (Option Insn) FaultKind
+  pub instruction : Result (Option Instruction) FaultKind
   pub target : Option (List ℕ)
 
 -- what stands before a colon is a label, if it is a name
@@ -22,13 +22,13 @@ split_label text None = (None, text)
 split_label text (Some parts) = if is_label_name parts.0 then (Some parts.0, parts.1) else (None, text)
 
 abbrev pub with_statement : Option (List ℕ) → Result Statement FaultKind → Line
-with_statement label (Ok statement) = record { label = label; insn = Ok (Some statement.0); target = statement.1 }
-with_statement label (Err kind) = record { label = label; insn = Err kind; target = None }
+with_statement label (Ok statement) = record { label = label; instruction = Ok (Some statement.0); target = statement.1 }
+with_statement label (Err kind) = record { label = label; instruction = Err kind; target = None }
 
 -- a label and the text behind it, which has a statement if it has a word
 abbrev pub labelled : Option (List ℕ) → List ℕ → Line
 labelled label text =
-    if length text == 0 then record { label = label; insn = Ok None; target = None } else with_statement label (statement_of text)
+    if length text == 0 then record { label = label; instruction = Ok None; target = None } else with_statement label (statement_of text)
 
 abbrev pub behind_label : Option (List ℕ) × List ℕ → Line
 behind_label parts = labelled parts.0 (trimmed parts.1)
@@ -40,13 +40,13 @@ line_in text = behind_label (split_label text (cut_at 58 text))
 unfoldable pub line_of : List ℕ → Line
 line_of bytes =
     if list_all is_ascii bytes then line_in (trimmed (uncommented bytes))
-    else record { label = None; insn = Err NotAscii; target = None }
+    else record { label = None; instruction = Err NotAscii; target = None }
 
-abbrev pub slots_of_insn : Result (Option Insn) FaultKind → ℕ
-slots_of_insn (Ok (Some insn)) = slots_taken insn
-slots_of_insn (Ok None) = 0
-slots_of_insn (Err kind) = 0
+abbrev pub slots_of_instruction : Result (Option Instruction) FaultKind → ℕ
+slots_of_instruction (Ok (Some instruction)) = slots_taken instruction
+slots_of_instruction (Ok None) = 0
+slots_of_instruction (Err kind) = 0
 
 -- how many slots a line takes
 abbrev pub slots_in : Line → ℕ
-slots_in line = slots_of_insn line.insn
+slots_in line = slots_of_instruction line.instruction

@@ -2,10 +2,10 @@
 use Rattle.std.specs.Prelude.{ℕ, ℤ, pos, int_lt, ◌-◌, ◌+◌, ◌^◌, if◌then◌else◌, false, List, [], ◌∷◌, ◌++◌, length, replicate, Option, Some, None, codes}
 use Rattle.std.specs.List.{flat_map}
 use Rattle.std.specs.Fmt.{decimal, signed_decimal, digits, padded_integral, format_spec}
-use Rattle.instruction_set.specs.declared.insn.Insn.{Insn}
-use Rattle.instruction_set.specs.declared.insn.Insn.TheVariants.{LoadImmediate, Load, LoadSigned, StoreImmediate, StoreRegister, Arithmetic, Negate, MoveSigned, SwapBytes, Jump, JumpLong, Branch, Call, Exit}
-use Rattle.instruction_set.specs.declared.insn.Source.{Source}
-use Rattle.instruction_set.specs.declared.insn.Source.TheVariants as sources
+use Rattle.instruction_set.specs.declared.instruction.Instruction.{Instruction}
+use Rattle.instruction_set.specs.declared.instruction.Instruction.TheVariants.{LoadImmediate, Load, LoadSigned, StoreImmediate, StoreRegister, Arithmetic, Negate, MoveSigned, SwapBytes, Jump, JumpLong, Branch, Call, Exit}
+use Rattle.instruction_set.specs.declared.instruction.Source.{Source}
+use Rattle.instruction_set.specs.declared.instruction.Source.TheVariants as sources
 use Rattle.instruction_set.specs.Spelling.{instructions_of}
 use Rattle.ebpf_asm.specs.declared.mnemonic.Mnemonic.{Mnemonic}
 use Rattle.ebpf_asm.specs.declared.mnemonic.Mnemonic.TheVariants as mnemonics
@@ -29,7 +29,7 @@ abbrev pub source_text : Source → List ℕ
 source_text (sources.Immediate value) = signed_decimal value
 source_text (sources.Register register) = register_text register
 
-abbrev pub mnemonic_of : Insn → Mnemonic
+abbrev pub mnemonic_of : Instruction → Mnemonic
 mnemonic_of (LoadImmediate dst value) = mnemonics.LoadImmediate
 mnemonic_of (Load size dst src offset) = mnemonics.Load size
 mnemonic_of (LoadSigned size dst src offset) = mnemonics.LoadSigned size
@@ -45,7 +45,7 @@ mnemonic_of (Branch width relation dst source distance) = mnemonics.Branch width
 mnemonic_of (Call helper) = mnemonics.Call
 mnemonic_of Exit = mnemonics.Exit
 
-abbrev pub operand_texts : Insn → List (List ℕ)
+abbrev pub operand_texts : Instruction → List (List ℕ)
 operand_texts (LoadImmediate dst value) = register_text dst ∷ wide_text value ∷ []
 operand_texts (Load size dst src offset) = register_text dst ∷ memory_text src offset ∷ []
 operand_texts (LoadSigned size dst src offset) = register_text dst ∷ memory_text src offset ∷ []
@@ -70,29 +70,29 @@ abbrev pub operands_text : List (List ℕ) → List ℕ
 operands_text [] = []
 operands_text (first ∷ others) = codes " " ++ (first ++ further_texts others)
 
-abbrev pub insn_text : Insn → List ℕ
-insn_text insn = mnemonic_text (mnemonic_of insn) ++ operands_text (operand_texts insn)
+abbrev pub text_of_instruction : Instruction → List ℕ
+text_of_instruction instruction = mnemonic_text (mnemonic_of instruction) ++ operands_text (operand_texts instruction)
 
-abbrev pub line_text : Insn → List ℕ
-line_text insn = insn_text insn ++ codes "\n"
+abbrev pub line_text : Instruction → List ℕ
+line_text instruction = text_of_instruction instruction ++ codes "\n"
 
 -- the listing of a program
-abbrev pub listing : List (Option Insn) → List ℕ
+abbrev pub listing : List (Option Instruction) → List ℕ
 listing slots = flat_map line_text (instructions_of slots)
 
 -- a slot as `{slot:4}` writes it, a decimal number to the right of four columns, and two spaces
 abbrev pub slot_text : ℕ → List ℕ
 slot_text slot = padded_integral (format_spec 32 0 0 4 (2 ^ 64 - 1)) false [] (decimal slot) ++ codes "  "
 
-abbrev pub line_with_slot : ℕ → Insn → List ℕ
-line_with_slot slot insn = slot_text slot ++ line_text insn
+abbrev pub line_with_slot : ℕ → Instruction → List ℕ
+line_with_slot slot instruction = slot_text slot ++ line_text instruction
 
 -- the instructions of slots, each behind its slot, where the first has this number
-abbrev pub lines_from : ℕ → List (Option Insn) → List ℕ
+abbrev pub lines_from : ℕ → List (Option Instruction) → List ℕ
 lines_from slot [] = []
-lines_from slot (Some insn ∷ rest) = line_with_slot slot insn ++ lines_from (slot + 1) rest
+lines_from slot (Some instruction ∷ rest) = line_with_slot slot instruction ++ lines_from (slot + 1) rest
 lines_from slot (None ∷ rest) = lines_from (slot + 1) rest
 
 -- the listing of a program with the slot of each instruction before it
-abbrev pub listing_with_slots : List (Option Insn) → List ℕ
+abbrev pub listing_with_slots : List (Option Instruction) → List ℕ
 listing_with_slots slots = lines_from 0 slots

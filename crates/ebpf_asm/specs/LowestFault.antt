@@ -1,7 +1,7 @@
 -- Which fault of a text is told: that of the lowest line.
 use Rattle.std.specs.Prelude.{◌≡◌, ℕ, ◌+◌, ◌<◌, List, take, slice_get, Option, Some, None, option_and_then, Result, Ok, ◌⊎◌}
 use Rattle.std.specs.Result.{result_err}
-use Rattle.instruction_set.specs.declared.insn.Insn.{Insn}
+use Rattle.instruction_set.specs.declared.instruction.Instruction.{Instruction}
 use Rattle.ebpf_asm.specs.declared.fault.AsmFault.{AsmFault}
 use Rattle.ebpf_asm.specs.declared.fault.FaultKind.{FaultKind}
 use Rattle.ebpf_asm.specs.Line.{Line}
@@ -10,17 +10,17 @@ use Rattle.ebpf_asm.specs.Assembly.{LabelMap, is_twice, label_map, line_fault, r
 -- what is wrong with the line at an index by itself, behind the lines before it
 abbrev pub own_fault : List Line → ℕ → Option FaultKind
 own_fault lines index =
-    option_and_then (λ line. line_fault (is_twice (take index lines) line) (slot_count (take index lines)) line.insn) (slice_get lines index)
+    option_and_then (λ line. line_fault (is_twice (take index lines) line) (slot_count (take index lines)) line.instruction) (slice_get lines index)
 
 -- what is wrong with where the instruction at a slot leads
-abbrev pub jump_fault_of : LabelMap → ℕ → Result (Option Insn) FaultKind → Option (List ℕ) → Option FaultKind
-jump_fault_of labels slot (Ok (Some insn)) target = result_err (resolved labels slot insn target)
+abbrev pub jump_fault_of : LabelMap → ℕ → Result (Option Instruction) FaultKind → Option (List ℕ) → Option FaultKind
+jump_fault_of labels slot (Ok (Some instruction)) target = result_err (resolved labels slot instruction target)
 jump_fault_of labels slot _ target = None
 
 -- what is wrong with where the line at an index jumps, by the labels of all lines
 abbrev pub jump_fault : List Line → ℕ → Option FaultKind
 jump_fault lines index =
-    option_and_then (λ line. jump_fault_of (label_map lines) (slot_count (take index lines)) line.insn line.target) (slice_get lines index)
+    option_and_then (λ line. jump_fault_of (label_map lines) (slot_count (take index lines)) line.instruction line.target) (slice_get lines index)
 
 -- this fault is that of the lowest line that has one; lines count from 1
 pub record IsLowest (fault_at : ℕ → Option FaultKind) (fault : AsmFault) : Type 0 where

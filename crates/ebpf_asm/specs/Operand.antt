@@ -5,8 +5,8 @@ use Rattle.std.specs.Int.{w32, w64, cast_signed, cast_unsigned}
 use Rattle.std.specs.Char.{is_digit, is_ascii_digit, is_ascii_alphabetic, is_ascii_alphanumeric}
 use Rattle.std.specs.Str.{bytes_eq}
 use Rattle.std.specs.Str.Parse.{digits_value}
-use Rattle.instruction_set.specs.declared.insn.Source.{Source}
-use Rattle.instruction_set.specs.declared.insn.Source.TheVariants as sources
+use Rattle.instruction_set.specs.declared.instruction.Source.{Source}
+use Rattle.instruction_set.specs.declared.instruction.Source.TheVariants as sources
 use Rattle.ebpf_asm.specs.declared.fault.FaultKind.{FaultKind}
 use Rattle.ebpf_asm.specs.declared.fault.FaultKind.TheVariants.{Operand, OutOfRange}
 use Rattle.program_interface.specs.Readings.{◌>>=◌}

@@ -1,8 +1,8 @@
 -- Statements (profile): a mnemonic and its operands.
 use Rattle.std.specs.Prelude.{ℕ, ◌==◌, List, [], ◌∷◌, drop, map, Option, None, ok_or, Result, Ok, Err}
 use Rattle.std.specs.List.{slice_split, before_first, position_or_len}
-use Rattle.instruction_set.specs.declared.insn.Insn.{Insn}
-use Rattle.instruction_set.specs.declared.insn.Insn.TheVariants as insns
+use Rattle.instruction_set.specs.declared.instruction.Instruction.{Instruction}
+use Rattle.instruction_set.specs.declared.instruction.Instruction.TheVariants as instructions
 use Rattle.ebpf_asm.specs.declared.mnemonic.Mnemonic.{Mnemonic}
 use Rattle.ebpf_asm.specs.declared.mnemonic.Mnemonic.TheVariants.{LoadImmediate, Load, LoadSigned, StoreImmediate, StoreRegister, Arithmetic, Negate, MoveSigned, SwapBytes, Jump, JumpLong, Branch, Call, Exit}
 use Rattle.ebpf_asm.specs.declared.fault.FaultKind.{FaultKind}
@@ -36,68 +36,68 @@ three_of _ = Err Operand
 
 -- an instruction; where it jumps to a label, its distance is 0 and that label stands beside it
 abbrev pub Statement : Type 0
-Statement = Insn × Option (List ℕ)
+Statement = Instruction × Option (List ℕ)
 
-abbrev pub plain : Insn → Result Statement FaultKind
-plain insn = Ok (insn, None)
+abbrev pub plain : Instruction → Result Statement FaultKind
+plain instruction = Ok (instruction, None)
 
 -- the statement that a mnemonic and operands make
 unfoldable pub statement_with : Mnemonic → List (List ℕ) → Result Statement FaultKind
 statement_with LoadImmediate texts = do
   t ← two_of texts
   x ← read_both (register_of t.0) (wide_of t.1)
-  plain (insns.LoadImmediate x.0 x.1)
+  plain (instructions.LoadImmediate x.0 x.1)
 statement_with (Load size) texts = do
   t ← two_of texts
   x ← read_both (register_of t.0) (memory_of t.1)
-  plain (insns.Load size x.0 x.1.0 x.1.1)
+  plain (instructions.Load size x.0 x.1.0 x.1.1)
 statement_with (LoadSigned size) texts = do
   t ← two_of texts
   x ← read_both (register_of t.0) (memory_of t.1)
-  plain (insns.LoadSigned size x.0 x.1.0 x.1.1)
+  plain (instructions.LoadSigned size x.0 x.1.0 x.1.1)
 statement_with (StoreImmediate size) texts = do
   t ← two_of texts
   x ← read_both (memory_of t.0) (immediate_of t.1)
-  plain (insns.StoreImmediate size x.0.0 x.0.1 x.1)
+  plain (instructions.StoreImmediate size x.0.0 x.0.1 x.1)
 statement_with (StoreRegister size) texts = do
   t ← two_of texts
   x ← read_both (memory_of t.0) (register_of t.1)
-  plain (insns.StoreRegister size x.0.0 x.1 x.0.1)
+  plain (instructions.StoreRegister size x.0.0 x.1 x.0.1)
 statement_with (Arithmetic width operation) texts = do
   t ← two_of texts
   x ← read_both (register_of t.0) (source_of t.1)
-  plain (insns.Arithmetic width operation x.0 x.1)
+  plain (instructions.Arithmetic width operation x.0 x.1)
 statement_with (Negate width) texts = do
   t ← one_of texts
   dst ← register_of t
-  plain (insns.Negate width dst)
+  plain (instructions.Negate width dst)
 statement_with (MoveSigned extension) texts = do
   t ← two_of texts
   x ← read_both (register_of t.0) (register_of t.1)
-  plain (insns.MoveSigned extension x.0 x.1)
+  plain (instructions.MoveSigned extension x.0 x.1)
 statement_with (SwapBytes swap size) texts = do
   t ← one_of texts
   dst ← register_of t
-  plain (insns.SwapBytes swap size dst)
+  plain (instructions.SwapBytes swap size dst)
 statement_with Jump texts = do
   t ← one_of texts
   distance ← distance_of short_of t
-  Ok (insns.Jump distance, label_of t)
+  Ok (instructions.Jump distance, label_of t)
 statement_with JumpLong texts = do
   t ← one_of texts
   distance ← distance_of long_of t
-  Ok (insns.JumpLong distance, label_of t)
+  Ok (instructions.JumpLong distance, label_of t)
 statement_with (Branch width relation) texts = do
   t ← three_of texts
   x ← read_both (read_both (register_of t.0) (source_of t.1)) (distance_of short_of t.2)
-  Ok (insns.Branch width relation x.0.0 x.0.1 x.1, label_of t.2)
+  Ok (instructions.Branch width relation x.0.0 x.0.1 x.1, label_of t.2)
 statement_with Call texts = do
   t ← one_of texts
   helper ← immediate_of t
-  plain (insns.Call helper)
+  plain (instructions.Call helper)
 statement_with Exit texts = do
   none ← none_of texts
-  plain insns.Exit
+  plain instructions.Exit
 
 -- the statement that a text without blanks at its ends is: a word that is a mnemonic, and behind it its operands
 unfoldable pub statement_of : List ℕ → Result Statement FaultKind

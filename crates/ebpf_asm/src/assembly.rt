@@ -12,7 +12,7 @@ use crate::line::{Line, slots_of};
 use crate::number::{long, short};
 use crate::text::read_lines;
 use ebpf_decode::push_instruction;
-use instruction_set::Insn;
+use instruction_set::Instruction;
 use program_interface::MOST_SLOTS;
 use std::alloc::Global;
 use std::collections::BTreeMap;
@@ -42,11 +42,11 @@ fn labels_of<'a>(alloc: Global, lines: &[Line<'a>]) -> Result<Labels<'a>, Assemb
     let mut slots = 0;
     for (index, line) in lines.iter().enumerate() {
         let twice = is_defined(&labels, line.label);
-        if let Some(kind) = fault_of(twice, slots, &line.insn) {
+        if let Some(kind) = fault_of(twice, slots, &line.instruction) {
             return Err(fault_at(index, kind));
         }
         define(&mut labels, line.label, slots)?;
-        slots += slots_of(&line.insn);
+        slots += slots_of(&line.instruction);
     }
     Ok(labels)
 }
@@ -55,18 +55,18 @@ fn labels_of<'a>(alloc: Global, lines: &[Line<'a>]) -> Result<Labels<'a>, Assemb
 fn fault_of(
     is_twice: bool,
     slots: usize,
-    insn: &Result<Option<Insn>, FaultKind>,
+    instruction: &Result<Option<Instruction>, FaultKind>,
 ) -> Option<FaultKind>
     requires { slots ≤ MOST_SLOTS }
-    ensures { result ≡ line_fault is_twice slots insn.now }
+    ensures { result ≡ line_fault is_twice slots instruction.now }
 {
     if is_twice {
         return Some(FaultKind::LabelTwice);
     }
-    if let Err(kind) = insn {
+    if let Err(kind) = instruction {
         return Some(*kind);
     }
-    if slots + slots_of(insn) > MOST_SLOTS {
+    if slots + slots_of(instruction) > MOST_SLOTS {
         return Some(FaultKind::TooLong);
     }
     None
@@ -95,15 +95,15 @@ fn bytes_of(
     let mut bytes = Vec::new(alloc);
     let mut slot = 0;
     for (index, line) in lines.iter().enumerate() {
-        let Ok(Some(insn)) = line.insn else {
+        let Ok(Some(instruction)) = line.instruction else {
             continue;
         };
-        let insn = match resolve(labels, slot, insn, line.target) {
-            Ok(insn) => insn,
+        let instruction = match resolve(labels, slot, instruction, line.target) {
+            Ok(instruction) => instruction,
             Err(kind) => return Err(fault_at(index, kind)),
         };
-        push_instruction(&mut bytes, &insn)?;
-        slot += slots_of(&line.insn);
+        push_instruction(&mut bytes, &instruction)?;
+        slot += slots_of(&line.instruction);
     }
     Ok(bytes)
 }
@@ -112,18 +112,18 @@ fn bytes_of(
 fn resolve(
     labels: &Labels<'_>,
     slot: usize,
-    insn: Insn,
+    instruction: Instruction,
     target: Option<&[u8]>,
-) -> Result<Insn, FaultKind>
-    ensures { result ≡ resolved (label_in labels.now) slot insn (option_copied target.entry) }
+) -> Result<Instruction, FaultKind>
+    ensures { result ≡ resolved (label_in labels.now) slot instruction (option_copied target.entry) }
 {
     let Some(name) = target else {
-        return Ok(insn);
+        return Ok(instruction);
     };
     let Some(to) = slot_of(labels, name) else {
         return Err(FaultKind::UnknownLabel);
     };
-    jump_by(insn, distance(slot, to))
+    jump_by(instruction, distance(slot, to))
 }
 
 /// From the slot after one slot to another (RFC 9669, 4.3).
@@ -134,26 +134,26 @@ fn distance(slot: usize, to: usize) -> i128
 }
 
 /// The instruction with this distance, where its field takes it.
-fn jump_by(insn: Insn, distance: i128) -> Result<Insn, FaultKind>
-    ensures { result ≡ jumping_by insn distance }
+fn jump_by(instruction: Instruction, distance: i128) -> Result<Instruction, FaultKind>
+    ensures { result ≡ jumping_by instruction distance }
 {
-    match insn {
-        Insn::Jump { .. } => match short(distance) {
-            Ok(distance) => Ok(Insn::Jump { distance }),
+    match instruction {
+        Instruction::Jump { .. } => match short(distance) {
+            Ok(distance) => Ok(Instruction::Jump { distance }),
             Err(_) => Err(FaultKind::LabelTooFar),
         },
-        Insn::JumpLong { .. } => match long(distance) {
-            Ok(distance) => Ok(Insn::JumpLong { distance }),
+        Instruction::JumpLong { .. } => match long(distance) {
+            Ok(distance) => Ok(Instruction::JumpLong { distance }),
             Err(_) => Err(FaultKind::LabelTooFar),
         },
-        Insn::Branch {
+        Instruction::Branch {
             width,
             relation,
             dst,
             source,
             ..
         } => match short(distance) {
-            Ok(distance) => Ok(Insn::Branch {
+            Ok(distance) => Ok(Instruction::Branch {
                 width,
                 relation,
                 dst,
@@ -162,6 +162,6 @@ fn jump_by(insn: Insn, distance: i128) -> Result<Insn, FaultKind>
             }),
             Err(_) => Err(FaultKind::LabelTooFar),
         },
-        _ => Ok(insn),
+        _ => Ok(instruction),
     }
 }

@@ -2,13 +2,13 @@
 
 ghost use Rattle.std.specs.Prelude.{◌≡◌, option_copied};
 ghost use Rattle.text_lines.specs.Cut.{cut_at};
-ghost use Rattle.ebpf_asm.specs.Line.{line_of, split_label, labelled as labelled_line, slots_of_insn};
+ghost use Rattle.ebpf_asm.specs.Line.{line_of, split_label, labelled as labelled_line, slots_of_instruction};
 ghost use Rattle.ebpf_asm.specs.steps.LineView.{line_view};
 
 use crate::fault::FaultKind;
 use crate::operand::label;
 use crate::statement::read;
-use instruction_set::Insn;
+use instruction_set::Instruction;
 use text_lines::{cut, is_all_ascii, trim, without_comment};
 
 /// What a line has.
@@ -17,7 +17,7 @@ pub struct Line<'a> {
     /// The label that it begins with.
     pub label: Option<&'a [u8]>,
     /// Its instruction, or why it has none.
-    pub insn: Result<Option<Insn>, FaultKind>,
+    pub instruction: Result<Option<Instruction>, FaultKind>,
     /// The label that its instruction jumps to, which has the distance 0 then.
     pub target: Option<&'a [u8]>,
 }
@@ -30,7 +30,7 @@ pub(crate) fn read_line(bytes: &[u8]) -> Line<'_>
     if !is_all_ascii(bytes) {
         return Line {
             label: None,
-            insn: Err(FaultKind::NotAscii),
+            instruction: Err(FaultKind::NotAscii),
             target: None,
         };
     }
@@ -45,19 +45,19 @@ fn labelled<'a>(label: Option<&'a [u8]>, text: &'a [u8]) -> Line<'a>
     if text.is_empty() {
         return Line {
             label,
-            insn: Ok(None),
+            instruction: Ok(None),
             target: None,
         };
     }
     match read(text) {
         Ok(statement) => Line {
             label,
-            insn: Ok(Some(statement.insn)),
+            instruction: Ok(Some(statement.instruction)),
             target: statement.label,
         },
         Err(kind) => Line {
             label,
-            insn: Err(kind),
+            instruction: Err(kind),
             target: None,
         },
     }
@@ -76,11 +76,11 @@ fn label_and_rest(text: &[u8]) -> (Option<&[u8]>, &[u8])
 }
 
 /// How many slots an instruction takes, if there is one.
-pub(crate) fn slots_of(insn: &Result<Option<Insn>, FaultKind>) -> usize
-    ensures { result ≡ slots_of_insn insn.now }
+pub(crate) fn slots_of(instruction: &Result<Option<Instruction>, FaultKind>) -> usize
+    ensures { result ≡ slots_of_instruction instruction.now }
 {
-    match insn {
-        Ok(Some(insn)) => insn.slots(),
+    match instruction {
+        Ok(Some(instruction)) => instruction.slots(),
         Ok(None) | Err(_) => 0,
     }
 }

@@ -3,12 +3,12 @@
 ghost use Rattle.std.specs.Prelude.{◌≡◌, ◌++◌, ◌∷◌, [], IfOk, OnOk, OnErr, take, drop, slice_get, option_map, option_to_list, codes};
 ghost use Rattle.std.specs.String.{string_bytes};
 ghost use Rattle.std.specs.Fmt.{signed_decimal};
-ghost use Rattle.ebpf_asm.specs.Listing.{register_text, signed_text, memory_text, wide_text, source_text, mnemonic_of, operand_texts, operands_text, insn_text, line_text, slot_text, listing, listing_with_slots};
+ghost use Rattle.ebpf_asm.specs.Listing.{register_text, signed_text, memory_text, wide_text, source_text, mnemonic_of, operand_texts, operands_text, text_of_instruction, line_text, slot_text, listing, listing_with_slots};
 ghost use Rattle.ebpf_asm.specs.steps.ListedOperands.{operand_text, text_behind};
 ghost use Rattle.ebpf_asm.specs.steps.Listed.{listed, listed_line};
 
 use crate::mnemonic::Mnemonic;
-use instruction_set::{Insn, Program, Register, Source};
+use instruction_set::{Instruction, Program, Register, Source};
 use std::alloc::{AllocError, Global};
 
 /// What stands in a listing behind a mnemonic.
@@ -65,10 +65,10 @@ fn list(program: &Program, slots: Slots, out: &mut String) -> Result<(), AllocEr
 {
     let mut text = String::new(*out.allocator());
     for slot in 0..program.slots() {
-        let Some(insn) = program.at(slot) else {
+        let Some(instruction) = program.at(slot) else {
             continue;
         };
-        push_listed(&mut text, slots, slot, insn)?;
+        push_listed(&mut text, slots, slot, instruction)?;
     }
     out.push_str(&text)
 }
@@ -78,29 +78,34 @@ fn list(program: &Program, slots: Slots, out: &mut String) -> Result<(), AllocEr
 /// # Errors
 ///
 /// Want of memory.
-pub fn instruction_text(alloc: Global, insn: &Insn) -> Result<String, AllocError>
-    ensures { IfOk result (λ text. string_bytes text ≡ insn_text insn.now) }
+pub fn instruction_text(alloc: Global, instruction: &Instruction) -> Result<String, AllocError>
+    ensures { IfOk result (λ text. string_bytes text ≡ text_of_instruction instruction.now) }
 {
     let mut text = String::new(alloc);
-    push_instruction(&mut text, insn)?;
+    push_instruction(&mut text, instruction)?;
     Ok(text)
 }
 
-fn push_line(out: &mut String, insn: &Insn) -> Result<(), AllocError>
-    ensures { OnOk result (string_bytes out.new ≡ string_bytes out.old ++ line_text insn.now) }
+fn push_line(out: &mut String, instruction: &Instruction) -> Result<(), AllocError>
+    ensures { OnOk result (string_bytes out.new ≡ string_bytes out.old ++ line_text instruction.now) }
 {
-    push_instruction(out, insn)?;
+    push_instruction(out, instruction)?;
     out.push_str("\n")
 }
 
-fn push_listed(out: &mut String, slots: Slots, slot: usize, insn: &Insn) -> Result<(), AllocError>
-    ensures { OnOk result (string_bytes out.new ≡ string_bytes out.old ++ listed_line slots slot insn.now) }
+fn push_listed(
+    out: &mut String,
+    slots: Slots,
+    slot: usize,
+    instruction: &Instruction,
+) -> Result<(), AllocError>
+    ensures { OnOk result (string_bytes out.new ≡ string_bytes out.old ++ listed_line slots slot instruction.now) }
 {
     match slots {
-        Slots::Without => push_line(out, insn),
+        Slots::Without => push_line(out, instruction),
         Slots::With => {
             push_slot(out, slot)?;
-            push_line(out, insn)
+            push_line(out, instruction)
         }
     }
 }
@@ -112,105 +117,106 @@ fn push_slot(out: &mut String, slot: usize) -> Result<(), AllocError>
     write!(out, "{slot:4}  ")
 }
 
-fn push_instruction(out: &mut String, insn: &Insn) -> Result<(), AllocError>
-    ensures { OnOk result (string_bytes out.new ≡ string_bytes out.old ++ insn_text insn.now) }
+fn push_instruction(out: &mut String, instruction: &Instruction) -> Result<(), AllocError>
+    ensures { OnOk result (string_bytes out.new ≡ string_bytes out.old ++ text_of_instruction instruction.now) }
 {
-    let (front, back) = mnemonic(insn).parts();
+    let (front, back) = mnemonic(instruction).parts();
     out.push_str(front)?;
     out.push_str(back)?;
-    push_operands(out, insn)
+    push_operands(out, instruction)
 }
 
-fn mnemonic(insn: &Insn) -> Mnemonic
-    ensures { result ≡ mnemonic_of insn.now }
+fn mnemonic(instruction: &Instruction) -> Mnemonic
+    ensures { result ≡ mnemonic_of instruction.now }
 {
-    match *insn {
-        Insn::LoadImmediate { .. } => Mnemonic::LoadImmediate,
-        Insn::Load { size, .. } => Mnemonic::Load(size),
-        Insn::LoadSigned { size, .. } => Mnemonic::LoadSigned(size),
-        Insn::StoreImmediate { size, .. } => Mnemonic::StoreImmediate(size),
-        Insn::StoreRegister { size, .. } => Mnemonic::StoreRegister(size),
-        Insn::Arithmetic {
+    match *instruction {
+        Instruction::LoadImmediate { .. } => Mnemonic::LoadImmediate,
+        Instruction::Load { size, .. } => Mnemonic::Load(size),
+        Instruction::LoadSigned { size, .. } => Mnemonic::LoadSigned(size),
+        Instruction::StoreImmediate { size, .. } => Mnemonic::StoreImmediate(size),
+        Instruction::StoreRegister { size, .. } => Mnemonic::StoreRegister(size),
+        Instruction::Arithmetic {
             width,
             operation,
             ..
         } => Mnemonic::Arithmetic(width, operation),
-        Insn::Negate { width, .. } => Mnemonic::Negate(width),
-        Insn::MoveSigned { extension, .. } => Mnemonic::MoveSigned(extension),
-        Insn::SwapBytes { swap, size, .. } => Mnemonic::SwapBytes(swap, size),
-        Insn::Jump { .. } => Mnemonic::Jump,
-        Insn::JumpLong { .. } => Mnemonic::JumpLong,
-        Insn::Branch {
+        Instruction::Negate { width, .. } => Mnemonic::Negate(width),
+        Instruction::MoveSigned { extension, .. } => Mnemonic::MoveSigned(extension),
+        Instruction::SwapBytes { swap, size, .. } => Mnemonic::SwapBytes(swap, size),
+        Instruction::Jump { .. } => Mnemonic::Jump,
+        Instruction::JumpLong { .. } => Mnemonic::JumpLong,
+        Instruction::Branch {
             width,
             relation,
             ..
         } => Mnemonic::Branch(width, relation),
-        Insn::Call { .. } => Mnemonic::Call,
-        Insn::Exit => Mnemonic::Exit,
+        Instruction::Call { .. } => Mnemonic::Call,
+        Instruction::Exit => Mnemonic::Exit,
     }
 }
 
 /// The operands, a space before the first and `, ` before each other.
-fn push_operands(out: &mut String, insn: &Insn) -> Result<(), AllocError>
-    ensures { OnOk result (string_bytes out.new ≡ string_bytes out.old ++ operands_text (operand_texts insn.now)) }
+fn push_operands(out: &mut String, instruction: &Instruction) -> Result<(), AllocError>
+    ensures { OnOk result (string_bytes out.new ≡ string_bytes out.old ++ operands_text (operand_texts instruction.now)) }
 {
-    push_operand(out, " ", first_operand(insn))?;
-    push_operand(out, ", ", second_operand(insn))?;
-    push_operand(out, ", ", third_operand(insn))
+    push_operand(out, " ", first_operand(instruction))?;
+    push_operand(out, ", ", second_operand(instruction))?;
+    push_operand(out, ", ", third_operand(instruction))
 }
 
-fn first_operand(insn: &Insn) -> Option<Operand>
-    ensures { option_map operand_text result ≡ slice_get (operand_texts insn.now) 0 }
+fn first_operand(instruction: &Instruction) -> Option<Operand>
+    ensures { option_map operand_text result ≡ slice_get (operand_texts instruction.now) 0 }
 {
-    match *insn {
-        Insn::StoreImmediate { dst, offset, .. } | Insn::StoreRegister { dst, offset, .. } => {
-            Some(Operand::Memory(dst, offset))
-        }
-        Insn::LoadImmediate { dst, .. }
-        | Insn::Load { dst, .. }
-        | Insn::LoadSigned { dst, .. }
-        | Insn::Arithmetic { dst, .. }
-        | Insn::Negate { dst, .. }
-        | Insn::MoveSigned { dst, .. }
-        | Insn::SwapBytes { dst, .. }
-        | Insn::Branch { dst, .. } => Some(Operand::Source(Source::Register(dst))),
-        Insn::Jump { distance } => Some(Operand::Distance(i32::from(distance))),
-        Insn::JumpLong { distance } => Some(Operand::Distance(distance)),
-        Insn::Call { helper } => Some(Operand::Source(Source::Immediate(helper))),
-        Insn::Exit => None,
+    match *instruction {
+        Instruction::StoreImmediate { dst, offset, .. }
+        | Instruction::StoreRegister { dst, offset, .. } => { Some(Operand::Memory(dst, offset)) }
+        Instruction::LoadImmediate { dst, .. }
+        | Instruction::Load { dst, .. }
+        | Instruction::LoadSigned { dst, .. }
+        | Instruction::Arithmetic { dst, .. }
+        | Instruction::Negate { dst, .. }
+        | Instruction::MoveSigned { dst, .. }
+        | Instruction::SwapBytes { dst, .. }
+        | Instruction::Branch { dst, .. } => Some(Operand::Source(Source::Register(dst))),
+        Instruction::Jump { distance } => Some(Operand::Distance(i32::from(distance))),
+        Instruction::JumpLong { distance } => Some(Operand::Distance(distance)),
+        Instruction::Call { helper } => Some(Operand::Source(Source::Immediate(helper))),
+        Instruction::Exit => None,
     }
 }
 
-fn second_operand(insn: &Insn) -> Option<Operand>
-    ensures { option_map operand_text result ≡ slice_get (operand_texts insn.now) 1 }
+fn second_operand(instruction: &Instruction) -> Option<Operand>
+    ensures { option_map operand_text result ≡ slice_get (operand_texts instruction.now) 1 }
 {
-    match *insn {
-        Insn::LoadImmediate { value, .. } => Some(Operand::Wide(value)),
-        Insn::Load { src, offset, .. } | Insn::LoadSigned { src, offset, .. } => {
+    match *instruction {
+        Instruction::LoadImmediate { value, .. } => Some(Operand::Wide(value)),
+        Instruction::Load { src, offset, .. } | Instruction::LoadSigned { src, offset, .. } => {
             Some(Operand::Memory(src, offset))
         }
-        Insn::StoreImmediate { value, .. } => Some(Operand::Source(Source::Immediate(value))),
-        Insn::StoreRegister { src, .. } | Insn::MoveSigned { src, .. } => {
+        Instruction::StoreImmediate { value, .. } => Some(Operand::Source(Source::Immediate(
+            value,
+        ))),
+        Instruction::StoreRegister { src, .. } | Instruction::MoveSigned { src, .. } => {
             Some(Operand::Source(Source::Register(src)))
         }
-        Insn::Arithmetic { source, .. } | Insn::Branch { source, .. } => {
+        Instruction::Arithmetic { source, .. } | Instruction::Branch { source, .. } => {
             Some(Operand::Source(source))
         }
-        Insn::Negate { .. }
-        | Insn::SwapBytes { .. }
-        | Insn::Jump { .. }
-        | Insn::JumpLong { .. }
-        | Insn::Call { .. }
-        | Insn::Exit => None,
+        Instruction::Negate { .. }
+        | Instruction::SwapBytes { .. }
+        | Instruction::Jump { .. }
+        | Instruction::JumpLong { .. }
+        | Instruction::Call { .. }
+        | Instruction::Exit => None,
     }
 }
 
 /// The third operand, behind which there is none.
-fn third_operand(insn: &Insn) -> Option<Operand>
-    ensures { option_to_list (option_map operand_text result) ≡ drop 2 (operand_texts insn.now) }
+fn third_operand(instruction: &Instruction) -> Option<Operand>
+    ensures { option_to_list (option_map operand_text result) ≡ drop 2 (operand_texts instruction.now) }
 {
-    match *insn {
-        Insn::Branch { distance, .. } => Some(Operand::Distance(i32::from(distance))),
+    match *instruction {
+        Instruction::Branch { distance, .. } => Some(Operand::Distance(i32::from(distance))),
         _ => None,
     }
 }

@@ -8,7 +8,7 @@ use instruction_set::{
     Operation, Relation, SignExtension, SignedSize, Size, Swap, SwapSize, Width,
 };
 
-/// What the first word of a statement says: an instruction but for its operands. Variants are named as those of `Insn`.
+/// What the first word of a statement says: an instruction but for its operands. Variants are named as those of `Instruction`.
 #[derive(Clone, Copy, Debug, PartialEq, Eq)]
 pub enum Mnemonic {
     LoadImmediate,

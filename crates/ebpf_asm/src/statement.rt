@@ -10,28 +10,31 @@ use crate::mnemonic::Mnemonic;
 use crate::number::{immediate, wide};
 use crate::operand::{both, label, long_distance, memory, register, short_distance, source};
 use instruction_set::{
-    Insn, Operation, Relation, SignExtension, SignedSize, Size, Swap, SwapSize, Width,
+    Instruction, Operation, Relation, SignExtension, SignedSize, Size, Swap, SwapSize, Width,
 };
 use text_lines::{cut, trim, word};
 
 /// An instruction. Where it jumps to a label, its distance is 0 and the label stands beside it.
 #[derive(Clone, Copy, Debug, PartialEq, Eq)]
 pub struct Statement<'a> {
-    pub insn: Insn,
+    pub instruction: Instruction,
     pub label: Option<&'a [u8]>,
 }
 
-fn plain<'a>(insn: Insn) -> Statement<'a>
-    ensures insn { result.insn ≡ insn }
+fn plain<'a>(instruction: Instruction) -> Statement<'a>
+    ensures instruction { result.instruction ≡ instruction }
     ensures label { option_copied result.label ≡ None }
 {
-    Statement { insn, label: None }
+    Statement {
+        instruction,
+        label: None,
+    }
 }
 
 /// The statement that a text without blanks at its ends is.
 #[tactic(auto, unfolding(crate::specs::Statement::statement_of))]
 pub(crate) fn read(text: &[u8]) -> Result<Statement<'_>, FaultKind>
-    ensures { result_map_both (λ s. (s.insn, option_copied s.label)) (λ fault. fault) result ≡ statement_of text.now }
+    ensures { result_map_both (λ s. (s.instruction, option_copied s.label)) (λ fault. fault) result ≡ statement_of text.now }
 {
     let (name, operands) = word(text);
     let mnemonic = Mnemonic::named(name).ok_or(FaultKind::UnknownMnemonic)?;
@@ -39,7 +42,7 @@ pub(crate) fn read(text: &[u8]) -> Result<Statement<'_>, FaultKind>
 }
 
 fn with_operands(mnemonic: Mnemonic, operands: &[u8]) -> Result<Statement<'_>, FaultKind>
-    ensures { result_map_both (λ s. (s.insn, option_copied s.label)) (λ fault. fault) result ≡ statement_with mnemonic (operands_of operands.now) }
+    ensures { result_map_both (λ s. (s.instruction, option_copied s.label)) (λ fault. fault) result ≡ statement_with mnemonic (operands_of operands.now) }
 {
     match mnemonic {
         Mnemonic::LoadImmediate => load_immediate(operands),
@@ -61,20 +64,20 @@ fn with_operands(mnemonic: Mnemonic, operands: &[u8]) -> Result<Statement<'_>, F
 
 #[tactic(auto, unfolding(crate::specs::Statement::statement_with))]
 fn load_immediate(operands: &[u8]) -> Result<Statement<'_>, FaultKind>
-    ensures { result_map_both (λ s. (s.insn, option_copied s.label)) (λ fault. fault) result ≡ statement_with mnemonics.LoadImmediate (operands_of operands.now) }
+    ensures { result_map_both (λ s. (s.instruction, option_copied s.label)) (λ fault. fault) result ≡ statement_with mnemonics.LoadImmediate (operands_of operands.now) }
 {
     let (dst, value) = two(operands)?;
     let (dst, value) = both(register(dst), wide(value))?;
-    Ok(plain(Insn::LoadImmediate { dst, value }))
+    Ok(plain(Instruction::LoadImmediate { dst, value }))
 }
 
 #[tactic(auto, unfolding(crate::specs::Statement::statement_with))]
 fn load(size: Size, operands: &[u8]) -> Result<Statement<'_>, FaultKind>
-    ensures { result_map_both (λ s. (s.insn, option_copied s.label)) (λ fault. fault) result ≡ statement_with (mnemonics.Load size) (operands_of operands.now) }
+    ensures { result_map_both (λ s. (s.instruction, option_copied s.label)) (λ fault. fault) result ≡ statement_with (mnemonics.Load size) (operands_of operands.now) }
 {
     let (dst, src) = two(operands)?;
     let (dst, (src, offset)) = both(register(dst), memory(src))?;
-    Ok(plain(Insn::Load {
+    Ok(plain(Instruction::Load {
         size,
         dst,
         src,
@@ -84,11 +87,11 @@ fn load(size: Size, operands: &[u8]) -> Result<Statement<'_>, FaultKind>
 
 #[tactic(auto, unfolding(crate::specs::Statement::statement_with))]
 fn load_signed(size: SignedSize, operands: &[u8]) -> Result<Statement<'_>, FaultKind>
-    ensures { result_map_both (λ s. (s.insn, option_copied s.label)) (λ fault. fault) result ≡ statement_with (mnemonics.LoadSigned size) (operands_of operands.now) }
+    ensures { result_map_both (λ s. (s.instruction, option_copied s.label)) (λ fault. fault) result ≡ statement_with (mnemonics.LoadSigned size) (operands_of operands.now) }
 {
     let (dst, src) = two(operands)?;
     let (dst, (src, offset)) = both(register(dst), memory(src))?;
-    Ok(plain(Insn::LoadSigned {
+    Ok(plain(Instruction::LoadSigned {
         size,
         dst,
         src,
@@ -98,11 +101,11 @@ fn load_signed(size: SignedSize, operands: &[u8]) -> Result<Statement<'_>, Fault
 
 #[tactic(auto, unfolding(crate::specs::Statement::statement_with))]
 fn store_immediate(size: Size, operands: &[u8]) -> Result<Statement<'_>, FaultKind>
-    ensures { result_map_both (λ s. (s.insn, option_copied s.label)) (λ fault. fault) result ≡ statement_with (mnemonics.StoreImmediate size) (operands_of operands.now) }
+    ensures { result_map_both (λ s. (s.instruction, option_copied s.label)) (λ fault. fault) result ≡ statement_with (mnemonics.StoreImmediate size) (operands_of operands.now) }
 {
     let (dst, value) = two(operands)?;
     let ((dst, offset), value) = both(memory(dst), immediate(value))?;
-    Ok(plain(Insn::StoreImmediate {
+    Ok(plain(Instruction::StoreImmediate {
         size,
         dst,
         offset,
@@ -112,11 +115,11 @@ fn store_immediate(size: Size, operands: &[u8]) -> Result<Statement<'_>, FaultKi
 
 #[tactic(auto, unfolding(crate::specs::Statement::statement_with))]
 fn store_register(size: Size, operands: &[u8]) -> Result<Statement<'_>, FaultKind>
-    ensures { result_map_both (λ s. (s.insn, option_copied s.label)) (λ fault. fault) result ≡ statement_with (mnemonics.StoreRegister size) (operands_of operands.now) }
+    ensures { result_map_both (λ s. (s.instruction, option_copied s.label)) (λ fault. fault) result ≡ statement_with (mnemonics.StoreRegister size) (operands_of operands.now) }
 {
     let (dst, src) = two(operands)?;
     let ((dst, offset), src) = both(memory(dst), register(src))?;
-    Ok(plain(Insn::StoreRegister {
+    Ok(plain(Instruction::StoreRegister {
         size,
         dst,
         src,
@@ -130,11 +133,11 @@ fn arithmetic(
     operation: Operation,
     operands: &[u8],
 ) -> Result<Statement<'_>, FaultKind>
-    ensures { result_map_both (λ s. (s.insn, option_copied s.label)) (λ fault. fault) result ≡ statement_with (mnemonics.Arithmetic width operation) (operands_of operands.now) }
+    ensures { result_map_both (λ s. (s.instruction, option_copied s.label)) (λ fault. fault) result ≡ statement_with (mnemonics.Arithmetic width operation) (operands_of operands.now) }
 {
     let (dst, value) = two(operands)?;
     let (dst, source) = both(register(dst), source(value))?;
-    Ok(plain(Insn::Arithmetic {
+    Ok(plain(Instruction::Arithmetic {
         width,
         operation,
         dst,
@@ -144,19 +147,19 @@ fn arithmetic(
 
 #[tactic(auto, unfolding(crate::specs::Statement::statement_with))]
 fn negate(width: Width, operands: &[u8]) -> Result<Statement<'_>, FaultKind>
-    ensures { result_map_both (λ s. (s.insn, option_copied s.label)) (λ fault. fault) result ≡ statement_with (mnemonics.Negate width) (operands_of operands.now) }
+    ensures { result_map_both (λ s. (s.instruction, option_copied s.label)) (λ fault. fault) result ≡ statement_with (mnemonics.Negate width) (operands_of operands.now) }
 {
     let dst = register(one(operands)?)?;
-    Ok(plain(Insn::Negate { width, dst }))
+    Ok(plain(Instruction::Negate { width, dst }))
 }
 
 #[tactic(auto, unfolding(crate::specs::Statement::statement_with))]
 fn move_signed(extension: SignExtension, operands: &[u8]) -> Result<Statement<'_>, FaultKind>
-    ensures { result_map_both (λ s. (s.insn, option_copied s.label)) (λ fault. fault) result ≡ statement_with (mnemonics.MoveSigned extension) (operands_of operands.now) }
+    ensures { result_map_both (λ s. (s.instruction, option_copied s.label)) (λ fault. fault) result ≡ statement_with (mnemonics.MoveSigned extension) (operands_of operands.now) }
 {
     let (dst, src) = two(operands)?;
     let (dst, src) = both(register(dst), register(src))?;
-    Ok(plain(Insn::MoveSigned {
+    Ok(plain(Instruction::MoveSigned {
         extension,
         dst,
         src,
@@ -165,39 +168,39 @@ fn move_signed(extension: SignExtension, operands: &[u8]) -> Result<Statement<'_
 
 #[tactic(auto, unfolding(crate::specs::Statement::statement_with))]
 fn swap_bytes(swap: Swap, size: SwapSize, operands: &[u8]) -> Result<Statement<'_>, FaultKind>
-    ensures { result_map_both (λ s. (s.insn, option_copied s.label)) (λ fault. fault) result ≡ statement_with (mnemonics.SwapBytes swap size) (operands_of operands.now) }
+    ensures { result_map_both (λ s. (s.instruction, option_copied s.label)) (λ fault. fault) result ≡ statement_with (mnemonics.SwapBytes swap size) (operands_of operands.now) }
 {
     let dst = register(one(operands)?)?;
-    Ok(plain(Insn::SwapBytes { swap, size, dst }))
+    Ok(plain(Instruction::SwapBytes { swap, size, dst }))
 }
 
 #[tactic(auto, unfolding(crate::specs::Statement::statement_with))]
 fn jump(operands: &[u8]) -> Result<Statement<'_>, FaultKind>
-    ensures { result_map_both (λ s. (s.insn, option_copied s.label)) (λ fault. fault) result ≡ statement_with mnemonics.Jump (operands_of operands.now) }
+    ensures { result_map_both (λ s. (s.instruction, option_copied s.label)) (λ fault. fault) result ≡ statement_with mnemonics.Jump (operands_of operands.now) }
 {
     let target = one(operands)?;
     let distance = short_distance(target)?;
     Ok(Statement {
-        insn: Insn::Jump { distance },
+        instruction: Instruction::Jump { distance },
         label: label(target),
     })
 }
 
 #[tactic(auto, unfolding(crate::specs::Statement::statement_with))]
 fn jump_long(operands: &[u8]) -> Result<Statement<'_>, FaultKind>
-    ensures { result_map_both (λ s. (s.insn, option_copied s.label)) (λ fault. fault) result ≡ statement_with mnemonics.JumpLong (operands_of operands.now) }
+    ensures { result_map_both (λ s. (s.instruction, option_copied s.label)) (λ fault. fault) result ≡ statement_with mnemonics.JumpLong (operands_of operands.now) }
 {
     let target = one(operands)?;
     let distance = long_distance(target)?;
     Ok(Statement {
-        insn: Insn::JumpLong { distance },
+        instruction: Instruction::JumpLong { distance },
         label: label(target),
     })
 }
 
 #[tactic(auto, unfolding(crate::specs::Statement::statement_with))]
 fn branch(width: Width, relation: Relation, operands: &[u8]) -> Result<Statement<'_>, FaultKind>
-    ensures { result_map_both (λ s. (s.insn, option_copied s.label)) (λ fault. fault) result ≡ statement_with (mnemonics.Branch width relation) (operands_of operands.now) }
+    ensures { result_map_both (λ s. (s.instruction, option_copied s.label)) (λ fault. fault) result ≡ statement_with (mnemonics.Branch width relation) (operands_of operands.now) }
 {
     let (dst, value, target) = three(operands)?;
     let ((dst, source), distance) = both(
@@ -205,7 +208,7 @@ fn branch(width: Width, relation: Relation, operands: &[u8]) -> Result<Statement
         short_distance(target),
     )?;
     Ok(Statement {
-        insn: Insn::Branch {
+        instruction: Instruction::Branch {
             width,
             relation,
             dst,
@@ -218,18 +221,18 @@ fn branch(width: Width, relation: Relation, operands: &[u8]) -> Result<Statement
 
 #[tactic(auto, unfolding(crate::specs::Statement::statement_with))]
 fn call(operands: &[u8]) -> Result<Statement<'_>, FaultKind>
-    ensures { result_map_both (λ s. (s.insn, option_copied s.label)) (λ fault. fault) result ≡ statement_with mnemonics.Call (operands_of operands.now) }
+    ensures { result_map_both (λ s. (s.instruction, option_copied s.label)) (λ fault. fault) result ≡ statement_with mnemonics.Call (operands_of operands.now) }
 {
     let helper = immediate(one(operands)?)?;
-    Ok(plain(Insn::Call { helper }))
+    Ok(plain(Instruction::Call { helper }))
 }
 
 #[tactic(auto, unfolding(crate::specs::Statement::statement_with))]
 fn exit(operands: &[u8]) -> Result<Statement<'_>, FaultKind>
-    ensures { result_map_both (λ s. (s.insn, option_copied s.label)) (λ fault. fault) result ≡ statement_with mnemonics.Exit (operands_of operands.now) }
+    ensures { result_map_both (λ s. (s.instruction, option_copied s.label)) (λ fault. fault) result ≡ statement_with mnemonics.Exit (operands_of operands.now) }
 {
     none(operands)?;
-    Ok(plain(Insn::Exit))
+    Ok(plain(Instruction::Exit))
 }
 
 /// No operand.

@@ -5,9 +5,9 @@ use Rattle.std.specs.Int.{w32, cast_signed, cast_unsigned}
 use Rattle.std.proofs.lemmas.Bool.{and_right, le-ltb, or_from}
 use Rattle.std.proofs.lemmas.Int.{of_z-to_z}
 use Rattle.instruction_set.specs.declared.fields.Fields.{Fields}
-use Rattle.instruction_set.specs.declared.insn.Insn.{Insn}
-use Rattle.instruction_set.specs.declared.insn.Insn.TheVariants as insns
-use Rattle.instruction_set.specs.declared.insn.Source.TheVariants as sources
+use Rattle.instruction_set.specs.declared.instruction.Instruction.{Instruction}
+use Rattle.instruction_set.specs.declared.instruction.Instruction.TheVariants as instructions
+use Rattle.instruction_set.specs.declared.instruction.Source.TheVariants as sources
 use Rattle.ebpf_decode.specs.declared.opcode.Opcode.{Opcode}
 use Rattle.ebpf_decode.specs.declared.opcode.Opcode.TheVariants.{LoadImmediate, Load, LoadSigned, StoreImmediate, StoreRegister, Arithmetic, Negate, SwapBytes, Jump, JumpLong, Branch, Call, Exit}
 use Rattle.ebpf_decode.specs.declared.opcode.Operand.TheVariants as operands
@@ -32,7 +32,7 @@ use Rattle.instruction_set.specs.Codes.{extension_with, swap_size_with, variant_
 use Rattle.instruction_set.specs.Codes.{has_variants}
 use Rattle.ebpf_decode.specs.Opcodes.{opcode_named, uses}
 use Rattle.instruction_set.specs.Program.{is_wide}
-use Rattle.ebpf_decode.specs.Reading.{first_fault, has_more, has_no_register, has_unused, instruction, is_left_out, is_load_immediate, read, read_named, unless}
+use Rattle.ebpf_decode.specs.Reading.{first_fault, has_more, has_no_register, has_unused, instruction_with, is_left_out, is_load_immediate, read, read_named, unless}
 use Rattle.instruction_set.specs.Spelling.{Fits, LDX, MEM, MEMSX, MOV, NEG, ST, STX, access_opcode, arithmetic_class, extension_offset, extension_width, first_slot, jump_class, kept_bits, operation_code, operation_offset, operation_opcode, relation_code, second_slot, signed_size_code, size_code, swap_opcode}
 
 -- ---- what the opcodes of instructions name
@@ -153,55 +153,55 @@ no-register : (used : Uses) (f : Fields) → f.dst < 11 → f.src < 11 → has_n
 no-register used f dst src =
     or_from _ _ (and_right used.dst _ (le-ltb 10 f.dst (omega arith))) (and_right used.src _ (le-ltb 10 f.src (omega arith)))
 
-answered : (f : Fields) (next : Option Fields) (opcode : Opcode) (i : Insn) → opcode_named f.opcode ≡ Some opcode → f.dst < 11 → f.src < 11
+answered : (f : Fields) (next : Option Fields) (opcode : Opcode) (i : Instruction) → opcode_named f.opcode ≡ Some opcode → f.dst < 11 → f.src < 11
     → is_left_out opcode f ≡ false → (is_load_immediate opcode && is_none next) ≡ false
     → has_unused (uses opcode) f ≡ false → (is_load_immediate opcode && has_more next) ≡ false
-    → instruction opcode f next ≡ Some i → read f next ≡ Ok i
+    → instruction_with opcode f next ≡ Some i → read f next ≡ Ok i
 answered f next opcode i named dst src left_out cut unused more found =
     let registers : has_no_register (uses opcode) f ≡ false = no-register (uses opcode) f dst src in
     let fault : first_fault opcode f next ≡ None = rw (left_out, cut, registers, unused, more) refl in
-    ap (λ m. read_named m f next) named ∙ ap (λ k. unless k (instruction opcode f next)) fault ∙ ap (unless None) found
+    ap (λ m. read_named m f next) named ∙ ap (λ k. unless k (instruction_with opcode f next)) fault ∙ ap (unless None) found
 
-narrow : (i : Insn) (next : Option Fields) (opcode : Opcode) → Fits i → opcode_named (first_slot i).opcode ≡ Some opcode
+narrow : (i : Instruction) (next : Option Fields) (opcode : Opcode) → Fits i → opcode_named (first_slot i).opcode ≡ Some opcode
     → is_left_out opcode (first_slot i) ≡ false → is_load_immediate opcode ≡ false → has_unused (uses opcode) (first_slot i) ≡ false
-    → instruction opcode (first_slot i) next ≡ Some i → read (first_slot i) next ≡ Ok i
+    → instruction_with opcode (first_slot i) next ≡ Some i → read (first_slot i) next ≡ Ok i
 narrow i next opcode fits named left_out wide unused found =
     answered (first_slot i) next opcode i named fits.dst fits.src left_out (rw wide refl) unused (rw wide refl) found
 
-wide : (dst value : ℕ) → Fits (insns.LoadImmediate dst value)
-    → read (first_slot (insns.LoadImmediate dst value)) (second_slot (insns.LoadImmediate dst value)) ≡ Ok (insns.LoadImmediate dst value)
+wide : (dst value : ℕ) → Fits (instructions.LoadImmediate dst value)
+    → read (first_slot (instructions.LoadImmediate dst value)) (second_slot (instructions.LoadImmediate dst value)) ≡ Ok (instructions.LoadImmediate dst value)
 wide dst value fits =
-    let i = insns.LoadImmediate dst value in
+    let i = instructions.LoadImmediate dst value in
     let low : cast_unsigned w32 (cast_signed w32 (value % 2 ^ 32)) ≡ value % 2 ^ 32 = of_z-to_z w32 (value % 2 ^ 32) (omega arith) in
     let high : cast_unsigned w32 (cast_signed w32 (value / 2 ^ 32 % 2 ^ 32)) ≡ value / 2 ^ 32 % 2 ^ 32 = of_z-to_z w32 (value / 2 ^ 32 % 2 ^ 32) (omega arith) in
     let below : value < 2 ^ 64 = fits.value in
     let whole : cast_unsigned w32 (cast_signed w32 (value % 2 ^ 32)) + 2 ^ 32 * cast_unsigned w32 (cast_signed w32 (value / 2 ^ 32 % 2 ^ 32)) ≡ value = omega arith in
-    answered (first_slot i) (second_slot i) LoadImmediate i refl fits.dst fits.src refl refl refl refl (ap (λ n. Some (insns.LoadImmediate dst n)) whole)
+    answered (first_slot i) (second_slot i) LoadImmediate i refl fits.dst fits.src refl refl refl refl (ap (λ n. Some (instructions.LoadImmediate dst n)) whole)
 
 -- what an instruction spells is read as the instruction
-pub read-again : (i : Insn) (next : Option Fields) → Fits i → second_slot i ≡ cond (is_wide i) next None → read (first_slot i) next ≡ Ok i
-read-again (insns.LoadImmediate dst value) next fits second =
-    ap (read (first_slot (insns.LoadImmediate dst value))) (sym second) ∙ wide dst value fits
-read-again (insns.Load size dst src offset) next fits second = narrow _ next (Load size) fits (load-named size) refl refl refl refl
-read-again (insns.LoadSigned size dst src offset) next fits second = narrow _ next (LoadSigned size) fits (load_signed-named size) refl refl refl refl
-read-again (insns.StoreImmediate size dst offset value) next fits second = narrow _ next (StoreImmediate size) fits (store_immediate-named size) refl refl refl refl
-read-again (insns.StoreRegister size dst src offset) next fits second = narrow _ next (StoreRegister size) fits (store_register-named size) refl refl refl refl
-read-again (insns.Arithmetic width operation dst (sources.Immediate value)) next fits second =
+pub read-again : (i : Instruction) (next : Option Fields) → Fits i → second_slot i ≡ cond (is_wide i) next None → read (first_slot i) next ≡ Ok i
+read-again (instructions.LoadImmediate dst value) next fits second =
+    ap (read (first_slot (instructions.LoadImmediate dst value))) (sym second) ∙ wide dst value fits
+read-again (instructions.Load size dst src offset) next fits second = narrow _ next (Load size) fits (load-named size) refl refl refl refl
+read-again (instructions.LoadSigned size dst src offset) next fits second = narrow _ next (LoadSigned size) fits (load_signed-named size) refl refl refl refl
+read-again (instructions.StoreImmediate size dst offset value) next fits second = narrow _ next (StoreImmediate size) fits (store_immediate-named size) refl refl refl refl
+read-again (instructions.StoreRegister size dst src offset) next fits second = narrow _ next (StoreRegister size) fits (store_register-named size) refl refl refl refl
+read-again (instructions.Arithmetic width operation dst (sources.Immediate value)) next fits second =
     let told = operation-told operation in
     narrow _ next (Arithmetic width (plain operation) operands.Immediate) fits (arithmetic-named operation width).0 refl refl (rw told.2 refl) (rw told.3 refl)
-read-again (insns.Arithmetic width operation dst (sources.Register src)) next fits second =
+read-again (instructions.Arithmetic width operation dst (sources.Register src)) next fits second =
     let told = operation-told operation in
     narrow _ next (Arithmetic width (plain operation) operands.Register) fits (arithmetic-named operation width).1 refl refl (rw told.2 refl) (rw told.3 refl)
-read-again (insns.Negate width dst) next fits second = narrow _ next (Negate width) fits (negate-named width) refl refl refl refl
-read-again (insns.MoveSigned extension dst src) next fits second =
+read-again (instructions.Negate width dst) next fits second = narrow _ next (Negate width) fits (negate-named width) refl refl refl refl
+read-again (instructions.MoveSigned extension dst src) next fits second =
     let told = extension-told extension in
     narrow _ next (Arithmetic (extension_width extension) Move operands.Register) fits told.0 refl refl refl (rw (told.1, told.2) refl)
-read-again (insns.SwapBytes swap size dst) next fits second = narrow _ next (SwapBytes swap) fits (swap-named swap) refl refl refl (rw (swap_size-told size) refl)
-read-again (insns.Jump distance) next fits second = narrow _ next Jump fits refl refl refl refl refl
-read-again (insns.JumpLong distance) next fits second = narrow _ next JumpLong fits refl refl refl refl refl
-read-again (insns.Branch width relation dst (sources.Immediate value) distance) next fits second =
+read-again (instructions.SwapBytes swap size dst) next fits second = narrow _ next (SwapBytes swap) fits (swap-named swap) refl refl refl (rw (swap_size-told size) refl)
+read-again (instructions.Jump distance) next fits second = narrow _ next Jump fits refl refl refl refl refl
+read-again (instructions.JumpLong distance) next fits second = narrow _ next JumpLong fits refl refl refl refl refl
+read-again (instructions.Branch width relation dst (sources.Immediate value) distance) next fits second =
     narrow _ next (Branch width relation operands.Immediate) fits (branch-named relation width).0 refl refl refl refl
-read-again (insns.Branch width relation dst (sources.Register src) distance) next fits second =
+read-again (instructions.Branch width relation dst (sources.Register src) distance) next fits second =
     narrow _ next (Branch width relation operands.Register) fits (branch-named relation width).1 refl refl refl refl
-read-again (insns.Call helper) next fits second = narrow _ next Call fits refl refl refl refl refl
-read-again insns.Exit next fits second = narrow _ next Exit fits refl refl refl refl refl
+read-again (instructions.Call helper) next fits second = narrow _ next Call fits refl refl refl refl refl
+read-again instructions.Exit next fits second = narrow _ next Exit fits refl refl refl refl refl

@@ -3,7 +3,7 @@ use Rattle.std.proofs.Common.{◌≡◌, ℕ, suc, ◌+◌, ◌/◌, ◌<◌, �
 use Rattle.ebpf_decode.specs.declared.fault.Fault.{Fault}
 use Rattle.ebpf_decode.specs.declared.fault.FaultKind.{FaultKind}
 use Rattle.instruction_set.specs.declared.fields.Fields.{Fields}
-use Rattle.instruction_set.specs.declared.insn.Insn.{Insn}
+use Rattle.instruction_set.specs.declared.instruction.Instruction.{Instruction}
 use Rattle.ebpf_decode.specs.Laws.{FaultIsInside}
 use Rattle.ebpf_decode.specs.Reading.{begins_wide, begun, length_fault, read_slots, slots_at, then_read, unless_length, with_front}
 use Rattle.program_interface.specs.declared.TheConstants.{MOST_SLOTS}
@@ -12,25 +12,25 @@ use Rattle.ebpf_decode.proofs.Programs.{few_slots}
 use Rattle.ebpf_decode.proofs.Slots.{length-slots}
 
 -- the slot of a fault, if there is one
-slot_told : Result (List (Option Insn)) Fault → ℕ
+slot_told : Result (List (Option Instruction)) Fault → ℕ
 slot_told (Ok slots) = 0
 slot_told (Err fault) = fault.slot
 
-abbrev told_at : ℕ → FaultKind → Result (List (Option Insn)) Fault
+abbrev told_at : ℕ → FaultKind → Result (List (Option Instruction)) Fault
 told_at slot kind = Err (record { slot = slot; kind = kind })
 
 pub same_slot : (slot : ℕ) (kind : FaultKind) (fault : Fault) → told_at slot kind ≡ Err fault → fault.slot ≡ slot
 unfolding slot_told
 same_slot slot kind fault e = sym (ap slot_told e)
 
-pub fault_behind : (front : List (Option Insn)) (read : Result (List (Option Insn)) Fault) (fault : Fault) → with_front front read ≡ Err fault → read ≡ Err fault
+pub fault_behind : (front : List (Option Instruction)) (read : Result (List (Option Instruction)) Fault) (fault : Fault) → with_front front read ≡ Err fault → read ≡ Err fault
 fault_behind front (Ok slots) fault e = absurd cc
 fault_behind front (Err other) fault e = e
 
 -- a fault lies at the slot that is read, or behind it
-fault_from : (s count : ℕ) (fault : Fault) (after : Bool → Result (List (Option Insn)) Fault)
+fault_from : (s count : ℕ) (fault : Fault) (after : Bool → Result (List (Option Instruction)) Fault)
     → ((wide : Bool) → after wide ≡ Err fault → fault.slot < s + 1 + count)
-    → (found : Result (Option Insn) FaultKind) → then_read found s after ≡ Err fault → fault.slot < s + suc count
+    → (found : Result (Option Instruction) FaultKind) → then_read found s after ≡ Err fault → fault.slot < s + suc count
 fault_from s count fault after later (Err kind) e = let at : fault.slot ≡ s = same_slot s kind fault e in omega arith
 fault_from s count fault after later (Ok found) e =
     let behind : fault.slot < s + 1 + count = later (begins_wide found) (fault_behind (found ∷ []) (after (begins_wide found)) fault e) in

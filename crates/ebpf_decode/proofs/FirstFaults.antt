@@ -7,14 +7,14 @@ use Rattle.ebpf_decode.specs.declared.fault.FaultKind.{FaultKind}
 use Rattle.ebpf_decode.specs.declared.fault.FaultKind.TheVariants as kinds
 use Rattle.ebpf_decode.specs.declared.opcode.Opcode.{Opcode}
 use Rattle.instruction_set.specs.declared.fields.Fields.{Fields}
-use Rattle.instruction_set.specs.declared.insn.Insn.{Insn}
+use Rattle.instruction_set.specs.declared.instruction.Instruction.{Instruction}
 use Rattle.instruction_set.specs.Program.{is_wide}
 use Rattle.instruction_set.specs.Spelling.{Fits, slots_spelled}
 use Rattle.program_interface.specs.Bytes.{AreBytes}
 use Rattle.ebpf_decode.specs.FirstFault.{AllPass, Begins, IsFirst, IsFirstFault, IsOfSlot, IsTold}
 use Rattle.ebpf_decode.specs.Laws.{FaultIsFirst}
 use Rattle.ebpf_decode.specs.Opcodes.{opcode_named}
-use Rattle.ebpf_decode.specs.Reading.{checks, instruction, length_checks, length_fault, read, read_named, read_slots, slots_at, then_read, unless, unless_length}
+use Rattle.ebpf_decode.specs.Reading.{checks, instruction_with, length_checks, length_fault, read, read_named, read_slots, slots_at, then_read, unless, unless_length}
 use Rattle.ebpf_decode.proofs.Again.{read-again}
 use Rattle.ebpf_decode.proofs.Bytes.{slots-fields}
 use Rattle.ebpf_decode.proofs.FaultSlots.{fault_behind, same_slot}
@@ -53,13 +53,13 @@ all-pass (test ∷ tests) e = passes-at test.0 test tests refl e (all-pass tests
 
 -- ---- what is told of a slot
 
-abbrev fails_by : FaultKind → Result Insn FaultKind
+abbrev fails_by : FaultKind → Result Instruction FaultKind
 fails_by kind = Err kind
 
 err-same : (a b : FaultKind) → fails_by a ≡ fails_by b → a ≡ b
 err-same a b e = cc
 
-with-value : (tests : List (Bool × FaultKind)) (found : Option Insn) (kind : FaultKind) (fault : Option FaultKind) → first_found tests ≡ fault
+with-value : (tests : List (Bool × FaultKind)) (found : Option Instruction) (kind : FaultKind) (fault : Option FaultKind) → first_found tests ≡ fault
     → unless fault found ≡ Err kind → IsFirst kind (tests ++ (is_none found, kinds.Value) ∷ [])
 with-value tests found kind (Some told) is e =
     let same : told ≡ kind = err-same told kind e in
@@ -77,9 +77,9 @@ with-value tests None kind None is e =
 
 told : (named : Option Opcode) (f : Fields) (next : Option Fields) (kind : FaultKind) → read_named named f next ≡ Err kind → IsTold kind named f next
 told None f next kind e = sym (err-same kinds.Opcode kind e)
-told (Some opcode) f next kind e = with-value (checks opcode f next) (instruction opcode f next) kind (first_found (checks opcode f next)) refl e
+told (Some opcode) f next kind e = with-value (checks opcode f next) (instruction_with opcode f next) kind (first_found (checks opcode f next)) refl e
 
-begins-none : (f : Fields) (next : Option Fields) (kind : FaultKind) (i : Insn) → read f next ≡ Err kind → Begins f next i → ⊥
+begins-none : (f : Fields) (next : Option Fields) (kind : FaultKind) (i : Instruction) → read f next ≡ Err kind → Begins f next i → ⊥
 begins-none f next kind i failed begins =
     let clash : Ok i ≡ Err kind = sym (read-again i next begins.fits begins.second) ∙ ap (λ g. read g next) begins.first ∙ failed in
     absurd cc
@@ -90,7 +90,7 @@ begins-none f next kind i failed begins =
 record Before (s : ℕ) (fs : List Fields) (fault : Fault) : Type 0 where
   place : ℕ
   at : fault.slot ≡ s + place
-  instructions : List Insn
+  instructions : List Instruction
   fits : AllByRecursion Fits instructions
   spelled : take place fs ≡ flat_map slots_spelled instructions
   fields : Fields
@@ -112,7 +112,7 @@ BeforeFrom true s fs fault = BehindSecond s fs fault
 one-more : (f : Fields) (fs : List Fields) (place : ℕ) → slice_get (f ∷ fs) (suc place + 1) ≡ slice_get fs (place + 1)
 one-more f fs place = let places : suc place + 1 ≡ suc (place + 1) = omega arith in ap (slice_get (f ∷ fs)) places
 
-behind : (f : Fields) (fs : List Fields) (s : ℕ) (fault : Fault) (i : Insn) (wide : Bool) → is_wide i ≡ wide
+behind : (f : Fields) (fs : List Fields) (s : ℕ) (fault : Fault) (i : Instruction) (wide : Bool) → is_wide i ≡ wide
     → IsTaken f (slice_get fs 0) i → BeforeFrom wide (s + 1) fs fault → Before s (f ∷ fs) fault
 behind f fs s fault i false is taken b = record {
   place = suc b.place;
@@ -141,18 +141,18 @@ behind f fs s fault i true is taken b = record {
       ∙ b.after.failed;
 }
 
-kind_told : Result (List (Option Insn)) Fault → FaultKind
+kind_told : Result (List (Option Instruction)) Fault → FaultKind
 kind_told (Ok slots) = kinds.Opcode
 kind_told (Err fault) = fault.kind
 
-abbrev told_at : ℕ → FaultKind → Result (List (Option Insn)) Fault
+abbrev told_at : ℕ → FaultKind → Result (List (Option Instruction)) Fault
 told_at slot kind = Err (record { slot = slot; kind = kind })
 
 same_kind : (slot : ℕ) (kind : FaultKind) (fault : Fault) → told_at slot kind ≡ Err fault → kind ≡ fault.kind
 unfolding kind_told
 same_kind slot kind fault e = ap kind_told e
 
-at-first : (f : Fields) (fs : List Fields) (s : ℕ) (fault : Fault) (found : Result Insn FaultKind) → read f (slice_get fs 0) ≡ found
+at-first : (f : Fields) (fs : List Fields) (s : ℕ) (fault : Fault) (found : Result Instruction FaultKind) → read f (slice_get fs 0) ≡ found
     → then_read (result_map_both Some (λ kind. kind) found) s (λ wide. read_slots wide (s + 1) fs) ≡ Err fault → AreFields f → AreFieldsIn (slice_get fs 0)
     → ((wide : Bool) → read_slots wide (s + 1) fs ≡ Err fault → BeforeFrom wide (s + 1) fs fault) → Before s (f ∷ fs) fault
 at-first f fs s fault (Err kind) is e fit fits later = record {

@@ -6,8 +6,8 @@ use Rattle.std.specs.List.{AllByRecursion, flat_map, slice_get}
 use Rattle.ebpf_decode.specs.declared.fault.Fault.{Fault}
 use Rattle.ebpf_decode.specs.declared.fault.FaultKind.{FaultKind}
 use Rattle.instruction_set.specs.declared.fields.Fields.{Fields}
-use Rattle.instruction_set.specs.declared.insn.Insn.{Insn}
-use Rattle.instruction_set.specs.declared.insn.Insn.TheVariants.{LoadImmediate}
+use Rattle.instruction_set.specs.declared.instruction.Instruction.{Instruction}
+use Rattle.instruction_set.specs.declared.instruction.Instruction.TheVariants.{LoadImmediate}
 use Rattle.instruction_set.specs.Program.{IsProgram, is_wide, slots_of}
 use Rattle.ebpf_decode.specs.Reading.{decoded_program, length_fault, read, read_slots, slots_at, then_read, unless_length, with_front}
 use Rattle.instruction_set.specs.Spelling.{Fits, first_slot, instructions_of, program_bytes, second_slot, slot_bytes, slots_spelled, spelling}
@@ -20,36 +20,36 @@ use Rattle.ebpf_decode.proofs.Slots.{length-slots}
 use Rattle.ebpf_decode.proofs.Takes.{AreFields, AreFieldsIn, IsTaken, read-takes}
 
 -- instructions whose slots they are
-pub record Spelled (fs : List Fields) (slots : List (Option Insn)) : Type 0 where
-  pub instructions : List Insn
+pub record Spelled (fs : List Fields) (slots : List (Option Instruction)) : Type 0 where
+  pub instructions : List Instruction
   pub layout : slots ≡ slots_of instructions
   pub spelled : fs ≡ flat_map slots_spelled instructions
   pub fits : AllByRecursion Fits instructions
 
 -- the same behind a wide instruction's second slot
-pub record AfterSecond (fs : List Fields) (slots : List (Option Insn)) : Type 0 where
+pub record AfterSecond (fs : List Fields) (slots : List (Option Instruction)) : Type 0 where
   pub second : Fields
   pub others : List Fields
-  pub rest : List (Option Insn)
+  pub rest : List (Option Instruction)
   pub are : fs ≡ second ∷ others
   pub slots_are : slots ≡ None ∷ rest
   pub after : Spelled others rest
 
-abbrev SpelledFrom : Bool → List Fields → List (Option Insn) → Type 0
+abbrev SpelledFrom : Bool → List Fields → List (Option Instruction) → Type 0
 SpelledFrom false fs slots = Spelled fs slots
 SpelledFrom true fs slots = AfterSecond fs slots
 
-front-ok : (front : List (Option Insn)) (read : Result (List (Option Insn)) Fault) (slots : List (Option Insn)) → with_front front read ≡ Ok slots
-    → (rest : List (Option Insn)) × (read ≡ Ok rest) × (front ++ rest ≡ slots)
+front-ok : (front : List (Option Instruction)) (read : Result (List (Option Instruction)) Fault) (slots : List (Option Instruction)) → with_front front read ≡ Ok slots
+    → (rest : List (Option Instruction)) × (read ≡ Ok rest) × (front ++ rest ≡ slots)
 front-ok front (Ok rest) slots e = (rest, refl, cc)
 front-ok front (Err fault) slots e = absurd cc
 
-first-ok : (read : Result Insn FaultKind) (s : ℕ) (after : Bool → Result (List (Option Insn)) Fault) (slots : List (Option Insn)) → then_read (result_map_both Some (λ kind. kind) read) s after ≡ Ok slots
-    → (i : Insn) × (read ≡ Ok i) × (with_front (Some i ∷ []) (after (is_wide i)) ≡ Ok slots)
+first-ok : (read : Result Instruction FaultKind) (s : ℕ) (after : Bool → Result (List (Option Instruction)) Fault) (slots : List (Option Instruction)) → then_read (result_map_both Some (λ kind. kind) read) s after ≡ Ok slots
+    → (i : Instruction) × (read ≡ Ok i) × (with_front (Some i ∷ []) (after (is_wide i)) ≡ Ok slots)
 first-ok (Ok i) s after slots e = (i, refl, e)
 first-ok (Err kind) s after slots e = absurd cc
 
-wide-has-second : (i : Insn) (next : Option Fields) → is_wide i ≡ true → second_slot i ≡ cond (is_wide i) next None → IsSome next
+wide-has-second : (i : Instruction) (next : Option Fields) → is_wide i ≡ true → second_slot i ≡ cond (is_wide i) next None → IsSome next
 wide-has-second (LoadImmediate dst value) (Some f) wide e = refl
 wide-has-second (LoadImmediate dst value) None wide e = absurd cc
 wide-has-second i next wide e = absurd cc
@@ -58,7 +58,7 @@ pub are-fields-in : (fs : List Fields) → AllByRecursion AreFields fs → AreFi
 are-fields-in [] all = tt
 are-fields-in (f ∷ fs) all = all.0
 
-joined : (f : Fields) (fs : List Fields) (slots rest : List (Option Insn)) (i : Insn) (wide : Bool) → is_wide i ≡ wide
+joined : (f : Fields) (fs : List Fields) (slots rest : List (Option Instruction)) (i : Instruction) (wide : Bool) → is_wide i ≡ wide
     → IsTaken f (slice_get fs 0) i → Some i ∷ rest ≡ slots → SpelledFrom wide fs rest → Spelled (f ∷ fs) slots
 joined f fs slots rest i false is taken e after = record {
   instructions = i ∷ after.instructions;
@@ -75,7 +75,7 @@ joined f fs slots rest i true is taken e after = record {
   fits = (taken.1, after.after.fits);
 }
 
-takes : (fs : List Fields) (second : Bool) (s : ℕ) (slots : List (Option Insn)) → AllByRecursion AreFields fs → (second ≡ true → IsSome (slice_get fs 0))
+takes : (fs : List Fields) (second : Bool) (s : ℕ) (slots : List (Option Instruction)) → AllByRecursion AreFields fs → (second ≡ true → IsSome (slice_get fs 0))
     → read_slots second s fs ≡ Ok slots → SpelledFrom second fs slots
 takes [] false s slots all some e = record { instructions = []; layout = cc; spelled = refl; fits = tt }
 takes [] true s slots all some e = let none : IsSome (slice_get {X = Fields} [] 0) = some refl in absurd cc
@@ -90,27 +90,27 @@ takes (f ∷ fs) false s slots all some e =
     (takes fs (is_wide r.0) (s + 1) w.0 all.1 (λ wide. wide-has-second r.0 (slice_get fs 0) wide taken.0.1) w.1)
 
 -- what is read from slots is spelled by them
-pub slots-take : (fs : List Fields) (slots : List (Option Insn)) → AllByRecursion AreFields fs → read_slots false 0 fs ≡ Ok slots → Spelled fs slots
+pub slots-take : (fs : List Fields) (slots : List (Option Instruction)) → AllByRecursion AreFields fs → read_slots false 0 fs ≡ Ok slots → Spelled fs slots
 slots-take fs slots all e = takes fs false 0 slots all (λ never. absurd cc) e
 
 -- ---- lengths, instructions and bytes of programs
 
-pub length-slots_of : (is : List Insn) → length (slots_of is) ≡ length (flat_map slots_spelled is)
+pub length-slots_of : (is : List Instruction) → length (slots_of is) ≡ length (flat_map slots_spelled is)
 length-slots_of [] = refl
 length-slots_of (LoadImmediate dst value ∷ is) = ap (λ n. suc (suc n)) (length-slots_of is)
 length-slots_of (i ∷ is) = ap suc (length-slots_of is)
 
-pub instructions_of-slots_of : (is : List Insn) → instructions_of (slots_of is) ≡ is
+pub instructions_of-slots_of : (is : List Instruction) → instructions_of (slots_of is) ≡ is
 instructions_of-slots_of [] = refl
 instructions_of-slots_of (LoadImmediate dst value ∷ is) = ap (λ xs. LoadImmediate dst value ∷ xs) (instructions_of-slots_of is)
 instructions_of-slots_of (i ∷ is) = ap (λ xs. i ∷ xs) (instructions_of-slots_of is)
 
-pub spelling-slots : (is : List Insn) → flat_map spelling is ≡ flat_map slot_bytes (flat_map slots_spelled is)
+pub spelling-slots : (is : List Instruction) → flat_map spelling is ≡ flat_map slot_bytes (flat_map slots_spelled is)
 spelling-slots [] = refl
 spelling-slots (i ∷ is) =
     ap (λ xs. spelling i ++ xs) (spelling-slots is) ∙ sym (flat_map-append slot_bytes (slots_spelled i) (flat_map slots_spelled is))
 
-pub program_bytes-slots_of : (is : List Insn) → program_bytes (slots_of is) ≡ flat_map slot_bytes (flat_map slots_spelled is)
+pub program_bytes-slots_of : (is : List Instruction) → program_bytes (slots_of is) ≡ flat_map slot_bytes (flat_map slots_spelled is)
 program_bytes-slots_of is = ap (flat_map spelling) (instructions_of-slots_of is) ∙ spelling-slots is
 
 three : (a b c : Bool) (p q r : FaultKind) → option_map (λ (x : Bool × FaultKind). x.1) (find (λ (x : Bool × FaultKind). x.0) ((a, p) ∷ (b, q) ∷ (c, r) ∷ [])) ≡ None
@@ -126,7 +126,7 @@ few_slots bytes length_is =
     ltb-false _ _ (three (not (eqb (length bytes % 8) 0)) (eqb (length bytes) 0) (ltb MOST_SLOTS (length bytes / 8)) _ _ _ length_is).2
 
 -- slots that are read from bytes are a program, spelled by the bytes
-pub program-read : (bytes : List ℕ) (slots : List (Option Insn)) → IsBytes bytes → length_fault (length bytes) ≡ None
+pub program-read : (bytes : List ℕ) (slots : List (Option Instruction)) → IsBytes bytes → length_fault (length bytes) ≡ None
     → read_slots false 0 (slots_at (length bytes / 8) bytes) ≡ Ok slots → IsProgram slots × (bytes ≡ program_bytes slots)
 program-read bytes slots fits length_is e =
     let count = length bytes / 8 in
@@ -152,12 +152,12 @@ program-read bytes slots fits length_is e =
 
 -- ---- what a program spells is read again
 
-read-first : (i : Insn) (s : ℕ) (fs : List Fields) → Fits i → second_slot i ≡ cond (is_wide i) (slice_get fs 0) None
+read-first : (i : Instruction) (s : ℕ) (fs : List Fields) → Fits i → second_slot i ≡ cond (is_wide i) (slice_get fs 0) None
     → read_slots false s (first_slot i ∷ fs) ≡ with_front (Some i ∷ []) (read_slots (is_wide i) (s + 1) fs)
 read-first i s fs fits second =
     ap (λ r. then_read (result_map_both Some (λ kind. kind) r) s (λ wide. read_slots wide (s + 1) fs)) (read-again i (slice_get fs 0) fits second)
 
-read-program : (is : List Insn) (s : ℕ) → AllByRecursion Fits is → read_slots false s (flat_map slots_spelled is) ≡ Ok (slots_of is)
+read-program : (is : List Instruction) (s : ℕ) → AllByRecursion Fits is → read_slots false s (flat_map slots_spelled is) ≡ Ok (slots_of is)
 read-program [] s fits = refl
 read-program (LoadImmediate dst value ∷ is) s fits =
     read-first (LoadImmediate dst value) s (option_to_list (second_slot (LoadImmediate dst value)) ++ flat_map slots_spelled is) fits.0 refl
@@ -165,7 +165,7 @@ read-program (LoadImmediate dst value ∷ is) s fits =
 read-program (i ∷ is) s fits =
     read-first i s (flat_map slots_spelled is) fits.0 refl ∙ ap (with_front (Some i ∷ [])) (read-program is (s + 1) fits.1)
 
-fit-slots : (is : List Insn) → AllByRecursion Fits is → AllByRecursion FitSlot (flat_map slots_spelled is)
+fit-slots : (is : List Instruction) → AllByRecursion Fits is → AllByRecursion FitSlot (flat_map slots_spelled is)
 fit-slots [] fits = tt
 fit-slots (LoadImmediate dst value ∷ is) fits = (
   record { dst = omega (arith, fits.0.dst); offset = fits.0.offset; immediate = fits.0.immediate },
@@ -179,7 +179,7 @@ three-none : (a b c : Bool) (p q r : FaultKind) → a ≡ false → b ≡ false 
 three-none a b c p q r x y z = rw (x, y, z) refl
 
 -- what a program spells decodes as the program
-pub program-again : (slots : List (Option Insn)) → IsProgram slots → decoded_program (program_bytes slots) ≡ Ok slots
+pub program-again : (slots : List (Option Instruction)) → IsProgram slots → decoded_program (program_bytes slots) ≡ Ok slots
 program-again slots program =
     let is = program.instructions in
     let fs = flat_map slots_spelled is in
@@ -199,22 +199,22 @@ program-again slots program =
     ∙ read-program is 0 program.fits
     ∙ ap (λ xs. Ok xs) (sym program.layout)
 
-abbrev read_as : List (Option Insn) → Result (List (Option Insn)) Fault
+abbrev read_as : List (Option Instruction) → Result (List (Option Instruction)) Fault
 read_as slots = Ok slots
 
-one-read : (a b : List (Option Insn)) → read_as a ≡ read_as b → a ≡ b
+one-read : (a b : List (Option Instruction)) → read_as a ≡ read_as b → a ≡ b
 one-read a b e = cc
 
 -- programs that are spelled alike are one
-pub one-program : (a b : List (Option Insn)) → IsProgram a → IsProgram b → program_bytes a ≡ program_bytes b → a ≡ b
+pub one-program : (a b : List (Option Instruction)) → IsProgram a → IsProgram b → program_bytes a ≡ program_bytes b → a ≡ b
 one-program a b p q same = one-read a b (sym (program-again a p) ∙ ap decoded_program same ∙ program-again b q)
 
-unless_length-ok : (k : Option FaultKind) (read : Result (List (Option Insn)) Fault) (slots : List (Option Insn)) → unless_length k read ≡ Ok slots → (k ≡ None) × (read ≡ Ok slots)
+unless_length-ok : (k : Option FaultKind) (read : Result (List (Option Instruction)) Fault) (slots : List (Option Instruction)) → unless_length k read ≡ Ok slots → (k ≡ None) × (read ≡ Ok slots)
 unless_length-ok (Some kind) read slots e = absurd cc
 unless_length-ok None read slots e = (refl, e)
 
 -- what decodes is a program, spelled by the bytes
-pub decoded-program : (bytes : List ℕ) (slots : List (Option Insn)) → IsBytes bytes → decoded_program bytes ≡ Ok slots → IsProgram slots × (bytes ≡ program_bytes slots)
+pub decoded-program : (bytes : List ℕ) (slots : List (Option Instruction)) → IsBytes bytes → decoded_program bytes ≡ Ok slots → IsProgram slots × (bytes ≡ program_bytes slots)
 decoded-program bytes slots fits e =
     let ok = unless_length-ok (length_fault (length bytes)) (read_slots false 0 (slots_at (length bytes / 8) bytes)) slots e in
     program-read bytes slots fits ok.0 ok.1

@@ -5,7 +5,7 @@ use Rattle.std.proofs.lemmas.List.{append-nil, drop-drop}
 use Rattle.ebpf_decode.specs.declared.fault.Fault.{Fault}
 use Rattle.ebpf_decode.specs.declared.fault.FaultKind.{FaultKind}
 use Rattle.instruction_set.specs.declared.fields.Fields.{Fields}
-use Rattle.instruction_set.specs.declared.insn.Insn.{Insn}
+use Rattle.instruction_set.specs.declared.instruction.Instruction.{Instruction}
 use Rattle.ebpf_decode.specs.Reading.{begins_wide, begun, fields_at, read_slots, slots_at, then_read, with_front}
 
 pub slots-get : (count : ℕ) (bytes : List ℕ) (k : ℕ) → k < count → slice_get (slots_at count bytes) k ≡ Some (fields_at (drop (8 * k) bytes))
@@ -45,17 +45,17 @@ read-at fs s f second h =
     ∙ ap (λ n. then_read (begun second f n) s (λ wide. read_slots wide (s + 1) (drop (suc s) fs))) (get-drop fs (suc s))
     ∙ ap (λ n. then_read (begun second f (slice_get fs n)) s (λ wide. read_slots wide (s + 1) (drop n fs))) (sym (add-one s))
 
-pub with_front-nil : (read : Result (List (Option Insn)) Fault) → with_front [] read ≡ read
+pub with_front-nil : (read : Result (List (Option Instruction)) Fault) → with_front [] read ≡ read
 with_front-nil (Ok slots) = refl
 with_front-nil (Err fault) = refl
 
-pub with_front-more : (front : List (Option Insn)) (found : Option Insn) (read : Result (List (Option Insn)) Fault)
+pub with_front-more : (front : List (Option Instruction)) (found : Option Instruction) (read : Result (List (Option Instruction)) Fault)
     → with_front front (with_front (found ∷ []) read) ≡ with_front (front ++ found ∷ []) read
 with_front-more front found (Ok slots) = ap (λ xs. Ok xs) (sym (append_assoc front (found ∷ []) slots))
 with_front-more front found (Err fault) = refl
 
 -- one more slot
-pub goes_on : (fs : List Fields) (s : ℕ) (f : Fields) (second : Bool) (found : Option Insn) (front : List (Option Insn)) (total : Result (List (Option Insn)) Fault)
+pub goes_on : (fs : List Fields) (s : ℕ) (f : Fields) (second : Bool) (found : Option Instruction) (front : List (Option Instruction)) (total : Result (List (Option Instruction)) Fault)
     → slice_get fs s ≡ Some f → begun second f (slice_get fs (s + 1)) ≡ Ok found
     → with_front front (read_slots second s (drop s fs)) ≡ total
     → with_front (front ++ found ∷ []) (read_slots (begins_wide found) (s + 1) (drop (s + 1) fs)) ≡ total
@@ -66,7 +66,7 @@ goes_on fs s f second found front total here read so_far =
     ∙ so_far
 
 -- a slot with a fault
-pub ends : (fs : List Fields) (s : ℕ) (f : Fields) (second : Bool) (kind : FaultKind) (front : List (Option Insn)) (total : Result (List (Option Insn)) Fault)
+pub ends : (fs : List Fields) (s : ℕ) (f : Fields) (second : Bool) (kind : FaultKind) (front : List (Option Instruction)) (total : Result (List (Option Instruction)) Fault)
     → slice_get fs s ≡ Some f → begun second f (slice_get fs (s + 1)) ≡ Err kind
     → with_front front (read_slots second s (drop s fs)) ≡ total
     → total ≡ Err (record { slot = s; kind = kind })
@@ -82,7 +82,7 @@ drop-all (x ∷ fs) zero h = absurd (omega arith)
 drop-all (x ∷ fs) (suc s) h = drop-all fs s (omega arith)
 
 -- no slot is left
-pub is_done : (fs : List Fields) (s : ℕ) (second : Bool) (front : List (Option Insn)) (total : Result (List (Option Insn)) Fault)
+pub is_done : (fs : List Fields) (s : ℕ) (second : Bool) (front : List (Option Instruction)) (total : Result (List (Option Instruction)) Fault)
     → length fs ≤ s → with_front front (read_slots second s (drop s fs)) ≡ total → total ≡ Ok front
 is_done fs s second front total h so_far =
     sym so_far

@@ -8,14 +8,14 @@ use Rattle.std.proofs.lemmas.Bool.Decides.{Decides-int_eq}
 use Rattle.std.proofs.lemmas.Int.{ints, to_z-of_z}
 use Rattle.ebpf_decode.specs.declared.fault.FaultKind.{FaultKind}
 use Rattle.instruction_set.specs.declared.fields.Fields.{Fields}
-use Rattle.instruction_set.specs.declared.insn.Insn.{Insn}
-use Rattle.instruction_set.specs.declared.insn.Insn.TheVariants as insns
+use Rattle.instruction_set.specs.declared.instruction.Instruction.{Instruction}
+use Rattle.instruction_set.specs.declared.instruction.Instruction.TheVariants as instructions
 use Rattle.ebpf_decode.specs.declared.opcode.Opcode.{Opcode}
 use Rattle.ebpf_decode.specs.declared.opcode.Opcode.TheVariants.{LoadImmediate, Load, LoadSigned, StoreImmediate, StoreRegister, Arithmetic, Negate, SwapBytes, Jump, JumpLong, Branch, Call, Exit, LeftOut}
 use Rattle.ebpf_decode.specs.declared.opcode.Operand.{Operand}
 use Rattle.ebpf_decode.specs.declared.opcode.Operand.TheVariants as operands
 use Rattle.ebpf_decode.specs.declared.opcode.Uses.{Uses}
-use Rattle.instruction_set.specs.declared.insn.Source.TheVariants as sources
+use Rattle.instruction_set.specs.declared.instruction.Source.TheVariants as sources
 use Rattle.instruction_set.specs.declared.operation.Operation.{Operation}
 use Rattle.instruction_set.specs.declared.operation.Operation.TheVariants.{SignedDivide, SignedModulo}
 use Rattle.instruction_set.specs.declared.operation.SignExtension.TheVariants.{Bits8To32, Bits16To32, Bits8To64, Bits16To64, Bits32To64}
@@ -25,7 +25,7 @@ use Rattle.instruction_set.specs.declared.operation.Width.TheVariants as widths
 use Rattle.instruction_set.specs.Codes.{extension_with, plain_operations, swap_size_with, variant_with, width_eq}
 use Rattle.ebpf_decode.specs.Opcodes.{opcode_named, uses}
 use Rattle.instruction_set.specs.Program.{is_wide}
-use Rattle.ebpf_decode.specs.Reading.{first_fault, has_more, has_no_register, has_unused, instruction, is_left_out, is_load_immediate, read, read_named, signed_move, source_of, unless}
+use Rattle.ebpf_decode.specs.Reading.{first_fault, has_more, has_no_register, has_unused, instruction_with, is_left_out, is_load_immediate, read, read_named, signed_move, source_of, unless}
 use Rattle.instruction_set.specs.Spelling.{CALL, EXIT, Fits, HasValue, IMM, JA, LD, LDX, MEM, MEMSX, MOV, NEG, ST, STX, access_opcode, arithmetic_class, extension_offset, extension_width, first_slot, jump_class, kept_bits, operation_code, operation_offset, operation_opcode, relation_code, second_slot, signed_size_code, size_code, slot, swap_opcode}
 
 -- ---- opcodes
@@ -123,10 +123,10 @@ slot-is : (f : Fields) (opcode dst src : ℕ) (offset immediate : ℤ)
 slot-is f opcode dst src offset immediate o d s t i = rw (o, d, s, t, i) refl
 
 -- the instruction is spelled by the slot, and by the next one where it is wide
-abbrev pub IsSpelled : Fields → Option Fields → Insn → Type 0
+abbrev pub IsSpelled : Fields → Option Fields → Instruction → Type 0
 IsSpelled f next i = (first_slot i ≡ f) × (second_slot i ≡ cond (is_wide i) next None) × HasValue i
 
-moved : (f : Fields) (next : Option Fields) (x i : Insn) → Some x ≡ Some i → IsSpelled f next x → IsSpelled f next i
+moved : (f : Fields) (next : Option Fields) (x i : Instruction) → Some x ≡ Some i → IsSpelled f next x → IsSpelled f next i
 moved f next x i e spelled = let same : x ≡ i = cc in subst (IsSpelled f next) same spelled
 
 find-then : {X : Type 0} (test : X → Bool) (x y : X) (b : Bool) (rest : Option X) → test x ≡ b → (rest ≡ Some y → test y ≡ true) → cond b (Some x) rest ≡ Some y → test y ≡ true
@@ -165,10 +165,10 @@ high-half low z h fits =
     ap (cast_signed w32) high ∙ to_z-of_z w32 z fits
 
 -- an arithmetic operation, or a sign-extending move
-module _ (width : Width) (operation : Operation) (f : Fields) (next : Option Fields) (i : Insn) where
+module _ (width : Width) (operation : Operation) (f : Fields) (next : Option Fields) (i : Instruction) where
   with-variant : (operand : Operand) (v : Operation) → eqb (opcode_of (Arithmetic width operation operand)) f.opcode ≡ true
       → IsUsed (uses (Arithmetic width operation operand)) f → variant_with operation f.offset ≡ Some v
-      → Some (insns.Arithmetic width v f.dst (source_of operand f)) ≡ Some i → IsSpelled f next i
+      → Some (instructions.Arithmetic width v f.dst (source_of operand f)) ≡ Some i → IsSpelled f next i
   with-variant operand v named used found e =
       let test = and_parts _ _ (find-some (λ variant. eqb (operation_code variant) (operation_code operation) && int_eq (operation_offset variant) f.offset) (SignedDivide ∷ SignedModulo ∷ plain_operations) v found) in
       let code : operation_code v ≡ operation_code operation = eqb-true _ _ test.0 in
@@ -178,39 +178,39 @@ module _ (width : Width) (operation : Operation) (f : Fields) (next : Option Fie
       with-operand : (operand : Operand) → operation_code v ≡ operation_code operation → operation_offset v ≡ f.offset
           → eqb (opcode_of (Arithmetic width operation operand)) f.opcode ≡ true
           → IsUsed (uses (Arithmetic width operation operand)) f
-          → Some (insns.Arithmetic width v f.dst (source_of operand f)) ≡ Some i → IsSpelled f next i
+          → Some (instructions.Arithmetic width v f.dst (source_of operand f)) ≡ Some i → IsSpelled f next i
       with-operand operands.Immediate code offset named used e =
-          moved f next (insns.Arithmetic width v f.dst (sources.Immediate f.immediate)) i e
+          moved f next (instructions.Arithmetic width v f.dst (sources.Immediate f.immediate)) i e
           (slot-is f _ _ _ _ _ (ap (λ n. operation_opcode n 0 (arithmetic_class width)) code ∙ eqb-true _ _ named) refl (sym (used.src refl)) offset refl, refl, tt)
       with-operand operands.Register code offset named used e =
-          moved f next (insns.Arithmetic width v f.dst (sources.Register f.src)) i e
+          moved f next (instructions.Arithmetic width v f.dst (sources.Register f.src)) i e
           (slot-is f _ _ _ _ _ (ap (λ n. operation_opcode n 1 (arithmetic_class width)) code ∙ eqb-true _ _ named) refl refl offset (sym (used.immediate refl)), refl, tt)
 
   with-extension : (operand : Operand) → eqb (opcode_of (Arithmetic width operation operand)) f.opcode ≡ true
       → IsUsed (uses (Arithmetic width operation operand)) f → signed_move width operation operand f ≡ Some i → IsSpelled f next i
   with-extension operands.Immediate named used e = absurd cc
   with-extension operands.Register named used e =
-      let found = map-some (λ extension. insns.MoveSigned extension f.dst f.src) (extension_with width operation f.offset) i e in
+      let found = map-some (λ extension. instructions.MoveSigned extension f.dst f.src) (extension_with width operation f.offset) i e in
       let extension = found.0 in
       let test = and_parts _ _ (find-some (λ extension. width_eq (extension_width extension) width && eqb (operation_code operation) MOV && int_eq (extension_offset extension) f.offset) (Bits8To32 ∷ Bits16To32 ∷ Bits8To64 ∷ Bits16To64 ∷ Bits32To64 ∷ []) extension found.1) in
       let front = and_parts _ _ test.0 in
       let class : arithmetic_class (extension_width extension) ≡ arithmetic_class width = eqb-true _ _ front.0 in
       let code : operation_code operation ≡ MOV = eqb-true _ _ front.1 in
       let offset : extension_offset extension ≡ f.offset = (Decides-int_eq _ _).0 test.1 in
-      moved f next (insns.MoveSigned extension f.dst f.src) i found.2
+      moved f next (instructions.MoveSigned extension f.dst f.src) i found.2
       (slot-is f _ _ _ _ _ (ap (λ n. operation_opcode n 1 (arithmetic_class (extension_width extension))) (sym code) ∙ ap (operation_opcode (operation_code operation) 1) class ∙ eqb-true _ _ named) refl refl offset (sym (used.immediate refl)), refl, tt)
 
   with-arithmetic : (operand : Operand) (m : Option Operation) → variant_with operation f.offset ≡ m → eqb (opcode_of (Arithmetic width operation operand)) f.opcode ≡ true
       → IsUsed (uses (Arithmetic width operation operand)) f
-      → option_or (option_map (λ v. insns.Arithmetic width v f.dst (source_of operand f)) m) (signed_move width operation operand f) ≡ Some i
+      → option_or (option_map (λ v. instructions.Arithmetic width v f.dst (source_of operand f)) m) (signed_move width operation operand f) ≡ Some i
       → IsSpelled f next i
   with-arithmetic operand None is named used e = with-extension operand named used e
   with-arithmetic operand (Some v) is named used e = with-variant operand v named used is e
 
 -- what an instruction without a fault is spelled by
-row : (opcode : Opcode) (f : Fields) (next : Option Fields) (i : Insn) → is_of (Some opcode) f.opcode ≡ true → IsUsed (uses opcode) f
+row : (opcode : Opcode) (f : Fields) (next : Option Fields) (i : Instruction) → is_of (Some opcode) f.opcode ≡ true → IsUsed (uses opcode) f
     → (is_load_immediate opcode && is_none next) ≡ false → (is_load_immediate opcode && has_more next) ≡ false
-    → AreFields f → AreFieldsIn next → instruction opcode f next ≡ Some i → IsSpelled f next i
+    → AreFields f → AreFieldsIn next → instruction_with opcode f next ≡ Some i → IsSpelled f next i
 row LoadImmediate f None i named used here more fits others e = absurd cc
 row LoadImmediate f (Some g) i named used here more fits others e =
     let p = or_parts _ (not (int_eq g.offset (pos 0))) more in
@@ -220,61 +220,61 @@ row LoadImmediate f (Some g) i named used here more fits others e =
     let b = cast_unsigned w32 g.immediate in
     let second = slot-is g _ _ _ _ _ (sym (eqb-true _ _ (not-false _ r.0))) (sym (eqb-true _ _ (not-false _ r.1))) (sym (eqb-true _ _ (not-false _ q.1)))
     (sym ((Decides-int_eq g.offset (pos 0)).0 (not-false _ p.1))) (high-half a g.immediate (below-32 f.immediate fits.immediate) others.immediate) in
-    moved f (Some g) (insns.LoadImmediate f.dst (a + 2 ^ 32 * b)) i e (
+    moved f (Some g) (instructions.LoadImmediate f.dst (a + 2 ^ 32 * b)) i e (
       slot-is f _ _ _ _ _ (eqb-true _ _ named) refl (sym (used.src refl)) (sym (used.offset refl)) (low-half f.immediate b fits.immediate),
       ap (λ s. Some s) second,
       omega (arith, below-32 f.immediate fits.immediate, below-32 g.immediate others.immediate),
     )
 row (Load size) f next i named used here more fits others e =
-    moved f next (insns.Load size f.dst f.src f.offset) i e
+    moved f next (instructions.Load size f.dst f.src f.offset) i e
     (slot-is f _ _ _ _ _ (eqb-true _ _ named) refl refl refl (sym (used.immediate refl)), refl, tt)
 row (LoadSigned size) f next i named used here more fits others e =
-    moved f next (insns.LoadSigned size f.dst f.src f.offset) i e
+    moved f next (instructions.LoadSigned size f.dst f.src f.offset) i e
     (slot-is f _ _ _ _ _ (eqb-true _ _ named) refl refl refl (sym (used.immediate refl)), refl, tt)
 row (StoreImmediate size) f next i named used here more fits others e =
-    moved f next (insns.StoreImmediate size f.dst f.offset f.immediate) i e
+    moved f next (instructions.StoreImmediate size f.dst f.offset f.immediate) i e
     (slot-is f _ _ _ _ _ (eqb-true _ _ named) refl (sym (used.src refl)) refl refl, refl, tt)
 row (StoreRegister size) f next i named used here more fits others e =
-    moved f next (insns.StoreRegister size f.dst f.src f.offset) i e
+    moved f next (instructions.StoreRegister size f.dst f.src f.offset) i e
     (slot-is f _ _ _ _ _ (eqb-true _ _ named) refl refl refl (sym (used.immediate refl)), refl, tt)
 row (Arithmetic width operation operand) f next i named used here more fits others e =
     with-arithmetic width operation f next i operand (variant_with operation f.offset) refl named used e
 row (Negate width) f next i named used here more fits others e =
-    moved f next (insns.Negate width f.dst) i e
+    moved f next (instructions.Negate width f.dst) i e
     (slot-is f _ _ _ _ _ (eqb-true _ _ named) refl (sym (used.src refl)) (sym (used.offset refl)) (sym (used.immediate refl)), refl, tt)
 row (SwapBytes swap) f next i named used here more fits others e =
-    let found = map-some (λ size. insns.SwapBytes swap size f.dst) (swap_size_with f.immediate) i e in
+    let found = map-some (λ size. instructions.SwapBytes swap size f.dst) (swap_size_with f.immediate) i e in
     let bits = (Decides-int_eq _ _).0 (find-some (λ size. int_eq (kept_bits size) f.immediate) (kept.Bits16 ∷ kept.Bits32 ∷ kept.Bits64 ∷ []) found.0 found.1) in
-    moved f next (insns.SwapBytes swap found.0 f.dst) i found.2
+    moved f next (instructions.SwapBytes swap found.0 f.dst) i found.2
     (slot-is f _ _ _ _ _ (eqb-true _ _ named) refl (sym (used.src refl)) (sym (used.offset refl)) bits, refl, tt)
 row Jump f next i named used here more fits others e =
-    moved f next (insns.Jump f.offset) i e
+    moved f next (instructions.Jump f.offset) i e
     (slot-is f _ _ _ _ _ (eqb-true _ _ named) (sym (used.dst refl)) (sym (used.src refl)) refl (sym (used.immediate refl)), refl, tt)
 row JumpLong f next i named used here more fits others e =
-    moved f next (insns.JumpLong f.immediate) i e
+    moved f next (instructions.JumpLong f.immediate) i e
     (slot-is f _ _ _ _ _ (eqb-true _ _ named) (sym (used.dst refl)) (sym (used.src refl)) (sym (used.offset refl)) refl, refl, tt)
 row (Branch width relation operands.Immediate) f next i named used here more fits others e =
-    moved f next (insns.Branch width relation f.dst (sources.Immediate f.immediate) f.offset) i e
+    moved f next (instructions.Branch width relation f.dst (sources.Immediate f.immediate) f.offset) i e
     (slot-is f _ _ _ _ _ (eqb-true _ _ named) refl (sym (used.src refl)) refl refl, refl, tt)
 row (Branch width relation operands.Register) f next i named used here more fits others e =
-    moved f next (insns.Branch width relation f.dst (sources.Register f.src) f.offset) i e
+    moved f next (instructions.Branch width relation f.dst (sources.Register f.src) f.offset) i e
     (slot-is f _ _ _ _ _ (eqb-true _ _ named) refl refl refl (sym (used.immediate refl)), refl, tt)
 row Call f next i named used here more fits others e =
-    moved f next (insns.Call f.immediate) i e
+    moved f next (instructions.Call f.immediate) i e
     (slot-is f _ _ _ _ _ (eqb-true _ _ named) (sym (used.dst refl)) (sym (used.src refl)) (sym (used.offset refl)) refl, refl, tt)
 row Exit f next i named used here more fits others e =
-    moved f next insns.Exit i e
+    moved f next instructions.Exit i e
     (slot-is f _ _ _ _ _ (eqb-true _ _ named) (sym (used.dst refl)) (sym (used.src refl)) (sym (used.offset refl)) (sym (used.immediate refl)), refl, tt)
 row (LeftOut which) f next i named used here more fits others e = absurd cc
 
-abbrev pub IsTaken : Fields → Option Fields → Insn → Type 0
+abbrev pub IsTaken : Fields → Option Fields → Instruction → Type 0
 IsTaken f next i = IsSpelled f next i × Fits i
 
-read-named : (f : Fields) (next : Option Fields) (i : Insn) (named : Option Opcode) → opcode_named f.opcode ≡ named
+read-named : (f : Fields) (next : Option Fields) (i : Instruction) (named : Option Opcode) → opcode_named f.opcode ≡ named
     → AreFields f → AreFieldsIn next → read_named named f next ≡ Ok i → IsTaken f next i
 read-named f next i None is fits others e = absurd cc
 read-named f next i (Some opcode) is fits others e =
-    let u = unless_ok (first_fault opcode f next) (instruction opcode f next) i e in
+    let u = unless_ok (first_fault opcode f next) (instruction_with opcode f next) i e in
     let v = four (is_left_out opcode f) (is_load_immediate opcode && is_none next) (has_no_register (uses opcode) f) (has_unused (uses opcode) f || (is_load_immediate opcode && has_more next)) _ _ _ _ u.0 in
     let w = or_parts (has_unused (uses opcode) f) (is_load_immediate opcode && has_more next) v.3 in
     let used = is_used (uses opcode) f v.2 w.0 in
@@ -291,5 +291,5 @@ read-named f next i (Some opcode) is fits others e =
     )
 
 -- what is read from a slot is spelled by it
-pub read-takes : (f : Fields) (next : Option Fields) (i : Insn) → AreFields f → AreFieldsIn next → read f next ≡ Ok i → IsTaken f next i
+pub read-takes : (f : Fields) (next : Option Fields) (i : Instruction) → AreFields f → AreFieldsIn next → read f next ≡ Ok i → IsTaken f next i
 read-takes f next i fits others e = read-named f next i (opcode_named f.opcode) refl fits others e

@@ -6,11 +6,11 @@ use Rattle.ebpf_decode.specs.declared.fault.FaultKind.{FaultKind}
 use Rattle.ebpf_decode.specs.declared.fault.FaultKind.TheVariants as kinds
 use Rattle.ebpf_decode.specs.declared.opcode.Opcode.{Opcode}
 use Rattle.instruction_set.specs.declared.fields.Fields.{Fields}
-use Rattle.instruction_set.specs.declared.insn.Insn.{Insn}
+use Rattle.instruction_set.specs.declared.instruction.Instruction.{Instruction}
 use Rattle.instruction_set.specs.Program.{is_wide}
 use Rattle.instruction_set.specs.Spelling.{Fits, first_slot, second_slot, slots_spelled}
 use Rattle.ebpf_decode.specs.Opcodes.{opcode_named}
-use Rattle.ebpf_decode.specs.Reading.{checks, instruction, length_checks, slots_at}
+use Rattle.ebpf_decode.specs.Reading.{checks, instruction_with, length_checks, slots_at}
 
 -- none of these checks finds its fault
 abbrev pub AllPass : List (Bool × FaultKind) → Type 0
@@ -25,7 +25,7 @@ pub record IsFirst (kind : FaultKind) (checks : List (Bool × FaultKind)) : Type
 
 -- the checks of a slot whose opcode is known: those of its fields, and at last of their values
 abbrev pub slot_checks : Opcode → Fields → Option Fields → List (Bool × FaultKind)
-slot_checks opcode f next = checks opcode f next ++ (is_none (instruction opcode f next), kinds.Value) ∷ []
+slot_checks opcode f next = checks opcode f next ++ (is_none (instruction_with opcode f next), kinds.Value) ∷ []
 
 -- the kind that is told of a slot, by what its opcode names
 abbrev pub IsTold : FaultKind → Option Opcode → Fields → Option Fields → Type 0
@@ -33,7 +33,7 @@ IsTold kind None f next = kind ≡ kinds.Opcode
 IsTold kind (Some opcode) f next = IsFirst kind (slot_checks opcode f next)
 
 -- an instruction that begins at a slot: it is spelled by the slot, and by the next one where it is wide
-pub record Begins (f : Fields) (next : Option Fields) (i : Insn) : Type 0 where
+pub record Begins (f : Fields) (next : Option Fields) (i : Instruction) : Type 0 where
   pub fits : Fits i
   pub first : first_slot i ≡ f
   pub second : second_slot i ≡ cond (is_wide i) next None
@@ -46,14 +46,14 @@ pub record IsOfLength (bytes : List ℕ) (fault : Fault) : Type 0 where
 -- a fault of one of these slots
 pub record IsOfSlot (slots : List Fields) (fault : Fault) : Type 0 where
   -- the slots before it are instructions,
-  pub before : List Insn
+  pub before : List Instruction
   pub fits : AllByRecursion Fits before
   pub spelled : take fault.slot slots ≡ flat_map slots_spelled before
   -- and at the fault's own slot
   pub fields : Fields
   pub here : slice_get slots fault.slot ≡ Some fields
   -- no instruction begins, for the reason that is told
-  pub begins_none : (i : Insn) → Begins fields (slice_get slots (fault.slot + 1)) i → ⊥
+  pub begins_none : (i : Instruction) → Begins fields (slice_get slots (fault.slot + 1)) i → ⊥
   pub told : IsTold fault.kind (opcode_named fields.opcode) fields (slice_get slots (fault.slot + 1))
 
 -- a fault of a slot, of bytes whose length has none

@@ -1,7 +1,7 @@
 -- Laws of spelling and decoding.
 use Rattle.std.specs.Prelude.{◌≡◌, ◌<◌, ℕ, List, Option, Ok, Err}
 use Rattle.ebpf_decode.specs.declared.fault.Fault.{Fault}
-use Rattle.instruction_set.specs.declared.insn.Insn.{Insn}
+use Rattle.instruction_set.specs.declared.instruction.Instruction.{Instruction}
 use Rattle.instruction_set.specs.Program.{IsProgram}
 use Rattle.ebpf_decode.specs.FirstFault.{IsFirstFault}
 use Rattle.ebpf_decode.specs.Reading.{decoded_program}
@@ -11,16 +11,16 @@ use Rattle.program_interface.specs.declared.TheConstants.{MOST_SLOTS}
 
 -- what a program spells decodes as the program
 abbrev pub SpelledIsDecoded : Type 0
-SpelledIsDecoded = (slots : List (Option Insn)) → IsProgram slots → decoded_program (program_bytes slots) ≡ Ok slots
+SpelledIsDecoded = (slots : List (Option Instruction)) → IsProgram slots → decoded_program (program_bytes slots) ≡ Ok slots
 
 -- programs that are spelled alike are one
 abbrev pub HasOneProgram : Type 0
-HasOneProgram = (a b : List (Option Insn)) → IsProgram a → IsProgram b → program_bytes a ≡ program_bytes b → a ≡ b
+HasOneProgram = (a b : List (Option Instruction)) → IsProgram a → IsProgram b → program_bytes a ≡ program_bytes b → a ≡ b
 
 -- what bytes decode as is a program that they spell
 abbrev pub DecodedIsSpelled : Type 0
 DecodedIsSpelled =
-    (bytes : List ℕ) (slots : List (Option Insn)) → AreBytes bytes → decoded_program bytes ≡ Ok slots
+    (bytes : List ℕ) (slots : List (Option Instruction)) → AreBytes bytes → decoded_program bytes ≡ Ok slots
     → IsProgram slots × (bytes ≡ program_bytes slots)
 
 -- the slot of a fault is below the most slots of a program

@@ -11,10 +11,10 @@ use Rattle.ebpf_decode.specs.declared.fault.Fault.{Fault}
 use Rattle.ebpf_decode.specs.declared.fault.FaultKind.{FaultKind}
 use Rattle.ebpf_decode.specs.declared.fault.FaultKind.TheVariants as kinds
 use Rattle.instruction_set.specs.declared.fields.Fields.{Fields}
-use Rattle.instruction_set.specs.declared.insn.Insn.{Insn}
-use Rattle.instruction_set.specs.declared.insn.Insn.TheVariants as insns
-use Rattle.instruction_set.specs.declared.insn.Source.{Source}
-use Rattle.instruction_set.specs.declared.insn.Source.TheVariants as sources
+use Rattle.instruction_set.specs.declared.instruction.Instruction.{Instruction}
+use Rattle.instruction_set.specs.declared.instruction.Instruction.TheVariants as instructions
+use Rattle.instruction_set.specs.declared.instruction.Source.{Source}
+use Rattle.instruction_set.specs.declared.instruction.Source.TheVariants as sources
 use Rattle.ebpf_decode.specs.declared.opcode.Opcode.{Opcode}
 use Rattle.ebpf_decode.specs.declared.opcode.Opcode.TheVariants.{LoadImmediate, Load, LoadSigned, StoreImmediate, StoreRegister, Arithmetic, Negate, SwapBytes, Jump, JumpLong, Branch, Call, Exit, LeftOut}
 use Rattle.ebpf_decode.specs.declared.opcode.Operand.{Operand}
@@ -91,37 +91,37 @@ immediate_of None = 0
 immediate_of (Some f) = cast_unsigned w32 f.immediate
 
 -- a sign-extending move from a register, if the offset tells one
-abbrev pub signed_move : Width → Operation → Operand → Fields → Option Insn
+abbrev pub signed_move : Width → Operation → Operand → Fields → Option Instruction
 signed_move width operation operands.Immediate f = None
 signed_move width operation operands.Register f =
-    option_map (λ extension. insns.MoveSigned extension f.dst f.src) (extension_with width operation f.offset)
+    option_map (λ extension. instructions.MoveSigned extension f.dst f.src) (extension_with width operation f.offset)
 
 -- loads and stores of memory (RFC 9669, 5.1 and 5.2)
-abbrev pub load_or_store : Opcode → Fields → Option Insn
-load_or_store (Load size) f = Some (insns.Load size f.dst f.src f.offset)
-load_or_store (LoadSigned size) f = Some (insns.LoadSigned size f.dst f.src f.offset)
-load_or_store (StoreImmediate size) f = Some (insns.StoreImmediate size f.dst f.offset f.immediate)
-load_or_store (StoreRegister size) f = Some (insns.StoreRegister size f.dst f.src f.offset)
+abbrev pub load_or_store : Opcode → Fields → Option Instruction
+load_or_store (Load size) f = Some (instructions.Load size f.dst f.src f.offset)
+load_or_store (LoadSigned size) f = Some (instructions.LoadSigned size f.dst f.src f.offset)
+load_or_store (StoreImmediate size) f = Some (instructions.StoreImmediate size f.dst f.offset f.immediate)
+load_or_store (StoreRegister size) f = Some (instructions.StoreRegister size f.dst f.src f.offset)
 load_or_store _ f = None
 
 -- jumps, calls and the exit (RFC 9669, 4.3)
-abbrev pub jump : Opcode → Fields → Option Insn
-jump Jump f = Some (insns.Jump f.offset)
-jump JumpLong f = Some (insns.JumpLong f.immediate)
-jump (Branch width relation operand) f = Some (insns.Branch width relation f.dst (source_of operand f) f.offset)
-jump Call f = Some (insns.Call f.immediate)
-jump Exit f = Some insns.Exit
+abbrev pub jump : Opcode → Fields → Option Instruction
+jump Jump f = Some (instructions.Jump f.offset)
+jump JumpLong f = Some (instructions.JumpLong f.immediate)
+jump (Branch width relation operand) f = Some (instructions.Branch width relation f.dst (source_of operand f) f.offset)
+jump Call f = Some (instructions.Call f.immediate)
+jump Exit f = Some instructions.Exit
 jump _ f = None
 
 -- the instruction; none where a field that it uses has a value that no instruction has
-abbrev pub instruction : Opcode → Fields → Option Fields → Option Insn
-instruction LoadImmediate f next = Some (insns.LoadImmediate f.dst (cast_unsigned w32 f.immediate + 2 ^ 32 * immediate_of next))
-instruction (Arithmetic width operation operand) f next =
-    option_or (option_map (λ variant. insns.Arithmetic width variant f.dst (source_of operand f)) (variant_with operation f.offset))
+abbrev pub instruction_with : Opcode → Fields → Option Fields → Option Instruction
+instruction_with LoadImmediate f next = Some (instructions.LoadImmediate f.dst (cast_unsigned w32 f.immediate + 2 ^ 32 * immediate_of next))
+instruction_with (Arithmetic width operation operand) f next =
+    option_or (option_map (λ variant. instructions.Arithmetic width variant f.dst (source_of operand f)) (variant_with operation f.offset))
     (signed_move width operation operand f)
-instruction (Negate width) f next = Some (insns.Negate width f.dst)
-instruction (SwapBytes swap) f next = option_map (λ size. insns.SwapBytes swap size f.dst) (swap_size_with f.immediate)
-instruction opcode f next = option_or (load_or_store opcode f) (jump opcode f)
+instruction_with (Negate width) f next = Some (instructions.Negate width f.dst)
+instruction_with (SwapBytes swap) f next = option_map (λ size. instructions.SwapBytes swap size f.dst) (swap_size_with f.immediate)
+instruction_with opcode f next = option_or (load_or_store opcode f) (jump opcode f)
 
 -- ---- a slot, and all of them
 
@@ -129,34 +129,34 @@ abbrev pub unless : {X : Type 0} → Option FaultKind → Option X → Result X 
 unless (Some kind) found = Err kind
 unless None found = ok_or found kinds.Value
 
-abbrev pub read_named : Option Opcode → Fields → Option Fields → Result Insn FaultKind
+abbrev pub read_named : Option Opcode → Fields → Option Fields → Result Instruction FaultKind
 read_named None f next = Err kinds.Opcode
-read_named (Some opcode) f next = unless (first_fault opcode f next) (instruction opcode f next)
+read_named (Some opcode) f next = unless (first_fault opcode f next) (instruction_with opcode f next)
 
 -- the instruction of a slot, where the next slot is known, or its first fault
-abbrev pub read : Fields → Option Fields → Result Insn FaultKind
+abbrev pub read : Fields → Option Fields → Result Instruction FaultKind
 read f next = read_named (opcode_named f.opcode) f next
 
-abbrev pub with_front : List (Option Insn) → Result (List (Option Insn)) Fault → Result (List (Option Insn)) Fault
+abbrev pub with_front : List (Option Instruction) → Result (List (Option Instruction)) Fault → Result (List (Option Instruction)) Fault
 with_front front (Ok slots) = Ok (front ++ slots)
 with_front front (Err fault) = Err fault
 
 -- what begins at a slot: nothing at a wide instruction's second
-abbrev pub begun : Bool → Fields → Option Fields → Result (Option Insn) FaultKind
+abbrev pub begun : Bool → Fields → Option Fields → Result (Option Instruction) FaultKind
 begun true f next = Ok None
 begun false f next = result_map_both Some (λ kind. kind) (read f next)
 
-abbrev pub begins_wide : Option Insn → Bool
+abbrev pub begins_wide : Option Instruction → Bool
 begins_wide None = false
 begins_wide (Some i) = is_wide i
 
 -- what begins at slot number s, and then the slots after it
-abbrev pub then_read : Result (Option Insn) FaultKind → ℕ → (Bool → Result (List (Option Insn)) Fault) → Result (List (Option Insn)) Fault
+abbrev pub then_read : Result (Option Instruction) FaultKind → ℕ → (Bool → Result (List (Option Instruction)) Fault) → Result (List (Option Instruction)) Fault
 then_read (Err kind) s after = Err (record { slot = s; kind = kind })
 then_read (Ok found) s after = with_front (found ∷ []) (after (begins_wide found))
 
 -- what begins at the slots from number s on, of which the first may be a wide instruction's second
-abbrev pub read_slots : Bool → ℕ → List Fields → Result (List (Option Insn)) Fault
+abbrev pub read_slots : Bool → ℕ → List Fields → Result (List (Option Instruction)) Fault
 read_slots second s [] = Ok []
 read_slots second s (f ∷ rest) = then_read (begun second f (slice_get rest 0)) s (λ wide. read_slots wide (s + 1) rest)
 
@@ -168,12 +168,12 @@ length_checks len =
 abbrev pub length_fault : ℕ → Option FaultKind
 length_fault len = option_map (λ check. check.1) (find (λ check. check.0) (length_checks len))
 
-abbrev pub unless_length : Option FaultKind → Result (List (Option Insn)) Fault → Result (List (Option Insn)) Fault
+abbrev pub unless_length : Option FaultKind → Result (List (Option Instruction)) Fault → Result (List (Option Instruction)) Fault
 unless_length (Some kind) slots = Err (record { slot = 0; kind = kind })
 unless_length None slots = slots
 
 -- the program that bytes spell, or their first fault
-abbrev pub decoded_program : List ℕ → Result (List (Option Insn)) Fault
+abbrev pub decoded_program : List ℕ → Result (List (Option Instruction)) Fault
 decoded_program bytes = unless_length (length_fault (length bytes)) (read_slots false 0 (slots_at (length bytes / 8) bytes))
 
 -- ---- what a function answers

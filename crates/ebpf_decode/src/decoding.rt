@@ -4,13 +4,13 @@ ghost use Rattle.std.specs.Prelude.{◌≡◌, ◌<◌, ◌≤◌, ◌+◌, ◌*
 ghost use Rattle.std.specs.Int.{w32, cast_unsigned};
 ghost use Rattle.instruction_set.specs.Spelling.{program_bytes};
 ghost use Rattle.program_interface.specs.Gives.{Gives};
-ghost use Rattle.ebpf_decode.specs.Reading.{begins_wide, decoded_program, begun, fault_in, fields_at, first_fault, has_more, has_no_register, has_unused, immediate_of, instruction, is_left_out, jump, length_fault, load_or_store, read, read_slots, slots_at, source_of, signed_move};
+ghost use Rattle.ebpf_decode.specs.Reading.{begins_wide, decoded_program, begun, fault_in, fields_at, first_fault, has_more, has_no_register, has_unused, immediate_of, instruction_with, is_left_out, jump, length_fault, load_or_store, read, read_slots, slots_at, source_of, signed_move};
 
 use crate::fault::{DecodeFault, Fault, FaultKind};
 use crate::fields::from_bytes;
 use crate::opcode::{Opcode, Operand, Uses};
 use instruction_set::{
-    Fields, Insn, Operation, Program, Register, SignExtension, Source, SwapSize, Width,
+    Fields, Instruction, Operation, Program, Register, SignExtension, Source, SwapSize, Width,
 };
 use program_interface::{MOST_SLOTS, REGISTERS};
 use std::alloc::Global;
@@ -87,13 +87,18 @@ fn source(operand: Operand, fields: &Fields) -> Source
 }
 
 /// An operation with this offset, or a sign-extending move.
-fn arithmetic(width: Width, operation: Operation, operand: Operand, fields: &Fields) -> Option<Insn>
+fn arithmetic(
+    width: Width,
+    operation: Operation,
+    operand: Operand,
+    fields: &Fields,
+) -> Option<Instruction>
     requires dst { fields.now.dst < 11 }
     requires src { fields.now.src < 11 }
-    ensures { result ≡ instruction (Opcode.Arithmetic width operation operand) fields.now None }
+    ensures { result ≡ instruction_with (Opcode.Arithmetic width operation operand) fields.now None }
 {
     match operation.variant(fields.offset) {
-        Some(operation) => Some(Insn::Arithmetic {
+        Some(operation) => Some(Instruction::Arithmetic {
             width,
             operation,
             dst: Register::from_number(fields.dst),
@@ -109,7 +114,7 @@ fn signed_move(
     operation: Operation,
     operand: Operand,
     fields: &Fields,
-) -> Option<Insn>
+) -> Option<Instruction>
     requires dst { fields.now.dst < 11 }
     requires src { fields.now.src < 11 }
     ensures { result ≡ signed_move width operation operand fields.now }
@@ -118,7 +123,7 @@ fn signed_move(
         return None;
     }
     let extension = SignExtension::variant(width, operation, fields.offset)?;
-    Some(Insn::MoveSigned {
+    Some(Instruction::MoveSigned {
         extension,
         dst: Register::from_number(fields.dst),
         src: Register::from_number(fields.src),
@@ -137,7 +142,7 @@ fn wide_value(fields: &Fields, next: Option<Fields>) -> u64
 }
 
 /// A load or a store of memory (RFC 9669, 5.1 and 5.2), if the opcode names one.
-fn load_or_store(opcode: Opcode, fields: &Fields) -> Option<Insn>
+fn load_or_store(opcode: Opcode, fields: &Fields) -> Option<Instruction>
     requires dst { fields.now.dst < 11 }
     requires src { fields.now.src < 11 }
     ensures { result ≡ load_or_store opcode fields.now }
@@ -146,27 +151,27 @@ fn load_or_store(opcode: Opcode, fields: &Fields) -> Option<Insn>
     let src = Register::from_number(fields.src);
     let offset = fields.offset;
     match opcode {
-        Opcode::Load(size) => Some(Insn::Load {
+        Opcode::Load(size) => Some(Instruction::Load {
             size,
             dst,
             src,
             offset,
         }),
-        Opcode::LoadSigned(size) => Some(Insn::LoadSigned {
+        Opcode::LoadSigned(size) => Some(Instruction::LoadSigned {
             size,
             dst,
             src,
             offset,
         }),
         Opcode::StoreImmediate(size) => {
-            Some(Insn::StoreImmediate {
+            Some(Instruction::StoreImmediate {
                 size,
                 dst,
                 offset,
                 value: fields.immediate,
             })
         }
-        Opcode::StoreRegister(size) => Some(Insn::StoreRegister {
+        Opcode::StoreRegister(size) => Some(Instruction::StoreRegister {
             size,
             dst,
             src,
@@ -177,20 +182,20 @@ fn load_or_store(opcode: Opcode, fields: &Fields) -> Option<Insn>
 }
 
 /// A jump, a call or the exit (RFC 9669, 4.3), if the opcode names one.
-fn jump(opcode: Opcode, fields: &Fields) -> Option<Insn>
+fn jump(opcode: Opcode, fields: &Fields) -> Option<Instruction>
     requires dst { fields.now.dst < 11 }
     requires src { fields.now.src < 11 }
     ensures { result ≡ jump opcode fields.now }
 {
     match opcode {
-        Opcode::Jump => Some(Insn::Jump {
+        Opcode::Jump => Some(Instruction::Jump {
             distance: fields.offset,
         }),
-        Opcode::JumpLong => Some(Insn::JumpLong {
+        Opcode::JumpLong => Some(Instruction::JumpLong {
             distance: fields.immediate,
         }),
         Opcode::Branch(width, relation, operand) => {
-            Some(Insn::Branch {
+            Some(Instruction::Branch {
                 width,
                 relation,
                 dst: Register::from_number(fields.dst),
@@ -198,25 +203,25 @@ fn jump(opcode: Opcode, fields: &Fields) -> Option<Insn>
                 distance: fields.offset,
             })
         }
-        Opcode::Call => Some(Insn::Call {
+        Opcode::Call => Some(Instruction::Call {
             helper: fields.immediate,
         }),
-        Opcode::Exit => Some(Insn::Exit),
+        Opcode::Exit => Some(Instruction::Exit),
         _ => None,
     }
 }
 
 /// The instruction of a slot without the faults of [`first_fault`]; none where a field that it uses has a
 /// value that no instruction has.
-fn instruction(opcode: Opcode, fields: &Fields, next: Option<Fields>) -> Option<Insn>
+fn instruction(opcode: Opcode, fields: &Fields, next: Option<Fields>) -> Option<Instruction>
     requires dst { fields.now.dst < 11 }
     requires src { fields.now.src < 11 }
-    ensures { result ≡ instruction opcode fields.now next }
+    ensures { result ≡ instruction_with opcode fields.now next }
 {
     let dst = Register::from_number(fields.dst);
     match opcode {
         Opcode::LoadImmediate => {
-            Some(Insn::LoadImmediate {
+            Some(Instruction::LoadImmediate {
                 dst,
                 value: wide_value(fields, next),
             })
@@ -224,10 +229,10 @@ fn instruction(opcode: Opcode, fields: &Fields, next: Option<Fields>) -> Option<
         Opcode::Arithmetic(width, operation, operand) => {
             arithmetic(width, operation, operand, fields)
         }
-        Opcode::Negate(width) => Some(Insn::Negate { width, dst }),
+        Opcode::Negate(width) => Some(Instruction::Negate { width, dst }),
         Opcode::SwapBytes(swap) => {
             let size = SwapSize::with_bits(fields.immediate)?;
-            Some(Insn::SwapBytes { swap, size, dst })
+            Some(Instruction::SwapBytes { swap, size, dst })
         }
         Opcode::Load(_)
         | Opcode::LoadSigned(_)
@@ -241,7 +246,7 @@ fn instruction(opcode: Opcode, fields: &Fields, next: Option<Fields>) -> Option<
 }
 
 /// The instruction of a slot, where the next slot is known, or its first fault.
-fn read(fields: &Fields, next: Option<Fields>) -> Result<Insn, FaultKind>
+fn read(fields: &Fields, next: Option<Fields>) -> Result<Instruction, FaultKind>
     ensures { result ≡ read fields.now next }
 {
     let opcode = Opcode::named(fields.opcode).ok_or(FaultKind::Opcode)?;
@@ -267,7 +272,7 @@ pub(crate) fn slot_at(bytes: &[u8], slot: usize) -> Option<Fields>
 }
 
 /// What begins at a slot: nothing at a wide instruction's second.
-fn entry_at(bytes: &[u8], slot: usize, second: bool) -> Result<Option<Insn>, FaultKind>
+fn entry_at(bytes: &[u8], slot: usize, second: bool) -> Result<Option<Instruction>, FaultKind>
     requires inside { slot < length bytes.now / 8 }
     requires most { length bytes.now / 8 ≤ MOST_SLOTS }
     ensures { result ≡ begun second (fields_at (drop (8 * slot) bytes.now)) (slice_get (slots_at (length bytes.now / 8) bytes.now) (slot + 1)) }
@@ -281,14 +286,14 @@ fn entry_at(bytes: &[u8], slot: usize, second: bool) -> Result<Option<Insn>, Fau
 }
 
 /// Is the slot behind a wide instruction's second?
-fn begins_wide(begun: &Option<Insn>) -> bool
+fn begins_wide(begun: &Option<Instruction>) -> bool
     ensures { result ≡ begins_wide begun.now }
 {
-    matches!(begun, Some(Insn::LoadImmediate { .. }))
+    matches!(begun, Some(Instruction::LoadImmediate { .. }))
 }
 
 /// What begins at each slot, or the lowest slot with a fault.
-fn decode_slots(alloc: Global, bytes: &[u8]) -> Result<Vec<Option<Insn>>, DecodeFault>
+fn decode_slots(alloc: Global, bytes: &[u8]) -> Result<Vec<Option<Instruction>>, DecodeFault>
     requires { length bytes.now / 8 ≤ MOST_SLOTS }
     ensures { Gives fault_in (λ slots. slots.items) result (read_slots false 0 (slots_at (length bytes.now / 8) bytes.now)) }
 {

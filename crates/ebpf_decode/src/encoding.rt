@@ -7,7 +7,7 @@ ghost use Rattle.ebpf_decode.specs.Reading.{decoded_program};
 ghost use Rattle.instruction_set.specs.Spelling.{access_opcode, first_slot, operation_opcode, program_bytes, second_slot, slot_bytes, source_bit, source_immediate, source_register, spelling};
 
 use crate::fields::to_bytes;
-use instruction_set::{Fields, Insn, Program, Source, Width};
+use instruction_set::{Fields, Instruction, Program, Source, Width};
 use program_interface::MOST_SLOTS;
 use std::alloc::{AllocError, Global};
 
@@ -84,16 +84,16 @@ fn source_immediate(source: Source) -> i32
     }
 }
 
-fn opcode(instruction: &Insn) -> u8
+fn opcode(instruction: &Instruction) -> u8
     ensures { result ≡ (first_slot instruction.now).opcode }
 {
     match *instruction {
-        Insn::LoadImmediate { .. } => access_opcode(IMM, 3, LD),
-        Insn::Load { size, .. } => access_opcode(MEM, size.code(), LDX),
-        Insn::LoadSigned { size, .. } => access_opcode(MEMSX, size.code(), LDX),
-        Insn::StoreImmediate { size, .. } => access_opcode(MEM, size.code(), ST),
-        Insn::StoreRegister { size, .. } => access_opcode(MEM, size.code(), STX),
-        Insn::Arithmetic {
+        Instruction::LoadImmediate { .. } => access_opcode(IMM, 3, LD),
+        Instruction::Load { size, .. } => access_opcode(MEM, size.code(), LDX),
+        Instruction::LoadSigned { size, .. } => access_opcode(MEMSX, size.code(), LDX),
+        Instruction::StoreImmediate { size, .. } => access_opcode(MEM, size.code(), ST),
+        Instruction::StoreRegister { size, .. } => access_opcode(MEM, size.code(), STX),
+        Instruction::Arithmetic {
             width,
             operation,
             source,
@@ -105,82 +105,87 @@ fn opcode(instruction: &Insn) -> u8
                 width.arithmetic_class(),
             )
         }
-        Insn::Negate { width, .. } => operation_opcode(NEG, 0, width.arithmetic_class()),
-        Insn::MoveSigned { extension, .. } => {
+        Instruction::Negate { width, .. } => operation_opcode(NEG, 0, width.arithmetic_class()),
+        Instruction::MoveSigned { extension, .. } => {
             operation_opcode(MOV, 1, extension.width().arithmetic_class())
         }
-        Insn::SwapBytes { swap, .. } => swap.opcode(),
-        Insn::Jump { .. } => operation_opcode(JA, 0, Width::Bits64.jump_class()),
-        Insn::JumpLong { .. } => operation_opcode(JA, 0, Width::Bits32.jump_class()),
-        Insn::Branch {
+        Instruction::SwapBytes { swap, .. } => swap.opcode(),
+        Instruction::Jump { .. } => operation_opcode(JA, 0, Width::Bits64.jump_class()),
+        Instruction::JumpLong { .. } => operation_opcode(JA, 0, Width::Bits32.jump_class()),
+        Instruction::Branch {
             width,
             relation,
             source,
             ..
         } => { operation_opcode(relation.code(), source_bit(source), width.jump_class()) }
-        Insn::Call { .. } => operation_opcode(CALL, 0, Width::Bits64.jump_class()),
-        Insn::Exit => operation_opcode(EXIT, 0, Width::Bits64.jump_class()),
+        Instruction::Call { .. } => operation_opcode(CALL, 0, Width::Bits64.jump_class()),
+        Instruction::Exit => operation_opcode(EXIT, 0, Width::Bits64.jump_class()),
     }
 }
 
-fn destination(instruction: &Insn) -> u8
+fn destination(instruction: &Instruction) -> u8
     ensures value { result ≡ (first_slot instruction.now).dst }
     ensures bound { result < 11 }
 {
     match *instruction {
-        Insn::LoadImmediate { dst, .. }
-        | Insn::Load { dst, .. }
-        | Insn::LoadSigned { dst, .. }
-        | Insn::StoreImmediate { dst, .. }
-        | Insn::StoreRegister { dst, .. }
-        | Insn::Arithmetic { dst, .. }
-        | Insn::Negate { dst, .. }
-        | Insn::MoveSigned { dst, .. }
-        | Insn::SwapBytes { dst, .. }
-        | Insn::Branch { dst, .. } => dst.number(),
-        Insn::Jump { .. } | Insn::JumpLong { .. } | Insn::Call { .. } | Insn::Exit => 0,
+        Instruction::LoadImmediate { dst, .. }
+        | Instruction::Load { dst, .. }
+        | Instruction::LoadSigned { dst, .. }
+        | Instruction::StoreImmediate { dst, .. }
+        | Instruction::StoreRegister { dst, .. }
+        | Instruction::Arithmetic { dst, .. }
+        | Instruction::Negate { dst, .. }
+        | Instruction::MoveSigned { dst, .. }
+        | Instruction::SwapBytes { dst, .. }
+        | Instruction::Branch { dst, .. } => dst.number(),
+        Instruction::Jump { .. }
+        | Instruction::JumpLong { .. }
+        | Instruction::Call { .. }
+        | Instruction::Exit => 0,
     }
 }
 
-fn source(instruction: &Insn) -> u8
+fn source(instruction: &Instruction) -> u8
     ensures value { result ≡ (first_slot instruction.now).src }
     ensures bound { result < 11 }
 {
     match *instruction {
-        Insn::Load { src, .. }
-        | Insn::LoadSigned { src, .. }
-        | Insn::StoreRegister { src, .. }
-        | Insn::MoveSigned { src, .. } => src.number(),
-        Insn::Arithmetic { source, .. } | Insn::Branch { source, .. } => source_register(source),
+        Instruction::Load { src, .. }
+        | Instruction::LoadSigned { src, .. }
+        | Instruction::StoreRegister { src, .. }
+        | Instruction::MoveSigned { src, .. } => src.number(),
+        Instruction::Arithmetic { source, .. } | Instruction::Branch { source, .. } =>
+            source_register(source),
         _ => 0,
     }
 }
 
-fn offset(instruction: &Insn) -> i16
+fn offset(instruction: &Instruction) -> i16
     ensures { result ≡ (first_slot instruction.now).offset }
 {
     match *instruction {
-        Insn::Load { offset, .. }
-        | Insn::LoadSigned { offset, .. }
-        | Insn::StoreImmediate { offset, .. }
-        | Insn::StoreRegister { offset, .. } => offset,
-        Insn::Arithmetic { operation, .. } => operation.offset(),
-        Insn::MoveSigned { extension, .. } => extension.offset(),
-        Insn::Jump { distance } | Insn::Branch { distance, .. } => distance,
+        Instruction::Load { offset, .. }
+        | Instruction::LoadSigned { offset, .. }
+        | Instruction::StoreImmediate { offset, .. }
+        | Instruction::StoreRegister { offset, .. } => offset,
+        Instruction::Arithmetic { operation, .. } => operation.offset(),
+        Instruction::MoveSigned { extension, .. } => extension.offset(),
+        Instruction::Jump { distance } | Instruction::Branch { distance, .. } => distance,
         _ => 0,
     }
 }
 
-fn immediate(instruction: &Insn) -> i32
+fn immediate(instruction: &Instruction) -> i32
     ensures { result ≡ (first_slot instruction.now).immediate }
 {
     match *instruction {
-        Insn::LoadImmediate { value, .. } => low_half(value),
-        Insn::StoreImmediate { value, .. } => value,
-        Insn::Arithmetic { source, .. } | Insn::Branch { source, .. } => source_immediate(source),
-        Insn::SwapBytes { size, .. } => size.bits(),
-        Insn::JumpLong { distance } => distance,
-        Insn::Call { helper } => helper,
+        Instruction::LoadImmediate { value, .. } => low_half(value),
+        Instruction::StoreImmediate { value, .. } => value,
+        Instruction::Arithmetic { source, .. } | Instruction::Branch { source, .. } =>
+            source_immediate(source),
+        Instruction::SwapBytes { size, .. } => size.bits(),
+        Instruction::JumpLong { distance } => distance,
+        Instruction::Call { helper } => helper,
         _ => 0,
     }
 }
@@ -197,7 +202,7 @@ fn high_half(value: u64) -> i32
     ((value / 0x1_0000_0000) as u32).cast_signed()
 }
 
-fn first_slot(instruction: &Insn) -> Fields
+fn first_slot(instruction: &Instruction) -> Fields
     ensures value { result ≡ first_slot instruction.now }
     ensures dst { result.dst < 16 }
     ensures src { result.src < 16 }
@@ -211,13 +216,13 @@ fn first_slot(instruction: &Insn) -> Fields
     }
 }
 
-fn second_slot(instruction: &Insn) -> Option<Fields>
+fn second_slot(instruction: &Instruction) -> Option<Fields>
     ensures value { result ≡ second_slot instruction.now }
     ensures dst { IfSome result (λ f. f.dst < 16) }
     ensures src { IfSome result (λ f. f.src < 16) }
 {
     match *instruction {
-        Insn::LoadImmediate { value, .. } => Some(Fields {
+        Instruction::LoadImmediate { value, .. } => Some(Fields {
             opcode: 0,
             dst: 0,
             src: 0,
@@ -233,7 +238,7 @@ fn second_slot(instruction: &Insn) -> Option<Fields>
 /// # Errors
 ///
 /// Want of memory.
-pub fn push_instruction(bytes: &mut Vec<u8>, instruction: &Insn) -> Result<(), AllocError>
+pub fn push_instruction(bytes: &mut Vec<u8>, instruction: &Instruction) -> Result<(), AllocError>
     ensures { OnOk result (bytes.new.items ≡ bytes.old.items ++ spelling instruction.now) }
 {
     let first = to_bytes(first_slot(instruction));
@@ -245,7 +250,7 @@ pub fn push_instruction(bytes: &mut Vec<u8>, instruction: &Insn) -> Result<(), A
     Ok(())
 }
 
-fn encode_slots(alloc: Global, slots: &[Option<Insn>]) -> Result<Vec<u8>, AllocError>
+fn encode_slots(alloc: Global, slots: &[Option<Instruction>]) -> Result<Vec<u8>, AllocError>
     requires { length slots.now ≤ MOST_SLOTS }
     ensures { IfOk result (λ bytes. bytes.items ≡ program_bytes slots.now) }
 {

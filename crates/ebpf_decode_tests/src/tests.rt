@@ -1,5 +1,5 @@
 use ebpf_decode::{DecodeFault, Fault, FaultKind, decode, encode, push_instruction};
-use instruction_set::{Insn, Operation, Register, Size, Source, Width};
+use instruction_set::{Instruction, Operation, Register, Size, Source, Width};
 use std::alloc::Global;
 use std::test::Fail;
 
@@ -151,7 +151,7 @@ fn the_instructions_of_a_program(rt: HostRuntime) -> Result<(), Fail> {
             [
                 0x18, 0x01, 0, 0, 0xff, 0xff, 0xff, 0xff, 0, 0, 0, 0, 0, 0, 0, 0x80,
             ],
-            Insn::LoadImmediate {
+            Instruction::LoadImmediate {
                 dst: r1,
                 value: 0x8000_0000_ffff_ffff,
             },
@@ -160,7 +160,7 @@ fn the_instructions_of_a_program(rt: HostRuntime) -> Result<(), Fail> {
             [
                 0x07, 0x01, 0, 0, 0xff, 0xff, 0xff, 0xff, 0x95, 0, 0, 0, 0, 0, 0, 0,
             ],
-            Insn::Arithmetic {
+            Instruction::Arithmetic {
                 width: Width::Bits64,
                 operation: Operation::Add,
                 dst: r1,
@@ -169,13 +169,13 @@ fn the_instructions_of_a_program(rt: HostRuntime) -> Result<(), Fail> {
         ),
         (
             [0x05, 0, 0xff, 0xff, 0, 0, 0, 0, 0x95, 0, 0, 0, 0, 0, 0, 0],
-            Insn::Jump { distance: -1 },
+            Instruction::Jump { distance: -1 },
         ),
         (
             [
                 0x7b, 0x1a, 0xf8, 0xff, 0, 0, 0, 0, 0x95, 0, 0, 0, 0, 0, 0, 0,
             ],
-            Insn::StoreRegister {
+            Instruction::StoreRegister {
                 size: Size::DoubleWord,
                 dst: r10,
                 src: r1,
@@ -184,7 +184,7 @@ fn the_instructions_of_a_program(rt: HostRuntime) -> Result<(), Fail> {
         ),
         (
             [0x3f, 0xa1, 1, 0, 0, 0, 0, 0, 0x95, 0, 0, 0, 0, 0, 0, 0],
-            Insn::Arithmetic {
+            Instruction::Arithmetic {
                 width: Width::Bits64,
                 operation: Operation::SignedDivide,
                 dst: r1,

@@ -5,7 +5,7 @@
 mod access;
 mod codes;
 mod fields;
-mod insn;
+mod instruction;
 pub mod laws;
 mod operation;
 mod program;
@@ -13,7 +13,7 @@ mod register;
 
 pub use access::{Access, AccessKind};
 pub use fields::Fields;
-pub use insn::{Insn, Source};
+pub use instruction::{Instruction, Source};
 pub use operation::{Operation, Relation, SignExtension, SignedSize, Size, Swap, SwapSize, Width};
 pub use program::Program;
 pub use register::Register;

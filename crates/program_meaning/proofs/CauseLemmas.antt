@@ -2,7 +2,7 @@
 use Rattle.std.proofs.Common.{ℕ, suc, zero, ◌-◌, ◌<◌, ◌≤◌, ◌≡◌, Bool, true, false, List, [], ◌∷◌, Option, Some, None, slice_get, refl, sym, ap, arith, lit<, lit≤}
 use Rattle.std.specs.List.{find}
 use Rattle.std.specs.Prelude.{if◌then◌else◌}
-use Rattle.instruction_set.specs.declared.insn.Insn.{Insn}
+use Rattle.instruction_set.specs.declared.instruction.Instruction.{Instruction}
 use Rattle.program_meaning.specs.Cause.{causes_of_effect, holds, is_exit, least_cause, cause_number}
 use Rattle.program_meaning.specs.Effect.{register}
 use Rattle.program_meaning.specs.Laws.{StuckByLeast}
@@ -130,7 +130,7 @@ not_stuck : (b : Bool) (r0 slot : ℕ) (s s' t : State) (cause : Cause) → (if 
 not_stuck true r0 slot s s' t cause e = cc
 not_stuck false r0 slot s s' t cause e = cc
 
-cause_of_stuck : (s : State) (i : Insn) (least : Option Cause) (cause : Cause)
+cause_of_stuck : (s : State) (i : Instruction) (least : Option Cause) (cause : Cause)
     → decided s i least ≡ Stuck s.slot cause s → least ≡ Some cause
 cause_of_stuck s i None cause e = absurd (not_stuck (is_exit i) _ _ _ _ _ _ e)
 cause_of_stuck s i (Some least) cause e = cc
@@ -144,7 +144,7 @@ stuck_by_least program limit s i cause =
     )
 
 -- a step that goes on: no cause holds, and the state is the one after the instruction
-pub record IsDone (program : List (Option Insn)) (limit : ℕ) (s s' : State) (i : Insn) : Type 0 where
+pub record IsDone (program : List (Option Instruction)) (limit : ℕ) (s s' : State) (i : Instruction) : Type 0 where
   pub runs_on : is_exit i ≡ false
   pub free : (cause : Cause) → holds program limit s i cause ≡ false
   pub next : after s i ≡ s'
@@ -153,13 +153,13 @@ went : (b : Bool) (r0 : ℕ) (s next s' : State) → (if b then Ends r0 s else G
 went true r0 s next s' e = cc
 went false r0 s next s' e = (refl, cc)
 
-done_by : (s s' : State) (i : Insn) (least : Option Cause) → decided s i least ≡ Goes s'
+done_by : (s s' : State) (i : Instruction) (least : Option Cause) → decided s i least ≡ Goes s'
     → (least ≡ None) × (is_exit i ≡ false) × (after s i ≡ s')
 done_by s s' i (Some cause) e = cc
 done_by s s' i None e =
     let facts = went (is_exit i) (register s 0) s (after s i) s' e in (refl, facts.0, facts.1)
 
-pub done : (program : List (Option Insn)) (limit : ℕ) (s s' : State) (i : Insn)
+pub done : (program : List (Option Instruction)) (limit : ℕ) (s s' : State) (i : Instruction)
     → step_of program limit s i ≡ Goes s' → IsDone program limit s s' i
 done program limit s s' i e =
     let facts = done_by s s' i (least_cause program limit s i) e in

@@ -1,7 +1,7 @@
 //! Programs that never trap.
 
 ghost use Rattle.std.specs.Prelude.{◌≡◌, ◌<◌, ◌^◌, ℕ, List, Option};
-ghost use Rattle.instruction_set.specs.declared.insn.Insn.{Insn};
+ghost use Rattle.instruction_set.specs.declared.instruction.Instruction.{Instruction};
 ghost use Rattle.program_meaning.specs.TrapFree.{NeverTraps};
 
 use instruction_set::Program;
@@ -10,7 +10,7 @@ use instruction_set::Program;
 /// that it emits.
 pub trait TrapFree {
     /// The program's slots.
-    ghost code: { Self → List (Option Insn) };
+    ghost code: { Self → List (Option Instruction) };
     /// The most bytes of a group.
     ghost limit: { Self → ℕ };
     /// The length of a block in bytes.

@@ -4,7 +4,7 @@ use Rattle.zone_state.specs.declared.state.FaultState.TheVariants.{ReadOnly}
 use Rattle.zone_state.specs.declared.state.ZoneState.{ZoneState}
 use Rattle.zone_state.specs.declared.state.ZoneState.TheVariants as zone
 use Rattle.nvme_entry.specs.Entry.{decoded}
-use Rattle.instruction_set.specs.declared.insn.Insn.{Insn}
+use Rattle.instruction_set.specs.declared.instruction.Instruction.{Instruction}
 use Rattle.program_meaning.specs.BlockRun.{block_run_of}
 use Rattle.word_domain.specs.Domain.{Operations}
 use Rattle.image_store.specs.Namespace.{ZoneBlocks, ZonedNamespace, zone_at}
@@ -32,7 +32,7 @@ abbrev pub zone_of : ZoneState → List (List ℕ) → ZoneBlocks
 zone_of state blocks = record { state = state; blocks = blocks }
 
 -- a device with one program in slot 0
-abbrev pub device : ZonedNamespace → List (Option Insn) → ℕ → State
+abbrev pub device : ZonedNamespace → List (Option Instruction) → ℕ → State
 device ns program limit = record (new_state ns) { slots = slots_with program limit }
 
 abbrev state_in : State → ℕ → ZoneState

@@ -2,7 +2,7 @@
 use Rattle.std.proofs.Common.{◌≡◌, ℕ, List, [], ◌∷◌, ◌++◌, map, replicate, Option, Some, None, refl}
 use Rattle.std.specs.List.{concat}
 use Rattle.zone_state.specs.declared.status.TheConstants.Status.{PROGRAM_TRAPPED, SUCCESS}
-use Rattle.instruction_set.specs.declared.insn.Insn.{Insn}
+use Rattle.instruction_set.specs.declared.instruction.Instruction.{Instruction}
 use Rattle.emit_append.specs.Need.{need}
 use Rattle.program_meaning.specs.BlockRun.{BlockRun, block_run_of}
 use Rattle.pushdown.specs.BlockRuns.{Task, no_scratch, runs_of}
@@ -10,7 +10,7 @@ use Rattle.pushdown.specs.Outcome.{Turn, outcome}
 use Rattle.pushdown.proofs.Examples.{block_of, frame, loops, passes, sevens, sums, tells, traps, twice, waits}
 
 -- a program over so many blocks from address 0 on
-abbrev task_of : List (Option Insn) → ℕ → ℕ → Task
+abbrev task_of : List (Option Instruction) → ℕ → ℕ → Task
 task_of program limit count = record { program = program; sizes = record { block = 512; limit = limit }; argument = 0; lba = 0; count = count }
 
 -- the last turn of a run that succeeds

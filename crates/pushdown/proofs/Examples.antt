@@ -2,7 +2,7 @@
 use Rattle.std.proofs.Common.{ℕ, List, [], ◌∷◌, ◌++◌, replicate, Option, Some, None, Result, Ok, Err}
 use Rattle.ebpf_decode.specs.Reading.{decoded_program}
 use Rattle.ebpf_decode.specs.declared.fault.Fault.{Fault}
-use Rattle.instruction_set.specs.declared.insn.Insn.{Insn}
+use Rattle.instruction_set.specs.declared.instruction.Instruction.{Instruction}
 use Rattle.image_store.specs.Namespace.{ZoneBlocks, ZonedNamespace}
 use Rattle.pushdown.specs.Admission.{Loaded}
 use Rattle.pushdown.specs.BlockRuns.{no_scratch}
@@ -18,19 +18,19 @@ waits = record { blocks = []; ending = None }
 
 -- ---- programs
 
-abbrev pub program_of : Result (List (Option Insn)) Fault → List (Option Insn)
+abbrev pub program_of : Result (List (Option Instruction)) Fault → List (Option Instruction)
 program_of (Ok program) = program
 program_of (Err fault) = []
 
 -- mov r0, 0; exit
-abbrev pub passes : List (Option Insn)
+abbrev pub passes : List (Option Instruction)
 passes = program_of (decoded_program (
     0xb7 ∷ 0 ∷ 0 ∷ 0 ∷ 0 ∷ 0 ∷ 0 ∷ 0
     ∷ 0x95 ∷ 0 ∷ 0 ∷ 0 ∷ 0 ∷ 0 ∷ 0 ∷ 0 ∷ []))
 
 -- emits a block's first 8 bytes, where its first byte is 7:
 -- ldxb r6, [r2+0]; jne r6, 7, +3; mov r1, r2; mov r2, 8; call 1; mov r0, 0; exit
-abbrev pub sevens : List (Option Insn)
+abbrev pub sevens : List (Option Instruction)
 sevens = program_of (decoded_program (
     0x71 ∷ 0x26 ∷ 0 ∷ 0 ∷ 0 ∷ 0 ∷ 0 ∷ 0
     ∷ 0x55 ∷ 0x06 ∷ 3 ∷ 0 ∷ 7 ∷ 0 ∷ 0 ∷ 0
@@ -43,7 +43,7 @@ sevens = program_of (decoded_program (
 -- adds the first bytes of its blocks up in the scratch bytes, and ends the run at the block of index 2:
 -- ldxb r4, [r2+0]; ldxdw r5, [r3+0]; add r5, r4; stxdw [r3+0], r5; ldxw r6, [r1+8]; mov r0, 0;
 -- jne r6, 2, +1; mov r0, 1; exit
-abbrev pub sums : List (Option Insn)
+abbrev pub sums : List (Option Instruction)
 sums = program_of (decoded_program (
     0x71 ∷ 0x24 ∷ 0 ∷ 0 ∷ 0 ∷ 0 ∷ 0 ∷ 0
     ∷ 0x79 ∷ 0x35 ∷ 0 ∷ 0 ∷ 0 ∷ 0 ∷ 0 ∷ 0
@@ -57,7 +57,7 @@ sums = program_of (decoded_program (
 
 -- emits a block's first byte twice:
 -- mov r6, r2; mov r1, r6; mov r2, 1; call 1; mov r1, r6; mov r2, 1; call 1; exit
-abbrev pub twice : List (Option Insn)
+abbrev pub twice : List (Option Instruction)
 twice = program_of (decoded_program (
     0xbf ∷ 0x26 ∷ replicate 6 0
     ++ 0xbf ∷ 0x61 ∷ replicate 6 0
@@ -69,7 +69,7 @@ twice = program_of (decoded_program (
     ∷ 0x95 ∷ replicate 7 0))
 
 -- emits the context: mov r2, 32; call 1; exit
-abbrev pub tells : List (Option Insn)
+abbrev pub tells : List (Option Instruction)
 tells = program_of (decoded_program (
     0xb7 ∷ 0x02 ∷ 0 ∷ 0 ∷ 32 ∷ 0 ∷ 0 ∷ 0
     ∷ 0x85 ∷ 0 ∷ 0 ∷ 0 ∷ 1 ∷ 0 ∷ 0 ∷ 0
@@ -78,7 +78,7 @@ tells = program_of (decoded_program (
 -- emits a block's first 510 bytes, and can't go on where the first is 9, at a load from address 0; the
 -- verifier refuses it:
 -- ldxb r6, [r2+0]; jeq r6, 9, +5; mov r1, r2; mov r2, 510; call 1; mov r0, 0; exit; ldxdw r0, [r0+0]; exit
-abbrev pub traps : List (Option Insn)
+abbrev pub traps : List (Option Instruction)
 traps = program_of (decoded_program (
     0x71 ∷ 0x26 ∷ replicate 6 0
     ++ 0x15 ∷ 0x06 ∷ 5 ∷ 0 ∷ 9 ∷ 0 ∷ 0 ∷ 0
@@ -91,7 +91,7 @@ traps = program_of (decoded_program (
     ++ 0x95 ∷ replicate 7 0))
 
 -- goes back for ever, and is refused too: ja -1; exit
-abbrev pub loops : List (Option Insn)
+abbrev pub loops : List (Option Instruction)
 loops = program_of (decoded_program (0x05 ∷ 0 ∷ 0xff ∷ 0xff ∷ replicate 4 0 ++ 0x95 ∷ replicate 7 0))
 
 -- the frame that the second program emits of such a block
@@ -99,7 +99,7 @@ abbrev pub frame : List ℕ
 frame = 8 ∷ 0 ∷ 7 ∷ replicate 7 0
 
 -- one program in slot 0
-abbrev pub slots_with : List (Option Insn) → ℕ → List (Option Loaded)
+abbrev pub slots_with : List (Option Instruction) → ℕ → List (Option Loaded)
 slots_with program limit = Some (record { program = program; limit = limit; result = no_scratch }) ∷ replicate 7 None
 
 -- ---- namespaces

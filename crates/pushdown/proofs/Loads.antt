@@ -9,7 +9,7 @@ use Rattle.nvme_entry.specs.declared.command.LoadCommand.{LoadCommand}
 use Rattle.ebpf_decode.specs.Faults.{fault_number}
 use Rattle.ebpf_decode.specs.Reading.{decoded_program as program_in_bytes}
 use Rattle.ebpf_decode.specs.declared.fault.Fault.{Fault}
-use Rattle.instruction_set.specs.declared.insn.Insn.{Insn}
+use Rattle.instruction_set.specs.declared.instruction.Instruction.{Instruction}
 use Rattle.word_domain.specs.Domain.{Operations}
 use Rattle.accepted_programs.specs.Accepted.{reason_number, refusal}
 use Rattle.accepted_programs.specs.declared.reason.Refusal.{Refusal}
@@ -30,7 +30,7 @@ is_pending reply.FaultRefused = false
 module _ {D : Type 0} (operations : Operations D) (sub : Submission) (s : State) (load : LoadCommand) where
   -- no check fails, and the program that the bytes spell is accepted
   pub record TakesSlot (t : State) : Type 0 where
-    pub program : List (Option Insn)
+    pub program : List (Option Instruction)
     pub passed : first_failed (load_checks s load sub.input) ≡ None
     pub read : program_in_bytes sub.input ≡ Ok program
     pub accepted : refusal operations program (sizes_for s load) ≡ None
@@ -50,7 +50,7 @@ module _ {D : Type 0} (operations : Operations D) (sub : Submission) (s : State)
     succeeds = inl refl;
   }
 
-  judged_is : (program : List (Option Insn)) (why : Option Refusal) → first_failed (load_checks s load sub.input) ≡ None
+  judged_is : (program : List (Option Instruction)) (why : Option Refusal) → first_failed (load_checks s load sub.input) ≡ None
       → program_in_bytes sub.input ≡ Ok program → refusal operations program (sizes_for s load) ≡ why → IsLoad (judged sub s load program why)
   judged_is program (Some why) passed read e = refused_is PROGRAM_REFUSED why.slot (reason_number why.reason)
   judged_is program None passed read e = record {
@@ -60,7 +60,7 @@ module _ {D : Type 0} (operations : Operations D) (sub : Submission) (s : State)
     succeeds = inr refl;
   }
 
-  read_is : (read : Result (List (Option Insn)) Fault) → first_failed (load_checks s load sub.input) ≡ None
+  read_is : (read : Result (List (Option Instruction)) Fault) → first_failed (load_checks s load sub.input) ≡ None
       → program_in_bytes sub.input ≡ read → IsLoad (read_program operations sub s load read)
   read_is (Err fault) passed e = refused_is PROGRAM_REFUSED fault.slot (fault_number fault.kind)
   read_is (Ok program) passed e = judged_is program (refusal operations program (sizes_for s load)) passed e refl

@@ -2,7 +2,7 @@
 use Rattle.std.proofs.Common.{◌≡◌, ℕ, ◌+◌, ◌-◌, ◌%◌, ◌≤◌, List, length, take, drop, get_or, Option, None, ap, sym, ◌∙◌, arith}
 use Rattle.std.proofs.lemmas.List.{drop-take, take-append-le}
 use Rattle.nvme_entry.specs.declared.command.RunCommand.{RunCommand}
-use Rattle.instruction_set.specs.declared.insn.Insn.{Insn}
+use Rattle.instruction_set.specs.declared.instruction.Instruction.{Instruction}
 use Rattle.image_store.specs.Namespace.{ZonedNamespace, zone_at}
 use Rattle.zns_commands.specs.Address.{zone_number}
 use Rattle.zns_commands.specs.Left.{Grows}
@@ -43,7 +43,7 @@ seen_stays ns later slots slots' a keeps same =
     let left = a.order.blocks - a.so_far.index in
     let blocks_in : ZonedNamespace → ℕ → List (List ℕ) = λ m size. (zone_at m (zone_number (record m { size = size }) a.order.lba)).blocks in
     let coming : ZonedNamespace → ℕ → List (List ℕ) = λ m size. take left (drop (a.order.lba % size + a.so_far.index) (blocks_in m size)) in
-    let about : List (Option Insn) → ℕ → ℕ → Task = λ program block limit. record {
+    let about : List (Option Instruction) → ℕ → ℕ → Task = λ program block limit. record {
       program = program;
       sizes = record { block = block; limit = limit };
       argument = a.order.argument;
@@ -62,7 +62,7 @@ seen_stays ns later slots slots' a keeps same =
     let is = get_or slots' a.order.slot None in
     ap (λ (size : ℕ). placed size (rest (about (program_in is) later.block (limit_in is)) a.so_far (coming later size))) keeps.size
     ∙ ap (λ (block : ℕ). placed ns.size (rest (about (program_in is) block (limit_in is)) a.so_far (coming later ns.size))) keeps.block
-    ∙ ap (λ (program : List (Option Insn)). placed ns.size (rest (about program ns.block (limit_in is)) a.so_far (coming later ns.size))) same.program
+    ∙ ap (λ (program : List (Option Instruction)). placed ns.size (rest (about program ns.block (limit_in is)) a.so_far (coming later ns.size))) same.program
     ∙ ap (λ (limit : ℕ). placed ns.size (rest (about (program_in was) ns.block limit) a.so_far (coming later ns.size))) same.limit
     ∙ ap (λ (blocks : List (List ℕ)). placed ns.size (rest (about (program_in was) ns.block (limit_in was)) a.so_far blocks))
     (first_ones left (a.order.lba % ns.size + a.so_far.index) (blocks_in ns ns.size) (blocks_in later ns.size) keeps.grows keeps.written)

@@ -7,7 +7,7 @@ use Rattle.zone_resources.specs.Holds.{is_destination}
 use Rattle.zone_resources.specs.declared.holds.Holds.{Holds}
 use Rattle.zone_state.specs.Checks.{demand, first_failed}
 use Rattle.nvme_entry.specs.declared.command.RunCommand.{RunCommand}
-use Rattle.instruction_set.specs.declared.insn.Insn.{Insn}
+use Rattle.instruction_set.specs.declared.instruction.Instruction.{Instruction}
 use Rattle.program_interface.specs.RunSizes.{Sizes}
 use Rattle.image_store.specs.Namespace.{ZonedNamespace, zone_at}
 use Rattle.image_store.specs.declared.geometry.ZoneBlock.{ZoneBlock}
@@ -20,12 +20,12 @@ use Rattle.pushdown.specs.BlockRuns.{Task}
 -- a program in its slot, the most bytes of its groups, and its result: the scratch bytes that its last run
 -- that succeeded left, zeros before one did
 pub record Loaded : Type 0 where
-  pub program : List (Option Insn)
+  pub program : List (Option Instruction)
   pub limit : ℕ
   pub result : List ℕ
 
 -- the program of a slot; one without instructions where the slot has none
-abbrev pub program_in : Option Loaded → List (Option Insn)
+abbrev pub program_in : Option Loaded → List (Option Instruction)
 program_in None = []
 program_in (Some loaded) = loaded.program
 
@@ -99,7 +99,7 @@ abbrev pub source_blocks : ZonedNamespace → RunCommand → List (List ℕ)
 source_blocks ns order = written_from ns (source_zone ns order) (zone_offset ns order.lba) order.blocks
 
 -- what a run is about of this program, of whose groups so many bytes are the most
-abbrev pub task_by : ZonedNamespace → List (Option Insn) → ℕ → RunCommand → Task
+abbrev pub task_by : ZonedNamespace → List (Option Instruction) → ℕ → RunCommand → Task
 task_by ns program limit order = record {
   program = program;
   sizes = record { block = ns.block; limit = limit };

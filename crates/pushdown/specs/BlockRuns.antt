@@ -1,7 +1,7 @@
 -- The block runs of a run: its program on one source block after another.
 use Rattle.std.specs.Prelude.{ℕ, Bool, false, ◌+◌, ◌==◌, List, [], ◌∷◌, map, replicate, Option, if◌then◌else◌}
 use Rattle.instruction_set.specs.Program.{instruction_count}
-use Rattle.instruction_set.specs.declared.insn.Insn.{Insn}
+use Rattle.instruction_set.specs.declared.instruction.Instruction.{Instruction}
 use Rattle.program_interface.specs.Context.{context_bytes}
 use Rattle.program_interface.specs.RunSizes.{Sizes}
 use Rattle.program_interface.specs.declared.area.TheConstants.{SCRATCH_BYTES}
@@ -13,7 +13,7 @@ use Rattle.program_meaning.specs.declared.end.End.TheVariants as end
 -- what a run is about: the program and the sizes that it was accepted for, the argument, the address of
 -- the first source block, and how many there are
 pub record Task : Type 0 where
-  pub program : List (Option Insn)
+  pub program : List (Option Instruction)
   pub sizes : Sizes
   pub argument : ℕ
   pub lba : ℕ
@@ -30,7 +30,7 @@ context task index = context_bytes (record {
 })
 
 -- a program on one block, with as much fuel as it has instructions
-abbrev pub run_over : List (Option Insn) → ℕ → List ℕ → List ℕ → List ℕ → BlockRun
+abbrev pub run_over : List (Option Instruction) → ℕ → List ℕ → List ℕ → List ℕ → BlockRun
 run_over program limit bytes context scratch = block_run_of program limit (instruction_count program) 0 (at_start bytes context scratch)
 
 -- the run's program on one block

@@ -13,7 +13,7 @@ use Rattle.nvme_entry.specs.declared.command.RunCommand.{RunCommand}
 use Rattle.ebpf_decode.specs.Faults.{fault_number}
 use Rattle.ebpf_decode.specs.Reading.{decoded_program as program_in_bytes}
 use Rattle.ebpf_decode.specs.declared.fault.Fault.{Fault}
-use Rattle.instruction_set.specs.declared.insn.Insn.{Insn}
+use Rattle.instruction_set.specs.declared.instruction.Instruction.{Instruction}
 use Rattle.program_interface.specs.RunSizes.{Sizes}
 use Rattle.word_domain.specs.Domain.{Operations}
 use Rattle.accepted_programs.specs.Accepted.{refusal, reason_number}
@@ -49,11 +49,11 @@ abbrev pub program_refused : Submission → ℕ → ℕ → State → Happening
 program_refused sub at reason s = completed sub PROGRAM_REFUSED at reason [] s
 
 -- an accepted program, whose result is zeros
-abbrev pub just_loaded : List (Option Insn) → ℕ → Loaded
+abbrev pub just_loaded : List (Option Instruction) → ℕ → Loaded
 just_loaded program limit = record { program = program; limit = limit; result = no_scratch }
 
 -- an accepted program takes its slot
-abbrev pub judged : Submission → State → LoadCommand → List (Option Insn) → Option Refusal → Happening
+abbrev pub judged : Submission → State → LoadCommand → List (Option Instruction) → Option Refusal → Happening
 judged sub s load program (Some why) = program_refused sub why.slot (reason_number why.reason) s
 judged sub s load program None = completed sub SUCCESS 0 0 [] (with_slot s load.slot (Some (just_loaded program load.limit)))
 
@@ -63,7 +63,7 @@ sizes_for s load = record { block = s.namespace.block; limit = load.limit }
 
 module _ {D : Type 0} (operations : Operations D) where
   -- what the bytes of a program come to: they are decoded, and then judged
-  abbrev pub read_program : Submission → State → LoadCommand → Result (List (Option Insn)) Fault → Happening
+  abbrev pub read_program : Submission → State → LoadCommand → Result (List (Option Instruction)) Fault → Happening
   read_program sub s load (Err fault) = program_refused sub fault.slot (fault_number fault.kind) s
   read_program sub s load (Ok program) = judged sub s load program (refusal operations program (sizes_for s load))
 

@@ -13,7 +13,7 @@ use Rattle.nvme_entry.specs.declared.command.LoadCommand.{LoadCommand}
 use Rattle.nvme_entry.specs.declared.command.RunCommand.{RunCommand}
 use Rattle.ebpf_decode.specs.Reading.{decoded_program}
 use Rattle.instruction_set.specs.Program.{IsProgram}
-use Rattle.instruction_set.specs.declared.insn.Insn.{Insn}
+use Rattle.instruction_set.specs.declared.instruction.Instruction.{Instruction}
 use Rattle.program_interface.specs.Frame.{frames}
 use Rattle.program_meaning.specs.BlockRun.{BlockRun}
 use Rattle.program_meaning.specs.TrapFree.{IsExit}
@@ -121,7 +121,7 @@ module _ {D : Type 0} (operations : Operations D) where
   -- scratch bytes kept, and all else is as it was
   pub record IsLoaded (s : State) (sub : Submission) (load : LoadCommand) (h : Happening) : Type 0 where
     pub asked : decoded sub.entry ≡ Ok (command.Load load)
-    pub program : List (Option Insn)
+    pub program : List (Option Instruction)
     pub read : decoded_program sub.input ≡ Ok program
     pub accepted : refusal operations program (sizes_for s load) ≡ None
     pub reply : h.reply ≡ completion sub.queue (identifier_of sub.entry) SUCCESS 0 0 []

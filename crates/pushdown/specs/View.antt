@@ -2,7 +2,7 @@
 use Rattle.std.specs.Prelude.{ℕ, ◌≡◌, ◌≤◌, ◌+◌, ◌-◌, ◌%◌, List, length, get_or, map, Option, Some, None}
 use Rattle.nvme_entry.specs.Entry.{identifier_of}
 use Rattle.nvme_entry.specs.declared.command.RunCommand.{RunCommand}
-use Rattle.instruction_set.specs.declared.insn.Insn.{Insn}
+use Rattle.instruction_set.specs.declared.instruction.Instruction.{Instruction}
 use Rattle.image_store.specs.Namespace.{ZonedNamespace, zone_at}
 use Rattle.zns_commands.specs.Address.{zone_number}
 use Rattle.zns_commands.specs.Left.{Grows}
@@ -25,7 +25,7 @@ to_come ns a =
     written_from ns (zone_number ns a.order.lba) (a.order.lba % ns.size + a.so_far.index) (a.order.blocks - a.so_far.index)
 
 -- the turns that are left of a run of this program
-abbrev pub turns_of : ZonedNamespace → List (Option Insn) → ℕ → Active → List Turn
+abbrev pub turns_of : ZonedNamespace → List (Option Instruction) → ℕ → Active → List Turn
 turns_of ns program limit a = rest (task_by ns program limit a.order) a.so_far (to_come ns a)
 
 -- the run's place: the turns that are left are the rest of the run

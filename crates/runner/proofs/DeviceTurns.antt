@@ -4,7 +4,7 @@ use Rattle.std.proofs.Math.ListN.{get_or-map}
 use Rattle.std.proofs.Math.Seq.{map-set_same}
 use Rattle.std.proofs.lemmas.List.{map-set, set-get_or}
 use Rattle.nvme_entry.specs.declared.command.RunCommand.{RunCommand}
-use Rattle.instruction_set.specs.declared.insn.Insn.{Insn}
+use Rattle.instruction_set.specs.declared.instruction.Instruction.{Instruction}
 use Rattle.interval_domain.specs.Intervals.{intervals}
 use Rattle.verifier.specs.Verified.{program_of, sizes_of}
 use Rattle.image_store.specs.Geometry.{Shape}
@@ -46,7 +46,7 @@ module _ (ns : ZonedNamespace) (slots : List (Option LoadedProgram)) (runs : Lis
   abbrev place : Place
   place = place_of ns (map loaded_slot slots) (active_of a)
 
-  abbrev code : List (Option Insn)
+  abbrev code : List (Option Instruction)
   code = program_of p.prepared
 
   abbrev limit : ℕ

@@ -1,6 +1,6 @@
 -- The block run that is next.
 use Rattle.std.proofs.Common.{◌≡◌, ℕ, ◌+◌, List, Option, ap, ◌∙◌}
-use Rattle.instruction_set.specs.declared.insn.Insn.{Insn}
+use Rattle.instruction_set.specs.declared.instruction.Instruction.{Instruction}
 use Rattle.program_interface.specs.Context.{context_bytes}
 use Rattle.program_interface.specs.declared.context.Context.{Context}
 use Rattle.image_store.specs.Namespace.{ZonedNamespace}
@@ -18,7 +18,7 @@ next_context ns a = record {
   argument = a.order.argument;
 }
 
-module _ (ns : ZonedNamespace) (program : List (Option Insn)) (limit : ℕ) (a : Active) where
+module _ (ns : ZonedNamespace) (program : List (Option Instruction)) (limit : ℕ) (a : Active) where
   pub told_is : (context : List ℕ) (from count block : ℕ) → from ≡ a.so_far.index → count ≡ a.order.blocks → block ≡ ns.block
       → context ≡ context_bytes (record { lba = a.order.lba + from; index = a.so_far.index; count = count; block = block; argument = a.order.argument })
       → context ≡ context_bytes (next_context ns a)

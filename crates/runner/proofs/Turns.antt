@@ -4,7 +4,7 @@ use Rattle.std.specs.Prelude.{◌⊎◌, ◌==◌}
 use Rattle.std.proofs.lemmas.Bool.Decides.{eqb_tells, leb_tells}
 use Rattle.std.proofs.lemmas.List.{length-take-le, length-drop}
 use Rattle.zone_state.specs.declared.status.TheConstants.Status.{SUCCESS}
-use Rattle.instruction_set.specs.declared.insn.Insn.{Insn}
+use Rattle.instruction_set.specs.declared.instruction.Instruction.{Instruction}
 use Rattle.program_meaning.specs.BlockRun.{BlockRun}
 use Rattle.program_meaning.specs.declared.end.End.{End}
 use Rattle.program_meaning.specs.declared.end.End.TheVariants as end
@@ -48,7 +48,7 @@ cut_first n (suc at) (x ∷ xs) less = cut_first n at xs (omega (arith, less))
 
 -- ---- the source blocks still to come
 
-module _ (ns : ZonedNamespace) (program : List (Option Insn)) (limit : ℕ) where
+module _ (ns : ZonedNamespace) (program : List (Option Instruction)) (limit : ℕ) where
   abbrev moved : Active → BlockRun → Active
   moved a run = record { queue = a.queue; cid = a.cid; order = a.order; so_far = further (task_by ns program limit a.order) a.so_far run }
 
@@ -123,7 +123,7 @@ module _ (block : ℕ) (so_far : Progress) (run : BlockRun) where
 
 -- ---- what is written for a turn
 
-added_leaves_turns : (ns : ZonedNamespace) (z : ℕ) (bs : List (List ℕ)) (program : List (Option Insn)) (limit : ℕ) (a : Active)
+added_leaves_turns : (ns : ZonedNamespace) (z : ℕ) (bs : List (List ℕ)) (program : List (Option Instruction)) (limit : ℕ) (a : Active)
     → zone_number ns a.order.lba ≢ z → turns_of (added ns z bs) program limit a ≡ turns_of ns program limit a
 added_leaves_turns ns z [] program limit a other = refl
 added_leaves_turns ns z (b ∷ bs) program limit a other =
@@ -162,7 +162,7 @@ module _ (ns : ZonedNamespace) (z : ℕ) (ending : Option Ending) (turns : List 
 
 -- ---- a turn
 
-module _ (ns : ZonedNamespace) (program : List (Option Insn)) (limit : ℕ) (a : ActiveRun) (h : FitsOn ns program limit a) where
+module _ (ns : ZonedNamespace) (program : List (Option Instruction)) (limit : ℕ) (a : ActiveRun) (h : FitsOn ns program limit a) where
   abbrev ran : BlockRun
   ran = next_run ns program limit (active_of a)
 

@@ -5,8 +5,8 @@ use Rattle.std.proofs.lemmas.Bool.Decides.{nat_tests}
 use Rattle.std.proofs.lemmas.Option.{slice_get_within}
 use Rattle.instruction_set.specs.Instruction.{distance_of, is_emit, target}
 use Rattle.instruction_set.specs.Program.{instruction_in}
-use Rattle.instruction_set.specs.declared.insn.Insn.{Insn}
-use Rattle.instruction_set.specs.declared.insn.Insn.TheVariants.{LoadImmediate, Load, LoadSigned, StoreImmediate, StoreRegister, Arithmetic, Negate, MoveSigned, SwapBytes, Jump, JumpLong, Branch, Call, Exit}
+use Rattle.instruction_set.specs.declared.instruction.Instruction.{Instruction}
+use Rattle.instruction_set.specs.declared.instruction.Instruction.TheVariants.{LoadImmediate, Load, LoadSigned, StoreImmediate, StoreRegister, Arithmetic, Negate, MoveSigned, SwapBytes, Jump, JumpLong, Branch, Call, Exit}
 use Rattle.program_interface.specs.declared.block_size.TheConstants.{LARGEST_BLOCK}
 use Rattle.program_interface.specs.RunSizes.{Sizes}
 use Rattle.word_domain.specs.Domain.{Operations}
@@ -19,19 +19,19 @@ use Rattle.accepted_programs.specs.declared.reason.Reason.{Reason}
 use Rattle.accepted_programs.specs.declared.reason.Reason.TheVariants.{JumpOutside, FallsOff, UnknownHelper, EmitLimit}
 
 -- an instruction begins only inside a program
-inside_by : (program : List (Option Insn)) (n : ℕ) (begun : Option (Option Insn)) → slice_get program n ≡ begun
+inside_by : (program : List (Option Instruction)) (n : ℕ) (begun : Option (Option Instruction)) → slice_get program n ≡ begun
     → is_some (instruction_in begun) ≡ true → n < length program
 inside_by program n None is e = cc
 inside_by program n (Some begun) is e = slice_get_within program n begun is
 
-inside : (program : List (Option Insn)) (n : ℕ) → begins_at program (pos n) ≡ true → n < length program
+inside : (program : List (Option Instruction)) (n : ℕ) → begins_at program (pos n) ≡ true → n < length program
 inside program n e = inside_by program n (slice_get program n) refl e
 
-inside_first : (program : List (Option Insn)) (z : ℤ) → begins_at program z ≡ true → pos 0 ≤ℤ z
+inside_first : (program : List (Option Instruction)) (z : ℤ) → begins_at program z ≡ true → pos 0 ≤ℤ z
 inside_first program (pos n) e = record { le = yes_leb (omega arith) }
 inside_first program (negsuc n) e = cc
 
-inside_last : (program : List (Option Insn)) (z : ℤ) → begins_at program z ≡ true → z <ℤ pos (length program)
+inside_last : (program : List (Option Instruction)) (z : ℤ) → begins_at program z ≡ true → z <ℤ pos (length program)
 inside_last program (pos n) e = record { lt = yes_ltb (inside program n e) }
 inside_last program (negsuc n) e = cc
 
@@ -43,12 +43,12 @@ otherwise : (b c : Bool) → b ≡ false → (if b then false else c) ≡ false 
 otherwise true c is e = cc
 otherwise false c is e = e
 
-goes_first : (program : List (Option Insn)) (slot : ℕ) (distance : Option ℤ) → leads_nowhere program slot distance ≡ false
+goes_first : (program : List (Option Instruction)) (slot : ℕ) (distance : Option ℤ) → leads_nowhere program slot distance ≡ false
     → IfSome distance (λ d. pos 0 ≤ℤ target slot d)
 goes_first program slot (Some d) e = inside_first program (target slot d) (not_false _ e)
 goes_first program slot None e = tt
 
-goes_last : (program : List (Option Insn)) (slot : ℕ) (distance : Option ℤ) → leads_nowhere program slot distance ≡ false
+goes_last : (program : List (Option Instruction)) (slot : ℕ) (distance : Option ℤ) → leads_nowhere program slot distance ≡ false
     → IfSome distance (λ d. target slot d <ℤ pos (length program))
 goes_last program slot (Some d) e = inside_last program (target slot d) (not_false _ e)
 goes_last program slot None e = tt
@@ -60,7 +60,7 @@ within_limit false limit most is e fits = cc
 
 module _ {D : Type 0} (operations : Operations D) where
   -- what turns away gives nothing to the slot behind it
-  pub stays : (block : ℕ) (i : Insn) (facts : Facts D) → IsSome (facts_behind operations block i facts) → turns_away i ≡ false
+  pub stays : (block : ℕ) (i : Instruction) (facts : Facts D) → IsSome (facts_behind operations block i facts) → turns_away i ≡ false
   stays block (LoadImmediate dst value) facts h = refl
   stays block (Load size dst src offset) facts h = refl
   stays block (LoadSigned size dst src offset) facts h = refl
@@ -76,7 +76,7 @@ module _ {D : Type 0} (operations : Operations D) where
   stays block (Call helper) facts h = refl
   stays block Exit facts h = cc
 
-  module _ (program : List (Option Insn)) (sizes : Sizes) (slot : ℕ) (facts : Facts D) (i : Insn)
+  module _ (program : List (Option Instruction)) (sizes : Sizes) (slot : ℕ) (facts : Facts D) (i : Instruction)
       (none : reason_of operations program sizes slot facts i ≡ None) where
     free : (reason : Reason) → fails operations program sizes slot facts i reason ≡ false
     free = no_reason_holds operations program sizes slot facts i none
@@ -89,7 +89,7 @@ module _ {D : Type 0} (operations : Operations D) where
       last = goes_last program slot (distance_of i) (free JumpOutside);
     }
 
-  pub room_left : (program : List (Option Insn)) (sizes : Sizes) (slot : ℕ) (facts : Facts D) (i : Insn)
+  pub room_left : (program : List (Option Instruction)) (sizes : Sizes) (slot : ℕ) (facts : Facts D) (i : Instruction)
       → reason_of operations program sizes slot facts i ≡ None → sizes.limit ≤ LARGEST_BLOCK → HasRoom operations i facts
   room_left program sizes slot facts (Call helper) none fits =
       within_limit (is_emit (Call helper)) sizes.limit (facts.emitted + 2 + greatest_length operations facts)

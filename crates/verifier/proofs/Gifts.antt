@@ -6,9 +6,9 @@ use Rattle.std.proofs.lemmas.List.{get_or-set_other}
 use Rattle.std.specs.Ordering.{int_eq}
 use Rattle.std.specs.Prelude.{Box}
 use Rattle.instruction_set.specs.Instruction.{distance_of, target}
-use Rattle.instruction_set.specs.declared.insn.Insn.{Insn}
-use Rattle.instruction_set.specs.declared.insn.Source.{Source}
-use Rattle.instruction_set.specs.declared.insn.Source.TheVariants.{Immediate, Register}
+use Rattle.instruction_set.specs.declared.instruction.Instruction.{Instruction}
+use Rattle.instruction_set.specs.declared.instruction.Source.{Source}
+use Rattle.instruction_set.specs.declared.instruction.Source.TheVariants.{Immediate, Register}
 use Rattle.word_domain.specs.Domain.{Operations}
 use Rattle.accepted_programs.specs.Facts.{facts_at_target, facts_behind, gives, leads, merge, slot_behind, with_fact, with_source}
 use Rattle.verifier.specs.steps.Rows.{held, held_at}
@@ -101,7 +101,7 @@ module _ {D : Type 0} (operations : Operations D) where
       → leads slot distance other ≡ (to == other)
   leads_to slot to other distance d is at = rw (is, sym at) (same_place to other)
 
-  module _ (i : Insn) (slot : ℕ) (facts : Facts D) (block : ℕ) where
+  module _ (i : Instruction) (slot : ℕ) (facts : Facts D) (block : ℕ) where
     -- a jump gives to the slot behind it and to its target
     pub jumped : (d : ℤ) (behind to : ℕ) (s : ℕ) (old new : Option (Facts D))
         → distance_of i ≡ Some d → pos to ≡ target slot d → behind ≡ slot_behind slot i

@@ -3,7 +3,7 @@ use Rattle.std.proofs.Common.{◌≡◌, ℕ, zero, suc, ◌+◌, ◌-◌, ◌<�
 use Rattle.std.specs.Prelude.{Box}
 use Rattle.std.specs.Option.{option_or}
 use Rattle.instruction_set.specs.Program.{instruction_at}
-use Rattle.instruction_set.specs.declared.insn.Insn.{Insn}
+use Rattle.instruction_set.specs.declared.instruction.Instruction.{Instruction}
 use Rattle.program_interface.specs.RunSizes.{Sizes}
 use Rattle.word_domain.specs.Domain.{Operations}
 use Rattle.accepted_programs.specs.Accepted.{refusal_at, refusal_below}
@@ -12,7 +12,7 @@ use Rattle.verifier.specs.steps.Rows.{held_at}
 use Rattle.accepted_programs.specs.declared.facts.Facts.{Facts}
 use Rattle.accepted_programs.specs.declared.reason.Refusal.{Refusal}
 
-module _ {D : Type 0} (operations : Operations D) (program : List (Option Insn)) (sizes : Sizes) where
+module _ {D : Type 0} (operations : Operations D) (program : List (Option Instruction)) (sizes : Sizes) where
   abbrev below : ℕ → Option Refusal
   below slot = refusal_below operations program sizes slot
 

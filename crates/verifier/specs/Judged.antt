@@ -1,6 +1,6 @@
 -- What a verifier tells of a program beside its answer.
 use Rattle.std.specs.Prelude.{◌≡◌, List, Option, Some, None}
-use Rattle.instruction_set.specs.declared.insn.Insn.{Insn}
+use Rattle.instruction_set.specs.declared.instruction.Instruction.{Instruction}
 use Rattle.program_interface.specs.RunSizes.{Sizes}
 use Rattle.word_domain.specs.Domain.{Operations}
 use Rattle.accepted_programs.specs.Accepted.{refusal}
@@ -9,7 +9,7 @@ use Rattle.accepted_programs.specs.Facts.{facts_at}
 use Rattle.verifier.specs.declared.judging.Judgement.{Judgement}
 use Rattle.verifier.specs.declared.judging.Judgement.TheVariants.{Accepted, Refused}
 
-module _ {D : Type 0} (operations : Operations D) (program : List (Option Insn)) where
+module _ {D : Type 0} (operations : Operations D) (program : List (Option Instruction)) where
   -- accepted, with the most that is emitted; or refused, with the facts that are known at that slot
   abbrev pub IsJudged : Sizes → Judgement D → Type 0
   IsJudged sizes (Accepted most) = (refusal operations program sizes ≡ None) × (most ≡ most_emitted operations program sizes.block)

@@ -2,23 +2,23 @@
 
 ghost use Rattle.std.specs.Prelude.{◌≡◌, ◌<◌, ◌≤◌, ◌^◌, ◌+◌, nat_lt, ◌&&◌, ◌||◌, ◌==◌, is_none, pos, not, false, if◌then◌else◌, Option, Some, None};
 ghost use Rattle.instruction_set.specs.Instruction.{access_of};
-ghost use Rattle.program_meaning.specs.Cause.{calls_unknown as insn_calls_unknown};
-ghost use Rattle.accepted_programs.specs.Accepted.{area_accessed as area_of_access, begins_at, fails, goes_back as distance_goes_back, greatest_length, is_unwritable as area_is_unwritable, leads_nowhere as distance_leads_nowhere, least_length, loads_outside as access_loads_outside, reason_of, stores_outside as access_stores_outside, turns_away as insn_turns_away};
-ghost use Rattle.accepted_programs.specs.Facts.{area_of, slot_behind as insn_slot_behind};
+ghost use Rattle.program_meaning.specs.Cause.{calls_unknown as instruction_calls_unknown};
+ghost use Rattle.accepted_programs.specs.Accepted.{area_accessed as area_of_access, begins_at, fails, goes_back as distance_goes_back, greatest_length, is_unwritable as area_is_unwritable, leads_nowhere as distance_leads_nowhere, least_length, loads_outside as access_loads_outside, reason_of, stores_outside as access_stores_outside, turns_away as instruction_turns_away};
+ghost use Rattle.accepted_programs.specs.Facts.{area_of, slot_behind as instruction_slot_behind};
 ghost use Rattle.accepted_programs.specs.declared.reason.Reason.TheVariants.{EmitAddress, EmitLimit, EmitLength, FallsOff};
 
 use accepted_programs::{Facts, Reason};
-use instruction_set::{Access, AccessKind, Insn, Program, Register};
+use instruction_set::{Access, AccessKind, Instruction, Program, Register};
 use program_interface::{Area, BlockSize, EMIT, FRAME_LENGTH_BYTES, MOST_SLOTS, RunSizes};
 use word_domain::Domain;
 
 /// The slot behind an instruction.
 #[inline]
-pub fn slot_behind(slot: usize, insn: &Insn) -> usize
+pub fn slot_behind(slot: usize, instruction: &Instruction) -> usize
     requires { slot < MOST_SLOTS }
-    ensures { result ≡ insn_slot_behind slot insn.now }
+    ensures { result ≡ instruction_slot_behind slot instruction.now }
 {
-    slot + insn.slots()
+    slot + instruction.slots()
 }
 
 /// Does an instruction begin at this slot of a program?
@@ -45,28 +45,28 @@ fn leads_nowhere(program: &Program, slot: usize, distance: Option<i32>) -> bool
     ensures { result ≡ distance_leads_nowhere program.now slot distance }
 {
     match distance {
-        Some(distance) => !begins(program, Insn::target(slot, distance)),
+        Some(distance) => !begins(program, Instruction::target(slot, distance)),
         None => false,
     }
 }
 
 /// Does an instruction always leave the slots in a row?
 #[inline]
-fn turns_away(insn: &Insn) -> bool
-    ensures { result ≡ insn_turns_away insn.now }
+fn turns_away(instruction: &Instruction) -> bool
+    ensures { result ≡ instruction_turns_away instruction.now }
 {
     matches!(
-        *insn,
-        Insn::Jump { .. } | Insn::JumpLong { .. } | Insn::Exit
+        *instruction,
+        Instruction::Jump { .. } | Instruction::JumpLong { .. } | Instruction::Exit
     )
 }
 
 #[inline]
-fn falls_off(program: &Program, slot: usize, insn: &Insn) -> bool
+fn falls_off(program: &Program, slot: usize, instruction: &Instruction) -> bool
     requires { slot < MOST_SLOTS }
-    ensures { result ≡ (if insn_turns_away insn.now then false else not (begins_at program.now (pos (insn_slot_behind slot insn.now)))) }
+    ensures { result ≡ (if instruction_turns_away instruction.now then false else not (begins_at program.now (pos (instruction_slot_behind slot instruction.now)))) }
 {
-    !turns_away(insn) && program.at(slot_behind(slot, insn)).is_none()
+    !turns_away(instruction) && program.at(slot_behind(slot, instruction)).is_none()
 }
 
 /// The area that holds the bytes of an access.
@@ -93,10 +93,10 @@ fn area_accessed<D: Domain>(block: BlockSize, facts: &Facts<D>, access: Access) 
 }
 
 #[inline]
-fn loads_outside<D: Domain>(block: BlockSize, facts: &Facts<D>, insn: &Insn) -> bool
-    ensures { result ≡ access_loads_outside D.operations block facts.now (access_of insn.now) }
+fn loads_outside<D: Domain>(block: BlockSize, facts: &Facts<D>, instruction: &Instruction) -> bool
+    ensures { result ≡ access_loads_outside D.operations block facts.now (access_of instruction.now) }
 {
-    match insn.access() {
+    match instruction.access() {
         Some(access) => match access.kind {
             AccessKind::Load => area_accessed(block, facts, access).is_none(),
             AccessKind::Store => false,
@@ -117,10 +117,10 @@ fn is_unwritable(area: Option<Area>) -> bool
 }
 
 #[inline]
-fn stores_outside<D: Domain>(block: BlockSize, facts: &Facts<D>, insn: &Insn) -> bool
-    ensures { result ≡ access_stores_outside D.operations block facts.now (access_of insn.now) }
+fn stores_outside<D: Domain>(block: BlockSize, facts: &Facts<D>, instruction: &Instruction) -> bool
+    ensures { result ≡ access_stores_outside D.operations block facts.now (access_of instruction.now) }
 {
-    match insn.access() {
+    match instruction.access() {
         Some(access) => match access.kind {
             AccessKind::Load => false,
             AccessKind::Store => is_unwritable(area_accessed(block, facts, access)),
@@ -130,11 +130,11 @@ fn stores_outside<D: Domain>(block: BlockSize, facts: &Facts<D>, insn: &Insn) ->
 }
 
 #[inline]
-fn calls_unknown(insn: &Insn) -> bool
-    ensures { result ≡ insn_calls_unknown insn.now }
+fn calls_unknown(instruction: &Instruction) -> bool
+    ensures { result ≡ instruction_calls_unknown instruction.now }
 {
-    match *insn {
-        Insn::Call { helper } => helper != EMIT,
+    match *instruction {
+        Instruction::Call { helper } => helper != EMIT,
         _ => false,
     }
 }
@@ -170,29 +170,29 @@ pub fn find_reason<D: Domain>(
     program: &Program,
     sizes: RunSizes,
     slot: usize,
-    insn: &Insn,
+    instruction: &Instruction,
     facts: &Facts<D>,
 ) -> Option<Reason>
     requires { slot < MOST_SLOTS }
-    ensures { result ≡ reason_of D.operations program.now sizes slot facts.now insn.now }
+    ensures { result ≡ reason_of D.operations program.now sizes slot facts.now instruction.now }
 {
     let block = sizes.block();
-    let distance = insn.distance();
+    let distance = instruction.distance();
     let reason = if goes_back(distance) {
         Reason::JumpBack
     } else if leads_nowhere(program, slot, distance) {
         Reason::JumpOutside
-    } else if falls_off(program, slot, insn) {
+    } else if falls_off(program, slot, instruction) {
         Reason::FallsOff
-    } else if insn.writes(Register::FRAME_POINTER) {
+    } else if instruction.writes(Register::FRAME_POINTER) {
         Reason::WriteToFramePointer
-    } else if loads_outside(block, facts, insn) {
+    } else if loads_outside(block, facts, instruction) {
         Reason::LoadOutside
-    } else if stores_outside(block, facts, insn) {
+    } else if stores_outside(block, facts, instruction) {
         Reason::StoreOutside
-    } else if calls_unknown(insn) {
+    } else if calls_unknown(instruction) {
         Reason::UnknownHelper
-    } else if !insn.is_emit() {
+    } else if !instruction.is_emit() {
         return None;
     } else if emits_from_nowhere(block, facts) {
         Reason::EmitAddress

@@ -9,7 +9,7 @@ ghost use Rattle.verifier.specs.steps.Rows.{where_it_goes_on};
 
 use crate::cells::{cell_of, is_stack, known, store_into};
 use accepted_programs::Facts;
-use instruction_set::{Insn, Register, Relation, Size, Source, Width};
+use instruction_set::{Instruction, Register, Relation, Size, Source, Width};
 use program_interface::{Area, BlockSize, CLEARED_REGISTERS, FRAME_LENGTH_BYTES};
 use program_meaning::Arithmetic;
 use word_domain::Domain;
@@ -21,7 +21,7 @@ fn source_of<D: Domain>(facts: &Facts<D>, source: Source) -> D
 {
     match source {
         Source::Register(register) => facts.get(register),
-        Source::Immediate(value) => D::constant(Insn::immediate_word(value)),
+        Source::Immediate(value) => D::constant(Instruction::immediate_word(value)),
     }
 }
 
@@ -33,8 +33,8 @@ fn compared<D: Domain>(width: Width, facts: &Facts<D>, source: &Source) -> D
     match *source {
         Source::Register(register) => facts.get(register),
         Source::Immediate(value) => match width {
-            Width::Bits32 => D::constant(Insn::immediate_word(value) % 0x1_0000_0000),
-            Width::Bits64 => D::constant(Insn::immediate_word(value)),
+            Width::Bits32 => D::constant(Instruction::immediate_word(value) % 0x1_0000_0000),
+            Width::Bits64 => D::constant(Instruction::immediate_word(value)),
         },
     }
 }
@@ -144,28 +144,28 @@ fn load<D: Domain>(facts: &Facts<D>, size: Size, src: Register, offset: i16) -> 
 }
 
 /// The destination of a load, and what is known of the word there.
-fn loaded<D: Domain>(insn: &Insn, facts: &Facts<D>) -> Option<(Register, D)>
-    ensures { result ≡ loaded_word D.operations insn.now facts.now }
+fn loaded<D: Domain>(instruction: &Instruction, facts: &Facts<D>) -> Option<(Register, D)>
+    ensures { result ≡ loaded_word D.operations instruction.now facts.now }
 {
-    match *insn {
-        Insn::LoadImmediate { dst, value } => Some((dst, D::constant(value))),
-        Insn::Load {
+    match *instruction {
+        Instruction::LoadImmediate { dst, value } => Some((dst, D::constant(value))),
+        Instruction::Load {
             size,
             dst,
             src,
             offset,
         } => Some((dst, load(facts, size, src, offset))),
-        Insn::LoadSigned { size, dst, .. } => Some((dst, D::loaded_signed(size))),
+        Instruction::LoadSigned { size, dst, .. } => Some((dst, D::loaded_signed(size))),
         _ => None,
     }
 }
 
 /// The destination of an instruction that computes, and what is known of the word there.
-fn computed<D: Domain>(insn: &Insn, facts: &Facts<D>) -> Option<(Register, D)>
-    ensures { result ≡ computed_word D.operations insn.now facts.now }
+fn computed<D: Domain>(instruction: &Instruction, facts: &Facts<D>) -> Option<(Register, D)>
+    ensures { result ≡ computed_word D.operations instruction.now facts.now }
 {
-    let (dst, arithmetic, first, second) = match *insn {
-        Insn::Arithmetic {
+    let (dst, arithmetic, first, second) = match *instruction {
+        Instruction::Arithmetic {
             width,
             operation,
             dst,
@@ -174,11 +174,11 @@ fn computed<D: Domain>(insn: &Insn, facts: &Facts<D>) -> Option<(Register, D)>
             let arithmetic = Arithmetic::Binary { width, operation };
             (dst, arithmetic, facts.get(dst), source_of(facts, source))
         }
-        Insn::Negate { width, dst } => {
+        Instruction::Negate { width, dst } => {
             let arithmetic = Arithmetic::Negate { width };
             (dst, arithmetic, facts.get(dst), D::constant(0))
         }
-        Insn::MoveSigned {
+        Instruction::MoveSigned {
             extension,
             dst,
             src,
@@ -186,7 +186,7 @@ fn computed<D: Domain>(insn: &Insn, facts: &Facts<D>) -> Option<(Register, D)>
             let arithmetic = Arithmetic::MoveSigned { extension };
             (dst, arithmetic, D::constant(0), facts.get(src))
         }
-        Insn::SwapBytes { swap, size, dst } => {
+        Instruction::SwapBytes { swap, size, dst } => {
             let arithmetic = Arithmetic::SwapBytes { swap, size };
             (dst, arithmetic, facts.get(dst), D::constant(0))
         }
@@ -196,19 +196,19 @@ fn computed<D: Domain>(insn: &Insn, facts: &Facts<D>) -> Option<(Register, D)>
 }
 
 /// Changes the facts to those at the slot behind an instruction that doesn't jump; false where the program ends.
-pub fn step<D: Domain>(insn: &Insn, block: BlockSize, facts: &mut Facts<D>) -> bool
-    requires straight { distance_of insn.now ≡ None }
-    requires room { HasRoom D.operations insn.now facts.old }
-    ensures { where_it_goes_on result facts.new ≡ facts_behind D.operations block insn.now facts.old }
+pub fn step<D: Domain>(instruction: &Instruction, block: BlockSize, facts: &mut Facts<D>) -> bool
+    requires straight { distance_of instruction.now ≡ None }
+    requires room { HasRoom D.operations instruction.now facts.old }
+    ensures { where_it_goes_on result facts.new ≡ facts_behind D.operations block instruction.now facts.old }
 {
-    match *insn {
-        Insn::StoreImmediate {
+    match *instruction {
+        Instruction::StoreImmediate {
             size,
             dst,
             offset,
             ..
         } => store(block, facts, size, dst, offset, None),
-        Insn::StoreRegister {
+        Instruction::StoreRegister {
             size,
             dst,
             src,
@@ -217,8 +217,8 @@ pub fn step<D: Domain>(insn: &Insn, block: BlockSize, facts: &mut Facts<D>) -> b
             let word = kept(facts, size, src);
             store(block, facts, size, dst, offset, word);
         }
-        Insn::Call { .. } => emit(facts),
-        _ => match loaded(insn, facts).or(computed(insn, facts)) {
+        Instruction::Call { .. } => emit(facts),
+        _ => match loaded(instruction, facts).or(computed(instruction, facts)) {
             Some((dst, fact)) => facts.set(dst, fact),
             None => return false,
         },

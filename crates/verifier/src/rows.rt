@@ -12,7 +12,7 @@ use crate::check::{find_reason, slot_behind};
 use crate::edges::{refined, set_both, step};
 use crate::facts::join;
 use accepted_programs::{Facts, Refusal};
-use instruction_set::{Insn, Program, Register, Source};
+use instruction_set::{Instruction, Program, Register, Source};
 use program_interface::{BlockSize, MOST_SLOTS, RunSizes};
 use std::alloc::{AllocError, Global};
 use word_domain::Domain;
@@ -157,22 +157,22 @@ fn jump<D: Domain>(
     spare: &mut Row<D>,
     behind: usize,
     target: usize,
-    insn: &Insn,
+    instruction: &Instruction,
     facts: Box<Facts<D>>,
 ) -> Result<(), AllocError>
-    requires jumps { IsSome (distance_of insn.now) }
-    requires behind { turns_away insn.now ≡ false → behind < length rows.old }
+    requires jumps { IsSome (distance_of instruction.now) }
+    requires behind { turns_away instruction.now ≡ false → behind < length rows.old }
     requires target { target < length rows.old }
     ensures len { length rows.new ≡ length rows.old }
-    ensures given { OnOk result ((block s : ℕ) → s < length rows.old → held_at rows.new s ≡ merge D.operations (merge D.operations (held_at rows.old s) (if behind == s then facts_behind D.operations block insn.now facts.value else None)) (if target == s then facts_at_target D.operations block insn.now facts.value else None)) }
+    ensures given { OnOk result ((block s : ℕ) → s < length rows.old → held_at rows.new s ≡ merge D.operations (merge D.operations (held_at rows.old s) (if behind == s then facts_behind D.operations block instruction.now facts.value else None)) (if target == s then facts_at_target D.operations block instruction.now facts.value else None)) }
 {
-    let Insn::Branch {
+    let Instruction::Branch {
         width,
         relation,
         dst,
         source,
         ..
-    } = *insn
+    } = *instruction
     else {
         give(rows, spare, target, facts);
         return Ok(());
@@ -194,23 +194,23 @@ fn push<D: Domain>(
     rows: &mut [Row<D>],
     spare: &mut Row<D>,
     slot: usize,
-    insn: &Insn,
+    instruction: &Instruction,
     block: BlockSize,
     mut facts: Box<Facts<D>>,
 ) -> Result<(), AllocError>
     requires slot { slot < MOST_SLOTS }
-    requires inside { StaysInside (length rows.old) slot insn.now }
-    requires room { HasRoom D.operations insn.now facts.value }
+    requires inside { StaysInside (length rows.old) slot instruction.now }
+    requires room { HasRoom D.operations instruction.now facts.value }
     ensures len { length rows.new ≡ length rows.old }
-    ensures given { OnOk result ((s : ℕ) → s < length rows.old → held_at rows.new s ≡ gives D.operations block (Some insn.now) slot (Some facts.value) s (held_at rows.old s)) }
+    ensures given { OnOk result ((s : ℕ) → s < length rows.old → held_at rows.new s ≡ gives D.operations block (Some instruction.now) slot (Some facts.value) s (held_at rows.old s)) }
 {
-    let behind = slot_behind(slot, insn);
-    if let Some(distance) = insn.distance() {
-        let target = Insn::target(slot, distance).unsigned_abs() as usize;
-        jump(alloc, rows, spare, behind, target, insn, facts)?;
+    let behind = slot_behind(slot, instruction);
+    if let Some(distance) = instruction.distance() {
+        let target = Instruction::target(slot, distance).unsigned_abs() as usize;
+        jump(alloc, rows, spare, behind, target, instruction, facts)?;
         return Ok(());
     }
-    if step(insn, block, &mut facts) {
+    if step(instruction, block, &mut facts) {
         give(rows, spare, behind, facts);
     } else {
         *spare = Some(facts);
@@ -239,16 +239,16 @@ pub(crate) fn visit<D: Domain>(
     D::row_fits();
     // what an instruction emits within the limit can be counted
     let _limit = sizes.limit();
-    let Some(insn) = program.at(slot) else {
+    let Some(instruction) = program.at(slot) else {
         return Ok(None);
     };
     let Some(facts) = rows[slot].take() else {
         return Ok(None);
     };
-    if let Some(reason) = find_reason(program, sizes, slot, insn, &facts) {
+    if let Some(reason) = find_reason(program, sizes, slot, instruction, &facts) {
         let refusal = Refusal { slot, reason };
         return Ok(Some(Refused { refusal, facts }));
     }
-    push(alloc, rows, spare, slot, insn, sizes.block(), facts)?;
+    push(alloc, rows, spare, slot, instruction, sizes.block(), facts)?;
     Ok(None)
 }

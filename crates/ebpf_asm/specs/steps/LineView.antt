@@ -4,7 +4,7 @@ use Rattle.ebpf_asm.specs.declared.line.Line.{Line}
 use Rattle.ebpf_asm.specs.Line as lines
 
 abbrev pub line_view : Line → lines.Line
-line_view line = record { label = option_copied line.label; insn = line.insn; target = option_copied line.target }
+line_view line = record { label = option_copied line.label; instruction = line.instruction; target = option_copied line.target }
 
 abbrev pub line_views : List Line → List lines.Line
 line_views all = map line_view all

@@ -4,7 +4,7 @@ use Rattle.zone_state.specs.declared.status.TheConstants.Status.{PROGRAM_REFUSED
 use Rattle.zone_state.specs.Checks.{first_failed}
 use Rattle.nvme_entry.specs.declared.command.LoadCommand.{LoadCommand}
 use Rattle.ebpf_decode.specs.Reading.{decoded_program}
-use Rattle.instruction_set.specs.declared.insn.Insn.{Insn}
+use Rattle.instruction_set.specs.declared.instruction.Instruction.{Instruction}
 use Rattle.program_interface.specs.RunSizes.{Sizes}
 use Rattle.interval_domain.specs.Intervals.{intervals}
 use Rattle.accepted_programs.specs.Accepted.{refusal}
@@ -21,7 +21,7 @@ uses_slot slot None = false
 uses_slot slot (Some a) = a.order.slot == slot
 
 -- they spell a program that is accepted, and kept with the sizes that it is accepted for
-pub record IsAccepted (bytes : List ℕ) (sizes : Sizes) (program : List (Option Insn)) (kept : Sizes) : Type 0 where
+pub record IsAccepted (bytes : List ℕ) (sizes : Sizes) (program : List (Option Instruction)) (kept : Sizes) : Type 0 where
   pub spelled : decoded_program bytes ≡ Ok program
   pub accepted : refusal intervals program sizes ≡ None
   pub kept_is : kept ≡ sizes
@@ -35,7 +35,7 @@ pub record IsNotAccepted (bytes : List ℕ) (sizes : Sizes) (answer : Answer) : 
   pub no_data : answer.length ≡ 0
 
 -- a Load that no check refuses, whose program is accepted for the sizes that it asks for
-pub record IsLoadable (load : LoadCommand) (input : List ℕ) (s : State) (program : List (Option Insn)) (kept : Sizes) : Type 0 where
+pub record IsLoadable (load : LoadCommand) (input : List ℕ) (s : State) (program : List (Option Instruction)) (kept : Sizes) : Type 0 where
   pub checks : first_failed (load_checks s load input) ≡ None
   pub accepted : IsAccepted input (sizes_for s load) program kept
 

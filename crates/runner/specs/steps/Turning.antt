@@ -1,7 +1,7 @@
 -- What a turn does to a run as a device keeps it.
 use Rattle.std.specs.Prelude.{ℕ, ◌≡◌, ◌+◌, ◌%◌, ◌≤◌, true, List, [], ◌∷◌, length, get_or, set, Option, Some, None}
 use Rattle.zone_state.specs.State.{is_open}
-use Rattle.instruction_set.specs.declared.insn.Insn.{Insn}
+use Rattle.instruction_set.specs.declared.instruction.Instruction.{Instruction}
 use Rattle.program_meaning.specs.BlockRun.{BlockRun}
 use Rattle.emit_append.specs.Packer.{PackerState}
 use Rattle.verifier.specs.Verified.{program_of, sizes_of}
@@ -31,7 +31,7 @@ with_packer a packer more = record a { packer = packer; appended = a.appended + 
 abbrev pub next_block : ZonedNamespace → Active → List ℕ
 next_block ns a = get_or (zone_at ns (zone_number ns a.order.lba)).blocks (a.order.lba % ns.size + a.so_far.index) []
 
-abbrev pub next_run : ZonedNamespace → List (Option Insn) → ℕ → Active → BlockRun
+abbrev pub next_run : ZonedNamespace → List (Option Instruction) → ℕ → Active → BlockRun
 next_run ns program limit a = block_run (task_by ns program limit a.order) a.so_far.index a.so_far.scratch (next_block ns a)
 
 -- a zone that takes so many blocks more
@@ -47,27 +47,27 @@ HasRoom ns z (b ∷ bs) = IsTaking ns z (length (b ∷ bs))
 
 -- what holds of an active run with its program: a group fits a block, and what is left of the run fits into
 -- its destination
-pub record FitsOn (ns : ZonedNamespace) (program : List (Option Insn)) (limit : ℕ) (a : ActiveRun) : Type 0 where
+pub record FitsOn (ns : ZonedNamespace) (program : List (Option Instruction)) (limit : ℕ) (a : ActiveRun) : Type 0 where
   pub run : Fits ns a
   pub some : 1 ≤ ns.block
   pub limits : limit ≤ ns.block
   pub room : RoomIn ns.capacity (zone_at ns a.destination) (turns_of ns program limit (active_of a))
 
 -- a turn after which the run goes on
-pub record GoesOn (old new : ZonedNamespace) (program : List (Option Insn)) (limit : ℕ) (a b : ActiveRun) : Type 0 where
+pub record GoesOn (old new : ZonedNamespace) (program : List (Option Instruction)) (limit : ℕ) (a b : ActiveRun) : Type 0 where
   pub blocks : List (List ℕ)
   pub turns : turns_of old program limit (active_of a) ≡ record { blocks = blocks; ending = None } ∷ turns_of new program limit (active_of b)
   pub namespace : new ≡ added old a.destination blocks
 
 -- a turn that ends the run
-pub record HasEnded (old new : ZonedNamespace) (program : List (Option Insn)) (limit : ℕ) (a b : ActiveRun) (answer : Answer) : Type 0 where
+pub record HasEnded (old new : ZonedNamespace) (program : List (Option Instruction)) (limit : ℕ) (a b : ActiveRun) (answer : Answer) : Type 0 where
   pub blocks : List (List ℕ)
   pub turns : turns_of old program limit (active_of a)
       ≡ record { blocks = blocks; ending = Some (record { status = answer.status; dw0 = answer.dw0; dw1 = answer.dw1; result = Some b.scratch }) } ∷ []
   pub no_data : answer.length ≡ 0
   pub namespace : new ≡ added old a.destination blocks
 
-abbrev pub Turned : ZonedNamespace → ZonedNamespace → List (Option Insn) → ℕ → ActiveRun → ActiveRun → Option Answer → Type 0
+abbrev pub Turned : ZonedNamespace → ZonedNamespace → List (Option Instruction) → ℕ → ActiveRun → ActiveRun → Option Answer → Type 0
 Turned old new program limit a b None = GoesOn old new program limit a b
 Turned old new program limit a b (Some answer) = HasEnded old new program limit a b answer
 

@@ -1,20 +1,20 @@
 -- What is known of an instruction that isn't refused, when the facts along its edges are made.
 use Rattle.std.specs.Prelude.{ℕ, ◌≡◌, ◌<◌, ◌+◌, ◌^◌, ◌≤ℤ◌, ◌<ℤ◌, pos, false, IfSome}
 use Rattle.instruction_set.specs.Instruction.{distance_of, target}
-use Rattle.instruction_set.specs.declared.insn.Insn.{Insn}
-use Rattle.instruction_set.specs.declared.insn.Insn.TheVariants.{Call}
+use Rattle.instruction_set.specs.declared.instruction.Instruction.{Instruction}
+use Rattle.instruction_set.specs.declared.instruction.Instruction.TheVariants.{Call}
 use Rattle.word_domain.specs.Domain.{Operations}
 use Rattle.accepted_programs.specs.Accepted.{greatest_length, turns_away}
 use Rattle.accepted_programs.specs.Facts.{slot_behind}
 use Rattle.accepted_programs.specs.declared.facts.Facts.{Facts}
 
 -- a call leaves the bound on the emitted bytes a number that can be counted
-abbrev pub HasRoom : {D : Type 0} → Operations D → Insn → Facts D → Type 0
+abbrev pub HasRoom : {D : Type 0} → Operations D → Instruction → Facts D → Type 0
 HasRoom operations (Call helper) facts = facts.emitted + 2 + greatest_length operations facts < 2 ^ 64
 HasRoom operations _ facts = Unit {0}
 
 -- an instruction leads to slots of a program of this many, and to no others
-pub record StaysInside (slots slot : ℕ) (i : Insn) : Type 0 where
+pub record StaysInside (slots slot : ℕ) (i : Instruction) : Type 0 where
   pub behind : turns_away i ≡ false → slot_behind slot i < slots
   pub first : IfSome (distance_of i) (λ distance. pos 0 ≤ℤ target slot distance)
   pub last : IfSome (distance_of i) (λ distance. target slot distance <ℤ pos slots)

@@ -11,4 +11,4 @@ loop-slot-preserved-in_default c =
 pub loop-slot-preserved : goal.loop-slot-preserved
 loop-slot-preserved c =
     let lt : c.loop-slot.slot < length c.args.program.now = omega arith in
-    c.in_ok-push_listed.ensures ∙ ap (λ t. t ++ listed_line c.args.slots c.loop-slot.slot c.in-Some.insn.now) c.loop-slot.invariant ∙ sym (listed-instruction c.args.slots c.args.program.now c.loop-slot.slot c.in-Some.insn.now lt c.in-Some.ensures.value)
+    c.in_ok-push_listed.ensures ∙ ap (λ t. t ++ listed_line c.args.slots c.loop-slot.slot c.in-Some.instruction.now) c.loop-slot.invariant ∙ sym (listed-instruction c.args.slots c.args.program.now c.loop-slot.slot c.in-Some.instruction.now lt c.in-Some.ensures.value)

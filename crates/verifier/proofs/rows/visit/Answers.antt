@@ -10,14 +10,14 @@ use Rattle.verifier.proofs.rows.visit.Goals as goal
 pub push-requires : goal.push-requires
 push-requires g c =
     let ops = g.D.Domain.operations in
-    let none : reason_of ops c.args.program.now c.args.sizes c.args.slot c.in-Some-take.facts.value c.in-Some.insn.now ≡ None =
+    let none : reason_of ops c.args.program.now c.args.sizes c.args.slot c.in-Some-take.facts.value c.in-Some.instruction.now ≡ None =
     rw c.deref.ensures at (sym c.find_reason.ensures ∙ c.in_default-find_reason.is) in (
       facts_fit _ _ c.row_fits.ensures.size c.row_fits.ensures.align,
       (
         search rules,
         (
-          simp (length-set, c.requires.long) (stays_inside ops c.args.program.now c.args.sizes c.args.slot c.in-Some-take.facts.value c.in-Some.insn.now none),
-          room_left ops c.args.program.now c.args.sizes c.args.slot c.in-Some-take.facts.value c.in-Some.insn.now none
+          simp (length-set, c.requires.long) (stays_inside ops c.args.program.now c.args.sizes c.args.slot c.in-Some-take.facts.value c.in-Some.instruction.now none),
+          room_left ops c.args.program.now c.args.sizes c.args.slot c.in-Some-take.facts.value c.in-Some.instruction.now none
               (rw c.limit-limit.ensures.value at c.limit-limit.ensures.most),
         ),
       ),
@@ -25,7 +25,7 @@ push-requires g c =
 
 pub returns-clause-given : goal.returns-clause-given
 returns-clause-given g c = λ s behind within.
-    let at : instruction_at c.args.program.now c.args.slot ≡ Some c.in-Some.insn.now =
+    let at : instruction_at c.args.program.now c.args.slot ≡ Some c.in-Some.instruction.now =
     sym c.at.ensures.value ∙ ap option_copied c.in-Some.is in
     let known : held_at c.args.rows.now c.args.slot ≡ Some c.in-Some-take.facts.value =
     ap held (get_or_default c.args.rows.now c.args.slot None _ (omega (arith, c.requires.long, c.requires.within)) ∙ sym c.take.ensures.value ∙ c.in-Some-take.is) in

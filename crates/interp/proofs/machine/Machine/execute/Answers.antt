@@ -8,7 +8,7 @@ returns-in-Ok-perform-clause-step_end c =
     let program = c.args.program.now in
     let slot = c.args.slot in
     let s = state_at c.args.self.now slot c.args.group.now in
-    goes program c.args.limit s c.args.insn.now (sym c.if-is_exit.ensures) c.in-Ok.next
+    goes program c.args.limit s c.args.instruction.now (sym c.if-is_exit.ensures) c.in-Ok.next
     (state_at c.perform.new.self slot c.perform.new.group) c.in-Ok.ensures.value
     (c.in-Ok-perform.ensures.answer program slot) (c.in-Ok-perform.ensures.state slot)
 
@@ -17,6 +17,6 @@ returns-in-Err-perform-clause-step_end c =
     let program = c.args.program.now in
     let slot = c.args.slot in
     let s = state_at c.args.self.now slot c.args.group.now in
-    stuck program c.args.limit s c.args.insn.now (sym c.if-is_exit.ensures) c.in-Ok.next
+    stuck program c.args.limit s c.args.instruction.now (sym c.if-is_exit.ensures) c.in-Ok.next
     (state_at c.perform.new.self slot c.perform.new.group) c.in-Err-perform.cause c.in-Ok.ensures.value
     (c.in-Err-perform.ensures.answer program slot) (c.in-Err-perform.ensures.state slot)

@@ -23,7 +23,7 @@ pub enum Source {
 /// An instruction, with the fields that it uses. Distances are in slots, from the slot after the
 /// instruction's first; offsets are in bytes.
 #[derive(Clone, Copy, Debug, PartialEq, Eq)]
-pub enum Insn {
+pub enum Instruction {
     /// `dst = value`: the wide instruction, which takes two slots (RFC 9669, 5.4).
     LoadImmediate {
         dst: Register,
@@ -105,14 +105,14 @@ pub enum Insn {
     Exit,
 }
 
-impl Insn {
+impl Instruction {
     /// How many slots of 8 bytes the instruction takes: two where it is the wide one (RFC 9669, 3.2).
     #[inline(always)]
     pub fn slots(&self) -> usize
         ensures { result ≡ slots_taken self.now }
     {
         match *self {
-            Insn::LoadImmediate { .. } => 2,
+            Instruction::LoadImmediate { .. } => 2,
             _ => 1,
         }
     }
@@ -123,7 +123,7 @@ impl Insn {
         ensures { result ≡ is_emit self.now }
     {
         match *self {
-            Insn::Call { helper } => helper == EMIT,
+            Instruction::Call { helper } => helper == EMIT,
             _ => false,
         }
     }
@@ -136,25 +136,25 @@ impl Insn {
         ensures { result ≡ access_of self.now }
     {
         let (kind, base, offset, size) = match *self {
-            Insn::Load {
+            Instruction::Load {
                 size,
                 src,
                 offset,
                 ..
             } => (AccessKind::Load, src, offset, size.bytes()),
-            Insn::LoadSigned {
+            Instruction::LoadSigned {
                 size,
                 src,
                 offset,
                 ..
             } => (AccessKind::Load, src, offset, size.bytes()),
-            Insn::StoreImmediate {
+            Instruction::StoreImmediate {
                 size,
                 dst,
                 offset,
                 ..
             }
-            | Insn::StoreRegister {
+            | Instruction::StoreRegister {
                 size,
                 dst,
                 offset,
@@ -176,13 +176,13 @@ impl Insn {
         ensures { result ≡ writes self.now register }
     {
         match *self {
-            Insn::LoadImmediate { dst, .. }
-            | Insn::Load { dst, .. }
-            | Insn::LoadSigned { dst, .. }
-            | Insn::Arithmetic { dst, .. }
-            | Insn::Negate { dst, .. }
-            | Insn::MoveSigned { dst, .. }
-            | Insn::SwapBytes { dst, .. } => dst == register,
+            Instruction::LoadImmediate { dst, .. }
+            | Instruction::Load { dst, .. }
+            | Instruction::LoadSigned { dst, .. }
+            | Instruction::Arithmetic { dst, .. }
+            | Instruction::Negate { dst, .. }
+            | Instruction::MoveSigned { dst, .. }
+            | Instruction::SwapBytes { dst, .. } => dst == register,
             _ => false,
         }
     }
@@ -194,9 +194,9 @@ impl Insn {
         ensures { result ≡ distance_of self.now }
     {
         match *self {
-            Insn::Jump { distance } => Some(i32::from(distance)),
-            Insn::JumpLong { distance } => Some(distance),
-            Insn::Branch { distance, .. } => Some(i32::from(distance)),
+            Instruction::Jump { distance } => Some(i32::from(distance)),
+            Instruction::JumpLong { distance } => Some(distance),
+            Instruction::Branch { distance, .. } => Some(i32::from(distance)),
             _ => None,
         }
     }
