@@ -1,6 +1,9 @@
--- What the proofs of other crates cite of this one: a law.
-use Rattle.zone_state.specs.FirstCheck.{FirstFailedIsFirst}
+-- What the proofs of other crates cite of this one: the laws of ordered lists of checks.
+use Rattle.zone_state.specs.FirstCheck.{FirstFailedIsFirst, NoFaultWhereNoneFails}
 use Rattle.zone_state.proofs.FirstChecks as checks
 
 pub first_failed_is_first : (F : Type 0) → FirstFailedIsFirst F
 first_failed_is_first = checks.first_failed_is_first
+
+pub no_fault_where_none_fails : (F : Type 0) → NoFaultWhereNoneFails F
+no_fault_where_none_fails = checks.no_fault_where_none_fails

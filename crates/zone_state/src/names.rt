@@ -2,9 +2,10 @@
 
 ghost use Rattle.std.specs.Prelude.{◌≡◌};
 ghost use Rattle.zone_state.specs.Words.{action_word, state_word};
+ghost use Rattle.zone_state.specs.Zone.{state_of_fault};
 
 use crate::action::Action;
-use crate::state::ZoneState;
+use crate::state::{FaultState, ZoneState};
 use crate::status::{Status, StatusType};
 use std::fmt;
 
@@ -194,6 +195,15 @@ impl ZoneState {
             ZoneState::Full => "full",
             ZoneState::Offline => "offline",
         }
+    }
+}
+
+impl FaultState {
+    /// One word for the fault, which a user reads and writes (profile): that of the state that it leads to.
+    pub fn word(self) -> &'static str
+        ensures { result.now ≡ state_word (state_of_fault self) }
+    {
+        self.state().word()
     }
 }
 

@@ -89,7 +89,8 @@ fn states_have_the_standards_codes_and_names(rt: HostRuntime) -> Result<(), Fail
         (ZoneState::Full, 0xE, "Full"),
         (ZoneState::Offline, 0xF, "Offline"),
     ];
-    for (state, code, name) in states {
+    for (listed, (state, code, name)) in ZoneState::ALL.iter().zip(states) {
+        assert_eq!(rt; *listed, state);
         assert_eq!(rt; state.code(), code);
         assert_eq!(rt; ZoneState::from_code(code), Some(state));
         assert_eq!(rt; state.to_string(rt.alloc())?.as_str(), name);
