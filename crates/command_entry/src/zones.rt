@@ -8,7 +8,7 @@ use command_failure::Failure;
 use command_files::arguments::{and_argument, and_command, option, required};
 use nvme_entry::{StandardCommand, ZoneFilter};
 use std::alloc::{AllocError, Global};
-use zone_state::Action;
+use zone_state::{Action, ZoneState};
 
 pub(crate) const REPORT: &str = "report";
 
@@ -31,10 +31,13 @@ const ACTIONS: &[Action] = &[
     Action::Offline,
 ];
 
-/// The words of `--state`, in the order of the codes of the filters that they name. The states are as `zones`
-/// prints them.
+/// The word of `--state` for zones of all states.
+const EVERY: &str = "all";
+
+/// The words of `--state`: that one, and those of the states, as `zones` prints them. The parser of the command line
+/// wants them as a constant.
 const STATES: &[&str] = &[
-    "all", "empty", "implicit", "explicit", "closed", "full", "readonly", "offline",
+    EVERY, "empty", "implicit", "explicit", "closed", "full", "readonly", "offline",
 ];
 
 /// A command that has the actions on zones below it too.
@@ -121,7 +124,7 @@ pub(crate) fn report_command<'a>(alloc: Global) -> Result<Command<'a>, AllocErro
         .required(true)
         .help("A logical block address of the first zone");
     let state = option(alloc, STATE, "STATE")
-        .default_value("all")
+        .default_value(EVERY)
         .value_parser(STATES)
         .help("The zones that are reported");
     let partial = Arg::new(alloc, PARTIAL)
@@ -180,35 +183,9 @@ pub(crate) fn report<'a>(alloc: Global, matches: &ArgMatches<'a>) -> Result<Aske
 
 /// The filter with this name, one of [`STATES`].
 fn filter(name: &str) -> Option<ZoneFilter> {
-    let code = STATES.iter().position(|state| *state == name)?;
-    ZoneFilter::from_code(u8::try_from(code).ok()?)
-}
-
-#[cfg(test)]
-mod tests {
-    use super::filter;
-    use std::test::Fail;
-    use zone_state::ZoneState;
-
-    const EACH: [ZoneState; 7] = [
-        ZoneState::Empty,
-        ZoneState::ImplicitlyOpened,
-        ZoneState::ExplicitlyOpened,
-        ZoneState::Closed,
-        ZoneState::ReadOnly,
-        ZoneState::Full,
-        ZoneState::Offline,
-    ];
-
-    /// The word for a state names the filter that lists zones of that state, and no others.
-    #[test]
-    fn words_for_states_name_their_filters(rt: HostRuntime) -> Result<(), Fail> {
-        for state in EACH {
-            let filter = filter(state.word()).ok_or("no filter")?;
-            for other in EACH {
-                assert_eq!(rt; filter.lists(other), other == state, "{state}, {other}");
-            }
-        }
-        Ok(())
+    if name == EVERY {
+        return Some(ZoneFilter::All);
     }
+    let state = ZoneState::ALL.iter().find(|state| state.word() == name)?;
+    Some(ZoneFilter::of(*state))
 }

@@ -28,3 +28,13 @@ lists Full state.Full = true
 lists ReadOnly state.ReadOnly = true
 lists Offline state.Offline = true
 lists _ _ = false
+
+-- the filter that lists the zones of the state, and no others
+abbrev pub filter_for : ZoneState → ZoneFilter
+filter_for state.Empty = Empty
+filter_for state.ImplicitlyOpened = ImplicitlyOpened
+filter_for state.ExplicitlyOpened = ExplicitlyOpened
+filter_for state.Closed = Closed
+filter_for state.ReadOnly = ReadOnly
+filter_for state.Full = Full
+filter_for state.Offline = Offline

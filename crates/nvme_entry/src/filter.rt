@@ -1,7 +1,7 @@
 //! Which zones a report lists.
 
 ghost use Rattle.std.specs.Prelude.{◌≡◌};
-ghost use Rattle.nvme_entry.specs.Filter.{filter_of, lists};
+ghost use Rattle.nvme_entry.specs.Filter.{filter_of, filter_for, lists};
 
 use zone_state::ZoneState;
 
@@ -23,6 +23,21 @@ pub enum ZoneFilter {
 }
 
 impl ZoneFilter {
+    /// The filter that lists the zones of this state, and no others.
+    pub fn of(state: ZoneState) -> ZoneFilter
+        ensures { result ≡ filter_for state }
+    {
+        match state {
+            ZoneState::Empty => ZoneFilter::Empty,
+            ZoneState::ImplicitlyOpened => ZoneFilter::ImplicitlyOpened,
+            ZoneState::ExplicitlyOpened => ZoneFilter::ExplicitlyOpened,
+            ZoneState::Closed => ZoneFilter::Closed,
+            ZoneState::ReadOnly => ZoneFilter::ReadOnly,
+            ZoneState::Full => ZoneFilter::Full,
+            ZoneState::Offline => ZoneFilter::Offline,
+        }
+    }
+
     /// The filter with this code; `None` for a code that isn't supported.
     pub fn from_code(code: u8) -> Option<ZoneFilter>
         ensures { result ≡ filter_of code }

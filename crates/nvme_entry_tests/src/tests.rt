@@ -95,6 +95,16 @@ fn entries_name_reports(rt: HostRuntime) -> Result<(), Fail> {
 }
 
 #[test]
+fn a_filter_of_a_state_lists_no_other(rt: HostRuntime) {
+    for state in ZoneState::ALL {
+        for other in ZoneState::ALL {
+            let lists = ZoneFilter::of(state).lists(other);
+            assert_eq!(rt; lists, other == state, "{state}, {other}");
+        }
+    }
+}
+
+#[test]
 fn reports_are_refused(rt: HostRuntime) {
     let cases = [
         entry_of(&[(0, 0x7A), (1, 1), (12, 32768)]),
