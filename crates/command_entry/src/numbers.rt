@@ -3,13 +3,7 @@
 use clap::ArgMatches;
 use command_failure::Failure;
 use command_files::arguments::{not_in_range, number_in};
-use nvme_entry::{BlockCount, DwordCount, MOST_TRANSFER, PROGRAM_SLOTS, ProgramSlot};
-
-/// The most blocks of a command, whose number stands in 16 bits as one less.
-const MOST_BLOCKS: u64 = u16::MAX as u64 + 1;
-
-/// The most dwords of a command.
-const MOST_DWORDS: u64 = MOST_TRANSFER as u64 / 4;
+use nvme_entry::{BlockCount, DwordCount, MOST_BLOCKS, MOST_DWORDS, PROGRAM_SLOTS, ProgramSlot};
 
 /// The greatest number of a slot for a program.
 const LAST_SLOT: u64 = PROGRAM_SLOTS as u64 - 1;
@@ -33,8 +27,9 @@ pub(crate) fn blocks<'a>(
     matches: &ArgMatches<'a>,
     option: &'a str,
 ) -> Result<BlockCount, Failure<'a>> {
-    let blocks = number_in(matches, option, 1, MOST_BLOCKS)?;
-    Ok(BlockCount::from_zero_based((blocks - 1) as u16))
+    let most = u64::from(MOST_BLOCKS);
+    let blocks = number_in(matches, option, 1, most)?;
+    BlockCount::new(blocks as u32).ok_or(not_in_range(matches, option, 1, most))
 }
 
 /// A number of dwords.
@@ -42,13 +37,9 @@ pub(crate) fn dwords<'a>(
     matches: &ArgMatches<'a>,
     option: &'a str,
 ) -> Result<DwordCount, Failure<'a>> {
-    let dwords = number_in(matches, option, 1, MOST_DWORDS)?;
-    DwordCount::from_zero_based((dwords - 1) as u32).ok_or(not_in_range(
-        matches,
-        option,
-        1,
-        MOST_DWORDS,
-    ))
+    let most = u64::from(MOST_DWORDS);
+    let dwords = number_in(matches, option, 1, most)?;
+    DwordCount::new(dwords as u32).ok_or(not_in_range(matches, option, 1, most))
 }
 
 /// A slot for a program.
@@ -62,6 +53,5 @@ pub(crate) fn slot<'a>(
 
 /// So many blocks, where a command can have as many.
 pub(crate) fn block_count(number: usize) -> Option<BlockCount> {
-    let field = u16::try_from(number.checked_sub(1)?).ok()?;
-    Some(BlockCount::from_zero_based(field))
+    BlockCount::new(u32::try_from(number).ok()?)
 }

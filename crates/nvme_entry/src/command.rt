@@ -1,6 +1,6 @@
 //! Commands and their opcodes.
 
-ghost use Rattle.std.specs.Prelude.{◌≡◌, ◌+◌, ◌*◌, ◌≤◌};
+ghost use Rattle.std.specs.Prelude.{◌≡◌, ◌+◌, ◌*◌, ◌≤◌, ◌↔◌, IsSome, IfSome};
 ghost use Rattle.nvme_entry.specs.Entry.{opcode_of, dwords_of};
 
 use crate::filter::ZoneFilter;
@@ -14,6 +14,12 @@ pub const MOST_TRANSFER: usize = 131_072;
 
 /// The bytes of a dword.
 const DWORD: usize = 4;
+
+/// The most blocks of a command: their number stands in 16 bits as one less.
+pub const MOST_BLOCKS: u32 = 65_536;
+
+/// The most dwords of a command.
+pub const MOST_DWORDS: u32 = (MOST_TRANSFER / DWORD) as u32;
 
 /// The opcode of a command (NVM Command Set 1.0, 3.2; ZNS 1.1, 3.4; Run, Load and Result are profile).
 #[derive(Clone, Copy, Debug, PartialEq, Eq)]
@@ -71,7 +77,7 @@ impl Opcode {
     }
 }
 
-/// A number of logical blocks, from 1 to 65536. A clause sees the number.
+/// A number of logical blocks, from 1 to [`MOST_BLOCKS`]. A clause sees the number.
 #[derive(Clone, Copy, Debug, PartialEq, Eq)]
 pub struct BlockCount {
     blocks: u32,
@@ -79,17 +85,30 @@ pub struct BlockCount {
 
 impl Model for BlockCount {
     ghost use Rattle.std.specs.Prelude.{◌≤◌, ℕ};
+    ghost use Rattle.nvme_entry.specs.declared.command.TheConstants.{MOST_BLOCKS};
 
     ghost Value = { ℕ };
 
     ghost view = { λ n. n.blocks };
 
-    ghost invariant = { λ n. (1 ≤ n.blocks) × (n.blocks ≤ 65536) };
+    ghost invariant = { λ n. (1 ≤ n.blocks) × (n.blocks ≤ MOST_BLOCKS) };
 
     ghost inverse = { λ n. record { blocks = n } };
 }
 
 impl BlockCount {
+    /// So many blocks. `None` where no command has as many.
+    pub fn new(blocks: u32) -> Option<BlockCount>
+        ensures found { IsSome result ↔ (1 ≤ blocks) × (blocks ≤ MOST_BLOCKS) }
+        ensures value { IfSome result (λ n. n ≡ blocks) }
+    {
+        if blocks >= 1 && blocks <= MOST_BLOCKS {
+            Some(BlockCount { blocks })
+        } else {
+            None
+        }
+    }
+
     /// The number that a zero-based field spells: one more than the field says.
     pub fn from_zero_based(field: u16) -> BlockCount
         ensures { result ≡ field + 1 }
@@ -110,13 +129,13 @@ impl BlockCount {
     pub fn get(self) -> u32
         ensures value { result ≡ self }
         ensures some { 1 ≤ result }
-        ensures most { result ≤ 65536 }
+        ensures most { result ≤ MOST_BLOCKS }
     {
         self.blocks
     }
 }
 
-/// A number of dwords, from 1 to as many as one command moves. A clause sees the number.
+/// A number of dwords, from 1 to [`MOST_DWORDS`]. A clause sees the number.
 #[derive(Clone, Copy, Debug, PartialEq, Eq)]
 pub struct DwordCount {
     dwords: u32,
@@ -124,17 +143,30 @@ pub struct DwordCount {
 
 impl Model for DwordCount {
     ghost use Rattle.std.specs.Prelude.{◌≤◌, ℕ};
+    ghost use Rattle.nvme_entry.specs.declared.command.TheConstants.{MOST_DWORDS};
 
     ghost Value = { ℕ };
 
     ghost view = { λ n. n.dwords };
 
-    ghost invariant = { λ n. (1 ≤ n.dwords) × (n.dwords ≤ 32768) };
+    ghost invariant = { λ n. (1 ≤ n.dwords) × (n.dwords ≤ MOST_DWORDS) };
 
     ghost inverse = { λ n. record { dwords = n } };
 }
 
 impl DwordCount {
+    /// So many dwords. `None` where no command has as many.
+    pub fn new(dwords: u32) -> Option<DwordCount>
+        ensures found { IsSome result ↔ (1 ≤ dwords) × (dwords ≤ MOST_DWORDS) }
+        ensures value { IfSome result (λ n. n ≡ dwords) }
+    {
+        if dwords >= 1 && dwords <= MOST_DWORDS {
+            Some(DwordCount { dwords })
+        } else {
+            None
+        }
+    }
+
     /// The number that a zero-based field spells: one more than the field says. `None` where that
     /// is more than one command moves.
     pub fn from_zero_based(field: u32) -> Option<DwordCount>

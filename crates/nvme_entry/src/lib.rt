@@ -14,8 +14,8 @@ mod program_slot;
 mod report;
 
 pub use command::{
-    BlockCount, Command, DwordCount, LoadCommand, MOST_TRANSFER, Opcode, RunCommand,
-    StandardCommand,
+    BlockCount, Command, DwordCount, LoadCommand, MOST_BLOCKS, MOST_DWORDS, MOST_TRANSFER, Opcode,
+    RunCommand, StandardCommand,
 };
 pub use completion::Completion;
 pub use descriptor::{ZoneDescriptor, zones_told};
