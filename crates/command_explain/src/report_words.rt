@@ -1,12 +1,12 @@
 //! Reports of zones, as `nvme zns report-zones` shows them.
 
 use command_files::Counted;
-use nvme_entry::{DESCRIPTOR_BYTES, HEADER_BYTES, ZoneDescriptor, zones_told};
+use nvme_entry::{DESCRIPTOR_BYTES, REPORT_HEADER_BYTES, ZONE_TYPE, ZoneDescriptor, zones_told};
 use std::io::{self, Write};
 
 /// Prints what a report tells: how many zones, and on a line each those whose descriptors it has.
 pub(crate) fn print_report<O: Write>(report: &[u8], out: &mut O) -> io::Result<()> {
-    match report.split_first_chunk::<HEADER_BYTES>() {
+    match report.split_first_chunk::<REPORT_HEADER_BYTES>() {
         Some((header, descriptors)) => {
             let told = zones_told(header);
             let zones = Counted(told, "zone");
@@ -48,6 +48,6 @@ fn print_zone<O: Write>(bytes: &[u8; DESCRIPTOR_BYTES], out: &mut O) -> io::Resu
     let code = u16::from(state.code()) << 4;
     writeln!(
         out,
-        "  SLBA: {lowest:#x}  WP: {pointer:#x}  Cap: {capacity:#x}  State: {code:#x} ({state})  Type: 0x2  Attrs: 0x0"
+        "  SLBA: {lowest:#x}  WP: {pointer:#x}  Cap: {capacity:#x}  State: {code:#x} ({state})  Type: {ZONE_TYPE:#x}  Attrs: 0x0"
     )
 }

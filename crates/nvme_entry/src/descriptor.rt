@@ -3,12 +3,17 @@
 ghost use Rattle.std.specs.Prelude.{◌≡◌, ◌<◌, ◌≤◌, ◌+◌, ◌*◌, ◌/◌, ◌%◌, ◌^◌, ℕ, length, IfSome};
 ghost use Rattle.zone_state.specs.Zone.{CountedZone};
 ghost use Rattle.nvme_entry.specs.Report.{descriptor};
-ghost use Rattle.nvme_entry.specs.ReportLaws.{number_in};
 ghost use Rattle.nvme_entry.specs.Descriptor.{first_word, pointer_told, descriptor_bytes, described};
 ghost use Rattle.nvme_entry.specs.steps.DescriptorFields.{word_in, descriptor_in};
 
 use byteorder::{ByteOrder, LittleEndian};
 use zone_state::{Zone, ZoneState};
+
+/// The bytes of a zone descriptor (ZNS 1.1, 3.4.2).
+pub const DESCRIPTOR_BYTES: usize = 64;
+
+/// The zone type Sequential Write Required, which each zone has (ZNS 1.1, 3.4.2).
+pub const ZONE_TYPE: u8 = 0x02;
 
 /// The zone descriptor of a report (ZNS 1.1, 3.4.2), of the zone type Sequential Write Required and without attributes.
 #[derive(Clone, Copy, Debug, PartialEq, Eq)]
@@ -37,8 +42,8 @@ impl ZoneDescriptor {
         }
     }
 
-    /// The descriptor that 64 bytes spell. `None` where no zone's descriptor has them.
-    pub fn decode(bytes: &[u8; 64]) -> Option<ZoneDescriptor>
+    /// The descriptor that the bytes spell. `None` where no zone's descriptor has them.
+    pub fn decode(bytes: &[u8; DESCRIPTOR_BYTES]) -> Option<ZoneDescriptor>
         ensures spelled { IfSome result (λ found. bytes.now ≡ descriptor_bytes found) }
         ensures read_back { (zone : CountedZone) (lowest : ℕ) → zone.capacity < 2 ^ 64 → lowest + zone.written < 2 ^ 64 → bytes.now ≡ descriptor zone lowest → result ≡ Some (described zone lowest) }
     {
@@ -50,11 +55,11 @@ impl ZoneDescriptor {
         }
     }
 
-    /// The 64 bytes of the descriptor.
-    pub fn encode(&self) -> [u8; 64]
+    /// The bytes of the descriptor.
+    pub fn encode(&self) -> [u8; DESCRIPTOR_BYTES]
         ensures { result ≡ descriptor_bytes self.now }
     {
-        let mut bytes = [0; 64];
+        let mut bytes = [0; DESCRIPTOR_BYTES];
         LittleEndian::write_u64_into(
             &[
                 first_word(self.state),
@@ -72,14 +77,6 @@ impl ZoneDescriptor {
     }
 }
 
-/// The number of zones that the header of a report tells: of those whose descriptors are given, or of all that match
-/// (ZNS 1.1, 3.4.2).
-pub fn zones_told(header: &[u8; 64]) -> u64
-    ensures { result ≡ number_in header.now }
-{
-    LittleEndian::read_u64(header)
-}
-
 /// The write pointer of a zone with this lowest address, where it has one.
 fn write_pointer(zone: Zone, lowest: u64) -> u64
     requires { lowest + 2 ^ 32 ≤ 2 ^ 64 }
@@ -95,11 +92,11 @@ fn write_pointer(zone: Zone, lowest: u64) -> u64
 fn first_word(state: ZoneState) -> u64
     ensures { result ≡ first_word state }
 {
-    0x02 + 0x1000 * u64::from(state.code())
+    u64::from(ZONE_TYPE) + 0x1000 * u64::from(state.code())
 }
 
 /// The fields of a descriptor, where its state is one.
-fn fields(bytes: &[u8; 64]) -> Option<ZoneDescriptor>
+fn fields(bytes: &[u8; DESCRIPTOR_BYTES]) -> Option<ZoneDescriptor>
     ensures { result ≡ descriptor_in bytes.now }
 {
     let state = ZoneState::from_code(state_code(word(bytes, 0)))?;
@@ -119,7 +116,7 @@ fn state_code(first: u64) -> u8
 }
 
 /// The 8 bytes with this number.
-fn word(bytes: &[u8; 64], number: usize) -> u64
+fn word(bytes: &[u8; DESCRIPTOR_BYTES], number: usize) -> u64
     requires { number < 8 }
     ensures { result ≡ word_in bytes.now number }
 {

@@ -18,9 +18,9 @@ pub use command::{
     RunCommand, StandardCommand,
 };
 pub use completion::Completion;
-pub use descriptor::{ZoneDescriptor, zones_told};
+pub use descriptor::{DESCRIPTOR_BYTES, ZONE_TYPE, ZoneDescriptor};
 pub use entry::Entry;
 pub use filter::ZoneFilter;
 pub use program_slot::{PROGRAM_SLOTS, ProgramSlot};
-pub use report::{DESCRIPTOR_BYTES, HEADER_BYTES, Report, put_front};
+pub use report::{REPORT_HEADER_BYTES, Report, put_front, zones_told};
 pub use zone_state::Status;

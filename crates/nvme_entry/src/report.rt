@@ -3,17 +3,15 @@
 ghost use Rattle.std.specs.Prelude.{◌≡◌, ◌≤◌, ◌<◌, ◌+◌, ◌-◌, ◌*◌, ◌^◌, ◌++◌, length, take, drop, min, if◌then◌else◌};
 ghost use Rattle.std.specs.List.{enumerate_from};
 ghost use Rattle.nvme_entry.specs.Report.{report, listed, taken, report_header, descriptor};
+ghost use Rattle.nvme_entry.specs.ReportLaws.{number_in};
 
-use crate::descriptor::ZoneDescriptor;
+use crate::descriptor::{DESCRIPTOR_BYTES, ZoneDescriptor};
 use crate::filter::ZoneFilter;
 use byteorder::{ByteOrder, LittleEndian};
 use zone_state::Zone;
 
 /// The bytes of a report's header (ZNS 1.1, 3.4.2).
-pub const HEADER_BYTES: usize = 64;
-
-/// The bytes of a zone descriptor (ZNS 1.1, 3.4.2).
-pub const DESCRIPTOR_BYTES: usize = 64;
+pub const REPORT_HEADER_BYTES: usize = 64;
 
 /// A report of zones (ZNS 1.1, 3.4.2), to be written where it is wanted.
 #[derive(Clone, Copy, Debug)]
@@ -37,7 +35,7 @@ impl Report<'_> {
         requires { length self.now.zones.now ≤ 2 ^ 32 }
         ensures { output.new ≡ report (length output.old) self.now.zones.now self.now.first self.now.size self.now.filter self.now.partial }
     {
-        let start = output.len().min(HEADER_BYTES);
+        let start = output.len().min(REPORT_HEADER_BYTES);
         let room = (output.len() - start) / DESCRIPTOR_BYTES;
         let zones = zones_from(self.zones, self.first);
         let found = list(
@@ -49,6 +47,14 @@ impl Report<'_> {
         );
         write_header(output, number_told(self.partial, room, found));
     }
+}
+
+/// The number of zones that the header of a report tells: of those whose descriptors are given, or of all that match
+/// (ZNS 1.1, 3.4.2).
+pub fn zones_told(header: &[u8; REPORT_HEADER_BYTES]) -> u64
+    ensures { result ≡ number_in header.now }
+{
+    LittleEndian::read_u64(header)
 }
 
 /// The zones from one on.
@@ -82,10 +88,10 @@ pub fn put_front(output: &mut [u8], bytes: &[u8])
 }
 
 /// The header's bytes.
-fn header(number: u64) -> [u8; HEADER_BYTES]
+fn header(number: u64) -> [u8; REPORT_HEADER_BYTES]
     ensures { result ≡ report_header number }
 {
-    let mut bytes = [0; HEADER_BYTES];
+    let mut bytes = [0; REPORT_HEADER_BYTES];
     LittleEndian::write_u64(&mut bytes, number);
     bytes
 }
@@ -94,7 +100,7 @@ fn header(number: u64) -> [u8; HEADER_BYTES]
 fn write_header(output: &mut [u8], number: u64)
     ensures { output.new ≡ take (length output.old) (report_header number) ++ drop 64 output.old }
 {
-    let length = output.len().min(HEADER_BYTES);
+    let length = output.len().min(REPORT_HEADER_BYTES);
     put_front(output, &header(number)[..length]);
 }
 
