@@ -23,5 +23,5 @@ pub use memory_streams::Buffer;
 pub use refusal::GeometryRefusal;
 pub use streams::{Sink, Source, StreamFault};
 pub use version::Version;
-pub use zone_resources::{Counts, Limits};
-pub use zone_state::{Status, Zone, ZoneState};
+pub use zone_resources::Limits;
+pub use zone_state::Zone;

@@ -16,9 +16,9 @@ mod write;
 
 pub use address::{first_block, lowest};
 pub use answer::Answer;
-pub use image_store::{Geometry, GeometryFault, Image};
+pub use image_store::{Geometry, Image};
 pub use namespace::Namespace;
 pub use nvme_entry::{BlockCount, DwordCount, MOST_TRANSFER, StandardCommand, Status, ZoneFilter};
 pub use transfer::check_transfer;
 pub use zone_resources::{Holds, Limits};
-pub use zone_state::{FaultRefused, FaultState, Zone};
+pub use zone_state::{FaultRefused, FaultState};

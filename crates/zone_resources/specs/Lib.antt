@@ -1,5 +1,3 @@
-pub use Rattle.zone_state.specs.State
-pub use Rattle.zone_state.specs.Zone
 pub mod Counts
 pub mod Holds
 pub mod Admission

@@ -17,4 +17,3 @@ mod tests;
 pub use admission::{Limits, Wanted, admit};
 pub use counts::Counts;
 pub use holds::{Holds, RUNS};
-pub use zone_state::{Action, Status, Zone, ZoneState};
