@@ -118,6 +118,7 @@ abbrev pub checked : Option Status → Result Command Status → Result Command 
 checked None found = found
 checked (Some status) found = Err status
 
+-- the command of an entry with this opcode, which there is or isn't
 abbrev pub decoded_by : Option Opcode → List ℕ → Result Command Status
 decoded_by None entry = Err INVALID_COMMAND_OPCODE
 decoded_by (Some opcode) entry = checked (first_failed (entry_checks entry)) (asked opcode entry)

@@ -20,6 +20,7 @@ wanted_of Empty = Some OpenAndActive
 wanted_of Closed = Some OpenOnly
 wanted_of _ = None
 
+-- was a zone of the state opened by a write?
 abbrev pub is_implicitly_opened : ZoneState → Bool
 is_implicitly_opened ImplicitlyOpened = true
 is_implicitly_opened _ = false
@@ -72,6 +73,7 @@ abbrev pub closed_in : List CountedZone → ℕ → Option CountedZone → List 
 closed_in zones number None = zones
 closed_in zones number (Some zone) = slice_set zones number (in_state Closed zone)
 
+-- the same, where the one that gives way is told by its number
 abbrev pub after_closing : Option ℕ → List CountedZone → List CountedZone
 after_closing None zones = zones
 after_closing (Some number) zones = closed_in zones number (slice_get zones number)

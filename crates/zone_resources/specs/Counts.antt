@@ -13,6 +13,7 @@ open_count zones = count_by (λ z. is_open z.state) zones
 abbrev pub active_count : List CountedZone → ℕ
 active_count zones = count_by (λ z. is_active z.state) zones
 
+-- both numbers
 abbrev pub counts_of : List CountedZone → Counts
 counts_of zones = record { opened = open_count zones; active = active_count zones }
 

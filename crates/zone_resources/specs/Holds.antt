@@ -11,12 +11,15 @@ abbrev pub names : ℕ → Option ℕ → Bool
 names zone None = false
 names zone (Some number) = number == zone
 
+-- does a run read from this zone?
 abbrev pub is_source : Holds → ℕ → Bool
 is_source holds zone = list_any (names zone) holds.sources
 
+-- does a run append to it?
 abbrev pub is_destination : Holds → ℕ → Bool
 is_destination holds zone = list_any (names zone) holds.destinations
 
+-- does a run use it?
 abbrev pub is_held : Holds → ℕ → Bool
 is_held holds zone = is_source holds zone || is_destination holds zone
 

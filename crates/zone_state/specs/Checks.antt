@@ -5,6 +5,7 @@ use Rattle.std.specs.Prelude.{Bool, List, [], ◌∷◌, Option, Some, None, Res
 abbrev pub demand : {F : Type 0} → Bool → F → Option F
 demand test fault = if test then None else Some fault
 
+-- the first fault, or else the second
 abbrev pub or_else : {F : Type 0} → Option F → Option F → Option F
 or_else None next = next
 or_else (Some fault) next = Some fault

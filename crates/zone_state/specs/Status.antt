@@ -9,6 +9,7 @@ type_number Generic = 0
 type_number CommandSpecific = 1
 type_number VendorSpecific = 7
 
+-- all status code types
 abbrev pub types : List StatusType
 types = Generic ∷ CommandSpecific ∷ VendorSpecific ∷ []
 
