@@ -1,5 +1,5 @@
 -- Laws of commands and faults.
-use Rattle.std.specs.Prelude.{ℕ, zero, suc, ◌≡◌, ◌≢◌, ◌<◌, ◌≤◌, ◌+◌, ◌-◌, ◌*◌, ◌/◌, ◌^◌, min, Bool, true, false, List, [], ◌∷◌, ◌++◌, length, map, Option, Some, None, All}
+use Rattle.std.specs.Prelude.{ℕ, zero, suc, ◌≡◌, ◌≢◌, ◌<◌, ◌≤◌, ◌+◌, ◌-◌, ◌*◌, ◌/◌, ◌^◌, min, Bool, true, false, List, [], ◌∷◌, ◌++◌, length, map, Option, All}
 use Rattle.std.specs.List.{enumerate_from}
 use Rattle.zone_state.specs.declared.state.FaultState.{FaultState}
 use Rattle.zone_state.specs.declared.status.Status.{Status}
@@ -17,6 +17,7 @@ use Rattle.program_interface.specs.Bytes.{AreBytes}
 use Rattle.image_store.specs.Blocks.{block_count}
 use Rattle.image_store.specs.Geometry.{Shape, IsShape}
 use Rattle.image_store.specs.Namespace.{ZonedNamespace, zone_at, appended, IsNamespace, all_empty, counted_zones}
+use Rattle.zone_state.specs.FirstCheck.{FailsFirst, NoneFails}
 use Rattle.zone_state.specs.State.{is_cleared}
 use Rattle.zns_commands.specs.Address.{block_total, zone_number}
 use Rattle.zns_commands.specs.Effect.{Effect, success_effect, refused_effect}
@@ -70,16 +71,11 @@ BlocksAreAppended =
 abbrev pub EmptyIsNamespace : Type 0
 EmptyIsNamespace = (s : Shape) → IsShape s → IsNamespace (all_empty s)
 
--- a check that finds nothing
-abbrev pub Passes : Option Status → Type 0
-Passes check = check ≡ None
-
--- the cases of a command: each check passes and it takes effect, or one fails behind others that pass,
+-- the cases of a command: no check fails and it takes effect, or one fails, before which none does,
 -- and it is refused with that one's status
 pub data IsCase (ns : ZonedNamespace) (checks : List (Option Status)) (effect done : Effect) : Type 0 where
-  TakesEffect : All Passes checks → done ≡ effect → IsCase ns checks effect done
-  IsRefused : (passed rest : List (Option Status)) (status : Status)
-      → checks ≡ passed ++ Some status ∷ rest → All Passes passed → done ≡ refused_effect ns status → IsCase ns checks effect done
+  TakesEffect : NoneFails checks → done ≡ effect → IsCase ns checks effect done
+  IsRefused : (status : Status) → FailsFirst checks status → done ≡ refused_effect ns status → IsCase ns checks effect done
 
 -- the meaning of a command is one of its cases, and there is no other effect in any of them
 abbrev pub JustOneCase : Type 0
