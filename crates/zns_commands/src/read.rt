@@ -13,7 +13,7 @@ ghost use Rattle.zns_commands.specs.Read.{read_checks, blocks_read};
 
 use crate::address::range;
 use crate::answer::Answer;
-use crate::transfer::check_transfer;
+use crate::transfer::{bytes_of_blocks, check_transfer};
 use image_store::{Image, ZoneBlock};
 use nvme_entry::{BlockCount, MOST_TRANSFER, Status, put_front};
 use zone_state::ZoneState;
@@ -29,7 +29,7 @@ fn check_read(
     ensures inside { IfOk result (λ place. place.zone < length image.now.zones) }
     ensures most { OnOk result (blocks * image.now.block ≤ MOST_TRANSFER) }
 {
-    let bytes = u64::from(blocks.get()) * u64::from(image.geometry().block().bytes());
+    let bytes = bytes_of_blocks(image, blocks);
     check_transfer(bytes, 0, input)?;
     let place = range(image, lba, blocks)?;
     if image.zone(place.zone).state() == ZoneState::Offline {

@@ -4,7 +4,16 @@ ghost use Rattle.std.specs.Prelude.{◌≡◌, ◌≤◌, ◌*◌, ◌^◌, ◌<
 ghost use Rattle.zone_state.specs.Checks.{first_failed, unless_failed};
 ghost use Rattle.zns_commands.specs.Transfer.{transfer_checks};
 
-use nvme_entry::{MOST_TRANSFER, Status};
+use image_store::Image;
+use nvme_entry::{BlockCount, MOST_TRANSFER, Status};
+
+/// The bytes of so many blocks.
+pub fn bytes_of_blocks(image: &Image, blocks: BlockCount) -> u64
+    ensures value { result ≡ blocks * image.now.block }
+    ensures some { 1 ≤ image.now.block }
+{
+    u64::from(blocks.get()) * u64::from(image.geometry().block().bytes())
+}
 
 /// Tests a transfer of `bytes`, of which `beside` should stand beside the entry.
 ///

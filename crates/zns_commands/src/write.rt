@@ -15,7 +15,7 @@ ghost use Rattle.zns_commands.specs.steps.Plans.{write_plan, written_by};
 use crate::address::range;
 use crate::answer::Answer;
 use crate::resources::{give_way, room_for};
-use crate::transfer::check_transfer;
+use crate::transfer::{bytes_of_blocks, check_transfer};
 use image_store::Image;
 use nvme_entry::{BlockCount, Status};
 use zone_resources::Holds;
@@ -38,7 +38,7 @@ pub fn check_data(image: &Image, blocks: BlockCount, input: &[u8]) -> Result<(),
     ensures value { let bytes = blocks * image.now.block in result ≡ unless_failed (first_failed (transfer_checks bytes bytes input.now)) tt }
     ensures whole { OnOk result (IsWhole image.now blocks input.now) }
 {
-    let bytes = u64::from(blocks.get()) * u64::from(image.geometry().block().bytes());
+    let bytes = bytes_of_blocks(image, blocks);
     check_transfer(bytes, bytes, input)
 }
 
