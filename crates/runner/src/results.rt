@@ -12,7 +12,7 @@ use program_interface::SCRATCH_BYTES;
 use zns_commands::{Answer, check_transfer};
 
 /// Puts scratch bytes at the front.
-fn put_front(output: &mut [u8], scratch: &[u8; SCRATCH_BYTES])
+fn put_scratch(output: &mut [u8], scratch: &[u8; SCRATCH_BYTES])
     requires { SCRATCH_BYTES ≤ length output.old }
     ensures front { output.new ≡ scratch.now ++ drop SCRATCH_BYTES output.old }
     ensures size { length scratch.now ≡ SCRATCH_BYTES }
@@ -38,7 +38,7 @@ pub fn give_result(
     match &slots[slot.index()] {
         None => Answer::refused(Status::NO_SUCH_PROGRAM),
         Some(loaded) => {
-            put_front(output, &loaded.result);
+            put_scratch(output, &loaded.result);
             Answer::success(0, SCRATCH_BYTES)
         }
     }

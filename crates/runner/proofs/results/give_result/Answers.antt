@@ -7,5 +7,5 @@ pub returns-in-Some-clause-rest : goal.returns-in-Some-clause-rest
 returns-in-Some-clause-rest c =
     let kept = c.in-Some.loaded.result in
     let behind = drop SCRATCH_BYTES c.args.output.now in
-    rw (c.success.ensures, c.put_front.ensures.front)
-    (ap (λ (n : ℕ). drop n (kept ++ behind)) (sym c.put_front.ensures.size) ∙ drop-append_seam kept behind)
+    rw (c.success.ensures, c.put_scratch.ensures.front)
+    (ap (λ (n : ℕ). drop n (kept ++ behind)) (sym c.put_scratch.ensures.size) ∙ drop-append_seam kept behind)
