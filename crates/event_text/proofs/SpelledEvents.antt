@@ -5,10 +5,11 @@ use Rattle.std.specs.List.{All}
 use Rattle.std.specs.Option.{option_map}
 use Rattle.std.proofs.lemmas.Fmt.{decimal_nonempty}
 use Rattle.std.proofs.lemmas.List.Elements.{All-append}
+use Rattle.zone_state.specs.Words.{fault_word}
 use Rattle.zone_state.specs.declared.state.FaultState.{FaultState}
 use Rattle.zone_state.specs.declared.state.FaultState.TheVariants.{ReadOnly, Offline}
 use Rattle.event_text.specs.CommandFile.{Turned, Failed, failure, line_told, state_named, words_told}
-use Rattle.event_text.specs.Laws.{FaultsReadBack, SubmissionsReadBack, TurnsReadBack, fault_text, state_text, turn_text}
+use Rattle.event_text.specs.Laws.{FaultsReadBack, SubmissionsReadBack, TurnsReadBack, fault_text, turn_text}
 use Rattle.event_text.specs.Words.{words_of}
 use Rattle.event_text.proofs.PlainLines.{InLine, InWord, IsSpelled, as_line, decimal_again, decimal_below, decimal_in_word, line_told-words, space_before, spelled_in_word, unblank}
 use Rattle.event_text.proofs.SingleLines.{spelled_reads_back}
@@ -43,15 +44,15 @@ turns_read_back run small = spelled_reads_back (turn_text run) (Turned run) (tur
 
 -- ---- faults
 
-state_in_word : (state : FaultState) → All InWord (state_text state)
+state_in_word : (state : FaultState) → All InWord (fault_word state)
 state_in_word ReadOnly = spelled_in_word (codes "readonly") refl
 state_in_word Offline = spelled_in_word (codes "offline") refl
 
-state_some : (state : FaultState) → 0 < length (state_text state)
+state_some : (state : FaultState) → 0 < length (fault_word state)
 state_some ReadOnly = omega arith
 state_some Offline = omega arith
 
-state_again : (state : FaultState) → state_named (state_text state) ≡ Some state
+state_again : (state : FaultState) → state_named (fault_word state) ≡ Some state
 state_again ReadOnly = refl
 state_again Offline = refl
 
@@ -59,8 +60,8 @@ state_again Offline = refl
 abbrev spaced : List ℕ → List ℕ → List ℕ
 spaced number state = codes "fault" ++ 32 ∷ (number ++ 32 ∷ state)
 
-fault_text-spaced : (zone : ℕ) (state : FaultState) → fault_text zone state ≡ spaced (decimal zone) (state_text state)
-fault_text-spaced zone state = ap (λ (ys : List ℕ). codes "fault " ++ ys) (append_assoc (decimal zone) (codes " ") (state_text state))
+fault_text-spaced : (zone : ℕ) (state : FaultState) → fault_text zone state ≡ spaced (decimal zone) (fault_word state)
+fault_text-spaced zone state = ap (λ (ys : List ℕ). codes "fault " ++ ys) (append_assoc (decimal zone) (codes " ") (fault_word state))
 
 words_of-fault : (number state : List ℕ) → 0 < length number → All InWord number → 0 < length state → All InWord state → words_of (spaced number state) ≡ codes "fault" ∷ number ∷ state ∷ []
 words_of-fault number state some is_number any is_state =
@@ -70,7 +71,7 @@ words_of-fault number state some is_number any is_state =
 fault_spelled : (zone : ℕ) (state : FaultState) → zone < 2 ^ 32 → IsSpelled (fault_text zone state) (Failed zone state)
 fault_spelled zone state small =
     let number = decimal zone in
-    let name = state_text state in
+    let name = fault_word state in
     let is_number = decimal_in_word zone (omega arith) in
     let is_name = state_in_word state in
     let line = spaced number name in

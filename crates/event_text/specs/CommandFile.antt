@@ -6,6 +6,7 @@ use Rattle.std.specs.Str.{bytes_eq}
 use Rattle.std.specs.Str.Lines.{lines}
 use Rattle.std.specs.Result.{result_ok}
 use Rattle.hex.specs.Hex.{decode_of, decode_sized}
+use Rattle.zone_state.specs.Words.{fault_word}
 use Rattle.zone_state.specs.declared.state.FaultState.{FaultState}
 use Rattle.zone_state.specs.declared.state.FaultState.TheVariants.{ReadOnly, Offline}
 use Rattle.text_lines.specs.Cut.{uncommented}
@@ -49,7 +50,7 @@ turn_of words = option_and_then (λ word. option_map Turned (option_and_then (be
 -- a zone, and the state that it fails to
 abbrev pub state_named : List ℕ → Option FaultState
 state_named word =
-    if bytes_eq word (codes "readonly") then Some ReadOnly else (if bytes_eq word (codes "offline") then Some Offline else None)
+    if bytes_eq word (fault_word ReadOnly) then Some ReadOnly else (if bytes_eq word (fault_word Offline) then Some Offline else None)
 
 abbrev pub failure : Option ℕ → Option FaultState → Option Told
 failure (Some zone) (Some state) = Some (Failed zone state)

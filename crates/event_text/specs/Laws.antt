@@ -5,8 +5,8 @@ use Rattle.std.specs.Char.{is_ascii}
 use Rattle.std.specs.Fmt.{decimal}
 use Rattle.std.specs.Str.Lines.{lines}
 use Rattle.hex.specs.Hex.{IsBytes}
+use Rattle.zone_state.specs.Words.{fault_word}
 use Rattle.zone_state.specs.declared.state.FaultState.{FaultState}
-use Rattle.zone_state.specs.declared.state.FaultState.TheVariants.{ReadOnly, Offline}
 use Rattle.text_lines.specs.Cut.{is_blank_byte}
 use Rattle.device_events.specs.Replies.{ReplyWithData, data_length}
 use Rattle.device_events.specs.declared.reply.Reply.{Reply}
@@ -62,13 +62,9 @@ CommentsDontCount =
 abbrev pub turn_text : ℕ → List ℕ
 turn_text run = codes "turn " ++ decimal run
 
-abbrev pub state_text : FaultState → List ℕ
-state_text ReadOnly = codes "readonly"
-state_text Offline = codes "offline"
-
 -- the line of a zone that fails to a state
 abbrev pub fault_text : ℕ → FaultState → List ℕ
-fault_text zone state = codes "fault " ++ decimal zone ++ codes " " ++ state_text state
+fault_text zone state = codes "fault " ++ decimal zone ++ codes " " ++ fault_word state
 
 -- a line spelled for an event is read back as that event
 abbrev pub ReadsBack : List ℕ → Told → Type 0

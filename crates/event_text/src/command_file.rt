@@ -8,6 +8,8 @@
 //! ```
 
 ghost use Rattle.std.specs.Prelude.{◌≡◌, ◌^◌, map, option_and_then, Ok, IfOk, IfErr};
+ghost use Rattle.std.specs.Str.{bytes_eq};
+ghost use Rattle.zone_state.specs.Words.{fault_word};
 ghost use Rattle.text_lines.specs.Number.{decimal_of};
 ghost use Rattle.event_text.specs.Words.{words_of};
 ghost use Rattle.event_text.specs.declared.command_file.EventFault.TheVariants.{Refused};
@@ -185,11 +187,20 @@ fn fault(words: Words<'_>) -> Result<Event, EventFault>
 fn fault_state(word: &[u8]) -> Option<FaultState>
     ensures { result ≡ state_named word.now }
 {
-    match word {
-        b"readonly" => Some(FaultState::ReadOnly),
-        b"offline" => Some(FaultState::Offline),
-        _ => None,
+    if is_word_of(word, FaultState::ReadOnly) {
+        Some(FaultState::ReadOnly)
+    } else if is_word_of(word, FaultState::Offline) {
+        Some(FaultState::Offline)
+    } else {
+        None
     }
+}
+
+/// Is the word that of this fault?
+fn is_word_of(word: &[u8], fault: FaultState) -> bool
+    ensures { result ≡ bytes_eq word.now (fault_word fault) }
+{
+    word == fault.word().as_bytes()
 }
 
 impl From<LineFault> for EventFault {

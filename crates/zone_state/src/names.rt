@@ -1,8 +1,7 @@
 //! What states, actions and statuses are called, for people to read.
 
 ghost use Rattle.std.specs.Prelude.{◌≡◌};
-ghost use Rattle.zone_state.specs.Words.{action_word, state_word};
-ghost use Rattle.zone_state.specs.Zone.{state_of_fault};
+ghost use Rattle.zone_state.specs.Words.{action_word, fault_word, state_word};
 
 use crate::action::Action;
 use crate::state::{FaultState, ZoneState};
@@ -199,9 +198,9 @@ impl ZoneState {
 }
 
 impl FaultState {
-    /// One word for the fault, which a user reads and writes (profile): that of the state that it leads to.
+    /// One word for the fault, which a user reads and writes (profile): that of the state to which it takes a zone.
     pub fn word(self) -> &'static str
-        ensures { result.now ≡ state_word (state_of_fault self) }
+        ensures { result.now ≡ fault_word self }
     {
         self.state().word()
     }
