@@ -5,7 +5,7 @@ use Rattle.std.specs.Prelude.{if◌then◌else◌}
 use Rattle.byteorder.specs.Endian.{little_bytes, little_from, little_number}
 use Rattle.byteorder.specs.Numbers.{length-bytes_low_first, little_from-lt, little_number-reads_back}
 use Rattle.program_meaning.proofs.Proved.{writes_read_back}
-use Rattle.program_meaning.specs.Memory.{written}
+use Rattle.program_interface.specs.Bytes.{spliced}
 use Rattle.accepted_programs.specs.Cells.{forgotten, has_byte, join_cell, join_cells}
 use Rattle.accepted_programs.proofs.Meets.{word_in}
 
@@ -98,10 +98,10 @@ word_fits stack j bytes =
 
 -- the eight bytes of a cell that no store reaches stay
 pub word_kept : (stack bytes : List ℕ) (at j : ℕ) → at + length bytes ≤ length stack
-    → (8 * j + 8 ≤ at) ⊎ (at + length bytes ≤ 8 * j) → word_in (written stack at bytes) j ≡ word_in stack j
+    → (8 * j + 8 ≤ at) ⊎ (at + length bytes ≤ 8 * j) → word_in (spliced at bytes stack) j ≡ word_in stack j
 word_kept stack bytes at j fits apart =
-    same_number 8 0 (drop (8 * j) (written stack at bytes)) (drop (8 * j) stack)
-    (λ k below. get_or-drop (8 * j) (written stack at bytes) k 0
+    same_number 8 0 (drop (8 * j) (spliced at bytes stack)) (drop (8 * j) stack)
+    (λ k below. get_or-drop (8 * j) (spliced at bytes stack) k 0
     ∙ (elim apart [
       | inl before ↦ (writes_read_back stack bytes at fits).before (8 * j + k) (omega (arith, before, below))
       | inr behind ↦ (writes_read_back stack bytes at fits).behind (8 * j + k) (omega (arith, behind))
@@ -115,11 +115,11 @@ number_of_bytes word small =
 
 -- a word that is stored into a cell is read back
 pub word_written : (stack : List ℕ) (j word : ℕ) → 8 * j + 8 ≤ length stack → word < 2 ^ 64
-    → word_in (written stack (8 * j) (little_bytes 8 word)) j ≡ word
+    → word_in (spliced (8 * j) (little_bytes 8 word) stack) j ≡ word
 word_written stack j word fits small =
     let bytes = little_bytes 8 word in
     let long : length bytes ≡ 8 = length-bytes_low_first 0 8 word in
-    same_number 8 0 (drop (8 * j) (written stack (8 * j) bytes)) bytes
-    (λ k below. get_or-drop (8 * j) (written stack (8 * j) bytes) k 0
+    same_number 8 0 (drop (8 * j) (spliced (8 * j) bytes stack)) bytes
+    (λ k below. get_or-drop (8 * j) (spliced (8 * j) bytes stack) k 0
     ∙ (writes_read_back stack bytes (8 * j) (omega (arith, fits, long))).there k (omega (arith, below, long)))
     ∙ number_of_bytes word small

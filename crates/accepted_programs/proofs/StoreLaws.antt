@@ -15,7 +15,8 @@ use Rattle.program_interface.specs.Area.{address_of}
 use Rattle.program_interface.specs.declared.area.Area.{Area}
 use Rattle.program_interface.specs.declared.area.Area.TheVariants.{Context, Block, Stack, Scratch}
 use Rattle.program_interface.specs.declared.area.TheConstants.{STACK_BYTES}
-use Rattle.program_meaning.specs.Memory.{IsMemory, Memory, lies_in, loaded, stored, truncated, written}
+use Rattle.program_interface.specs.Bytes.{spliced}
+use Rattle.program_meaning.specs.Memory.{IsMemory, Memory, lies_in, loaded, stored, truncated}
 use Rattle.program_meaning.proofs.Proved.{areas_are_apart}
 use Rattle.word_domain.specs.Domain.{IsAtOffset}
 use Rattle.word_domain.specs.declared.offsets.Offsets.{Offsets}
@@ -135,7 +136,7 @@ module _ (m : Memory) (is : IsMemory m) (address : ℕ) (size : Size) (word : �
   stack_stays Scratch other lies = rw (areas_are_apart (length m.block) Scratch address (size_of size) is.block_fits lies) refl
 
   pub stack_written : lies_in (length m.block) Stack address (size_of size) ≡ true
-      → (stored m address size word).stack ≡ written m.stack (address - address_of Stack) bytes
+      → (stored m address size word).stack ≡ spliced (address - address_of Stack) bytes m.stack
   stack_written lies = rw (areas_are_apart (length m.block) Stack address (size_of size) is.block_fits lies) refl
 
 -- a load of a cell's bytes gives the cell's word
@@ -160,7 +161,7 @@ module _ {D : Type 0} (contains : D → ℕ → Type 0) (stack bytes : List ℕ)
     → IsBetween offsets.low offsets.high offset at)
     (cells : List (Option D)) (belong : BelongInCells contains cells stack) where
   abbrev BelongAfter : List (Option D) → Type 0
-  BelongAfter others = BelongInCells contains others (written stack at bytes)
+  BelongAfter others = BelongInCells contains others (spliced at bytes stack)
 
   none_belong : BelongAfter no_cells
   none_belong j d e = absurd (none_known CELLS j d e)
@@ -254,7 +255,7 @@ module _ {D : Type 0} (contains : D → ℕ → Type 0) (stack : List ℕ) (size
       → (cells : List (Option D)) → BelongInCells contains cells stack
       → (kept : Option D) → ((d : D) → kept ≡ Some d → (size ≡ DoubleWord) × contains d word)
       → BelongInCells contains (filled (cell_of told offset) kept cells (overwritten told offset (length stored_bytes) cells))
-      (written stack at stored_bytes)
+      (spliced at stored_bytes stack)
   by_kept whole at there room some cells belong None is =
       none_filled contains stack stored_bytes at whole room some told offset there cells belong (cell_of told offset)
   by_kept whole at there room some cells belong (Some d) is =
@@ -266,7 +267,7 @@ module _ {D : Type 0} (contains : D → ℕ → Type 0) (stack : List ℕ) (size
       → (cells : List (Option D)) → BelongInCells contains cells stack
       → (kept : Option D) → ((d : D) → kept ≡ Some d → (size ≡ DoubleWord) × contains d word)
       → BelongInCells contains (filled (cell_of told offset) kept cells (overwritten told offset (size_of size) cells))
-      (written stack (address_there - address_of Stack) stored_bytes)
+      (spliced (address_there - address_of Stack) stored_bytes stack)
   stored_belong whole fits near known inside cells belong kept is =
       let long : length stored_bytes ≡ size_of size = length-bytes_low_first 0 (size_of size) (truncated size word) in
       let some = size_some size in
@@ -274,5 +275,5 @@ module _ {D : Type 0} (contains : D → ℕ → Type 0) (stack : List ℕ) (size
       let there = near_there fits near known inside in
       let room : at + length stored_bytes ≤ STACK_BYTES = omega (arith, inside.from, inside.to, long) in
       let less : 1 ≤ length stored_bytes = omega (arith, long, some) in
-      let P : ℕ → Type 0 = λ n. BelongInCells contains (filled (cell_of told offset) kept cells (overwritten told offset n cells)) (written stack at stored_bytes) in
+      let P : ℕ → Type 0 = λ n. BelongInCells contains (filled (cell_of told offset) kept cells (overwritten told offset n cells)) (spliced at stored_bytes stack) in
       subst P long (by_kept whole at there room less cells belong kept is)

@@ -4,7 +4,7 @@ use Rattle.std.proofs.lemmas.List.{take-take, drop-take, drop-drop, take_at, dro
 use Rattle.std.proofs.Math.Seq.{take-add}
 use Rattle.std.proofs.Math.Nat.{suc-mul}
 use Rattle.image_store.specs.Blocks.{blocks_of, bytes_of}
-use Rattle.image_store.specs.steps.Spliced.{spliced}
+use Rattle.program_interface.specs.Bytes.{spliced}
 
 pub length-blocks : (b n : ℕ) (xs : List ℕ) → length (blocks_of b n xs) ≡ n
 length-blocks b zero xs = refl

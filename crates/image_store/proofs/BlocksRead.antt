@@ -5,7 +5,7 @@ use Rattle.std.proofs.Math.Nat.{suc-mul, mul-le-mul_right}
 use Rattle.zone_state.specs.Zone.{CountedZone}
 use Rattle.image_store.specs.declared.fault.LoadFault.{LoadFault}
 use Rattle.image_store.specs.ImageInMemory.{zones_of, zone_seen, no_counted_zone, IsFlat}
-use Rattle.image_store.specs.steps.Spliced.{spliced}
+use Rattle.program_interface.specs.Bytes.{spliced}
 use Rattle.image_store.specs.Geometry.{Shape}
 use Rattle.image_store.specs.Loading.{LoadFails}
 use Rattle.image_store.specs.steps.LoadedParts.{spliced_in}

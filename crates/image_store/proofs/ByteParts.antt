@@ -2,10 +2,9 @@
 use Rattle.std.proofs.Common.{ℕ, ◌+◌, ◌*◌, ◌<◌, zero, suc, List, [], ◌∷◌, ◌++◌, length, get_or, take, drop, sym, subst, arith}
 use Rattle.std.proofs.lemmas.List.{take-append-drop, get_or-drop}
 use Rattle.zone_state.specs.Zone.{CountedZone}
-use Rattle.program_interface.specs.Bytes.{AreBytes}
+use Rattle.program_interface.specs.Bytes.{AreBytes, spliced}
 use Rattle.image_store.specs.Blocks.{blocks_of}
 use Rattle.image_store.specs.ImageInMemory.{zones_of}
-use Rattle.image_store.specs.steps.Spliced.{spliced}
 use Rattle.image_store.specs.Namespace.{no_zone}
 
 pub front_fit : (xs ys : List ℕ) → AreBytes (xs ++ ys) → AreBytes xs

@@ -9,7 +9,7 @@ use Rattle.zone_state.specs.State.{is_cleared}
 use Rattle.zone_state.specs.Zone.{CountedZone, IsZone, kept, write_check, after_write, written_state}
 use Rattle.image_store.specs.Blocks.{block_count, blocks_of}
 use Rattle.image_store.specs.ImageInMemory.{zone_seen, no_counted_zone, namespace_of, IsFlat}
-use Rattle.image_store.specs.steps.Spliced.{spliced}
+use Rattle.program_interface.specs.Bytes.{spliced}
 use Rattle.image_store.specs.Geometry.{Shape}
 use Rattle.image_store.specs.Namespace.{ZoneBlocks, ZonedNamespace, zone_at, with_zone, arrived, with_state}
 use Rattle.image_store.proofs.BlocksOfBytes.{length-blocks, length-spliced}

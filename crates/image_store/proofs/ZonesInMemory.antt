@@ -5,7 +5,7 @@ use Rattle.std.proofs.Math.Nat.{suc-mul, mul-le-mul_right, add-mul}
 use Rattle.zone_state.specs.Zone.{CountedZone}
 use Rattle.image_store.specs.Blocks.{blocks_of}
 use Rattle.image_store.specs.ImageInMemory.{zones_of, zone_seen, no_counted_zone}
-use Rattle.image_store.specs.steps.Spliced.{spliced}
+use Rattle.program_interface.specs.Bytes.{spliced}
 use Rattle.image_store.specs.Namespace.{ZoneBlocks, no_zone}
 use Rattle.image_store.proofs.BlocksOfBytes.{blocks-same, blocks-add, take-spliced, drop-spliced, drop-spliced-past, drop-spliced-later}
 

@@ -4,7 +4,7 @@ use Rattle.zone_state.specs.Zone.{CountedZone}
 use Rattle.image_store.specs.declared.fault.LoadFault.{LoadFault}
 use Rattle.image_store.specs.declared.fault.LoadFault.TheVariants.{Stream}
 use Rattle.image_store.specs.ImageInMemory.{IsFlat}
-use Rattle.image_store.specs.steps.Spliced.{spliced}
+use Rattle.program_interface.specs.Bytes.{spliced}
 use Rattle.image_store.specs.Geometry.{Shape}
 use Rattle.program_interface.specs.Readings.{◌>>=◌}
 use Rattle.image_store.specs.Reading.{bytes_in}
