@@ -59,7 +59,7 @@ fn main(rt: HostRuntime) -> Result<()> {
     )?;
     println!(rt;
         "{} {} {} {}",
-        exit.r0, exit.steps, exit.group_len, exit.frames
+        exit.r0, exit.steps, exit.group_length, exit.frames
     )?;
     let mut best = u128::MAX;
     for _ in 0..asked.rounds {

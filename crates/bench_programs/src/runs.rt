@@ -51,7 +51,7 @@ fn run_checked(
 ) -> Option<Exit>
     requires slot { machine_slot machine.old ≡ 0 }
     requires steps { steps_of machine.old ≡ 0 }
-    requires group_len { group_length machine.old ≡ 0 }
+    requires group_bytes { group_length machine.old ≡ 0 }
     requires room { (sizes_of verified.now).limit ≤ length group.old }
 {
     let (program, limit) = (verified.program(), verified.sizes().limit() as usize);
@@ -61,7 +61,7 @@ fn run_checked(
     Some(Exit {
         r0,
         steps: machine.steps(),
-        group_len: machine.group_len(),
+        group_length: machine.group_length(),
         frames: machine.frames(),
     })
 }

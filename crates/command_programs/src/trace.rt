@@ -224,7 +224,7 @@ impl Tracer<'_> {
                 Step::Exit { r0 } => {
                     self.print_step(slot, machine, emitting, out)?;
                     let steps = machine.steps();
-                    let group = hex::encode(self.alloc, &group[..machine.group_len()])?;
+                    let group = hex::encode(self.alloc, &group[..machine.group_length()])?;
                     return printed(print_exit(out, r0, steps, group.as_str()));
                 }
                 Step::Trap { slot, cause } => return self.print_trap(slot, cause, out),

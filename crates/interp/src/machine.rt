@@ -23,11 +23,11 @@ pub struct Machine<'a> {
     registers: [u64; REGISTERS],
     slot: usize,
     steps: u64,
-    group_len: usize,
+    group_length: usize,
     frames: u64,
     ghost block_fits: { length block.now < 2 ^ 32 },
     // so that the number of frames doesn't overflow
-    ghost few_frames: { frames ≤ group_len },
+    ghost few_frames: { frames ≤ group_length },
 }
 
 impl<'a> Machine<'a> {
@@ -49,7 +49,7 @@ impl<'a> Machine<'a> {
         ensures block { block_length result ≡ length block.now }
         ensures slot { machine_slot result ≡ 0 }
         ensures steps { steps_of result ≡ 0 }
-        ensures group_len { group_length result ≡ 0 }
+        ensures group_bytes { group_length result ≡ 0 }
         ensures same_scratch { scratch_name result ≡ scratch.entry.ghost_name }
     {
         Machine {
@@ -60,7 +60,7 @@ impl<'a> Machine<'a> {
             registers: start_registers(),
             slot: 0,
             steps: 0,
-            group_len: 0,
+            group_length: 0,
             frames: 0,
         }
     }
@@ -86,7 +86,7 @@ impl<'a> Machine<'a> {
     pub fn stand_at(&mut self, slot: usize, steps: u64)
         ensures state { (group : List ℕ) → machine_state self.new group ≡ state_at self.old slot group }
         ensures steps { steps_of self.new ≡ steps }
-        ensures group_len { group_length self.new ≡ group_length self.old }
+        ensures group_bytes { group_length self.new ≡ group_length self.old }
         ensures same_scratch { scratch_name self.new ≡ scratch_name self.old }
     {
         self.slot = slot;
@@ -108,10 +108,10 @@ impl<'a> Machine<'a> {
     }
 
     /// The length of the group in bytes.
-    pub fn group_len(&self) -> usize
+    pub fn group_length(&self) -> usize
         ensures { result ≡ group_length self.now }
     {
-        self.group_len
+        self.group_length
     }
 
     /// The number of frames in the group.

@@ -102,14 +102,14 @@ fn a_frame_of_a_block_that_matches(rt: HostRuntime) -> Result<(), Fail> {
         (10, 4, End::OutOfFuel, 4, 0, 0),
         (9, 4, End::OutOfFuel, 4, 0, 0),
     ];
-    for (limit, fuel, end, steps, group_len, frames) in ends {
+    for (limit, fuel, end, steps, group_length, frames) in ends {
         let mut scratch = [0; 1024];
         let mut group = [9; 12];
         let mut machine = Machine::new(&block, &context, &mut scratch);
         assert!(rt; filter.at(machine.slot()).is_some());
         assert_eq!(rt; machine.run_checked(&filter, limit, fuel, &mut group), end);
         assert_eq!(rt; machine.steps(), steps);
-        assert_eq!(rt; machine.group_len(), group_len);
+        assert_eq!(rt; machine.group_length(), group_length);
         assert_eq!(rt; machine.frames(), frames);
         if frames == 1 {
             assert_eq!(rt; group, [8, 0, 7, 0, 0, 0, 0, 0, 0, 0, 9, 9]);
@@ -146,7 +146,7 @@ fn a_frame_that_fills_the_largest_block(rt: HostRuntime) -> Result<(), Fail> {
             r0: 0x03_0303_0303_0303
         }
     );
-    assert_eq!(rt; machine.group_len(), LARGEST_BLOCK);
+    assert_eq!(rt; machine.group_length(), LARGEST_BLOCK);
     assert_eq!(rt; machine.frames(), 1);
     assert_eq!(rt; group[0], 0xfe);
     assert_eq!(rt; group[1], 0x3f);
@@ -167,13 +167,13 @@ fn the_slots_of_a_run(rt: HostRuntime) -> Result<(), Fail> {
         assert_eq!(rt; machine.slot(), slot);
         assert!(rt; filter.at(machine.slot()).is_some());
         assert!(rt; machine.steps() < 100);
-        assert!(rt; machine.group_len() <= 10);
+        assert!(rt; machine.group_length() <= 10);
         assert_eq!(rt; machine.step(&filter, 10, &mut group), Step::Next);
     }
     assert_eq!(rt; machine.slot(), 6);
     assert!(rt; filter.at(machine.slot()).is_some());
     assert!(rt; machine.steps() < 100);
-    assert!(rt; machine.group_len() <= 10);
+    assert!(rt; machine.group_length() <= 10);
     assert_eq!(rt; machine.step(&filter, 10, &mut group), Step::Exit { r0: 0 });
     assert_eq!(rt; machine.steps(), 7);
     assert_eq!(rt; group, [8, 0, 7, 0, 0, 0, 0, 0, 0, 0]);

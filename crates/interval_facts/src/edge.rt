@@ -7,7 +7,7 @@ ghost use Rattle.interval_facts.specs.steps.Bounds.{OrderedPair};
 
 use crate::fact::{Fact, is_one};
 use instruction_set::{Relation, Width};
-use program_meaning::taken as is_taken;
+use program_meaning::is_taken;
 use word_domain::Bounds;
 
 /// Both bounds, if there is a number within each.

@@ -12,7 +12,7 @@ pub use area_offset::AreaOffset;
 pub use cause::Cause;
 pub use end::End;
 pub use trap_free::TrapFree;
-pub use word::{Arithmetic, alu, extend, taken};
+pub use word::{Arithmetic, alu, extend, is_taken};
 
 #[cfg(test)]
 mod tests;

@@ -2,7 +2,7 @@
 
 mod vectors;
 
-use crate::{Arithmetic, alu, taken};
+use crate::{Arithmetic, alu, is_taken};
 use instruction_set::{Operation, Relation, SignExtension, Swap, SwapSize, Width};
 use std::process::Abort;
 use vectors::{COUNT, OPERATIONS, PAIRS, RELATIONS, UNARY};
@@ -91,7 +91,7 @@ fn words_as_worked_out_by_hand(rt: HostRuntime) {
             "{arithmetic:?} of {x:x} and {y:x}"
         );
     }
-    assert!(rt; !taken(Width::Bits64, Relation::Greater, 0x1_0000_0000, minus_one));
+    assert!(rt; !is_taken(Width::Bits64, Relation::Greater, 0x1_0000_0000, minus_one));
 }
 
 fn check_operation(
@@ -118,12 +118,12 @@ fn check_relation(
     for ((x, y), (at_64, at_32)) in PAIRS.iter().zip(wide.iter().zip(narrow)) {
         let (x, y) = (*x, *y);
         assert_eq!(rt;
-            taken(Width::Bits64, relation, x, y),
+            is_taken(Width::Bits64, relation, x, y),
             *at_64,
             "{relation:?} of {x:x} and {y:x}"
         );
         assert_eq!(rt;
-            taken(Width::Bits32, relation, x, y),
+            is_taken(Width::Bits32, relation, x, y),
             *at_32,
             "32-bit {relation:?} of {x:x} and {y:x}"
         );

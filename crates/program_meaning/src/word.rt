@@ -166,7 +166,7 @@ fn relate(relation: Relation, x: u64, y: u64, signed_x: i64, signed_y: i64) -> b
 
 /// Is a conditional jump taken, where the destination is `x` and the source is `y` (RFC 9669, 4.3)?
 #[inline(always)]
-pub fn taken(width: Width, relation: Relation, x: u64, y: u64) -> bool
+pub fn is_taken(width: Width, relation: Relation, x: u64, y: u64) -> bool
     ensures { result ≡ is_taken width relation x y }
 {
     match width {

@@ -20,10 +20,10 @@ pub fn run_block<V: TrapFree + Drop>(
     requires block { length block.now ≡ V.block prepared.now }
     requires small { length block.now < 2 ^ 32 }
     requires room { V.limit prepared.now ≤ length group.old }
-    ensures run { HasRun (run_over (V.code prepared.now) (V.limit prepared.now) block.now context.now scratch.old) result.r0 result.frames (take result.group_len group.new) scratch.new }
-    ensures limit { result.group_len ≤ V.limit prepared.now }
-    ensures few { result.frames ≤ result.group_len }
-    ensures within { result.group_len ≤ length group.new }
+    ensures run { HasRun (run_over (V.code prepared.now) (V.limit prepared.now) block.now context.now scratch.old) result.r0 result.frames (take result.group_length group.new) scratch.new }
+    ensures limit { result.group_length ≤ V.limit prepared.now }
+    ensures few { result.frames ≤ result.group_length }
+    ensures within { result.group_length ≤ length group.new }
 {
     let mut machine = Machine::new(block, context, scratch);
     prepared.run(&mut machine, group)

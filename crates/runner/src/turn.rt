@@ -49,10 +49,10 @@ fn run_next<V: TrapFree + Drop>(
     requires fits { Fits namespace.now active.old }
     requires block { V.block prepared.now ≡ namespace.now.block }
     requires limit { V.limit prepared.now ≤ namespace.now.block }
-    ensures run { HasRun (next_run namespace.now (V.code prepared.now) (V.limit prepared.now) (active_of active.old)) result.r0 result.frames (take result.group_len group.new) active.new.scratch }
-    ensures limit { result.group_len ≤ namespace.now.block }
+    ensures run { HasRun (next_run namespace.now (V.code prepared.now) (V.limit prepared.now) (active_of active.old)) result.r0 result.frames (take result.group_length group.new) active.new.scratch }
+    ensures limit { result.group_length ≤ namespace.now.block }
     ensures few { result.frames ≤ LARGEST_BLOCK }
-    ensures within { result.group_len ≤ length group.new }
+    ensures within { result.group_length ≤ length group.new }
     ensures same { active.new ≡ with_scratch active.old (scratch_after (next_run namespace.now (V.code prepared.now) (V.limit prepared.now) (active_of active.old))) }
 {
     let order = active.order;
@@ -130,7 +130,7 @@ fn advance<V: TrapFree + Drop>(
     ensures fits { IsNone result → Fits namespace.new active.new }
 {
     let exit = run_next(namespace, prepared, active, group);
-    put(namespace, active, &group[..exit.group_len]);
+    put(namespace, active, &group[..exit.group_length]);
     active.index += 1;
     active.frames += exit.frames as u32;
     if exit.r0 == 0 && active.index < active.order.blocks.get() {

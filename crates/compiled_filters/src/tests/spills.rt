@@ -59,7 +59,7 @@ struct Scene {
 #[derive(Debug, PartialEq, Drop)]
 struct Left {
     r0: u64,
-    group_len: usize,
+    group_length: usize,
     group: [u8; BLOCK],
     scratch: [u8; SCRATCH_BYTES],
 }
@@ -126,7 +126,7 @@ fn expected(alloc: Global, scene: &Scene, before: &[u8; SCRATCH_BYTES]) -> Resul
     let frames = frames_of(alloc, scene.frames)?;
     let mut expected = Left {
         r0: 0,
-        group_len: frames.len(),
+        group_length: frames.len(),
         group: [0; BLOCK],
         scratch: *before,
     };
@@ -150,7 +150,7 @@ fn over_superinstructions(
     let exit = prepared.run(&mut Machine::new(block, context, scratch), &mut group);
     Left {
         r0: exit.r0,
-        group_len: exit.group_len,
+        group_length: exit.group_length,
         group,
         scratch: *scratch,
     }
@@ -171,13 +171,13 @@ fn with_every_check(
     let mut machine = Machine::new(block, context, scratch);
     assert!(rt; program.at(machine.slot()).is_some());
     let end = machine.run_checked(program, limit, program.len() as u64, &mut group);
-    let group_len = machine.group_len();
+    let group_length = machine.group_length();
     let End::Exit { r0 } = end else {
         return Err(Fail::from("no EXIT"));
     };
     Ok(Left {
         r0,
-        group_len,
+        group_length,
         group,
         scratch: *scratch,
     })

@@ -32,7 +32,7 @@ impl Machine<'_> {
     pub fn emit(&mut self, limit: usize, group: &mut [u8]) -> Result<(), Cause>
         requires limit { limit < 2 ^ 16 }
         requires room { limit ≤ length group.old }
-        requires used { self.old.group_len ≤ length group.old }
+        requires used { self.old.group_length ≤ length group.old }
         ensures answer { (slot : ℕ) → result ≡ unless (emit_hindrance limit (state_at self.old slot group.old)) }
         ensures state { (slot : ℕ) → state_at self.new slot group.new ≡ (if is_ok result then emitted (state_at self.old slot group.old) else state_at self.old slot group.old) }
         ensures extends { Extends self.old self.new group.old group.new }
@@ -44,7 +44,7 @@ impl Machine<'_> {
         let Some(place) = self.area_offset(self.register(Register::R1), size) else {
             return Err(Cause::EmitOutside);
         };
-        if (self.group_len + FRAME_LENGTH_BYTES) as u64 + size > limit as u64 {
+        if (self.group_length + FRAME_LENGTH_BYTES) as u64 + size > limit as u64 {
             return Err(Cause::EmitLength);
         }
         self.add_frame(place, size as usize, group);
@@ -54,14 +54,14 @@ impl Machine<'_> {
     fn add_frame(&mut self, place: AreaOffset, size: usize, group: &mut [u8])
         requires room { place.offset + size ≤ length_of (length self.old.block.now) place.area }
         requires size { size < 2 ^ 16 }
-        requires fits { self.old.group_len + 2 + size ≤ length group.old }
+        requires fits { self.old.group_length + 2 + size ≤ length group.old }
         ensures state { (slot : ℕ) → state_at self.new slot group.new ≡ with_frame (state_at self.old slot group.old) (take size (bytes_from (memory_of self.old) (Some place))) }
         ensures extends { Extends self.old self.new group.old group.new }
     {
-        let start = self.group_len;
+        let start = self.group_length;
         let bytes = self.bytes(place.area);
         write_frame(group, start, &bytes[place.offset..][..size]);
-        self.group_len = start + FRAME_LENGTH_BYTES + size;
+        self.group_length = start + FRAME_LENGTH_BYTES + size;
         self.frames += 1;
         clear_scratched(&mut self.registers);
     }

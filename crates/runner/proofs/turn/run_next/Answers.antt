@@ -16,7 +16,7 @@ returns-clause-run g c =
     let size : c.block.result ≡ ns.block = c.block.ensures.value ∙ ap (λ (s : Shape). s.block) c.geometry.ensures.value in
     let told = told_is ns code limit a c.encode.result c.from.result c.get.result c.block.result c.from.ensures c.get.ensures.value size c.encode.ensures in
     let same = run_is ns code limit a c.source_block-block.result.now c.encode.result c.source_block-block.ensures.value told in
-    subst (λ (r : BlockRun). HasRun r c.run_block.result.r0 c.run_block.result.frames (take c.run_block.result.group_len c.run_block.new.group) c.run_block.new.scratch) same
+    subst (λ (r : BlockRun). HasRun r c.run_block.result.r0 c.run_block.result.frames (take c.run_block.result.group_length c.run_block.new.group) c.run_block.new.scratch) same
     c.run_block.ensures.run
 
 pub returns-clause-same : goal.returns-clause-same

@@ -85,7 +85,7 @@ fn compare_on(
     );
     assert_eq!(rt; end, End::Exit { r0: exit.r0 });
     assert_eq!(rt; machine.steps(), exit.steps);
-    assert_eq!(rt; machine.group_len(), exit.group_len);
+    assert_eq!(rt; machine.group_length(), exit.group_length);
     assert_eq!(rt; machine.frames(), exit.frames);
     assert_eq!(rt; group, other_group);
     assert_eq!(rt; scratch, other_scratch);
@@ -140,7 +140,7 @@ fn a_frame_as_long_as_the_block_says(rt: HostRuntime) -> Result<(), Fail> {
         &mut group,
     );
     assert_eq!(rt;
-        (exit.r0, exit.steps, exit.group_len, exit.frames),
+        (exit.r0, exit.steps, exit.group_length, exit.frames),
         (0, 8, 6, 1)
     );
     assert_eq!(rt; group, [4, 0, 3, 0, 0, 0, 9, 9, 9, 9]);

@@ -7,5 +7,5 @@ returns-clause-new c = record {
   state = search rules;
   is_state = start_is_state c.args.block.now c.args.context.now c.args.scratch.now (search rules) (search rules) (search rules) (search rules) (search rules) (search rules);
   steps = search rules;
-  group_len = search rules;
+  group_length = search rules;
 }
