@@ -5,7 +5,7 @@ use command_files::Counted;
 use ebpf_asm::instruction_text;
 use instruction_set::{Instruction, Register};
 use interp::Machine;
-use program_interface::{Area, REGISTERS};
+use program_interface::Area;
 use program_meaning::Cause;
 use std::alloc::Global;
 use std::io::{self, Write};
@@ -88,10 +88,8 @@ fn print_emit<O: Write>(emitting: Emitting, out: &mut O) -> io::Result<()> {
 /// The register that an instruction changes: its destination, and for a call R0, which has the result (of R1 to R5
 /// nothing is left).
 fn changed(instruction: &Instruction) -> Option<Register> {
-    if let Instruction::Call { .. } = *instruction {
-        return Some(Register::R0);
+    match *instruction {
+        Instruction::Call { .. } => Some(Register::R0),
+        _ => instruction.destination(),
     }
-    (0..REGISTERS as u8)
-        .map(|number| Register::from_number(number))
-        .find(|register| instruction.writes(*register))
 }

@@ -1,7 +1,7 @@
 //! Instructions.
 
 ghost use Rattle.std.specs.Prelude.{◌≡◌, ◌<◌};
-ghost use Rattle.instruction_set.specs.Instruction.{access_of, distance_of, immediate_word, is_emit, target, writes};
+ghost use Rattle.instruction_set.specs.Instruction.{access_of, destination_of, distance_of, immediate_word, is_destination, is_emit, target, writes};
 ghost use Rattle.instruction_set.specs.Program.{slots_taken};
 
 use crate::access::{Access, AccessKind};
@@ -170,10 +170,11 @@ impl Instruction {
         })
     }
 
-    /// Is this register the instruction's destination?
+    /// The register that the instruction writes: its destination, and `None` where it has none. A call, which has none,
+    /// clears registers.
     #[inline(always)]
-    pub fn writes(&self, register: Register) -> bool
-        ensures { result ≡ writes self.now register }
+    pub fn destination(&self) -> Option<Register>
+        ensures { result ≡ destination_of self.now }
     {
         match *self {
             Instruction::LoadImmediate { dst, .. }
@@ -182,9 +183,17 @@ impl Instruction {
             | Instruction::Arithmetic { dst, .. }
             | Instruction::Negate { dst, .. }
             | Instruction::MoveSigned { dst, .. }
-            | Instruction::SwapBytes { dst, .. } => dst == register,
-            _ => false,
+            | Instruction::SwapBytes { dst, .. } => Some(dst),
+            _ => None,
         }
+    }
+
+    /// Is this register the instruction's destination?
+    #[inline(always)]
+    pub fn writes(&self, register: Register) -> bool
+        ensures { result ≡ writes self.now register }
+    {
+        is_destination(self.destination(), register)
     }
 
     /// The distance of a jump, in slots from the slot after it, and `None` where the instruction is
@@ -217,5 +226,16 @@ impl Instruction {
         ensures { result ≡ immediate_word immediate }
     {
         i64::from(immediate).cast_unsigned()
+    }
+}
+
+/// Is there a destination, and is it this register?
+#[inline(always)]
+fn is_destination(destination: Option<Register>, register: Register) -> bool
+    ensures { result ≡ is_destination destination register }
+{
+    match destination {
+        Some(dst) => dst == register,
+        None => false,
     }
 }
