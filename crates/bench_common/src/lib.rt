@@ -2,15 +2,16 @@
 //! two times.
 #![tactic(auto)]
 
-use anyhow::{Context, Result, bail, ensure};
 use ebpf_decode::decode;
 use interval_domain::Intervals;
 use program_interface::{BlockSize, LARGEST_BLOCK, RunSizes};
 use std::alloc::Global;
 use std::env::Args;
+use std::fmt::Display;
 use std::fs;
+use std::io::{self, ErrorKind};
 use std::rt::Files;
-use verifier::{Verified, VerifyFault, verify};
+use verifier::{Verified, verify};
 
 /// What is timed: a program over a block, so often in each of some rounds.
 #[derive(Drop)]
@@ -27,20 +28,44 @@ pub struct Timed {
     pub repeats: u32,
 }
 
+/// The error that tells a fault in its own words.
+pub fn told<D: Display + Drop>(alloc: Global, fault: D) -> io::Error {
+    match format!(in alloc; "{fault}") {
+        Ok(words) => io::Error::other(words.as_str()),
+        Err(_) => io::Error::from(ErrorKind::OutOfMemory),
+    }
+}
+
+/// The number that a word spells in decimal.
+///
+/// # Errors
+///
+/// The word spells none of 32 bits.
+pub fn number(word: &str) -> io::Result<u32> {
+    match word.parse::<u32>() {
+        Ok(number) => Ok(number),
+        Err(_) => Err(io::Error::other("a number is expected")),
+    }
+}
+
 /// Reads what the words PROGRAM BLOCK ROUNDS REPEATS say, and the two files.
 ///
 /// # Errors
 ///
 /// A word lacks, or is no number where one is due; a file can't be read; or no block has the second one's length.
-pub fn read_words<R: Files + AllocGlobal>(rt: &R, words: &mut Args) -> Result<Timed> {
-    let program = words.next().context("no program")?;
-    let block = words.next().context("no block")?;
-    let rounds = words.next().context("no rounds")?.parse::<u32>()?;
-    let repeats = words.next().context("no repeats")?.parse::<u32>()?;
+pub fn read_words<R: Files + AllocGlobal>(rt: &R, words: &mut Args) -> io::Result<Timed> {
+    let program = words.next().ok_or(io::Error::other("no program"))?;
+    let block = words.next().ok_or(io::Error::other("no block"))?;
+    let rounds = number(&words.next().ok_or(io::Error::other("no rounds"))?)?;
+    let repeats = number(&words.next().ok_or(io::Error::other("no repeats"))?)?;
     let program = fs::read(rt, &program)?;
     let block = fs::read(rt, &block)?;
-    ensure!(block.len() <= LARGEST_BLOCK, "the block is too long");
-    let size = BlockSize::new(block.len() as u32).context("that is the size of no block")?;
+    if block.len() > LARGEST_BLOCK {
+        return Err(io::Error::other("the block is too long"));
+    }
+    let Some(size) = BlockSize::new(block.len() as u32) else {
+        return Err(io::Error::other("that is the size of no block"));
+    };
     Ok(Timed {
         program,
         block,
@@ -55,13 +80,14 @@ pub fn read_words<R: Files + AllocGlobal>(rt: &R, words: &mut Args) -> Result<Ti
 /// # Errors
 ///
 /// The bytes are no program, or it is refused, or memory is wanting.
-pub fn load(alloc: Global, bytes: &[u8], sizes: RunSizes) -> Result<Verified<Intervals>> {
-    match verify::<Intervals>(alloc, decode(alloc, bytes)?, sizes) {
+pub fn load(alloc: Global, bytes: &[u8], sizes: RunSizes) -> io::Result<Verified<Intervals>> {
+    let program = match decode(alloc, bytes) {
+        Ok(program) => program,
+        Err(fault) => return Err(told(alloc, fault)),
+    };
+    match verify::<Intervals>(alloc, program, sizes) {
         Ok(verified) => Ok(verified),
-        Err(VerifyFault::Refused(refusal)) => {
-            bail!("refused at slot {}: {:?}", refusal.slot, refusal.reason)
-        }
-        Err(VerifyFault::Memory) => bail!("no memory"),
+        Err(fault) => Err(told(alloc, fault)),
     }
 }
 

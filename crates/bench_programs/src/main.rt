@@ -6,23 +6,22 @@
 
 mod runs;
 
-use anyhow::{Context, Result, bail, ensure};
 use bench_common::{load, read_words};
 use interval_domain::Intervals;
 use program_interface::{CONTEXT_BYTES, LARGEST_BLOCK, RunSizes, SCRATCH_BYTES};
 use runs::{Form, repeat, run};
-use std::env;
 use std::rt::{Clock, Env, Files};
 use std::time::Instant;
+use std::{env, io};
 use verified_run::Prepared;
 use verifier::Verified;
 
 /// The form that a word names.
-fn form_of(word: &str) -> Result<Form> {
+fn form_of(word: &str) -> io::Result<Form> {
     match word {
         "checked" => Ok(Form::Checked),
         "prepared" => Ok(Form::Prepared),
-        _ => bail!("the form is checked or prepared"),
+        _ => Err(io::Error::other("the form is checked or prepared")),
     }
 }
 
@@ -35,28 +34,32 @@ fn round(
     repeats: u32,
     scratch: &mut [u8; SCRATCH_BYTES],
     group: &mut [u8; LARGEST_BLOCK],
-) -> Result<u128> {
+) -> io::Result<u128> {
     let start = Instant::now(rt)?;
     let done = repeat(program, form, block, repeats, scratch, group);
     let spent = start.elapsed(rt)?.as_nanos();
-    ensure!(done, "a block of another size");
+    if !done {
+        return Err(io::Error::other("a block of another size"));
+    }
     Ok(spent)
 }
 
-fn main(rt: HostRuntime) -> Result<()> {
+fn main(rt: HostRuntime) -> io::Result<()> {
     let mut args = env::args(&rt)?;
     args.next();
     let asked = read_words(&rt, &mut args)?;
-    let form = form_of(&args.next().context("no form")?)?;
+    let form = form_of(&args.next().ok_or(io::Error::other("no form"))?)?;
     let block = asked.block.as_slice();
-    let sizes = RunSizes::new(asked.size, asked.size.bytes()).context("too much")?;
+    let Some(sizes) = RunSizes::new(asked.size, asked.size.bytes()) else {
+        return Err(io::Error::other("too much"));
+    };
     let program = Prepared::new(rt.alloc(), load(rt.alloc(), &asked.program, sizes)?)?;
     let context = [0; CONTEXT_BYTES];
     let mut scratch = [0; SCRATCH_BYTES];
     let mut group = [0; LARGEST_BLOCK];
-    let exit = run(&program, form, block, &context, &mut scratch, &mut group).context(
-        "a block of another size",
-    )?;
+    let Some(exit) = run(&program, form, block, &context, &mut scratch, &mut group) else {
+        return Err(io::Error::other("a block of another size"));
+    };
     println!(rt;
         "{} {} {} {}",
         exit.r0, exit.steps, exit.group_length, exit.frames

@@ -3,9 +3,9 @@
 ghost use Rattle.std.specs.Prelude.{◌≤◌};
 ghost use Rattle.nvme_entry.specs.Encoding.{program_length};
 
-use anyhow::{Context, Result, ensure};
 use nvme_entry::{Command, Entry, LoadCommand, ProgramSlot, RunCommand};
 use runner::Event;
+use std::io;
 use zns_commands::{BlockCount, MOST_TRANSFER, StandardCommand};
 use zone_state::Action;
 
@@ -67,11 +67,10 @@ fn send(lowest: u64, action: Action, none: Vec<u8>) -> Event {
 /// # Errors
 ///
 /// The program is longer than a command moves.
-pub fn load(limit: u32, program: Vec<u8>) -> Result<Event> {
-    ensure!(
-        program.len() <= MOST_TRANSFER,
-        "the program is longer than a command moves"
-    );
+pub fn load(limit: u32, program: Vec<u8>) -> io::Result<Event> {
+    if program.len() > MOST_TRANSFER {
+        return Err(io::Error::other("the program is longer than a command moves"));
+    }
     let load = LoadCommand {
         slot: first_slot()?,
         limit,
@@ -85,7 +84,7 @@ pub fn load(limit: u32, program: Vec<u8>) -> Result<Event> {
 /// # Errors
 ///
 /// There is no slot 0.
-pub fn run(lba: u64, blocks: u16, to: u64, none: Vec<u8>) -> Result<Event> {
+pub fn run(lba: u64, blocks: u16, to: u64, none: Vec<u8>) -> io::Result<Event> {
     let run = RunCommand {
         lba,
         blocks: block_count(blocks),
@@ -96,6 +95,6 @@ pub fn run(lba: u64, blocks: u16, to: u64, none: Vec<u8>) -> Result<Event> {
     Ok(submit(Command::Run(run), none))
 }
 
-fn first_slot() -> Result<ProgramSlot> {
-    ProgramSlot::new(0).context("no slot 0")
+fn first_slot() -> io::Result<ProgramSlot> {
+    ProgramSlot::new(0).ok_or(io::Error::other("no slot 0"))
 }

@@ -10,44 +10,45 @@ ghost use Rattle.std.specs.Prelude.{◌≤◌, length};
 mod entries;
 mod work;
 
-use anyhow::{Context, Result};
-use bench_common::percent;
+use bench_common::{number, percent, told};
 use nvme_entry::Completion;
 use runner::Device;
 use std::alloc::Global;
 use std::rt::{Env, Files};
-use std::{env, fs};
+use std::{env, fs, io};
 use work::{
     BLOCK, CACHED, MOST_BLOCKS, SOURCE, ZONE_SIZE, admission, appends, copies, events, fill,
     load_filter, refusal, source_reads, whole_run,
 };
 use zns_commands::{Geometry, Image, Limits, MOST_TRANSFER};
 
-fn main(rt: HostRuntime) -> Result<()> {
+fn main(rt: HostRuntime) -> io::Result<()> {
     let mut args = env::args(&rt)?;
     args.next();
-    let filter = fs::read(&rt, &args.next().context("no filter")?)?;
+    let filter = fs::read(&rt, &args.next().ok_or(io::Error::other("no filter"))?)?;
     let mut data = vec![in rt.alloc(); 0; MOST_TRANSFER]?;
     let mut small = device(rt.alloc(), 2 * u32::from(CACHED), &filter, &mut data)?;
     let mut large = device(rt.alloc(), ZONE_SIZE, &filter, &mut data)?;
     match args.next() {
         Some(rounds) => {
-            let rounds = rounds.parse::<u32>()?;
+            let rounds = number(&rounds)?;
             compare_turns(&rt, &mut large, &mut data, rounds)?;
             compare_appends(&rt, &mut large, &mut data, rounds)?;
             compare_sizes(&rt, &mut small, &mut large, &mut data, rounds)
         }
         None => {
             let run = whole_run(&rt, rt.alloc(), &mut large, SOURCE, &mut data)?;
-            let told = Completion::decode(&run.completion).context("no completion")?;
-            println!(rt; "{} frames in {} blocks", told.dw0, told.dw1)?;
+            let Some(completion) = Completion::decode(&run.completion) else {
+                return Err(io::Error::other("no completion"));
+            };
+            println!(rt; "{} frames in {} blocks", completion.dw0, completion.dw1)?;
             Ok(())
         }
     }
 }
 
 /// A device of three zones of this size, with the filter in slot 0 and half of zone 0 written.
-fn device(alloc: Global, zone_size: u32, filter: &[u8], data: &mut [u8]) -> Result<Device>
+fn device(alloc: Global, zone_size: u32, filter: &[u8], data: &mut [u8]) -> io::Result<Device>
     requires { MOST_TRANSFER ≤ length data.old }
     ensures { MOST_TRANSFER ≤ length data.new }
 {
@@ -55,7 +56,10 @@ fn device(alloc: Global, zone_size: u32, filter: &[u8], data: &mut [u8]) -> Resu
         open_limit: 3,
         active_limit: 3,
     };
-    let geometry = Geometry::new(BLOCK, 3, zone_size, zone_size, limits)?;
+    let geometry = match Geometry::new(BLOCK, 3, zone_size, zone_size, limits) {
+        Ok(geometry) => geometry,
+        Err(fault) => return Err(told(alloc, fault)),
+    };
     let mut device = Device::new(alloc, Image::empty(alloc, geometry)?);
     let blocks = u16::try_from(zone_size / 2).unwrap_or(SOURCE);
     fill(alloc, &mut device, blocks, data)?;
@@ -64,7 +68,12 @@ fn device(alloc: Global, zone_size: u32, filter: &[u8], data: &mut [u8]) -> Resu
 }
 
 /// Prints the best times of a turn and of a Read, over many blocks, and of a turn over few.
-fn compare_turns(rt: &HostRuntime, device: &mut Device, data: &mut [u8], rounds: u32) -> Result<()>
+fn compare_turns(
+    rt: &HostRuntime,
+    device: &mut Device,
+    data: &mut [u8],
+    rounds: u32,
+) -> io::Result<()>
     requires { MOST_TRANSFER ≤ length data.old }
     ensures { MOST_TRANSFER ≤ length data.new }
 {
@@ -93,7 +102,7 @@ fn compare_appends(
     device: &mut Device,
     data: &mut [u8],
     rounds: u32,
-) -> Result<()>
+) -> io::Result<()>
     requires { MOST_TRANSFER ≤ length data.old }
     ensures { MOST_TRANSFER ≤ length data.new }
 {
@@ -124,7 +133,7 @@ fn compare_sizes(
     large: &mut Device,
     data: &mut [u8],
     rounds: u32,
-) -> Result<()>
+) -> io::Result<()>
     requires { MOST_TRANSFER ≤ length data.old }
 {
     let alloc = rt.alloc();

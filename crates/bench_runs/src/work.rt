@@ -3,9 +3,9 @@
 ghost use Rattle.std.specs.Prelude.{◌≤◌, ◌<◌, length};
 
 use crate::entries::{append, load, open, read, reset, run};
-use anyhow::{Result, bail, ensure};
 use runner::{Device, Event, Reply};
 use std::alloc::Global;
+use std::io;
 use std::rt::Clock;
 use std::time::Instant;
 use zns_commands::MOST_TRANSFER;
@@ -52,14 +52,22 @@ fn is_done(reply: &Reply) -> bool {
     }
 }
 
+/// Asks that an event was done, and not refused.
+fn succeeded(reply: &Reply) -> io::Result<()> {
+    if is_done(reply) {
+        Ok(())
+    } else {
+        Err(io::Error::other("an event was refused"))
+    }
+}
+
 /// Does an event, which has to succeed.
-fn must(device: &mut Device, event: &Event, data: &mut [u8]) -> Result<()>
+fn must(device: &mut Device, event: &Event, data: &mut [u8]) -> io::Result<()>
     requires { MOST_TRANSFER ≤ length data.old }
     ensures { MOST_TRANSFER ≤ length data.new }
 {
     let reply = device.apply(event, data);
-    ensure!(is_done(&reply), "refused: {reply:?}");
-    Ok(())
+    succeeded(&reply)
 }
 
 /// Fills so many blocks of zone 0: all bytes of block i are i modulo 251.
@@ -67,7 +75,7 @@ fn must(device: &mut Device, event: &Event, data: &mut [u8]) -> Result<()>
 /// # Errors
 ///
 /// An Append is refused, or memory is wanting.
-pub fn fill(alloc: Global, device: &mut Device, blocks: u16, data: &mut [u8]) -> Result<()>
+pub fn fill(alloc: Global, device: &mut Device, blocks: u16, data: &mut [u8]) -> io::Result<()>
     requires { MOST_TRANSFER ≤ length data.old }
     ensures { MOST_TRANSFER ≤ length data.new }
 {
@@ -83,7 +91,7 @@ pub fn fill(alloc: Global, device: &mut Device, blocks: u16, data: &mut [u8]) ->
 /// # Errors
 ///
 /// It is longer than a command moves, or refused.
-pub fn load_filter(device: &mut Device, filter: Vec<u8>, data: &mut [u8]) -> Result<()>
+pub fn load_filter(device: &mut Device, filter: Vec<u8>, data: &mut [u8]) -> io::Result<()>
     requires { MOST_TRANSFER ≤ length data.old }
     ensures { MOST_TRANSFER ≤ length data.new }
 {
@@ -98,7 +106,7 @@ fn start(
     device: &mut Device,
     blocks: u16,
     data: &mut [u8],
-) -> Result<u128>
+) -> io::Result<u128>
     requires { MOST_TRANSFER ≤ length data.old }
     ensures { MOST_TRANSFER ≤ length data.new }
 {
@@ -109,7 +117,7 @@ fn start(
     let begin = Instant::now(rt)?;
     let reply = device.apply(&order, data);
     let spent = begin.elapsed(rt)?.as_nanos();
-    ensure!(is_done(&reply), "refused: {reply:?}");
+    succeeded(&reply)?;
     Ok(spent)
 }
 
@@ -138,7 +146,7 @@ pub fn whole_run(
     device: &mut Device,
     blocks: u16,
     data: &mut [u8],
-) -> Result<WholeRun>
+) -> io::Result<WholeRun>
     requires { MOST_TRANSFER ≤ length data.old }
     ensures { MOST_TRANSFER ≤ length data.new }
 {
@@ -152,7 +160,7 @@ pub fn whole_run(
             turns,
             completion: entry,
         }),
-        reply => bail!("the run goes on: {reply:?}"),
+        _ => Err(io::Error::other("the run goes on")),
     }
 }
 
@@ -167,7 +175,7 @@ pub fn admission(
     device: &mut Device,
     blocks: u16,
     data: &mut [u8],
-) -> Result<u128>
+) -> io::Result<u128>
     requires { MOST_TRANSFER ≤ length data.old }
     ensures { MOST_TRANSFER ≤ length data.new }
 {
@@ -190,7 +198,7 @@ pub fn refusal(
     unwritten: u64,
     blocks: u16,
     data: &mut [u8],
-) -> Result<u128>
+) -> io::Result<u128>
     requires { MOST_TRANSFER ≤ length data.old }
     ensures { MOST_TRANSFER ≤ length data.new }
 {
@@ -206,7 +214,9 @@ pub fn refusal(
         admitted |= is_done(&device.apply(order, data));
     }
     let spent = begin.elapsed(rt)?.as_nanos();
-    ensure!(!admitted, "a Run was admitted");
+    if admitted {
+        return Err(io::Error::other("a Run was admitted"));
+    }
     Ok(spent / REFUSALS as u128)
 }
 
@@ -215,7 +225,7 @@ pub fn refusal(
 /// # Errors
 ///
 /// Want of memory.
-pub fn source_reads(alloc: Global) -> Result<Vec<Event>> {
+pub fn source_reads(alloc: Global) -> io::Result<Vec<Event>> {
     let mut events = Vec::with_capacity(alloc, usize::from(SOURCE))?;
     for lba in 0..SOURCE {
         events.push(read(u64::from(lba), Vec::new(alloc)))?;
@@ -233,7 +243,7 @@ pub fn events(
     device: &mut Device,
     events: &[Event],
     data: &mut [u8],
-) -> Result<u128>
+) -> io::Result<u128>
     requires { MOST_TRANSFER ≤ length data.old }
     ensures { MOST_TRANSFER ≤ length data.new }
 {
@@ -243,7 +253,9 @@ pub fn events(
         done &= is_done(&device.apply(event, data));
     }
     let spent = begin.elapsed(rt)?.as_nanos();
-    ensure!(done, "a Read was refused");
+    if !done {
+        return Err(io::Error::other("a Read was refused"));
+    }
     Ok(spent)
 }
 
@@ -258,7 +270,7 @@ pub fn appends(
     device: &mut Device,
     blocks: u16,
     data: &mut [u8],
-) -> Result<u128>
+) -> io::Result<u128>
     requires { MOST_TRANSFER ≤ length data.old }
     ensures { MOST_TRANSFER ≤ length data.new }
 {
@@ -270,7 +282,9 @@ pub fn appends(
     let begin = Instant::now(rt)?;
     let (done, _) = repeat(device, &event, times, data);
     let spent = begin.elapsed(rt)?.as_nanos();
-    ensure!(done, "an Append was refused");
+    if !done {
+        return Err(io::Error::other("an Append was refused"));
+    }
     Ok(spent)
 }
 
@@ -292,7 +306,7 @@ fn fill_by_copies(source: &[u8], target: &mut [u8]) -> usize
 /// # Errors
 ///
 /// The clock fails, or memory is wanting.
-pub fn copies(rt: &impl Clock, alloc: Global, target: &mut [u8], blocks: u16) -> Result<u128> {
+pub fn copies(rt: &impl Clock, alloc: Global, target: &mut [u8], blocks: u16) -> io::Result<u128> {
     let source = vec![in alloc; 0xA5; usize::from(blocks.max(1)) * BLOCK as usize]?;
     let begin = Instant::now(rt)?;
     fill_by_copies(&source, target);

@@ -6,14 +6,13 @@
 
 mod loads;
 
-use anyhow::{Context, Result, ensure};
 use bench_common::{load, read_words};
 use loads::repeat;
 use program_interface::{BlockSize, RunSizes};
 use std::alloc::Global;
-use std::env;
 use std::rt::{Clock, Env, Files};
 use std::time::Instant;
+use std::{env, io};
 
 /// The nanoseconds of some loads.
 fn round(
@@ -22,19 +21,23 @@ fn round(
     bytes: &[u8],
     block: BlockSize,
     repeats: u32,
-) -> Result<u128> {
+) -> io::Result<u128> {
     let start = Instant::now(rt)?;
     let done = repeat(alloc, bytes, block, repeats);
     let spent = start.elapsed(rt)?.as_nanos();
-    ensure!(done, "a load has failed");
+    if !done {
+        return Err(io::Error::other("a load has failed"));
+    }
     Ok(spent)
 }
 
-fn main(rt: HostRuntime) -> Result<()> {
+fn main(rt: HostRuntime) -> io::Result<()> {
     let mut args = env::args(&rt)?;
     args.next();
     let asked = read_words(&rt, &mut args)?;
-    let sizes = RunSizes::new(asked.size, 0).context("nothing emitted fits no block")?;
+    let Some(sizes) = RunSizes::new(asked.size, 0) else {
+        return Err(io::Error::other("nothing emitted fits no block"));
+    };
     let verified = load(rt.alloc(), &asked.program, sizes)?;
     println!(rt; "accepted {}", verified.program().len())?;
     let mut best = u128::MAX;

@@ -10,6 +10,6 @@ pub enum VerifyFault {
     #[error("no memory")]
     Memory,
     /// The lowest slot that fails, and its least reason.
-    #[error("refused")]
+    #[error("slot {}: {}", .0.slot, .0.reason)]
     Refused(Refusal),
 }
