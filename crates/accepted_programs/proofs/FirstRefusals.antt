@@ -9,7 +9,7 @@ use Rattle.program_interface.specs.RunSizes.{Sizes}
 use Rattle.word_domain.specs.Domain.{Operations}
 use Rattle.accepted_programs.specs.Accepted.{all_reasons, fails, reason_number, reason_of, refusal_at, refusal_below, refused_at}
 use Rattle.accepted_programs.specs.Facts.{facts_at}
-use Rattle.accepted_programs.specs.FirstRefusal.{HasFacts, IsFirstRefusal, Passes}
+use Rattle.accepted_programs.specs.FirstRefusal.{HasFacts, IsFirstRefusal, IsPassed}
 use Rattle.accepted_programs.specs.Laws.{AcceptedFailsNowhere, RefusalIsFirst}
 use Rattle.accepted_programs.specs.declared.facts.Facts.{Facts}
 use Rattle.accepted_programs.specs.declared.reason.Reason.{Reason}
@@ -117,8 +117,8 @@ module _ {D : Type 0} (operations : Operations D) (program : List (Option Instru
   abbrev IsFirst : Refusal → Type 0
   IsFirst r = IsFirstRefusal operations program sizes r
 
-  abbrev PassesAt : ℕ → Type 0
-  PassesAt slot = Passes operations program sizes slot
+  abbrev IsPassedAt : ℕ → Type 0
+  IsPassedAt slot = IsPassed operations program sizes slot
 
   abbrev below : ℕ → Option Refusal
   below n = refusal_below operations program sizes n
@@ -135,25 +135,25 @@ module _ {D : Type 0} (operations : Operations D) (program : List (Option Instru
   no_reason slot None e = refl
   no_reason slot (Some reason) e = cc
 
-  passes_here : (slot : ℕ) → at slot (instruction_at program slot) (known_at slot) ≡ None → PassesAt slot
+  passes_here : (slot : ℕ) → at slot (instruction_at program slot) (known_at slot) ≡ None → IsPassedAt slot
   passes_here slot e i facts has =
       let none : option_map (refused_at slot) (reason_of operations program sizes slot facts i) ≡ None =
       rw (has.begins, has.are) at e in
       none_holds operations program sizes slot facts i (no_reason slot (reason_of operations program sizes slot facts i) none)
 
-  passes_below : (n slot : ℕ) → below n ≡ None → slot < n → PassesAt slot
+  passes_below : (n slot : ℕ) → below n ≡ None → slot < n → IsPassedAt slot
   passes_below zero slot e less = absurd (omega (arith, less))
   passes_below (suc n) slot e less =
       let none = none_before (below n) (at n (instruction_at program n) (known_at n)) e in
       elim (cases_lt slot n) [
         | inl inside ↦ passes_below n slot none.0 inside
-        | inr past ↦ let same : n ≡ slot = omega (arith, less, past) in subst PassesAt same (passes_here n none.1)
+        | inr past ↦ let same : n ≡ slot = omega (arith, less, past) in subst IsPassedAt same (passes_here n none.1)
       ]
 
   -- ---- a refusal
 
   first_reason : (slot : ℕ) (i : Instruction) (facts : Facts D) (reason : Reason) → HasFacts operations program sizes slot i facts
-      → reason_of operations program sizes slot facts i ≡ Some reason → ((s : ℕ) → s < slot → PassesAt s)
+      → reason_of operations program sizes slot facts i ≡ Some reason → ((s : ℕ) → s < slot → IsPassedAt s)
       → IsFirst (refused_at slot reason)
   first_reason slot i facts reason has e lower = record {
     instruction = i;
@@ -166,14 +166,14 @@ module _ {D : Type 0} (operations : Operations D) (program : List (Option Instru
 
   first_told : (slot : ℕ) (i : Instruction) (facts : Facts D) (reason : Option Reason) (r : Refusal) → HasFacts operations program sizes slot i facts
       → reason_of operations program sizes slot facts i ≡ reason → option_map (refused_at slot) reason ≡ Some r
-      → ((s : ℕ) → s < slot → PassesAt s) → IsFirst r
+      → ((s : ℕ) → s < slot → IsPassedAt s) → IsFirst r
   first_told slot i facts None r has is e lower = cc
   first_told slot i facts (Some reason) r has is e lower =
       let same : refused_at slot reason ≡ r = cc in
       subst IsFirst same (first_reason slot i facts reason has is lower)
 
   first_here : (slot : ℕ) (i : Option Instruction) (facts : Option (Facts D)) (r : Refusal) → instruction_at program slot ≡ i
-      → known_at slot ≡ facts → at slot i facts ≡ Some r → ((s : ℕ) → s < slot → PassesAt s) → IsFirst r
+      → known_at slot ≡ facts → at slot i facts ≡ Some r → ((s : ℕ) → s < slot → IsPassedAt s) → IsFirst r
   first_here slot (Some i) (Some facts) r begins known e lower =
       first_told slot i facts (reason_of operations program sizes slot facts i) r (record { begins = begins; are = known }) refl e lower
   first_here slot (Some i) None r begins known e lower = cc

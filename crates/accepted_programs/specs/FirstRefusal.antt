@@ -16,9 +16,9 @@ module _ {D : Type 0} (operations : Operations D) (program : List (Option Instru
     pub begins : instruction_at program slot ≡ Some i
     pub are : facts_at operations sizes.block program slot ≡ Some facts
 
-  -- no reason holds at a slot; a slot without an instruction or without facts passes always
-  abbrev pub Passes : ℕ → Type 0
-  Passes slot = (i : Instruction) (facts : Facts D) → HasFacts slot i facts
+  -- no reason holds at a slot; one without an instruction or without facts is passed always
+  abbrev pub IsPassed : ℕ → Type 0
+  IsPassed slot = (i : Instruction) (facts : Facts D) → HasFacts slot i facts
       → (reason : Reason) → fails operations program sizes slot facts i reason ≡ false
 
   -- a refusal
@@ -32,5 +32,5 @@ module _ {D : Type 0} (operations : Operations D) (program : List (Option Instru
     -- and none with a smaller number;
     pub least : (reason : Reason) → reason_number reason < reason_number refusal.reason
         → fails operations program sizes refusal.slot facts instruction reason ≡ false
-    -- each lower slot passes
-    pub lowest : (slot : ℕ) → slot < refusal.slot → Passes slot
+    -- each lower slot is passed
+    pub lowest : (slot : ℕ) → slot < refusal.slot → IsPassed slot

@@ -10,7 +10,7 @@ use Rattle.program_interface.specs.declared.TheConstants.{MOST_SLOTS}
 use Rattle.word_domain.specs.Domain.{Operations}
 use Rattle.accepted_programs.specs.Accepted.{refusal}
 use Rattle.accepted_programs.specs.Emitted.{most_emitted}
-use Rattle.accepted_programs.specs.FirstRefusal.{IsFirstRefusal, Passes}
+use Rattle.accepted_programs.specs.FirstRefusal.{IsFirstRefusal, IsPassed}
 use Rattle.accepted_programs.specs.declared.reason.Refusal.{Refusal}
 
 -- a program that these operations accept never traps
@@ -27,7 +27,7 @@ AcceptedEmitsNoMore operations = (program : List (Option Instruction)) → IsPro
     → length (block_run_of program sizes.limit (instruction_count program) 0 (at_start bytes context scratch)).state.group
     ≤ most_emitted operations program sizes.block
 
--- the slot of a refusal is one of the program's, and so below the most slots of a program
+-- the slot of a refusal is one of the program's, and so below the most slots of a program (it follows from RefusalIsFirst and BeginsInside)
 abbrev pub RefusalIsInside : {D : Type 0} → Operations D → Type 0
 RefusalIsInside operations = (program : List (Option Instruction)) → IsProgram program → (sizes : Sizes) (r : Refusal)
     → refusal operations program sizes ≡ Some r → (r.slot < length program) × (r.slot < MOST_SLOTS)
@@ -40,4 +40,4 @@ RefusalIsFirst operations = (program : List (Option Instruction)) (sizes : Sizes
 -- no slot of a program that is accepted fails a check
 abbrev pub AcceptedFailsNowhere : {D : Type 0} → Operations D → Type 0
 AcceptedFailsNowhere operations = (program : List (Option Instruction)) (sizes : Sizes)
-    → refusal operations program sizes ≡ None → (slot : ℕ) → Passes operations program sizes slot
+    → refusal operations program sizes ≡ None → (slot : ℕ) → IsPassed operations program sizes slot
