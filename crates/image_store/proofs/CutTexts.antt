@@ -16,7 +16,7 @@ use Rattle.image_store.specs.Namespace.{ZoneBlocks, ZonedNamespace, no_zone, cou
 use Rattle.program_interface.specs.Readings.{◌>>=◌}
 use Rattle.image_store.specs.Reading.{bytes_in, header_told, zones_in, blocks_in, end_in, namespace_in}
 use Rattle.image_store.specs.Text.{header, written_blocks, zone_rows, blocks_text, text_of}
-use Rattle.image_store.specs.Version.{Has}
+use Rattle.image_store.specs.Version.{HasText}
 use Rattle.image_store.proofs.TextsReadBack.{blocks_read, front_read, length-bytes, length-rows, told_of, total_small}
 use Rattle.image_store.proofs.FilledBuffers.{Split, bytes_short, bytes_whole}
 use Rattle.image_store.proofs.Headers.{header_length, header_read}
@@ -33,7 +33,7 @@ past_trailing : (s : Shape) (zones : List ZoneBlocks) (more : List ℕ) → more
 past_trailing s zones more some =
     ap (λ (r : Result Unit LoadFault). r >>= λ end. let all : Result ZonedNamespace LoadFault = Ok (namespace_with s zones) in all) (end_trailing more some)
 
-pub longer_is_trailing : (version : Version) (ns : ZonedNamespace) → IsNamespace ns → Has version (shape ns) → (more : List ℕ) → more ≢ []
+pub longer_is_trailing : (version : Version) (ns : ZonedNamespace) → IsNamespace ns → HasText version (shape ns) → (more : List ℕ) → more ≢ []
     → namespace_in (text_of version ns ++ more) ≡ Err fault.Trailing
 longer_is_trailing version ns sound has more some =
     let s = shape ns in
@@ -80,7 +80,7 @@ blocks_cut b c (zone ∷ zones) n whole h =
     ]
 
 -- the rows cut, or what is behind them
-past_cut_rows : (version : Version) (ns : ZonedNamespace) → IsNamespace ns → Has version (shape ns) → (n : ℕ) → n < length (zone_rows (counted_zones ns) ++ blocks_text ns.zones)
+past_cut_rows : (version : Version) (ns : ZonedNamespace) → IsNamespace ns → HasText version (shape ns) → (n : ℕ) → n < length (zone_rows (counted_zones ns) ++ blocks_text ns.zones)
     → namespace_in (header version (shape ns) (written_blocks (counted_zones ns)) ++ take n (zone_rows (counted_zones ns) ++ blocks_text ns.zones)) ≡ Err fault.Truncated
 past_cut_rows version ns sound has n h =
     let s = shape ns in
@@ -105,7 +105,7 @@ past_cut_rows version ns sound has n h =
           (ap zones (cut_within (s.zones * 8) front last n size (omega (arith, short.1, size))))
     ]
 
-pub cut_is_truncated : (version : Version) (ns : ZonedNamespace) → IsNamespace ns → Has version (shape ns) → (n : ℕ) → n < length (text_of version ns)
+pub cut_is_truncated : (version : Version) (ns : ZonedNamespace) → IsNamespace ns → HasText version (shape ns) → (n : ℕ) → n < length (text_of version ns)
     → namespace_in (take n (text_of version ns)) ≡ Err fault.Truncated
 unfolding namespace_in
 cut_is_truncated version ns sound has n h =

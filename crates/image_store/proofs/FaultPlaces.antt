@@ -26,7 +26,7 @@ use Rattle.image_store.specs.Namespace.{ZonedNamespace, namespace_with}
 use Rattle.program_interface.specs.Readings.{◌>>=◌}
 use Rattle.image_store.specs.Reading.{are_zeros, number_at, bytes_in, version_in, header_of, header_told, header_in, zone_told, zone_in, zones_in, total_kept, limits_kept, blocks_in, end_in, namespace_in}
 use Rattle.image_store.specs.Text.{written_blocks}
-use Rattle.image_store.specs.Version.{numbers}
+use Rattle.image_store.specs.Version.{numbers_of_version}
 use Rattle.image_store.proofs.Faults.{header_of_fault, is_this, kept_fault}
 use Rattle.image_store.proofs.FilledBuffers.{Split, bytes_short}
 use Rattle.image_store.proofs.HeaderParts.{header_parts}
@@ -184,7 +184,7 @@ header_passes bytes h there e = whole_text bytes there ∙ ap (λ (r : Result He
 
 -- the bytes of a version's magic, which alone tell the version
 abbrev version_of : List ℕ → Option Version
-version_of front = find (λ version. pointwise (λ a b. a == b) (numbers version).magic front) (One ∷ Two ∷ [])
+version_of front = find (λ version. pointwise (λ a b. a == b) (numbers_of_version version).magic front) (One ∷ Two ∷ [])
 
 no_version : (told : Option Version) (bytes : List ℕ) → told ≡ None → (ok_or told Magic >>= header_of bytes) ≡ Err Magic
 no_version told bytes e = ap (λ (v : Option Version). ok_or v Magic >>= header_of bytes) e

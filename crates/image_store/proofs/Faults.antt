@@ -24,7 +24,7 @@ use Rattle.program_interface.specs.Readings.{◌>>=◌}
 use Rattle.image_store.specs.Reading.{are_zeros, number_at, numbers_fault, numbers_in, shape_told, version_in, version_kept, zeros_kept, total_told, header_of, header_told, zone_told, zone_in, total_kept, limits_kept}
 use Rattle.image_store.specs.Refusal.{refusal_of}
 use Rattle.image_store.specs.Text.{written_blocks}
-use Rattle.image_store.specs.Version.{has_block, numbers}
+use Rattle.image_store.specs.Version.{has_block, numbers_of_version}
 use Rattle.image_store.proofs.ReadingCalls.{bind_err}
 
 abbrev pub IsOfText : LoadFault → Type 0
@@ -81,9 +81,9 @@ module _ (P : LoadFault → Type 0) (of_header : (why : HeaderFault) → P (BadH
       let kept : Shape → Result Header LoadFault = λ s. version_kept version s >>= λ k. zeros s in
       bind_err P (numbers_in (shape_told bytes)) kept fault e (numbers_text_fault (first_failed (shape_checks (shape_told bytes))) (shape_told bytes)) (λ s e2.
       bind_err P (version_kept version s) (λ k. zeros s) fault e2
-      (version_text_fault (has_block version s.block) (nat_le s.zones (numbers version).most_zones) (VersionBlock version s.block) (VersionZones version s.zones)) (λ k e3.
+      (version_text_fault (has_block version s.block) (nat_le s.zones (numbers_of_version version).most_zones) (VersionBlock version s.block) (VersionZones version s.zones)) (λ k e3.
       bind_err P (zeros_kept version bytes) (λ z. Ok (made s)) fault e3
-      (λ first. kept_fault P (are_zeros (drop (numbers version).zeros_from bytes)) (BadHeader (ReservedHeader version)) first (of_header (ReservedHeader version))) (λ z e4. absurd cc)))
+      (λ first. kept_fault P (are_zeros (drop (numbers_of_version version).zeros_from bytes)) (BadHeader (ReservedHeader version)) first (of_header (ReservedHeader version))) (λ z e4. absurd cc)))
 
 pub header_text_fault : (bytes : List ℕ) (fault : LoadFault) → header_told bytes ≡ Err fault → IsOfText fault
 header_text_fault bytes fault e =

@@ -33,7 +33,7 @@ use Rattle.image_store.specs.ImageInMemory.{no_counted_zone, zone_seen}
 use Rattle.image_store.specs.Namespace.{ZoneBlocks, ZonedNamespace, namespace_with}
 use Rattle.image_store.specs.Reading.{are_zeros, number_at, numbers_fault, numbers_in, version_in, version_kept, zeros_kept, total_told, bytes_in, header_of, header_told, zone_told, zone_in, zones_in, total_kept, limits_kept, blocks_in, end_in}
 use Rattle.image_store.specs.Text.{written_blocks}
-use Rattle.image_store.specs.Version.{Has, has_block, numbers}
+use Rattle.image_store.specs.Version.{HasText, has_block, numbers_of_version}
 use Rattle.image_store.proofs.FaultPlaces.{bind_fails, short_rows, short_text, unknown, whole_rows, whole_text}
 use Rattle.image_store.proofs.Faults.{is_this}
 use Rattle.image_store.proofs.FilledBuffers.{Split}
@@ -48,13 +48,13 @@ wrong {X} false x first fault e = (refl, is_this {X = X} first fault e)
 
 -- ---- the magic
 
-begins_by : (version : Version) (bytes : List ℕ) → take 8 bytes ≡ (numbers version).magic → begins (take 64 bytes) version ≡ true
-begins_by One bytes e = ap (λ (front : List ℕ). pointwise (λ a b. a == b) (numbers One).magic front) (take-take 8 64 bytes (omega arith) ∙ e)
-begins_by Two bytes e = ap (λ (front : List ℕ). pointwise (λ a b. a == b) (numbers Two).magic front) (take-take 8 64 bytes (omega arith) ∙ e)
+begins_by : (version : Version) (bytes : List ℕ) → take 8 bytes ≡ (numbers_of_version version).magic → begins (take 64 bytes) version ≡ true
+begins_by One bytes e = ap (λ (front : List ℕ). pointwise (λ a b. a == b) (numbers_of_version One).magic front) (take-take 8 64 bytes (omega arith) ∙ e)
+begins_by Two bytes e = ap (λ (front : List ℕ). pointwise (λ a b. a == b) (numbers_of_version Two).magic front) (take-take 8 64 bytes (omega arith) ∙ e)
 
-magic_of : (version : Version) (bytes : List ℕ) → begins (take 64 bytes) version ≡ true → take 8 bytes ≡ (numbers version).magic
-magic_of One bytes e = sym (take-take 8 64 bytes (omega arith)) ∙ sym ((bytes_eq-Decides (numbers One).magic (take 8 (take 64 bytes))).0 e)
-magic_of Two bytes e = sym (take-take 8 64 bytes (omega arith)) ∙ sym ((bytes_eq-Decides (numbers Two).magic (take 8 (take 64 bytes))).0 e)
+magic_of : (version : Version) (bytes : List ℕ) → begins (take 64 bytes) version ≡ true → take 8 bytes ≡ (numbers_of_version version).magic
+magic_of One bytes e = sym (take-take 8 64 bytes (omega arith)) ∙ sym ((bytes_eq-Decides (numbers_of_version One).magic (take 8 (take 64 bytes))).0 e)
+magic_of Two bytes e = sym (take-take 8 64 bytes (omega arith)) ∙ sym ((bytes_eq-Decides (numbers_of_version Two).magic (take 8 (take 64 bytes))).0 e)
 
 neither : (test : Version → Bool) (a b : Bool) → test One ≡ a → test Two ≡ b → cond a (Some One) (cond b (Some Two) None) ≡ None → (version : Version) → test version ≡ false
 neither test true b first second e version = absurd cc
@@ -62,7 +62,7 @@ neither test false true first second e version = absurd cc
 neither test false false first second e One = first
 neither test false false first second e Two = second
 
-no_magic : (bytes : List ℕ) → version_in (take 64 bytes) ≡ None → (version : Version) → take 8 bytes ≢ (numbers version).magic
+no_magic : (bytes : List ℕ) → version_in (take 64 bytes) ≡ None → (version : Version) → take 8 bytes ≢ (numbers_of_version version).magic
 no_magic bytes none version e =
     let yes = begins_by version bytes e in
     let no = neither (begins (take 64 bytes)) (begins (take 64 bytes) One) (begins (take 64 bytes) Two) refl refl none version in
@@ -80,13 +80,13 @@ module _ (bytes : List ℕ) (version : Version) (begun : Begins version bytes) w
   numbers_wrong (Some first) fault is e =
       subst (IsFirstFault bytes) (is_this {X = Shape} (numbers_fault s first) fault e) (version, begun, (first, (first_failed_is_first GeometryFault (shape_checks s) first).0 is, refl))
 
-  version_wrong : (a b : Bool) (fault : LoadFault) → IsShape s → has_block version s.block ≡ a → nat_le s.zones (numbers version).most_zones ≡ b
+  version_wrong : (a b : Bool) (fault : LoadFault) → IsShape s → has_block version s.block ≡ a → nat_le s.zones (numbers_of_version version).most_zones ≡ b
       → (let r : Result (Unit {0}) LoadFault = unless_failed (first_failed (demand a (BadHeader (VersionBlock version s.block)) ∷ demand b (BadHeader (VersionZones version s.zones)) ∷ [])) tt in r) ≡ Err fault
       → IsFirstFault bytes fault
   version_wrong true true fault known block zones e = absurd cc
   version_wrong true false fault known block zones e =
       subst (IsFirstFault bytes) (is_this {X = Unit {0}} (BadHeader (VersionZones version s.zones)) fault e)
-      (version, begun, (refl, refl, known, block, leb-false s.zones (numbers version).most_zones zones))
+      (version, begun, (refl, refl, known, block, leb-false s.zones (numbers_of_version version).most_zones zones))
   version_wrong false b fault known block zones e =
       subst (IsFirstFault bytes) (is_this {X = Unit {0}} (BadHeader (VersionBlock version s.block)) fault e) (version, begun, (refl, refl, known, block))
 
@@ -100,10 +100,10 @@ module _ (bytes : List ℕ) (version : Version) (begun : Begins version bytes) w
       let known = pass.known in
       let later_s : (version_kept version s >>= λ k. zeros s) ≡ Err fault = subst (λ (t : Shape). (version_kept version t >>= λ k. zeros t) ≡ Err fault) (sym pass.same) later in
       bind_fails (IsFirstFault bytes) (version_kept version s) (λ k. zeros s) fault later_s
-      (λ first. version_wrong (has_block version s.block) (nat_le s.zones (numbers version).most_zones) first known refl refl) (λ k kept last.
+      (λ first. version_wrong (has_block version s.block) (nat_le s.zones (numbers_of_version version).most_zones) first known refl refl) (λ k kept last.
       bind_fails (IsFirstFault bytes) (zeros_kept version header) (λ z. Ok (made s)) fault last
       (λ first bad.
-      let p = wrong (are_zeros (drop (numbers version).zeros_from header)) tt (BadHeader (ReservedHeader version)) first bad in
+      let p = wrong (are_zeros (drop (numbers_of_version version).zeros_from header)) tt (BadHeader (ReservedHeader version)) first bad in
       subst (IsFirstFault bytes) p.1 (version, begun, (refl, known, version_has version s k kept, p.0)))
       (λ z fine none. absurd cc)))
 
@@ -136,7 +136,7 @@ header_is_read bytes h there told =
       header = record {
         begins = begun_by bytes parts.version there parts.begins;
         shape = subst IsShape (sym parts.same) parts.known;
-        has = subst (Has parts.version) (sym parts.same) parts.has;
+        has = subst (HasText parts.version) (sym parts.same) parts.has;
         zeros = parts.zeros;
       };
       same = parts.same;

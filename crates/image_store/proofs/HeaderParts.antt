@@ -15,13 +15,13 @@ use Rattle.zone_state.specs.Checks.{demand, first_failed, unless_failed}
 use Rattle.image_store.specs.Geometry.{Shape, IsShape, shape_checks}
 use Rattle.program_interface.specs.Readings.{◌>>=◌}
 use Rattle.image_store.specs.Reading.{are_zeros, numbers_fault, numbers_in, shape_told, version_in, version_checks, version_kept, zeros_kept, total_told, header_of, header_told}
-use Rattle.image_store.specs.Version.{Has, has_block, numbers}
+use Rattle.image_store.specs.Version.{HasText, has_block, numbers_of_version}
 use Rattle.image_store.proofs.ReadingCalls.{bind_ok, ok_is, chosen}
 use Rattle.image_store.proofs.Shapes.{both, none_fails, shape_is}
 
 -- do bytes begin with a version's magic?
 abbrev pub begins : List ℕ → Version → Bool
-begins bytes version = starts_with (λ a b. a == b) bytes (numbers version).magic
+begins bytes version = starts_with (λ a b. a == b) bytes (numbers_of_version version).magic
 
 either : (test : Version → Bool) (version : Version) (a b : Bool) → test One ≡ a → test Two ≡ b → cond a (Some One) (cond b (Some Two) None) ≡ Some version → test version ≡ true
 either test One true b first second e = first
@@ -51,12 +51,12 @@ passed told s e =
     let p = passed_by told s (first_failed (shape_checks told)) e in
     record { same = p.1; known = shape_is told told (ap (λ (check : Option GeometryFault). unless_failed check told) p.0) }
 
-pub version_has : (version : Version) (s : Shape) (done : Unit {0}) → version_kept version s ≡ Ok done → Has version s
+pub version_has : (version : Version) (s : Shape) (done : Unit {0}) → version_kept version s ≡ Ok done → HasText version s
 version_has version s done e =
-    let zones : Option LoadFault = first_failed (demand (nat_le s.zones (numbers version).most_zones) (fault.Header (header_fault.VersionZones version s.zones)) ∷ []) in
+    let zones : Option LoadFault = first_failed (demand (nat_le s.zones (numbers_of_version version).most_zones) (fault.Header (header_fault.VersionZones version s.zones)) ∷ []) in
     let a = both (has_block version s.block) (fault.Header (header_fault.VersionBlock version s.block)) zones (none_fails (first_failed (version_checks version s)) tt done e) in
-    let b = both (nat_le s.zones (numbers version).most_zones) (fault.Header (header_fault.VersionZones version s.zones)) None a.1 in
-    record { block = a.0; zones = leb-true s.zones (numbers version).most_zones b.0 }
+    let b = both (nat_le s.zones (numbers_of_version version).most_zones) (fault.Header (header_fault.VersionZones version s.zones)) None a.1 in
+    record { block = a.0; zones = leb-true s.zones (numbers_of_version version).most_zones b.0 }
 
 -- the version, and what holds of the shape
 pub record IsHeader (bytes : List ℕ) (header : Header) : Type 0 where
@@ -64,8 +64,8 @@ pub record IsHeader (bytes : List ℕ) (header : Header) : Type 0 where
   pub begins : begins bytes version ≡ true
   pub same : shape_told bytes ≡ header.geometry
   pub known : IsShape header.geometry
-  pub has : Has version header.geometry
-  pub zeros : are_zeros (drop (numbers version).zeros_from bytes) ≡ true
+  pub has : HasText version header.geometry
+  pub zeros : are_zeros (drop (numbers_of_version version).zeros_from bytes) ≡ true
   pub total : header.total ≡ total_told version bytes
 
 pub header_parts : (bytes : List ℕ) (header : Header) → header_told bytes ≡ Ok header → IsHeader bytes header
@@ -84,6 +84,6 @@ header_parts bytes header e =
       same = pass.same;
       known = subst IsShape pass.same pass.known;
       has = version_has version s.0 k.0 k.1;
-      zeros = (chosen (are_zeros (drop (numbers version).zeros_from bytes)) tt z.0 (fault.Header (header_fault.Reserved version)) z.1).0;
+      zeros = (chosen (are_zeros (drop (numbers_of_version version).zeros_from bytes)) tt z.0 (fault.Header (header_fault.Reserved version)) z.1).0;
       total = refl;
     })

@@ -16,7 +16,7 @@ use Rattle.image_store.specs.Geometry.{Shape, IsShape, shape_of, shape_checks}
 use Rattle.program_interface.specs.Readings.{◌>>=◌}
 use Rattle.image_store.specs.Reading.{numbers_fault, numbers_in, shape_told, version_kept, zeros_kept, total_told, header_of, header_told, header_in}
 use Rattle.image_store.specs.Text.{four_bytes, numbers_of, header_end, header}
-use Rattle.image_store.specs.Version.{Has, numbers}
+use Rattle.image_store.specs.Version.{HasText, numbers_of_version}
 use Rattle.image_store.proofs.FilledBuffers.{Split, bytes_whole}
 use Rattle.image_store.proofs.Shapes.{block_most, none_fails, shape_passes}
 
@@ -55,8 +55,8 @@ numbers_pass : (s : Shape) → IsShape s → numbers_in s ≡ Ok s
 numbers_pass s known =
     ap (λ (check : Option GeometryFault). unless_failed (option_map (numbers_fault s) check) s) (none_fails (first_failed (shape_checks s)) s s (shape_passes s known))
 
-version_passes : (version : Version) (s : Shape) → Has version s → version_kept version s ≡ Ok tt
-version_passes version s has = rw (has.block, le-leb s.zones (numbers version).most_zones has.zones) refl
+version_passes : (version : Version) (s : Shape) → HasText version s → version_kept version s ≡ Ok tt
+version_passes version s has = rw (has.block, le-leb s.zones (numbers_of_version version).most_zones has.zones) refl
 
 zeros_pass : (version : Version) (s : Shape) (total : ℕ) → zeros_kept version (header version s total) ≡ Ok tt
 zeros_pass One s total = refl
@@ -79,7 +79,7 @@ version_again : (version : Version) (s : Shape) (total : ℕ) → header_told (h
 version_again One s total = refl
 version_again Two s total = refl
 
-header_again : (version : Version) (s : Shape) (total : ℕ) → IsShape s → Has version s → total < 2 ^ 64 → header_told (header version s total) ≡ Ok (header_seen version s total)
+header_again : (version : Version) (s : Shape) (total : ℕ) → IsShape s → HasText version s → total < 2 ^ 64 → header_told (header version s total) ≡ Ok (header_seen version s total)
 header_again version s total known has small =
     let bytes = header version s total in
     let made : Shape → Option ℕ → Result Header LoadFault = λ s n. Ok (record { geometry = s; total = n }) in
@@ -96,7 +96,7 @@ header_length One s total = refl
 header_length Two s total = refl
 
 -- the header in front is read
-pub header_read : (version : Version) (s : Shape) (total : ℕ) (rest : List ℕ) → IsShape s → Has version s → total < 2 ^ 64
+pub header_read : (version : Version) (s : Shape) (total : ℕ) (rest : List ℕ) → IsShape s → HasText version s → total < 2 ^ 64
     → header_in (header version s total ++ rest) ≡ Ok (header_seen version s total, rest)
 header_read version s total rest known has small =
     ap (λ (r : Result Split LoadFault). r >>= λ front. header_told front.0 >>= λ told. Ok (told, front.1)) (bytes_whole 64 (header version s total) rest (header_length version s total))

@@ -22,7 +22,7 @@ use Rattle.image_store.specs.Namespace.{ZoneBlocks, ZonedNamespace, counted, sha
 use Rattle.program_interface.specs.Readings.{◌>>=◌}
 use Rattle.image_store.specs.Reading.{are_zeros, total_told, header_told, header_in, total_kept, zone_told, zone_in, zones_in, zone_rows_in, limits_kept, blocks_in, end_in, namespace_in, bytes_in}
 use Rattle.image_store.specs.Text.{four_bytes, header, written_blocks, zone_row, zone_rows, blocks_text, text_of}
-use Rattle.image_store.specs.Version.{Has}
+use Rattle.image_store.specs.Version.{HasText}
 use Rattle.image_store.proofs.ReadingCalls.{bind_ok, ok_is, chosen, passed}
 use Rattle.image_store.proofs.ByteParts.{front_fit, rest_fit}
 use Rattle.image_store.proofs.FilledBuffers.{bytes_parts, bytes_size}
@@ -39,7 +39,7 @@ pub record IsHeaded (bytes : List ℕ) (told : Header) (rest : List ℕ) : Type 
   pub total : ℕ
   pub spelled : header version told.geometry total ++ rest ≡ bytes
   pub known : IsShape told.geometry
-  pub has : Has version told.geometry
+  pub has : HasText version told.geometry
   pub same : told.total ≡ total_in version total
 
 total_is : (version : Version) (xs : List ℕ) → total_told version xs ≡ total_in version (total_or_none (total_told version xs))
@@ -262,7 +262,7 @@ text_parts bytes ns fit e =
     }
 
 pub text_only : (bytes : List ℕ) (ns : ZonedNamespace) → AreBytes bytes → namespace_in bytes ≡ Ok ns
-    → (version : Version) × Has version (shape ns) × (bytes ≡ text_of version ns)
+    → (version : Version) × HasText version (shape ns) × (bytes ≡ text_of version ns)
 text_only bytes ns fit e =
     let p = text_parts bytes ns fit e in
     let s = p.told.geometry in
@@ -271,7 +271,7 @@ text_only bytes ns fit e =
     let counts = header_counted version s total p.zones p.counted.0 (ap (λ (n : Option ℕ). total_kept n p.zones) (sym p.headed.same) ∙ p.counted.1) in
     let size = size_read s p.zones p.blocks p.rows.count p.written.counted in (
       version,
-      subst (λ (x : ZonedNamespace). Has version (shape x)) p.is (subst (λ (n : ℕ). Has version (resized s n)) size p.headed.has),
+      subst (λ (x : ZonedNamespace). HasText version (shape x)) p.is (subst (λ (n : ℕ). HasText version (resized s n)) size p.headed.has),
       joined (header version s total) p.zones p.blocks bytes p.rest p.later p.last p.headed.spelled p.rows.spelled p.written.spelled p.ended
           ∙ (ap (λ (xs : List ℕ). xs ++ (zone_rows p.zones ++ blocks_text p.blocks)) counts
           ∙ (text_with version s p.zones p.blocks size p.written.counted ∙ ap (text_of version) p.is)),

@@ -11,7 +11,7 @@ use Rattle.image_store.specs.declared.version.Version.TheVariants.{One, Two}
 use Rattle.program_interface.specs.Bytes.{AreBytes}
 use Rattle.image_store.specs.Reading.{are_zeros, number_at, shape_told, total_told}
 use Rattle.image_store.specs.Text.{four_bytes, header_end, header}
-use Rattle.image_store.specs.Version.{numbers}
+use Rattle.image_store.specs.Version.{numbers_of_version}
 use Rattle.image_store.proofs.ByteParts.{bytes_from, front_fit}
 use Rattle.image_store.proofs.HeaderParts.{begins}
 
@@ -60,16 +60,16 @@ zeros_behind n k xs size zeros =
 magic_by : (magic xs : List ℕ) → bytes_eq magic (take 8 xs) ≡ true → magic ++ drop 8 xs ≡ xs
 magic_by magic xs h = ap (λ (front : List ℕ). front ++ drop 8 xs) ((bytes_eq-Decides magic (take 8 xs)).0 h) ∙ take-append-drop 8 xs
 
-magic_spelled : (version : Version) (xs : List ℕ) → begins xs version ≡ true → (numbers version).magic ++ drop 8 xs ≡ xs
-magic_spelled One xs h = magic_by (numbers One).magic xs h
-magic_spelled Two xs h = magic_by (numbers Two).magic xs h
+magic_spelled : (version : Version) (xs : List ℕ) → begins xs version ≡ true → (numbers_of_version version).magic ++ drop 8 xs ≡ xs
+magic_spelled One xs h = magic_by (numbers_of_version One).magic xs h
+magic_spelled Two xs h = magic_by (numbers_of_version Two).magic xs h
 
 -- the number that is told, if one is
 abbrev pub total_or_none : Option ℕ → ℕ
 total_or_none None = 0
 total_or_none (Some n) = n
 
-end_spelled : (version : Version) (xs : List ℕ) → length xs ≡ 64 → AreBytes xs → are_zeros (drop (numbers version).zeros_from xs) ≡ true
+end_spelled : (version : Version) (xs : List ℕ) → length xs ≡ 64 → AreBytes xs → are_zeros (drop (numbers_of_version version).zeros_from xs) ≡ true
     → header_end version (total_or_none (total_told version xs)) ≡ drop 32 xs
 end_spelled One xs size fit zeros = zeros_behind 32 32 xs size zeros
 end_spelled Two xs size fit zeros =
@@ -78,10 +78,10 @@ end_spelled Two xs size fit zeros =
     ∙ long_spelled (drop 32 xs) (omega (arith, length-drop 32 xs)) (bytes_from 32 xs fit)
 
 -- 64 bytes that pass the tests are the header of the shape that they tell
-pub header_spelled : (version : Version) (xs : List ℕ) → length xs ≡ 64 → AreBytes xs → begins xs version ≡ true → are_zeros (drop (numbers version).zeros_from xs) ≡ true
+pub header_spelled : (version : Version) (xs : List ℕ) → length xs ≡ 64 → AreBytes xs → begins xs version ≡ true → are_zeros (drop (numbers_of_version version).zeros_from xs) ≡ true
     → header version (shape_told xs) (total_or_none (total_told version xs)) ≡ xs
 header_spelled version xs size fit magic zeros =
-    let front = (numbers version).magic in
+    let front = (numbers_of_version version).magic in
     let n1 = number_at xs 8 in
     let n2 = number_at xs 12 in
     let n3 = number_at xs 16 in

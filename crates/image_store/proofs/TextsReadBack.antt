@@ -27,7 +27,7 @@ use Rattle.image_store.specs.Namespace.{ZoneBlocks, ZonedNamespace, no_zone, cou
 use Rattle.program_interface.specs.Readings.{◌>>=◌}
 use Rattle.image_store.specs.Reading.{zone_told, zone_in, zones_in, zone_rows_in, total_kept, limits_kept, blocks_in, namespace_in}
 use Rattle.image_store.specs.Text.{header, written_blocks, zone_row, zone_rows, blocks_text, text, text_of}
-use Rattle.image_store.specs.Version.{Has}
+use Rattle.image_store.specs.Version.{HasText}
 use Rattle.image_store.proofs.FilledBuffers.{Split, bytes_whole}
 use Rattle.image_store.proofs.Headers.{word_again, header_read, header_seen, total_in}
 use Rattle.image_store.proofs.ImageFields.{within_capacity}
@@ -142,7 +142,7 @@ abbrev pub told_of : Version → ZonedNamespace → Header
 told_of version ns = header_seen version (shape ns) (written_blocks (counted_zones ns))
 
 -- header and rows are read, whatever is behind them
-pub front_read : (version : Version) (ns : ZonedNamespace) (rest : List ℕ) → IsNamespace ns → Has version (shape ns)
+pub front_read : (version : Version) (ns : ZonedNamespace) (rest : List ℕ) → IsNamespace ns → HasText version (shape ns)
     → namespace_in (header version (shape ns) (written_blocks (counted_zones ns)) ++ (zone_rows (counted_zones ns) ++ rest)) ≡ after_limits (shape ns) (counted_zones ns) rest
 front_read version ns rest sound has =
     let s = shape ns in
@@ -155,7 +155,7 @@ front_read version ns rest sound has =
     ∙ (past_total h zs rest (total_read version zs)
     ∙ past_limits s zs rest (limits_read ns.limits zs sound.within)))
 
-pub text_again : (version : Version) (ns : ZonedNamespace) → IsNamespace ns → Has version (shape ns) → namespace_in (text_of version ns) ≡ Ok ns
+pub text_again : (version : Version) (ns : ZonedNamespace) → IsNamespace ns → HasText version (shape ns) → namespace_in (text_of version ns) ≡ Ok ns
 text_again version ns sound has =
     let s = shape ns in
     let zs = counted_zones ns in
@@ -164,7 +164,7 @@ text_again version ns sound has =
     front_read version ns last sound has ∙ (past_blocks s zs last [] ns.zones blocks ∙ past_end s ns.zones [] refl)
 
 -- the last version has the shape of each namespace
-pub last_has : (s : Shape) → IsShape s → Has Two s
+pub last_has : (s : Shape) → IsShape s → HasText Two s
 last_has s known = record { block = known.block_size; zones = known.zones_most }
 
 -- what is saved is read as what it was saved of

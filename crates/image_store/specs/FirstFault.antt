@@ -18,12 +18,12 @@ use Rattle.image_store.specs.ImageInMemory.{no_counted_zone}
 use Rattle.image_store.specs.Reading.{are_zeros, namespace_in, number_at, shape_told, total_told}
 use Rattle.image_store.specs.Refusal.{refusal_of}
 use Rattle.image_store.specs.Text.{written_blocks}
-use Rattle.image_store.specs.Version.{Has, has_block, numbers}
+use Rattle.image_store.specs.Version.{HasText, has_block, numbers_of_version}
 
 -- a text as long as a header, which begins with the magic of a version
 pub record Begins (version : Version) (bytes : List ℕ) : Type 0 where
   pub whole : 64 ≤ length bytes
-  pub magic : take 8 bytes ≡ (numbers version).magic
+  pub magic : take 8 bytes ≡ (numbers_of_version version).magic
 
 -- the shape that the header of a text tells
 abbrev pub shape_in : List ℕ → Shape
@@ -39,17 +39,17 @@ IsHeaderFault version header s (header_faults.VersionBlock told block) =
     (told ≡ version) × (block ≡ s.block) × IsShape s × (has_block version s.block ≡ false)
 -- some block has, but the version hasn't so many zones;
 IsHeaderFault version header s (header_faults.VersionZones told zones) =
-    (told ≡ version) × (zones ≡ s.zones) × IsShape s × (has_block version s.block ≡ true) × ((numbers version).most_zones < s.zones)
+    (told ≡ version) × (zones ≡ s.zones) × IsShape s × (has_block version s.block ≡ true) × ((numbers_of_version version).most_zones < s.zones)
 -- the version has all that, but what stands behind isn't zero
 IsHeaderFault version header s (header_faults.Reserved told) =
-    (told ≡ version) × IsShape s × Has version s × (are_zeros (drop (numbers version).zeros_from header) ≡ false)
+    (told ≡ version) × IsShape s × HasText version s × (are_zeros (drop (numbers_of_version version).zeros_from header) ≡ false)
 
 -- a text whose header has no fault
 pub record HasHeader (version : Version) (bytes : List ℕ) : Type 0 where
   pub begins : Begins version bytes
   pub shape : IsShape (shape_in bytes)
-  pub has : Has version (shape_in bytes)
-  pub zeros : are_zeros (drop (numbers version).zeros_from (take 64 bytes)) ≡ true
+  pub has : HasText version (shape_in bytes)
+  pub zeros : are_zeros (drop (numbers_of_version version).zeros_from (take 64 bytes)) ≡ true
 
 -- the row of the zone with this number
 abbrev pub row_at : List ℕ → ℕ → List ℕ
@@ -123,7 +123,7 @@ EndsEarly bytes =
 abbrev pub IsFirstFault : List ℕ → LoadFault → Type 0
 IsFirstFault bytes faults.Truncated = EndsEarly bytes
 -- a header is there, but has the magic of no version;
-IsFirstFault bytes faults.Magic = (64 ≤ length bytes) × ((version : Version) → take 8 bytes ≢ (numbers version).magic)
+IsFirstFault bytes faults.Magic = (64 ≤ length bytes) × ((version : Version) → take 8 bytes ≢ (numbers_of_version version).magic)
 -- it has that of one, and this is wrong behind it;
 IsFirstFault bytes (faults.Header why) = (version : Version) × Begins version bytes × IsHeaderFault version (take 64 bytes) (shape_in bytes) why
 -- it has no fault, and this is wrong with the first row that tells no zone;

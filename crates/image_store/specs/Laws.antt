@@ -12,7 +12,7 @@ use Rattle.image_store.specs.Namespace.{ZonedNamespace, shape, IsNamespace}
 use Rattle.program_interface.specs.Readings.{◌>>=◌}
 use Rattle.image_store.specs.Reading.{shape_told, namespace_in}
 use Rattle.image_store.specs.Text.{text, text_of}
-use Rattle.image_store.specs.Version.{Has, has_block, numbers}
+use Rattle.image_store.specs.Version.{HasText, has_block, numbers_of_version}
 
 -- what is saved loads again as the same namespace
 abbrev pub SavedTextsLoad : Type 0
@@ -21,7 +21,7 @@ SavedTextsLoad = (ns : ZonedNamespace) → IsNamespace ns → namespace_in (text
 -- and so does its text of each version that has its shape
 abbrev pub EachVersionLoads : Type 0
 EachVersionLoads =
-    (version : Version) (ns : ZonedNamespace) → IsNamespace ns → Has version (shape ns) → namespace_in (text_of version ns) ≡ Ok ns
+    (version : Version) (ns : ZonedNamespace) → IsNamespace ns → HasText version (shape ns) → namespace_in (text_of version ns) ≡ Ok ns
 
 -- what loads is a namespace that an image can have
 abbrev pub LoadedIsNamespace : Type 0
@@ -31,7 +31,7 @@ LoadedIsNamespace = (bytes : List ℕ) (ns : ZonedNamespace) → AreBytes bytes 
 abbrev pub OnlyTextsLoad : Type 0
 OnlyTextsLoad =
     (bytes : List ℕ) (ns : ZonedNamespace) → AreBytes bytes → namespace_in bytes ≡ Ok ns
-    → (version : Version) × Has version (shape ns) × (bytes ≡ text_of version ns)
+    → (version : Version) × HasText version (shape ns) × (bytes ≡ text_of version ns)
 
 -- what is saved of an image that was loaded stands for the same namespace as what was loaded
 abbrev pub UpgradedStandsForTheSame : Type 0
@@ -49,13 +49,13 @@ UpgradingTwiceIsOnce = (bytes new : List ℕ) → AreBytes bytes → upgraded by
 -- a text that was cut, wherever, is refused as cut short
 abbrev pub CutTextsAreTruncated : Type 0
 CutTextsAreTruncated =
-    (version : Version) (ns : ZonedNamespace) → IsNamespace ns → Has version (shape ns)
+    (version : Version) (ns : ZonedNamespace) → IsNamespace ns → HasText version (shape ns)
     → (n : ℕ) → n < length (text_of version ns) → namespace_in (take n (text_of version ns)) ≡ Err fault.Truncated
 
 -- and one with more behind it, whatever that is, as trailing
 abbrev pub LongerTextsAreTrailing : Type 0
 LongerTextsAreTrailing =
-    (version : Version) (ns : ZonedNamespace) → IsNamespace ns → Has version (shape ns)
+    (version : Version) (ns : ZonedNamespace) → IsNamespace ns → HasText version (shape ns)
     → (more : List ℕ) → more ≢ [] → namespace_in (text_of version ns ++ more) ≡ Err fault.Trailing
 
 -- how many zones the header of a text tells
@@ -85,8 +85,8 @@ ShapesAreTested = (s : Shape) → IsShape s ↔ (tested s ≡ Ok s)
 -- the device has each block size, and as many zones, as a version has
 abbrev pub VersionsAreKnown : Type 0
 VersionsAreKnown =
-    (version : Version) → ((bytes : ℕ) → has_block version bytes ≡ true → IsBlockSize bytes) × ((numbers version).most_zones ≤ MOST_ZONES)
+    (version : Version) → ((bytes : ℕ) → has_block version bytes ≡ true → IsBlockSize bytes) × ((numbers_of_version version).most_zones ≤ MOST_ZONES)
 
 -- and the last version has all that the device has
 abbrev pub LastVersionHasAll : Type 0
-LastVersionHasAll = (s : Shape) → IsShape s → Has Two s
+LastVersionHasAll = (s : Shape) → IsShape s → HasText Two s

@@ -24,7 +24,7 @@ use Rattle.image_store.specs.Geometry.{Shape, shape_of, shape_checks}
 use Rattle.image_store.specs.Refusal.{refusal_of}
 use Rattle.image_store.specs.Namespace.{ZoneBlocks, ZonedNamespace, namespace_with}
 use Rattle.image_store.specs.Text.{written_blocks}
-use Rattle.image_store.specs.Version.{numbers, has_block}
+use Rattle.image_store.specs.Version.{numbers_of_version, has_block}
 
 -- so many bytes, and the rest
 abbrev pub bytes_in : ℕ → List ℕ → Result (List ℕ × List ℕ) LoadFault
@@ -56,13 +56,13 @@ numbers_in s = unless_failed (numbers_check s) s
 
 -- the version whose magic the bytes begin with
 abbrev pub version_in : List ℕ → Option Version
-version_in bytes = find (λ version. starts_with (λ a b. a == b) bytes (numbers version).magic) (One ∷ Two ∷ [])
+version_in bytes = find (λ version. starts_with (λ a b. a == b) bytes (numbers_of_version version).magic) (One ∷ Two ∷ [])
 
 -- the shapes that there are, but in no text of the version
 abbrev pub version_checks : Version → Shape → List (Option LoadFault)
 version_checks version s =
     demand (has_block version s.block) (fault.Header (header_fault.VersionBlock version s.block))
-    ∷ demand (nat_le s.zones (numbers version).most_zones) (fault.Header (header_fault.VersionZones version s.zones))
+    ∷ demand (nat_le s.zones (numbers_of_version version).most_zones) (fault.Header (header_fault.VersionZones version s.zones))
     ∷ []
 
 abbrev pub version_kept : Version → Shape → Result (Unit {0}) LoadFault
@@ -71,7 +71,7 @@ version_kept version s = unless_failed (first_failed (version_checks version s))
 -- the bytes behind what a header tells are zero
 abbrev pub zeros_kept : Version → List ℕ → Result (Unit {0}) LoadFault
 zeros_kept version bytes =
-    if are_zeros (drop (numbers version).zeros_from bytes)
+    if are_zeros (drop (numbers_of_version version).zeros_from bytes)
     then Ok tt
     else Err (fault.Header (header_fault.Reserved version))
 

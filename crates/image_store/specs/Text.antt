@@ -9,7 +9,7 @@ use Rattle.image_store.specs.declared.version.Version.TheVariants.{One, Two}
 use Rattle.image_store.specs.Blocks.{bytes_of}
 use Rattle.image_store.specs.Geometry.{Shape}
 use Rattle.image_store.specs.Namespace.{ZoneBlocks, ZonedNamespace, counted_zones, shape}
-use Rattle.image_store.specs.Version.{numbers}
+use Rattle.image_store.specs.Version.{numbers_of_version}
 
 -- 32 bits, the lowest byte first
 abbrev pub four_bytes : ℕ → List ℕ
@@ -26,7 +26,7 @@ header_end Two total = little_bytes 8 total ++ replicate 24 0
 
 -- 64 bytes: the magic, the numbers, and the end
 abbrev pub header : Version → Shape → ℕ → List ℕ
-header version s total = (numbers version).magic ++ (flat_map four_bytes (numbers_of s) ++ header_end version total)
+header version s total = (numbers_of_version version).magic ++ (flat_map four_bytes (numbers_of s) ++ header_end version total)
 
 -- how many blocks of zones are written
 abbrev pub written_blocks : List CountedZone → ℕ

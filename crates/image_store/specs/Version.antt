@@ -10,16 +10,16 @@ use Rattle.image_store.specs.Geometry.{Shape}
 
 -- the first eight bytes, the bytes that a block can have, how many zones there can be at most, and from
 -- which of its 64 bytes on a header is zero
-pub record Numbers : Type 0 where
+pub record VersionNumbers : Type 0 where
   pub magic : List ℕ
   pub block_sizes : List ℕ
   pub most_zones : ℕ
   pub zeros_from : ℕ
 
 -- those of each version. Version 2 has all shapes that there are
-abbrev pub numbers : Version → Numbers
-numbers One = record { magic = codes "ZNSIMG01"; block_sizes = VERSION_1_BLOCK_SIZES; most_zones = VERSION_1_MOST_ZONES; zeros_from = 32 }
-numbers Two = record { magic = codes "ZNSIMG02"; block_sizes = BLOCK_SIZES; most_zones = MOST_ZONES; zeros_from = 40 }
+abbrev pub numbers_of_version : Version → VersionNumbers
+numbers_of_version One = record { magic = codes "ZNSIMG01"; block_sizes = VERSION_1_BLOCK_SIZES; most_zones = VERSION_1_MOST_ZONES; zeros_from = 32 }
+numbers_of_version Two = record { magic = codes "ZNSIMG02"; block_sizes = BLOCK_SIZES; most_zones = MOST_ZONES; zeros_from = 40 }
 
 -- the number by which a user is told of a version
 abbrev pub version_number : Version → ℕ
@@ -28,9 +28,9 @@ version_number Two = 2
 
 -- can a block have this many bytes in a version?
 abbrev pub has_block : Version → ℕ → Bool
-has_block version bytes = list_any (λ size. size == bytes) (numbers version).block_sizes
+has_block version bytes = list_any (λ size. size == bytes) (numbers_of_version version).block_sizes
 
 -- namespaces of this shape have a text of the version
-pub record Has (version : Version) (s : Shape) : Type 0 where
+pub record HasText (version : Version) (s : Shape) : Type 0 where
   pub block : has_block version s.block ≡ true
-  pub zones : s.zones ≤ (numbers version).most_zones
+  pub zones : s.zones ≤ (numbers_of_version version).most_zones

@@ -2,7 +2,7 @@
 
 ghost use Rattle.std.specs.Prelude.{◌≡◌, ◌≤◌};
 ghost use Rattle.image_store.specs.Reading.{version_in};
-ghost use Rattle.image_store.specs.Version.{numbers, has_block, version_number};
+ghost use Rattle.image_store.specs.Version.{numbers_of_version, has_block, version_number};
 
 use crate::geometry::MOST_ZONES;
 use program_interface::BLOCK_SIZES;
@@ -45,7 +45,7 @@ impl Version {
 
     /// The first bytes of its texts.
     pub fn magic(self) -> [u8; 8]
-        ensures { result ≡ (numbers self).magic }
+        ensures { result ≡ (numbers_of_version self).magic }
     {
         match self {
             Version::One => *b"ZNSIMG01",
@@ -65,7 +65,7 @@ impl Version {
 
     /// How many zones there can be.
     pub fn most_zones(self) -> u32
-        ensures { result ≡ (numbers self).most_zones }
+        ensures { result ≡ (numbers_of_version self).most_zones }
     {
         match self {
             Version::One => VERSION_1_MOST_ZONES,
@@ -75,7 +75,7 @@ impl Version {
 
     /// The first byte of a header from which on all are zero.
     pub fn zeros_from(self) -> usize
-        ensures value { result ≡ (numbers self).zeros_from }
+        ensures value { result ≡ (numbers_of_version self).zeros_from }
         ensures inside { result ≤ 64 }
     {
         match self {
