@@ -48,12 +48,12 @@ pub fn lending_is_finishing()
     ensures { LendingIsFinishing }
 {}
 
-/// No packing of groups has more blocks than `need` tells.
+/// No packing of groups has more blocks than `blocks_needed` tells.
 pub fn need_is_enough()
     ensures { NeedIsEnough }
 {}
 
-/// Some groups within the limit come to as many blocks as `need` tells.
+/// Some groups within the limit come to as many blocks as `blocks_needed` tells.
 pub fn need_is_met()
     ensures { NeedIsMet }
 {}

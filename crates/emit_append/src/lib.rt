@@ -2,17 +2,15 @@
 //! they can come to.
 #![tactic(auto)]
 
-mod blocks_needed;
 mod fault;
 pub mod laws;
+mod need;
 mod packer;
 mod refusal;
-#[cfg(test)]
-mod tests;
 mod unpacking;
 
-pub use blocks_needed::need;
 pub use fault::UnpackFault;
+pub use need::blocks_needed;
 pub use packer::Packer;
 pub use program_interface::{BlockSize, RunSizes};
 pub use refusal::FrameRefusal;

@@ -13,7 +13,7 @@ ghost use Rattle.zns_commands.specs.Resources.{why_not};
 use crate::active_run::Active;
 use crate::loaded_program::LoadedProgram;
 use crate::places::{free_place, holds};
-use emit_append::need;
+use emit_append::blocks_needed;
 use image_store::ZoneBlock;
 use nvme_entry::{BlockCount, PROGRAM_SLOTS, RunCommand, Status};
 use zns_commands::{Holds, Namespace, check_transfer, first_block, lowest};
@@ -83,7 +83,7 @@ fn admit(
         return Err(Status::NO_RUN_FREE);
     };
     check_source(namespace, source, order.blocks)?;
-    let blocks = need(order.blocks.get(), loaded.prepared.verified().sizes());
+    let blocks = blocks_needed(order.blocks.get(), loaded.prepared.verified().sizes());
     check_destination(namespace, &holds(runs), destination, blocks)?;
     Ok(Admitted {
         run,

@@ -4,7 +4,7 @@ ghost use Rattle.std.specs.Prelude.{◌≡◌, ◌≤◌, ◌++◌, length, OnOk
 ghost use Rattle.std.specs.List.{concat};
 ghost use Rattle.emit_append.specs.Packer.{after_put, given_by_finish, given_by_put, new_packer};
 
-use crate::{BlockSize, Packer, RunSizes, UnpackFault, need, unpack};
+use emit_append::{BlockSize, Packer, RunSizes, UnpackFault, blocks_needed, unpack};
 use std::alloc::{AllocError, Global};
 use std::test::Fail;
 
@@ -33,7 +33,7 @@ fn bounds_the_blocks(rt: HostRuntime) {
         let size = BlockSize::new(block).expect(&rt, "a block size");
         let sizes = RunSizes::new(size, limit).expect(&rt, "a group that fits");
         assert_eq!(rt;
-            need(groups, sizes),
+            blocks_needed(groups, sizes),
             blocks,
             "for {groups} groups of {limit}"
         );
