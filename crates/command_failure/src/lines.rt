@@ -167,13 +167,13 @@ fn print_program<W: Write>(out: &mut W, path: &str, refusal: ProgramRefusal) -> 
 fn print_frame<W: Write>(out: &mut W, path: &str, refusal: FrameRefusal) -> io::Result<()>
     ensures { OnOk result (IsPrinted (frame_text path.now refusal) (W.contents out.old) (W.contents out.new)) }
 {
-    let place = refusal.place();
+    let byte = refusal.refused_byte();
     print_refusal(
         out,
         path,
         ", ",
         refusal,
-        format_args!("frame refused {place}"),
+        format_args!("frame refused {byte}"),
     )
 }
 

@@ -9,7 +9,7 @@ use thiserror::Error;
 /// Why output blocks could not be read back.
 #[derive(Clone, Copy, Debug, PartialEq, Eq, Error)]
 pub enum UnpackFault {
-    /// The byte at this place is the lowest one that is refused: the length of a frame that passes
+    /// The byte with this number is the lowest one that is refused: the length of a frame that passes
     /// its block's end, a byte other than zero where no frame follows, or the first byte of a last
     /// part that is shorter than a block.
     #[error("byte {0} is refused")]

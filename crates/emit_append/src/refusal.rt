@@ -9,16 +9,16 @@ use thiserror::Error;
 /// The lowest byte of output blocks that is refused, counted from 0, and what stands there.
 #[derive(Clone, Copy, Debug, PartialEq, Eq, Error)]
 pub enum FrameRefusal {
-    /// So many bytes, `left`, stand behind the last whole block, the first of them at this place.
+    /// So many bytes, `left`, stand behind the last whole block, of which the first is byte `at`.
     #[error("byte {at}: {left} of the {block} bytes of a block; whole blocks are expected")]
     Part { at: usize, left: usize, block: u32 },
-    /// A byte at this place that begins neither a frame nor zeros.
+    /// Byte `at`, which begins neither a frame nor zeros, and what it is.
     #[error("byte {at}: {byte:02x}h; a frame that ends in its block, or zeros to its end, are expected")]
     Byte { at: usize, byte: u8 },
 }
 
 impl FrameRefusal {
-    /// What stands at this place of these bytes, where [`unpack`](crate::unpack) refuses it.
+    /// What stands at byte `at` of these bytes, where [`unpack`](crate::unpack) refuses it.
     pub fn of(at: usize, bytes: &[u8], block: BlockSize) -> FrameRefusal
         ensures { refused_byte result ≡ at }
     {
@@ -33,8 +33,8 @@ impl FrameRefusal {
         }
     }
 
-    /// The place of the byte.
-    pub fn place(self) -> usize
+    /// Which byte is refused.
+    pub fn refused_byte(self) -> usize
         ensures { result ≡ refused_byte self }
     {
         match self {

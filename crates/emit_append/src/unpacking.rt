@@ -35,7 +35,7 @@ pub fn unpack(alloc: Global, bytes: &[u8], block: BlockSize) -> Result<Vec<Vec<u
     Ok(records)
 }
 
-/// Adds the records of a block, whose first byte is at place `at`.
+/// Adds the records of a block, whose first byte is byte `at`.
 fn read_block(
     alloc: Global,
     block: &[u8],
@@ -46,19 +46,19 @@ fn read_block(
     ensures { Gives place_told (λ _. record_bytes records.new.items) result (then_read (record_bytes records.old.items) (output_block_at at block.now)) }
 {
     let mut rest = block;
-    let mut place = at;
+    let mut byte = at;
     let mut length = frame_length(rest);
     while length > 0 {
         if rest.len() < FRAME_LENGTH_BYTES + length {
-            return Err(UnpackFault::At(place));
+            return Err(UnpackFault::At(byte));
         }
         let (frame, after) = rest.split_at(FRAME_LENGTH_BYTES + length);
         records.push(Vec::from_slice(alloc, &frame[FRAME_LENGTH_BYTES..])?)?;
         rest = after;
-        place += FRAME_LENGTH_BYTES + length;
+        byte += FRAME_LENGTH_BYTES + length;
         length = frame_length(rest);
     }
-    check_zeros(rest, place)
+    check_zeros(rest, byte)
 }
 
 /// The length of the frame in front; 0 where no frame follows.

@@ -4,10 +4,10 @@ use Rattle.emit_append.proofs.unpacking.read_block.Given as goal
 
 abbrev pub invariant-loop-length : goal.invariant-loop-length
 invariant-loop-length l = record {
-  read : then_read (record_bytes l.records.items) (output_block_at l.place l.rest) ≡ then_read (record_bytes l.initial.records.items) (output_block_at l.at l.block);
+  read : then_read (record_bytes l.records.items) (output_block_at l.byte l.rest) ≡ then_read (record_bytes l.initial.records.items) (output_block_at l.at l.block);
   front : l.length ≡ frame_length l.rest;
   small : l.length < 2 ^ 16;
-  places : l.place + length l.rest ≡ l.at + length l.block;
+  bytes : l.byte + length l.rest ≡ l.at + length l.block;
 }
 
 abbrev pub decreases-loop-length : goal.decreases-loop-length
