@@ -13,7 +13,7 @@ use Rattle.nvme_entry.proofs.Proved.{demanded, passed}
 use Rattle.word_domain.specs.Domain.{Operations}
 use Rattle.zns_commands.specs.Meaning.{meaning}
 use Rattle.zns_commands.specs.Transfer.{transfer_checks}
-use Rattle.zns_commands.proofs.Proved.{refused_changes_nothing}
+use Rattle.zns_commands.proofs.Proved.{refused_commands_change_nothing}
 use Rattle.pushdown.specs.Admission.{Loaded, admission_checks}
 use Rattle.pushdown.specs.EventReplies.{Happening, Submission, completed, plain}
 use Rattle.pushdown.specs.Happenings.{result_by, start_by, submitted, why_not_run}
@@ -55,7 +55,7 @@ module _ {D : Type 0} (operations : Operations D) (starved : Bool) (sub : Submis
         dw1 = done.dw1;
         output = done.output;
         reply = refl;
-        state = λ other. ap (with_namespace s) (refused_changes_nothing s.namespace (holds_at s) c sub.input other).namespace;
+        state = λ other. ap (with_namespace s) (refused_commands_change_nothing s.namespace (holds_at s) c sub.input other).namespace;
       })
   replied (Ok (command.Load load)) = inr (loading_is operations sub s load starved).answered
   replied (Ok (command.Run order)) = start_replied (why_not_run sub s order) (free_place s) order refl refl

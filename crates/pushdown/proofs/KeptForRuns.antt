@@ -11,7 +11,7 @@ use Rattle.zone_state.specs.Checks.{first_failed}
 use Rattle.nvme_entry.specs.declared.command.LoadCommand.{LoadCommand}
 use Rattle.word_domain.specs.Domain.{Operations}
 use Rattle.image_store.specs.Namespace.{zone_at}
-use Rattle.zns_commands.proofs.Proved.{grows_by_none, sources_keep_blocks, events_keep_shapes}
+use Rattle.zns_commands.proofs.Proved.{grows_by_none, held_sources_keep_blocks, events_keep_shapes}
 use Rattle.nvme_entry.proofs.Proved.{demanded, passed}
 use Rattle.zone_resources.proofs.Proved.{users_name_zones}
 use Rattle.pushdown.specs.Admission.{Loaded, SameProgram}
@@ -81,7 +81,7 @@ module _ {D : Type 0} (operations : Operations D) where
   event_keeps s starved e run place at = after_event operations (KeepsFor place s) s starved e (record {
     same = unchanged place s;
     step = λ step same is. record {
-      source = sources_keep_blocks step s.namespace place.source
+      source = held_sources_keep_blocks step s.namespace place.source
           (subst (λ (holds : Holds). is_source holds place.source ≡ true) (sym same) (source_at s.places run place at));
       program = same_program (program_at s place.slot);
       sizes = events_keep_shapes step s.namespace;

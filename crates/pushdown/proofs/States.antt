@@ -34,7 +34,7 @@ use Rattle.image_store.specs.Namespace.{ZonedNamespace, IsNamespace, zone_at}
 use Rattle.image_store.proofs.Proved.{block_most}
 use Rattle.zns_commands.specs.Left as kept
 use Rattle.zns_commands.specs.Laws.{IsSpelled, NamespaceEvent, after}
-use Rattle.zns_commands.proofs.Proved.{destinations_are_left, events_keep_namespaces, events_keep_shapes}
+use Rattle.zns_commands.proofs.Proved.{held_destinations_are_left, events_keep_namespaces, events_keep_shapes}
 use Rattle.nvme_entry.proofs.Proved.{demanded, passed}
 use Rattle.pushdown.specs.Admission.{Loaded, admission_checks, source_blocks, task_of}
 use Rattle.pushdown.specs.EventReplies.{Submission}
@@ -145,7 +145,7 @@ module _ {D : Type 0} (operations : Operations D) (never : AcceptedNeverTraps op
         places = h.places;
         apart = h.apart;
         rooms = kept_rooms s (with_namespace s (after step s.namespace)) refl (ap (λ (x : Shape). x.capacity) kept_shape)
-            (λ j p at. destinations_are_left step s.namespace p.destination
+            (λ j p at. held_destinations_are_left step s.namespace p.destination
             (subst (λ (holds : Holds). is_destination holds p.destination ≡ true) (sym same) (held_at s.places j p at))) h.rooms;
       }
 

@@ -7,7 +7,7 @@ use Rattle.zone_resources.specs.Holds.{is_destination}
 use Rattle.zone_resources.specs.declared.holds.Holds.{Holds}
 use Rattle.word_domain.specs.Domain.{Operations}
 use Rattle.image_store.specs.Namespace.{ZoneBlocks, ZonedNamespace, zone_at}
-use Rattle.zns_commands.proofs.Proved.{destinations_are_left}
+use Rattle.zns_commands.proofs.Proved.{held_destinations_are_left}
 use Rattle.pushdown.specs.Admission.{SameProgram}
 use Rattle.pushdown.specs.EventReplies.{Happening}
 use Rattle.pushdown.specs.Events.{Occurrence, state_after}
@@ -34,7 +34,7 @@ foreign_zone operations s starved e run place foreign h at =
     after_event operations (λ (t : State). zone_at t.namespace d ≡ zone_at s.namespace d) s starved e (record {
       same = refl;
       step = λ step same is.
-          destinations_are_left step s.namespace d (subst (λ (holds : Holds). is_destination holds d ≡ true) (sym same) (held_at s.places run place at));
+          held_destinations_are_left step s.namespace d (subst (λ (holds : Holds). is_destination holds d ≡ true) (sym same) (held_at s.places run place at));
       load = λ sub load t are takes. refl;
       start = λ sub order first passed free some. refl;
       turn = λ other p turn later is there first.

@@ -14,7 +14,7 @@ use Rattle.image_store.specs.Blocks.{bytes_of}
 use Rattle.image_store.specs.Namespace.{ZoneBlocks, ZonedNamespace, IsNamespace, appended, grown, no_zone, zone_at}
 use Rattle.image_store.proofs.Proved.{block_most, block_some}
 use Rattle.zns_commands.specs.Append.{TakesBlocks, append_checks}
-use Rattle.zns_commands.proofs.Proved.{blocks_are_the_effect, blocks_keep_namespaces, taken_blocks_pass}
+use Rattle.zns_commands.proofs.Proved.{blocks_are_the_effect, added_blocks_keep_namespaces_sound, taken_blocks_pass}
 use Rattle.pushdown.specs.Laws.{IsAppended, RoomIn, RoomIsOpen, RoomStays}
 use Rattle.pushdown.specs.Happenings.{added}
 use Rattle.pushdown.specs.Outcome.{Ending, Turn, appended_by}
@@ -67,7 +67,7 @@ module _ (ns : ZonedNamespace) (z : ℕ) (b : List ℕ) (bs : List (List ℕ)) (
   pub more_sound : IsNamespace ns → AreBlocks ns.block more → IsNamespace (added ns z more)
   more_sound sound new =
       subst IsNamespace (sym (more_added sound new))
-      (blocks_keep_namespaces ns z (bytes_of more) sound (more_takes sound new) (bytes_are ns.block more new))
+      (added_blocks_keep_namespaces_sound ns z (bytes_of more) sound (more_takes sound new) (bytes_are ns.block more new))
 
   pub more_appended : IsNamespace ns → AreBlocks ns.block more → length more ≤ 2 → IsAppended ns z more
   more_appended sound new few =

@@ -13,7 +13,7 @@ use Rattle.zns_commands.specs.Fault.{faulted}
 use Rattle.zns_commands.specs.Laws.{Commanded, Faulted, NamespaceEvent, after}
 use Rattle.zns_commands.specs.Meaning.{meaning}
 use Rattle.zns_commands.specs.declared.answer.Answer.{Answer}
-use Rattle.zns_commands.proofs.Proved.{sources_keep_blocks, events_keep_shapes}
+use Rattle.zns_commands.proofs.Proved.{held_sources_keep_blocks, events_keep_shapes}
 use Rattle.pushdown.specs.EventReplies.{Submission}
 use Rattle.pushdown.specs.Happenings.{commanded, failed}
 use Rattle.pushdown.specs.State.{Place, holds_at, with_namespace}
@@ -71,7 +71,7 @@ step_leaves : (ns : ZonedNamespace) (slots : List (Option LoadedProgram)) (runs 
 step_leaves ns slots runs step ready heeds =
     is_left ns (after step ns) slots runs ready (events_keep_shapes step ns)
     (λ k a at.
-    sources_keep_blocks step ns a.source.zone
+    held_sources_keep_blocks step ns a.source.zone
     (ap (λ (holds : Holds). is_source holds a.source.zone) heeds ∙ source_there runs k a at))
 
 -- ---- a fault

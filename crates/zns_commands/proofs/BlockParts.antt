@@ -5,7 +5,7 @@ use Rattle.std.proofs.Math.Nat.{mod-add-div'}
 use Rattle.image_store.specs.Namespace.{ZonedNamespace, zone_at, block_at, IsNamespace}
 use Rattle.image_store.proofs.Proved.{blocks_lie_in_zones, written_is_within}
 use Rattle.zns_commands.specs.Address.{blocks_from}
-use Rattle.zns_commands.specs.Left.{BlocksAreAPart}
+use Rattle.zns_commands.specs.Left.{ConsecutiveBlocksAreAPart}
 
 -- the block of a zone that lies so many blocks from its lowest one
 block_there : (ns : ZonedNamespace) (z o : ℕ) → o < ns.size → block_at ns (z * ns.size + o) ≡ get_or (zone_at ns z).blocks o []
@@ -34,7 +34,7 @@ some_parts ns z o (suc count) sound written =
     let most = written_is_within (zone_at ns z).state (length (zone_at ns z).blocks) ns.capacity (sound.fits z inside) in
     parts_from ns z o (suc count) (omega (arith, most, sound.shape.capacity_most)) written
 
-pub blocks_are_a_part : BlocksAreAPart
-blocks_are_a_part ns lba count sound written =
+pub consecutive_blocks_are_a_part : ConsecutiveBlocksAreAPart
+consecutive_blocks_are_a_part ns lba count sound written =
     let address : lba / ns.size * ns.size + lba % ns.size ≡ lba = omega (arith, mod-add-div' lba ns.size) in
     ap (λ (k : ℕ). blocks_from ns k count) (sym address) ∙ some_parts ns (lba / ns.size) (lba % ns.size) count sound written

@@ -18,7 +18,7 @@ use Rattle.image_store.specs.Namespace.{ZoneBlocks, ZonedNamespace, no_zone, zon
 use Rattle.zone_state.specs.State.{is_cleared}
 use Rattle.zns_commands.specs.Address.{zone_number}
 use Rattle.zns_commands.specs.Fault.{zone_fault_refusal, faulted_by}
-use Rattle.zns_commands.specs.Left.{Grows, SourcesKeepBlocks}
+use Rattle.zns_commands.specs.Left.{Grows, HeldSourcesKeepBlocks}
 use Rattle.zns_commands.specs.Laws.{Commanded, Faulted}
 use Rattle.zns_commands.specs.Meaning.{checks_of, effect_of}
 use Rattle.zns_commands.specs.Resources.{why_not, closed}
@@ -129,10 +129,10 @@ module _ (ns : ZonedNamespace) (holds : Holds) (d : ℕ) (held : is_source holds
       let here : is_source holds d ≡ false = subst (λ (n : ℕ). is_source holds n ≡ false) same no_source in
       cc)
 
-pub sources_keep_blocks : SourcesKeepBlocks
-sources_keep_blocks (Commanded holds command input) ns d held =
+pub held_sources_keep_blocks : HeldSourcesKeepBlocks
+held_sources_keep_blocks (Commanded holds command input) ns d held =
     after_command (λ m. Grows (zone_at ns d).blocks (zone_at m d).blocks) ns holds command input (grows_by_none (zone_at ns d).blocks)
     (effect_kept ns holds d held command input)
-sources_keep_blocks (Faulted holds z fault) ns d held =
+held_sources_keep_blocks (Faulted holds z fault) ns d held =
     faulted_kept ns holds d held z fault (zone_fault_refusal ns holds z fault)
     (λ done e. not_held (nat_lt z (length ns.zones)) (is_held holds z) (fault_refusal fault (zone_at ns z).state) done e)

@@ -23,7 +23,7 @@ use Rattle.image_store.specs.Namespace.{ZoneBlocks, ZonedNamespace, no_zone, zon
 use Rattle.zns_commands.specs.Address.{zone_number}
 use Rattle.zns_commands.specs.Append.{append_checks}
 use Rattle.zns_commands.specs.Fault.{zone_fault_refusal}
-use Rattle.zns_commands.specs.Left.{is_either, touches, DestinationsAreLeft}
+use Rattle.zns_commands.specs.Left.{is_either, touches, HeldDestinationsAreLeft}
 use Rattle.zns_commands.specs.Laws.{Commanded, Faulted}
 use Rattle.zns_commands.specs.Meaning.{checks_of}
 use Rattle.zns_commands.specs.Resources.{room_by, room_for, closing_of}
@@ -156,11 +156,11 @@ module _ (ns : ZonedNamespace) (holds : Holds) (d : ℕ) (held : is_destination 
   free (Receive lba dwords filter partial) input none = refl
   free (Send lba a select_all) input none = sent_free lba a select_all input none
 
-pub destinations_are_left : DestinationsAreLeft
-destinations_are_left (Commanded holds command input) ns d held =
+pub held_destinations_are_left : HeldDestinationsAreLeft
+held_destinations_are_left (Commanded holds command input) ns d held =
     after_command (λ m. zone_at m d ≡ zone_at ns d) ns holds command input refl
     (λ none. effect_left ns d holds command input (free ns holds d held command input none))
-destinations_are_left (Faulted holds z fault) ns d held =
+held_destinations_are_left (Faulted holds z fault) ns d held =
     faulted_left ns d z fault (zone_fault_refusal ns holds z fault)
     (λ done e.
     let no = not_held (nat_lt z (length ns.zones)) (is_held holds z) (fault_refusal fault (zone_at ns z).state) done e in

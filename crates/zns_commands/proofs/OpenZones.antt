@@ -21,7 +21,7 @@ use Rattle.nvme_entry.specs.declared.command.TheConstants.{MOST_TRANSFER}
 use Rattle.zns_commands.specs.Address.{block_total, counted_zone_at, zone_number}
 use Rattle.zns_commands.specs.Append.{TakesBlocks, append_checks, append_effect}
 use Rattle.zns_commands.specs.Effect.{concluded}
-use Rattle.zns_commands.specs.Laws.{BlocksAreAppended, BlocksKeepNamespaces}
+use Rattle.zns_commands.specs.Laws.{AddedBlocksAreAppended, AddedBlocksKeepNamespacesSound}
 use Rattle.zns_commands.specs.Resources.{room_by, room_for, why_not, closing_of}
 use Rattle.zns_commands.specs.declared.write.WritePlan.{WritePlan}
 use Rattle.zns_commands.specs.steps.Plans.{write_plan, written_by}
@@ -85,8 +85,8 @@ open_takes ns z n is room =
     ∙ fits_by (counted_zone_at ns z) n (nat_le (before + n) ns.capacity) (nat_eq before before) refl
     (le-leb (before + n) ns.capacity room) refl (eq-eqb before before refl)
 
-pub blocks_keep_namespaces : BlocksKeepNamespaces
-blocks_keep_namespaces ns z bytes sound takes are =
+pub added_blocks_keep_namespaces_sound : AddedBlocksKeepNamespacesSound
+added_blocks_keep_namespaces_sound ns z bytes sound takes are =
     let n = block_count ns.block bytes in
     written_sound ns no_holds z (length (zone_at ns z).blocks) n None bytes sound (open_is_there ns.zones z takes.opened)
     takes.some takes.whole are (open_takes ns z n takes.opened takes.room)
@@ -135,8 +135,8 @@ taken_blocks_pass ns z bytes sound takes most =
     (open_takes ns z n takes.opened takes.room)
     (ap (room_by ns no_holds) (open_wants_none (zone_at ns z).state takes.opened))
 
-pub blocks_are_appended : BlocksAreAppended
-blocks_are_appended ns z bytes sound takes most =
+pub added_blocks_are_appended : AddedBlocksAreAppended
+added_blocks_are_appended ns z bytes sound takes most =
     let none = taken_blocks_pass ns z bytes sound takes most in
     let effect = append_effect ns no_holds (z * ns.size) bytes in
     subst (λ (refusal : Option Status). let done = concluded refusal ns effect in (done.status ≡ SUCCESS) × (appended ns z bytes ≡ done.namespace))

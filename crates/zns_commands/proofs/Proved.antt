@@ -1,7 +1,7 @@
 -- The laws of this crate, proved, and lemmas: what the proofs of other crates cite of it.
 use Rattle.zns_commands.specs.Held.{HeldCommandsAreRefused}
-use Rattle.zns_commands.specs.Left.{DestinationsAreLeft, ShapesAreKept, SourcesKeepBlocks}
-use Rattle.zns_commands.specs.Laws.{BlocksAreAppended, BlocksKeepNamespaces, EmptyIsNamespace, EventsKeepNamespaces, RefusedChangesNothing}
+use Rattle.zns_commands.specs.Left.{HeldDestinationsAreLeft, ShapesAreKept, HeldSourcesKeepBlocks}
+use Rattle.zns_commands.specs.Laws.{AddedBlocksAreAppended, AddedBlocksKeepNamespacesSound, EmptyIsNamespace, EventsKeepNamespaces, RefusedCommandsChangeNothing}
 use Rattle.zns_commands.proofs.HeldCommands as held
 use Rattle.zns_commands.proofs.HeldSources as held_sources
 use Rattle.zns_commands.proofs.HeldZones as held_zones
@@ -19,17 +19,17 @@ events_keep_namespaces = sound_events.events_keep_namespaces
 pub empty_is_namespace : EmptyIsNamespace
 empty_is_namespace = sound_events.empty_is_namespace
 
-pub blocks_keep_namespaces : BlocksKeepNamespaces
-blocks_keep_namespaces = open_zones.blocks_keep_namespaces
+pub added_blocks_keep_namespaces_sound : AddedBlocksKeepNamespacesSound
+added_blocks_keep_namespaces_sound = open_zones.added_blocks_keep_namespaces_sound
 
-pub blocks_are_appended : BlocksAreAppended
-blocks_are_appended = open_zones.blocks_are_appended
+pub added_blocks_are_appended : AddedBlocksAreAppended
+added_blocks_are_appended = open_zones.added_blocks_are_appended
 
-pub destinations_are_left : DestinationsAreLeft
-destinations_are_left = held_zones.destinations_are_left
+pub held_destinations_are_left : HeldDestinationsAreLeft
+held_destinations_are_left = held_zones.held_destinations_are_left
 
-pub sources_keep_blocks : SourcesKeepBlocks
-sources_keep_blocks = held_sources.sources_keep_blocks
+pub held_sources_keep_blocks : HeldSourcesKeepBlocks
+held_sources_keep_blocks = held_sources.held_sources_keep_blocks
 
 pub events_keep_shapes : ShapesAreKept
 events_keep_shapes = event_shape
@@ -37,5 +37,5 @@ events_keep_shapes = event_shape
 pub held_commands_are_refused : HeldCommandsAreRefused
 held_commands_are_refused = held.held_commands_are_refused
 
-pub refused_changes_nothing : RefusedChangesNothing
-refused_changes_nothing = refusals.refused_changes_nothing
+pub refused_commands_change_nothing : RefusedCommandsChangeNothing
+refused_commands_change_nothing = refusals.refused_commands_change_nothing

@@ -24,7 +24,7 @@ use Rattle.zns_commands.specs.Append.{append_checks, append_effect}
 use Rattle.zns_commands.specs.Read.{read_refusal, blocks_read, read_checks, read_effect}
 use Rattle.zns_commands.specs.Resources.{room_for, closing_of}
 use Rattle.zns_commands.specs.Write.{write_checks, write_effect}
-use Rattle.zns_commands.specs.Laws.{after_events, AreRead, AppendedReadsBack, WrittenReadsBack}
+use Rattle.zns_commands.specs.Laws.{after_events, AreRead, AppendedBlocksReadBack, WrittenBlocksReadBack}
 use Rattle.zns_commands.specs.Meaning.{meaning}
 use Rattle.zns_commands.specs.steps.Plans.{write_plan, written_by}
 use Rattle.zns_commands.proofs.GivenWay.{has_room, written_is}
@@ -207,8 +207,8 @@ appended_stays ns holds lba blocks input later sound some done =
     subst (λ (r : Option Status). ReadsBack z later blocks input (concluded r ns (append_effect ns holds lba input))) (sym none)
     (λ keeps. subst (λ (k : ℕ). AreRead later k blocks input) (sym address) (reads_later ns holds z blocks input later sound writes keeps))
 
-pub appended_reads_back : AppendedReadsBack
-appended_reads_back ns holds lba blocks input events sound some done stays =
+pub appended_blocks_read_back : AppendedBlocksReadBack
+appended_blocks_read_back ns holds lba blocks input events sound some done stays =
     let m = (meaning ns holds (Append lba blocks) input).namespace in
     appended_stays ns holds lba blocks input (after_events events m) sound some done (events_keep_zones events m (zone_number ns lba) stays)
 
@@ -243,7 +243,7 @@ written_stays ns holds lba blocks input later sound some done =
     subst (λ (r : Option Status). ReadsAt z lba later blocks input (concluded r ns (write_effect ns holds lba input))) (sym none)
     (λ keeps. subst (λ (k : ℕ). AreRead later k blocks input) address (reads_later ns holds z blocks input later sound writes keeps))
 
-pub written_reads_back : WrittenReadsBack
-written_reads_back ns holds lba blocks input events sound some done stays =
+pub written_blocks_read_back : WrittenBlocksReadBack
+written_blocks_read_back ns holds lba blocks input events sound some done stays =
     let m = (meaning ns holds (Write lba blocks) input).namespace in
     written_stays ns holds lba blocks input (after_events events m) sound some done (events_keep_zones events m (zone_number ns lba) stays)

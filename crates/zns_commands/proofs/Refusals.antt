@@ -10,7 +10,7 @@ use Rattle.zone_state.proofs.Proved.{first_failed_is_first, no_fault_where_none_
 use Rattle.image_store.specs.Namespace.{ZonedNamespace}
 use Rattle.zns_commands.specs.Effect.{Effect, concluded}
 use Rattle.zns_commands.specs.Meaning.{checks_of, effect_of}
-use Rattle.zns_commands.specs.Laws.{IsCase, TakesEffect, IsRefused, JustOneCase, ChangesNothing, RefusedChangesNothing}
+use Rattle.zns_commands.specs.Laws.{IsCase, TakesEffect, IsRefused, JustOneCase, ChangesNothing, RefusedCommandsChangeNothing}
 
 some_case : (ns : ZonedNamespace) (checks : List (Option Status)) (effect : Effect) (refusal : Option Status)
     → first_failed checks ≡ refusal → IsCase ns checks effect (concluded refusal ns effect)
@@ -43,6 +43,6 @@ succeeds ns holds (Send lba action select_all) input = refl
 succeeds ns holds (Receive lba dwords filter partial) input = refl
 succeeds ns holds (Append lba blocks) input = refl
 
-pub refused_changes_nothing : RefusedChangesNothing
-refused_changes_nothing ns holds command input =
+pub refused_commands_change_nothing : RefusedCommandsChangeNothing
+refused_commands_change_nothing ns holds command input =
     refused_concluded (first_failed (checks_of ns holds command input)) ns (effect_of ns holds command input) (succeeds ns holds command input)

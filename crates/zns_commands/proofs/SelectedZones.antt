@@ -23,12 +23,12 @@ use Rattle.zns_commands.specs.Address.{block_total}
 use Rattle.zns_commands.specs.Effect.{Effect, concluded, success_effect}
 use Rattle.zns_commands.specs.Laws.{Commanded}
 use Rattle.zns_commands.specs.Resources.{closed, closing_of, room_for, why_not}
-use Rattle.zns_commands.specs.SelectAll.{EachHasRoom, NoneIsHeld, SelectAllIsEachAlone, SelectAllIsRefused, TakenZonesMove, sent_to_all, sent_to_one}
+use Rattle.zns_commands.specs.SelectAll.{EachHasRoom, NoneIsHeld, SelectAllIsEachAlone, SelectAllIsRefusedByHoldsAndLimits, TakenZonesMove, sent_to_all, sent_to_one}
 use Rattle.zns_commands.specs.Send.{all_effect, all_fit, gives_way_to, held_among, led_to, room_of, swept, taken_among, takes}
 use Rattle.nvme_entry.specs.declared.command.StandardCommand.TheVariants.{Send}
 use Rattle.zns_commands.proofs.HeldZones.{held_from, not_taken_from}
 use Rattle.zns_commands.proofs.SweptZones.{opened_count}
-use Rattle.zns_commands.proofs.Untouched.{others_are_left}
+use Rattle.zns_commands.proofs.Untouched.{other_zones_are_left}
 
 pub taken_zones_move : TakenZonesMove
 taken_zones_move action.Close ImplicitlyOpened is = (_, refl)
@@ -186,7 +186,7 @@ select_all_is_each_alone ns holds a lba z sound inside success = record {
   taken = λ is.
       let to = taken_zones_move a (zone_at ns z).state is in
       (taken_as_alone ns holds a z lba to.0 sound inside success is to.1).1;
-  other = λ is. others_are_left (Commanded holds (Send lba a true) []) ns z is;
+  other = λ is. other_zones_are_left (Commanded holds (Send lba a true) []) ns z is;
 }
 
 none_of_two : (taken refused more : Bool) → (taken ≡ true → refused ≡ false) → more ≡ false → ((taken && refused) || more) ≡ false
@@ -239,8 +239,8 @@ status_of : (ns : ZonedNamespace) (a : Action) (held fit is_held is_fit : Bool) 
     → (decided ns a held fit).status ≡ (decided ns a is_held is_fit).status
 status_of ns a held fit is_held is_fit holds fits = rw (holds, fits) refl
 
-pub select_all_is_refused : SelectAllIsRefused
-select_all_is_refused ns holds a lba = record {
+pub select_all_is_refused_by_holds_and_limits : SelectAllIsRefusedByHoldsAndLimits
+select_all_is_refused_by_holds_and_limits ns holds a lba = record {
   held = λ z inside is refused.
       let so = held_where (takes a (zone_at ns z).state) (held_among (counted_zones ns) holds a) (λ none. held_is_left ns holds a z none refused) is in
       status_of ns a (held_among (counted_zones ns) holds a) (all_fit ns a) true (all_fit ns a) so refl;

@@ -17,7 +17,7 @@ use Rattle.image_store.specs.Blocks.{as_blocks}
 use Rattle.image_store.specs.Namespace.{ZoneBlocks, ZonedNamespace, no_zone, zone_at, with_zone, grown, arrived, with_state}
 use Rattle.zns_commands.specs.Address.{zone_number}
 use Rattle.zns_commands.specs.Fault.{zone_fault_refusal, faulted_by}
-use Rattle.zns_commands.specs.Left.{is_either, touches, OthersAreLeft}
+use Rattle.zns_commands.specs.Left.{is_either, touches, OtherZonesAreLeft}
 use Rattle.zns_commands.specs.Laws.{Commanded, Faulted}
 use Rattle.zns_commands.specs.Meaning.{effect_of}
 use Rattle.zns_commands.specs.Resources.{closed}
@@ -89,7 +89,7 @@ module _ (ns : ZonedNamespace) (d : ℕ) where
   faulted_left z fault (Err none) other = refl
   faulted_left z fault (Ok done) other = moved_left None z (state_of_fault fault) (either_none z (other done refl))
 
-pub others_are_left : OthersAreLeft
-others_are_left (Commanded holds command input) ns z other =
+pub other_zones_are_left : OtherZonesAreLeft
+other_zones_are_left (Commanded holds command input) ns z other =
     after_command (λ m. zone_at m z ≡ zone_at ns z) ns holds command input refl (λ none. effect_left ns z holds command input other)
-others_are_left (Faulted holds y fault) ns z other = faulted_left ns z y fault (zone_fault_refusal ns holds y fault) (λ done e. other)
+other_zones_are_left (Faulted holds y fault) ns z other = faulted_left ns z y fault (zone_fault_refusal ns holds y fault) (λ done e. other)

@@ -55,14 +55,14 @@ abbrev pub EventsKeepNamespaces : Type 0
 EventsKeepNamespaces = (events : List NamespaceEvent) (ns : ZonedNamespace) → IsNamespace ns → All IsSpelled events → IsNamespace (after_events events ns)
 
 -- and so it does where blocks of bytes are put into an open zone that has room for them,
-abbrev pub BlocksKeepNamespaces : Type 0
-BlocksKeepNamespaces =
+abbrev pub AddedBlocksKeepNamespacesSound : Type 0
+AddedBlocksKeepNamespacesSound =
     (ns : ZonedNamespace) (z : ℕ) (bytes : List ℕ) → IsNamespace ns → TakesBlocks ns z bytes → AreBytes bytes → IsNamespace (appended ns z bytes)
 
 -- as by an Append of them to that zone that meets no hold: it is not refused, where they are no more than a
 -- transfer may be, and this is what it leaves
-abbrev pub BlocksAreAppended : Type 0
-BlocksAreAppended =
+abbrev pub AddedBlocksAreAppended : Type 0
+AddedBlocksAreAppended =
     (ns : ZonedNamespace) (z : ℕ) (bytes : List ℕ) → IsNamespace ns → TakesBlocks ns z bytes → length bytes ≤ MOST_TRANSFER
     → let done = meaning ns no_holds (Append (z * ns.size) (block_count ns.block bytes)) bytes in
     (done.status ≡ SUCCESS) × (appended ns z bytes ≡ done.namespace)
@@ -93,8 +93,8 @@ pub record ChangesNothing (ns : ZonedNamespace) (done : Effect) : Type 0 where
   pub output : done.output ≡ []
 
 -- a command is done whole or not at all
-abbrev pub RefusedChangesNothing : Type 0
-RefusedChangesNothing =
+abbrev pub RefusedCommandsChangeNothing : Type 0
+RefusedCommandsChangeNothing =
     (ns : ZonedNamespace) (holds : Holds) (command : StandardCommand) (input : List ℕ)
     → (meaning ns holds command input).status ≢ SUCCESS
     → ChangesNothing ns (meaning ns holds command input)
@@ -110,8 +110,8 @@ AreRead ns lba blocks bytes = (holds : Holds) → meaning ns holds (Read lba blo
 
 -- what an Append that succeeds put in is read from the address that its completion tells, whatever
 -- commands and faults come in between, until the zone is reset or goes offline
-abbrev pub AppendedReadsBack : Type 0
-AppendedReadsBack =
+abbrev pub AppendedBlocksReadBack : Type 0
+AppendedBlocksReadBack =
     (ns : ZonedNamespace) (holds : Holds) (lba blocks : ℕ) (input : List ℕ) (events : List NamespaceEvent)
     → IsNamespace ns → 1 ≤ blocks → (meaning ns holds (Append lba blocks) input).status ≡ SUCCESS
     → let done = meaning ns holds (Append lba blocks) input in
@@ -119,8 +119,8 @@ AppendedReadsBack =
     → AreRead (after_events events done.namespace) (done.dw0 + done.dw1 * 2 ^ 32) blocks input
 
 -- the same of a Write, which is read from its own address
-abbrev pub WrittenReadsBack : Type 0
-WrittenReadsBack =
+abbrev pub WrittenBlocksReadBack : Type 0
+WrittenBlocksReadBack =
     (ns : ZonedNamespace) (holds : Holds) (lba blocks : ℕ) (input : List ℕ) (events : List NamespaceEvent)
     → IsNamespace ns → 1 ≤ blocks → (meaning ns holds (Write lba blocks) input).status ≡ SUCCESS
     → let done = meaning ns holds (Write lba blocks) input in

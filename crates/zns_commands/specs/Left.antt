@@ -33,12 +33,12 @@ touches ns (Commanded holds (Receive lba dwords filter partial) input) z = false
 touches ns (Faulted holds zone fault) z = zone == z
 
 -- an event leaves each other zone as it is
-abbrev pub OthersAreLeft : Type 0
-OthersAreLeft = (event : NamespaceEvent) (ns : ZonedNamespace) (z : ℕ) → touches ns event z ≡ false → zone_at (after event ns) z ≡ zone_at ns z
+abbrev pub OtherZonesAreLeft : Type 0
+OtherZonesAreLeft = (event : NamespaceEvent) (ns : ZonedNamespace) (z : ℕ) → touches ns event z ≡ false → zone_at (after event ns) z ≡ zone_at ns z
 
 -- an event leaves a zone that a run appends to as it is, its state and its blocks
-abbrev pub DestinationsAreLeft : Type 0
-DestinationsAreLeft =
+abbrev pub HeldDestinationsAreLeft : Type 0
+HeldDestinationsAreLeft =
     (event : NamespaceEvent) (ns : ZonedNamespace) (z : ℕ) → is_destination (holds_of event) z ≡ true → zone_at (after event ns) z ≡ zone_at ns z
 
 -- the blocks of before, and perhaps some behind them
@@ -47,8 +47,8 @@ pub record Grows (before after : List (List ℕ)) : Type 0 where
   pub is : after ≡ before ++ more
 
 -- what is written in a zone that a run reads from stays the beginning of what is
-abbrev pub SourcesKeepBlocks : Type 0
-SourcesKeepBlocks =
+abbrev pub HeldSourcesKeepBlocks : Type 0
+HeldSourcesKeepBlocks =
     (event : NamespaceEvent) (ns : ZonedNamespace) (z : ℕ) → is_source (holds_of event) z ≡ true
     → Grows (zone_at ns z).blocks (zone_at (after event ns) z).blocks
 
@@ -57,8 +57,8 @@ abbrev pub ShapesAreKept : Type 0
 ShapesAreKept = (event : NamespaceEvent) (ns : ZonedNamespace) → shape (after event ns) ≡ shape ns
 
 -- written blocks that follow one another in a zone are a part of its list
-abbrev pub BlocksAreAPart : Type 0
-BlocksAreAPart =
+abbrev pub ConsecutiveBlocksAreAPart : Type 0
+ConsecutiveBlocksAreAPart =
     (ns : ZonedNamespace) (lba count : ℕ) → IsNamespace ns
     → let blocks = (zone_at ns (zone_number ns lba)).blocks in
     zone_offset ns lba + count ≤ length blocks

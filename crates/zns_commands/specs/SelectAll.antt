@@ -61,5 +61,5 @@ pub record HasStatus (ns : ZonedNamespace) (holds : Holds) (action : Action) (lb
   pub done : NoneIsHeld ns holds action → EachHasRoom ns action → (sent_to_all ns holds action lba).status ≡ SUCCESS
 
 -- what refuses an action on all zones
-abbrev pub SelectAllIsRefused : Type 0
-SelectAllIsRefused = (ns : ZonedNamespace) (holds : Holds) (action : Action) (lba : ℕ) → HasStatus ns holds action lba
+abbrev pub SelectAllIsRefusedByHoldsAndLimits : Type 0
+SelectAllIsRefusedByHoldsAndLimits = (ns : ZonedNamespace) (holds : Holds) (action : Action) (lba : ℕ) → HasStatus ns holds action lba

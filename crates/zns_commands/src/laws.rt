@@ -2,9 +2,9 @@
 //! it ensures is the law.
 
 ghost use Rattle.zns_commands.specs.Held.{HeldCommandsAreRefused};
-ghost use Rattle.zns_commands.specs.Left.{BlocksAreAPart, DestinationsAreLeft, OthersAreLeft, ShapesAreKept, SourcesKeepBlocks};
-ghost use Rattle.zns_commands.specs.SelectAll.{SelectAllIsEachAlone, SelectAllIsRefused, TakenZonesMove};
-ghost use Rattle.zns_commands.specs.Laws.{AppendedReadsBack, BlocksAreAppended, BlocksKeepNamespaces, EmptyIsNamespace, JustOneCase, RefusedChangesNothing, ReportsEveryZone, ReportsWhatMatches, EventsKeepNamespaces, WrittenReadsBack};
+ghost use Rattle.zns_commands.specs.Left.{ConsecutiveBlocksAreAPart, HeldDestinationsAreLeft, HeldSourcesKeepBlocks, OtherZonesAreLeft, ShapesAreKept};
+ghost use Rattle.zns_commands.specs.SelectAll.{SelectAllIsEachAlone, SelectAllIsRefusedByHoldsAndLimits, TakenZonesMove};
+ghost use Rattle.zns_commands.specs.Laws.{AddedBlocksAreAppended, AddedBlocksKeepNamespacesSound, AppendedBlocksReadBack, EmptyIsNamespace, EventsKeepNamespaces, JustOneCase, RefusedCommandsChangeNothing, ReportsEveryZone, ReportsWhatMatches, WrittenBlocksReadBack};
 
 /// A namespace stays one, whatever commands and faults come: its open and active zones are within the
 /// limits, each zone's state fits its written blocks, and each block is whole. One of which nothing is
@@ -17,35 +17,35 @@ pub fn commands_keep_namespaces_sound()
 /// A namespace stays one where blocks of bytes are put, without a check, into an open zone that has
 /// room for them.
 pub fn added_blocks_keep_namespaces_sound()
-    ensures { BlocksKeepNamespaces }
+    ensures { AddedBlocksKeepNamespacesSound }
 {}
 
 /// Such blocks come to the zone as by an Append that meets no hold, and which no check refuses, where they are no more
 /// than a transfer may be.
 pub fn added_blocks_are_appended()
-    ensures { BlocksAreAppended }
+    ensures { AddedBlocksAreAppended }
 {}
 
 /// Just one case of a command holds: each check passes and it takes effect, or the first check that
 /// fails refuses it.
-pub fn just_one_case_holds()
+pub fn just_one_case()
     ensures { JustOneCase }
 {}
 
 /// A command whose status is not success leaves the namespace as it was, and gives nothing.
 pub fn refused_commands_change_nothing()
-    ensures { RefusedChangesNothing }
+    ensures { RefusedCommandsChangeNothing }
 {}
 
 /// The data of an Append that succeeds is what a Read of the assigned address gives, whatever commands
 /// and faults come in between, until the zone is reset or goes offline.
 pub fn appended_blocks_read_back()
-    ensures { AppendedReadsBack }
+    ensures { AppendedBlocksReadBack }
 {}
 
 /// The same of a Write, at its own address.
 pub fn written_blocks_read_back()
-    ensures { WrittenReadsBack }
+    ensures { WrittenBlocksReadBack }
 {}
 
 /// A report from any address on tells of the zones that match, in order, as many as there is room for. Partial reports of all
@@ -58,18 +58,18 @@ pub fn reports_list_every_zone()
 /// A command changes no zone but the one that it names, the one that gives way to that, and those that
 /// Select All takes; a fault none but the one that fails.
 pub fn other_zones_are_left()
-    ensures { OthersAreLeft }
+    ensures { OtherZonesAreLeft }
 {}
 
 /// No command or fault changes the state or the blocks of a zone that an active run appends to.
 pub fn held_destinations_are_left()
-    ensures { DestinationsAreLeft }
+    ensures { HeldDestinationsAreLeft }
 {}
 
 /// What is written in a zone that an active run reads from stays the beginning of what is, whatever
 /// command or fault comes.
 pub fn held_sources_keep_blocks()
-    ensures { SourcesKeepBlocks }
+    ensures { HeldSourcesKeepBlocks }
 {}
 
 /// No command or fault changes the shape of the namespace.
@@ -79,7 +79,7 @@ pub fn shapes_are_kept()
 
 /// Written blocks that follow one another in a zone are a part of the list of its blocks.
 pub fn consecutive_blocks_are_a_part()
-    ensures { BlocksAreAPart }
+    ensures { ConsecutiveBlocksAreAPart }
 {}
 
 /// A Write, an Append or an action is refused on a zone that an active run appends to, and Reset and Offline on one
@@ -99,5 +99,5 @@ pub fn select_all_is_each_alone()
 /// A hold on one of the zones that it takes refuses Select All, and so does the limit of open zones where it
 /// would open more than fit below it; nothing else does.
 pub fn select_all_is_refused_by_holds_and_limits()
-    ensures { SelectAllIsRefused }
+    ensures { SelectAllIsRefusedByHoldsAndLimits }
 {}

@@ -1,5 +1,5 @@
-use Rattle.zns_commands.proofs.OpenZones.{blocks_are_appended}
+use Rattle.zns_commands.proofs.OpenZones.{added_blocks_are_appended}
 use Rattle.zns_commands.proofs.laws.added_blocks_are_appended.Goals as goal
 
 pub returns : goal.returns
-returns c = blocks_are_appended
+returns c = added_blocks_are_appended

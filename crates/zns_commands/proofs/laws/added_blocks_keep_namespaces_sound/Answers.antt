@@ -1,5 +1,5 @@
-use Rattle.zns_commands.proofs.OpenZones.{blocks_keep_namespaces}
+use Rattle.zns_commands.proofs.OpenZones.{added_blocks_keep_namespaces_sound}
 use Rattle.zns_commands.proofs.laws.added_blocks_keep_namespaces_sound.Goals as goal
 
 pub returns : goal.returns
-returns c = blocks_keep_namespaces
+returns c = added_blocks_keep_namespaces_sound

@@ -1,5 +1,5 @@
-use Rattle.zns_commands.proofs.ReadBack.{appended_reads_back}
+use Rattle.zns_commands.proofs.ReadBack.{appended_blocks_read_back}
 use Rattle.zns_commands.proofs.laws.appended_blocks_read_back.Goals as goal
 
 pub returns : goal.returns
-returns c = appended_reads_back
+returns c = appended_blocks_read_back

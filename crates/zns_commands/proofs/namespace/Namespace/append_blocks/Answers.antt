@@ -1,6 +1,6 @@
 use Rattle.std.proofs.Common.{ap, sym, subst, ◌∙◌}
 use Rattle.image_store.specs.Namespace.{ZonedNamespace, appended, IsWithinLimits}
-use Rattle.zns_commands.proofs.OpenZones.{blocks_are_appended, open_within}
+use Rattle.zns_commands.proofs.OpenZones.{added_blocks_are_appended, open_within}
 use Rattle.zns_commands.proofs.namespace.Namespace.append_blocks.Goals as goal
 
 pub append-requires-clause-limits : goal.append-requires-clause-limits
@@ -12,4 +12,4 @@ pub returns-clause-append : goal.returns-clause-append
 returns-clause-append c = λ most.
     c.append.ensures
     ∙ (ap (λ (m : ZonedNamespace). appended m c.args.zone c.args.bytes.now) c.self.view_is
-    ∙ (blocks_are_appended c.args.self.now c.args.zone c.args.bytes.now c.geometry.ensures.sound c.requires most).1)
+    ∙ (added_blocks_are_appended c.args.self.now c.args.zone c.args.bytes.now c.geometry.ensures.sound c.requires most).1)
