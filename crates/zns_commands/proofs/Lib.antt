@@ -1,4 +1,5 @@
 mod BlockParts
+mod EachBlock
 mod FittingZones
 mod GivenWay
 mod HeldCommands

@@ -14,13 +14,14 @@ use Rattle.zone_resources.specs.declared.admission.Limits.{Limits}
 use Rattle.zone_resources.specs.declared.admission.Wanted.{Wanted}
 use Rattle.zone_resources.specs.declared.admission.Wanted.TheVariants.{OpenOnly, OpenAndActive}
 use Rattle.zone_resources.specs.declared.holds.Holds.{Holds}
-use Rattle.nvme_entry.specs.declared.command.StandardCommand.TheVariants.{Write, Append}
+use Rattle.nvme_entry.specs.declared.command.StandardCommand.TheVariants.{Write, Read, Append}
 use Rattle.nvme_entry.specs.declared.command.TheConstants.{MOST_TRANSFER}
 use Rattle.zone_state.specs.Checks.{demand, or_else, first_failed}
 use Rattle.image_store.specs.Namespace.{ZonedNamespace, zone_at, counted_zones, IsNamespace}
 use Rattle.zns_commands.specs.Address.{counted_zone_at, zone_number, block_total}
 use Rattle.zns_commands.specs.Effect.{Effect, concluded}
 use Rattle.zns_commands.specs.Append.{append_checks, append_effect}
+use Rattle.zns_commands.specs.Read.{read_refusal, read_checks, read_effect}
 use Rattle.zns_commands.specs.Resources.{room_by, room_for, why_not, closing_of}
 use Rattle.zns_commands.specs.Write.{write_checks, write_effect}
 use Rattle.zns_commands.specs.Meaning.{meaning}
@@ -104,6 +105,20 @@ all_fail a b c d e s f g some six seven =
     (first_fails (demand e ZONE_HELD) _ (demand_fails e ZONE_HELD (omega arith))
     (first_fails f _ six (first_fails g None seven (λ other none. cc)))))))
 
+read_refusal_fails : (state : ZoneState) → Fails (read_refusal state)
+read_refusal_fails Offline = err_fails ZONE_IS_OFFLINE (omega arith)
+read_refusal_fails state = none_fails
+
+read_fails : (a b c d : Bool) (e : Option Status) → Fails e
+    → Fails (first_failed (demand a INVALID_FIELD_IN_COMMAND ∷ demand b INVALID_FIELD_IN_COMMAND ∷ demand c LBA_OUT_OF_RANGE
+    ∷ demand d ZONE_BOUNDARY_ERROR ∷ e ∷ []))
+read_fails a b c d e five =
+    first_fails (demand a INVALID_FIELD_IN_COMMAND) _ (demand_fails a INVALID_FIELD_IN_COMMAND (omega arith))
+    (first_fails (demand b INVALID_FIELD_IN_COMMAND) _ (demand_fails b INVALID_FIELD_IN_COMMAND (omega arith))
+    (first_fails (demand c LBA_OUT_OF_RANGE) _ (demand_fails c LBA_OUT_OF_RANGE (omega arith))
+    (first_fails (demand d ZONE_BOUNDARY_ERROR) _ (demand_fails d ZONE_BOUNDARY_ERROR (omega arith))
+    (first_fails e None five (λ other none. cc)))))
+
 -- a command that succeeds is one of which no check fails
 none_failed : (refusal : Option Status) (ns : ZonedNamespace) (effect : Effect)
     → Fails refusal → (concluded refusal ns effect).status ≡ SUCCESS → refusal ≡ None
@@ -139,4 +154,13 @@ write_passed ns holds lba blocks input done =
     (omega arith)
     (write_check_fails zone.state (counted_zone_at ns z) (lba % ns.size) blocks)
     (wanted_fails ns holds (wanted_of zone.state)))
+    done
+
+pub read_passed : (ns : ZonedNamespace) (holds : Holds) (lba blocks : ℕ) (input : List ℕ)
+    → (meaning ns holds (Read lba blocks) input).status ≡ SUCCESS → first_failed (read_checks ns lba blocks input) ≡ None
+read_passed ns holds lba blocks input done =
+    let state = (zone_at ns (zone_number ns lba)).state in
+    none_failed (first_failed (read_checks ns lba blocks input)) ns (read_effect ns lba blocks)
+    (read_fails (nat_le (blocks * ns.block) MOST_TRANSFER) (nat_eq (length input) 0) (nat_le (lba + blocks) (block_total ns))
+    (nat_le (lba % ns.size + blocks) ns.size) (read_refusal state) (read_refusal_fails state))
     done

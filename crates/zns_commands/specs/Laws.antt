@@ -1,5 +1,5 @@
 -- Laws of commands and faults.
-use Rattle.std.specs.Prelude.{ℕ, zero, suc, ◌≡◌, ◌≢◌, ◌<◌, ◌≤◌, ◌+◌, ◌-◌, ◌*◌, ◌/◌, ◌^◌, min, Bool, true, false, List, [], ◌∷◌, ◌++◌, length, map, Option, All}
+use Rattle.std.specs.Prelude.{ℕ, zero, suc, ◌≡◌, ◌≢◌, ◌<◌, ◌≤◌, ◌+◌, ◌-◌, ◌*◌, ◌/◌, ◌^◌, min, Bool, true, false, List, [], ◌∷◌, ◌++◌, length, map, get_or, take, drop, replicate, Option, All}
 use Rattle.std.specs.List.{enumerate_from}
 use Rattle.zone_state.specs.declared.state.FaultState.{FaultState}
 use Rattle.zone_state.specs.declared.status.Status.{Status}
@@ -19,7 +19,7 @@ use Rattle.image_store.specs.Geometry.{Shape, IsShape}
 use Rattle.image_store.specs.Namespace.{ZonedNamespace, zone_at, appended, IsNamespace, all_empty, counted_zones}
 use Rattle.zone_state.specs.FirstCheck.{FailsFirst, NoneFails}
 use Rattle.zone_state.specs.State.{is_cleared}
-use Rattle.zns_commands.specs.Address.{block_total, zone_number}
+use Rattle.zns_commands.specs.Address.{block_total, zone_number, zone_offset}
 use Rattle.zns_commands.specs.Effect.{Effect, success_effect, refused_effect}
 use Rattle.zns_commands.specs.Append.{TakesBlocks}
 use Rattle.zns_commands.specs.Fault.{faulted}
@@ -107,6 +107,19 @@ NoneClears z (event ∷ events) ns = (is_cleared (zone_at (after event ns) z).st
 -- these bytes are read, under any holds, of so many blocks from an address on
 abbrev pub AreRead : ZonedNamespace → ℕ → ℕ → List ℕ → Type 0
 AreRead ns lba blocks bytes = (holds : Holds) → meaning ns holds (Read lba blocks) [] ≡ success_effect ns 0 bytes
+
+-- a block of a zone, by its offset; zeros, where it isn't written (profile)
+abbrev pub block_or_zeros : ZonedNamespace → ℕ → ℕ → List ℕ
+block_or_zeros ns z offset = get_or (zone_at ns z).blocks offset (replicate ns.block 0)
+
+-- of what a Read that succeeds gives, each block is the zone's block of that offset where it is written, and zeros
+-- where it isn't
+abbrev pub EachBlockIsRead : Type 0
+EachBlockIsRead =
+    (ns : ZonedNamespace) (holds : Holds) (lba blocks : ℕ) (input : List ℕ) (i : ℕ)
+    → IsNamespace ns → (meaning ns holds (Read lba blocks) input).status ≡ SUCCESS → i < blocks
+    → take ns.block (drop (i * ns.block) (meaning ns holds (Read lba blocks) input).output)
+    ≡ block_or_zeros ns (zone_number ns lba) (zone_offset ns lba + i)
 
 -- what an Append that succeeds put in is read from the address that its completion tells, whatever
 -- commands and faults come in between, until the zone is reset or goes offline

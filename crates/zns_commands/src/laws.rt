@@ -4,7 +4,7 @@
 ghost use Rattle.zns_commands.specs.Held.{HeldCommandsAreRefused};
 ghost use Rattle.zns_commands.specs.Left.{ConsecutiveBlocksAreAPart, HeldDestinationsAreLeft, HeldSourcesKeepBlocks, OtherZonesAreLeft, ShapesAreKept};
 ghost use Rattle.zns_commands.specs.SelectAll.{SelectAllIsEachAlone, SelectAllIsRefusedByHoldsAndLimits, TakenZonesMove};
-ghost use Rattle.zns_commands.specs.Laws.{AddedBlocksAreAppended, AddedBlocksKeepNamespacesSound, AppendedBlocksReadBack, EmptyIsNamespace, EventsKeepNamespaces, JustOneCase, RefusedCommandsChangeNothing, ReportsEveryZone, ReportsWhatMatches, WrittenBlocksReadBack};
+ghost use Rattle.zns_commands.specs.Laws.{AddedBlocksAreAppended, AddedBlocksKeepNamespacesSound, AppendedBlocksReadBack, EachBlockIsRead, EmptyIsNamespace, EventsKeepNamespaces, JustOneCase, RefusedCommandsChangeNothing, ReportsEveryZone, ReportsWhatMatches, WrittenBlocksReadBack};
 
 /// A namespace stays one, whatever commands and faults come: its open and active zones are within the
 /// limits, each zone's state fits its written blocks, and each block is whole. One of which nothing is
@@ -35,6 +35,11 @@ pub fn just_one_case()
 /// A command whose status is not success leaves the namespace as it was, and gives nothing.
 pub fn refused_commands_change_nothing()
     ensures { RefusedCommandsChangeNothing }
+{}
+
+/// Each block that a Read gives is the zone's block of that offset where it is written, and zeros where it isn't.
+pub fn each_block_is_read()
+    ensures { EachBlockIsRead }
 {}
 
 /// The data of an Append that succeeds is what a Read of the assigned address gives, whatever commands
