@@ -15,15 +15,15 @@ use nvme_entry::{BlockCount, Status};
 /// that isn't the lowest of its zone.
 pub fn lowest(image: &Image, lba: u64) -> Result<u32, Status>
     ensures value { result ≡ unless_failed (first_failed (lowest_checks image.now lba)) (zone_number image.now lba) }
-    ensures place { IfOk result (λ zone. IsZoneBlock image.now lba (record { zone = zone; offset = 0 })) }
+    ensures block { IfOk result (λ zone. IsZoneBlock image.now lba (record { zone = zone; offset = 0 })) }
 {
-    let Some(place) = image.geometry().zone_block(lba) else {
+    let Some(block) = image.geometry().zone_block(lba) else {
         return Err(Status::LBA_OUT_OF_RANGE);
     };
-    if place.offset != 0 {
+    if block.offset != 0 {
         return Err(Status::INVALID_FIELD_IN_COMMAND);
     }
-    Ok(place.zone)
+    Ok(block.zone)
 }
 
 /// The first of a range of blocks, as a block of its zone.
@@ -33,16 +33,16 @@ pub fn lowest(image: &Image, lba: u64) -> Result<u32, Status>
 /// [`Status::LBA_OUT_OF_RANGE`] where the namespace doesn't have all of them.
 pub fn first_block(image: &Image, lba: u64, blocks: BlockCount) -> Result<ZoneBlock, Status>
     ensures value { result ≡ unless_failed (range_check image.now lba blocks) (zone_block_in image.now lba) }
-    ensures place { IfOk result (IsZoneBlock image.now lba) }
+    ensures block { IfOk result (IsZoneBlock image.now lba) }
 {
     let geometry = image.geometry();
-    let Some(place) = geometry.zone_block(lba) else {
+    let Some(block) = geometry.zone_block(lba) else {
         return Err(Status::LBA_OUT_OF_RANGE);
     };
     if u64::from(blocks.get()) > geometry.blocks() - lba {
         return Err(Status::LBA_OUT_OF_RANGE);
     }
-    Ok(place)
+    Ok(block)
 }
 
 /// The same of a range that lies in one zone.
@@ -52,11 +52,11 @@ pub fn first_block(image: &Image, lba: u64, blocks: BlockCount) -> Result<ZoneBl
 /// Those of [`first_block`], and [`Status::ZONE_BOUNDARY_ERROR`] where the range goes on into another zone.
 pub fn range(image: &Image, lba: u64, blocks: BlockCount) -> Result<ZoneBlock, Status>
     ensures value { result ≡ unless_failed (first_failed (range_checks image.now lba blocks)) (zone_block_in image.now lba) }
-    ensures place { IfOk result (IsZoneBlock image.now lba) }
+    ensures block { IfOk result (IsZoneBlock image.now lba) }
 {
-    let place = first_block(image, lba, blocks)?;
-    if u64::from(place.offset) + u64::from(blocks.get()) > u64::from(image.geometry().size()) {
+    let block = first_block(image, lba, blocks)?;
+    if u64::from(block.offset) + u64::from(blocks.get()) > u64::from(image.geometry().size()) {
         return Err(Status::ZONE_BOUNDARY_ERROR);
     }
-    Ok(place)
+    Ok(block)
 }

@@ -26,16 +26,16 @@ fn check_read(
     input: &[u8],
 ) -> Result<ZoneBlock, Status>
     ensures value { result ≡ unless_failed (first_failed (read_checks image.now lba blocks input.now)) (zone_block_in image.now lba) }
-    ensures inside { IfOk result (λ place. place.zone < length image.now.zones) }
+    ensures inside { IfOk result (λ block. block.zone < length image.now.zones) }
     ensures most { OnOk result (blocks * image.now.block ≤ MOST_TRANSFER) }
 {
     let bytes = bytes_of_blocks(image, blocks);
     check_transfer(bytes, 0, input)?;
-    let place = range(image, lba, blocks)?;
-    if image.zone(place.zone).state() == ZoneState::Offline {
+    let block = range(image, lba, blocks)?;
+    if image.zone(block.zone).state() == ZoneState::Offline {
         return Err(Status::ZONE_IS_OFFLINE);
     }
-    Ok(place)
+    Ok(block)
 }
 
 /// Puts zeros at the front.
@@ -55,22 +55,22 @@ fn give(output: &mut [u8], bytes: &[u8], zeros: usize)
     clear_front(&mut output[bytes.len()..], zeros);
 }
 
-/// Gives the blocks from a place on, and answers how many bytes they are.
-fn give_blocks(image: &Image, place: ZoneBlock, blocks: BlockCount, output: &mut [u8]) -> usize
-    requires inside { place.zone < length image.now.zones }
+/// Gives the blocks from this one on, and answers how many bytes they are.
+fn give_blocks(image: &Image, from: ZoneBlock, blocks: BlockCount, output: &mut [u8]) -> usize
+    requires inside { from.zone < length image.now.zones }
     requires room { blocks * image.now.block ≤ length output.old }
     ensures length { result ≡ blocks * image.now.block }
-    ensures front { take result output.new ≡ bytes_of (blocks_read image.now.block (zone_at image.now place.zone).blocks place.offset blocks) }
+    ensures front { take result output.new ≡ bytes_of (blocks_read image.now.block (zone_at image.now from.zone).blocks from.offset blocks) }
     ensures rest { drop result output.new ≡ drop result output.old }
 {
     let block = image.geometry().block().bytes() as usize;
-    let written = image.zone(place.zone).written();
-    let first = place.offset.min(written);
+    let written = image.zone(from.zone).written();
+    let first = from.offset.min(written);
     let stored = blocks.get().min(written - first);
     let missing = (blocks.get() - stored) as usize;
     give(
         output,
-        image.blocks(place.zone, first, stored),
+        image.blocks(from.zone, first, stored),
         missing * block,
     );
     blocks.get() as usize * block
@@ -84,7 +84,7 @@ pub fn read(image: &Image, lba: u64, blocks: BlockCount, input: &[u8], output: &
     ensures rest { drop result.length output.new ≡ drop result.length output.old }
 {
     match check_read(image, lba, blocks, input) {
-        Ok(place) => Answer::success(0, give_blocks(image, place, blocks, output)),
+        Ok(first) => Answer::success(0, give_blocks(image, first, blocks, output)),
         Err(status) => Answer::refused(status),
     }
 }

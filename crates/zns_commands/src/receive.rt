@@ -22,7 +22,7 @@ fn check_report(image: &Image, lba: u64, dwords: DwordCount, input: &[u8]) -> Re
 {
     check_transfer(dwords.bytes() as u64, 0, input)?;
     match image.geometry().zone_block(lba) {
-        Some(place) => Ok(place.zone),
+        Some(block) => Ok(block.zone),
         None => Err(Status::LBA_OUT_OF_RANGE),
     }
 }

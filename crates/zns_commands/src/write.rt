@@ -126,8 +126,8 @@ fn try_write(
     ensures err { OnErr result (image.new ≡ image.old) }
 {
     check_data(image, blocks, input)?;
-    let place = range(image, lba, blocks)?;
-    let plan = check_write(image, holds, place.zone, place.offset, blocks)?;
+    let block = range(image, lba, blocks)?;
+    let plan = check_write(image, holds, block.zone, block.offset, blocks)?;
     put(image, plan, blocks, input);
     Ok(())
 }

@@ -18,12 +18,12 @@ returns-clause-front c =
     let zeros = (c.get-2.result - c.min-stored.result) * c.bytes-block.result in
     let size : length bytes + zeros ≡ c.get-3.result * c.bytes-block.result =
     rw (c.get-2.ensures.value, c.get-3.ensures.value, block, c.blocks-2.ensures.size) (parts c.args.blocks c.min-stored.result c.args.image.now.block (omega arith)) in
-    let blocks = (zone_at c.args.image.now c.args.place.zone).blocks in
+    let blocks = (zone_at c.args.image.now c.args.from.zone).blocks in
     let written : c.written-written.result ≡ length blocks = c.written-written.ensures ∙ ap (λ (r : CountedZone). r.written) c.zone.ensures in
     given_front c.give.new.output bytes (drop (length bytes + zeros) c.args.output.now) zeros _ c.give.ensures size
     ∙ rw (c.get-2.ensures.value, block, c.blocks-2.ensures.value)
-    (read_bytes c.args.image.now.block blocks c.args.place.offset c.args.blocks c.min-first.result c.min-stored.result
-    (c.min-first.ensures ∙ ap (λ (n : ℕ). min c.args.place.offset n) written)
+    (read_bytes c.args.image.now.block blocks c.args.from.offset c.args.blocks c.min-first.result c.min-stored.result
+    (c.min-first.ensures ∙ ap (λ (n : ℕ). min c.args.from.offset n) written)
     (c.min-stored.ensures ∙ rw (c.get.ensures.value, written) refl))
 
 pub returns-clause-rest : goal.returns-clause-rest

@@ -11,7 +11,7 @@ use Rattle.zns_commands.proofs.write.try_write.Goals as goal
 pub returns-clause-ok : goal.returns-clause-ok
 returns-clause-ok c =
     let ns = c.args.image.now in
-    let place = allowed_ok (first_failed (range_checks ns c.args.lba c.args.blocks)) (zone_block_in ns c.args.lba) c.in_ok-place.place c.in_ok-place.ensures.value in
-    let plan = allowed_ok (first_failed (zone_write_checks ns c.args.holds.now c.in_ok-place.place.zone c.in_ok-place.place.offset c.args.blocks)) (write_plan ns c.args.holds.now c.in_ok-place.place.zone) c.in_ok-plan.plan c.in_ok-plan.ensures.value in
+    let block = allowed_ok (first_failed (range_checks ns c.args.lba c.args.blocks)) (zone_block_in ns c.args.lba) c.in_ok-block.block c.in_ok-block.ensures.value in
+    let plan = allowed_ok (first_failed (zone_write_checks ns c.args.holds.now c.in_ok-block.block.zone c.in_ok-block.block.offset c.args.blocks)) (write_plan ns c.args.holds.now c.in_ok-block.block.zone) c.in_ok-plan.plan c.in_ok-plan.ensures.value in
     c.put.ensures
-    ∙ ap (λ (p : WritePlan). written_by ns p c.args.input.now) (plan ∙ ap (λ (p : ZoneBlock). write_plan ns c.args.holds.now p.zone) place)
+    ∙ ap (λ (p : WritePlan). written_by ns p c.args.input.now) (plan ∙ ap (λ (p : ZoneBlock). write_plan ns c.args.holds.now p.zone) block)
