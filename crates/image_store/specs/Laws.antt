@@ -14,7 +14,7 @@ use Rattle.image_store.specs.Reading.{shape_told, namespace_in}
 use Rattle.image_store.specs.Text.{text, text_of}
 use Rattle.image_store.specs.Version.{HasText, has_block, numbers_of_version}
 
--- what is saved loads again as the same namespace
+-- what is saved loads again as the same namespace; this follows from `EachVersionLoads` and `LastVersionHasAll`
 abbrev pub SavedTextsLoad : Type 0
 SavedTextsLoad = (ns : ZonedNamespace) → IsNamespace ns → namespace_in (text ns) ≡ Ok ns
 
@@ -33,7 +33,8 @@ OnlyTextsLoad =
     (bytes : List ℕ) (ns : ZonedNamespace) → AreBytes bytes → namespace_in bytes ≡ Ok ns
     → (version : Version) × HasText version (shape ns) × (bytes ≡ text_of version ns)
 
--- what is saved of an image that was loaded stands for the same namespace as what was loaded
+-- what is saved of an image that was loaded stands for the same namespace as what was loaded; this follows from
+-- `LoadedIsNamespace` and `SavedTextsLoad`
 abbrev pub UpgradedStandsForTheSame : Type 0
 UpgradedStandsForTheSame =
     (bytes : List ℕ) (ns : ZonedNamespace) → AreBytes bytes → namespace_in bytes ≡ Ok ns → namespace_in (text ns) ≡ Ok ns

@@ -21,7 +21,7 @@ abbrev pub CountsFault : ℕ → ℕ → LoadFault → Type 0
 CountsFault before after Stream = before < after
 CountsFault before after _ = after ≡ before
 
--- a load counts a failure where the stream failed, and else none
+-- a load counts a failure of its source where the stream failed, and else none
 abbrev pub CountsLoad : {X : Type 0} → ℕ → ℕ → Result X LoadFault → Type 0
 CountsLoad before after (Ok x) = after ≡ before
 CountsLoad before after (Err fault) = CountsFault before after fault
