@@ -3,7 +3,7 @@ use Rattle.std.specs.Prelude.{ℕ, ◌≡◌, List, Err}
 use Rattle.clap.specs.declared.parser.matches.ArgMatches.{ArgMatches}
 use Rattle.image_store.specs.Geometry.{Shape, tested}
 use Rattle.image_store.specs.Reading.{namespace_in}
-use Rattle.image_store.specs.Refusal.{refusal_of}
+use Rattle.image_store.specs.Refusal.{geometry_refusal_of}
 use Rattle.image_store.specs.declared.geometry.GeometryFault.{GeometryFault}
 use Rattle.image_store.specs.declared.refusal.GeometryRefusal.{GeometryRefusal}
 use Rattle.command_failure.specs.declared.failure.Failure.{Failure}
@@ -16,7 +16,7 @@ pub record FailsTest (matches : ArgMatches) (refusal : GeometryRefusal) : Type 0
   pub fault : GeometryFault
   pub asked : IsAskedFor matches shape
   pub fails : tested shape ≡ Err fault
-  pub told : refusal ≡ refusal_of fault shape
+  pub told : refusal ≡ geometry_refusal_of fault shape
 
 -- numbers are refused for this
 abbrev pub RefusesShape : ArgMatches → Failure → Type 0

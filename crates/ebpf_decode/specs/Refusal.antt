@@ -11,5 +11,5 @@ abbrev pub fields_in : ℕ → List ℕ → Option Fields
 fields_in slot bytes = if nat_lt slot MOST_SLOTS then slice_get (slots_at (length bytes / 8) bytes) slot else None
 
 -- a fault of bytes, how many they are, and what its slot has
-abbrev pub refusal_of : Fault → List ℕ → ProgramRefusal
-refusal_of fault bytes = record { fault = fault; bytes = length bytes; fields = fields_in fault.slot bytes }
+abbrev pub program_refusal_of : Fault → List ℕ → ProgramRefusal
+program_refusal_of fault bytes = record { fault = fault; bytes = length bytes; fields = fields_in fault.slot bytes }

@@ -1,7 +1,7 @@
 //! What a user is told of bytes that are no program.
 
 ghost use Rattle.std.specs.Prelude.{◌≡◌};
-ghost use Rattle.ebpf_decode.specs.Refusal.{refusal_of};
+ghost use Rattle.ebpf_decode.specs.Refusal.{program_refusal_of};
 
 use crate::decoding::slot_at;
 use crate::fault::{Fault, FaultKind};
@@ -26,7 +26,7 @@ pub struct ProgramRefusal {
 impl ProgramRefusal {
     /// What stands in these bytes where [`decode`](crate::decode) finds this fault.
     pub fn of(fault: Fault, bytes: &[u8]) -> ProgramRefusal
-        ensures { result ≡ refusal_of fault bytes.now }
+        ensures { result ≡ program_refusal_of fault bytes.now }
     {
         let fields = if fault.slot < MOST_SLOTS {
             slot_at(bytes, fault.slot)

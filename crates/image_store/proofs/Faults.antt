@@ -22,7 +22,7 @@ use Rattle.image_store.specs.Loading.{LoadFails, CountsFault, CountsLoad}
 use Rattle.image_store.specs.steps.LoadedParts.{IsNoStream, NoStreamFails}
 use Rattle.program_interface.specs.Readings.{◌>>=◌}
 use Rattle.image_store.specs.Reading.{are_zeros, number_at, numbers_fault, numbers_in, shape_told, version_in, version_kept, zeros_kept, total_told, header_of, header_told, zone_told, zone_in, total_kept, limits_kept}
-use Rattle.image_store.specs.Refusal.{refusal_of}
+use Rattle.image_store.specs.Refusal.{geometry_refusal_of}
 use Rattle.image_store.specs.Text.{written_blocks}
 use Rattle.image_store.specs.Version.{has_block, numbers_of_version}
 use Rattle.image_store.proofs.ReadingCalls.{bind_err}
@@ -66,7 +66,7 @@ magic_fault (Some version) fault e = absurd cc
 module _ (P : LoadFault → Type 0) (of_header : (why : HeaderFault) → P (BadHeader why)) where
   numbers_text_fault : (check : Option GeometryFault) (s : Shape) (fault : LoadFault) → unless_failed (option_map (numbers_fault s) check) s ≡ Err fault → P fault
   numbers_text_fault None s fault e = absurd cc
-  numbers_text_fault (Some first) s fault e = subst P (is_this {X = Shape} (numbers_fault s first) fault e) (of_header (Numbers (refusal_of first s)))
+  numbers_text_fault (Some first) s fault e = subst P (is_this {X = Shape} (numbers_fault s first) fault e) (of_header (Numbers (geometry_refusal_of first s)))
 
   version_text_fault : (a b : Bool) (f g : HeaderFault) (fault : LoadFault)
       → (let r : Result (Unit {0}) LoadFault = unless_failed (first_failed (demand a (BadHeader f) ∷ demand b (BadHeader g) ∷ [])) tt in r) ≡ Err fault → P fault

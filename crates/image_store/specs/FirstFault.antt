@@ -16,7 +16,7 @@ use Rattle.image_store.specs.declared.version.Version.{Version}
 use Rattle.image_store.specs.Geometry.{Shape, IsShape, shape_checks}
 use Rattle.image_store.specs.ImageInMemory.{no_counted_zone}
 use Rattle.image_store.specs.Reading.{are_zeros, namespace_in, number_at, shape_told, total_told}
-use Rattle.image_store.specs.Refusal.{refusal_of}
+use Rattle.image_store.specs.Refusal.{geometry_refusal_of}
 use Rattle.image_store.specs.Text.{written_blocks}
 use Rattle.image_store.specs.Version.{HasText, has_block, numbers_of_version}
 
@@ -33,7 +33,7 @@ shape_in bytes = shape_told (take 64 bytes)
 abbrev pub IsHeaderFault : Version → List ℕ → Shape → HeaderFault → Type 0
 -- its numbers are none of a geometry, and this is the first test that they fail;
 IsHeaderFault version header s (header_faults.Numbers refusal) =
-    (first : GeometryFault) × FailsFirst (shape_checks s) first × (refusal ≡ refusal_of first s)
+    (first : GeometryFault) × FailsFirst (shape_checks s) first × (refusal ≡ geometry_refusal_of first s)
 -- they are those of one, but no block of the version has so many bytes;
 IsHeaderFault version header s (header_faults.VersionBlock told block) =
     (told ≡ version) × (block ≡ s.block) × IsShape s × (has_block version s.block ≡ false)

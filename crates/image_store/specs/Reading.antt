@@ -21,7 +21,7 @@ use Rattle.image_store.specs.declared.header.Header.{Header}
 use Rattle.image_store.specs.declared.version.Version.{Version}
 use Rattle.image_store.specs.declared.version.Version.TheVariants.{One, Two}
 use Rattle.image_store.specs.Geometry.{Shape, shape_of, shape_checks}
-use Rattle.image_store.specs.Refusal.{refusal_of}
+use Rattle.image_store.specs.Refusal.{geometry_refusal_of}
 use Rattle.image_store.specs.Namespace.{ZoneBlocks, ZonedNamespace, namespace_with}
 use Rattle.image_store.specs.Text.{written_blocks}
 use Rattle.image_store.specs.Version.{numbers_of_version, has_block}
@@ -45,7 +45,7 @@ shape_told bytes =
 
 -- what is told of the numbers of a header that are none of a geometry
 abbrev pub numbers_fault : Shape → GeometryFault → LoadFault
-numbers_fault s first = fault.Header (header_fault.Numbers (refusal_of first s))
+numbers_fault s first = fault.Header (header_fault.Numbers (geometry_refusal_of first s))
 
 -- the first test of a geometry that they fail, so told
 abbrev pub numbers_check : Shape → Option LoadFault

@@ -6,13 +6,13 @@ use Rattle.image_store.specs.declared.refusal.GeometryRefusal.{GeometryRefusal}
 use Rattle.image_store.specs.declared.refusal.GeometryRefusal.TheVariants.{BlockSize, ZoneCount, ZoneSize, ZoneCapacity, ResourceLimits, TooLarge}
 
 -- those of the numbers that have a fault
-abbrev pub refusal_of : GeometryFault → Shape → GeometryRefusal
-refusal_of faults.BlockSize s = BlockSize s.block
-refusal_of faults.ZoneCount s = ZoneCount s.zones
-refusal_of faults.ZoneSize s = ZoneSize s.size
-refusal_of faults.ZoneCapacity s = ZoneCapacity s.capacity s.size
-refusal_of faults.ResourceLimits s = ResourceLimits s.limits.open_limit s.limits.active_limit s.zones
-refusal_of faults.TooLarge s = TooLarge s.zones s.capacity s.block
+abbrev pub geometry_refusal_of : GeometryFault → Shape → GeometryRefusal
+geometry_refusal_of faults.BlockSize s = BlockSize s.block
+geometry_refusal_of faults.ZoneCount s = ZoneCount s.zones
+geometry_refusal_of faults.ZoneSize s = ZoneSize s.size
+geometry_refusal_of faults.ZoneCapacity s = ZoneCapacity s.capacity s.size
+geometry_refusal_of faults.ResourceLimits s = ResourceLimits s.limits.open_limit s.limits.active_limit s.zones
+geometry_refusal_of faults.TooLarge s = TooLarge s.zones s.capacity s.block
 
 -- the fault that they have
 abbrev pub fault_of : GeometryRefusal → GeometryFault

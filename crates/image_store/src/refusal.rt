@@ -2,7 +2,7 @@
 
 ghost use Rattle.std.specs.Prelude.{◌≡◌};
 ghost use Rattle.image_store.specs.Geometry.{shape_of};
-ghost use Rattle.image_store.specs.Refusal.{refusal_of, fault_of};
+ghost use Rattle.image_store.specs.Refusal.{geometry_refusal_of, fault_of};
 
 use crate::geometry::GeometryFault;
 use thiserror::Error;
@@ -49,7 +49,7 @@ impl GeometryRefusal {
         capacity: u32,
         limits: Limits,
     ) -> GeometryRefusal
-        ensures { result ≡ refusal_of fault (shape_of block zones size capacity limits) }
+        ensures { result ≡ geometry_refusal_of fault (shape_of block zones size capacity limits) }
     {
         match fault {
             GeometryFault::BlockSize => GeometryRefusal::BlockSize(block as usize),

@@ -2,7 +2,7 @@
 use Rattle.std.specs.Prelude.{ℕ, List}
 use Rattle.std.specs.Borrow.{Bor}
 use Rattle.image_store.specs.Geometry.{Shape}
-use Rattle.image_store.specs.Refusal.{refusal_of}
+use Rattle.image_store.specs.Refusal.{geometry_refusal_of}
 use Rattle.image_store.specs.declared.fault.LoadFault.{LoadFault}
 use Rattle.image_store.specs.declared.fault.LoadFault.TheVariants.{Stream, Memory}
 use Rattle.image_store.specs.declared.geometry.GeometryFault.{GeometryFault}
@@ -12,7 +12,7 @@ use Rattle.command_failure.specs.declared.failure.Failure.TheVariants.{CannotRea
 
 -- those of the numbers that have the fault
 abbrev pub told_of_geometry : GeometryFault → Shape → Failure
-told_of_geometry fault shape = GeometryRefused (refusal_of fault shape)
+told_of_geometry fault shape = GeometryRefused (geometry_refusal_of fault shape)
 
 -- the fault, but where the stream or memory failed, which says nothing of the file
 abbrev pub told_of_image : Bor (List ℕ) → LoadFault → Failure

@@ -4,7 +4,7 @@ use Rattle.std.specs.Borrow.{Bor}
 use Rattle.ebpf_asm.specs.Assembly.{assembled}
 use Rattle.ebpf_asm.specs.declared.fault.AssembleFault.{AssembleFault}
 use Rattle.ebpf_asm.specs.declared.fault.AssembleFault.TheVariants as assembly
-use Rattle.ebpf_decode.specs.Refusal.{refusal_of}
+use Rattle.ebpf_decode.specs.Refusal.{program_refusal_of}
 use Rattle.ebpf_decode.specs.declared.fault.DecodeFault.{DecodeFault}
 use Rattle.ebpf_decode.specs.declared.fault.DecodeFault.TheVariants as program
 use Rattle.emit_append.specs.Refusal.{refused_byte}
@@ -26,7 +26,7 @@ MakesNone source path text NoMemory = Unit {0}
 MakesNone source path text _ = ⊥
 
 abbrev pub told_of_program : Bor (List ℕ) → List ℕ → DecodeFault → Failure
-told_of_program path bytes (program.Fault fault) = ProgramRefused path (refusal_of fault bytes)
+told_of_program path bytes (program.Fault fault) = ProgramRefused path (program_refusal_of fault bytes)
 told_of_program path bytes program.Memory = NoMemory
 
 abbrev pub IsToldOfFrame : Bor (List ℕ) → UnpackFault → Failure → Type 0
