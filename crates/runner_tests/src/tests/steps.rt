@@ -4,6 +4,7 @@ ghost use Rattle.std.specs.Prelude.{◌≤◌};
 ghost use Rattle.nvme_entry.specs.Encoding.{program_length};
 
 use super::programs::Text;
+use byteorder::{ByteOrder, LittleEndian};
 use ebpf_asm::assemble;
 use nvme_entry::{
     BlockCount, Command, Completion, Entry, LoadCommand, ProgramSlot, RunCommand, StandardCommand,
@@ -110,10 +111,10 @@ impl Step {
                 Ok(submit(Command::Result(slot_of(slot)?), cid, beside))
             }
             Step::Entry(cid, opcode, dwords, _) => {
-                Ok(submitted(entry_of(cid, [opcode, 0], dwords), beside))
+                Ok(submitted(entry_of(cid, opcode, 0, dwords), beside))
             }
             Step::Flags(cid, opcode, flags) => {
-                Ok(submitted(entry_of(cid, [opcode, flags], [0; 6]), beside))
+                Ok(submitted(entry_of(cid, opcode, flags, [0; 6]), beside))
             }
             _ => {
                 let (cid, command) = self.standard(beside.len())?;
@@ -230,19 +231,17 @@ fn submitted(entry: [u8; 64], input: Vec<u8>) -> Event {
     }
 }
 
-/// The entry to namespace 1 that begins with these bytes, and has these Command Dwords 10 to 15.
-fn entry_of(cid: u16, first: [u8; 2], dwords: [u32; 6]) -> [u8; 64] {
-    let [cdw10, cdw11, cdw12, cdw13, cdw14, cdw15] = dwords;
+/// The entry to namespace 1 with this opcode and these flags, and these Command Dwords 10 to 15.
+fn entry_of(cid: u16, opcode: u8, flags: u8, dwords: [u32; 6]) -> [u8; 64] {
+    let first = u32::from(opcode) | (u32::from(flags) << 8) | (u32::from(cid) << 16);
     let mut entry = [0; 64];
-    entry[0..2].copy_from_slice(&first);
-    entry[2..4].copy_from_slice(&cid.to_le_bytes());
-    entry[4] = 1;
-    entry[40..44].copy_from_slice(&cdw10.to_le_bytes());
-    entry[44..48].copy_from_slice(&cdw11.to_le_bytes());
-    entry[48..52].copy_from_slice(&cdw12.to_le_bytes());
-    entry[52..56].copy_from_slice(&cdw13.to_le_bytes());
-    entry[56..60].copy_from_slice(&cdw14.to_le_bytes());
-    entry[60..64].copy_from_slice(&cdw15.to_le_bytes());
+    LittleEndian::write_u32_into(
+        &[
+            first, 1, 0, 0, 0, 0, 0, 0, 0, 0, dwords[0], dwords[1], dwords[2], dwords[3],
+            dwords[4], dwords[5],
+        ],
+        &mut entry,
+    );
     entry
 }
 
