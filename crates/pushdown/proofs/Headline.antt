@@ -1,5 +1,5 @@
 -- The pushdown theorem.
-use Rattle.std.proofs.Common.{◌≡◌, ◌≢◌, ℕ, zero, suc, ◌/◌, ◌<◌, ◌≤◌, Bool, List, [], ◌∷◌, length, set, get_or, Option, Some, None, refl, ap, sym, subst, ◌∙◌, arith, get_or-set_same}
+use Rattle.std.proofs.Common.{◌≡◌, ◌≢◌, ℕ, zero, suc, ◌/◌, ◌<◌, ◌≤◌, Bool, List, [], ◌∷◌, length, set, get_or, Option, Some, None, refl, ap, sym, subst, ◌∙◌, arith, get_or-set_other, get_or-set_same}
 use Rattle.std.specs.Prelude.{is_some, Vec}
 use Rattle.std.specs.declared.alloc.Global.{Global}
 use Rattle.std.proofs.lemmas.Nat.{mul-le}
@@ -65,7 +65,10 @@ module _ {D : Type 0} (operations : Operations D) (s : State) (queue : ℕ) (ent
       record {
         reply = ap (λ (h : Happening). h.reply) is;
         place = ap (λ (h : Happening). place_at h.state run) is ∙ placed admitted;
+        others = λ other differs.
+            ap (λ (h : Happening). place_at h.state other) is ∙ get_or-set_other s.places run other (Some place) None differs;
         namespace = ap (λ (h : Happening). h.state.namespace) is;
+        slots = ap (λ (h : Happening). h.state.slots) is;
       }
 
   destination_on : IsAdmitted s sub order run → (zone_at s.namespace place.destination).state ≢ Offline

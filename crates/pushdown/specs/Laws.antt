@@ -137,11 +137,13 @@ OnlyLoadsChangeSlots operations =
 
 -- ---- admission and turns
 
--- the reply to a Run that is admitted is Pending with its number, and it takes that place
+-- the reply to a Run that is admitted is Pending with its number, and it takes that place; all else is as it was
 pub record StartsRun (s : State) (sub : Submission) (order : RunCommand) (run : ℕ) (h : Happening) : Type 0 where
   pub reply : h.reply ≡ plain (reply.Pending run)
   pub place : place_at h.state run ≡ Some (admitted_place sub s order)
+  pub others : (other : ℕ) → other ≢ run → place_at h.state other ≡ place_at s other
   pub namespace : h.state.namespace ≡ s.namespace
+  pub slots : h.state.slots ≡ s.slots
 
 -- a Run that is admitted has its outcome at its place
 abbrev pub AdmittedStarts : {D : Type 0} → Operations D → Type 0
