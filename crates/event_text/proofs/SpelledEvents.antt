@@ -8,7 +8,7 @@ use Rattle.std.proofs.lemmas.List.Elements.{All-append}
 use Rattle.zone_state.specs.Words.{fault_word}
 use Rattle.zone_state.specs.declared.state.FaultState.{FaultState}
 use Rattle.zone_state.specs.declared.state.FaultState.TheVariants.{ReadOnly, Offline}
-use Rattle.event_text.specs.CommandFile.{Turned, Failed, failure, line_told, state_named, words_told}
+use Rattle.event_text.specs.CommandFile.{Turned, Faulted, fault_told, line_told, state_named, words_told}
 use Rattle.event_text.specs.Laws.{FaultsReadBack, SubmissionsReadBack, TurnsReadBack, fault_text, turn_text}
 use Rattle.event_text.specs.Words.{words_of}
 use Rattle.event_text.proofs.PlainLines.{InLine, InWord, IsSpelled, as_line, decimal_again, decimal_below, decimal_in_word, line_told-words, space_before, spelled_in_word, unblank}
@@ -68,7 +68,7 @@ words_of-fault number state some is_number any is_state =
     word_first (codes "fault") (number ++ 32 ∷ state) (omega arith) (unblank (codes "fault") (spelled_in_word (codes "fault") refl))
     ∙ ap (λ (ws : List (List ℕ)). codes "fault" ∷ ws) (word_first number state some (unblank number is_number) ∙ ap (λ (ws : List (List ℕ)). number ∷ ws) (word_last state any (unblank state is_state)))
 
-fault_spelled : (zone : ℕ) (state : FaultState) → zone < 2 ^ 32 → IsSpelled (fault_text zone state) (Failed zone state)
+fault_spelled : (zone : ℕ) (state : FaultState) → zone < 2 ^ 32 → IsSpelled (fault_text zone state) (Faulted zone state)
 fault_spelled zone state small =
     let number = decimal zone in
     let name = fault_word state in
@@ -77,13 +77,13 @@ fault_spelled zone state small =
     let line = spaced number name in
     let behind = space_before (number ++ 32 ∷ name) (All-append InLine number (32 ∷ name) (as_line number is_number) (space_before name (as_line name is_name))) in
     let in_a_line : All InLine line = All-append InLine (codes "fault") (32 ∷ (number ++ 32 ∷ name)) (as_line (codes "fault") (spelled_in_word (codes "fault") refl)) behind in
-    let told : line_told line ≡ Some (Some (Failed zone state)) =
+    let told : line_told line ≡ Some (Some (Faulted zone state)) =
     line_told-words line in_a_line
     ∙ ap words_told (words_of-fault number name (decimal_nonempty zone (omega arith)) is_number (state_some state) is_name)
-    ∙ ap (λ (n : Option ℕ). option_map Some (failure n (state_named name))) (decimal_again zone small)
-    ∙ ap (λ (s : Option FaultState). option_map Some (failure (Some zone) s)) (state_again state) in
-    let whole : IsSpelled line (Failed zone state) = record { plain = in_a_line; told = told } in
-    subst (λ (text : List ℕ). IsSpelled text (Failed zone state)) (sym (fault_text-spaced zone state)) whole
+    ∙ ap (λ (n : Option ℕ). option_map Some (fault_told n (state_named name))) (decimal_again zone small)
+    ∙ ap (λ (s : Option FaultState). option_map Some (fault_told (Some zone) s)) (state_again state) in
+    let whole : IsSpelled line (Faulted zone state) = record { plain = in_a_line; told = told } in
+    subst (λ (text : List ℕ). IsSpelled text (Faulted zone state)) (sym (fault_text-spaced zone state)) whole
 
 pub faults_read_back : FaultsReadBack
-faults_read_back zone state small = spelled_reads_back (fault_text zone state) (Failed zone state) (fault_spelled zone state small)
+faults_read_back zone state small = spelled_reads_back (fault_text zone state) (Faulted zone state) (fault_spelled zone state small)

@@ -21,13 +21,13 @@ use Rattle.event_text.specs.Words.{words_of, one_of, two_of, three_of}
 pub data Told : Type 0 where
   Submitted : (queue : ℕ) (entry input : List ℕ) → Told
   Turned : (run : ℕ) → Told
-  Failed : (zone : ℕ) (state : FaultState) → Told
+  Faulted : (zone : ℕ) (state : FaultState) → Told
 
 -- an event without where its data lies in memory
 abbrev pub told_of : Event → Told
 told_of (event.Submit queue entry input) = Submitted queue entry input.items
 told_of (event.Turn run) = Turned run
-told_of (event.Fault zone state) = Failed zone state
+told_of (event.Fault zone state) = Faulted zone state
 
 -- the number, where it is below a bound
 abbrev pub below : ℕ → ℕ → Option ℕ
@@ -47,17 +47,17 @@ submission_of words = option_and_then
 abbrev pub turn_of : List (List ℕ) → Option Told
 turn_of words = option_and_then (λ word. option_map Turned (option_and_then (below (2 ^ 8)) (decimal_of word))) (one_of words)
 
--- a zone, and the state that it fails to
+-- a zone, and the state that its fault leads to
 abbrev pub state_named : List ℕ → Option FaultState
 state_named word =
     if bytes_eq word (fault_word ReadOnly) then Some ReadOnly else (if bytes_eq word (fault_word Offline) then Some Offline else None)
 
-abbrev pub failure : Option ℕ → Option FaultState → Option Told
-failure (Some zone) (Some state) = Some (Failed zone state)
-failure _ _ = None
+abbrev pub fault_told : Option ℕ → Option FaultState → Option Told
+fault_told (Some zone) (Some state) = Some (Faulted zone state)
+fault_told _ _ = None
 
 abbrev pub fault_of : List (List ℕ) → Option Told
-fault_of words = option_and_then (λ w. failure (decimal_of w.0) (state_named w.1)) (two_of words)
+fault_of words = option_and_then (λ w. fault_told (decimal_of w.0) (state_named w.1)) (two_of words)
 
 -- the event that a word names and the words behind it describe
 abbrev pub event_named : List ℕ → List (List ℕ) → Option Told

@@ -11,7 +11,7 @@ use Rattle.text_lines.specs.Cut.{is_blank_byte}
 use Rattle.device_events.specs.Replies.{ReplyWithData, data_length}
 use Rattle.device_events.specs.declared.reply.Reply.{Reply}
 use Rattle.device_events.specs.declared.reply.Reply.TheVariants as reply
-use Rattle.event_text.specs.CommandFile.{Told, Submitted, Turned, Failed, line_told, events_in}
+use Rattle.event_text.specs.CommandFile.{Told, Submitted, Turned, Faulted, line_told, events_in}
 use Rattle.event_text.specs.Lines.{reply_text}
 use Rattle.event_text.specs.Submission.{submission_text}
 
@@ -62,7 +62,7 @@ CommentsDontCount =
 abbrev pub turn_text : ℕ → List ℕ
 turn_text run = codes "turn " ++ decimal run
 
--- the line of a zone that fails to a state
+-- the line of a zone and the state that its fault leads to
 abbrev pub fault_text : ℕ → FaultState → List ℕ
 fault_text zone state = codes "fault " ++ decimal zone ++ codes " " ++ fault_word state
 
@@ -80,7 +80,7 @@ abbrev pub TurnsReadBack : Type 0
 TurnsReadBack = (run : ℕ) → run < 2 ^ 8 → ReadsBack (turn_text run) (Turned run)
 
 abbrev pub FaultsReadBack : Type 0
-FaultsReadBack = (zone : ℕ) (state : FaultState) → zone < 2 ^ 32 → ReadsBack (fault_text zone state) (Failed zone state)
+FaultsReadBack = (zone : ℕ) (state : FaultState) → zone < 2 ^ 32 → ReadsBack (fault_text zone state) (Faulted zone state)
 
 -- the numbers of a reply are of their types: 16 bits, 16 bytes (NVMe Base 2.0, 3.3.3.2), 8 bits
 abbrev pub AreOfTypes : Reply → Type 0

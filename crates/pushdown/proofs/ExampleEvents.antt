@@ -11,7 +11,7 @@ use Rattle.image_store.specs.Namespace.{ZoneBlocks, ZonedNamespace, zone_at}
 use Rattle.pushdown.specs.EventReplies.{Happening, plain}
 use Rattle.device_events.specs.Replies.{ReplyWithData}
 use Rattle.pushdown.specs.Draining.{replies_to_turns, state_after_turns}
-use Rattle.pushdown.specs.Happenings.{failed, submitted}
+use Rattle.pushdown.specs.Happenings.{faulting, submitted}
 use Rattle.pushdown.specs.State.{State, new_state}
 use Rattle.device_events.specs.declared.reply.Reply.TheVariants.{Complete, FaultRefused, Idle, Pending}
 use Rattle.pushdown.proofs.Examples.{block_of, entry_of, four_zones, frame, passes, run_entry, sevens, slots_with, twelve_zones, two_zones}
@@ -128,7 +128,7 @@ module _ {D : Type 0} (operations : Operations D) where
   unfolding block_run_of
   destination_is_kept = refl
 
-  pub source_cannot_fail : (failed holding 0 ReadOnly).reply ≡ plain FaultRefused
+  pub source_cannot_fail : (faulting holding 0 ReadOnly).reply ≡ plain FaultRefused
   unfolding block_run_of
   source_cannot_fail = refl
 

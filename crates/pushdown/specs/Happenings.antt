@@ -167,8 +167,8 @@ abbrev pub fault_reply : Result Unit FaultRefused → Reply
 fault_reply (Ok done) = reply.FaultTaken
 fault_reply (Err refused) = reply.FaultRefused
 
-abbrev pub failed : State → ℕ → FaultState → Happening
-failed s zone state = record {
+abbrev pub faulting : State → ℕ → FaultState → Happening
+faulting s zone state = record {
   reply = plain (fault_reply (zone_fault_refusal s.namespace (holds_at s) zone state));
   state = with_namespace s (faulted s.namespace (holds_at s) zone state);
 }
@@ -193,4 +193,4 @@ module _ {D : Type 0} (operations : Operations D) where
   happens s starved (event.Submit queue entry input) =
       submitted starved (record { queue = queue; entry = entry; input = input.items }) s (decoded entry)
   happens s starved (event.Turn run) = turned s run
-  happens s starved (event.Fault zone state) = failed s zone state
+  happens s starved (event.Fault zone state) = faulting s zone state

@@ -15,7 +15,7 @@ use Rattle.zns_commands.specs.Meaning.{meaning}
 use Rattle.zns_commands.specs.declared.answer.Answer.{Answer}
 use Rattle.zns_commands.proofs.Proved.{held_sources_keep_blocks, events_keep_shapes}
 use Rattle.pushdown.specs.EventReplies.{Submission}
-use Rattle.pushdown.specs.Happenings.{commanded, failed}
+use Rattle.pushdown.specs.Happenings.{commanded, faulting}
 use Rattle.pushdown.specs.State.{Place, holds_at, with_namespace}
 use Rattle.zone_resources.proofs.Proved.{users_name_zones}
 use Rattle.runner.specs.steps.Answered.{answered}
@@ -78,7 +78,7 @@ step_leaves ns slots runs step ready heeds =
 
 pub fault_leaves : (ns new : ZonedNamespace) (slots : List (Option LoadedProgram)) (runs : List (Option ActiveRun)) (holds : Holds) (zone : ℕ) (fault : FaultState)
     → IsReady ns slots runs → holds ≡ held_by runs → new ≡ faulted ns holds zone fault
-    → IsReady new slots runs × (device_state new slots runs ≡ (failed (device_state ns slots runs) zone fault).state)
+    → IsReady new slots runs × (device_state new slots runs ≡ (faulting (device_state ns slots runs) zone fault).state)
 fault_leaves ns new slots runs holds zone fault ready heeds is =
     let s = device_state ns slots runs in
     let left : IsLeft ns new slots runs =

@@ -75,7 +75,7 @@ const CROSSED: &[Case] = &[
     (Step::Fault(0, FaultState::Offline), FaultRefused),
     (Step::Fault(1, FaultState::ReadOnly), FaultRefused),
     (Step::Turns(1, 1), Pending(1)),
-    // A zone fails that no run uses.
+    // A zone that no run uses has a fault.
     (Step::Fault(2, FaultState::Offline), Faulted),
     (Step::Turns(0, 1), Pending(0)),
     (Step::Turns(0, 1), DoneWith(2, 2, 1)),

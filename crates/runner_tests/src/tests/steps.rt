@@ -33,7 +33,7 @@ const QUEUE: u16 = 3;
 pub(super) enum Step {
     /// So many turns of a run, with the same reply each.
     Turns(u8, usize),
-    /// A zone fails.
+    /// A zone has a fault.
     Fault(u32, FaultState),
     /// A Write to an address, of blocks of these bytes.
     Write(u16, u64, Bytes),

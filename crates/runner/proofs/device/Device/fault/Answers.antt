@@ -1,7 +1,7 @@
 use Rattle.std.proofs.Common.{false, ap, sym, ◌∙◌}
 use Rattle.zone_resources.specs.declared.holds.Holds.{Holds}
 use Rattle.zns_commands.specs.Fault.{zone_fault_refusal}
-use Rattle.pushdown.specs.Happenings.{failed, fault_reply}
+use Rattle.pushdown.specs.Happenings.{faulting, fault_reply}
 use Rattle.pushdown.specs.State.{State, holds_at}
 use Rattle.device_events.specs.declared.event.Event.TheVariants as event
 use Rattle.runner.specs.DeviceState.{device_state}
@@ -36,4 +36,4 @@ pub returns-clause-state : goal.returns-clause-state
 returns-clause-state c =
     let d = c.self.inside in
     let left = fault_leaves d.namespace c.fault.new.self d.slots d.runs c.holds.result c.args.zone c.args.state c.self.invariant.ready c.holds.ensures c.fault.ensures.state in
-    left.1 ∙ ap (λ (s : State). (failed s c.args.zone c.args.state).state) c.self.view_is
+    left.1 ∙ ap (λ (s : State). (faulting s c.args.zone c.args.state).state) c.self.view_is
