@@ -6,7 +6,7 @@ use Rattle.zone_state.specs.declared.status.TheConstants.Status.{SUCCESS, NO_RUN
 use Rattle.zone_state.specs.Checks.{first_failed}
 use Rattle.nvme_entry.specs.Entry.{decoded}
 use Rattle.nvme_entry.specs.declared.command.Command.{Command}
-use Rattle.nvme_entry.specs.declared.command.Command.TheVariants as command
+use Rattle.nvme_entry.specs.declared.command.Command.TheVariants as commands
 use Rattle.nvme_entry.specs.declared.command.LoadCommand.{LoadCommand}
 use Rattle.nvme_entry.specs.declared.command.RunCommand.{RunCommand}
 use Rattle.nvme_entry.proofs.Proved.{demanded, passed}
@@ -30,15 +30,15 @@ module _ {D : Type 0} (operations : Operations D) (starved : Bool) (sub : Submis
   unchanged status dw0 dw1 output =
       inr (record { status = status; dw0 = dw0; dw1 = dw1; output = output; reply = refl; state = λ other. refl })
 
-  start_replied : (why : Option Status) (free : Option ℕ) (order : RunCommand) → why_not_run sub s order ≡ why → free_place s ≡ free
-      → IsReplied (start_by why free sub s order)
-  start_replied (Some status) free order is at = unchanged status 0 0 []
-  start_replied None None order is at =
-      let checks = admission_checks s.namespace (holds_at s) (is_some (free_place s)) (program_at s order.slot) order sub.input in
+  start_replied : (why : Option Status) (free : Option ℕ) (command : RunCommand) → why_not_run sub s command ≡ why → free_place s ≡ free
+      → IsReplied (start_by why free sub s command)
+  start_replied (Some status) free command is at = unchanged status 0 0 []
+  start_replied None None command is at =
+      let checks = admission_checks s.namespace (holds_at s) (is_some (free_place s)) (program_at s command.slot) command sub.input in
       let there = demanded (is_some (free_place s)) NO_RUN_FREE (passed checks 7 is) in
       let nowhere = ap is_some at in
       cc
-  start_replied None (Some run) order is at = inl (run, refl)
+  start_replied None (Some run) command is at = inl (run, refl)
 
   result_replied : (slot : Option Loaded) (why : Option Status) → IsReplied (result_by slot why sub s)
   result_replied slot (Some status) = unchanged status 0 0 []
@@ -47,7 +47,7 @@ module _ {D : Type 0} (operations : Operations D) (starved : Bool) (sub : Submis
 
   pub replied : (asked : Result Command Status) → IsReplied (submitted operations starved sub s asked)
   replied (Err status) = unchanged status 0 0 []
-  replied (Ok (command.Standard c)) =
+  replied (Ok (commands.Standard c)) =
       let done = meaning s.namespace (holds_at s) c sub.input in
       inr (record {
         status = done.status;
@@ -57,27 +57,27 @@ module _ {D : Type 0} (operations : Operations D) (starved : Bool) (sub : Submis
         reply = refl;
         state = λ other. ap (with_namespace s) (refused_commands_change_nothing s.namespace (holds_at s) c sub.input other).namespace;
       })
-  replied (Ok (command.Load load)) = inr (loading_is operations sub s load starved).answered
-  replied (Ok (command.Run order)) = start_replied (why_not_run sub s order) (free_place s) order refl refl
-  replied (Ok (command.Result slot)) = result_replied (program_at s slot) (first_failed (transfer_checks 0 0 sub.input))
+  replied (Ok (commands.Load load)) = inr (loading_is operations sub s load starved).answered
+  replied (Ok (commands.Run command)) = start_replied (why_not_run sub s command) (free_place s) command refl refl
+  replied (Ok (commands.Result slot)) = result_replied (program_at s slot) (first_failed (transfer_checks 0 0 sub.input))
 
   -- ---- slots
 
   abbrev ChangesSlots : Happening → Type 0
   ChangesSlots h = (h.state.slots ≡ s.slots) ⊎ ((load : LoadCommand) × IsLoaded operations s sub load h)
 
-  start_changes : (why : Option Status) (free : Option ℕ) (order : RunCommand) → ChangesSlots (start_by why free sub s order)
-  start_changes (Some status) free order = inl refl
-  start_changes None None order = inl refl
-  start_changes None (Some run) order = inl refl
+  start_changes : (why : Option Status) (free : Option ℕ) (command : RunCommand) → ChangesSlots (start_by why free sub s command)
+  start_changes (Some status) free command = inl refl
+  start_changes None None command = inl refl
+  start_changes None (Some run) command = inl refl
 
   result_changes : (slot : Option Loaded) (why : Option Status) → ChangesSlots (result_by slot why sub s)
   result_changes slot (Some status) = inl refl
   result_changes None None = inl refl
   result_changes (Some loaded) None = inl refl
 
-  load_changes : (load : LoadCommand) → decoded sub.entry ≡ Ok (command.Load load)
-      → ChangesSlots (submitted operations starved sub s (Ok (command.Load load)))
+  load_changes : (load : LoadCommand) → decoded sub.entry ≡ Ok (commands.Load load)
+      → ChangesSlots (submitted operations starved sub s (Ok (commands.Load load)))
   load_changes load asked =
       let is = loading_is operations sub s load starved in
       elim is.state [
@@ -100,10 +100,10 @@ module _ {D : Type 0} (operations : Operations D) (starved : Bool) (sub : Submis
 
   pub changes_slots : (asked : Result Command Status) → decoded sub.entry ≡ asked → ChangesSlots (submitted operations starved sub s asked)
   changes_slots (Err status) is = inl refl
-  changes_slots (Ok (command.Standard c)) is = inl refl
-  changes_slots (Ok (command.Load load)) is = load_changes load is
-  changes_slots (Ok (command.Run order)) is = start_changes (why_not_run sub s order) (free_place s) order
-  changes_slots (Ok (command.Result slot)) is = result_changes (program_at s slot) (first_failed (transfer_checks 0 0 sub.input))
+  changes_slots (Ok (commands.Standard c)) is = inl refl
+  changes_slots (Ok (commands.Load load)) is = load_changes load is
+  changes_slots (Ok (commands.Run command)) is = start_changes (why_not_run sub s command) (free_place s) command
+  changes_slots (Ok (commands.Result slot)) is = result_changes (program_at s slot) (first_failed (transfer_checks 0 0 sub.input))
 
 module _ {D : Type 0} (operations : Operations D) where
   pub refused_leaves_state : RefusedLeavesState operations

@@ -4,7 +4,7 @@ use Rattle.zone_state.specs.declared.status.Status.{Status}
 use Rattle.zone_state.specs.Checks.{first_failed}
 use Rattle.nvme_entry.specs.Entry.{decoded}
 use Rattle.nvme_entry.specs.declared.command.Command.{Command}
-use Rattle.nvme_entry.specs.declared.command.Command.TheVariants as command
+use Rattle.nvme_entry.specs.declared.command.Command.TheVariants as commands
 use Rattle.nvme_entry.specs.declared.command.LoadCommand.{LoadCommand}
 use Rattle.nvme_entry.specs.declared.command.RunCommand.{RunCommand}
 use Rattle.word_domain.specs.Domain.{Operations}
@@ -49,8 +49,8 @@ module _ {D : Type 0} (operations : Operations D) (P : State → Type 0) (s : St
     pub step : (step : NamespaceEvent) → kept.holds_of step ≡ holds_at s → (CarriesBytes e → IsSpelled step) → P (with_namespace s (after step s.namespace))
     pub load : (sub : Submission) (load : LoadCommand) (t : State) → (CarriesBytes e → AreBytes sub.input)
         → (takes : TakesSlot operations sub s load t) → P (with_slot s load.slot (Some (just_loaded takes.program load.limit)))
-    pub start : (sub : Submission) (order : RunCommand) (run : ℕ) → why_not_run sub s order ≡ None → free_place s ≡ Some run → 1 ≤ order.blocks
-        → P (with_place s run (Some (admitted_place sub s order)))
+    pub start : (sub : Submission) (command : RunCommand) (run : ℕ) → why_not_run sub s command ≡ None → free_place s ≡ Some run → 1 ≤ command.blocks
+        → P (with_place s run (Some (admitted_place sub s command)))
     pub turn : (run : ℕ) (place : Place) (turn : Turn) (later : List Turn) → e ≡ event.Turn run → place_at s run ≡ Some place
         → place.turns ≡ turn ∷ later → P (turn_state s run place turn later)
 
@@ -62,11 +62,11 @@ module _ {D : Type 0} (operations : Operations D) (P : State → Type 0) (s : St
       | inr takes ↦ subst P (sym takes.taken) (holds.load sub load (loading operations starved sub s load).state are takes)
     ]
 
-    after_start : (why : Option Status) (free : Option ℕ) (sub : Submission) (order : RunCommand) → why_not_run sub s order ≡ why
-        → free_place s ≡ free → 1 ≤ order.blocks → P (start_by why free sub s order).state
-    after_start (Some status) free sub order is at some = holds.same
-    after_start None None sub order is at some = holds.same
-    after_start None (Some run) sub order is at some = holds.start sub order run is at some
+    after_start : (why : Option Status) (free : Option ℕ) (sub : Submission) (command : RunCommand) → why_not_run sub s command ≡ why
+        → free_place s ≡ free → 1 ≤ command.blocks → P (start_by why free sub s command).state
+    after_start (Some status) free sub command is at some = holds.same
+    after_start None None sub command is at some = holds.same
+    after_start None (Some run) sub command is at some = holds.start sub command run is at some
 
     after_result : (slot : Option Loaded) (why : Option Status) (sub : Submission) → P (result_by slot why sub s).state
     after_result slot (Some status) sub = holds.same
@@ -76,13 +76,13 @@ module _ {D : Type 0} (operations : Operations D) (P : State → Type 0) (s : St
     after_entry : (starved : Bool) (sub : Submission) (asked : Result Command Status) → decoded sub.entry ≡ asked
         → (CarriesBytes e → AreBytes sub.input) → P (submitted operations starved sub s asked).state
     after_entry starved sub (Err status) is are = holds.same
-    after_entry starved sub (Ok (command.Standard c)) is are =
+    after_entry starved sub (Ok (commands.Standard c)) is are =
         holds.step (Commanded (holds_at s) c sub.input) refl
-        (λ has. spelled (holds_at s) c sub.input (decoded_has sub.entry (command.Standard c) is) (are has))
-    after_entry starved sub (Ok (command.Load load)) is are = after_load starved sub load are
-    after_entry starved sub (Ok (command.Run order)) is are =
-        after_start (why_not_run sub s order) (free_place s) sub order refl refl (decoded_has sub.entry (command.Run order) is)
-    after_entry starved sub (Ok (command.Result slot)) is are =
+        (λ has. spelled (holds_at s) c sub.input (decoded_has sub.entry (commands.Standard c) is) (are has))
+    after_entry starved sub (Ok (commands.Load load)) is are = after_load starved sub load are
+    after_entry starved sub (Ok (commands.Run command)) is are =
+        after_start (why_not_run sub s command) (free_place s) sub command refl refl (decoded_has sub.entry (commands.Run command) is)
+    after_entry starved sub (Ok (commands.Result slot)) is are =
         after_result (program_at s slot) (first_failed (transfer_checks 0 0 sub.input)) sub
 
   pub after_event : (starved : Bool) (e : Event) → HoldsAfter e → P (happens operations s starved e).state

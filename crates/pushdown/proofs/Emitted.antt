@@ -39,17 +39,17 @@ emits task (run ∷ runs) done =
     }
 
 pub emitted_reads_back : {D : Type 0} (operations : Operations D) → AcceptedNeverTraps operations → OutcomeUnpacks operations
-emitted_reads_back operations never s reached sub order run admitted =
+emitted_reads_back operations never s reached sub command run admitted =
     let fine = reached_fine operations never s reached in
     let none = admitted.passed in
-    let task = task_of s.namespace (program_at s order.slot) order in
-    let source = source_blocks s.namespace order in
+    let task = task_of s.namespace (program_at s command.slot) command in
+    let source = source_blocks s.namespace command in
     let runs = runs_of task source in
     let block = task.sizes.block in
-    let done = runs_all_done operations never reached.first.block sub s order fine none in
+    let done = runs_all_done operations never reached.first.block sub s command fine none in
     let given = emits task runs done in
-    let sizes = (ready operations never reached.first.block sub s order fine none).sizes in
-    let whole = (outcome_is_packed task source (all_exit operations never reached.first.block sub s order fine none)).blocks in
+    let sizes = (ready operations never reached.first.block sub s command fine none).sizes in
+    let whole = (outcome_is_packed task source (all_exit operations never reached.first.block sub s command fine none)).blocks in
     let fit = subst (FitBlock block) given.are.groups (groups_within task runs sizes.fits done) in
     let back = packed_frames_read_back block given.records
     (omega (arith, block_some fine.is.shape)) (omega (arith, block_most fine.is.shape)) given.some fit in (

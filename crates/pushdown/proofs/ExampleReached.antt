@@ -58,8 +58,8 @@ none_is : AreBytes []
 none_is = by_place [] tt
 
 -- a run of one block of zone 0, which appends to zone 1
-abbrev order : RunCommand
-order = record { lba = 0; blocks = 1; slot = 0; argument = 0; destination = 8 }
+abbrev command : RunCommand
+command = record { lba = 0; blocks = 1; slot = 0; argument = 0; destination = 8 }
 
 module _ {D : Type 0} (operations : Operations D) (there : Ptr) (alloc : Global) where
   -- bytes in memory
@@ -91,5 +91,5 @@ module _ {D : Type 0} (operations : Operations D) (there : Ptr) (alloc : Global)
     leaves = refl;
   }
 
-  pub is_admitted : IsAdmitted state (record { queue = 1; entry = run_entry 4 0 0 8; input = [] }) order 0
+  pub is_admitted : IsAdmitted state (record { queue = 1; entry = run_entry 4 0 0 8; input = [] }) command 0
   is_admitted = record { asked = refl; passed = refl; free = refl }

@@ -7,7 +7,7 @@ use Rattle.zone_state.specs.State.{is_open}
 use Rattle.zone_state.specs.declared.state.ZoneState.TheVariants.{Offline}
 use Rattle.zone_state.specs.declared.status.Status.{Status}
 use Rattle.zone_state.specs.declared.status.TheConstants.Status.{DESTINATION_NOT_OPEN}
-use Rattle.nvme_entry.specs.declared.command.Command.TheVariants as command
+use Rattle.nvme_entry.specs.declared.command.Command.TheVariants as commands
 use Rattle.nvme_entry.specs.declared.command.RunCommand.{RunCommand}
 use Rattle.instruction_set.specs.Program.{instruction_count}
 use Rattle.program_meaning.specs.BlockRun.{BlockRun}
@@ -39,27 +39,27 @@ use Rattle.pushdown.proofs.States.{IsFine, admitted_room, all_exit, few_source, 
 
 -- ---- a run that is admitted, and the events after it
 
-module _ {D : Type 0} (operations : Operations D) (s : State) (queue : ℕ) (entry : List ℕ) (input : Vec ℕ Global) (order : RunCommand) (run : ℕ) where
+module _ {D : Type 0} (operations : Operations D) (s : State) (queue : ℕ) (entry : List ℕ) (input : Vec ℕ Global) (command : RunCommand) (run : ℕ) where
   abbrev sub : Submission
   sub = record { queue = queue; entry = entry; input = input.items }
 
   abbrev place : Place
-  place = admitted_place sub s order
+  place = admitted_place sub s command
 
   abbrev begun : Bool → Happening
   begun starved = happens operations s starved (event.Submit queue entry input)
 
-  started : (starved : Bool) → IsAdmitted s sub order run
+  started : (starved : Bool) → IsAdmitted s sub command run
       → begun starved ≡ record { reply = plain (reply.Pending run); state = with_place s run (Some place) }
   started starved admitted =
       ap (submitted operations starved sub s) admitted.asked
-      ∙ ap (λ (why : Option Status). start_by why (free_place s) sub s order) admitted.passed
-      ∙ ap (λ (free : Option ℕ). start_by None free sub s order) admitted.free
+      ∙ ap (λ (why : Option Status). start_by why (free_place s) sub s command) admitted.passed
+      ∙ ap (λ (free : Option ℕ). start_by None free sub s command) admitted.free
 
-  placed : IsAdmitted s sub order run → get_or (set s.places run (Some place)) run None ≡ Some place
+  placed : IsAdmitted s sub command run → get_or (set s.places run (Some place)) run None ≡ Some place
   placed admitted = get_or-set_same s.places run (Some place) None (free_within s.places run admitted.free)
 
-  pub starts : (starved : Bool) → IsAdmitted s sub order run → StartsRun s sub order run (begun starved)
+  pub starts : (starved : Bool) → IsAdmitted s sub command run → StartsRun s sub command run (begun starved)
   starts starved admitted =
       let is = started starved admitted in
       record {
@@ -71,13 +71,13 @@ module _ {D : Type 0} (operations : Operations D) (s : State) (queue : ℕ) (ent
         slots = ap (λ (h : Happening). h.state.slots) is;
       }
 
-  destination_on : IsAdmitted s sub order run → (zone_at s.namespace place.destination).state ≢ Offline
+  destination_on : IsAdmitted s sub command run → (zone_at s.namespace place.destination).state ≢ Offline
   destination_on admitted =
-      let checks = admission_checks s.namespace (holds_at s) (is_some (free_place s)) (program_at s order.slot) order sub.input in
+      let checks = admission_checks s.namespace (holds_at s) (is_some (free_place s)) (program_at s command.slot) command sub.input in
       let state = (zone_at s.namespace place.destination).state in
       open_on state (demanded (is_open state) DESTINATION_NOT_OPEN (passed checks 12 admitted.passed))
 
-  module _ (apart : AreApart s.places) (starved : Bool) (admitted : IsAdmitted s sub order run) (ends : EndsWithLast place.turns) (events : List Occurrence)
+  module _ (apart : AreApart s.places) (starved : Bool) (admitted : IsAdmitted s sub command run) (ends : EndsWithLast place.turns) (events : List Occurrence)
       (within : own_turns run events < length place.turns) where
     abbrev first : State
     first = (begun starved).state
@@ -108,7 +108,7 @@ module _ {D : Type 0} (operations : Operations D) (s : State) (queue : ℕ) (ent
     same_blocks : blocks_at first place.destination ≡ blocks_at s place.destination
     same_blocks = ap (λ (ns : ZonedNamespace). (zone_at ns place.destination).blocks) same_namespace
 
-    pub does_its_turns : DoesItsTurns operations s queue entry input starved order run events
+    pub does_its_turns : DoesItsTurns operations s queue entry input starved command run events
     does_its_turns = record {
       left = stands.left;
       appended = rw same_blocks at stands.appended;
@@ -119,7 +119,7 @@ module _ {D : Type 0} (operations : Operations D) (s : State) (queue : ℕ) (ent
       then_slots = next.then_slots;
     }
 
-    pub changes_destination_alone : ChangesDestinationAlone operations s queue entry input starved order run events
+    pub changes_destination_alone : ChangesDestinationAlone operations s queue entry input starved command run events
     changes_destination_alone =
         let blocks = (get_or place.turns done no_turn).blocks in
         record {
@@ -133,13 +133,13 @@ module _ {D : Type 0} (operations : Operations D) (s : State) (queue : ℕ) (ent
           program_left = next.program_left;
           same_blocks = λ ns same_size same_source.
               let of : ℕ → List (List ℕ) → List Turn =
-              λ block source. outcome (task_of (record s.namespace { block = block }) (program_at s order.slot) order) source in
-              ap (λ (block : ℕ). of block (source_blocks ns order)) same_size ∙ ap (of s.namespace.block) same_source;
+              λ block source. outcome (task_of (record s.namespace { block = block }) (program_at s command.slot) command) source in
+              ap (λ (block : ℕ). of block (source_blocks ns command)) same_size ∙ ap (of s.namespace.block) same_source;
         }
 
 module _ {D : Type 0} (operations : Operations D) where
   pub admitted_starts : AdmittedStarts operations
-  admitted_starts s starved queue entry input order run admitted = starts operations s queue entry input order run starved admitted
+  admitted_starts s starved queue entry input command run admitted = starts operations s queue entry input command run starved admitted
 
 -- ---- the completion's dwords
 
@@ -157,48 +157,48 @@ written_most ns z is =
 -- ---- the theorem
 
 module _ {D : Type 0} (operations : Operations D) (never : AcceptedNeverTraps operations) (block : ℕ) (s : State) (fine : IsFine operations never block s)
-    (queue : ℕ) (entry : List ℕ) (input : Vec ℕ Global) (starved : Bool) (order : RunCommand) (run : ℕ) (events : List Occurrence) where
+    (queue : ℕ) (entry : List ℕ) (input : Vec ℕ Global) (starved : Bool) (command : RunCommand) (run : ℕ) (events : List Occurrence) where
   abbrev given : Submission
   given = record { queue = queue; entry = entry; input = input.items }
 
-  tells_frames_and_blocks : IsAdmitted s given order run → TellsFramesAndBlocks operations s queue entry input starved order run events
+  tells_frames_and_blocks : IsAdmitted s given command run → TellsFramesAndBlocks operations s queue entry input starved command run events
   tells_frames_and_blocks admitted =
       let none = admitted.passed in
       let ns = s.namespace in
-      let task = task_of ns (program_at s order.slot) order in
-      let source = source_blocks ns order in
+      let task = task_of ns (program_at s command.slot) command in
+      let source = source_blocks ns command in
       let runs = runs_of task source in
-      let some = decoded_has entry (command.Run order) admitted.asked in
-      let whole = outcome_is_packed task source (all_exit operations never block given s order fine none) in
-      let frames = few_frames task runs (runs_all_done operations never block given s order fine none) in
+      let some = decoded_has entry (commands.Run command) admitted.asked in
+      let whole = outcome_is_packed task source (all_exit operations never block given s command fine none) in
+      let frames = few_frames task runs (runs_all_done operations never block given s command fine none) in
       let few = few_runs task 0 no_scratch source in
-      let asked = written operations never block given s order fine none in
-      let most = written_most ns (order.lba / ns.size) fine.is in
-      let limit = (is_ready operations never block given s order fine none).sizes.fits in
+      let asked = written operations never block given s command fine none in
+      let most = written_most ns (command.lba / ns.size) fine.is in
+      let limit = (is_ready operations never block given s command fine none).sizes.fits in
       let product = mul-le (length runs) task.sizes.limit ns.capacity ns.block
-      (omega (arith, few, few_source ns order, asked, most)) limit in
+      (omega (arith, few, few_source ns command, asked, most)) limit in
       let shape = fine.is.shape in
-      let room = (admitted_room operations never block given s order fine none).room in
+      let room = (admitted_room operations never block given s command fine none).room in
       record {
-        ending = whole.ending (some_run operations never block given s order fine none some);
+        ending = whole.ending (some_run operations never block given s command fine none some);
         frames = omega (arith, frames, product, slot_room shape);
         blocks = omega (arith, room, shape.capacity_most, shape.size_most);
       }
 
 pub pushdown : {D : Type 0} (operations : Operations D) → AcceptedNeverTraps operations → Pushdown operations
-pushdown operations never s reached queue entry input starved order run after admitted =
+pushdown operations never s reached queue entry input starved command run after admitted =
     let sub : Submission = record { queue = queue; entry = entry; input = input.items } in
     let fine = reached_fine operations never s reached in
     let block = reached.first.block in
-    let task = task_of s.namespace (program_at s order.slot) order in
-    let runs = runs_of task (source_blocks s.namespace order) in
+    let task = task_of s.namespace (program_at s command.slot) command in
+    let runs = runs_of task (source_blocks s.namespace command) in
     let none = admitted.passed in
-    let done = runs_all_done operations never block sub s order fine none in
-    let ends = (turns_are operations never block sub s order fine none (decoded_has entry (command.Run order) admitted.asked)).ends in
+    let done = runs_all_done operations never block sub s command fine none in
+    let ends = (turns_are operations never block sub s command fine none (decoded_has entry (commands.Run command) admitted.asked)).ends in
     record {
-      no_turn_traps = record { exits = all_exit operations never block sub s order fine none; ends = ends };
+      no_turn_traps = record { exits = all_exit operations never block sub s command fine none; ends = ends };
       few_steps = all_from (IsDone task) (λ (r : BlockRun). r.steps ≤ instruction_count task.program) (λ r h. h.exits.steps) runs done;
-      changes_destination_alone = changes_destination_alone operations s queue entry input order run fine.apart starved admitted ends after;
-      does_its_turns = does_its_turns operations s queue entry input order run fine.apart starved admitted ends after;
-      tells_frames_and_blocks = tells_frames_and_blocks operations never block s fine queue entry input starved order run after admitted;
+      changes_destination_alone = changes_destination_alone operations s queue entry input command run fine.apart starved admitted ends after;
+      does_its_turns = does_its_turns operations s queue entry input command run fine.apart starved admitted ends after;
+      tells_frames_and_blocks = tells_frames_and_blocks operations never block s fine queue entry input starved command run after admitted;
     }

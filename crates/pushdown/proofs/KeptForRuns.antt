@@ -94,7 +94,7 @@ module _ {D : Type 0} (operations : Operations D) where
           program = subst (SameProgram (program_at s place.slot)) (sym other) (same_program (program_at s place.slot));
           sizes = refl;
         };
-    start = λ sub order first passed free some. record {
+    start = λ sub command first passed free some. record {
       source = grows_by_none (zone_at s.namespace place.source).blocks;
       program = same_program (program_at s place.slot);
       sizes = refl;

@@ -47,7 +47,7 @@ module _ {D : Type 0} (operations : Operations D) where
         same = λ stays. keeps_itself s.namespace z;
         step = λ step same is stays. step_keeps step s.namespace z stays;
         load = λ sub load t are takes stays. keeps_itself s.namespace z;
-        start = λ sub order run passed free some stays. keeps_itself s.namespace z;
+        start = λ sub command run passed free some stays. keeps_itself s.namespace z;
         turn = λ run place turn later is at first stays. added_keeps s.namespace place.destination z turn.blocks stays;
       })
 
@@ -67,7 +67,7 @@ module _ {D : Type 0} (operations : Operations D) where
     same = refl;
     step = λ step same is. events_keep_shapes step s.namespace;
     load = λ sub load t are takes. refl;
-    start = λ sub order run passed free some. refl;
+    start = λ sub command run passed free some. refl;
     turn = λ run place turn later is at first. added_shape s.namespace place.destination turn.blocks;
   })
 

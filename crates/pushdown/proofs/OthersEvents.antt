@@ -55,8 +55,8 @@ module _ {D : Type 0} (operations : Operations D) where
         same = at;
         step = λ step same is. at;
         load = λ sub load t are takes. at;
-        start = λ sub order first passed free some.
-            get_or-set_other s.places first run (Some (admitted_place sub s order)) None (other_than s.places first run place free at) ∙ at;
+        start = λ sub command first passed free some.
+            get_or-set_other s.places first run (Some (admitted_place sub s command)) None (other_than s.places first run place free at) ∙ at;
         turn = λ other p turn later is there first.
             get_or-set_other s.places other run (place_left p later turn.ending) None (not_own run other e is foreign) ∙ at;
       })

@@ -4,7 +4,7 @@ use Rattle.zone_state.specs.declared.status.Status.{Status}
 use Rattle.zone_state.specs.Checks.{first_failed}
 use Rattle.nvme_entry.specs.Entry.{decoded}
 use Rattle.nvme_entry.specs.declared.command.Command.{Command}
-use Rattle.nvme_entry.specs.declared.command.Command.TheVariants as command
+use Rattle.nvme_entry.specs.declared.command.Command.TheVariants as commands
 use Rattle.nvme_entry.specs.declared.command.RunCommand.{RunCommand}
 use Rattle.word_domain.specs.Domain.{Operations}
 use Rattle.zns_commands.specs.Transfer.{transfer_checks}
@@ -38,23 +38,23 @@ given_pends slot (Some status) sub s run is = other_reply _ run refl is
 given_pends None None sub s run is = other_reply _ run refl is
 given_pends (Some loaded) None sub s run is = other_reply _ run refl is
 
-start_pends : (why : Option Status) (free : Option ℕ) (sub : Submission) (s : State) (order : RunCommand) (run : ℕ)
-    → IsPending run (start_by why free sub s order) → (why ≡ None) × (free ≡ Some run)
-start_pends (Some status) free sub s order run is = absurd (other_reply _ run refl is)
-start_pends None None sub s order run is = absurd (other_reply _ run refl is)
-start_pends None (Some first) sub s order run is = let same : first ≡ run = ap (λ (x : ReplyWithData). number_in x.reply) is in (refl, ap Some same)
+start_pends : (why : Option Status) (free : Option ℕ) (sub : Submission) (s : State) (command : RunCommand) (run : ℕ)
+    → IsPending run (start_by why free sub s command) → (why ≡ None) × (free ≡ Some run)
+start_pends (Some status) free sub s command run is = absurd (other_reply _ run refl is)
+start_pends None None sub s command run is = absurd (other_reply _ run refl is)
+start_pends None (Some first) sub s command run is = let same : first ≡ run = ap (λ (x : ReplyWithData). number_in x.reply) is in (refl, ap Some same)
 
 module _ {D : Type 0} (operations : Operations D) where
   pends : (starved : Bool) (sub : Submission) (s : State) (asked : Result Command Status) (run : ℕ) → decoded sub.entry ≡ asked
-      → IsPending run (submitted operations starved sub s asked) → (order : RunCommand) × IsAdmitted s sub order run
+      → IsPending run (submitted operations starved sub s asked) → (command : RunCommand) × IsAdmitted s sub command run
   pends starved sub s (Err status) run e is = absurd (other_reply _ run refl is)
-  pends starved sub s (Ok (command.Standard c)) run e is = absurd (other_reply _ run refl is)
-  pends starved sub s (Ok (command.Load load)) run e is =
+  pends starved sub s (Ok (commands.Standard c)) run e is = absurd (other_reply _ run refl is)
+  pends starved sub s (Ok (commands.Load load)) run e is =
       absurd (other_reply _ run (loading_is operations sub s load starved).replied is)
-  pends starved sub s (Ok (command.Run order)) run e is =
-      let both = start_pends (why_not_run sub s order) (free_place s) sub s order run is in
-      (order, record { asked = e; passed = both.0; free = both.1 })
-  pends starved sub s (Ok (command.Result slot)) run e is =
+  pends starved sub s (Ok (commands.Run command)) run e is =
+      let both = start_pends (why_not_run sub s command) (free_place s) sub s command run is in
+      (command, record { asked = e; passed = both.0; free = both.1 })
+  pends starved sub s (Ok (commands.Result slot)) run e is =
       absurd (given_pends (program_at s slot) (first_failed (transfer_checks 0 0 sub.input)) sub s run is)
 
   pub pending_is_admitted : PendingIsAdmitted operations

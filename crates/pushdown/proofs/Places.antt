@@ -87,12 +87,12 @@ not_true true e = cc
 not_true false e = refl
 
 -- the destination of an admitted run is no other run's
-pub admitted_free : (sub : Submission) (s : State) (order : RunCommand) → why_not_run sub s order ≡ None
-    → is_destination (holds_at s) (destination_zone s.namespace order) ≡ false
-admitted_free sub s order none =
+pub admitted_free : (sub : Submission) (s : State) (command : RunCommand) → why_not_run sub s command ≡ None
+    → is_destination (holds_at s) (destination_zone s.namespace command) ≡ false
+admitted_free sub s command none =
     let holds = holds_at s in
-    let z = destination_zone s.namespace order in
-    let checks = admission_checks s.namespace holds (is_some (free_place s)) (program_at s order.slot) order sub.input in
+    let z = destination_zone s.namespace command in
+    let checks = admission_checks s.namespace holds (is_some (free_place s)) (program_at s command.slot) command sub.input in
     not_true (is_destination holds z) (demanded (not (is_destination holds z)) ZONE_HELD (passed checks 11 none))
 
 -- a run to a zone that no other has
@@ -134,10 +134,10 @@ module _ (places : List (Option Place)) (run : ℕ) (new : Place) (h : AreApart 
 -- ---- events
 
 -- a run that starts
-pub started_apart : (sub : Submission) (s : State) (order : RunCommand) (run : ℕ) → why_not_run sub s order ≡ None → free_place s ≡ Some run
-    → AreApart s.places → AreApart (set s.places run (Some (admitted_place sub s order)))
-started_apart sub s order run passed free h =
-    placed_apart s.places run (admitted_place sub s order) h (free_within s.places run free) (admitted_free sub s order passed)
+pub started_apart : (sub : Submission) (s : State) (command : RunCommand) (run : ℕ) → why_not_run sub s command ≡ None → free_place s ≡ Some run
+    → AreApart s.places → AreApart (set s.places run (Some (admitted_place sub s command)))
+started_apart sub s command run passed free h =
+    placed_apart s.places run (admitted_place sub s command) h (free_within s.places run free) (admitted_free sub s command passed)
 
 -- a turn
 pub left_apart : (places : List (Option Place)) (run : ℕ) (place : Place) (later : List Turn) (ending : Option Ending)
@@ -159,6 +159,6 @@ module _ {D : Type 0} (operations : Operations D) where
     same = h;
     step = λ step same is. h;
     load = λ sub load t are takes. h;
-    start = λ sub order run passed free some. started_apart sub s order run passed free h;
+    start = λ sub command run passed free some. started_apart sub s command run passed free h;
     turn = λ run place turn later is at first. left_apart s.places run place later turn.ending at h;
   })

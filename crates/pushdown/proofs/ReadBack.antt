@@ -8,7 +8,7 @@ use Rattle.zone_state.specs.declared.state.ZoneState.{ZoneState}
 use Rattle.zone_state.specs.declared.state.ZoneState.TheVariants.{Empty, ImplicitlyOpened, ExplicitlyOpened, Closed, ReadOnly, Full, Offline}
 use Rattle.zone_state.specs.declared.status.Status.{Status}
 use Rattle.nvme_entry.specs.declared.command.Command.{Command}
-use Rattle.nvme_entry.specs.declared.command.Command.TheVariants as command
+use Rattle.nvme_entry.specs.declared.command.Command.TheVariants as commands
 use Rattle.nvme_entry.specs.declared.command.StandardCommand.{StandardCommand}
 use Rattle.nvme_entry.specs.declared.command.StandardCommand.TheVariants.{Write, Read, Append}
 use Rattle.nvme_entry.specs.declared.command.TheConstants.{MOST_TRANSFER}
@@ -86,7 +86,7 @@ blocks_read ns z front more behind is there some transfer =
 module _ {D : Type 0} (operations : Operations D) where
   -- an event that submits a command is completed with the command's meaning
   completed : (e : Event) (c : StandardCommand) (input : List ℕ) (s : State) (starved : Bool)
-      → Submits e (command.Standard c) input → IsCompleted e s (meaning s.namespace (holds_at s) c input) (happens operations s starved e)
+      → Submits e (commands.Standard c) input → IsCompleted e s (meaning s.namespace (holds_at s) c input) (happens operations s starved e)
   completed (event.Submit queue entry bytes) c input s starved is =
       let sub : Submission = record { queue = queue; entry = entry; input = bytes.items } in
       ap (λ (r : Result Command Status). submitted operations starved sub s r) is.0
@@ -94,15 +94,15 @@ module _ {D : Type 0} (operations : Operations D) where
   completed (event.Turn run) c input s starved is = absurd is
   completed (event.Fault zone state) c input s starved is = absurd is
 
-  leaves : (e : Event) (c : StandardCommand) (input : List ℕ) (s : State) (starved : Bool) → Submits e (command.Standard c) input
+  leaves : (e : Event) (c : StandardCommand) (input : List ℕ) (s : State) (starved : Bool) → Submits e (commands.Standard c) input
       → (happens operations s starved e).state.namespace ≡ (meaning s.namespace (holds_at s) c input).namespace
   leaves (event.Submit queue entry bytes) c input s starved is =
       ap (λ (h : Happening). h.state.namespace) (completed (event.Submit queue entry bytes) c input s starved is)
   leaves (event.Turn run) c input s starved is = absurd is
   leaves (event.Fault zone state) c input s starved is = absurd is
 
-  has_blocks : (e : Event) (c : StandardCommand) (input : List ℕ) → Submits e (command.Standard c) input → HasBlocks (command.Standard c)
-  has_blocks (event.Submit queue entry bytes) c input is = decoded_has entry (command.Standard c) is.0
+  has_blocks : (e : Event) (c : StandardCommand) (input : List ℕ) → Submits e (commands.Standard c) input → HasBlocks (commands.Standard c)
+  has_blocks (event.Submit queue entry bytes) c input is = decoded_has entry (commands.Standard c) is.0
   has_blocks (event.Turn run) c input is = absurd is
   has_blocks (event.Fault zone state) c input is = absurd is
 
@@ -114,7 +114,7 @@ module _ {D : Type 0} (operations : Operations D) where
       (completed read.event (Read lba blocks) [] s read.starved submits)
 
   -- what is left of a zone after a command and after events that don't clear it
-  lasts : (s : State) (o : Occurrence) (c : StandardCommand) (input : List ℕ) (events : List Occurrence) (z : ℕ) → Submits o.event (command.Standard c) input
+  lasts : (s : State) (o : Occurrence) (c : StandardCommand) (input : List ℕ) (events : List Occurrence) (z : ℕ) → Submits o.event (commands.Standard c) input
       → NoEventClears operations z events (happens operations s o.starved o.event).state
       → KeepsZone (meaning s.namespace (holds_at s) c input).namespace
       (state_after operations events (happens operations s o.starved o.event).state).namespace z

@@ -9,7 +9,7 @@ use Rattle.zone_state.specs.declared.status.TheConstants.Status.{SUCCESS, NO_SUC
 use Rattle.zone_state.specs.Checks.{first_failed}
 use Rattle.nvme_entry.specs.Entry.{decoded}
 use Rattle.nvme_entry.specs.declared.command.Command.{Command}
-use Rattle.nvme_entry.specs.declared.command.Command.TheVariants as command
+use Rattle.nvme_entry.specs.declared.command.Command.TheVariants as commands
 use Rattle.nvme_entry.specs.declared.command.RunCommand.{RunCommand}
 use Rattle.nvme_entry.proofs.Proved.{demanded, passed}
 use Rattle.word_domain.specs.Domain.{Operations}
@@ -60,7 +60,7 @@ module _ {D : Type 0} (operations : Operations D) where
     same = is;
     step = λ step same fit. is;
     load = λ sub load t are takes. set_some s.slots load.slot slot (just_loaded takes.program load.limit) is;
-    start = λ sub order run passed free some. is;
+    start = λ sub command run passed free some. is;
     turn = λ run place turn later own at first. (left_program s place turn.ending slot).loaded ∙ is;
   })
 
@@ -100,11 +100,11 @@ last_scratch_long task (run ∷ next ∷ runs) done some = last_scratch_long tas
 -- ---- events that don't replace a result
 
 module _ {D : Type 0} (operations : Operations D) (slot : ℕ) where
-  start_leaves : (why : Option Status) (free : Option ℕ) (sub : Submission) (s : State) (order : RunCommand)
-      → program_at (start_by why free sub s order).state slot ≡ program_at s slot
-  start_leaves (Some status) free sub s order = refl
-  start_leaves None None sub s order = refl
-  start_leaves None (Some run) sub s order = refl
+  start_leaves : (why : Option Status) (free : Option ℕ) (sub : Submission) (s : State) (command : RunCommand)
+      → program_at (start_by why free sub s command).state slot ≡ program_at s slot
+  start_leaves (Some status) free sub s command = refl
+  start_leaves None None sub s command = refl
+  start_leaves None (Some run) sub s command = refl
 
   result_leaves : (of : Option Loaded) (why : Option Status) (sub : Submission) (s : State)
       → program_at (result_by of why sub s).state slot ≡ program_at s slot
@@ -118,14 +118,14 @@ module _ {D : Type 0} (operations : Operations D) (slot : ℕ) where
       (submitted operations starved (record { queue = queue; entry = entry; input = input.items }) s asked).reply → ⊥)
       → program_at (submitted operations starved (record { queue = queue; entry = entry; input = input.items }) s asked).state slot ≡ program_at s slot
   entry_leaves starved queue entry input s (Err status) is none = refl
-  entry_leaves starved queue entry input s (Ok (command.Standard c)) is none = refl
-  entry_leaves starved queue entry input s (Ok (command.Run order)) is none =
+  entry_leaves starved queue entry input s (Ok (commands.Standard c)) is none = refl
+  entry_leaves starved queue entry input s (Ok (commands.Run command)) is none =
       let sub : Submission = record { queue = queue; entry = entry; input = input.items } in
-      start_leaves (why_not_run sub s order) (free_place s) sub s order
-  entry_leaves starved queue entry input s (Ok (command.Result of)) is none =
+      start_leaves (why_not_run sub s command) (free_place s) sub s command
+  entry_leaves starved queue entry input s (Ok (commands.Result of)) is none =
       let sub : Submission = record { queue = queue; entry = entry; input = input.items } in
       result_leaves (program_at s of) (first_failed (transfer_checks 0 0 sub.input)) sub s
-  entry_leaves starved queue entry input s (Ok (command.Load load)) is none =
+  entry_leaves starved queue entry input s (Ok (commands.Load load)) is none =
       let sub : Submission = record { queue = queue; entry = entry; input = input.items } in
       let load_is = loading_is operations sub s load starved in
       elim load_is.state [
@@ -180,7 +180,7 @@ module _ {D : Type 0} (operations : Operations D) (slot : ℕ) where
 -- ---- Result gives it
 
 module _ {D : Type 0} (operations : Operations D) (s : State) (slot : ℕ) (bytes : List ℕ) (has : HasResult s slot bytes) where
-  given : (e : Event) (starved : Bool) → Submits e (command.Result slot) []
+  given : (e : Event) (starved : Bool) → Submits e (commands.Result slot) []
       → IsCompleted e s (success_effect s.namespace 0 bytes) (happens operations s starved e)
   given (event.Submit queue entry input) starved is =
       let sub : Submission = record { queue = queue; entry = entry; input = input.items } in
@@ -197,57 +197,57 @@ module _ {D : Type 0} (operations : Operations D) (s : State) (slot : ℕ) (byte
 -- ---- a run
 
 module _ {D : Type 0} (operations : Operations D) (never : AcceptedNeverTraps operations) (s : State) (reached : IsReached operations s)
-    (queue : ℕ) (entry : List ℕ) (input : Vec ℕ Global) (starved : Bool) (order : RunCommand) (run : ℕ) (events later : List Occurrence) where
+    (queue : ℕ) (entry : List ℕ) (input : Vec ℕ Global) (starved : Bool) (command : RunCommand) (run : ℕ) (events later : List Occurrence) where
   abbrev sub : Submission
   sub = record { queue = queue; entry = entry; input = input.items }
 
   abbrev all_runs : List BlockRun
-  all_runs = runs operations s queue entry input starved order run events
+  all_runs = runs operations s queue entry input starved command run events
 
   abbrev here : Place
-  here = place operations s queue entry input starved order run events
+  here = place operations s queue entry input starved command run events
 
   abbrev before_turn : State
-  before_turn = now operations s queue entry input starved order run events
+  before_turn = now operations s queue entry input starved command run events
 
   abbrev then : State
-  then = after_turn operations s queue entry input starved order run events later
+  then = after_turn operations s queue entry input starved command run events later
 
-  module _ (admitted : IsAdmitted s sub order run) where
-    has_program : is_some (program_at before_turn order.slot) ≡ true
+  module _ (admitted : IsAdmitted s sub command run) where
+    has_program : is_some (program_at before_turn command.slot) ≡ true
     has_program =
-        let checks = admission_checks s.namespace (holds_at s) (is_some (free_place s)) (program_at s order.slot) order sub.input in
+        let checks = admission_checks s.namespace (holds_at s) (is_some (free_place s)) (program_at s command.slot) command sub.input in
         let asked : Occurrence = record { event = event.Submit queue entry input; starved = starved } in
-        events_leave_some operations (asked ∷ events) s order.slot
-        (demanded (is_some (program_at s order.slot)) NO_SUCH_PROGRAM (passed checks 2 admitted.passed))
+        events_leave_some operations (asked ∷ events) s command.slot
+        (demanded (is_some (program_at s command.slot)) NO_SUCH_PROGRAM (passed checks 2 admitted.passed))
 
-    leaves_result : own_turns run events + 1 ≡ length here.turns → HasResult then order.slot (last_scratch all_runs)
+    leaves_result : own_turns run events + 1 ≡ length here.turns → HasResult then command.slot (last_scratch all_runs)
     leaves_result last =
         let k = own_turns run events in
-        let theorem = pushdown operations never s reached queue entry input starved order run events admitted in
+        let theorem = pushdown operations never s reached queue entry input starved command run events admitted in
         let does = theorem.does_its_turns (omega (arith, last)) in
         let ending = last_ending here.turns k last ∙ theorem.tells_frames_and_blocks.ending in
         let slots = does.then_slots ∙ ap (slots_left before_turn here) ending in
-        let old = program_at before_turn order.slot in
-        let less = within before_turn.slots order.slot has_program in
-        let new = keeping_has before_turn order.slot (last_scratch all_runs) old less has_program in
-        record { loaded = new.loaded; at = ap (λ (xs : List (Option Loaded)). get_or xs order.slot None) slots ∙ new.at; result = new.result }
+        let old = program_at before_turn command.slot in
+        let less = within before_turn.slots command.slot has_program in
+        let new = keeping_has before_turn command.slot (last_scratch all_runs) old less has_program in
+        record { loaded = new.loaded; at = ap (λ (xs : List (Option Loaded)). get_or xs command.slot None) slots ∙ new.at; result = new.result }
 
     long : length (last_scratch all_runs) ≡ 1024
     long =
         let fine = reached_fine operations never s reached in
         let block = reached.first.block in
-        let some = some_run operations never block sub s order fine admitted.passed (decoded_has entry (command.Run order) admitted.asked) in
-        last_scratch_long (task operations s queue entry input starved order run events) all_runs
-        (runs_all_done operations never block sub s order fine admitted.passed) some
+        let some = some_run operations never block sub s command fine admitted.passed (decoded_has entry (commands.Run command) admitted.asked) in
+        last_scratch_long (task operations s queue entry input starved command run events) all_runs
+        (runs_all_done operations never block sub s command fine admitted.passed) some
 
 pub results_read_back : {D : Type 0} (operations : Operations D) → AcceptedNeverTraps operations → ResultsReadBack operations
-results_read_back operations never s reached queue entry input starved order run events later admitted last none =
-    let has = leaves_result operations never s reached queue entry input starved order run events later admitted last in
-    let then = after_turn operations s queue entry input starved order run events later in
+results_read_back operations never s reached queue entry input starved command run events later admitted last none =
+    let has = leaves_result operations never s reached queue entry input starved command run events later admitted last in
+    let then = after_turn operations s queue entry input starved command run events later in
     let end = state_after operations later then in
-    let same = events_leave operations order.slot later then none in
-    let bytes = last_scratch (runs operations s queue entry input starved order run events) in (
-      long operations never s reached queue entry input starved order run events later admitted,
-      result_given operations end order.slot bytes (record { loaded = has.loaded; at = same ∙ has.at; result = has.result }),
+    let same = events_leave operations command.slot later then none in
+    let bytes = last_scratch (runs operations s queue entry input starved command run events) in (
+      long operations never s reached queue entry input starved command run events later admitted,
+      result_given operations end command.slot bytes (record { loaded = has.loaded; at = same ∙ has.at; result = has.result }),
     )

@@ -35,14 +35,14 @@ none_beside [] none = λ i. omega arith
 none_beside (x ∷ xs) none = absurd (omega (arith, none))
 
 -- no data stands beside a Run
-admitted_bytes : (s : State) (sub : Submission) (order : RunCommand) (run : ℕ) → IsAdmitted s sub order run → AreBytes sub.input
-admitted_bytes s sub order run admitted =
-    let checks = admission_checks s.namespace (holds_at s) (is_some (free_place s)) (program_at s order.slot) order sub.input in
+admitted_bytes : (s : State) (sub : Submission) (command : RunCommand) (run : ℕ) → IsAdmitted s sub command run → AreBytes sub.input
+admitted_bytes s sub command run admitted =
+    let checks = admission_checks s.namespace (holds_at s) (is_some (free_place s)) (program_at s command.slot) command sub.input in
     let test = nat_eq (length sub.input) 0 in
     none_beside sub.input (eqb-true (length sub.input) 0 (demanded test INVALID_FIELD_IN_COMMAND (passed checks 1 admitted.passed)))
 
 module _ {D : Type 0} (operations : Operations D) (never : AcceptedNeverTraps operations) (s : State) (reached : IsReached operations s)
-    (queue : ℕ) (entry : List ℕ) (input : Vec ℕ Global) (starved : Bool) (order : RunCommand) (run : ℕ) (events later : List Occurrence) where
+    (queue : ℕ) (entry : List ℕ) (input : Vec ℕ Global) (starved : Bool) (command : RunCommand) (run : ℕ) (events later : List Occurrence) where
   abbrev block : ℕ
   block = reached.first.block
 
@@ -50,16 +50,16 @@ module _ {D : Type 0} (operations : Operations D) (never : AcceptedNeverTraps op
   sub = record { queue = queue; entry = entry; input = input.items }
 
   abbrev all_turns : List Turn
-  all_turns = turns operations s queue entry input starved order run events later
+  all_turns = turns operations s queue entry input starved command run events later
 
   abbrev to : ℕ
-  to = destination operations s queue entry input starved order run events later
+  to = destination operations s queue entry input starved command run events later
 
   abbrev start : ℕ
-  start = pointer operations s queue entry input starved order run events later
+  start = pointer operations s queue entry input starved command run events later
 
   abbrev so_far : ℕ
-  so_far = before operations s queue entry input starved order run events later
+  so_far = before operations s queue entry input starved command run events later
 
   abbrev asked : Occurrence
   asked = record { event = event.Submit queue entry input; starved = starved }
@@ -68,7 +68,7 @@ module _ {D : Type 0} (operations : Operations D) (never : AcceptedNeverTraps op
   now = state_after operations (asked ∷ events) s
 
   abbrev then : State
-  then = after_turn operations s queue entry input starved order run events later
+  then = after_turn operations s queue entry input starved command run events later
 
   abbrev last : State
   last = state_after operations later then
@@ -86,19 +86,19 @@ module _ {D : Type 0} (operations : Operations D) (never : AcceptedNeverTraps op
   PartsAreRead all = (at blocks : ℕ) → at + blocks ≤ length all → 1 ≤ blocks → blocks * s.namespace.block ≤ MOST_TRANSFER
       → ReadsGive operations last (start + at) blocks (bytes_of (take blocks (drop at all)))
 
-  module _ (admitted : IsAdmitted s sub order run) (fit : AreEvents events) (fit_later : AreEvents later) (less : so_far < length all_turns)
+  module _ (admitted : IsAdmitted s sub command run) (fit : AreEvents events) (fit_later : AreEvents later) (less : so_far < length all_turns)
       (none : NoEventClears operations to later then) where
     last_sound : IsNamespace last.namespace
     last_sound =
-        let now_fine = events_fine operations never block (asked ∷ events) s fine (admitted_bytes s sub order run admitted, fit) in
+        let now_fine = events_fine operations never block (asked ∷ events) s fine (admitted_bytes s sub command run admitted, fit) in
         let next_fine = turn_fine operations never block now run now_fine in
         (events_fine operations never block later then next_fine fit_later).is
 
-    appended_are_read : AppendedAreRead operations s queue entry input starved order run events later
+    appended_are_read : AppendedAreRead operations s queue entry input starved command run events later
     appended_are_read at blocks within some transfer =
         let held = blocks_at s to in
         let all = appended_by (take (so_far + 1) all_turns) in
-        let theorem = pushdown operations never s reached queue entry input starved order run events admitted in
+        let theorem = pushdown operations never s reached queue entry input starved command run events admitted in
         let grows = (events_keep operations later then to none).blocks in
         let lie : blocks_at last to ≡ held ++ (all ++ grows.more) =
         grows.is ∙ (ap (λ (xs : List (List ℕ)). xs ++ grows.more) (theorem.does_its_turns less).then_appended ∙ append_assoc held all grows.more) in
@@ -106,11 +106,11 @@ module _ {D : Type 0} (operations : Operations D) (never : AcceptedNeverTraps op
         subst (λ (x : Shape). ReadsGive operations last (to * x.size + length held + at) blocks (bytes_of (take blocks (drop at all)))) last_shape
         (part_is_read operations last to held all grows.more at blocks last_sound lie within some few)
 
-    emitted_are_read : so_far + 1 ≡ length all_turns → EmittedAreRead operations s queue entry input starved order run events later
+    emitted_are_read : so_far + 1 ≡ length all_turns → EmittedAreRead operations s queue entry input starved command run events later
     emitted_are_read ended =
         let whole : appended_by (take (so_far + 1) all_turns) ≡ appended_by all_turns = ap appended_by (take_all (so_far + 1) all_turns (omega (arith, ended))) in
         let parts = subst PartsAreRead whole appended_are_read in
-        let back = emitted_reads_back operations never s reached sub order run admitted in
+        let back = emitted_reads_back operations never s reached sub command run admitted in
         let small : 1 * s.namespace.block ≤ MOST_TRANSFER = omega (arith, block_most fine.is.shape) in (
           back.0,
           (
@@ -123,7 +123,7 @@ module _ {D : Type 0} (operations : Operations D) (never : AcceptedNeverTraps op
         )
 
 pub runs_read_back : {D : Type 0} (operations : Operations D) → AcceptedNeverTraps operations → RunsReadBack operations
-runs_read_back operations never s reached queue entry input starved order run events later admitted fit fit_later less none = (
-  appended_are_read operations never s reached queue entry input starved order run events later admitted fit fit_later less none,
-  emitted_are_read operations never s reached queue entry input starved order run events later admitted fit fit_later less none,
+runs_read_back operations never s reached queue entry input starved command run events later admitted fit fit_later less none = (
+  appended_are_read operations never s reached queue entry input starved command run events later admitted fit fit_later less none,
+  emitted_are_read operations never s reached queue entry input starved command run events later admitted fit fit_later less none,
 )

@@ -65,16 +65,16 @@ use Rattle.pushdown.proofs.Spelled.{just_one}
 zone_are : (ns : ZonedNamespace) (z : ℕ) → IsNamespace ns → AreBlocks ns.block (zone_at ns z).blocks
 zone_are ns z is = blocks_by_place ns.block (zone_at ns z).blocks (is.whole z) (is.bytes z)
 
-source_are : (ns : ZonedNamespace) (order : RunCommand) → IsNamespace ns → AreBlocks ns.block (source_blocks ns order)
-source_are ns order is =
-    let z = order.lba / ns.size in
-    let at = order.lba % ns.size in
-    all_take (IsBlock ns.block) order.blocks (drop at (zone_at ns z).blocks) (all_drop (IsBlock ns.block) at (zone_at ns z).blocks (zone_are ns z is))
+source_are : (ns : ZonedNamespace) (command : RunCommand) → IsNamespace ns → AreBlocks ns.block (source_blocks ns command)
+source_are ns command is =
+    let z = command.lba / ns.size in
+    let at = command.lba % ns.size in
+    all_take (IsBlock ns.block) command.blocks (drop at (zone_at ns z).blocks) (all_drop (IsBlock ns.block) at (zone_at ns z).blocks (zone_are ns z is))
 
-pub few_source : (ns : ZonedNamespace) (order : RunCommand) → length (source_blocks ns order) ≤ order.blocks
-few_source ns order =
-    let blocks = drop (order.lba % ns.size) (zone_at ns (order.lba / ns.size)).blocks in
-    omega (arith, length-take order.blocks blocks)
+pub few_source : (ns : ZonedNamespace) (command : RunCommand) → length (source_blocks ns command) ≤ command.blocks
+few_source ns command =
+    let blocks = drop (command.lba % ns.size) (zone_at ns (command.lba / ns.size)).blocks in
+    omega (arith, length-take command.blocks blocks)
 
 -- ---- groups
 
@@ -179,10 +179,10 @@ module _ {D : Type 0} (operations : Operations D) (never : AcceptedNeverTraps op
 
   -- ---- Run
 
-  slot_ready : (ns : ZonedNamespace) (slot : Option Loaded) (order : RunCommand) → IsNamespace ns → ns.block ≡ block → SlotIsFine slot → is_some slot ≡ true
-      → IsReady (task_of ns slot order)
-  slot_ready ns None order is size h some = cc
-  slot_ready ns (Some loaded) order is size h some = record {
+  slot_ready : (ns : ZonedNamespace) (slot : Option Loaded) (command : RunCommand) → IsNamespace ns → ns.block ≡ block → SlotIsFine slot → is_some slot ≡ true
+      → IsReady (task_of ns slot command)
+  slot_ready ns None command is size h some = cc
+  slot_ready ns (Some loaded) command is size h some = record {
     never = subst (λ (n : ℕ). NeverTraps loaded.program loaded.limit n) (sym size)
         (never loaded.program h.program (granted loaded.limit) h.sizes h.accepted);
     sizes = record { block_size = is.shape.block_size; fits = subst (λ (n : ℕ). loaded.limit ≤ n) (sym size) h.sizes.fits };
@@ -190,48 +190,48 @@ module _ {D : Type 0} (operations : Operations D) (never : AcceptedNeverTraps op
   }
 
   -- a run that no check refuses
-  module _ (sub : Submission) (s : State) (order : RunCommand) (h : IsFine s) (none : why_not_run sub s order ≡ None) where
+  module _ (sub : Submission) (s : State) (command : RunCommand) (h : IsFine s) (none : why_not_run sub s command ≡ None) where
     abbrev pub task : Task
-    task = task_of s.namespace (program_at s order.slot) order
+    task = task_of s.namespace (program_at s command.slot) command
 
     abbrev pub source : List (List ℕ)
-    source = source_blocks s.namespace order
+    source = source_blocks s.namespace command
 
     abbrev pub runs : List BlockRun
     runs = runs_of task source
 
     abbrev checks : List (Option Status)
-    checks = admission_checks s.namespace (holds_at s) (is_some (free_place s)) (program_at s order.slot) order sub.input
+    checks = admission_checks s.namespace (holds_at s) (is_some (free_place s)) (program_at s command.slot) command sub.input
 
     pub ready : IsReady task
     ready =
-        let slot = program_at s order.slot in
-        slot_ready s.namespace slot order h.is h.size (all_at SlotIsFine s.slots order.slot None h.slots tt)
+        let slot = program_at s command.slot in
+        slot_ready s.namespace slot command h.is h.size (all_at SlotIsFine s.slots command.slot None h.slots tt)
         (demanded (is_some slot) NO_SUCH_PROGRAM (passed checks 2 none))
 
     pub runs_all_done : AllByRecursion (IsDone task) runs
-    runs_all_done = runs_done task ready source (source_are s.namespace order h.is)
+    runs_all_done = runs_done task ready source (source_are s.namespace command h.is)
 
     pub all_exit : AllByRecursion (λ (run : BlockRun). IsExit run.end) runs
     all_exit = all_from (IsDone task) (λ (run : BlockRun). IsExit run.end) (λ run done. done.exits.exit) runs runs_all_done
 
     -- the range is written
-    pub written : order.lba % s.namespace.size + order.blocks ≤ length (zone_at s.namespace (order.lba / s.namespace.size)).blocks
+    pub written : command.lba % s.namespace.size + command.blocks ≤ length (zone_at s.namespace (command.lba / s.namespace.size)).blocks
     written =
-        let blocks = (zone_at s.namespace (order.lba / s.namespace.size)).blocks in
-        let at = order.lba % s.namespace.size in
-        leb-true (at + order.blocks) (length blocks) (demanded (nat_le (at + order.blocks) (length blocks)) SOURCE_NOT_WRITTEN (passed checks 10 none))
+        let blocks = (zone_at s.namespace (command.lba / s.namespace.size)).blocks in
+        let at = command.lba % s.namespace.size in
+        leb-true (at + command.blocks) (length blocks) (demanded (nat_le (at + command.blocks) (length blocks)) SOURCE_NOT_WRITTEN (passed checks 10 none))
 
-    some_source : 1 ≤ order.blocks → 1 ≤ length source
+    some_source : 1 ≤ command.blocks → 1 ≤ length source
     some_source some =
-        let blocks = (zone_at s.namespace (order.lba / s.namespace.size)).blocks in
-        let at = order.lba % s.namespace.size in
-        omega (arith, written, some, length-take order.blocks (drop at blocks), length-drop at blocks)
+        let blocks = (zone_at s.namespace (command.lba / s.namespace.size)).blocks in
+        let at = command.lba % s.namespace.size in
+        omega (arith, written, some, length-take command.blocks (drop at blocks), length-drop at blocks)
 
-    pub some_run : 1 ≤ order.blocks → 1 ≤ length runs
+    pub some_run : 1 ≤ command.blocks → 1 ≤ length runs
     some_run some = some_runs task source (some_source some)
 
-    pub turns_are : 1 ≤ order.blocks → AreTurns (admitted_place sub s order).turns
+    pub turns_are : 1 ≤ command.blocks → AreTurns (admitted_place sub s command).turns
     turns_are some = record {
       whole = subst (λ (n : ℕ). AllByRecursion (HasWhole n) (outcome task source)) h.size
           (turns_whole s.namespace.block task nothing_emitted runs ready.sizes.fits runs_all_done (no_groups s.namespace.block));
@@ -240,49 +240,49 @@ module _ {D : Type 0} (operations : Operations D) (never : AcceptedNeverTraps op
     }
 
     -- no more blocks are appended than were asked for
-    pub few_blocks : length (appended_by (outcome task source)) ≤ need order.blocks task.sizes
+    pub few_blocks : length (appended_by (outcome task source)) ≤ need command.blocks task.sizes
     few_blocks =
         let groups = groups_of runs in
         let whole = outcome_is_packed task source all_exit in
         let enough = need_is_enough task.sizes groups ready.sizes.fits (groups_fit task runs runs_all_done) in
         let some_groups = length-map runs (λ (run : BlockRun). run.state.group) in
         let few = few_runs task 0 no_scratch source in
-        let most : length groups ≤ order.blocks = omega (arith, some_groups, few, few_source s.namespace order) in
-        let grows = need_grows task.sizes (length groups) order.blocks most in
+        let most : length groups ≤ command.blocks = omega (arith, some_groups, few, few_source s.namespace command) in
+        let grows = need_grows task.sizes (length groups) command.blocks most in
         let same = ap length whole.blocks in
         omega (arith, same, enough, grows)
 
-    pub admitted_room : RoomIn s.namespace.capacity (zone_at s.namespace (admitted_place sub s order).destination) (admitted_place sub s order).turns
+    pub admitted_room : RoomIn s.namespace.capacity (zone_at s.namespace (admitted_place sub s command).destination) (admitted_place sub s command).turns
     admitted_room =
-        let zone = zone_at s.namespace (admitted_place sub s order).destination in
-        let most = length zone.blocks + need order.blocks task.sizes in
+        let zone = zone_at s.namespace (admitted_place sub s command).destination in
+        let most = length zone.blocks + need command.blocks task.sizes in
         let fits = leb-true most s.namespace.capacity (demanded (nat_le most s.namespace.capacity) DESTINATION_LACKS_ROOM (passed checks 13 none)) in
         record {
           room = omega (arith, few_blocks, fits);
           opened = inl (demanded (is_open zone.state) DESTINATION_NOT_OPEN (passed checks 12 none));
         }
 
-  start_rooms : (sub : Submission) (s : State) (order : RunCommand) (run : ℕ) → IsFine s → why_not_run sub s order ≡ None → free_place s ≡ Some run
-      → Rooms (with_place s run (Some (admitted_place sub s order)))
-  start_rooms sub s order run h e is j p at = elim (eqb_tells j run) [
+  start_rooms : (sub : Submission) (s : State) (command : RunCommand) (run : ℕ) → IsFine s → why_not_run sub s command ≡ None → free_place s ≡ Some run
+      → Rooms (with_place s run (Some (admitted_place sub s command)))
+  start_rooms sub s command run h e is j p at = elim (eqb_tells j run) [
     | inl same ↦
-        let new : Option Place = Some (admitted_place sub s order) in
+        let new : Option Place = Some (admitted_place sub s command) in
         let here : new ≡ Some p =
         sym (ap (λ (n : ℕ). get_or (set s.places run new) n None) same.1 ∙ get_or-set_same s.places run new None (free_within s.places run is)) ∙ at in
-        let equal : admitted_place sub s order ≡ p = cc in
-        subst (λ (q : Place). RoomIn s.namespace.capacity (zone_at s.namespace q.destination) q.turns) equal (admitted_room sub s order h e)
-    | inr differs ↦ h.rooms j p (sym (get_or-set_other s.places run j (Some (admitted_place sub s order)) None differs.1) ∙ at)
+        let equal : admitted_place sub s command ≡ p = cc in
+        subst (λ (q : Place). RoomIn s.namespace.capacity (zone_at s.namespace q.destination) q.turns) equal (admitted_room sub s command h e)
+    | inr differs ↦ h.rooms j p (sym (get_or-set_other s.places run j (Some (admitted_place sub s command)) None differs.1) ∙ at)
   ]
 
-  start_fine : (sub : Submission) (s : State) (order : RunCommand) (run : ℕ) → IsFine s → why_not_run sub s order ≡ None → free_place s ≡ Some run
-      → 1 ≤ order.blocks → IsFine (with_place s run (Some (admitted_place sub s order)))
-  start_fine sub s order run h passed free some = record {
+  start_fine : (sub : Submission) (s : State) (command : RunCommand) (run : ℕ) → IsFine s → why_not_run sub s command ≡ None → free_place s ≡ Some run
+      → 1 ≤ command.blocks → IsFine (with_place s run (Some (admitted_place sub s command)))
+  start_fine sub s command run h passed free some = record {
     is = h.is;
     size = h.size;
     slots = h.slots;
-    places = all_set PlaceIsFine s.places run (Some (admitted_place sub s order)) h.places (turns_are sub s order h passed some);
-    apart = started_apart sub s order run passed free h.apart;
-    rooms = start_rooms sub s order run h passed free;
+    places = all_set PlaceIsFine s.places run (Some (admitted_place sub s command)) h.places (turns_are sub s command h passed some);
+    apart = started_apart sub s command run passed free h.apart;
+    rooms = start_rooms sub s command run h passed free;
   }
 
   -- ---- turns
@@ -333,7 +333,7 @@ module _ {D : Type 0} (operations : Operations D) (never : AcceptedNeverTraps op
     same = h;
     step = λ step same is. step_fine s step h same (is has);
     load = λ sub load t are takes. load_fine sub s t load h (are has) takes;
-    start = λ sub order run passed free some. start_fine sub s order run h passed free some;
+    start = λ sub command run passed free some. start_fine sub s command run h passed free some;
     turn = λ run place turn later is here first. first_fine s run place turn later h here first;
   })
 

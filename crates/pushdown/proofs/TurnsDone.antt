@@ -36,7 +36,7 @@ foreign_zone operations s starved e run place foreign h at =
       step = λ step same is.
           held_destinations_are_left step s.namespace d (subst (λ (holds : Holds). is_destination holds d ≡ true) (sym same) (held_at s.places run place at));
       load = λ sub load t are takes. refl;
-      start = λ sub order first passed free some. refl;
+      start = λ sub command first passed free some. refl;
       turn = λ other p turn later is there first.
           added_leaves s.namespace p.destination d turn.blocks (λ same. not_own run other e is foreign (h.apart run other place p at there same));
     })

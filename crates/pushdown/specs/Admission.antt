@@ -45,18 +45,18 @@ sizes_in ns slot = record { block = ns.block; limit = limit_in slot }
 
 -- the zones that a run reads from and appends to
 abbrev pub source_zone : ZonedNamespace → RunCommand → ℕ
-source_zone ns order = zone_number ns order.lba
+source_zone ns command = zone_number ns command.lba
 
 abbrev pub destination_zone : ZonedNamespace → RunCommand → ℕ
-destination_zone ns order = zone_number ns order.destination
+destination_zone ns command = zone_number ns command.destination
 
 -- the checks of the addresses
 abbrev pub address_checks : ZonedNamespace → RunCommand → List (Option Status)
-address_checks ns order =
-    range_check ns order.lba order.blocks
-    ∷ address_check ns order.destination
-    ∷ lowest_check ns order.destination
-    ∷ demand (not (source_zone ns order == destination_zone ns order)) SOURCE_IS_DESTINATION
+address_checks ns command =
+    range_check ns command.lba command.blocks
+    ∷ address_check ns command.destination
+    ∷ lowest_check ns command.destination
+    ∷ demand (not (source_zone ns command == destination_zone ns command)) SOURCE_IS_DESTINATION
     ∷ []
 
 -- the checks of the source, of which so many blocks from this one on are to be read
@@ -78,17 +78,17 @@ destination_checks ns holds z blocks =
 -- The checks, in order: the data beside the entry; the program; the addresses; the places for runs; the
 -- source; the destination. Each later one is meant where those before it pass.
 abbrev pub admission_checks : ZonedNamespace → Holds → Bool → Option Loaded → RunCommand → List ℕ → List (Option Status)
-admission_checks ns holds place_free slot order input =
+admission_checks ns holds place_free slot command input =
     transfer_checks 0 0 input
     ++ demand (is_some slot) NO_SUCH_PROGRAM
-    ∷ address_checks ns order
+    ∷ address_checks ns command
     ++ demand place_free NO_RUN_FREE
-    ∷ source_checks ns (zone_block_in ns order.lba) order.blocks
-    ++ destination_checks ns holds (destination_zone ns order) (need order.blocks (sizes_in ns slot))
+    ∷ source_checks ns (zone_block_in ns command.lba) command.blocks
+    ++ destination_checks ns holds (destination_zone ns command) (need command.blocks (sizes_in ns slot))
 
 -- the status of the first check that fails
 abbrev pub run_refusal : ZonedNamespace → Holds → Bool → Option Loaded → RunCommand → List ℕ → Option Status
-run_refusal ns holds place_free slot order input = first_failed (admission_checks ns holds place_free slot order input)
+run_refusal ns holds place_free slot command input = first_failed (admission_checks ns holds place_free slot command input)
 
 -- so many blocks of a zone from one on, as far as they are written
 abbrev pub written_from : ZonedNamespace → ℕ → ℕ → ℕ → List (List ℕ)
@@ -96,18 +96,18 @@ written_from ns z offset count = take count (drop offset (zone_at ns z).blocks)
 
 -- the blocks that a run reads, as they are when it is admitted
 abbrev pub source_blocks : ZonedNamespace → RunCommand → List (List ℕ)
-source_blocks ns order = written_from ns (source_zone ns order) (zone_offset ns order.lba) order.blocks
+source_blocks ns command = written_from ns (source_zone ns command) (zone_offset ns command.lba) command.blocks
 
 -- what a run is about of this program, of whose groups so many bytes are the most
 abbrev pub task_by : ZonedNamespace → List (Option Instruction) → ℕ → RunCommand → Task
-task_by ns program limit order = record {
+task_by ns program limit command = record {
   program = program;
   sizes = record { block = ns.block; limit = limit };
-  argument = order.argument;
-  lba = order.lba;
-  count = order.blocks;
+  argument = command.argument;
+  lba = command.lba;
+  count = command.blocks;
 }
 
 -- what an admitted run is about
 abbrev pub task_of : ZonedNamespace → Option Loaded → RunCommand → Task
-task_of ns slot order = task_by ns (program_in slot) (limit_in slot) order
+task_of ns slot command = task_by ns (program_in slot) (limit_in slot) command

@@ -7,7 +7,7 @@ use Rattle.zone_state.specs.declared.zone.FaultRefused.{FaultRefused}
 use Rattle.zone_state.specs.Checks.{demand, first_failed}
 use Rattle.nvme_entry.specs.Entry.{decoded, identifier_of}
 use Rattle.nvme_entry.specs.declared.command.Command.{Command}
-use Rattle.nvme_entry.specs.declared.command.Command.TheVariants as command
+use Rattle.nvme_entry.specs.declared.command.Command.TheVariants as commands
 use Rattle.nvme_entry.specs.declared.command.LoadCommand.{LoadCommand}
 use Rattle.nvme_entry.specs.declared.command.RunCommand.{RunCommand}
 use Rattle.ebpf_decode.specs.Faults.{fault_number}
@@ -90,29 +90,29 @@ giving_result sub s slot = result_by (program_at s slot) (first_failed (transfer
 
 -- an admitted run, with its whole outcome
 abbrev pub admitted_place : Submission → State → RunCommand → Place
-admitted_place sub s order = record {
+admitted_place sub s command = record {
   queue = sub.queue;
   cid = identifier_of sub.entry;
-  slot = order.slot;
-  source = source_zone s.namespace order;
-  destination = destination_zone s.namespace order;
-  turns = outcome (task_of s.namespace (program_at s order.slot) order) (source_blocks s.namespace order);
+  slot = command.slot;
+  source = source_zone s.namespace command;
+  destination = destination_zone s.namespace command;
+  turns = outcome (task_of s.namespace (program_at s command.slot) command) (source_blocks s.namespace command);
 }
 
 -- the status of the first check that a run fails
 abbrev pub why_not_run : Submission → State → RunCommand → Option Status
-why_not_run sub s order =
-    run_refusal s.namespace (holds_at s) (is_some (free_place s)) (program_at s order.slot) order sub.input
+why_not_run sub s command =
+    run_refusal s.namespace (holds_at s) (is_some (free_place s)) (program_at s command.slot) command sub.input
 
 -- an admitted run takes the lowest free place, and its number; that there is one is among the checks
 abbrev pub start_by : Option Status → Option ℕ → Submission → State → RunCommand → Happening
-start_by (Some status) free sub s order = refused sub status s
-start_by None None sub s order = idle s
-start_by None (Some run) sub s order =
-    record { reply = plain (reply.Pending run); state = with_place s run (Some (admitted_place sub s order)) }
+start_by (Some status) free sub s command = refused sub status s
+start_by None None sub s command = idle s
+start_by None (Some run) sub s command =
+    record { reply = plain (reply.Pending run); state = with_place s run (Some (admitted_place sub s command)) }
 
 abbrev pub starting : Submission → State → RunCommand → Happening
-starting sub s order = start_by (why_not_run sub s order) (free_place s) sub s order
+starting sub s command = start_by (why_not_run sub s command) (free_place s) sub s command
 
 -- ---- turns
 
@@ -183,10 +183,10 @@ module _ {D : Type 0} (operations : Operations D) where
   -- what an entry comes to that names this command; only Load asks whether memory is refused
   abbrev pub submitted : Bool → Submission → State → Result Command Status → Happening
   submitted starved sub s (Err status) = refused sub status s
-  submitted starved sub s (Ok (command.Standard c)) = commanded sub s (meaning s.namespace (holds_at s) c sub.input)
-  submitted starved sub s (Ok (command.Load load)) = loading operations starved sub s load
-  submitted starved sub s (Ok (command.Run order)) = starting sub s order
-  submitted starved sub s (Ok (command.Result slot)) = giving_result sub s slot
+  submitted starved sub s (Ok (commands.Standard c)) = commanded sub s (meaning s.namespace (holds_at s) c sub.input)
+  submitted starved sub s (Ok (commands.Load load)) = loading operations starved sub s load
+  submitted starved sub s (Ok (commands.Run command)) = starting sub s command
+  submitted starved sub s (Ok (commands.Result slot)) = giving_result sub s slot
 
   -- what an event comes to, where memory is refused or not
   abbrev pub happens : State → Bool → Event → Happening

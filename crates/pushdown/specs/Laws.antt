@@ -8,7 +8,7 @@ use Rattle.zone_state.specs.declared.status.Status.{Status}
 use Rattle.zone_state.specs.declared.status.TheConstants.Status.{SUCCESS}
 use Rattle.zone_resources.specs.Holds.{no_holds}
 use Rattle.nvme_entry.specs.Entry.{decoded, identifier_of}
-use Rattle.nvme_entry.specs.declared.command.Command.TheVariants as command
+use Rattle.nvme_entry.specs.declared.command.Command.TheVariants as commands
 use Rattle.nvme_entry.specs.declared.command.LoadCommand.{LoadCommand}
 use Rattle.nvme_entry.specs.declared.command.RunCommand.{RunCommand}
 use Rattle.ebpf_decode.specs.Reading.{decoded_program}
@@ -120,7 +120,7 @@ module _ {D : Type 0} (operations : Operations D) where
   -- a Load succeeds: its slot gets the program that its data is decoded to, which no reason refuses, with no
   -- scratch bytes kept, and all else is as it was
   pub record IsLoaded (s : State) (sub : Submission) (load : LoadCommand) (h : Happening) : Type 0 where
-    pub asked : decoded sub.entry ≡ Ok (command.Load load)
+    pub asked : decoded sub.entry ≡ Ok (commands.Load load)
     pub program : List (Option Instruction)
     pub read : decoded_program sub.input ≡ Ok program
     pub accepted : refusal operations program (sizes_for s load) ≡ None
@@ -138,9 +138,9 @@ OnlyLoadsChangeSlots operations =
 -- ---- admission and turns
 
 -- the reply to a Run that is admitted is Pending with its number, and it takes that place; all else is as it was
-pub record StartsRun (s : State) (sub : Submission) (order : RunCommand) (run : ℕ) (h : Happening) : Type 0 where
+pub record StartsRun (s : State) (sub : Submission) (command : RunCommand) (run : ℕ) (h : Happening) : Type 0 where
   pub reply : h.reply ≡ plain (reply.Pending run)
-  pub place : place_at h.state run ≡ Some (admitted_place sub s order)
+  pub place : place_at h.state run ≡ Some (admitted_place sub s command)
   pub others : (other : ℕ) → other ≢ run → place_at h.state other ≡ place_at s other
   pub namespace : h.state.namespace ≡ s.namespace
   pub slots : h.state.slots ≡ s.slots
@@ -148,16 +148,16 @@ pub record StartsRun (s : State) (sub : Submission) (order : RunCommand) (run : 
 -- a Run that is admitted has its outcome at its place
 abbrev pub AdmittedStarts : {D : Type 0} → Operations D → Type 0
 AdmittedStarts operations =
-    (s : State) (starved : Bool) (queue : ℕ) (entry : List ℕ) (input : Vec ℕ Global) (order : RunCommand) (run : ℕ)
+    (s : State) (starved : Bool) (queue : ℕ) (entry : List ℕ) (input : Vec ℕ Global) (command : RunCommand) (run : ℕ)
     → let sub : Submission = record { queue = queue; entry = entry; input = input.items } in
-    IsAdmitted s sub order run → StartsRun s sub order run (happens operations s starved (event.Submit queue entry input))
+    IsAdmitted s sub command run → StartsRun s sub command run (happens operations s starved (event.Submit queue entry input))
 
 -- and where the reply to an entry is Pending, a Run was admitted
 abbrev pub PendingIsAdmitted : {D : Type 0} → Operations D → Type 0
 PendingIsAdmitted operations =
     (s : State) (starved : Bool) (queue : ℕ) (entry : List ℕ) (input : Vec ℕ Global) (run : ℕ)
     → (happens operations s starved (event.Submit queue entry input)).reply ≡ plain (reply.Pending run)
-    → (order : RunCommand) × IsAdmitted s (record { queue = queue; entry = entry; input = input.items }) order run
+    → (command : RunCommand) × IsAdmitted s (record { queue = queue; entry = entry; input = input.items }) command run
 
 -- an event that is no turn of a run leaves its turns as they were
 abbrev pub ForeignLeavesTurns : {D : Type 0} → Operations D → Type 0
@@ -269,8 +269,8 @@ pub record AreEmitted (runs : List BlockRun) (records : List (List (List ℕ))) 
 abbrev pub OutcomeUnpacks : {D : Type 0} → Operations D → Type 0
 OutcomeUnpacks operations =
     (s : State) → IsReached operations s
-    → (sub : Submission) (order : RunCommand) (run : ℕ) → IsAdmitted s sub order run
-    → let task = task_of s.namespace (program_at s order.slot) order in
-    let source = source_blocks s.namespace order in
+    → (sub : Submission) (command : RunCommand) (run : ℕ) → IsAdmitted s sub command run
+    → let task = task_of s.namespace (program_at s command.slot) command in
+    let source = source_blocks s.namespace command in
     (records : List (List (List ℕ))) × (AreEmitted (runs_of task source) records
     × (unpacked task.sizes.block (concat (appended_by (outcome task source))) ≡ Ok (flat_map (λ group. group) records)))

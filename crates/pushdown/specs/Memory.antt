@@ -3,7 +3,7 @@ use Rattle.std.specs.Prelude.{Bool, true, false, ◌≡◌, Result, Ok, Err}
 use Rattle.zone_state.specs.declared.status.Status.{Status}
 use Rattle.nvme_entry.specs.Entry.{decoded}
 use Rattle.nvme_entry.specs.declared.command.Command.{Command}
-use Rattle.nvme_entry.specs.declared.command.Command.TheVariants as command
+use Rattle.nvme_entry.specs.declared.command.Command.TheVariants as commands
 use Rattle.word_domain.specs.Domain.{Operations}
 use Rattle.pushdown.specs.Happenings.{happens}
 use Rattle.pushdown.specs.State.{State}
@@ -11,10 +11,10 @@ use Rattle.device_events.specs.declared.event.Event.{Event}
 use Rattle.device_events.specs.declared.event.Event.TheVariants as event
 
 abbrev pub is_load : Result Command Status → Bool
-is_load (Ok (command.Load load)) = true
-is_load (Ok (command.Standard c)) = false
-is_load (Ok (command.Run order)) = false
-is_load (Ok (command.Result slot)) = false
+is_load (Ok (commands.Load load)) = true
+is_load (Ok (commands.Standard c)) = false
+is_load (Ok (commands.Run command)) = false
+is_load (Ok (commands.Result slot)) = false
 is_load (Err status) = false
 
 -- a Load does

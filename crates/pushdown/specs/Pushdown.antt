@@ -13,7 +13,7 @@ use Rattle.std.specs.declared.alloc.Global.{Global}
 use Rattle.zone_state.specs.declared.status.TheConstants.Status.{SUCCESS}
 use Rattle.zone_resources.specs.Counts.{one_if}
 use Rattle.nvme_entry.specs.Entry.{decoded}
-use Rattle.nvme_entry.specs.declared.command.Command.TheVariants as command
+use Rattle.nvme_entry.specs.declared.command.Command.TheVariants as commands
 use Rattle.nvme_entry.specs.declared.command.RunCommand.{RunCommand}
 use Rattle.instruction_set.specs.Program.{instruction_count}
 use Rattle.program_meaning.specs.BlockRun.{BlockRun}
@@ -47,9 +47,9 @@ own_turns run (o ∷ os) = one_if (is_turn_of run o.event) + own_turns run os
 -- ---- turns
 
 -- a Run is admitted: no check refuses it, and the lowest free place is its own, with this number
-pub record IsAdmitted (s : State) (sub : Submission) (order : RunCommand) (run : ℕ) : Type 0 where
-  pub asked : decoded sub.entry ≡ Ok (command.Run order)
-  pub passed : why_not_run sub s order ≡ None
+pub record IsAdmitted (s : State) (sub : Submission) (command : RunCommand) (run : ℕ) : Type 0 where
+  pub asked : decoded sub.entry ≡ Ok (commands.Run command)
+  pub passed : why_not_run sub s command ≡ None
   pub free : free_place s ≡ Some run
 
 abbrev pub blocks_at : State → ℕ → List (List ℕ)
@@ -82,20 +82,20 @@ success_of runs turns = record {
 
 module _ {D : Type 0} (operations : Operations D) where
   -- a Run that is submitted in a state, its number, and the events that follow
-  module _ (s : State) (queue : ℕ) (entry : List ℕ) (input : Vec ℕ Global) (starved : Bool) (order : RunCommand) (run : ℕ)
+  module _ (s : State) (queue : ℕ) (entry : List ℕ) (input : Vec ℕ Global) (starved : Bool) (command : RunCommand) (run : ℕ)
       (events : List Occurrence) where
     abbrev pub submission : Submission
     submission = record { queue = queue; entry = entry; input = input.items }
 
     -- what is fixed at admission: the program and the source blocks, and so the block runs and the turns
     abbrev pub task : Task
-    task = task_of s.namespace (program_at s order.slot) order
+    task = task_of s.namespace (program_at s command.slot) command
 
     abbrev pub runs : List BlockRun
-    runs = runs_of task (source_blocks s.namespace order)
+    runs = runs_of task (source_blocks s.namespace command)
 
     abbrev pub place : Place
-    place = admitted_place submission s order
+    place = admitted_place submission s command
 
     -- the state that the Run and the events leave, and how many of these are the run's own turns
     abbrev pub now : State
@@ -128,11 +128,11 @@ module _ {D : Type 0} (operations : Operations D) where
       pub shape_kept : shape next.state.namespace ≡ shape now.namespace
       pub at_its_end : blocks_at next.state place.destination ≡ blocks_at now place.destination ++ turn.blocks
       pub runs_left : (other : ℕ) → other ≢ run → place_at next.state other ≡ place_at now other
-      pub slots_left : (slot : ℕ) → slot ≢ order.slot → program_at next.state slot ≡ program_at now slot
-      pub program_left : SameProgram (program_at now order.slot) (program_at next.state order.slot)
+      pub slots_left : (slot : ℕ) → slot ≢ command.slot → program_at next.state slot ≡ program_at now slot
+      pub program_left : SameProgram (program_at now command.slot) (program_at next.state command.slot)
       pub same_blocks : (ns : ZonedNamespace) → ns.block ≡ s.namespace.block
-          → source_blocks ns order ≡ source_blocks s.namespace order
-          → outcome (task_of ns (program_at s order.slot) order) (source_blocks ns order) ≡ place.turns
+          → source_blocks ns command ≡ source_blocks s.namespace command
+          → outcome (task_of ns (program_at s command.slot) command) (source_blocks ns command) ≡ place.turns
 
     -- 4. After k own turns the first k turns of those fixed at admission are done: their blocks stand in order
     -- directly behind what the destination held at admission, and the others are left. The reply to the next
@@ -169,6 +169,6 @@ module _ {D : Type 0} (operations : Operations D) where
 abbrev pub Pushdown : {D : Type 0} → Operations D → Type 0
 Pushdown operations =
     (s : State) → IsReached operations s
-    → (queue : ℕ) (entry : List ℕ) (input : Vec ℕ Global) (starved : Bool) (order : RunCommand) (run : ℕ) (after : List Occurrence)
-    → IsAdmitted s (record { queue = queue; entry = entry; input = input.items }) order run
-    → IsPushedDown operations s queue entry input starved order run after
+    → (queue : ℕ) (entry : List ℕ) (input : Vec ℕ Global) (starved : Bool) (command : RunCommand) (run : ℕ) (after : List Occurrence)
+    → IsAdmitted s (record { queue = queue; entry = entry; input = input.items }) command run
+    → IsPushedDown operations s queue entry input starved command run after

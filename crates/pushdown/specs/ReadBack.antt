@@ -5,7 +5,7 @@ use Rattle.std.specs.declared.alloc.Global.{Global}
 use Rattle.zone_state.specs.declared.status.TheConstants.Status.{SUCCESS}
 use Rattle.nvme_entry.specs.Entry.{decoded, identifier_of}
 use Rattle.nvme_entry.specs.declared.command.Command.{Command}
-use Rattle.nvme_entry.specs.declared.command.Command.TheVariants as command
+use Rattle.nvme_entry.specs.declared.command.Command.TheVariants as commands
 use Rattle.nvme_entry.specs.declared.command.LoadCommand.{LoadCommand}
 use Rattle.nvme_entry.specs.declared.command.RunCommand.{RunCommand}
 use Rattle.nvme_entry.specs.declared.command.StandardCommand.TheVariants.{Write, Read, Append}
@@ -49,7 +49,7 @@ IsCompleted (event.Fault zone state) s effect happening = ⊥
 -- the event submits a Load of this slot, and the reply is success
 abbrev pub LoadSucceeds : ℕ → Event → ReplyWithData → Type 0
 LoadSucceeds slot (event.Submit queue entry input) reply =
-    (load : LoadCommand) × ((decoded entry ≡ Ok (command.Load load))
+    (load : LoadCommand) × ((decoded entry ≡ Ok (commands.Load load))
     × ((load.slot ≡ slot) × (reply ≡ completion queue (identifier_of entry) SUCCESS 0 0 [])))
 LoadSucceeds slot (event.Turn run) reply = ⊥
 LoadSucceeds slot (event.Fault zone state) reply = ⊥
@@ -62,7 +62,7 @@ module _ {D : Type 0} (operations : Operations D) where
   -- these bytes are read of so many blocks from an address on
   abbrev pub ReadsGive : State → ℕ → ℕ → List ℕ → Type 0
   ReadsGive s lba blocks bytes =
-      (read : Occurrence) → Submits read.event (command.Standard (Read lba blocks)) []
+      (read : Occurrence) → Submits read.event (commands.Standard (Read lba blocks)) []
       → IsCompleted read.event s (success_effect s.namespace 0 bytes) (happens operations s read.starved read.event)
 
   -- these blocks are read from an address on, one block after another
@@ -80,7 +80,7 @@ module _ {D : Type 0} (operations : Operations D) where
   -- these bytes are the result of a slot, which Result gives
   abbrev pub ResultGives : State → ℕ → List ℕ → Type 0
   ResultGives s slot bytes =
-      (o : Occurrence) → Submits o.event (command.Result slot) []
+      (o : Occurrence) → Submits o.event (commands.Result slot) []
       → IsCompleted o.event s (success_effect s.namespace 0 bytes) (happens operations s o.starved o.event)
 
   -- at none of the events a run of the slot ends, or a Load of it succeeds, so that its result is left
@@ -91,21 +91,21 @@ module _ {D : Type 0} (operations : Operations D) where
       NoRunEnds slot s h.state × ((LoadSucceeds slot o.event h.reply → ⊥) × NoEventReplaces slot os h.state)
 
   -- an admitted Run, the events between it and a turn of it, and events after that turn
-  module _ (s : State) (queue : ℕ) (entry : List ℕ) (input : Vec ℕ Global) (starved : Bool) (order : RunCommand) (run : ℕ)
+  module _ (s : State) (queue : ℕ) (entry : List ℕ) (input : Vec ℕ Global) (starved : Bool) (command : RunCommand) (run : ℕ)
       (events later : List Occurrence) where
     -- as the theorem has them: the zone that it appends to, the turns that are fixed at its admission, and how
     -- many of them came before that turn
     abbrev pub destination : ℕ
-    destination = (place operations s queue entry input starved order run events).destination
+    destination = (place operations s queue entry input starved command run events).destination
 
     abbrev pub turns : List Turn
-    turns = (place operations s queue entry input starved order run events).turns
+    turns = (place operations s queue entry input starved command run events).turns
 
     abbrev pub before : ℕ
-    before = done operations s queue entry input starved order run events
+    before = done operations s queue entry input starved command run events
 
     abbrev pub after_turn : State
-    after_turn = (next operations s queue entry input starved order run events).state
+    after_turn = (next operations s queue entry input starved command run events).state
 
     -- the logical block that the first of its blocks goes to
     abbrev pub pointer : ℕ
@@ -123,7 +123,7 @@ module _ {D : Type 0} (operations : Operations D) where
     abbrev pub EmittedAreRead : Type 0
     EmittedAreRead =
         let blocks = appended_by turns in
-        (records : List (List (List ℕ))) × (AreEmitted (runs operations s queue entry input starved order run events) records
+        (records : List (List (List ℕ))) × (AreEmitted (runs operations s queue entry input starved command run events) records
         × (BlocksAreRead (state_after operations later after_turn) pointer blocks
         × (unpacked s.namespace.block (concat blocks) ≡ Ok (flat_map (λ group. group) records))))
 
@@ -137,9 +137,9 @@ module _ {D : Type 0} (operations : Operations D) where
     -- until a run of the slot ends or a Load of it succeeds
     abbrev pub IsResultReadBack : Type 0
     IsResultReadBack =
-        let bytes = last_scratch (runs operations s queue entry input starved order run events) in
-        before + 1 ≡ length turns → NoEventReplaces order.slot later after_turn
-        → (length bytes ≡ SCRATCH_BYTES) × ResultGives (state_after operations later after_turn) order.slot bytes
+        let bytes = last_scratch (runs operations s queue entry input starved command run events) in
+        before + 1 ≡ length turns → NoEventReplaces command.slot later after_turn
+        → (length bytes ≡ SCRATCH_BYTES) × ResultGives (state_after operations later after_turn) command.slot bytes
 
 -- no event changes the shape of the namespace
 abbrev pub EventsKeepShapes : {D : Type 0} → Operations D → Type 0
@@ -164,7 +164,7 @@ WrittenIsRead operations =
 abbrev pub AppendsReadBack : {D : Type 0} → Operations D → Type 0
 AppendsReadBack operations =
     (s : State) → IsNamespace s.namespace
-    → (o : Occurrence) (lba blocks : ℕ) (input : List ℕ) (events : List Occurrence) → Submits o.event (command.Standard (Append lba blocks)) input
+    → (o : Occurrence) (lba blocks : ℕ) (input : List ℕ) (events : List Occurrence) → Submits o.event (commands.Standard (Append lba blocks)) input
     → let done = meaning s.namespace (holds_at s) (Append lba blocks) input in
     let happening = happens operations s o.starved o.event in
     done.status ≡ SUCCESS → NoEventClears operations (zone_number s.namespace lba) events happening.state
@@ -175,7 +175,7 @@ AppendsReadBack operations =
 abbrev pub WritesReadBack : {D : Type 0} → Operations D → Type 0
 WritesReadBack operations =
     (s : State) → IsNamespace s.namespace
-    → (o : Occurrence) (lba blocks : ℕ) (input : List ℕ) (events : List Occurrence) → Submits o.event (command.Standard (Write lba blocks)) input
+    → (o : Occurrence) (lba blocks : ℕ) (input : List ℕ) (events : List Occurrence) → Submits o.event (commands.Standard (Write lba blocks)) input
     → let done = meaning s.namespace (holds_at s) (Write lba blocks) input in
     let happening = happens operations s o.starved o.event in
     done.status ≡ SUCCESS → NoEventClears operations (zone_number s.namespace lba) events happening.state
@@ -186,15 +186,15 @@ WritesReadBack operations =
 abbrev pub RunsReadBack : {D : Type 0} → Operations D → Type 0
 RunsReadBack operations =
     (s : State) → IsReached operations s
-    → (queue : ℕ) (entry : List ℕ) (input : Vec ℕ Global) (starved : Bool) (order : RunCommand) (run : ℕ) (events later : List Occurrence)
-    → IsAdmitted s (record { queue = queue; entry = entry; input = input.items }) order run
+    → (queue : ℕ) (entry : List ℕ) (input : Vec ℕ Global) (starved : Bool) (command : RunCommand) (run : ℕ) (events later : List Occurrence)
+    → IsAdmitted s (record { queue = queue; entry = entry; input = input.items }) command run
     → AreEvents events → AreEvents later
-    → IsReadBack operations s queue entry input starved order run events later
+    → IsReadBack operations s queue entry input starved command run events later
 
 -- the same of the scratch bytes that the last block run of a run leaves, which Result gives
 abbrev pub ResultsReadBack : {D : Type 0} → Operations D → Type 0
 ResultsReadBack operations =
     (s : State) → IsReached operations s
-    → (queue : ℕ) (entry : List ℕ) (input : Vec ℕ Global) (starved : Bool) (order : RunCommand) (run : ℕ) (events later : List Occurrence)
-    → IsAdmitted s (record { queue = queue; entry = entry; input = input.items }) order run
-    → IsResultReadBack operations s queue entry input starved order run events later
+    → (queue : ℕ) (entry : List ℕ) (input : Vec ℕ Global) (starved : Bool) (command : RunCommand) (run : ℕ) (events later : List Occurrence)
+    → IsAdmitted s (record { queue = queue; entry = entry; input = input.items }) command run
+    → IsResultReadBack operations s queue entry input starved command run events later

@@ -16,27 +16,27 @@ use Rattle.pushdown.specs.State.{State, Place}
 pub record Active : Type 0 where
   pub queue : ℕ
   pub cid : ℕ
-  pub order : RunCommand
+  pub command : RunCommand
   pub so_far : Progress
 
 -- the source blocks still to come, of the namespace as it is now
 abbrev pub to_come : ZonedNamespace → Active → List (List ℕ)
 to_come ns a =
-    written_from ns (zone_number ns a.order.lba) (a.order.lba % ns.size + a.so_far.index) (a.order.blocks - a.so_far.index)
+    written_from ns (zone_number ns a.command.lba) (a.command.lba % ns.size + a.so_far.index) (a.command.blocks - a.so_far.index)
 
 -- the turns that are left of a run of this program
 abbrev pub turns_of : ZonedNamespace → List (Option Instruction) → ℕ → Active → List Turn
-turns_of ns program limit a = rest (task_by ns program limit a.order) a.so_far (to_come ns a)
+turns_of ns program limit a = rest (task_by ns program limit a.command) a.so_far (to_come ns a)
 
 -- the run's place: the turns that are left are the rest of the run
 abbrev pub place_of : ZonedNamespace → List (Option Loaded) → Active → Place
 place_of ns slots a = record {
   queue = a.queue;
   cid = a.cid;
-  slot = a.order.slot;
-  source = zone_number ns a.order.lba;
-  destination = zone_number ns a.order.destination;
-  turns = turns_of ns (program_in (get_or slots a.order.slot None)) (limit_in (get_or slots a.order.slot None)) a;
+  slot = a.command.slot;
+  source = zone_number ns a.command.lba;
+  destination = zone_number ns a.command.destination;
+  turns = turns_of ns (program_in (get_or slots a.command.slot None)) (limit_in (get_or slots a.command.slot None)) a;
 }
 
 abbrev pub seen : ZonedNamespace → List (Option Loaded) → Option Active → Option Place
@@ -48,23 +48,23 @@ view_of ns slots runs = record { namespace = ns; slots = slots; places = map (se
 
 -- a run at its admission
 abbrev pub begun : Submission → RunCommand → Active
-begun sub order = record { queue = sub.queue; cid = identifier_of sub.entry; order = order; so_far = at_admission }
+begun sub command = record { queue = sub.queue; cid = identifier_of sub.entry; command = command; so_far = at_admission }
 
 -- what is seen of a run at its admission is its place
 abbrev pub SeenAtAdmission : Type 0
-SeenAtAdmission = (sub : Submission) (s : State) (order : RunCommand) → place_of s.namespace s.slots (begun sub order) ≡ admitted_place sub s order
+SeenAtAdmission = (sub : Submission) (s : State) (command : RunCommand) → place_of s.namespace s.slots (begun sub command) ≡ admitted_place sub s command
 
 -- a later namespace of the same sizes, in whose source zone the blocks are those of before and perhaps some
 -- behind them
 pub record KeepsSource (ns later : ZonedNamespace) (a : Active) : Type 0 where
   pub size : later.size ≡ ns.size
   pub block : later.block ≡ ns.block
-  pub grows : Grows (zone_at ns (zone_number ns a.order.lba)).blocks (zone_at later (zone_number ns a.order.lba)).blocks
-  pub written : a.order.lba % ns.size + a.so_far.index + (a.order.blocks - a.so_far.index) ≤ length (zone_at ns (zone_number ns a.order.lba)).blocks
+  pub grows : Grows (zone_at ns (zone_number ns a.command.lba)).blocks (zone_at later (zone_number ns a.command.lba)).blocks
+  pub written : a.command.lba % ns.size + a.so_far.index + (a.command.blocks - a.so_far.index) ≤ length (zone_at ns (zone_number ns a.command.lba)).blocks
 
 -- what is seen of a run stays, whatever is written behind its source, and whatever result its slot is given
 abbrev pub SeenStays : Type 0
 SeenStays =
     (ns later : ZonedNamespace) (slots slots' : List (Option Loaded)) (a : Active) → KeepsSource ns later a
-    → SameProgram (get_or slots a.order.slot None) (get_or slots' a.order.slot None)
+    → SameProgram (get_or slots a.command.slot None) (get_or slots' a.command.slot None)
     → place_of later slots' a ≡ place_of ns slots a

@@ -30,31 +30,31 @@ passes : (first rest : Option Status) → first ≡ None → or_else first rest 
 passes first rest none = rw none refl
 
 -- where no check before those of the destination fails, they decide
-last_decides : (ns : ZonedNamespace) (holds : Holds) (place_free : Bool) (slot : Option Loaded) (order : RunCommand) (input : List ℕ)
-    (source : ZoneBlock) (destination blocks : ℕ) → (length input == 0) ≡ true → is_some slot ≡ true → ArePlaces ns order source destination
-    → first_failed (address_checks ns order) ≡ None → place_free ≡ true → first_failed (source_checks ns source order.blocks) ≡ None
-    → blocks ≡ need order.blocks (sizes_in ns slot)
-    → first_failed (destination_checks ns holds destination blocks) ≡ run_refusal ns holds place_free slot order input
-last_decides ns holds place_free slot order input source destination blocks no_input loaded places addresses free sources enough =
-    let to = first_failed (destination_checks ns holds (destination_zone ns order) (need order.blocks (sizes_in ns slot))) in
-    let from = first_failed (source_checks ns (zone_block_in ns order.lba) order.blocks) in
-    let parts : run_refusal ns holds place_free slot order input
+last_decides : (ns : ZonedNamespace) (holds : Holds) (place_free : Bool) (slot : Option Loaded) (command : RunCommand) (input : List ℕ)
+    (source : ZoneBlock) (destination blocks : ℕ) → (length input == 0) ≡ true → is_some slot ≡ true → ArePlaces ns command source destination
+    → first_failed (address_checks ns command) ≡ None → place_free ≡ true → first_failed (source_checks ns source command.blocks) ≡ None
+    → blocks ≡ need command.blocks (sizes_in ns slot)
+    → first_failed (destination_checks ns holds destination blocks) ≡ run_refusal ns holds place_free slot command input
+last_decides ns holds place_free slot command input source destination blocks no_input loaded places addresses free sources enough =
+    let to = first_failed (destination_checks ns holds (destination_zone ns command) (need command.blocks (sizes_in ns slot))) in
+    let from = first_failed (source_checks ns (zone_block_in ns command.lba) command.blocks) in
+    let parts : run_refusal ns holds place_free slot command input
     ≡ or_else (demand (length input == 0) INVALID_FIELD_IN_COMMAND)
     (or_else (demand (is_some slot) NO_SUCH_PROGRAM)
-    (or_else (first_failed (address_checks ns order)) (or_else (demand place_free NO_RUN_FREE) (or_else from to)))) =
+    (or_else (first_failed (address_checks ns command)) (or_else (demand place_free NO_RUN_FREE) (or_else from to)))) =
     ap (λ (rest : Option Status). or_else (demand (length input == 0) INVALID_FIELD_IN_COMMAND) (or_else (demand (is_some slot) NO_SUCH_PROGRAM) rest))
-    (joined (address_checks ns order) (demand place_free NO_RUN_FREE ∷ source_checks ns (zone_block_in ns order.lba) order.blocks
-    ++ destination_checks ns holds (destination_zone ns order) (need order.blocks (sizes_in ns slot)))
-    ∙ ap (λ (rest : Option Status). or_else (first_failed (address_checks ns order)) (or_else (demand place_free NO_RUN_FREE) rest))
-    (joined (source_checks ns (zone_block_in ns order.lba) order.blocks) (destination_checks ns holds (destination_zone ns order) (need order.blocks (sizes_in ns slot))))) in
-    let from_none : from ≡ None = ap (λ (p : ZoneBlock). first_failed (source_checks ns p order.blocks)) (sym places.reads.is) ∙ sources in
+    (joined (address_checks ns command) (demand place_free NO_RUN_FREE ∷ source_checks ns (zone_block_in ns command.lba) command.blocks
+    ++ destination_checks ns holds (destination_zone ns command) (need command.blocks (sizes_in ns slot)))
+    ∙ ap (λ (rest : Option Status). or_else (first_failed (address_checks ns command)) (or_else (demand place_free NO_RUN_FREE) rest))
+    (joined (source_checks ns (zone_block_in ns command.lba) command.blocks) (destination_checks ns holds (destination_zone ns command) (need command.blocks (sizes_in ns slot))))) in
+    let from_none : from ≡ None = ap (λ (p : ZoneBlock). first_failed (source_checks ns p command.blocks)) (sym places.reads.is) ∙ sources in
     ap (λ (z : ℕ). first_failed (destination_checks ns holds z blocks)) (ap (λ (b : ZoneBlock). b.zone) places.appends.is)
-    ∙ ap (λ (n : ℕ). first_failed (destination_checks ns holds (destination_zone ns order) n)) enough
+    ∙ ap (λ (n : ℕ). first_failed (destination_checks ns holds (destination_zone ns command) n)) enough
     ∙ sym (parts
     ∙ ap (λ (b : Bool). or_else (demand b INVALID_FIELD_IN_COMMAND) (or_else (demand (is_some slot) NO_SUCH_PROGRAM)
-    (or_else (first_failed (address_checks ns order)) (or_else (demand place_free NO_RUN_FREE) (or_else from to))))) no_input
-    ∙ ap (λ (b : Bool). or_else (demand b NO_SUCH_PROGRAM) (or_else (first_failed (address_checks ns order)) (or_else (demand place_free NO_RUN_FREE) (or_else from to)))) loaded
-    ∙ passes (first_failed (address_checks ns order)) (or_else (demand place_free NO_RUN_FREE) (or_else from to)) addresses
+    (or_else (first_failed (address_checks ns command)) (or_else (demand place_free NO_RUN_FREE) (or_else from to))))) no_input
+    ∙ ap (λ (b : Bool). or_else (demand b NO_SUCH_PROGRAM) (or_else (first_failed (address_checks ns command)) (or_else (demand place_free NO_RUN_FREE) (or_else from to)))) loaded
+    ∙ passes (first_failed (address_checks ns command)) (or_else (demand place_free NO_RUN_FREE) (or_else from to)) addresses
     ∙ ap (λ (b : Bool). or_else (demand b NO_RUN_FREE) (or_else from to)) free
     ∙ passes from to from_none)
 
@@ -71,24 +71,24 @@ module _ (ns : ZonedNamespace) (slots : List (Option LoadedProgram)) (runs : Lis
       ∙ ap (λ (o : Option LoadedProgram). sizes_in ns (loaded_slot o)) (sym at)
 
   -- the same, by what a device tests before
-  pub destination_decides : (order : RunCommand) (input : List ℕ) (p : LoadedProgram) (source : ZoneBlock) (destination run blocks : ℕ) (holds : Holds)
-      → IsReady ns slots runs → true ≡ (length input == 0) → get_or slots order.slot None ≡ Some p
-      → ArePlaces ns order source destination → None ≡ first_failed (address_checks ns order)
-      → Some run ≡ position is_none runs → None ≡ first_failed (source_checks ns source order.blocks)
-      → holds ≡ held_by runs → blocks ≡ need order.blocks (sizes_of p.prepared)
+  pub destination_decides : (command : RunCommand) (input : List ℕ) (p : LoadedProgram) (source : ZoneBlock) (destination run blocks : ℕ) (holds : Holds)
+      → IsReady ns slots runs → true ≡ (length input == 0) → get_or slots command.slot None ≡ Some p
+      → ArePlaces ns command source destination → None ≡ first_failed (address_checks ns command)
+      → Some run ≡ position is_none runs → None ≡ first_failed (source_checks ns source command.blocks)
+      → holds ≡ held_by runs → blocks ≡ need command.blocks (sizes_of p.prepared)
       → first_failed (destination_checks ns holds destination blocks)
-      ≡ run_refusal ns (held_by runs) (is_some (position is_none runs)) (loaded_slot (get_or slots order.slot None)) order input
-  destination_decides order input p source destination run blocks holds ready no_input at places addresses free sources held enough =
+      ≡ run_refusal ns (held_by runs) (is_some (position is_none runs)) (loaded_slot (get_or slots command.slot None)) command input
+  destination_decides command input p source destination run blocks holds ready no_input at places addresses free sources held enough =
       ap (λ (h : Holds). first_failed (destination_checks ns h destination blocks)) held
-      ∙ last_decides ns (held_by runs) (is_some (position is_none runs)) (loaded_slot (get_or slots order.slot None)) order input source destination blocks
+      ∙ last_decides ns (held_by runs) (is_some (position is_none runs)) (loaded_slot (get_or slots command.slot None)) command input source destination blocks
       (sym no_input) (ap (λ (o : Option LoadedProgram). is_some (loaded_slot o)) at) places (sym addresses) (ap is_some (sym free)) (sym sources)
-      (enough ∙ ap (need order.blocks) (granted order.slot p ready at))
+      (enough ∙ ap (need command.blocks) (granted command.slot p ready at))
 
-  pub why_is : (sub : Submission) (order : RunCommand) → IsReady ns slots runs
-      → why_not_run sub (device_state ns slots runs) order
-      ≡ run_refusal ns (held_by runs) (is_some (position is_none runs)) (loaded_slot (get_or slots order.slot None)) order sub.input
-  why_is sub order ready =
+  pub why_is : (sub : Submission) (command : RunCommand) → IsReady ns slots runs
+      → why_not_run sub (device_state ns slots runs) command
+      ≡ run_refusal ns (held_by runs) (is_some (position is_none runs)) (loaded_slot (get_or slots command.slot None)) command sub.input
+  why_is sub command ready =
       let s = device_state ns slots runs in
-      ap (λ (holds : Holds). run_refusal ns holds (is_some (position is_none s.places)) (program_at s order.slot) order sub.input) (sym (holds_are ns slots runs ready))
-      ∙ ap (λ (free : Option ℕ). run_refusal ns (held_by runs) (is_some free) (program_at s order.slot) order sub.input) (free_is ns slots runs)
-      ∙ ap (λ (slot : Option Loaded). run_refusal ns (held_by runs) (is_some (position is_none runs)) slot order sub.input) (program_is order.slot)
+      ap (λ (holds : Holds). run_refusal ns holds (is_some (position is_none s.places)) (program_at s command.slot) command sub.input) (sym (holds_are ns slots runs ready))
+      ∙ ap (λ (free : Option ℕ). run_refusal ns (held_by runs) (is_some free) (program_at s command.slot) command sub.input) (free_is ns slots runs)
+      ∙ ap (λ (slot : Option Loaded). run_refusal ns (held_by runs) (is_some (position is_none runs)) slot command sub.input) (program_is command.slot)

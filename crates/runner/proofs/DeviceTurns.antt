@@ -36,7 +36,7 @@ use Rattle.runner.proofs.Reached.{reached_is_sound}
 use Rattle.runner.proofs.Staying.{Stays, grows_there, keeps_source, others_stay, placed_at, still_fits}
 
 module _ (ns : ZonedNamespace) (slots : List (Option LoadedProgram)) (runs : List (Option ActiveRun)) (ready : IsReady ns slots runs)
-    (k : ℕ) (a : ActiveRun) (at : get_or runs k None ≡ Some a) (p : LoadedProgram) (loaded : get_or slots a.order.slot None ≡ Some p) where
+    (k : ℕ) (a : ActiveRun) (at : get_or runs k None ≡ Some a) (p : LoadedProgram) (loaded : get_or slots a.command.slot None ≡ Some p) where
   abbrev s : State
   s = device_state ns slots runs
 
@@ -59,13 +59,13 @@ module _ (ns : ZonedNamespace) (slots : List (Option LoadedProgram)) (runs : Lis
   fits = (ready.running k a at).fits
 
   accepted : IsFor ns p
-  accepted = ready.programs a.order.slot p loaded
+  accepted = ready.programs a.command.slot p loaded
 
-  slot_is : get_or (map loaded_slot slots) a.order.slot None ≡ Some (loaded_of p)
-  slot_is = get_or-map loaded_slot slots a.order.slot None ∙ ap loaded_slot loaded
+  slot_is : get_or (map loaded_slot slots) a.command.slot None ≡ Some (loaded_of p)
+  slot_is = get_or-map loaded_slot slots a.command.slot None ∙ ap loaded_slot loaded
 
   turns_are : place.turns ≡ turns_of ns code limit (active_of a)
-  turns_are = ap (λ (o : Option Loaded). rest (task_of ns o a.order) (active_of a).so_far (to_come ns (active_of a))) slot_is
+  turns_are = ap (λ (o : Option Loaded). rest (task_of ns o a.command) (active_of a).so_far (to_come ns (active_of a))) slot_is
 
   fits_on : IsReached intervals s → FitsOn ns code limit a
   fits_on reached =
@@ -76,19 +76,19 @@ module _ (ns : ZonedNamespace) (slots : List (Option LoadedProgram)) (runs : Lis
         limits = subst (λ (block : ℕ). limit ≤ block) accepted p.prepared.are_sizes.fits;
         room =
             subst (λ (z : ℕ). RoomIn ns.capacity (zone_at ns z) (turns_of ns code limit (active_of a))) (sym fits.destination)
-            (subst (RoomIn ns.capacity (zone_at ns (zone_number ns a.order.destination))) turns_are (sound.rooms k place here));
+            (subst (RoomIn ns.capacity (zone_at ns (zone_number ns a.command.destination))) turns_are (sound.rooms k place here));
       }
 
-  fits_in : IsReached intervals s → FitsIn ns (get_or slots a.order.slot None) a
+  fits_in : IsReached intervals s → FitsIn ns (get_or slots a.command.slot None) a
   fits_in reached = subst (λ (o : Option LoadedProgram). FitsIn ns o a) (sym loaded) (accepted, fits_on reached)
 
   -- ---- the first of its turns is done, and its program and its place are these
 
   module _ (new : ZonedNamespace) (q : LoadedProgram) (r : Option ActiveRun) (turn : Turn) (later : List Turn)
       (first : turns_of ns code limit (active_of a) ≡ turn ∷ later) (written : new ≡ added ns a.destination turn.blocks)
-      (same : q.prepared ≡ p.prepared) (programs : slots_left s place turn.ending ≡ map loaded_slot (set slots a.order.slot (Some q))) where
+      (same : q.prepared ≡ p.prepared) (programs : slots_left s place turn.ending ≡ map loaded_slot (set slots a.command.slot (Some q))) where
     abbrev slots' : List (Option LoadedProgram)
-    slots' = set slots a.order.slot (Some q)
+    slots' = set slots a.command.slot (Some q)
 
     comes : turned s k ≡ take_turn s k place (turn ∷ later)
     comes =
@@ -118,30 +118,30 @@ module _ (ns : ZonedNamespace) (slots : List (Option LoadedProgram)) (runs : Lis
     grows : (j : ℕ) (b : ActiveRun) → get_or runs j None ≡ Some b → Grows (zone_at ns b.source.zone).blocks (zone_at new b.source.zone).blocks
     grows j b there =
         grows_there ns new b (ready.running j b there).fits
-        (subst (λ (m : ZonedNamespace). Grows (zone_at ns (zone_number ns b.order.lba)).blocks (zone_at m (zone_number ns b.order.lba)).blocks) namespace_is
+        (subst (λ (m : ZonedNamespace). Grows (zone_at ns (zone_number ns b.command.lba)).blocks (zone_at m (zone_number ns b.command.lba)).blocks) namespace_is
         (keeps j b there).source)
 
     stays : (j : ℕ) (b : ActiveRun) → get_or runs j None ≡ Some b → Stays ns new slots slots' b
     stays j b there = record {
       source = keeps_source ns new b (ready.running j b there).fits same_shape (grows j b there);
-      program = subst (λ (xs : List (Option Loaded)). SameProgram (get_or (map loaded_slot slots) b.order.slot None) (get_or xs b.order.slot None)) programs_are
+      program = subst (λ (xs : List (Option Loaded)). SameProgram (get_or (map loaded_slot slots) b.command.slot None) (get_or xs b.command.slot None)) programs_are
           (keeps j b there).program;
     }
 
     still_for : (i : ℕ) (x : LoadedProgram) → get_or slots' i None ≡ Some x → IsFor new x
-    still_for i x there = elim (was_set slots a.order.slot i (Some q) x there) [
+    still_for i x there = elim (was_set slots a.command.slot i (Some q) x there) [
       | inl is ↦ subst (Where (IsFor new)) is (ap (λ v. (sizes_of v).block) same ∙ accepted ∙ same_block)
       | inr was ↦ ready.programs i x was ∙ same_block
     ]
 
     -- a run whose program was in its slot, and is
-    is_running : (b : ActiveRun) (x : LoadedProgram) → get_or slots b.order.slot None ≡ Some x → Fits new b → IsRunning new slots' b
+    is_running : (b : ActiveRun) (x : LoadedProgram) → get_or slots b.command.slot None ≡ Some x → Fits new b → IsRunning new slots' b
     is_running b x was fit =
-        let z = still_some slots a.order.slot b.order.slot q x was in
-        record { program = z.0; loaded = z.1; accepted = still_for b.order.slot z.0 z.1; fits = fit }
+        let z = still_some slots a.command.slot b.command.slot q x was in
+        record { program = z.0; loaded = z.1; accepted = still_for b.command.slot z.0 z.1; fits = fit }
 
     abbrev OwnFits : ActiveRun → Type 0
-    OwnFits b = (b.order ≡ a.order) × Fits new b
+    OwnFits b = (b.command ≡ a.command) × Fits new b
 
     all_ready : Where OwnFits r → IsReady new slots' (set runs k r)
     all_ready own = record {
@@ -149,7 +149,7 @@ module _ (ns : ZonedNamespace) (slots : List (Option LoadedProgram)) (runs : Lis
       running = λ j b there. elim (was_set runs k j r b there) [
         | inl is ↦
             let mine : OwnFits b = subst (Where OwnFits) is own in
-            is_running b p (ap (λ (order : RunCommand). get_or slots order.slot None) mine.0 ∙ loaded) mine.1
+            is_running b p (ap (λ (command : RunCommand). get_or slots command.slot None) mine.0 ∙ loaded) mine.1
         | inr was ↦
             let is = ready.running j b was in
             is_running b is.program is.loaded (still_fits ns new b is.fits same_shape (grows j b was))
@@ -182,40 +182,40 @@ module _ (ns : ZonedNamespace) (slots : List (Option LoadedProgram)) (runs : Lis
     abbrev turn : Turn
     turn = record { blocks = g.blocks; ending = None }
 
-    programs_same : map loaded_slot (set slots a.order.slot (Some q)) ≡ map loaded_slot slots
+    programs_same : map loaded_slot (set slots a.command.slot (Some q)) ≡ map loaded_slot slots
     programs_same =
-        map-set_same loaded_slot slots a.order.slot (Some q) None (ap (λ (x : LoadedProgram). loaded_slot (Some x)) same ∙ ap loaded_slot (sym loaded))
+        map-set_same loaded_slot slots a.command.slot (Some q) None (ap (λ (x : LoadedProgram). loaded_slot (Some x)) same ∙ ap loaded_slot (sym loaded))
 
     prepared_same : q.prepared ≡ p.prepared
     prepared_same = ap (λ (x : LoadedProgram). x.prepared) same
 
     abbrev sees : ℕ → ℕ → RunCommand → ℕ → List Turn → Place
-    sees queue cid order size turns = record {
+    sees queue cid command size turns = record {
       queue = queue;
       cid = cid;
-      slot = order.slot;
-      source = zone_number (record ns { size = size }) order.lba;
-      destination = zone_number (record ns { size = size }) order.destination;
+      slot = command.slot;
+      source = zone_number (record ns { size = size }) command.lba;
+      destination = zone_number (record ns { size = size }) command.destination;
       turns = turns;
     }
 
-    own_slot : get_or (map loaded_slot (set slots a.order.slot (Some q))) b.order.slot None ≡ Some (loaded_of p)
+    own_slot : get_or (map loaded_slot (set slots a.command.slot (Some q))) b.command.slot None ≡ Some (loaded_of p)
     own_slot =
-        ap (λ (xs : List (Option Loaded)). get_or xs b.order.slot None) programs_same
-        ∙ ap (λ (order : RunCommand). get_or (map loaded_slot slots) order.slot None) kept.order
+        ap (λ (xs : List (Option Loaded)). get_or xs b.command.slot None) programs_same
+        ∙ ap (λ (command : RunCommand). get_or (map loaded_slot slots) command.slot None) kept.command
         ∙ slot_is
 
-    own_place : place_of new (map loaded_slot (set slots a.order.slot (Some q))) (active_of b) ≡ record place { turns = later }
+    own_place : place_of new (map loaded_slot (set slots a.command.slot (Some q))) (active_of b) ≡ record place { turns = later }
     own_place =
-        ap (λ (o : Option Loaded). sees b.queue b.cid b.order new.size (rest (task_of new o b.order) (active_of b).so_far (to_come new (active_of b)))) own_slot
-        ∙ ap (λ (x : Shape). sees b.queue b.cid b.order x.size later) (same_shape new q (Some b) turn later g.turns g.namespace prepared_same (sym programs_same))
-        ∙ ap (λ (order : RunCommand). sees b.queue b.cid order ns.size later) kept.order
-        ∙ ap (λ (cid : ℕ). sees b.queue cid a.order ns.size later) kept.cid
-        ∙ ap (λ (queue : ℕ). sees queue a.cid a.order ns.size later) kept.queue
+        ap (λ (o : Option Loaded). sees b.queue b.cid b.command new.size (rest (task_of new o b.command) (active_of b).so_far (to_come new (active_of b)))) own_slot
+        ∙ ap (λ (x : Shape). sees b.queue b.cid b.command x.size later) (same_shape new q (Some b) turn later g.turns g.namespace prepared_same (sym programs_same))
+        ∙ ap (λ (command : RunCommand). sees b.queue b.cid command ns.size later) kept.command
+        ∙ ap (λ (cid : ℕ). sees b.queue cid a.command ns.size later) kept.cid
+        ∙ ap (λ (queue : ℕ). sees queue a.cid a.command ns.size later) kept.queue
 
-    goes_turned : Fits new b → IsTurned s k new (set slots a.order.slot (Some q)) (set runs k (Some b)) (reply.Pending k)
+    goes_turned : Fits new b → IsTurned s k new (set slots a.command.slot (Some q)) (set runs k (Some b)) (reply.Pending k)
     goes_turned fit =
-        is_turned new q (Some b) turn later g.turns g.namespace prepared_same (sym programs_same) (reply.Pending k) refl (ap Some own_place) (kept.order, fit)
+        is_turned new q (Some b) turn later g.turns g.namespace prepared_same (sym programs_same) (reply.Pending k) refl (ap Some own_place) (kept.command, fit)
 
   -- ---- a turn that ends it
 
@@ -227,11 +227,11 @@ module _ (ns : ZonedNamespace) (slots : List (Option LoadedProgram)) (runs : Lis
       ending = Some (record { status = answer.status; dw0 = answer.dw0; dw1 = answer.dw1; result = Some b.scratch });
     }
 
-    programs_end : slots_left s place last.ending ≡ map loaded_slot (set slots a.order.slot (Some q))
+    programs_end : slots_left s place last.ending ≡ map loaded_slot (set slots a.command.slot (Some q))
     programs_end =
-        ap (λ (o : Option Loaded). set (map loaded_slot slots) a.order.slot (keeping o (Some b.scratch))) slot_is
-        ∙ ap (λ (x : LoadedProgram). set (map loaded_slot slots) a.order.slot (loaded_slot (Some x))) (sym same)
-        ∙ sym (map-set loaded_slot slots a.order.slot (Some q))
+        ap (λ (o : Option Loaded). set (map loaded_slot slots) a.command.slot (keeping o (Some b.scratch))) slot_is
+        ∙ ap (λ (x : LoadedProgram). set (map loaded_slot slots) a.command.slot (loaded_slot (Some x))) (sym same)
+        ∙ sym (map-set loaded_slot slots a.command.slot (Some q))
 
     told : complete_reply b.queue b.cid answer ≡ (turn_reply k place last.ending).reply
     told =
@@ -239,7 +239,7 @@ module _ (ns : ZonedNamespace) (slots : List (Option LoadedProgram)) (runs : Lis
         ∙ ap (λ (cid : ℕ). complete_reply a.queue cid answer) kept.cid
         ∙ ap (λ (n : ℕ). complete_reply a.queue a.cid (record answer { length = n })) e.no_data
 
-    ends_turned : IsTurned s k new (set slots a.order.slot (Some q)) (set runs k None) (complete_reply b.queue b.cid answer)
+    ends_turned : IsTurned s k new (set slots a.command.slot (Some q)) (set runs k None) (complete_reply b.queue b.cid answer)
     ends_turned =
         is_turned new q None last [] e.turns e.namespace (ap (λ (x : LoadedProgram). x.prepared) same) programs_end
         (complete_reply b.queue b.cid answer) told refl tt
@@ -247,12 +247,12 @@ module _ (ns : ZonedNamespace) (slots : List (Option LoadedProgram)) (runs : Lis
   -- ---- what its program and its run are afterwards
 
   given_more : (new : ZonedNamespace) (q : Option LoadedProgram) (b : ActiveRun) → SlotTurned ns new (Some p) q a b None
-      → IsTurned s k new (set slots a.order.slot q) (set runs k (Some b)) (reply.Pending k)
+      → IsTurned s k new (set slots a.command.slot q) (set runs k (Some b)) (reply.Pending k)
   given_more new None b done = absurd done
   given_more new (Some q) b done = goes_turned new q b done.0 done.1 done.2 done.3
 
   given_last : (new : ZonedNamespace) (q : Option LoadedProgram) (b : ActiveRun) (answer : Answer) → SlotTurned ns new (Some p) q a b (Some answer)
-      → IsTurned s k new (set slots a.order.slot q) (set runs k None) (complete_reply b.queue b.cid answer)
+      → IsTurned s k new (set slots a.command.slot q) (set runs k None) (complete_reply b.queue b.cid answer)
   given_last new None b answer done = absurd done
   given_last new (Some q) b answer done = ends_turned new q b answer done.0 done.1 done.2
 
@@ -282,13 +282,13 @@ idles_there ns slots runs k o ready at none =
     subst (λ (xs : List (Option ActiveRun)). IsTurned (device_state ns slots runs) k ns slots xs reply.Idle)
     (sym (ap (set runs k) (sym at) ∙ set-get_or runs k None)) (idles ns slots runs k ready (at ∙ none))
 
-module _ (ns new : ZonedNamespace) (slots : List (Option LoadedProgram)) (k slot : ℕ) (a b : ActiveRun) (default q : Option LoadedProgram) (is_slot : slot ≡ a.order.slot)
+module _ (ns new : ZonedNamespace) (slots : List (Option LoadedProgram)) (k slot : ℕ) (a b : ActiveRun) (default q : Option LoadedProgram) (is_slot : slot ≡ a.command.slot)
     (within : slot < length slots) (runs : List (Option ActiveRun)) (at : get_or runs k None ≡ Some a) (ready : IsReady ns slots runs) where
   abbrev own : IsRunning ns slots a
   own = ready.running k a at
 
   in_slot : get_or slots slot default ≡ Some own.program
-  in_slot = found slots slot a.order.slot default own.program is_slot within own.loaded
+  in_slot = found slots slot a.command.slot default own.program is_slot within own.loaded
 
   abbrev Comes : ℕ → Option ActiveRun → Reply → Type 0
   Comes slot place given = IsTurned (device_state ns slots runs) k new (set slots slot q) (set runs k place) given

@@ -30,9 +30,9 @@ few_of : (ns : ZonedNamespace) (slots : List (Option LoadedProgram)) (a : Active
     → turns_left (seen ns (map loaded_slot slots) (Some (active_of a)) ∷ []) ≤ 65536
 few_of ns slots a fits =
     let b = active_of a in
-    let few = rest_is_few (task_of ns (get_or (map loaded_slot slots) a.order.slot None) a.order) b.so_far (to_come ns b) in
-    let blocks = drop (a.order.lba % ns.size + a.index) (zone_at ns (zone_number ns a.order.lba)).blocks in
-    let left = length-take (a.order.blocks - a.index) blocks in
+    let few = rest_is_few (task_of ns (get_or (map loaded_slot slots) a.command.slot None) a.command) b.so_far (to_come ns b) in
+    let blocks = drop (a.command.lba % ns.size + a.index) (zone_at ns (zone_number ns a.command.lba)).blocks in
+    let left = length-take (a.command.blocks - a.index) blocks in
     omega (arith, few, left, fits.most)
 
 pub few_left : (ns : ZonedNamespace) (slots : List (Option LoadedProgram)) (runs : List (Option ActiveRun))

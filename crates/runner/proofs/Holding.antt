@@ -21,7 +21,7 @@ module _ (ns : ZonedNamespace) (slots : List (Option Loaded)) where
   sources_are (None ∷ runs) fit = ap (λ (held : List (Option ℕ)). None ∷ held) (sources_are runs (λ k. fit (suc k)))
   sources_are (Some a ∷ runs) fit =
       ap (λ (place : ZoneBlock). Some place.zone ∷ map source_held runs) (fit zero a refl).source
-      ∙ ap (λ (held : List (Option ℕ)). Some (zone_number ns a.order.lba) ∷ held) (sources_are runs (λ k. fit (suc k)))
+      ∙ ap (λ (held : List (Option ℕ)). Some (zone_number ns a.command.lba) ∷ held) (sources_are runs (λ k. fit (suc k)))
 
   destinations_are : (runs : List (Option ActiveRun)) → AllFit ns runs
       → map destination_held runs ≡ map destination_of (map (seen ns slots) (map running runs))
@@ -29,7 +29,7 @@ module _ (ns : ZonedNamespace) (slots : List (Option Loaded)) where
   destinations_are (None ∷ runs) fit = ap (λ (held : List (Option ℕ)). None ∷ held) (destinations_are runs (λ k. fit (suc k)))
   destinations_are (Some a ∷ runs) fit =
       ap (λ (zone : ℕ). Some zone ∷ map destination_held runs) (fit zero a refl).destination
-      ∙ ap (λ (held : List (Option ℕ)). Some (zone_number ns a.order.destination) ∷ held) (destinations_are runs (λ k. fit (suc k)))
+      ∙ ap (λ (held : List (Option ℕ)). Some (zone_number ns a.command.destination) ∷ held) (destinations_are runs (λ k. fit (suc k)))
 
 pub holds_are : (ns : ZonedNamespace) (slots : List (Option LoadedProgram)) (runs : List (Option ActiveRun)) → IsReady ns slots runs
     → held_by runs ≡ holds_at (device_state ns slots runs)

@@ -49,9 +49,9 @@ pub used_is : (ns : ZonedNamespace) (slots : List (Option LoadedProgram)) (runs 
     → in_use (device_state ns slots runs) slot ≡ list_any (uses_slot slot) runs
 used_is ns slots [] slot = refl
 used_is ns slots (None ∷ runs) slot = used_is ns slots runs slot
-used_is ns slots (Some a ∷ runs) slot = ap (λ (b : Bool). (a.order.slot == slot) || b) (used_is ns slots runs slot)
+used_is ns slots (Some a ∷ runs) slot = ap (λ (b : Bool). (a.command.slot == slot) || b) (used_is ns slots runs slot)
 
-not_at : (runs : List (Option ActiveRun)) (slot k : ℕ) (a : ActiveRun) → list_any (uses_slot slot) runs ≡ false → get_or runs k None ≡ Some a → (a.order.slot == slot) ≡ false
+not_at : (runs : List (Option ActiveRun)) (slot k : ℕ) (a : ActiveRun) → list_any (uses_slot slot) runs ≡ false → get_or runs k None ≡ Some a → (a.command.slot == slot) ≡ false
 not_at [] slot k a none at = cc
 not_at (r ∷ runs) slot zero a none at =
     sym (ap (uses_slot slot) at) ∙ (either_false (uses_slot slot r) (list_any (uses_slot slot) runs) none).0
@@ -60,18 +60,18 @@ not_at (r ∷ runs) slot (suc k) a none at = not_at runs slot k a (either_false 
 -- ---- what is seen of runs that don't use it
 
 module _ (ns : ZonedNamespace) (slots : List (Option Loaded)) (slot : ℕ) (new : Option Loaded) where
-  seen_same : (a : Active) → a.order.slot ≢ slot → place_of ns (set slots slot new) a ≡ place_of ns slots a
+  seen_same : (a : Active) → a.command.slot ≢ slot → place_of ns (set slots slot new) a ≡ place_of ns slots a
   seen_same a other =
-      ap (λ (program : Option Loaded). record (place_of ns slots a) { turns = rest (task_of ns program a.order) a.so_far (to_come ns a) })
-      (get_or-set_other slots slot a.order.slot new None other)
+      ap (λ (program : Option Loaded). record (place_of ns slots a) { turns = rest (task_of ns program a.command) a.so_far (to_come ns a) })
+      (get_or-set_other slots slot a.command.slot new None other)
 
   all_seen : (runs : List (Option Active)) → list_any (uses slot) (map (seen ns slots) runs) ≡ false
       → map (seen ns (set slots slot new)) runs ≡ map (seen ns slots) runs
   all_seen [] none = refl
   all_seen (None ∷ runs) none = ap (λ (places : List (Option Place)). None ∷ places) (all_seen runs none)
   all_seen (Some a ∷ runs) none =
-      let neither = either_false (a.order.slot == slot) (list_any (uses slot) (map (seen ns slots) runs)) none in
-      ap (λ (place : Place). Some place ∷ map (seen ns (set slots slot new)) runs) (seen_same a (differ a.order.slot slot neither.0))
+      let neither = either_false (a.command.slot == slot) (list_any (uses slot) (map (seen ns slots) runs)) none in
+      ap (λ (place : Place). Some place ∷ map (seen ns (set slots slot new)) runs) (seen_same a (differ a.command.slot slot neither.0))
       ∙ ap (λ (places : List (Option Place)). Some (place_of ns slots a) ∷ places) (all_seen runs neither.1)
 
 -- ---- the program is put there
@@ -123,10 +123,10 @@ module _ (ns : ZonedNamespace) (slots : List (Option LoadedProgram)) (runs : Lis
     ];
     running = λ k a at.
         let was = ready.running k a at in
-        let other = differ a.order.slot load.slot (not_at runs load.slot k a (sym (used_is ns slots runs load.slot) ∙ unused) at) in
+        let other = differ a.command.slot load.slot (not_at runs load.slot k a (sym (used_is ns slots runs load.slot) ∙ unused) at) in
         record {
           program = was.program;
-          loaded = get_or-set_other slots load.slot a.order.slot (Some new) None other ∙ was.loaded;
+          loaded = get_or-set_other slots load.slot a.command.slot (Some new) None other ∙ was.loaded;
           accepted = was.accepted;
           fits = was.fits;
         };

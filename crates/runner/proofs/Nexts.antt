@@ -11,22 +11,22 @@ use Rattle.runner.specs.steps.Turning.{next_block, next_run}
 -- what a run is told of the block that is next
 abbrev next_context : ZonedNamespace → Active → Context
 next_context ns a = record {
-  lba = a.order.lba + a.so_far.index;
+  lba = a.command.lba + a.so_far.index;
   index = a.so_far.index;
-  count = a.order.blocks;
+  count = a.command.blocks;
   block = ns.block;
-  argument = a.order.argument;
+  argument = a.command.argument;
 }
 
 module _ (ns : ZonedNamespace) (program : List (Option Instruction)) (limit : ℕ) (a : Active) where
-  pub told_is : (context : List ℕ) (from count block : ℕ) → from ≡ a.so_far.index → count ≡ a.order.blocks → block ≡ ns.block
-      → context ≡ context_bytes (record { lba = a.order.lba + from; index = a.so_far.index; count = count; block = block; argument = a.order.argument })
+  pub told_is : (context : List ℕ) (from count block : ℕ) → from ≡ a.so_far.index → count ≡ a.command.blocks → block ≡ ns.block
+      → context ≡ context_bytes (record { lba = a.command.lba + from; index = a.so_far.index; count = count; block = block; argument = a.command.argument })
       → context ≡ context_bytes (next_context ns a)
   told_is context from count block is_from is_count is_block is =
       is
-      ∙ ap (λ (n : ℕ). context_bytes (record { lba = a.order.lba + n; index = a.so_far.index; count = count; block = block; argument = a.order.argument })) is_from
-      ∙ ap (λ (n : ℕ). context_bytes (record { lba = a.order.lba + a.so_far.index; index = a.so_far.index; count = n; block = block; argument = a.order.argument })) is_count
-      ∙ ap (λ (n : ℕ). context_bytes (record { lba = a.order.lba + a.so_far.index; index = a.so_far.index; count = a.order.blocks; block = n; argument = a.order.argument })) is_block
+      ∙ ap (λ (n : ℕ). context_bytes (record { lba = a.command.lba + n; index = a.so_far.index; count = count; block = block; argument = a.command.argument })) is_from
+      ∙ ap (λ (n : ℕ). context_bytes (record { lba = a.command.lba + a.so_far.index; index = a.so_far.index; count = n; block = block; argument = a.command.argument })) is_count
+      ∙ ap (λ (n : ℕ). context_bytes (record { lba = a.command.lba + a.so_far.index; index = a.so_far.index; count = a.command.blocks; block = n; argument = a.command.argument })) is_block
 
   pub run_is : (bytes context : List ℕ) → bytes ≡ next_block ns a → context ≡ context_bytes (next_context ns a)
       → run_over program limit bytes context a.so_far.scratch ≡ next_run ns program limit a

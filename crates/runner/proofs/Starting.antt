@@ -35,44 +35,44 @@ module _ (ns : ZonedNamespace) (slots : List (Option LoadedProgram)) (runs : Lis
       (ap (map (seen ns (map loaded_slot slots))) (map-set running runs run (Some a))
       ∙ map-set (seen ns (map loaded_slot slots)) (map running runs) run (Some (active_of a)))
 
-  pub starts : (order : RunCommand) (queue cid block : ℕ) (admitted : Admitted) (input : List ℕ) → IsReady ns slots runs
+  pub starts : (command : RunCommand) (queue cid block : ℕ) (admitted : Admitted) (input : List ℕ) → IsReady ns slots runs
       → position is_none runs ≡ Some admitted.run
-      → None ≡ run_refusal ns (held_by runs) (is_some (position is_none runs)) (loaded_slot (get_or slots order.slot None)) order input
-      → Starts order queue cid input (device_state ns slots runs)
-      (device_state ns slots (set runs admitted.run (Some (new_active queue cid order admitted.source admitted.destination block)))) admitted.run
-  starts order queue cid block admitted input ready free passes entry named =
+      → None ≡ run_refusal ns (held_by runs) (is_some (position is_none runs)) (loaded_slot (get_or slots command.slot None)) command input
+      → Starts command queue cid input (device_state ns slots runs)
+      (device_state ns slots (set runs admitted.run (Some (new_active queue cid command admitted.source admitted.destination block)))) admitted.run
+  starts command queue cid block admitted input ready free passes entry named =
       let s = device_state ns slots runs in
       let sub : Submission = record { queue = queue; entry = entry; input = input } in
-      let a = new_active queue cid order admitted.source admitted.destination block in
-      let begins : active_of a ≡ begun sub order =
-      ap (λ (n : ℕ). record { queue = queue; cid = n; order = order; so_far = at_admission }) (sym named) in
-      ap (λ (why : Option Status). start_by why (free_place s) sub s order) (why_is ns slots runs sub order ready ∙ sym passes)
-      ∙ ap (λ (number : Option ℕ). start_by None number sub s order) (free_is ns slots runs ∙ free)
+      let a = new_active queue cid command admitted.source admitted.destination block in
+      let begins : active_of a ≡ begun sub command =
+      ap (λ (n : ℕ). record { queue = queue; cid = n; command = command; so_far = at_admission }) (sym named) in
+      ap (λ (why : Option Status). start_by why (free_place s) sub s command) (why_is ns slots runs sub command ready ∙ sym passes)
+      ∙ ap (λ (number : Option ℕ). start_by None number sub s command) (free_is ns slots runs ∙ free)
       ∙ ap (λ (place : Place). record { reply = plain (reply.Pending admitted.run); state = with_place s admitted.run (Some place) })
-      (sym (seen_at_admission sub s order) ∙ ap (place_of ns (map loaded_slot slots)) (sym begins))
+      (sym (seen_at_admission sub s command) ∙ ap (place_of ns (map loaded_slot slots)) (sym begins))
       ∙ ap (λ (t : State). record { reply = plain (reply.Pending admitted.run); state = t }) (sym (placed admitted.run a))
 
-  pub refuses : (order : RunCommand) (input : List ℕ) (status : Status) → IsReady ns slots runs
-      → Some status ≡ run_refusal ns (held_by runs) (is_some (position is_none runs)) (loaded_slot (get_or slots order.slot None)) order input
-      → Refuses order input (device_state ns slots runs) status
-  refuses order input status ready fails queue entry =
+  pub refuses : (command : RunCommand) (input : List ℕ) (status : Status) → IsReady ns slots runs
+      → Some status ≡ run_refusal ns (held_by runs) (is_some (position is_none runs)) (loaded_slot (get_or slots command.slot None)) command input
+      → Refuses command input (device_state ns slots runs) status
+  refuses command input status ready fails queue entry =
       let s = device_state ns slots runs in
       let sub : Submission = record { queue = queue; entry = entry; input = input } in
-      ap (λ (why : Option Status). start_by why (free_place s) sub s order) (why_is ns slots runs sub order ready ∙ sym fails)
+      ap (λ (why : Option Status). start_by why (free_place s) sub s command) (why_is ns slots runs sub command ready ∙ sym fails)
 
   loaded_there : (o : Option LoadedProgram) → is_some o ≡ true → (p : LoadedProgram) × (o ≡ Some p)
   loaded_there None some = cc
   loaded_there (Some p) some = (p, refl)
 
   -- a run that has just begun is one of a device
-  pub is_running : (order : RunCommand) (queue cid block : ℕ) (admitted : Admitted) → IsReady ns slots runs → IsAdmission ns slots runs order admitted
-      → block ≡ ns.block → IsRunning ns slots (new_active queue cid order admitted.source admitted.destination block)
-  is_running order queue cid block admitted ready is same =
-      let at = loaded_there (get_or slots order.slot None) is.loaded in
+  pub is_running : (command : RunCommand) (queue cid block : ℕ) (admitted : Admitted) → IsReady ns slots runs → IsAdmission ns slots runs command admitted
+      → block ≡ ns.block → IsRunning ns slots (new_active queue cid command admitted.source admitted.destination block)
+  is_running command queue cid block admitted ready is same =
+      let at = loaded_there (get_or slots command.slot None) is.loaded in
       record {
         program = at.0;
         loaded = at.1;
-        accepted = ready.programs order.slot at.0 at.1;
+        accepted = ready.programs command.slot at.0 at.1;
         fits = record {
           source = is.places.reads.is;
           destination = ap (λ (b : ZoneBlock). b.zone) is.places.appends.is;

@@ -17,7 +17,7 @@ use Rattle.runner.specs.declared.loaded_program.LoadedProgram.{LoadedProgram}
 -- what a run needs to be seen as before: its source blocks and its program
 pub record Stays (ns later : ZonedNamespace) (slots slots' : List (Option LoadedProgram)) (a : ActiveRun) : Type 0 where
   pub source : KeepsSource ns later (active_of a)
-  pub program : SameProgram (get_or (map loaded_slot slots) a.order.slot None) (get_or (map loaded_slot slots') a.order.slot None)
+  pub program : SameProgram (get_or (map loaded_slot slots) a.command.slot None) (get_or (map loaded_slot slots') a.command.slot None)
 
 -- ---- a run
 
@@ -27,10 +27,10 @@ still_fits ns later a fits same grows =
     let size : ns.size ≡ later.size = ap (λ (s : Shape). s.size) (sym same) in
     let block : ns.block ≡ later.block = ap (λ (s : Shape). s.block) (sym same) in
     let longer = ap length grows.is ∙ length-append (zone_at ns a.source.zone).blocks grows.more in
-    let spot : ℕ → ZoneBlock = λ n. record { zone = a.order.lba / n; offset = a.order.lba % n } in
+    let spot : ℕ → ZoneBlock = λ n. record { zone = a.command.lba / n; offset = a.command.lba % n } in
     record {
       source = fits.source ∙ ap spot size;
-      destination = fits.destination ∙ ap (λ (n : ℕ). a.order.destination / n) size;
+      destination = fits.destination ∙ ap (λ (n : ℕ). a.command.destination / n) size;
       other = fits.other;
       left = fits.left;
       most = fits.most;
@@ -46,9 +46,9 @@ still_fits ns later a fits same grows =
 pub keeps_source : (ns later : ZonedNamespace) (a : ActiveRun) → Fits ns a → shape later ≡ shape ns
     → Grows (zone_at ns a.source.zone).blocks (zone_at later a.source.zone).blocks → KeepsSource ns later (active_of a)
 keeps_source ns later a fits same grows =
-    let zone : a.source.zone ≡ zone_number ns a.order.lba = ap (λ (p : ZoneBlock). p.zone) fits.source in
-    let offset : a.source.offset ≡ a.order.lba % ns.size = ap (λ (p : ZoneBlock). p.offset) fits.source in
-    let written = subst (λ (z : ℕ). a.source.offset + a.order.blocks ≤ length (zone_at ns z).blocks) zone fits.written in
+    let zone : a.source.zone ≡ zone_number ns a.command.lba = ap (λ (p : ZoneBlock). p.zone) fits.source in
+    let offset : a.source.offset ≡ a.command.lba % ns.size = ap (λ (p : ZoneBlock). p.offset) fits.source in
+    let written = subst (λ (z : ℕ). a.source.offset + a.command.blocks ≤ length (zone_at ns z).blocks) zone fits.written in
     record {
       size = ap (λ (s : Shape). s.size) same;
       block = ap (λ (s : Shape). s.block) same;
@@ -58,7 +58,7 @@ keeps_source ns later a fits same grows =
 
 -- the source blocks of a run that fits are kept where its source grows, as it is found by its first address
 pub grows_there : (ns later : ZonedNamespace) (a : ActiveRun) → Fits ns a
-    → Grows (zone_at ns (zone_number ns a.order.lba)).blocks (zone_at later (zone_number ns a.order.lba)).blocks
+    → Grows (zone_at ns (zone_number ns a.command.lba)).blocks (zone_at later (zone_number ns a.command.lba)).blocks
     → Grows (zone_at ns a.source.zone).blocks (zone_at later a.source.zone).blocks
 grows_there ns later a fits grows =
     subst (λ (z : ℕ). Grows (zone_at ns z).blocks (zone_at later z).blocks) (sym (ap (λ (p : ZoneBlock). p.zone) fits.source)) grows

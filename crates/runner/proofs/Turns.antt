@@ -50,29 +50,29 @@ cut_first n (suc at) (x ∷ xs) less = cut_first n at xs (omega (arith, less))
 
 module _ (ns : ZonedNamespace) (program : List (Option Instruction)) (limit : ℕ) where
   abbrev moved : Active → BlockRun → Active
-  moved a run = record { queue = a.queue; cid = a.cid; order = a.order; so_far = further (task_by ns program limit a.order) a.so_far run }
+  moved a run = record { queue = a.queue; cid = a.cid; command = a.command; so_far = further (task_by ns program limit a.command) a.so_far run }
 
-  module _ (a : Active) (left : a.so_far.index < a.order.blocks)
-      (written : a.order.lba % ns.size + a.order.blocks ≤ length (zone_at ns (zone_number ns a.order.lba)).blocks) where
+  module _ (a : Active) (left : a.so_far.index < a.command.blocks)
+      (written : a.command.lba % ns.size + a.command.blocks ≤ length (zone_at ns (zone_number ns a.command.lba)).blocks) where
     abbrev blocks : List (List ℕ)
-    blocks = (zone_at ns (zone_number ns a.order.lba)).blocks
+    blocks = (zone_at ns (zone_number ns a.command.lba)).blocks
 
     abbrev at : ℕ
-    at = a.order.lba % ns.size + a.so_far.index
+    at = a.command.lba % ns.size + a.so_far.index
 
     abbrev later : List (List ℕ)
-    later = take (a.order.blocks - (a.so_far.index + 1)) (drop (a.order.lba % ns.size + (a.so_far.index + 1)) blocks)
+    later = take (a.command.blocks - (a.so_far.index + 1)) (drop (a.command.lba % ns.size + (a.so_far.index + 1)) blocks)
 
     come : to_come ns a ≡ next_block ns a ∷ later
     come =
-        let n : a.order.blocks - a.so_far.index ≡ suc (a.order.blocks - (a.so_far.index + 1)) = omega (arith, left) in
-        let k : suc at ≡ a.order.lba % ns.size + (a.so_far.index + 1) = omega arith in
+        let n : a.command.blocks - a.so_far.index ≡ suc (a.command.blocks - (a.so_far.index + 1)) = omega (arith, left) in
+        let k : suc at ≡ a.command.lba % ns.size + (a.so_far.index + 1) = omega arith in
         ap (λ (n : ℕ). take n (drop at blocks)) n
-        ∙ cut_first (a.order.blocks - (a.so_far.index + 1)) at blocks (omega (arith, left, written))
-        ∙ ap (λ (k : ℕ). next_block ns a ∷ take (a.order.blocks - (a.so_far.index + 1)) (drop k blocks)) k
+        ∙ cut_first (a.command.blocks - (a.so_far.index + 1)) at blocks (omega (arith, left, written))
+        ∙ ap (λ (k : ℕ). next_block ns a ∷ take (a.command.blocks - (a.so_far.index + 1)) (drop k blocks)) k
 
     abbrev task : Task
-    task = task_by ns program limit a.order
+    task = task_by ns program limit a.command
 
     abbrev run : BlockRun
     run = next_run ns program limit a
@@ -82,20 +82,20 @@ module _ (ns : ZonedNamespace) (program : List (Option Instruction)) (limit : �
     on_by [] some on = absurd (omega (arith, some))
     on_by (b ∷ bs) some on = rest_goes_on task a.so_far (next_block ns a) b bs on
 
-    later_some : a.so_far.index + 1 < a.order.blocks → 1 ≤ length later
+    later_some : a.so_far.index + 1 < a.command.blocks → 1 ≤ length later
     later_some more =
-        let start = a.order.lba % ns.size + (a.so_far.index + 1) in
-        rw (length-take-le (a.order.blocks - (a.so_far.index + 1)) (drop start blocks) (rw (length-drop start blocks) (omega (arith, more, written))))
+        let start = a.command.lba % ns.size + (a.so_far.index + 1) in
+        rw (length-take-le (a.command.blocks - (a.so_far.index + 1)) (drop start blocks) (rw (length-drop start blocks) (omega (arith, more, written))))
         (omega (arith, more))
 
-    turns_go : a.so_far.index + 1 < a.order.blocks → goes_on run.end ≡ true
+    turns_go : a.so_far.index + 1 < a.command.blocks → goes_on run.end ≡ true
         → turns_of ns program limit a ≡ next_turn task a.so_far run ∷ turns_of ns program limit (moved a run)
     turns_go more on = ap (rest task a.so_far) come ∙ on_by later (later_some more) on
 
-    later_none : a.order.blocks ≤ a.so_far.index + 1 → later ≡ []
+    later_none : a.command.blocks ≤ a.so_far.index + 1 → later ≡ []
     later_none last =
-        let none : a.order.blocks - (a.so_far.index + 1) ≡ 0 = omega (arith, last) in
-        ap (λ (n : ℕ). take n (drop (a.order.lba % ns.size + (a.so_far.index + 1)) blocks)) none
+        let none : a.command.blocks - (a.so_far.index + 1) ≡ 0 = omega (arith, last) in
+        ap (λ (n : ℕ). take n (drop (a.command.lba % ns.size + (a.so_far.index + 1)) blocks)) none
 
     turns_end : Ends task a.so_far (next_block ns a) later
         → turns_of ns program limit a ≡ last_turn ns.block (emitted_by a.so_far) run ∷ []
@@ -124,11 +124,11 @@ module _ (block : ℕ) (so_far : Progress) (run : BlockRun) where
 -- ---- what is written for a turn
 
 added_leaves_turns : (ns : ZonedNamespace) (z : ℕ) (bs : List (List ℕ)) (program : List (Option Instruction)) (limit : ℕ) (a : Active)
-    → zone_number ns a.order.lba ≢ z → turns_of (added ns z bs) program limit a ≡ turns_of ns program limit a
+    → zone_number ns a.command.lba ≢ z → turns_of (added ns z bs) program limit a ≡ turns_of ns program limit a
 added_leaves_turns ns z [] program limit a other = refl
 added_leaves_turns ns z (b ∷ bs) program limit a other =
-    ap (λ (zone : ZoneBlocks). rest (task_by ns program limit a.order) a.so_far (take (a.order.blocks - a.so_far.index) (drop (a.order.lba % ns.size + a.so_far.index) zone.blocks)))
-    ((blocks_leave_others ns z (b ∷ bs)).others (zone_number ns a.order.lba) other)
+    ap (λ (zone : ZoneBlocks). rest (task_by ns program limit a.command) a.so_far (take (a.command.blocks - a.so_far.index) (drop (a.command.lba % ns.size + a.so_far.index) zone.blocks)))
+    ((blocks_leave_others ns z (b ∷ bs)).others (zone_number ns a.command.lba) other)
 
 module _ (ns : ZonedNamespace) (z : ℕ) (ending : Option Ending) (turns : List Turn) (some : 1 ≤ ns.block) where
   abbrev Room : List (List ℕ) → Type 0
@@ -177,7 +177,7 @@ module _ (ns : ZonedNamespace) (program : List (Option Instruction)) (limit : �
   stepped = record {
     queue = a.queue;
     cid = a.cid;
-    order = a.order;
+    command = a.command;
     source = a.source;
     destination = a.destination;
     index = a.index + 1;
@@ -190,24 +190,24 @@ module _ (ns : ZonedNamespace) (program : List (Option Instruction)) (limit : �
   abbrev groups : List (List ℕ)
   groups = a.packer.pending ∷ ran.state.group ∷ []
 
-  written_in : a.order.lba % ns.size + a.order.blocks ≤ length (zone_at ns (zone_number ns a.order.lba)).blocks
-  written_in = subst (λ (place : ZoneBlock). place.offset + a.order.blocks ≤ length (zone_at ns place.zone).blocks) h.run.source h.run.written
+  written_in : a.command.lba % ns.size + a.command.blocks ≤ length (zone_at ns (zone_number ns a.command.lba)).blocks
+  written_in = subst (λ (place : ZoneBlock). place.offset + a.command.blocks ≤ length (zone_at ns place.zone).blocks) h.run.source h.run.written
 
-  other_zone : zone_number ns a.order.lba ≢ a.destination
+  other_zone : zone_number ns a.command.lba ≢ a.destination
   other_zone e = h.run.other (ap (λ (place : ZoneBlock). place.zone) h.run.source ∙ e)
 
-  going : goes_on ran.end ≡ true → a.index + 1 < a.order.blocks
+  going : goes_on ran.end ≡ true → a.index + 1 < a.command.blocks
       → turns_of ns program limit (active_of a) ≡ record { blocks = sent; ending = None } ∷ turns_of ns program limit (active_of stepped)
   going on more =
       turns_go ns program limit (active_of a) h.run.left written_in more on
       ∙ ap (λ (block : ℕ). record { blocks = released block groups; ending = None } ∷ turns_of ns program limit (record {
         queue = a.queue;
         cid = a.cid;
-        order = a.order;
+        command = a.command;
         so_far = record { index = a.index + 1; scratch = scratch_after ran; pending = pending_of block groups; frames = a.frames + ran.state.frames; appended = a.appended + length (released block groups) };
       })) (sym h.run.packer)
 
-  goes_is : goes_on ran.end ≡ true → a.index + 1 < a.order.blocks → GoesOn ns (added ns a.destination sent) program limit a stepped
+  goes_is : goes_on ran.end ≡ true → a.index + 1 < a.command.blocks → GoesOn ns (added ns a.destination sent) program limit a stepped
   goes_is on more = record {
     blocks = sent;
     turns = going on more ∙ ap (λ (turns : List Turn). record { blocks = sent; ending = None } ∷ turns)
@@ -223,12 +223,12 @@ module _ (ns : ZonedNamespace) (program : List (Option Instruction)) (limit : �
   }
 
   abbrev Over : Type 0
-  Over = (goes_on ran.end ≡ false) ⊎ (a.order.blocks ≤ a.index + 1)
+  Over = (goes_on ran.end ≡ false) ⊎ (a.command.blocks ≤ a.index + 1)
 
   ends : (r0 : ℕ) → ran.end ≡ end.Exit r0 → Over → turns_of ns program limit (active_of a) ≡ end_of (sent ++ closing) ∷ []
   ends r0 exit over =
-      let gone : Ends (task_by ns program limit a.order) (active_of a).so_far (next_block ns (active_of a))
-      (take (a.order.blocks - (a.index + 1)) (drop (a.order.lba % ns.size + (a.index + 1)) (zone_at ns (zone_number ns a.order.lba)).blocks)) = elim over [
+      let gone : Ends (task_by ns program limit a.command) (active_of a).so_far (next_block ns (active_of a))
+      (take (a.command.blocks - (a.index + 1)) (drop (a.command.lba % ns.size + (a.index + 1)) (zone_at ns (zone_number ns a.command.lba)).blocks)) = elim over [
         | inl stops ↦ inl stops
         | inr last ↦ inr (later_none ns program limit (active_of a) h.run.left written_in last)
       ] in
@@ -240,7 +240,7 @@ module _ (ns : ZonedNamespace) (program : List (Option Instruction)) (limit : �
   abbrev In : List Turn → Type 0
   In turns = RoomIn ns.capacity (zone_at ns a.destination) turns
 
-  go_room : goes_on ran.end ≡ true → a.index + 1 < a.order.blocks → HasRoom ns a.destination sent
+  go_room : goes_on ran.end ≡ true → a.index + 1 < a.command.blocks → HasRoom ns a.destination sent
   go_room on more =
       let later = turns_of ns program limit (active_of stepped) in
       room_first ns a.destination None later h.some sent []
@@ -252,14 +252,14 @@ module _ (ns : ZonedNamespace) (program : List (Option Instruction)) (limit : �
   end_room : (r0 : ℕ) → ran.end ≡ end.Exit r0 → Over → In (end_of (sent ++ closing) ∷ [])
   end_room r0 exit over = subst In (ends r0 exit over) h.room
 
-  first_by : (on : Bool) → goes_on ran.end ≡ on → (r0 : ℕ) → ran.end ≡ end.Exit r0 → (a.index + 1 < a.order.blocks) ⊎ (a.order.blocks ≤ a.index + 1)
+  first_by : (on : Bool) → goes_on ran.end ≡ on → (r0 : ℕ) → ran.end ≡ end.Exit r0 → (a.index + 1 < a.command.blocks) ⊎ (a.command.blocks ≤ a.index + 1)
       → HasRoom ns a.destination sent
   first_by true on r0 exit (inl more) = go_room on more
   first_by true on r0 exit (inr last) = room_first ns a.destination ending [] h.some sent closing (end_room r0 exit (inr last))
   first_by false on r0 exit more = room_first ns a.destination ending [] h.some sent closing (end_room r0 exit (inl on))
 
   first_room : (r0 : ℕ) → ran.end ≡ end.Exit r0 → HasRoom ns a.destination sent
-  first_room r0 exit = first_by (goes_on ran.end) refl r0 exit (lt_or_le (a.index + 1) a.order.blocks)
+  first_room r0 exit = first_by (goes_on ran.end) refl r0 exit (lt_or_le (a.index + 1) a.command.blocks)
 
   last_room : (r0 : ℕ) → ran.end ≡ end.Exit r0 → Over → HasRoom (added ns a.destination sent) a.destination closing
   last_room r0 exit over = room_second ns a.destination ending [] h.some sent closing (end_room r0 exit over)
@@ -300,22 +300,22 @@ module _ (ns : ZonedNamespace) (program : List (Option Instruction)) (limit : �
       index_is : put.index ≡ a.index
       index_is = ap (λ (x : ActiveRun). x.index) put_is ∙ ap (λ (x : ActiveRun). x.index) same
 
-      blocks_are : put.order.blocks ≡ a.order.blocks
-      blocks_are = ap (λ (x : ActiveRun). x.order.blocks) put_is ∙ ap (λ (x : ActiveRun). x.order.blocks) same
+      blocks_are : put.command.blocks ≡ a.command.blocks
+      blocks_are = ap (λ (x : ActiveRun). x.command.blocks) put_is ∙ ap (λ (x : ActiveRun). x.command.blocks) same
 
-      pub goes : r0 ≡ 0 → counted.index < counted.order.blocks → GoesOn ns then program limit a counted
+      pub goes : r0 ≡ 0 → counted.index < counted.command.blocks → GoesOn ns then program limit a counted
       goes none more =
           let on : goes_on ran.end ≡ true = ap goes_on run.exit ∙ ap (λ (n : ℕ). n == 0) none in
           rw (written, put_is, same, sym run.group, sym run.frames) (goes_is on (omega (arith, index_is, blocks_are, more)))
 
-      is_over : (r0 ≢ 0) ⊎ (counted.order.blocks ≤ counted.index) → Over
+      is_over : (r0 ≢ 0) ⊎ (counted.command.blocks ≤ counted.index) → Over
       is_over (inl other) = inl (ap goes_on run.exit ∙ not_zero r0 other)
       is_over (inr last) = inr (omega (arith, index_is, blocks_are, last))
 
-      pub room_for_finish : (r0 ≢ 0) ⊎ (counted.order.blocks ≤ counted.index) → HasRoom then counted.destination (given_by_finish counted.packer)
+      pub room_for_finish : (r0 ≢ 0) ⊎ (counted.command.blocks ≤ counted.index) → HasRoom then counted.destination (given_by_finish counted.packer)
       room_for_finish over = rw (written, put_is, same, sym run.group) (last_room r0 run.exit (is_over over))
 
-      pub ends_there : (r0 ≢ 0) ⊎ (counted.order.blocks ≤ counted.index) → (last : ZonedNamespace) (finished : ActiveRun)
+      pub ends_there : (r0 ≢ 0) ⊎ (counted.command.blocks ≤ counted.index) → (last : ZonedNamespace) (finished : ActiveRun)
           → last ≡ added then counted.destination (given_by_finish counted.packer)
           → finished ≡ with_packer counted (new_packer counted.packer.block) (length (given_by_finish counted.packer))
           → HasEnded ns last program limit a finished (record { status = SUCCESS; dw0 = finished.frames; dw1 = finished.appended; length = 0 })

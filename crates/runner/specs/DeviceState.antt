@@ -13,7 +13,7 @@ abbrev pub active_of : ActiveRun → Active
 active_of a = record {
   queue = a.queue;
   cid = a.cid;
-  order = a.order;
+  command = a.command;
   so_far = record { index = a.index; scratch = a.scratch; pending = a.packer.pending; frames = a.frames; appended = a.appended };
 }
 

@@ -12,14 +12,14 @@ use Rattle.runner.specs.declared.loaded_program.LoadedProgram.{LoadedProgram}
 
 -- what holds of each active run, whatever its program
 pub record Fits (ns : ZonedNamespace) (a : ActiveRun) : Type 0 where
-  pub source : a.source ≡ zone_block_in ns a.order.lba
-  pub destination : a.destination ≡ zone_number ns a.order.destination
+  pub source : a.source ≡ zone_block_in ns a.command.lba
+  pub destination : a.destination ≡ zone_number ns a.command.destination
   pub other : a.source.zone ≢ a.destination
-  pub left : a.index < a.order.blocks
-  pub most : a.order.blocks ≤ 65536
-  pub written : a.source.offset + a.order.blocks ≤ length (zone_at ns a.source.zone).blocks
-  pub small : a.source.offset + a.order.blocks < 2 ^ 32
-  pub address : a.order.lba < 2 ^ 36
+  pub left : a.index < a.command.blocks
+  pub most : a.command.blocks ≤ 65536
+  pub written : a.source.offset + a.command.blocks ≤ length (zone_at ns a.source.zone).blocks
+  pub small : a.source.offset + a.command.blocks < 2 ^ 32
+  pub address : a.command.lba < 2 ^ 36
   pub packer : a.packer.block ≡ ns.block
   pub frames : a.frames ≤ a.index * LARGEST_BLOCK
   pub appended : a.appended ≤ a.index
@@ -31,7 +31,7 @@ IsFor ns p = (sizes_of p.prepared).block ≡ ns.block
 -- an active run, and the program in its slot
 pub record IsRunning (ns : ZonedNamespace) (slots : List (Option LoadedProgram)) (a : ActiveRun) : Type 0 where
   pub program : LoadedProgram
-  pub loaded : get_or slots a.order.slot None ≡ Some program
+  pub loaded : get_or slots a.command.slot None ≡ Some program
   pub accepted : IsFor ns program
   pub fits : Fits ns a
 

@@ -16,7 +16,7 @@ pub struct Active {
     /// The command identifier that its completion repeats.
     pub cid: u16,
     /// The command that started it.
-    pub order: RunCommand,
+    pub command: RunCommand,
     /// Where its first source block is.
     pub source: ZoneBlock,
     /// The number of the zone that it appends to.
@@ -39,17 +39,17 @@ impl Active {
     pub fn new(
         queue: u16,
         cid: u16,
-        order: RunCommand,
+        command: RunCommand,
         source: ZoneBlock,
         destination: u32,
         block: BlockSize,
     ) -> Active
-        ensures { result ≡ new_active queue cid order source destination block }
+        ensures { result ≡ new_active queue cid command source destination block }
     {
         Active {
             queue,
             cid,
-            order,
+            command,
             source,
             destination,
             index: 0,

@@ -40,21 +40,21 @@ pub fn start(
     runs: &mut [Option<Active>; RUNS],
     queue: u16,
     cid: u16,
-    order: &RunCommand,
+    command: &RunCommand,
     input: &[u8],
 ) -> Result<u8, Status>
     requires ready { IsReady namespace.now slots.now runs.old }
-    ensures ok { IfOk result (Starts order.now queue cid input.now (device_state namespace.now slots.now runs.old) (device_state namespace.now slots.now runs.new)) }
-    ensures err { IfErr result (Refuses order.now input.now (device_state namespace.now slots.now runs.old)) }
+    ensures ok { IfOk result (Starts command.now queue cid input.now (device_state namespace.now slots.now runs.old) (device_state namespace.now slots.now runs.new)) }
+    ensures err { IfErr result (Refuses command.now input.now (device_state namespace.now slots.now runs.old)) }
     ensures kept { OnErr result (runs.new ≡ runs.old) }
     ensures ready { IsReady namespace.now slots.now runs.new }
 {
-    let admitted = admit(namespace, slots, runs, order, input)?;
+    let admitted = admit(namespace, slots, runs, command, input)?;
     let block = namespace.geometry().block();
     runs[usize::from(admitted.run)] = Some(Active::new(
         queue,
         cid,
-        *order,
+        *command,
         admitted.source,
         admitted.destination,
         block,
@@ -67,23 +67,23 @@ fn admit(
     namespace: &Namespace,
     slots: &[Option<LoadedProgram>; PROGRAM_SLOTS],
     runs: &[Option<Active>; RUNS],
-    order: &RunCommand,
+    command: &RunCommand,
     input: &[u8],
 ) -> Result<Admitted, Status>
     requires { IsReady namespace.now slots.now runs.now }
-    ensures why { why_not result ≡ run_refusal namespace.now (held_by runs.now) (is_some (position is_none runs.now)) (loaded_slot (get_or slots.now order.now.slot None)) order.now input.now }
-    ensures admission { IfOk result (IsAdmission namespace.now slots.now runs.now order.now) }
+    ensures why { why_not result ≡ run_refusal namespace.now (held_by runs.now) (is_some (position is_none runs.now)) (loaded_slot (get_or slots.now command.now.slot None)) command.now input.now }
+    ensures admission { IfOk result (IsAdmission namespace.now slots.now runs.now command.now) }
 {
     check_transfer(0, 0, input)?;
-    let Some(loaded) = &slots[order.slot.index()] else {
+    let Some(loaded) = &slots[command.slot.index()] else {
         return Err(Status::NO_SUCH_PROGRAM);
     };
-    let (source, destination) = source_and_destination(namespace, order)?;
+    let (source, destination) = source_and_destination(namespace, command)?;
     let Some(run) = free_place(runs) else {
         return Err(Status::NO_RUN_FREE);
     };
-    check_source(namespace, source, order.blocks)?;
-    let blocks = blocks_needed(order.blocks.get(), loaded.prepared.verified().sizes());
+    check_source(namespace, source, command.blocks)?;
+    let blocks = blocks_needed(command.blocks.get(), loaded.prepared.verified().sizes());
     check_destination(namespace, &holds(runs), destination, blocks)?;
     Ok(Admitted {
         run,
@@ -95,13 +95,13 @@ fn admit(
 /// Where a run reads and appends: its first source block, and its destination.
 fn source_and_destination(
     namespace: &Namespace,
-    order: &RunCommand,
+    command: &RunCommand,
 ) -> Result<(ZoneBlock, u32), Status>
-    ensures why { why_not result ≡ first_failed (address_checks namespace.now order.now) }
-    ensures places { IfOk result (λ found. ArePlaces namespace.now order.now found.0 found.1) }
+    ensures why { why_not result ≡ first_failed (address_checks namespace.now command.now) }
+    ensures places { IfOk result (λ found. ArePlaces namespace.now command.now found.0 found.1) }
 {
-    let source = first_block(namespace.image(), order.lba, order.blocks)?;
-    let destination = lowest(namespace.image(), order.destination)?;
+    let source = first_block(namespace.image(), command.lba, command.blocks)?;
+    let destination = lowest(namespace.image(), command.destination)?;
     if source.zone == destination {
         return Err(Status::SOURCE_IS_DESTINATION);
     }

@@ -97,7 +97,7 @@ fn uses(run: &Option<Active>, slot: ProgramSlot) -> bool
     ensures { result ≡ uses_slot slot run.now }
 {
     match run {
-        Some(active) => active.order.slot == slot,
+        Some(active) => active.command.slot == slot,
         None => false,
     }
 }

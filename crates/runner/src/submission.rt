@@ -3,7 +3,7 @@
 ghost use Rattle.std.specs.Prelude.{◌≡◌, ◌≤◌, drop, length, take, List, Ok, Option};
 ghost use Rattle.program_interface.specs.Bytes.{AreBytes};
 ghost use Rattle.nvme_entry.specs.Entry.{decoded, identifier_of};
-ghost use Rattle.nvme_entry.specs.declared.command.Command.TheVariants as command;
+ghost use Rattle.nvme_entry.specs.declared.command.Command.TheVariants as commands;
 ghost use Rattle.device_events.specs.Replies.{data_length};
 ghost use Rattle.pushdown.specs.EventReplies.{plain};
 ghost use Rattle.runner.specs.steps.Answered.{HasExecuted, HasSubmitted, complete_reply, told_by};
@@ -102,7 +102,7 @@ fn perform(
             submission.reply_with(load(alloc, namespace, slots, runs, &command, input))
         }
         Command::Result(slot) => submission.reply_with(give_result(slots, slot, input, output)),
-        Command::Run(order) => run(namespace, slots, runs, &order, submission),
+        Command::Run(command) => run(namespace, slots, runs, &command, submission),
     }
 }
 
@@ -127,11 +127,11 @@ fn run(
     namespace: &Namespace,
     slots: &[Option<LoadedProgram>; PROGRAM_SLOTS],
     runs: &mut [Option<Active>; RUNS],
-    order: &RunCommand,
+    command: &RunCommand,
     submission: &Submission<'_>,
 ) -> Reply
     requires ready { IsReady namespace.now slots.now runs.old }
-    ensures submitted { HasSubmitted (told_by submission.now) (Ok (command.Run order.now)) (device_state namespace.now slots.now runs.old) (device_state namespace.now slots.now runs.new) (plain result) }
+    ensures submitted { HasSubmitted (told_by submission.now) (Ok (commands.Run command.now)) (device_state namespace.now slots.now runs.old) (device_state namespace.now slots.now runs.new) (plain result) }
     ensures no_data { data_length result ≡ 0 }
     ensures ready { IsReady namespace.now slots.now runs.new }
 {
@@ -142,7 +142,7 @@ fn run(
         runs,
         submission.queue,
         cid,
-        order,
+        command,
         submission.input,
     ) {
         Ok(run) => Reply::Pending { run },

@@ -55,13 +55,13 @@ fn run_next<V: TrapFree + Drop>(
     ensures within { result.group_length ≤ length group.new }
     ensures same { active.new ≡ with_scratch active.old (scratch_after (next_run namespace.now (V.code prepared.now) (V.limit prepared.now) (active_of active.old))) }
 {
-    let order = active.order;
+    let command = active.command;
     let context = Context {
-        lba: order.lba + u64::from(active.index),
+        lba: command.lba + u64::from(active.index),
         index: active.index,
-        count: order.blocks.get(),
+        count: command.blocks.get(),
         block: namespace.geometry().block(),
-        argument: order.argument,
+        argument: command.argument,
     };
     let block = source_block(namespace, active);
     run_block(
@@ -133,7 +133,7 @@ fn advance<V: TrapFree + Drop>(
     put(namespace, active, &group[..exit.group_length]);
     active.index += 1;
     active.frames += exit.frames as u32;
-    if exit.r0 == 0 && active.index < active.order.blocks.get() {
+    if exit.r0 == 0 && active.index < active.command.blocks.get() {
         return None;
     }
     finish(namespace, active);
@@ -179,7 +179,7 @@ fn turn_place(
     let Some(active) = place else {
         return Reply::Idle;
     };
-    let slot = active.order.slot.index();
+    let slot = active.command.slot.index();
     let Some(answer) = advance_by_slot(namespace, &mut slots[slot], active, group) else {
         return Reply::Pending { run };
     };

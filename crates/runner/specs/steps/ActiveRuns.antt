@@ -9,10 +9,10 @@ use Rattle.runner.specs.declared.active_run.Active.{Active as ActiveRun}
 
 -- a run before its first turn
 abbrev pub new_active : ℕ → ℕ → RunCommand → ZoneBlock → ℕ → ℕ → ActiveRun
-new_active queue cid order source destination block = record {
+new_active queue cid command source destination block = record {
   queue = queue;
   cid = cid;
-  order = order;
+  command = command;
   source = source;
   destination = destination;
   index = 0;

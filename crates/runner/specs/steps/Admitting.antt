@@ -8,23 +8,23 @@ use Rattle.runner.specs.declared.active_run.Active.{Active as ActiveRun}
 use Rattle.runner.specs.declared.admission.Admitted.{Admitted}
 use Rattle.runner.specs.declared.loaded_program.LoadedProgram.{LoadedProgram}
 
--- where an order reads and appends
-pub record ArePlaces (ns : ZonedNamespace) (order : RunCommand) (source : ZoneBlock) (destination : ℕ) : Type 0 where
-  pub reads : IsZoneBlock ns order.lba source
-  pub appends : IsZoneBlock ns order.destination (record { zone = destination; offset = 0 })
+-- where a Run reads and appends
+pub record ArePlaces (ns : ZonedNamespace) (command : RunCommand) (source : ZoneBlock) (destination : ℕ) : Type 0 where
+  pub reads : IsZoneBlock ns command.lba source
+  pub appends : IsZoneBlock ns command.destination (record { zone = destination; offset = 0 })
   pub other : source.zone ≢ destination
 
 -- the blocks are written
 abbrev pub AreWritten : ZonedNamespace → ZoneBlock → ℕ → Type 0
 AreWritten ns first blocks = first.offset + blocks ≤ length (zone_at ns first.zone).blocks
 
--- what an admitted run is given, of its order
-pub record IsAdmission (ns : ZonedNamespace) (slots : List (Option LoadedProgram)) (runs : List (Option ActiveRun)) (order : RunCommand) (admitted : Admitted)
+-- what an admitted run is given, of its command
+pub record IsAdmission (ns : ZonedNamespace) (slots : List (Option LoadedProgram)) (runs : List (Option ActiveRun)) (command : RunCommand) (admitted : Admitted)
     : Type 0 where
   pub free : position is_none runs ≡ Some admitted.run
-  pub loaded : is_some (get_or slots order.slot None) ≡ true
-  pub some : 1 ≤ order.blocks
-  pub most : order.blocks ≤ 65536
-  pub places : ArePlaces ns order admitted.source admitted.destination
-  pub written : AreWritten ns admitted.source order.blocks
-  pub small : admitted.source.offset + order.blocks < 2 ^ 32
+  pub loaded : is_some (get_or slots command.slot None) ≡ true
+  pub some : 1 ≤ command.blocks
+  pub most : command.blocks ≤ 65536
+  pub places : ArePlaces ns command admitted.source admitted.destination
+  pub written : AreWritten ns admitted.source command.blocks
+  pub small : admitted.source.offset + command.blocks < 2 ^ 32

@@ -61,17 +61,17 @@ GivesResult slot input s answer bytes =
 
 -- a Run was admitted with a number
 abbrev pub Starts : RunCommand → ℕ → ℕ → List ℕ → State → State → ℕ → Type 0
-Starts order queue cid input old new run =
+Starts command queue cid input old new run =
     (entry : List ℕ) → identifier_of entry ≡ cid
     → let sub : Submission = record { queue = queue; entry = entry; input = input } in
-    starting sub old order ≡ record { reply = plain (reply.Pending run); state = new }
+    starting sub old command ≡ record { reply = plain (reply.Pending run); state = new }
 
 -- no run is started, for this reason
 abbrev pub Refuses : RunCommand → List ℕ → State → Status → Type 0
-Refuses order input s status =
+Refuses command input s status =
     (queue : ℕ) (entry : List ℕ)
     → let sub : Submission = record { queue = queue; entry = entry; input = input } in
-    starting sub s order ≡ refused sub status s
+    starting sub s command ≡ refused sub status s
 
 -- an entry that asks for this led from one state to the other, with this reply
 pub record HasSubmitted (sub : Submission) (asked : Result Command Status) (old new : State) (given : ReplyWithData) : Type 0 where

@@ -18,7 +18,7 @@ use Rattle.runner.specs.declared.active_run.Active.{Active as ActiveRun}
 -- does an active run use the program of a slot?
 abbrev pub uses_slot : ℕ → Option ActiveRun → Bool
 uses_slot slot None = false
-uses_slot slot (Some a) = a.order.slot == slot
+uses_slot slot (Some a) = a.command.slot == slot
 
 -- they spell a program that is accepted, and kept with the sizes that it is accepted for
 pub record IsAccepted (bytes : List ℕ) (sizes : Sizes) (program : List (Option Instruction)) (kept : Sizes) : Type 0 where

@@ -29,10 +29,10 @@ with_packer a packer more = record a { packer = packer; appended = a.appended + 
 
 -- the block that a run reads next, and its program on it
 abbrev pub next_block : ZonedNamespace → Active → List ℕ
-next_block ns a = get_or (zone_at ns (zone_number ns a.order.lba)).blocks (a.order.lba % ns.size + a.so_far.index) []
+next_block ns a = get_or (zone_at ns (zone_number ns a.command.lba)).blocks (a.command.lba % ns.size + a.so_far.index) []
 
 abbrev pub next_run : ZonedNamespace → List (Option Instruction) → ℕ → Active → BlockRun
-next_run ns program limit a = block_run (task_by ns program limit a.order) a.so_far.index a.so_far.scratch (next_block ns a)
+next_run ns program limit a = block_run (task_by ns program limit a.command) a.so_far.index a.so_far.scratch (next_block ns a)
 
 -- a zone that takes so many blocks more
 pub record IsTaking (ns : ZonedNamespace) (z n : ℕ) : Type 0 where
@@ -75,7 +75,7 @@ Turned old new program limit a b (Some answer) = HasEnded old new program limit 
 pub record Keeps (a b : ActiveRun) : Type 0 where
   pub queue : b.queue ≡ a.queue
   pub cid : b.cid ≡ a.cid
-  pub order : b.order ≡ a.order
+  pub command : b.command ≡ a.command
 
 -- a run that fits, with the program of its slot
 abbrev pub FitsIn : ZonedNamespace → Option LoadedProgram → ActiveRun → Type 0
@@ -93,7 +93,7 @@ SlotTurned old new _ _ a b answer = ⊥
 -- a place at which no run is, or one that fits
 abbrev pub FitsAt : ZonedNamespace → List (Option LoadedProgram) → Option ActiveRun → Type 0
 FitsAt ns slots None = Unit {0}
-FitsAt ns slots (Some a) = FitsIn ns (get_or slots a.order.slot None) a
+FitsAt ns slots (Some a) = FitsIn ns (get_or slots a.command.slot None) a
 
 -- what a turn in a state comes to
 pub record IsTurned (s : State) (run : ℕ) (ns : ZonedNamespace) (slots : List (Option LoadedProgram)) (runs : List (Option ActiveRun)) (given : Reply) : Type 0 where

@@ -9,12 +9,12 @@ use Rattle.runner.proofs.admission.admit.Goals as goal
 
 pub returns-in_err-check_destination-clause-why : goal.returns-in_err-check_destination-clause-why
 returns-in_err-check_destination-clause-why c =
-    let order = c.args.order.now in
+    let command = c.args.command.now in
     let inside : c.index.result < length c.args.slots.now = omega arith in
-    let at = read_at c.args.slots.now c.index.result order.slot c.index-slots-index.result c.in-Some.loaded c.index.ensures.value inside c.in-Some.is in
+    let at = read_at c.args.slots.now c.index.result command.slot c.index-slots-index.result c.in-Some.loaded c.index.ensures.value inside c.in-Some.is in
     let sizes = rw c.verified.ensures at c.sizes.ensures in
     let enough = c.blocks_needed-blocks.ensures ∙ ap (need c.get.result) sizes ∙ ap (λ (n : ℕ). need n (sizes_of c.in-Some.loaded.prepared)) c.get.ensures.value in
-    let decides = destination_decides c.args.namespace.now c.args.slots.now c.args.runs.now order c.args.input.now c.in-Some.loaded c.in_ok-source.source
+    let decides = destination_decides c.args.namespace.now c.args.slots.now c.args.runs.now command c.args.input.now c.in-Some.loaded c.in_ok-source.source
     c.in_ok-source.destination c.in-Some-free_place.run' c.blocks_needed-blocks.result c.holds.result c.requires (sym (ap (λ (n : ℕ). n == 0) c.in_ok-check_transfer.ensures.whole)) at c.in_ok-source.ensures.places
     c.in_ok-source.ensures.why c.in-Some-free_place.ensures c.in_ok-check_source.ensures.why c.holds.ensures enough in
     let p = err_from_is_err_and c.from_residual-in_err-check_destination.result c.from_residual-in_err-check_destination.ensures.1 in
@@ -22,21 +22,21 @@ returns-in_err-check_destination-clause-why c =
 
 pub returns-clause-why : goal.returns-clause-why
 returns-clause-why c =
-    let order = c.args.order.now in
+    let command = c.args.command.now in
     let inside : c.index.result < length c.args.slots.now = omega arith in
-    let at = read_at c.args.slots.now c.index.result order.slot c.index-slots-index.result c.in-Some.loaded c.index.ensures.value inside c.in-Some.is in
+    let at = read_at c.args.slots.now c.index.result command.slot c.index-slots-index.result c.in-Some.loaded c.index.ensures.value inside c.in-Some.is in
     let sizes = rw c.verified.ensures at c.sizes.ensures in
     let enough = c.blocks_needed-blocks.ensures ∙ ap (need c.get.result) sizes ∙ ap (λ (n : ℕ). need n (sizes_of c.in-Some.loaded.prepared)) c.get.ensures.value in
-    let decides = destination_decides c.args.namespace.now c.args.slots.now c.args.runs.now order c.args.input.now c.in-Some.loaded c.in_ok-source.source
+    let decides = destination_decides c.args.namespace.now c.args.slots.now c.args.runs.now command c.args.input.now c.in-Some.loaded c.in_ok-source.source
     c.in_ok-source.destination c.in-Some-free_place.run' c.blocks_needed-blocks.result c.holds.result c.requires (sym (ap (λ (n : ℕ). n == 0) c.in_ok-check_transfer.ensures.whole)) at c.in_ok-source.ensures.places
     c.in_ok-source.ensures.why c.in-Some-free_place.ensures c.in_ok-check_source.ensures.why c.holds.ensures enough in
     c.in_ok-check_destination.ensures ∙ decides
 
 pub returns-clause-admission : goal.returns-clause-admission
 returns-clause-admission c =
-    let order = c.args.order.now in
+    let command = c.args.command.now in
     let inside : c.index.result < length c.args.slots.now = omega arith in
-    let at = read_at c.args.slots.now c.index.result order.slot c.index-slots-index.result c.in-Some.loaded c.index.ensures.value inside c.in-Some.is in
+    let at = read_at c.args.slots.now c.index.result command.slot c.index-slots-index.result c.in-Some.loaded c.index.ensures.value inside c.in-Some.is in
     record {
       free = sym c.in-Some-free_place.ensures;
       loaded = ap is_some at;

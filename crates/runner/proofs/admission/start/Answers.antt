@@ -10,12 +10,12 @@ pub returns-in_err-admitted-clause-err : goal.returns-in_err-admitted-clause-err
 returns-in_err-admitted-clause-err c =
     let p = err_from_is_err_and c.from_residual.result c.from_residual.ensures.1 in
     rw (p.1, p.2)
-    (refuses c.args.namespace.now c.args.slots.now c.args.runs.now c.args.order.now c.args.input.now c.in_err-admitted.field-0.0 c.requires.ready c.in_err-admitted.ensures.why)
+    (refuses c.args.namespace.now c.args.slots.now c.args.runs.now c.args.command.now c.args.input.now c.in_err-admitted.field-0.0 c.requires.ready c.in_err-admitted.ensures.why)
 
 pub returns-clause-ok : goal.returns-clause-ok
 returns-clause-ok c =
     rw (c.from.ensures, c.new.ensures)
-    (starts c.args.namespace.now c.args.slots.now c.args.runs.now c.args.order.now c.args.queue c.args.cid c.block-block.result c.in_ok-admitted.admitted c.args.input.now
+    (starts c.args.namespace.now c.args.slots.now c.args.runs.now c.args.command.now c.args.queue c.args.cid c.block-block.result c.in_ok-admitted.admitted c.args.input.now
     c.requires.ready c.in_ok-admitted.ensures.admission.free c.in_ok-admitted.ensures.why)
 
 pub returns-clause-ready : goal.returns-clause-ready
@@ -26,5 +26,5 @@ returns-clause-ready c =
     let inside : c.in_ok-admitted.admitted.run < length runs = (position-Some is_none runs c.in_ok-admitted.admitted.run None c.in_ok-admitted.ensures.admission.free).0 in
     rw (c.from.ensures, c.new.ensures)
     (still_ready ns c.args.slots.now runs c.in_ok-admitted.admitted.run _ c.requires.ready
-    (is_running ns c.args.slots.now runs c.args.order.now c.args.queue c.args.cid c.block-block.result c.in_ok-admitted.admitted c.requires.ready c.in_ok-admitted.ensures.admission block)
+    (is_running ns c.args.slots.now runs c.args.command.now c.args.queue c.args.cid c.block-block.result c.in_ok-admitted.admitted c.requires.ready c.in_ok-admitted.ensures.admission block)
     inside)

@@ -18,7 +18,7 @@ returns-then-active-get-clause-turn g c =
 
 pub finish-requires-clause-room : goal.finish-requires-clause-room
 finish-requires-clause-room g c =
-    let over : (c.run_next-exit.result.r0 ≢ 0) ⊎ (c.put.new.active.order.blocks ≤ c.put.new.active.index + 1) = elim c.else-exit-eq0.branch [
+    let over : (c.run_next-exit.result.r0 ≢ 0) ⊎ (c.put.new.active.command.blocks ≤ c.put.new.active.index + 1) = elim c.else-exit-eq0.branch [
       | else-exit-eq0-via-then-exit-eq0+else-active-get w ↦ inr (omega (arith, w.get.ensures.value, w.if-active-get.false))
       | else-exit-eq0-via-else-exit-eq0 w ↦ inl w.if-exit-eq0.false
     ] in
@@ -28,7 +28,7 @@ finish-requires-clause-room g c =
 
 pub returns-clause-turn : goal.returns-clause-turn
 returns-clause-turn g c =
-    let over : (c.run_next-exit.result.r0 ≢ 0) ⊎ (c.put.new.active.order.blocks ≤ c.put.new.active.index + 1) = elim c.else-exit-eq0.branch [
+    let over : (c.run_next-exit.result.r0 ≢ 0) ⊎ (c.put.new.active.command.blocks ≤ c.put.new.active.index + 1) = elim c.else-exit-eq0.branch [
       | else-exit-eq0-via-then-exit-eq0+else-active-get w ↦ inr (omega (arith, w.get.ensures.value, w.if-active-get.false))
       | else-exit-eq0-via-else-exit-eq0 w ↦ inl w.if-exit-eq0.false
     ] in
