@@ -39,8 +39,8 @@ module _ {D : Type 0} (operations : Operations D) where
 
 -- these are the occurrences of some events: memory may be refused to each, and only where it really is, which
 -- no definition can say
-abbrev pub AreOf : List Event → List Occurrence → Type 0
-AreOf events occurrences = map (λ o. o.event) occurrences ≡ events
+abbrev pub AreOccurrencesOf : List Event → List Occurrence → Type 0
+AreOccurrencesOf events occurrences = map (λ o. o.event) occurrences ≡ events
 
 module _ {D : Type 0} (operations : Operations D) where
   -- one event led from one state to the other, with this reply
@@ -52,7 +52,7 @@ module _ {D : Type 0} (operations : Operations D) where
   -- events were done; `took` says of their replies that they were taken
   pub record HasServed (events : List Event) (old new : State) (took : List ReplyWithData → Type 0) : Type 0 where
     pub occurrences : List Occurrence
-    pub are : AreOf events occurrences
+    pub are : AreOccurrencesOf events occurrences
     pub state : new ≡ state_after operations occurrences old
     pub replies : took (replies_to operations occurrences old)
 
@@ -61,6 +61,6 @@ module _ {D : Type 0} (operations : Operations D) where
     pub some : 1 ≤ done
     pub within : done ≤ length events
     pub occurrences : List Occurrence
-    pub are : AreOf (take done events) occurrences
+    pub are : AreOccurrencesOf (take done events) occurrences
     pub state : new ≡ state_after operations occurrences old
     pub replies : took (replies_to operations (take (done - 1) occurrences) old)

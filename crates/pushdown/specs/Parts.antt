@@ -3,7 +3,7 @@ use Rattle.std.specs.Prelude.{ℕ, false, ◌≡◌, List, ◌++◌, length, map
 use Rattle.word_domain.specs.Domain.{Operations}
 use Rattle.device_events.specs.Replies.{ReplyWithData}
 use Rattle.pushdown.specs.Draining.{Drains, HasDrained, lowest_run, replies_to_turns, state_after_turns}
-use Rattle.pushdown.specs.Events.{AreEvents, AreOf, HasServed, Occurrence, replies_to, state_after}
+use Rattle.pushdown.specs.Events.{AreEvents, AreOccurrencesOf, HasServed, Occurrence, replies_to, state_after}
 use Rattle.pushdown.specs.State.{State}
 use Rattle.device_events.specs.declared.event.Event.{Event}
 use Rattle.device_events.specs.declared.event.Event.TheVariants as event
@@ -32,7 +32,7 @@ module _ {D : Type 0} (operations : Operations D) where
   -- replies to both, in order, that they were taken
   pub record HasFinished (events : List Event) (old new : State) (took : List ReplyWithData → Type 0) : Type 0 where
     pub occurrences : List Occurrence
-    pub are : AreOf events occurrences
+    pub are : AreOccurrencesOf events occurrences
     pub runs : List ℕ
     pub drains : Drains (state_after operations occurrences old) runs
     pub state : new ≡ state_after operations (occurrences ++ turn_events runs) old

@@ -20,7 +20,7 @@ use Rattle.runner.specs.steps.Admitting.{ArePlaces}
 use Rattle.runner.specs.DeviceState.{loaded_slot, device_state}
 use Rattle.runner.specs.steps.ActiveRuns.{held_by}
 use Rattle.runner.specs.Ready.{IsReady}
-use Rattle.runner.specs.declared.active_run.Active.{Active as ActiveRun}
+use Rattle.runner.specs.declared.active_run.ActiveRun.{ActiveRun}
 use Rattle.runner.specs.declared.loaded_program.LoadedProgram.{LoadedProgram}
 use Rattle.runner.proofs.Checked.{joined}
 use Rattle.runner.proofs.Holding.{holds_are}

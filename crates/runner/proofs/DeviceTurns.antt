@@ -26,10 +26,10 @@ use Rattle.device_events.specs.declared.reply.Reply.TheVariants as reply
 use Rattle.pushdown.proofs.Proved.{events_keep_for_runs}
 use Rattle.runner.specs.steps.Answered.{complete_reply}
 use Rattle.runner.specs.DeviceState.{active_of, loaded_slot, loaded_of, running, device_state}
-use Rattle.runner.specs.Ready.{Fits, IsFor, IsReady, IsRunning}
+use Rattle.runner.specs.Ready.{Fits, IsForBlocks, IsReady, IsRunning}
 use Rattle.pushdown.specs.Reached.{IsReached}
 use Rattle.runner.specs.steps.Turning.{FitsAt, FitsIn, FitsOn, GoesOn, HasEnded, IsTurned, Keeps, SlotTurned}
-use Rattle.runner.specs.declared.active_run.Active.{Active as ActiveRun}
+use Rattle.runner.specs.declared.active_run.ActiveRun.{ActiveRun}
 use Rattle.runner.specs.declared.loaded_program.LoadedProgram.{LoadedProgram}
 use Rattle.runner.proofs.MayBeThere.{Where, found, still_some, was_set}
 use Rattle.runner.proofs.Reached.{reached_is_sound}
@@ -58,7 +58,7 @@ module _ (ns : ZonedNamespace) (slots : List (Option LoadedProgram)) (runs : Lis
   fits : Fits ns a
   fits = (ready.running k a at).fits
 
-  accepted : IsFor ns p
+  accepted : IsForBlocks ns p
   accepted = ready.programs a.command.slot p loaded
 
   slot_is : get_or (map loaded_slot slots) a.command.slot None ≡ Some (loaded_of p)
@@ -128,9 +128,9 @@ module _ (ns : ZonedNamespace) (slots : List (Option LoadedProgram)) (runs : Lis
           (keeps j b there).program;
     }
 
-    still_for : (i : ℕ) (x : LoadedProgram) → get_or slots' i None ≡ Some x → IsFor new x
+    still_for : (i : ℕ) (x : LoadedProgram) → get_or slots' i None ≡ Some x → IsForBlocks new x
     still_for i x there = elim (was_set slots a.command.slot i (Some q) x there) [
-      | inl is ↦ subst (Where (IsFor new)) is (ap (λ v. (sizes_of v).block) same ∙ accepted ∙ same_block)
+      | inl is ↦ subst (Where (IsForBlocks new)) is (ap (λ v. (sizes_of v).block) same ∙ accepted ∙ same_block)
       | inr was ↦ ready.programs i x was ∙ same_block
     ]
 

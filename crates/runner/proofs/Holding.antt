@@ -9,7 +9,7 @@ use Rattle.pushdown.specs.View.{seen}
 use Rattle.runner.specs.DeviceState.{loaded_slot, running, device_state}
 use Rattle.runner.specs.steps.ActiveRuns.{destination_held, held_by, source_held}
 use Rattle.runner.specs.Ready.{Fits, IsReady}
-use Rattle.runner.specs.declared.active_run.Active.{Active as ActiveRun}
+use Rattle.runner.specs.declared.active_run.ActiveRun.{ActiveRun}
 use Rattle.runner.specs.declared.loaded_program.LoadedProgram.{LoadedProgram}
 
 abbrev AllFit : ZonedNamespace → List (Option ActiveRun) → Type 0

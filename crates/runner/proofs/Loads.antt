@@ -25,8 +25,8 @@ use Rattle.pushdown.specs.View.{Active, place_of, seen, to_come}
 use Rattle.runner.specs.steps.Answered.{HasLoaded}
 use Rattle.runner.specs.DeviceState.{loaded_slot, running, device_state}
 use Rattle.runner.specs.steps.Loading.{IsLoadable, IsNotAccepted, uses_slot}
-use Rattle.runner.specs.Ready.{IsFor, IsReady}
-use Rattle.runner.specs.declared.active_run.Active.{Active as ActiveRun}
+use Rattle.runner.specs.Ready.{IsForBlocks, IsReady}
+use Rattle.runner.specs.declared.active_run.ActiveRun.{ActiveRun}
 use Rattle.runner.specs.declared.loaded_program.LoadedProgram.{LoadedProgram}
 
 -- ---- which slots are used
@@ -118,7 +118,7 @@ module _ (ns : ZonedNamespace) (slots : List (Option LoadedProgram)) (runs : Lis
           let here : get_or (set slots load.slot (Some new)) k None ≡ Some new =
           ap (λ (n : ℕ). get_or (set slots load.slot (Some new)) n None) same.1 ∙ get_or-set_same slots load.slot (Some new) None inside in
           let this : new ≡ p = cc in
-          subst (IsFor ns) this (ap (λ (sizes : Sizes). sizes.block) loadable.accepted.kept_is)
+          subst (IsForBlocks ns) this (ap (λ (sizes : Sizes). sizes.block) loadable.accepted.kept_is)
       | inr other ↦ ready.programs k p (sym (get_or-set_other slots load.slot k (Some new) None other.1) ∙ at)
     ];
     running = λ k a at.

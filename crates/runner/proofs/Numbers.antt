@@ -9,7 +9,7 @@ use Rattle.pushdown.specs.Draining.{lowest_run}
 use Rattle.pushdown.specs.State.{free_place}
 use Rattle.pushdown.specs.View.{Active, seen}
 use Rattle.runner.specs.DeviceState.{loaded_slot, running, device_state}
-use Rattle.runner.specs.declared.active_run.Active.{Active as ActiveRun}
+use Rattle.runner.specs.declared.active_run.ActiveRun.{ActiveRun}
 use Rattle.runner.specs.declared.loaded_program.LoadedProgram.{LoadedProgram}
 
 -- the first that passes is at the same index in a mapped list, for tests that are the same

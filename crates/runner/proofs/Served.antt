@@ -3,7 +3,7 @@ use Rattle.std.proofs.Common.{◌≡◌, ℕ, ◌+◌, ◌-◌, ◌<◌, List, [
 use Rattle.std.proofs.lemmas.List.{length-map, length-take-le, map_push, take_at, take_more}
 use Rattle.interval_domain.specs.Intervals.{intervals}
 use Rattle.device_events.specs.Replies.{Joins, ReplyWithData, data_length}
-use Rattle.pushdown.specs.Events.{AreOf, HasHappened, HasServed, HasStopped, Occurrence, replies_to, state_after}
+use Rattle.pushdown.specs.Events.{AreOccurrencesOf, HasHappened, HasServed, HasStopped, Occurrence, replies_to, state_after}
 use Rattle.pushdown.specs.Happenings.{happens}
 use Rattle.pushdown.specs.State.{State}
 use Rattle.device_events.specs.declared.event.Event.{Event}
@@ -19,8 +19,8 @@ with_data r n xs count =
 -- ---- the event at `i` happened, after those before it
 
 module _ (es : List Event) (i : ℕ) (e : Event) (old now new : State) (reply : ReplyWithData) where
-  are_more : (os : List Occurrence) (o : Occurrence) → i < length es → e ≡ get_or es i e → o.event ≡ e → AreOf (take i es) os
-      → AreOf (take (i + 1) es) (os ++ o ∷ [])
+  are_more : (os : List Occurrence) (o : Occurrence) → i < length es → e ≡ get_or es i e → o.event ≡ e → AreOccurrencesOf (take i es) os
+      → AreOccurrencesOf (take (i + 1) es) (os ++ o ∷ [])
   are_more os o within item is are =
       map_push (λ (x : Occurrence). x.event) os o
       ∙ ap (λ (xs : List Event). xs ++ o.event ∷ []) are

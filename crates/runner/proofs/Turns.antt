@@ -26,7 +26,7 @@ use Rattle.pushdown.proofs.Proved.{blocks_leave_others, rest_ends, rest_goes_on,
 use Rattle.runner.specs.DeviceState.{active_of}
 use Rattle.runner.specs.steps.Ran.{HasRun}
 use Rattle.runner.specs.steps.Turning.{FitsOn, GoesOn, HasEnded, HasRoom, next_block, next_run, with_packer, with_scratch}
-use Rattle.runner.specs.declared.active_run.Active.{Active as ActiveRun}
+use Rattle.runner.specs.declared.active_run.ActiveRun.{ActiveRun}
 use Rattle.runner.proofs.Appends.{added_both}
 
 lt_or_le : (a b : ℕ) → (a < b) ⊎ (b ≤ a)

@@ -5,7 +5,7 @@ use Rattle.verifier.specs.Verified.{program_of, sizes_of}
 use Rattle.pushdown.specs.Admission.{Loaded}
 use Rattle.pushdown.specs.State.{State}
 use Rattle.pushdown.specs.View.{Active, view_of}
-use Rattle.runner.specs.declared.active_run.Active.{Active as ActiveRun}
+use Rattle.runner.specs.declared.active_run.ActiveRun.{ActiveRun}
 use Rattle.runner.specs.declared.loaded_program.LoadedProgram.{LoadedProgram}
 
 -- an active run; where its blocks lie is found again

@@ -7,7 +7,7 @@ use Rattle.image_store.specs.Namespace.{ZonedNamespace, zone_at}
 use Rattle.zns_commands.specs.Address.{zone_number, zone_block_in}
 use Rattle.pushdown.specs.Reached.{IsReached}
 use Rattle.runner.specs.DeviceState.{device_state}
-use Rattle.runner.specs.declared.active_run.Active.{Active as ActiveRun}
+use Rattle.runner.specs.declared.active_run.ActiveRun.{ActiveRun}
 use Rattle.runner.specs.declared.loaded_program.LoadedProgram.{LoadedProgram}
 
 -- what holds of each active run, whatever its program
@@ -25,19 +25,19 @@ pub record Fits (ns : ZonedNamespace) (a : ActiveRun) : Type 0 where
   pub appended : a.appended ≤ a.index
 
 -- a program was accepted for the blocks of the namespace
-abbrev pub IsFor : ZonedNamespace → LoadedProgram → Type 0
-IsFor ns p = (sizes_of p.prepared).block ≡ ns.block
+abbrev pub IsForBlocks : ZonedNamespace → LoadedProgram → Type 0
+IsForBlocks ns p = (sizes_of p.prepared).block ≡ ns.block
 
 -- an active run, and the program in its slot
 pub record IsRunning (ns : ZonedNamespace) (slots : List (Option LoadedProgram)) (a : ActiveRun) : Type 0 where
   pub program : LoadedProgram
   pub loaded : get_or slots a.command.slot None ≡ Some program
-  pub accepted : IsFor ns program
+  pub accepted : IsForBlocks ns program
   pub fits : Fits ns a
 
 -- the programs of the slots are for the namespace's blocks, and each active run can go on
 pub record IsReady (ns : ZonedNamespace) (slots : List (Option LoadedProgram)) (runs : List (Option ActiveRun)) : Type 0 where
-  pub programs : (k : ℕ) (p : LoadedProgram) → get_or slots k None ≡ Some p → IsFor ns p
+  pub programs : (k : ℕ) (p : LoadedProgram) → get_or slots k None ≡ Some p → IsForBlocks ns p
   pub running : (k : ℕ) (a : ActiveRun) → get_or runs k None ≡ Some a → IsRunning ns slots a
 
 -- what holds of each device that there is: events led to its state

@@ -10,7 +10,7 @@ use program_interface::{BlockSize, SCRATCH_BYTES};
 
 /// A run between two of its turns.
 #[derive(Drop)]
-pub struct Active {
+pub struct ActiveRun {
     /// The queue that its completion goes to.
     pub queue: u16,
     /// The command identifier that its completion repeats.
@@ -33,7 +33,7 @@ pub struct Active {
     pub appended: u32,
 }
 
-impl Active {
+impl ActiveRun {
     /// A run before its first turn. Its 17 KiB, most of them the pending block's, are then moved to its place,
     /// which costs once for each run.
     pub fn new(
@@ -43,10 +43,10 @@ impl Active {
         source: ZoneBlock,
         destination: u32,
         block: BlockSize,
-    ) -> Active
+    ) -> ActiveRun
         ensures { result ≡ new_active queue cid command source destination block }
     {
-        Active {
+        ActiveRun {
             queue,
             cid,
             command,

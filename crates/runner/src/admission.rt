@@ -10,7 +10,7 @@ ghost use Rattle.runner.specs.steps.ActiveRuns.{held_by};
 ghost use Rattle.runner.specs.Ready.{IsReady};
 ghost use Rattle.zns_commands.specs.Resources.{why_not};
 
-use crate::active_run::Active;
+use crate::active_run::ActiveRun;
 use crate::loaded_program::LoadedProgram;
 use crate::places::{free_place, holds};
 use emit_append::blocks_needed;
@@ -37,7 +37,7 @@ struct Admitted {
 pub fn start(
     namespace: &Namespace,
     slots: &[Option<LoadedProgram>; PROGRAM_SLOTS],
-    runs: &mut [Option<Active>; RUNS],
+    runs: &mut [Option<ActiveRun>; RUNS],
     queue: u16,
     cid: u16,
     command: &RunCommand,
@@ -51,7 +51,7 @@ pub fn start(
 {
     let admitted = admit(namespace, slots, runs, command, input)?;
     let block = namespace.geometry().block();
-    runs[usize::from(admitted.run)] = Some(Active::new(
+    runs[usize::from(admitted.run)] = Some(ActiveRun::new(
         queue,
         cid,
         *command,
@@ -66,7 +66,7 @@ pub fn start(
 fn admit(
     namespace: &Namespace,
     slots: &[Option<LoadedProgram>; PROGRAM_SLOTS],
-    runs: &[Option<Active>; RUNS],
+    runs: &[Option<ActiveRun>; RUNS],
     command: &RunCommand,
     input: &[u8],
 ) -> Result<Admitted, Status>

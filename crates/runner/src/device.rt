@@ -12,7 +12,7 @@ ghost use Rattle.pushdown.specs.Reached.{IsReached};
 ghost use Rattle.device_events.specs.Refusals.{CountsRefusals};
 ghost use Rattle.runner.specs.steps.ServedOne.{HasServedOne};
 
-use crate::active_run::Active;
+use crate::active_run::ActiveRun;
 use crate::loaded_program::LoadedProgram;
 use crate::places;
 use crate::places::holds;
@@ -40,7 +40,7 @@ pub struct Device {
     alloc: Global,
     namespace: Namespace,
     slots: [Option<LoadedProgram>; PROGRAM_SLOTS],
-    runs: [Option<Active>; RUNS],
+    runs: [Option<ActiveRun>; RUNS],
     /// Where a turn's program emits to.
     group: [u8; LARGEST_BLOCK],
 }

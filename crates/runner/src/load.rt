@@ -11,7 +11,7 @@ ghost use Rattle.runner.specs.Ready.{IsReady};
 ghost use Rattle.verifier.specs.Verified.{program_of, sizes_of};
 ghost use Rattle.zns_commands.specs.Resources.{why_not};
 
-use crate::active_run::Active;
+use crate::active_run::ActiveRun;
 use crate::loaded_program::LoadedProgram;
 use ebpf_decode::{DecodeFault, decode};
 use interval_domain::Intervals;
@@ -28,7 +28,7 @@ pub fn load(
     alloc: Global,
     namespace: &Namespace,
     slots: &mut [Option<LoadedProgram>; PROGRAM_SLOTS],
-    runs: &[Option<Active>; RUNS],
+    runs: &[Option<ActiveRun>; RUNS],
     command: &LoadCommand,
     input: &[u8],
 ) -> Answer
@@ -50,7 +50,7 @@ pub fn load(
 fn try_load(
     alloc: Global,
     namespace: &Namespace,
-    runs: &[Option<Active>; RUNS],
+    runs: &[Option<ActiveRun>; RUNS],
     command: &LoadCommand,
     input: &[u8],
 ) -> Result<Prepared<Verified<Intervals>>, Answer>
@@ -67,7 +67,7 @@ fn try_load(
 /// The sizes of the runs that a Load asks for, or the status that refuses it.
 fn check_load(
     namespace: &Namespace,
-    runs: &[Option<Active>; RUNS],
+    runs: &[Option<ActiveRun>; RUNS],
     command: &LoadCommand,
     input: &[u8],
 ) -> Result<RunSizes, Status>
@@ -86,14 +86,14 @@ fn check_load(
 }
 
 /// Does an active run use the program of a slot?
-fn is_used(runs: &[Option<Active>; RUNS], slot: ProgramSlot) -> bool
+fn is_used(runs: &[Option<ActiveRun>; RUNS], slot: ProgramSlot) -> bool
     ensures { result ≡ list_any (uses_slot slot) runs.now }
 {
     runs.iter().any(|run| uses(run, slot))
 }
 
 /// Does the run at a place use it?
-fn uses(run: &Option<Active>, slot: ProgramSlot) -> bool
+fn uses(run: &Option<ActiveRun>, slot: ProgramSlot) -> bool
     ensures { result ≡ uses_slot slot run.now }
 {
     match run {

@@ -3,12 +3,12 @@
 ghost use Rattle.std.specs.Prelude.{◌≡◌, is_none, is_some, length, position};
 ghost use Rattle.runner.specs.steps.ActiveRuns.{destination_held, held_by, source_held};
 
-use crate::active_run::Active;
+use crate::active_run::ActiveRun;
 use zns_commands::Holds;
 use zone_resources::RUNS;
 
 /// The lowest number that an active run has.
-pub fn lowest_run(runs: &[Option<Active>; RUNS]) -> Option<u8>
+pub fn lowest_run(runs: &[Option<ActiveRun>; RUNS]) -> Option<u8>
     ensures lowest { result ≡ position is_some runs.now }
     ensures size { length runs.now ≡ RUNS }
 {
@@ -17,7 +17,7 @@ pub fn lowest_run(runs: &[Option<Active>; RUNS]) -> Option<u8>
 }
 
 /// The number of the lowest place that is free.
-pub fn free_place(runs: &[Option<Active>; RUNS]) -> Option<u8>
+pub fn free_place(runs: &[Option<ActiveRun>; RUNS]) -> Option<u8>
     ensures { result ≡ position is_none runs.now }
 {
     let run = runs.iter().position(|run| run.is_none())?;
@@ -25,7 +25,7 @@ pub fn free_place(runs: &[Option<Active>; RUNS]) -> Option<u8>
 }
 
 /// The zones that the active runs read from and append to.
-pub fn holds(runs: &[Option<Active>; RUNS]) -> Holds
+pub fn holds(runs: &[Option<ActiveRun>; RUNS]) -> Holds
     ensures { result ≡ held_by runs.now }
 {
     let mut sources = [None; RUNS];
@@ -41,7 +41,7 @@ pub fn holds(runs: &[Option<Active>; RUNS]) -> Holds
 }
 
 /// The number of the zone that a place's run reads from.
-fn source(run: &Option<Active>) -> Option<u32>
+fn source(run: &Option<ActiveRun>) -> Option<u32>
     ensures { result ≡ source_held run.now }
 {
     match run {
@@ -51,7 +51,7 @@ fn source(run: &Option<Active>) -> Option<u32>
 }
 
 /// The number of the zone that a place's run appends to.
-fn destination(run: &Option<Active>) -> Option<u32>
+fn destination(run: &Option<ActiveRun>) -> Option<u32>
     ensures { result ≡ destination_held run.now }
 {
     match run {

@@ -4,7 +4,7 @@ ghost use Rattle.std.specs.Prelude.{◌≡◌, ◌≤◌, ◌++◌, drop, length
 ghost use Rattle.image_store.specs.Namespace.{ZonedNamespace};
 ghost use Rattle.runner.specs.steps.Answered.{GivesResult};
 ghost use Rattle.runner.specs.DeviceState.{device_state};
-ghost use Rattle.runner.specs.declared.active_run.Active.{Active as ActiveRun};
+ghost use Rattle.runner.specs.declared.active_run.ActiveRun.{ActiveRun};
 
 use crate::loaded_program::LoadedProgram;
 use nvme_entry::{PROGRAM_SLOTS, ProgramSlot, Status};

@@ -10,7 +10,7 @@ ghost use Rattle.runner.specs.steps.Answered.{HasExecuted, HasSubmitted, complet
 ghost use Rattle.runner.specs.DeviceState.{device_state};
 ghost use Rattle.runner.specs.Ready.{IsReady};
 
-use crate::active_run::Active;
+use crate::active_run::ActiveRun;
 use crate::admission::start;
 use crate::completion::complete;
 use crate::load::load;
@@ -59,7 +59,7 @@ pub fn submit(
     alloc: Global,
     namespace: &mut Namespace,
     slots: &mut [Option<LoadedProgram>; PROGRAM_SLOTS],
-    runs: &mut [Option<Active>; RUNS],
+    runs: &mut [Option<ActiveRun>; RUNS],
     submission: &Submission<'_>,
     output: &mut [u8],
 ) -> Reply
@@ -81,7 +81,7 @@ fn perform(
     alloc: Global,
     namespace: &mut Namespace,
     slots: &mut [Option<LoadedProgram>; PROGRAM_SLOTS],
-    runs: &mut [Option<Active>; RUNS],
+    runs: &mut [Option<ActiveRun>; RUNS],
     command: Command,
     submission: &Submission<'_>,
     output: &mut [u8],
@@ -109,7 +109,7 @@ fn perform(
 /// Executes a standard command, which leaves the active runs what they use.
 fn execute(
     namespace: &mut Namespace,
-    runs: &[Option<Active>; RUNS],
+    runs: &[Option<ActiveRun>; RUNS],
     command: &StandardCommand,
     input: &[u8],
     output: &mut [u8],
@@ -126,7 +126,7 @@ fn execute(
 fn run(
     namespace: &Namespace,
     slots: &[Option<LoadedProgram>; PROGRAM_SLOTS],
-    runs: &mut [Option<Active>; RUNS],
+    runs: &mut [Option<ActiveRun>; RUNS],
     command: &RunCommand,
     submission: &Submission<'_>,
 ) -> Reply

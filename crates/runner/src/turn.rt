@@ -14,7 +14,7 @@ ghost use Rattle.runner.specs.Ready.{Fits, IsReady};
 ghost use Rattle.pushdown.specs.Reached.{IsReached};
 ghost use Rattle.runner.specs.steps.Turning.{FitsAt, FitsIn, FitsOn, HasRoom, IsTaking, IsTurned, Keeps, PlaceTurned, SlotTurned, Turned, next_block, next_run, with_packer, with_scratch};
 
-use crate::active_run::Active;
+use crate::active_run::ActiveRun;
 use crate::block_run::run_block;
 use crate::completion::complete;
 use crate::loaded_program::LoadedProgram;
@@ -28,7 +28,7 @@ use zns_commands::{Answer, Namespace};
 use zone_resources::RUNS;
 
 /// The block that a run reads next.
-fn source_block<'a>(namespace: &'a Namespace, active: &Active) -> &'a [u8]
+fn source_block<'a>(namespace: &'a Namespace, active: &ActiveRun) -> &'a [u8]
     requires { Fits namespace.now active.now }
     ensures value { result.now ≡ next_block namespace.now (active_of active.now) }
     ensures size { length result.now ≡ namespace.now.block }
@@ -43,7 +43,7 @@ fn source_block<'a>(namespace: &'a Namespace, active: &Active) -> &'a [u8]
 fn run_next<V: TrapFree + Drop>(
     namespace: &Namespace,
     prepared: &Prepared<V>,
-    active: &mut Active,
+    active: &mut ActiveRun,
     group: &mut [u8; LARGEST_BLOCK],
 ) -> Exit
     requires fits { Fits namespace.now active.old }
@@ -74,7 +74,7 @@ fn run_next<V: TrapFree + Drop>(
 }
 
 /// Appends the block that is pending, and begins the next.
-fn release(namespace: &mut Namespace, active: &mut Active)
+fn release(namespace: &mut Namespace, active: &mut ActiveRun)
     requires block { active.old.packer.block ≡ namespace.old.block }
     requires room { IsTaking namespace.old active.old.destination 1 }
     requires few { active.old.appended + 1 < 2 ^ 32 }
@@ -87,7 +87,7 @@ fn release(namespace: &mut Namespace, active: &mut Active)
 }
 
 /// Packs a group. Where it doesn't fit into the pending block, that one is appended first.
-fn put(namespace: &mut Namespace, active: &mut Active, group: &[u8])
+fn put(namespace: &mut Namespace, active: &mut ActiveRun, group: &[u8])
     requires block { active.old.packer.block ≡ namespace.old.block }
     requires whole { length group.now ≤ namespace.old.block }
     requires room { HasRoom namespace.old active.old.destination (given_by_put active.old.packer group.now) }
@@ -103,7 +103,7 @@ fn put(namespace: &mut Namespace, active: &mut Active, group: &[u8])
 }
 
 /// Appends the pending block, where it has a group.
-fn finish(namespace: &mut Namespace, active: &mut Active)
+fn finish(namespace: &mut Namespace, active: &mut ActiveRun)
     requires block { active.old.packer.block ≡ namespace.old.block }
     requires room { HasRoom namespace.old active.old.destination (given_by_finish active.old.packer) }
     requires few { active.old.appended + 1 < 2 ^ 32 }
@@ -120,7 +120,7 @@ fn finish(namespace: &mut Namespace, active: &mut Active)
 fn advance<V: TrapFree + Drop>(
     namespace: &mut Namespace,
     prepared: &Prepared<V>,
-    active: &mut Active,
+    active: &mut ActiveRun,
     group: &mut [u8; LARGEST_BLOCK],
 ) -> Option<Answer>
     requires fits { FitsOn namespace.old (V.code prepared.now) (V.limit prepared.now) active.old }
@@ -150,7 +150,7 @@ fn advance<V: TrapFree + Drop>(
 fn advance_by_slot(
     namespace: &mut Namespace,
     slot: &mut Option<LoadedProgram>,
-    active: &mut Active,
+    active: &mut ActiveRun,
     group: &mut [u8; LARGEST_BLOCK],
 ) -> Option<Answer>
     requires { FitsIn namespace.old slot.old active.old }
@@ -168,7 +168,7 @@ fn advance_by_slot(
 fn turn_place(
     namespace: &mut Namespace,
     slots: &mut [Option<LoadedProgram>; PROGRAM_SLOTS],
-    place: &mut Option<Active>,
+    place: &mut Option<ActiveRun>,
     group: &mut [u8; LARGEST_BLOCK],
     run: u8,
 ) -> Reply
@@ -192,7 +192,7 @@ fn turn_place(
 pub fn turn(
     namespace: &mut Namespace,
     slots: &mut [Option<LoadedProgram>; PROGRAM_SLOTS],
-    runs: &mut [Option<Active>; RUNS],
+    runs: &mut [Option<ActiveRun>; RUNS],
     group: &mut [u8; LARGEST_BLOCK],
     run: u8,
 ) -> Reply

@@ -5,7 +5,7 @@ use Rattle.emit_append.specs.Packer.{new_packer}
 use Rattle.image_store.specs.declared.geometry.ZoneBlock.{ZoneBlock}
 use Rattle.pushdown.specs.BlockRuns.{no_scratch}
 use Rattle.zone_resources.specs.declared.holds.Holds.{Holds}
-use Rattle.runner.specs.declared.active_run.Active.{Active as ActiveRun}
+use Rattle.runner.specs.declared.active_run.ActiveRun.{ActiveRun}
 
 -- a run before its first turn
 abbrev pub new_active : ℕ → ℕ → RunCommand → ZoneBlock → ℕ → ℕ → ActiveRun

@@ -4,7 +4,7 @@ use Rattle.nvme_entry.specs.declared.command.RunCommand.{RunCommand}
 use Rattle.image_store.specs.Namespace.{ZonedNamespace, zone_at}
 use Rattle.image_store.specs.declared.geometry.ZoneBlock.{ZoneBlock}
 use Rattle.zns_commands.specs.Address.{IsZoneBlock}
-use Rattle.runner.specs.declared.active_run.Active.{Active as ActiveRun}
+use Rattle.runner.specs.declared.active_run.ActiveRun.{ActiveRun}
 use Rattle.runner.specs.declared.admission.Admitted.{Admitted}
 use Rattle.runner.specs.declared.loaded_program.LoadedProgram.{LoadedProgram}
 

@@ -18,12 +18,12 @@ use Rattle.device_events.specs.declared.reply.Reply.{Reply}
 use Rattle.device_events.specs.declared.reply.Reply.TheVariants as reply
 use Rattle.runner.specs.DeviceState.{device_state}
 use Rattle.runner.specs.Ready.{IsReady}
-use Rattle.runner.specs.declared.active_run.Active.{Active as ActiveRun}
+use Rattle.runner.specs.declared.active_run.ActiveRun.{ActiveRun}
 use Rattle.runner.specs.declared.loaded_program.LoadedProgram.{LoadedProgram}
-use Rattle.runner.specs.declared.submission.Submission.{Submission as Told}
+use Rattle.runner.specs.declared.submission.Submission.{Submission as GivenSubmission}
 
 -- an entry as the code has it, with the data beside it
-abbrev pub told_by : Told → Submission
+abbrev pub told_by : GivenSubmission → Submission
 told_by s = record { queue = s.queue; entry = s.entry.now; input = s.input.now }
 
 -- an answer, with the bytes whose first ones are its data, as the completion of an entry

@@ -13,7 +13,7 @@ use Rattle.pushdown.specs.EventReplies.{Submission}
 use Rattle.pushdown.specs.Happenings.{load_checks, load_unless, sizes_for}
 use Rattle.pushdown.specs.State.{State}
 use Rattle.runner.specs.steps.Answered.{answered}
-use Rattle.runner.specs.declared.active_run.Active.{Active as ActiveRun}
+use Rattle.runner.specs.declared.active_run.ActiveRun.{ActiveRun}
 
 -- does an active run use the program of a slot?
 abbrev pub uses_slot : ℕ → Option ActiveRun → Bool

@@ -16,8 +16,8 @@ use Rattle.pushdown.specs.State.{State}
 use Rattle.pushdown.specs.View.{Active, turns_of}
 use Rattle.device_events.specs.declared.reply.Reply.{Reply}
 use Rattle.runner.specs.DeviceState.{active_of, device_state}
-use Rattle.runner.specs.Ready.{Fits, IsFor, IsReady}
-use Rattle.runner.specs.declared.active_run.Active.{Active as ActiveRun}
+use Rattle.runner.specs.Ready.{Fits, IsForBlocks, IsReady}
+use Rattle.runner.specs.declared.active_run.ActiveRun.{ActiveRun}
 use Rattle.runner.specs.declared.loaded_program.LoadedProgram.{LoadedProgram}
 
 abbrev pub with_scratch : ActiveRun → List ℕ → ActiveRun
@@ -80,7 +80,7 @@ pub record Keeps (a b : ActiveRun) : Type 0 where
 -- a run that fits, with the program of its slot
 abbrev pub FitsIn : ZonedNamespace → Option LoadedProgram → ActiveRun → Type 0
 FitsIn ns None a = ⊥
-FitsIn ns (Some p) a = IsFor ns p × FitsOn ns (program_of p.prepared) (sizes_of p.prepared).limit a
+FitsIn ns (Some p) a = IsForBlocks ns p × FitsOn ns (program_of p.prepared) (sizes_of p.prepared).limit a
 
 -- a turn of a run, by the program of a slot, which has the scratch bytes as its result once the run has ended
 abbrev pub SlotTurned : ZonedNamespace → ZonedNamespace → Option LoadedProgram → Option LoadedProgram → ActiveRun → ActiveRun → Option Answer → Type 0

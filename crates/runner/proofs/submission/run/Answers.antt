@@ -3,7 +3,7 @@ use Rattle.nvme_entry.specs.declared.command.Command.TheVariants as commands
 use Rattle.pushdown.specs.EventReplies.{Submission}
 use Rattle.pushdown.specs.State.{State}
 use Rattle.runner.specs.DeviceState.{device_state}
-use Rattle.runner.specs.declared.active_run.Active.{Active as ActiveRun}
+use Rattle.runner.specs.declared.active_run.ActiveRun.{ActiveRun}
 use Rattle.runner.proofs.Replies.{replied_refusal}
 use Rattle.runner.proofs.submission.run.Goals as goal
 
