@@ -15,7 +15,7 @@ use Rattle.program_meaning.specs.TrapFree.{Exits, NeverTraps}
 use Rattle.program_meaning.proofs.Proved.{ends_in_run, start_is_in_run, start_is_state}
 use Rattle.emit_append.proofs.Proved.{AllBytes, by_place}
 use Rattle.program_interface.specs.Bytes.{AreBytes}
-use Rattle.pushdown.specs.BlockRuns.{Task, block_run, block_runs, context, frames_of, goes_on, no_scratch, runs_of, scratch_after, until_ended}
+use Rattle.pushdown.specs.BlockRuns.{Task, block_run, block_runs_from, block_runs_of, context, frames_of, goes_on, no_scratch, scratch_after, until_ended}
 use Rattle.pushdown.proofs.Bytes.{AreBlocks, IsBlock, all_append, all_same, little_are}
 
 -- ---- the start of a block run
@@ -73,37 +73,37 @@ module _ (task : Task) (ready : IsReady task) where
       }
 
   all_done : (blocks : List (List ℕ)) (index : ℕ) (scratch : List ℕ) → IsScratch scratch → AreBlocks task.sizes.block blocks
-      → AllByRecursion (IsDone task) (block_runs task index scratch blocks)
+      → AllByRecursion (IsDone task) (block_runs_from task index scratch blocks)
   all_done [] index scratch is whole = tt
   all_done (bytes ∷ blocks) index scratch is whole =
       let done = one_done index scratch bytes is whole.0 in
       (done, all_done blocks (index + 1) (scratch_after (block_run task index scratch bytes)) done.scratch whole.1)
 
-  until_by : (on : Bool) (runs : List BlockRun) → AllByRecursion (IsDone task) runs → AllByRecursion (IsDone task) (cond on runs [])
-  until_by true runs h = h
-  until_by false runs h = tt
+  until_by : (on : Bool) (block_runs : List BlockRun) → AllByRecursion (IsDone task) block_runs → AllByRecursion (IsDone task) (cond on block_runs [])
+  until_by true block_runs h = h
+  until_by false block_runs h = tt
 
-  until : (runs : List BlockRun) → AllByRecursion (IsDone task) runs → AllByRecursion (IsDone task) (until_ended runs)
+  until : (block_runs : List BlockRun) → AllByRecursion (IsDone task) block_runs → AllByRecursion (IsDone task) (until_ended block_runs)
   until [] h = tt
-  until (run ∷ runs) h = (h.0, until_by (goes_on run.end) (until_ended runs) (until runs h.1))
+  until (run ∷ block_runs) h = (h.0, until_by (goes_on run.end) (until_ended block_runs) (until block_runs h.1))
 
-  pub runs_done : (blocks : List (List ℕ)) → AreBlocks task.sizes.block blocks → AllByRecursion (IsDone task) (runs_of task blocks)
-  runs_done blocks whole = until (block_runs task 0 no_scratch blocks) (all_done blocks 0 no_scratch no_scratch_is whole)
+  pub runs_done : (blocks : List (List ℕ)) → AreBlocks task.sizes.block blocks → AllByRecursion (IsDone task) (block_runs_of task blocks)
+  runs_done blocks whole = until (block_runs_from task 0 no_scratch blocks) (all_done blocks 0 no_scratch no_scratch_is whole)
 
 -- ---- how many block runs
 
-fewer_by : (on : Bool) (runs : List BlockRun) → length (cond on runs []) ≤ length runs
-fewer_by true runs = omega arith
-fewer_by false runs = omega arith
+fewer_by : (on : Bool) (block_runs : List BlockRun) → length (cond on block_runs []) ≤ length block_runs
+fewer_by true block_runs = omega arith
+fewer_by false block_runs = omega arith
 
-fewer : (runs : List BlockRun) → length (until_ended runs) ≤ length runs
+fewer : (block_runs : List BlockRun) → length (until_ended block_runs) ≤ length block_runs
 fewer [] = omega arith
-fewer (run ∷ runs) =
-    let tail = fewer_by (goes_on run.end) (until_ended runs) in
-    let less = fewer runs in
+fewer (run ∷ block_runs) =
+    let tail = fewer_by (goes_on run.end) (until_ended block_runs) in
+    let less = fewer block_runs in
     omega (arith, tail, less)
 
-one_each : (task : Task) (index : ℕ) (scratch : List ℕ) (blocks : List (List ℕ)) → length (block_runs task index scratch blocks) ≤ length blocks
+one_each : (task : Task) (index : ℕ) (scratch : List ℕ) (blocks : List (List ℕ)) → length (block_runs_from task index scratch blocks) ≤ length blocks
 one_each task index scratch [] = omega arith
 one_each task index scratch (b ∷ bs) =
     let less = one_each task (index + 1) (scratch_after (block_run task index scratch b)) bs in
@@ -111,14 +111,14 @@ one_each task index scratch (b ∷ bs) =
 
 -- no more than blocks
 pub few_runs : (task : Task) (index : ℕ) (scratch : List ℕ) (blocks : List (List ℕ))
-    → length (until_ended (block_runs task index scratch blocks)) ≤ length blocks
+    → length (until_ended (block_runs_from task index scratch blocks)) ≤ length blocks
 few_runs task index scratch blocks =
-    let less = fewer (block_runs task index scratch blocks) in
+    let less = fewer (block_runs_from task index scratch blocks) in
     let same = one_each task index scratch blocks in
     omega (arith, less, same)
 
 -- and some where there are blocks
-pub some_runs : (task : Task) (blocks : List (List ℕ)) → 1 ≤ length blocks → 1 ≤ length (runs_of task blocks)
+pub some_runs : (task : Task) (blocks : List (List ℕ)) → 1 ≤ length blocks → 1 ≤ length (block_runs_of task blocks)
 some_runs task [] some = absurd (omega (arith, some))
 some_runs task (bytes ∷ blocks) some = omega arith
 
@@ -140,10 +140,10 @@ frames_fit task run done =
     let same : length run.state.group ≡ length (frames group.records) = ap length group.whole in
     omega (arith, long, same, group.number, group.within)
 
-pub few_frames : (task : Task) (runs : List BlockRun) → AllByRecursion (IsDone task) runs → 3 * frames_of runs ≤ length runs * task.sizes.limit
+pub few_frames : (task : Task) (block_runs : List BlockRun) → AllByRecursion (IsDone task) block_runs → 3 * frames_of block_runs ≤ length block_runs * task.sizes.limit
 few_frames task [] done = omega arith
-few_frames task (run ∷ runs) done =
+few_frames task (run ∷ block_runs) done =
     let first = frames_fit task run done.0 in
-    let rest = few_frames task runs done.1 in
-    let product = suc-mul (length runs) task.sizes.limit in
+    let rest = few_frames task block_runs done.1 in
+    let product = suc-mul (length block_runs) task.sizes.limit in
     omega (arith, first, rest, product)

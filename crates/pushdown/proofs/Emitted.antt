@@ -11,28 +11,28 @@ use Rattle.emit_append.specs.PackedLaw.{FitBlock}
 use Rattle.emit_append.specs.Packing.{packed}
 use Rattle.emit_append.proofs.Proved.{packed_frames_read_back}
 use Rattle.pushdown.specs.Admission.{source_blocks, task_of}
-use Rattle.pushdown.specs.BlockRuns.{Task, groups_of, runs_of}
+use Rattle.pushdown.specs.BlockRuns.{Task, block_runs_of, groups_of}
 use Rattle.pushdown.specs.Laws.{AreEmitted, OutcomeUnpacks}
 use Rattle.pushdown.specs.State.{program_at}
 use Rattle.pushdown.proofs.BlockRuns.{IsDone}
 use Rattle.pushdown.proofs.Outcomes.{outcome_is_packed}
 use Rattle.pushdown.proofs.States.{all_exit, groups_within, reached_fine, ready, runs_all_done}
 
-record Emits (runs : List BlockRun) : Type 0 where
+record Emits (block_runs : List BlockRun) : Type 0 where
   records : List (List (List ℕ))
-  are : AreEmitted runs records
+  are : AreEmitted block_runs records
   some : AllByRecursion (λ group. AllByRecursion (λ bytes. 0 < length bytes) group) records
 
-emits : (task : Task) (runs : List BlockRun) → AllByRecursion (IsDone task) runs → Emits runs
+emits : (task : Task) (block_runs : List BlockRun) → AllByRecursion (IsDone task) block_runs → Emits block_runs
 emits task [] done = record { records = []; are = record { groups = refl; counted = refl }; some = tt }
-emits task (run ∷ runs) done =
+emits task (run ∷ block_runs) done =
     let group = done.0.in_run.group in
-    let rest = emits task runs done.1 in
+    let rest = emits task block_runs done.1 in
     let joined = length-append group.records (flat_map (λ (g : List (List ℕ)). g) rest.records) in
     record {
       records = group.records ∷ rest.records;
       are = record {
-        groups = ap (λ (g : List ℕ). g ∷ groups_of runs) group.whole ∙ ap (λ (gs : List (List ℕ)). frames group.records ∷ gs) rest.are.groups;
+        groups = ap (λ (g : List ℕ). g ∷ groups_of block_runs) group.whole ∙ ap (λ (gs : List (List ℕ)). frames group.records ∷ gs) rest.are.groups;
         counted = omega (arith, joined, group.number, rest.are.counted);
       };
       some = (group.some, rest.some);
@@ -44,13 +44,13 @@ emitted_reads_back operations never s reached sub command run admitted =
     let none = admitted.passed in
     let task = task_of s.namespace (program_at s command.slot) command in
     let source = source_blocks s.namespace command in
-    let runs = runs_of task source in
+    let block_runs = block_runs_of task source in
     let block = task.sizes.block in
     let done = runs_all_done operations never reached.first.block sub s command fine none in
-    let given = emits task runs done in
+    let given = emits task block_runs done in
     let sizes = (ready operations never reached.first.block sub s command fine none).sizes in
     let whole = (outcome_is_packed task source (all_exit operations never reached.first.block sub s command fine none)).blocks in
-    let fit = subst (FitBlock block) given.are.groups (groups_within task runs sizes.fits done) in
+    let fit = subst (FitBlock block) given.are.groups (groups_within task block_runs sizes.fits done) in
     let back = packed_frames_read_back block given.records
     (omega (arith, block_some fine.is.shape)) (omega (arith, block_most fine.is.shape)) given.some fit in (
       given.records,

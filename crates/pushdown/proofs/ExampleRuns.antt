@@ -5,7 +5,7 @@ use Rattle.zone_state.specs.declared.status.TheConstants.Status.{PROGRAM_TRAPPED
 use Rattle.instruction_set.specs.declared.instruction.Instruction.{Instruction}
 use Rattle.emit_append.specs.Need.{need}
 use Rattle.program_meaning.specs.BlockRun.{BlockRun, block_run_of}
-use Rattle.pushdown.specs.BlockRuns.{Task, no_scratch, runs_of}
+use Rattle.pushdown.specs.BlockRuns.{Task, block_runs_of, no_scratch}
 use Rattle.pushdown.specs.Outcome.{Turn, outcome}
 use Rattle.pushdown.proofs.Examples.{block_of, frame, loops, passes, sevens, sums, tells, traps, twice, waits}
 
@@ -19,7 +19,7 @@ ends blocks frames count result = record { blocks = blocks; ending = Some (recor
 
 -- the steps that a run's block runs take
 abbrev steps_of : Task → List (List ℕ) → List ℕ
-steps_of task blocks = map (λ (run : BlockRun). run.steps) (runs_of task blocks)
+steps_of task blocks = map (λ (run : BlockRun). run.steps) (block_runs_of task blocks)
 
 -- a program that does nothing: three turns of two steps, of which the last ends the run, whatever the blocks are
 module _ (x y z : List ℕ) where

@@ -72,7 +72,7 @@ module _ (block : ℕ) where
       few_more (released block emitted.groups) (released block (both emitted run)) (released block (with_group emitted run).groups)
       (packing_goes_on block emitted.groups (run.state.group ∷ [])).released_blocks (both_released emitted run)
 
-  pub turns_few : (emitted : Emitted) (runs : List BlockRun) → AllByRecursion HasFew (turns_after block emitted runs)
+  pub turns_few : (emitted : Emitted) (block_runs : List BlockRun) → AllByRecursion HasFew (turns_after block emitted block_runs)
   turns_few emitted [] = tt
   turns_few emitted (run ∷ []) = (last_few run.end emitted run, tt)
-  turns_few emitted (run ∷ next ∷ runs) = (middle_few emitted run, turns_few (with_group emitted run) (next ∷ runs))
+  turns_few emitted (run ∷ next ∷ block_runs) = (middle_few emitted run, turns_few (with_group emitted run) (next ∷ block_runs))

@@ -18,7 +18,7 @@ use Rattle.image_store.proofs.Proved.{slot_room, written_is_within}
 use Rattle.nvme_entry.proofs.Proved.{demanded, passed}
 use Rattle.pushdown.specs.Admission.{admission_checks, source_blocks, task_of}
 use Rattle.pushdown.specs.EventReplies.{Happening, Submission, plain}
-use Rattle.pushdown.specs.BlockRuns.{no_scratch, runs_of}
+use Rattle.pushdown.specs.BlockRuns.{block_runs_of, no_scratch}
 use Rattle.pushdown.specs.Events.{Occurrence, state_after}
 use Rattle.pushdown.specs.Laws.{AdmittedStarts, StartsRun}
 use Rattle.pushdown.specs.Happenings.{admitted_place, happens, start_by, submitted}
@@ -167,15 +167,15 @@ module _ {D : Type 0} (operations : Operations D) (never : AcceptedNeverTraps op
       let ns = s.namespace in
       let task = task_of ns (program_at s command.slot) command in
       let source = source_blocks ns command in
-      let runs = runs_of task source in
+      let block_runs = block_runs_of task source in
       let some = decoded_has entry (commands.Run command) admitted.asked in
       let whole = outcome_is_packed task source (all_exit operations never block given s command fine none) in
-      let frames = few_frames task runs (runs_all_done operations never block given s command fine none) in
+      let frames = few_frames task block_runs (runs_all_done operations never block given s command fine none) in
       let few = few_runs task 0 no_scratch source in
       let asked = written operations never block given s command fine none in
       let most = written_most ns (command.lba / ns.size) fine.is in
       let limit = (is_ready operations never block given s command fine none).sizes.fits in
-      let product = mul-le (length runs) task.sizes.limit ns.capacity ns.block
+      let product = mul-le (length block_runs) task.sizes.limit ns.capacity ns.block
       (omega (arith, few, few_source ns command, asked, most)) limit in
       let shape = fine.is.shape in
       let room = (admitted_room operations never block given s command fine none).room in
@@ -191,13 +191,13 @@ pushdown operations never s reached queue entry input starved command run after 
     let fine = reached_fine operations never s reached in
     let block = reached.first.block in
     let task = task_of s.namespace (program_at s command.slot) command in
-    let runs = runs_of task (source_blocks s.namespace command) in
+    let block_runs = block_runs_of task (source_blocks s.namespace command) in
     let none = admitted.passed in
     let done = runs_all_done operations never block sub s command fine none in
     let ends = (turns_are operations never block sub s command fine none (decoded_has entry (commands.Run command) admitted.asked)).ends in
     record {
       no_turn_traps = record { exits = all_exit operations never block sub s command fine none; ends = ends };
-      few_steps = all_from (IsDone task) (λ (r : BlockRun). r.steps ≤ instruction_count task.program) (λ r h. h.exits.steps) runs done;
+      few_steps = all_from (IsDone task) (λ (r : BlockRun). r.steps ≤ instruction_count task.program) (λ r h. h.exits.steps) block_runs done;
       changes_destination_alone = changes_destination_alone operations s queue entry input command run fine.apart starved admitted ends after;
       does_its_turns = does_its_turns operations s queue entry input command run fine.apart starved admitted ends after;
       tells_frames_and_blocks = tells_frames_and_blocks operations never block s fine queue entry input starved command run after admitted;

@@ -11,7 +11,7 @@ use Rattle.emit_append.specs.OutputBlocks.{AreAllBytes}
 use Rattle.emit_append.specs.PackedLaw.{FitBlock}
 use Rattle.emit_append.specs.Packing.{packed, pending_of, released}
 use Rattle.emit_append.proofs.Proved.{output_blocks_are_bytes, output_blocks_are_whole, packing_goes_on}
-use Rattle.pushdown.specs.BlockRuns.{Task, frames_of, groups_of, last_scratch, runs_of, scratch_after}
+use Rattle.pushdown.specs.BlockRuns.{Task, block_runs_of, frames_of, groups_of, last_scratch, scratch_after}
 use Rattle.pushdown.specs.Laws.{OutcomeIsPacked}
 use Rattle.pushdown.specs.Outcome.{Ending, Emitted, Turn, appended_by, behind, ending_of, last_turn_by, middle_turn, nothing_emitted, turns_after, with_group}
 use Rattle.pushdown.specs.Pushdown.{EndsWithLast, Succeeds, success_of}
@@ -26,14 +26,14 @@ ends_by (end.Exit r0) block emitted run exit = refl
 ends_by (end.Trap slot cause) block emitted run exit = absurd exit
 ends_by end.OutOfFuel block emitted run exit = absurd exit
 
-pub ends_with_last : (task : Task) (block : ℕ) (emitted : Emitted) (runs : List BlockRun) → AllByRecursion (IsDone task) runs → 1 ≤ length runs
-    → EndsWithLast (turns_after block emitted runs)
+pub ends_with_last : (task : Task) (block : ℕ) (emitted : Emitted) (block_runs : List BlockRun) → AllByRecursion (IsDone task) block_runs → 1 ≤ length block_runs
+    → EndsWithLast (turns_after block emitted block_runs)
 ends_with_last task block emitted [] done some = absurd (omega (arith, some))
 ends_with_last task block emitted (run ∷ []) done some = ends_by run.end block emitted run done.0.exits.exit
 ends_with_last task block emitted (run ∷ next ∷ []) done some =
     (refl, ends_with_last task block (with_group emitted run) (next ∷ []) done.1 (omega arith))
-ends_with_last task block emitted (run ∷ next ∷ third ∷ runs) done some =
-    (refl, ends_with_last task block (with_group emitted run) (next ∷ third ∷ runs) done.1 (omega arith))
+ends_with_last task block emitted (run ∷ next ∷ third ∷ block_runs) done some =
+    (refl, ends_with_last task block (with_group emitted run) (next ∷ third ∷ block_runs) done.1 (omega arith))
 
 -- ---- the blocks of turns are whole
 
@@ -80,18 +80,18 @@ module _ (block : ℕ) where
     are = all_append _ emitted.groups (run.state.group ∷ []) h.are (done.in_run.bytes, tt);
   }
 
-  pub turns_whole : (task : Task) (emitted : Emitted) (runs : List BlockRun) → task.sizes.limit ≤ block → AllByRecursion (IsDone task) runs
-      → AreGroups block emitted.groups → AllByRecursion HasWhole (turns_after block emitted runs)
+  pub turns_whole : (task : Task) (emitted : Emitted) (block_runs : List BlockRun) → task.sizes.limit ≤ block → AllByRecursion (IsDone task) block_runs
+      → AreGroups block emitted.groups → AllByRecursion HasWhole (turns_after block emitted block_runs)
   turns_whole task emitted [] less done h = tt
   turns_whole task emitted (run ∷ []) less done h = (last_whole run.end emitted run (grouped task emitted run less done.0 h), tt)
-  turns_whole task emitted (run ∷ next ∷ runs) less done h =
+  turns_whole task emitted (run ∷ next ∷ block_runs) less done h =
       let groups = grouped task emitted run less done.0 h in
-      (middle_whole emitted run groups, turns_whole task (with_group emitted run) (next ∷ runs) less done.1 groups)
+      (middle_whole emitted run groups, turns_whole task (with_group emitted run) (next ∷ block_runs) less done.1 groups)
 
 -- ---- all blocks together
 
 abbrev AllExit : List BlockRun → Type 0
-AllExit runs = AllByRecursion (λ run. IsExit run.end) runs
+AllExit block_runs = AllByRecursion (λ run. IsExit run.end) block_runs
 
 -- what stood in front, and then what comes to it
 in_whole : (first more : List (List ℕ)) → first ++ behind first (first ++ more) ≡ first ++ more
@@ -125,26 +125,26 @@ module _ (block : ℕ) where
   last_blocks (end.Trap slot cause) emitted run exit = absurd exit
   last_blocks end.OutOfFuel emitted run exit = absurd exit
 
-  all_blocks : (emitted : Emitted) (run : BlockRun) (runs : List BlockRun) → AllExit (run ∷ runs)
-      → released block emitted.groups ++ appended_by (turns_after block emitted (run ∷ runs)) ≡ packed block (emitted.groups ++ groups_of (run ∷ runs))
+  all_blocks : (emitted : Emitted) (run : BlockRun) (block_runs : List BlockRun) → AllExit (run ∷ block_runs)
+      → released block emitted.groups ++ appended_by (turns_after block emitted (run ∷ block_runs)) ≡ packed block (emitted.groups ++ groups_of (run ∷ block_runs))
   all_blocks emitted run [] exit =
       let first = released block emitted.groups in
       ap (λ xs. first ++ (xs ++ [])) (last_blocks run.end emitted run exit.0)
       ∙ ap (λ xs. first ++ xs) (append-nil (behind first (packed block (with_group emitted run).groups)))
       ∙ packed_more emitted run
-  all_blocks emitted run (next ∷ runs) exit =
+  all_blocks emitted run (next ∷ block_runs) exit =
       let first = released block emitted.groups in
       let then = with_group emitted run in
       let mine = behind first (released block then.groups) in
-      let later = appended_by (turns_after block then (next ∷ runs)) in
+      let later = appended_by (turns_after block then (next ∷ block_runs)) in
       sym (append_assoc first mine later)
       ∙ ap (λ xs. xs ++ later) (released_more emitted run)
-      ∙ all_blocks then next runs exit.1
-      ∙ ap (packed block) (append_assoc emitted.groups (run.state.group ∷ []) (groups_of (next ∷ runs)))
+      ∙ all_blocks then next block_runs exit.1
+      ∙ ap (packed block) (append_assoc emitted.groups (run.state.group ∷ []) (groups_of (next ∷ block_runs)))
 
-  packed_by : (runs : List BlockRun) → AllExit runs → appended_by (turns_after block nothing_emitted runs) ≡ packed block (groups_of runs)
+  packed_by : (block_runs : List BlockRun) → AllExit block_runs → appended_by (turns_after block nothing_emitted block_runs) ≡ packed block (groups_of block_runs)
   packed_by [] exit = refl
-  packed_by (run ∷ runs) exit = all_blocks nothing_emitted run runs exit
+  packed_by (run ∷ block_runs) exit = all_blocks nothing_emitted run block_runs exit
 
   -- ---- how the last turn ends
 
@@ -158,46 +158,46 @@ module _ (block : ℕ) where
   last_told (end.Trap slot cause) emitted run exit = absurd exit
   last_told end.OutOfFuel emitted run exit = absurd exit
 
-  more_told : (emitted : Emitted) (run next : BlockRun) (runs : List BlockRun)
-      → ending_of (turns_after block (with_group emitted run) (next ∷ runs))
-      ≡ told (emitted.frames + run.state.frames + frames_of (next ∷ runs))
-      (emitted.appended + length (packed block ((emitted.groups ++ run.state.group ∷ []) ++ groups_of (next ∷ runs)))) (last_scratch (next ∷ runs))
-      → ending_of (turns_after block (with_group emitted run) (next ∷ runs))
-      ≡ told (emitted.frames + frames_of (run ∷ next ∷ runs)) (emitted.appended + length (packed block (emitted.groups ++ groups_of (run ∷ next ∷ runs))))
-      (last_scratch (run ∷ next ∷ runs))
-  more_told emitted run next runs later =
-      let sum : emitted.frames + run.state.frames + frames_of (next ∷ runs) ≡ emitted.frames + frames_of (run ∷ next ∷ runs) = omega arith in
-      let joined = append_assoc emitted.groups (run.state.group ∷ []) (groups_of (next ∷ runs)) in
+  more_told : (emitted : Emitted) (run next : BlockRun) (block_runs : List BlockRun)
+      → ending_of (turns_after block (with_group emitted run) (next ∷ block_runs))
+      ≡ told (emitted.frames + run.state.frames + frames_of (next ∷ block_runs))
+      (emitted.appended + length (packed block ((emitted.groups ++ run.state.group ∷ []) ++ groups_of (next ∷ block_runs)))) (last_scratch (next ∷ block_runs))
+      → ending_of (turns_after block (with_group emitted run) (next ∷ block_runs))
+      ≡ told (emitted.frames + frames_of (run ∷ next ∷ block_runs)) (emitted.appended + length (packed block (emitted.groups ++ groups_of (run ∷ next ∷ block_runs))))
+      (last_scratch (run ∷ next ∷ block_runs))
+  more_told emitted run next block_runs later =
+      let sum : emitted.frames + run.state.frames + frames_of (next ∷ block_runs) ≡ emitted.frames + frames_of (run ∷ next ∷ block_runs) = omega arith in
+      let joined = append_assoc emitted.groups (run.state.group ∷ []) (groups_of (next ∷ block_runs)) in
       later
-      ∙ ap (λ n. told n (emitted.appended + length (packed block ((emitted.groups ++ run.state.group ∷ []) ++ groups_of (next ∷ runs)))) (last_scratch (next ∷ runs))) sum
-      ∙ ap (λ groups. told (emitted.frames + frames_of (run ∷ next ∷ runs)) (emitted.appended + length (packed block groups)) (last_scratch (next ∷ runs))) joined
+      ∙ ap (λ n. told n (emitted.appended + length (packed block ((emitted.groups ++ run.state.group ∷ []) ++ groups_of (next ∷ block_runs)))) (last_scratch (next ∷ block_runs))) sum
+      ∙ ap (λ groups. told (emitted.frames + frames_of (run ∷ next ∷ block_runs)) (emitted.appended + length (packed block groups)) (last_scratch (next ∷ block_runs))) joined
 
-  all_told : (emitted : Emitted) (run : BlockRun) (runs : List BlockRun) → AllExit (run ∷ runs)
-      → ending_of (turns_after block emitted (run ∷ runs))
-      ≡ told (emitted.frames + frames_of (run ∷ runs)) (emitted.appended + length (packed block (emitted.groups ++ groups_of (run ∷ runs)))) (last_scratch (run ∷ runs))
+  all_told : (emitted : Emitted) (run : BlockRun) (block_runs : List BlockRun) → AllExit (run ∷ block_runs)
+      → ending_of (turns_after block emitted (run ∷ block_runs))
+      ≡ told (emitted.frames + frames_of (run ∷ block_runs)) (emitted.appended + length (packed block (emitted.groups ++ groups_of (run ∷ block_runs)))) (last_scratch (run ∷ block_runs))
   all_told emitted run [] exit =
       let same : emitted.frames + run.state.frames ≡ emitted.frames + (run.state.frames + 0) = omega arith in
       last_told run.end emitted run exit.0
       ∙ ap (λ n. told n (emitted.appended + length (packed block (with_group emitted run).groups)) (scratch_after run)) same
   all_told emitted run (next ∷ []) exit = more_told emitted run next [] (all_told (with_group emitted run) next [] exit.1)
-  all_told emitted run (next ∷ third ∷ runs) exit =
-      more_told emitted run next (third ∷ runs) (all_told (with_group emitted run) next (third ∷ runs) exit.1)
+  all_told emitted run (next ∷ third ∷ block_runs) exit =
+      more_told emitted run next (third ∷ block_runs) (all_told (with_group emitted run) next (third ∷ block_runs) exit.1)
 
-  ended : (runs : List BlockRun) → AllExit runs → 1 ≤ length runs → appended_by (turns_after block nothing_emitted runs) ≡ packed block (groups_of runs)
-      → ending_of (turns_after block nothing_emitted runs) ≡ Some (success_of runs (turns_after block nothing_emitted runs))
+  ended : (block_runs : List BlockRun) → AllExit block_runs → 1 ≤ length block_runs → appended_by (turns_after block nothing_emitted block_runs) ≡ packed block (groups_of block_runs)
+      → ending_of (turns_after block nothing_emitted block_runs) ≡ Some (success_of block_runs (turns_after block nothing_emitted block_runs))
   ended [] exit some all = absurd (omega (arith, some))
-  ended (run ∷ runs) exit some all =
-      let frames : 0 + frames_of (run ∷ runs) ≡ frames_of (run ∷ runs) = omega arith in
-      let blocks : 0 + length (packed block (groups_of (run ∷ runs))) ≡ length (appended_by (turns_after block nothing_emitted (run ∷ runs))) =
+  ended (run ∷ block_runs) exit some all =
+      let frames : 0 + frames_of (run ∷ block_runs) ≡ frames_of (run ∷ block_runs) = omega arith in
+      let blocks : 0 + length (packed block (groups_of (run ∷ block_runs))) ≡ length (appended_by (turns_after block nothing_emitted (run ∷ block_runs))) =
       omega (arith, ap length all) in
-      all_told nothing_emitted run runs exit
-      ∙ ap (λ n. told n (0 + length (packed block (groups_of (run ∷ runs)))) (last_scratch (run ∷ runs))) frames
-      ∙ ap (λ n. told (frames_of (run ∷ runs)) n (last_scratch (run ∷ runs))) blocks
+      all_told nothing_emitted run block_runs exit
+      ∙ ap (λ n. told n (0 + length (packed block (groups_of (run ∷ block_runs)))) (last_scratch (run ∷ block_runs))) frames
+      ∙ ap (λ n. told (frames_of (run ∷ block_runs)) n (last_scratch (run ∷ block_runs))) blocks
 
 pub outcome_is_packed : OutcomeIsPacked
 outcome_is_packed task blocks exit =
     let block = task.sizes.block in
-    let runs = runs_of task blocks in
-    let turns = turns_after block nothing_emitted runs in
-    let all = packed_by block runs exit in
-    record { blocks = all; one_each = one_each block nothing_emitted runs; ending = λ some. ended block runs exit some all }
+    let block_runs = block_runs_of task blocks in
+    let turns = turns_after block nothing_emitted block_runs in
+    let all = packed_by block block_runs exit in
+    record { blocks = all; one_each = one_each block nothing_emitted block_runs; ending = λ some. ended block block_runs exit some all }

@@ -8,7 +8,7 @@ use Rattle.emit_append.specs.Packing.{packed, released, pending_of}
 use Rattle.emit_append.proofs.Proved.{one_group_is_pending, packing_goes_on}
 use Rattle.pushdown.proofs.BlockRuns.{few_runs}
 use Rattle.pushdown.specs.Laws.{RestAtAdmission, RestEnds, RestGoesOn, RestIsFew, further, next_turn}
-use Rattle.pushdown.specs.BlockRuns.{Task, block_run, block_runs, goes_on, runs_of, scratch_after, until_ended}
+use Rattle.pushdown.specs.BlockRuns.{Task, block_run, block_runs_from, block_runs_of, goes_on, scratch_after, until_ended}
 use Rattle.pushdown.specs.Outcome.{Turn, Emitted, Progress, behind, last_turn, last_turn_by, middle_turn, emitted_by, rest, turns_after, with_group}
 
 abbrev out : List (List ℕ) → ℕ → ℕ → Emitted
@@ -22,17 +22,17 @@ last_empty block groups frames appended run (end.Exit r0) = refl
 last_empty block groups frames appended run (end.Trap slot cause) = refl
 last_empty block groups frames appended run end.OutOfFuel = refl
 
-turns_empty : (block : ℕ) (groups : List (List ℕ)) (frames appended : ℕ) (runs : List BlockRun)
-    → turns_after block (out ([] ∷ groups) frames appended) runs ≡ turns_after block (out groups frames appended) runs
+turns_empty : (block : ℕ) (groups : List (List ℕ)) (frames appended : ℕ) (block_runs : List BlockRun)
+    → turns_after block (out ([] ∷ groups) frames appended) block_runs ≡ turns_after block (out groups frames appended) block_runs
 turns_empty block groups frames appended [] = refl
 turns_empty block groups frames appended (run ∷ []) =
     ap (λ (turn : Turn). turn ∷ []) (last_empty block groups frames appended run run.end)
-turns_empty block groups frames appended (run ∷ next ∷ runs) =
+turns_empty block groups frames appended (run ∷ next ∷ block_runs) =
     ap (λ turns. middle_turn block (out groups frames appended) run ∷ turns)
-    (turns_empty block (groups ++ run.state.group ∷ []) (frames + run.state.frames) appended (next ∷ runs))
+    (turns_empty block (groups ++ run.state.group ∷ []) (frames + run.state.frames) appended (next ∷ block_runs))
 
 pub rest_at_admission : RestAtAdmission
-rest_at_admission task blocks = turns_empty task.sizes.block [] 0 0 (runs_of task blocks)
+rest_at_admission task blocks = turns_empty task.sizes.block [] 0 0 (block_runs_of task blocks)
 
 -- ---- the pending bytes stand for the groups before
 
@@ -83,30 +83,30 @@ module _ (block : ℕ) (before : List (List ℕ)) where
       ∙ ap (λ blocks. turn blocks (appended + sent + length rest_packed))
       (behind_both (released block before) (released block (kept ∷ after)) rest_packed)
 
-  turns_on : (after : List (List ℕ)) (frames appended : ℕ) (runs : List BlockRun)
-      → turns_after block (out (before ++ after) frames appended) runs ≡ turns_after block (out (kept ∷ after) frames (appended + sent)) runs
+  turns_on : (after : List (List ℕ)) (frames appended : ℕ) (block_runs : List BlockRun)
+      → turns_after block (out (before ++ after) frames appended) block_runs ≡ turns_after block (out (kept ∷ after) frames (appended + sent)) block_runs
   turns_on after frames appended [] = refl
   turns_on after frames appended (run ∷ []) = ap (λ (turn : Turn). turn ∷ []) (finished_on after frames appended run run.end)
-  turns_on after frames appended (run ∷ next ∷ runs) =
+  turns_on after frames appended (run ∷ next ∷ block_runs) =
       let g = run.state.group ∷ [] in
-      let later : Emitted → List Turn = λ emitted. turns_after block emitted (next ∷ runs) in
+      let later : Emitted → List Turn = λ emitted. turns_after block emitted (next ∷ block_runs) in
       ap (λ turn. turn ∷ later (out ((before ++ after) ++ g) (frames + run.state.frames) appended)) (middle_on after frames appended run)
       ∙ ap (λ turns. middle_turn block (out (kept ∷ after) frames (appended + sent)) run ∷ turns)
       (ap (λ gs. later (out gs (frames + run.state.frames) appended)) (append_assoc before after g)
-      ∙ turns_on (after ++ g) (frames + run.state.frames) appended (next ∷ runs))
+      ∙ turns_on (after ++ g) (frames + run.state.frames) appended (next ∷ block_runs))
 
 -- one group alone releases nothing
 -- a block run after which the run goes on, before others
-goes : (task : Task) (so_far : Progress) (run next : BlockRun) (runs : List BlockRun)
-    → turns_after task.sizes.block (emitted_by so_far) (run ∷ next ∷ runs)
-    ≡ next_turn task so_far run ∷ turns_after task.sizes.block (emitted_by (further task so_far run)) (next ∷ runs)
-goes task so_far run next runs =
+goes : (task : Task) (so_far : Progress) (run next : BlockRun) (block_runs : List BlockRun)
+    → turns_after task.sizes.block (emitted_by so_far) (run ∷ next ∷ block_runs)
+    ≡ next_turn task so_far run ∷ turns_after task.sizes.block (emitted_by (further task so_far run)) (next ∷ block_runs)
+goes task so_far run next block_runs =
     let block = task.sizes.block in
     let groups = so_far.pending ∷ run.state.group ∷ [] in
     let frames = so_far.frames + run.state.frames in
-    let later = turns_after block (out groups frames so_far.appended) (next ∷ runs) in
+    let later = turns_after block (out groups frames so_far.appended) (next ∷ block_runs) in
     ap (λ first. record { blocks = behind first (released block groups); ending = None } ∷ later) (one_group_is_pending block so_far.pending).released_none
-    ∙ ap (λ turns. next_turn task so_far run ∷ turns) (turns_on block groups [] frames so_far.appended (next ∷ runs))
+    ∙ ap (λ turns. next_turn task so_far run ∷ turns) (turns_on block groups [] frames so_far.appended (next ∷ block_runs))
 
 cut_not : (block : ℕ) (emitted : Emitted) (run : BlockRun) (later : List BlockRun) (on : Bool) → on ≡ true
     → turns_after block emitted (run ∷ cond on later []) ≡ turns_after block emitted (run ∷ later)
@@ -127,28 +127,28 @@ rest_goes_on task so_far bytes more blocks on =
     let run = block_run task so_far.index so_far.scratch bytes in
     let index = so_far.index + 1 in
     let next = block_run task index (scratch_after run) more in
-    let runs = until_ended (block_runs task index (scratch_after run) (more ∷ blocks)) in
-    let after = cond (goes_on next.end) (until_ended (block_runs task (index + 1) (scratch_after next) blocks)) [] in
-    cut_not task.sizes.block (emitted_by so_far) run runs (goes_on run.end) on ∙ goes task so_far run next after
+    let block_runs = until_ended (block_runs_from task index (scratch_after run) (more ∷ blocks)) in
+    let after = cond (goes_on next.end) (until_ended (block_runs_from task (index + 1) (scratch_after next) blocks)) [] in
+    cut_not task.sizes.block (emitted_by so_far) run block_runs (goes_on run.end) on ∙ goes task so_far run next after
 
 pub rest_ends : RestEnds
 rest_ends task so_far bytes blocks (inl over) =
     let run = block_run task so_far.index so_far.scratch bytes in
-    let runs = until_ended (block_runs task (so_far.index + 1) (scratch_after run) blocks) in
-    cut task.sizes.block (emitted_by so_far) run runs (goes_on run.end) over
+    let block_runs = until_ended (block_runs_from task (so_far.index + 1) (scratch_after run) blocks) in
+    cut task.sizes.block (emitted_by so_far) run block_runs (goes_on run.end) over
 rest_ends task so_far bytes blocks (inr last) =
     let run = block_run task so_far.index so_far.scratch bytes in
     ap (λ (xs : List (List ℕ)). rest task so_far (bytes ∷ xs)) last ∙ cut_none task.sizes.block (emitted_by so_far) run (goes_on run.end)
 
 -- ---- no more turns than source blocks
 
-pub one_each : (block : ℕ) (emitted : Emitted) (runs : List BlockRun) → length (turns_after block emitted runs) ≡ length runs
+pub one_each : (block : ℕ) (emitted : Emitted) (block_runs : List BlockRun) → length (turns_after block emitted block_runs) ≡ length block_runs
 one_each block emitted [] = refl
 one_each block emitted (run ∷ []) = refl
-one_each block emitted (run ∷ next ∷ runs) = ap suc (one_each block (with_group emitted run) (next ∷ runs))
+one_each block emitted (run ∷ next ∷ block_runs) = ap suc (one_each block (with_group emitted run) (next ∷ block_runs))
 
 pub rest_is_few : RestIsFew
 rest_is_few task so_far blocks =
-    let same = one_each task.sizes.block (emitted_by so_far) (until_ended (block_runs task so_far.index so_far.scratch blocks)) in
+    let same = one_each task.sizes.block (emitted_by so_far) (until_ended (block_runs_from task so_far.index so_far.scratch blocks)) in
     let less = few_runs task so_far.index so_far.scratch blocks in
     omega (arith, same, less)

@@ -23,7 +23,7 @@ use Rattle.pushdown.specs.EventReplies.{Submission, completed}
 use Rattle.pushdown.specs.Events.{Occurrence, state_after}
 use Rattle.pushdown.specs.Happenings.{happens, just_loaded, keeping, place_left, result_by, slots_left, start_by, submitted, take_turn, turned_at, why_not_run}
 use Rattle.pushdown.specs.Outcome.{Ending, Turn, ending_of}
-use Rattle.pushdown.specs.Pushdown.{IsAdmitted, no_turn, now, own_turns, place, runs, task}
+use Rattle.pushdown.specs.Pushdown.{IsAdmitted, block_runs, no_turn, now, own_turns, place, task}
 use Rattle.pushdown.specs.ReadBack.{IsCompleted, LoadSucceeds, NoEventReplaces, NoRunEnds, ResultGives, ResultsReadBack, Submits, after_turn}
 use Rattle.pushdown.specs.Reached.{IsReached}
 use Rattle.pushdown.specs.State.{Place, State, free_place, holds_at, place_at, program_at, uses}
@@ -92,10 +92,10 @@ last_ending (turn ∷ []) (suc k) is = absurd (omega (arith, is))
 last_ending (turn ∷ next ∷ turns) zero is = absurd (omega (arith, is))
 last_ending (turn ∷ next ∷ turns) (suc k) is = last_ending (next ∷ turns) k (omega (arith, is))
 
-last_scratch_long : (task : Task) (runs : List BlockRun) → AllByRecursion (IsDone task) runs → 1 ≤ length runs → length (last_scratch runs) ≡ 1024
+last_scratch_long : (task : Task) (block_runs : List BlockRun) → AllByRecursion (IsDone task) block_runs → 1 ≤ length block_runs → length (last_scratch block_runs) ≡ 1024
 last_scratch_long task [] done some = absurd (omega (arith, some))
 last_scratch_long task (run ∷ []) done some = done.0.scratch.long
-last_scratch_long task (run ∷ next ∷ runs) done some = last_scratch_long task (next ∷ runs) done.1 (omega arith)
+last_scratch_long task (run ∷ next ∷ block_runs) done some = last_scratch_long task (next ∷ block_runs) done.1 (omega arith)
 
 -- ---- events that don't replace a result
 
@@ -202,7 +202,7 @@ module _ {D : Type 0} (operations : Operations D) (never : AcceptedNeverTraps op
   sub = record { queue = queue; entry = entry; input = input.items }
 
   abbrev all_runs : List BlockRun
-  all_runs = runs operations s queue entry input starved command run events
+  all_runs = block_runs operations s queue entry input starved command run events
 
   abbrev here : Place
   here = place operations s queue entry input starved command run events
@@ -247,7 +247,7 @@ results_read_back operations never s reached queue entry input starved command r
     let then = after_turn operations s queue entry input starved command run events later in
     let end = state_after operations later then in
     let same = events_leave operations command.slot later then none in
-    let bytes = last_scratch (runs operations s queue entry input starved command run events) in (
+    let bytes = last_scratch (block_runs operations s queue entry input starved command run events) in (
       long operations never s reached queue entry input starved command run events later admitted,
       result_given operations end command.slot bytes (record { loaded = has.loaded; at = same ∙ has.at; result = has.result }),
     )

@@ -38,7 +38,7 @@ use Rattle.zns_commands.proofs.Proved.{held_destinations_are_left, events_keep_n
 use Rattle.nvme_entry.proofs.Proved.{demanded, passed}
 use Rattle.pushdown.specs.Admission.{Loaded, admission_checks, source_blocks, task_of}
 use Rattle.pushdown.specs.EventReplies.{Submission}
-use Rattle.pushdown.specs.BlockRuns.{Task, groups_of, no_scratch, runs_of}
+use Rattle.pushdown.specs.BlockRuns.{Task, block_runs_of, groups_of, no_scratch}
 use Rattle.pushdown.specs.Events.{AreEvents, CarriesBytes, Occurrence, state_after}
 use Rattle.pushdown.specs.Laws.{IsAcceptedIn, IsAppended, RoomIn, StatesAreSound}
 use Rattle.pushdown.specs.Happenings.{admitted_place, happens, just_loaded, keeping, load_checks, place_left, slots_left, turn_state, turned, why_not_run}
@@ -78,16 +78,16 @@ few_source ns command =
 
 -- ---- groups
 
-pub groups_fit : (task : Task) (runs : List BlockRun) → AllByRecursion (IsDone task) runs
-    → AllByRecursion (λ group. length group ≤ task.sizes.limit) (groups_of runs)
+pub groups_fit : (task : Task) (block_runs : List BlockRun) → AllByRecursion (IsDone task) block_runs
+    → AllByRecursion (λ group. length group ≤ task.sizes.limit) (groups_of block_runs)
 groups_fit task [] h = tt
-groups_fit task (run ∷ runs) h = (h.0.exits.group, groups_fit task runs h.1)
+groups_fit task (run ∷ block_runs) h = (h.0.exits.group, groups_fit task block_runs h.1)
 
-pub groups_within : (task : Task) (runs : List BlockRun) → task.sizes.limit ≤ task.sizes.block → AllByRecursion (IsDone task) runs
-    → FitBlock task.sizes.block (groups_of runs)
-groups_within task runs less h =
+pub groups_within : (task : Task) (block_runs : List BlockRun) → task.sizes.limit ≤ task.sizes.block → AllByRecursion (IsDone task) block_runs
+    → FitBlock task.sizes.block (groups_of block_runs)
+groups_within task block_runs less h =
     all_from (λ group. length group ≤ task.sizes.limit) (λ group. length group ≤ task.sizes.block) (λ group fits. omega (arith, less, fits))
-    (groups_of runs) (groups_fit task runs h)
+    (groups_of block_runs) (groups_fit task block_runs h)
 
 -- ---- states
 
@@ -197,8 +197,8 @@ module _ {D : Type 0} (operations : Operations D) (never : AcceptedNeverTraps op
     abbrev pub source : List (List ℕ)
     source = source_blocks s.namespace command
 
-    abbrev pub runs : List BlockRun
-    runs = runs_of task source
+    abbrev pub block_runs : List BlockRun
+    block_runs = block_runs_of task source
 
     abbrev checks : List (Option Status)
     checks = admission_checks s.namespace (holds_at s) (is_some (free_place s)) (program_at s command.slot) command sub.input
@@ -209,11 +209,11 @@ module _ {D : Type 0} (operations : Operations D) (never : AcceptedNeverTraps op
         slot_ready s.namespace slot command h.is h.size (all_at SlotIsFine s.slots command.slot None h.slots tt)
         (demanded (is_some slot) NO_SUCH_PROGRAM (passed checks 2 none))
 
-    pub runs_all_done : AllByRecursion (IsDone task) runs
+    pub runs_all_done : AllByRecursion (IsDone task) block_runs
     runs_all_done = runs_done task ready source (source_are s.namespace command h.is)
 
-    pub all_exit : AllByRecursion (λ (run : BlockRun). IsExit run.end) runs
-    all_exit = all_from (IsDone task) (λ (run : BlockRun). IsExit run.end) (λ run done. done.exits.exit) runs runs_all_done
+    pub all_exit : AllByRecursion (λ (run : BlockRun). IsExit run.end) block_runs
+    all_exit = all_from (IsDone task) (λ (run : BlockRun). IsExit run.end) (λ run done. done.exits.exit) block_runs runs_all_done
 
     -- the range is written
     pub written : command.lba % s.namespace.size + command.blocks ≤ length (zone_at s.namespace (command.lba / s.namespace.size)).blocks
@@ -228,24 +228,24 @@ module _ {D : Type 0} (operations : Operations D) (never : AcceptedNeverTraps op
         let at = command.lba % s.namespace.size in
         omega (arith, written, some, length-take command.blocks (drop at blocks), length-drop at blocks)
 
-    pub some_run : 1 ≤ command.blocks → 1 ≤ length runs
+    pub some_run : 1 ≤ command.blocks → 1 ≤ length block_runs
     some_run some = some_runs task source (some_source some)
 
     pub turns_are : 1 ≤ command.blocks → AreTurns (admitted_place sub s command).turns
     turns_are some = record {
       whole = subst (λ (n : ℕ). AllByRecursion (HasWhole n) (outcome task source)) h.size
-          (turns_whole s.namespace.block task nothing_emitted runs ready.sizes.fits runs_all_done (no_groups s.namespace.block));
-      few = turns_few s.namespace.block nothing_emitted runs;
-      ends = ends_with_last task s.namespace.block nothing_emitted runs runs_all_done (some_run some);
+          (turns_whole s.namespace.block task nothing_emitted block_runs ready.sizes.fits runs_all_done (no_groups s.namespace.block));
+      few = turns_few s.namespace.block nothing_emitted block_runs;
+      ends = ends_with_last task s.namespace.block nothing_emitted block_runs runs_all_done (some_run some);
     }
 
     -- no more blocks are appended than were asked for
     pub few_blocks : length (appended_by (outcome task source)) ≤ need command.blocks task.sizes
     few_blocks =
-        let groups = groups_of runs in
+        let groups = groups_of block_runs in
         let whole = outcome_is_packed task source all_exit in
-        let enough = need_is_enough task.sizes groups ready.sizes.fits (groups_fit task runs runs_all_done) in
-        let some_groups = length-map runs (λ (run : BlockRun). run.state.group) in
+        let enough = need_is_enough task.sizes groups ready.sizes.fits (groups_fit task block_runs runs_all_done) in
+        let some_groups = length-map block_runs (λ (run : BlockRun). run.state.group) in
         let few = few_runs task 0 no_scratch source in
         let most : length groups ≤ command.blocks = omega (arith, some_groups, few, few_source s.namespace command) in
         let grows = need_grows task.sizes (length groups) command.blocks most in

@@ -42,10 +42,10 @@ abbrev pub scratch_after : BlockRun → List ℕ
 scratch_after run = run.state.memory.scratch
 
 -- the program on each of these blocks, with the scratch bytes that the block run before left
-abbrev pub block_runs : Task → ℕ → List ℕ → List (List ℕ) → List BlockRun
-block_runs task index scratch [] = []
-block_runs task index scratch (bytes ∷ blocks) =
-    let run = block_run task index scratch bytes in run ∷ block_runs task (index + 1) (scratch_after run) blocks
+abbrev pub block_runs_from : Task → ℕ → List ℕ → List (List ℕ) → List BlockRun
+block_runs_from task index scratch [] = []
+block_runs_from task index scratch (bytes ∷ blocks) =
+    let run = block_run task index scratch bytes in run ∷ block_runs_from task (index + 1) (scratch_after run) blocks
 
 -- does the run go on after this block run? Not where R0 isn't 0, nor where the program couldn't go on
 abbrev pub goes_on : End → Bool
@@ -56,29 +56,29 @@ goes_on end.OutOfFuel = false
 -- these block runs up to the first after which the run doesn't go on, that one counted, or all of them
 abbrev pub until_ended : List BlockRun → List BlockRun
 until_ended [] = []
-until_ended (run ∷ runs) = run ∷ (if goes_on run.end then until_ended runs else [])
+until_ended (run ∷ block_runs) = run ∷ (if goes_on run.end then until_ended block_runs else [])
 
 -- the scratch bytes that a run begins with
 abbrev pub no_scratch : List ℕ
 no_scratch = replicate SCRATCH_BYTES 0
 
 -- the block runs that a run comes to, over its source blocks
-abbrev pub runs_of : Task → List (List ℕ) → List BlockRun
-runs_of task blocks = until_ended (block_runs task 0 no_scratch blocks)
+abbrev pub block_runs_of : Task → List (List ℕ) → List BlockRun
+block_runs_of task blocks = until_ended (block_runs_from task 0 no_scratch blocks)
 
 -- ---- what block runs leave
 
 -- their groups, in order
 abbrev pub groups_of : List BlockRun → List (List ℕ)
-groups_of runs = map (λ run. run.state.group) runs
+groups_of block_runs = map (λ run. run.state.group) block_runs
 
 -- the number of their frames
 abbrev pub frames_of : List BlockRun → ℕ
 frames_of [] = 0
-frames_of (run ∷ runs) = run.state.frames + frames_of runs
+frames_of (run ∷ block_runs) = run.state.frames + frames_of block_runs
 
 -- the scratch bytes that the last of them leaves
 abbrev pub last_scratch : List BlockRun → List ℕ
 last_scratch [] = no_scratch
 last_scratch (run ∷ []) = scratch_after run
-last_scratch (run ∷ next ∷ runs) = last_scratch (next ∷ runs)
+last_scratch (run ∷ next ∷ block_runs) = last_scratch (next ∷ block_runs)

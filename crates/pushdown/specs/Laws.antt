@@ -27,7 +27,7 @@ use Rattle.zns_commands.specs.Append.{TakesBlocks, append_checks, append_effect}
 use Rattle.zns_commands.specs.Left.{Grows}
 use Rattle.pushdown.specs.Admission.{Loaded, SameProgram, sizes_in, source_blocks, task_of}
 use Rattle.pushdown.specs.EventReplies.{Happening, Submission, completion, plain}
-use Rattle.pushdown.specs.BlockRuns.{Task, block_run, frames_of, goes_on, groups_of, runs_of, scratch_after}
+use Rattle.pushdown.specs.BlockRuns.{Task, block_run, block_runs_of, frames_of, goes_on, groups_of, scratch_after}
 use Rattle.pushdown.specs.Draining.{Drains, turns_left}
 use Rattle.pushdown.specs.Events.{Occurrence}
 use Rattle.pushdown.specs.Happenings.{added, admitted_place, happens, just_loaded, sizes_for, turned}
@@ -87,16 +87,16 @@ RestIsFew = (task : Task) (so_far : Progress) (blocks : List (List ℕ)) → len
 
 -- All that the turns of a run append is the packing of the groups of all its block runs, and the last turn
 -- tells how many frames these hold and how many blocks they come to.
-pub record IsWholeOutcome (task : Task) (runs : List BlockRun) (turns : List Turn) : Type 0 where
-  pub blocks : appended_by turns ≡ packed task.sizes.block (groups_of runs)
-  pub one_each : length turns ≡ length runs
-  pub ending : 1 ≤ length runs → ending_of turns ≡ Some (success_of runs turns)
+pub record IsWholeOutcome (task : Task) (block_runs : List BlockRun) (turns : List Turn) : Type 0 where
+  pub blocks : appended_by turns ≡ packed task.sizes.block (groups_of block_runs)
+  pub one_each : length turns ≡ length block_runs
+  pub ending : 1 ≤ length block_runs → ending_of turns ≡ Some (success_of block_runs turns)
 
 -- where each block run ends by EXIT, all that the turns append is the groups, packed
 abbrev pub OutcomeIsPacked : Type 0
 OutcomeIsPacked =
-    (task : Task) (blocks : List (List ℕ)) → AllByRecursion (λ run. IsExit run.end) (runs_of task blocks)
-    → IsWholeOutcome task (runs_of task blocks) (outcome task blocks)
+    (task : Task) (blocks : List (List ℕ)) → AllByRecursion (λ run. IsExit run.end) (block_runs_of task blocks)
+    → IsWholeOutcome task (block_runs_of task blocks) (outcome task blocks)
 
 -- ---- refused entries, and slots
 
@@ -261,9 +261,9 @@ TurnsLeaveFewer operations =
 -- ---- in a user's words
 
 -- the records of these groups are what block runs emitted, of which there are as many as they count frames
-pub record AreEmitted (runs : List BlockRun) (records : List (List (List ℕ))) : Type 0 where
-  pub groups : groups_of runs ≡ map frames records
-  pub counted : length (flat_map (λ group. group) records) ≡ frames_of runs
+pub record AreEmitted (block_runs : List BlockRun) (records : List (List (List ℕ))) : Type 0 where
+  pub groups : groups_of block_runs ≡ map frames records
+  pub counted : length (flat_map (λ group. group) records) ≡ frames_of block_runs
 
 -- what an admitted run appends reads back as the records that its block runs emit, in order
 abbrev pub OutcomeUnpacks : {D : Type 0} → Operations D → Type 0
@@ -272,5 +272,5 @@ OutcomeUnpacks operations =
     → (sub : Submission) (command : RunCommand) (run : ℕ) → IsAdmitted s sub command run
     → let task = task_of s.namespace (program_at s command.slot) command in
     let source = source_blocks s.namespace command in
-    (records : List (List (List ℕ))) × (AreEmitted (runs_of task source) records
+    (records : List (List (List ℕ))) × (AreEmitted (block_runs_of task source) records
     × (unpacked task.sizes.block (concat (appended_by (outcome task source))) ≡ Ok (flat_map (λ group. group) records)))

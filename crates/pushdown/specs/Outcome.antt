@@ -8,7 +8,7 @@ use Rattle.program_meaning.specs.BlockRun.{BlockRun}
 use Rattle.program_meaning.specs.declared.end.End.{End}
 use Rattle.program_meaning.specs.declared.end.End.TheVariants as end
 use Rattle.emit_append.specs.Packing.{packed, released}
-use Rattle.pushdown.specs.BlockRuns.{Task, block_runs, no_scratch, runs_of, scratch_after, until_ended}
+use Rattle.pushdown.specs.BlockRuns.{Task, block_runs_from, block_runs_of, no_scratch, scratch_after, until_ended}
 
 -- ---- turns
 
@@ -85,11 +85,11 @@ last_turn block emitted run = last_turn_by run.end block emitted run
 abbrev pub turns_after : ℕ → Emitted → List BlockRun → List Turn
 turns_after block emitted [] = []
 turns_after block emitted (run ∷ []) = last_turn block emitted run ∷ []
-turns_after block emitted (run ∷ next ∷ runs) = middle_turn block emitted run ∷ turns_after block (with_group emitted run) (next ∷ runs)
+turns_after block emitted (run ∷ next ∷ block_runs) = middle_turn block emitted run ∷ turns_after block (with_group emitted run) (next ∷ block_runs)
 
 -- the turns of a run
 abbrev pub outcome : Task → List (List ℕ) → List Turn
-outcome task blocks = turns_after task.sizes.block nothing_emitted (runs_of task blocks)
+outcome task blocks = turns_after task.sizes.block nothing_emitted (block_runs_of task blocks)
 
 -- the blocks that turns append
 abbrev pub appended_by : List Turn → List (List ℕ)
@@ -123,4 +123,4 @@ emitted_by so_far = record { groups = so_far.pending ∷ []; frames = so_far.fra
 -- the turns that are left of a run that has come so far, of the source blocks still to come
 abbrev pub rest : Task → Progress → List (List ℕ) → List Turn
 rest task so_far blocks =
-    turns_after task.sizes.block (emitted_by so_far) (until_ended (block_runs task so_far.index so_far.scratch blocks))
+    turns_after task.sizes.block (emitted_by so_far) (until_ended (block_runs_from task so_far.index so_far.scratch blocks))

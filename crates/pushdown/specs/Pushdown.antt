@@ -1,5 +1,5 @@
 -- The pushdown theorem: for every accepted program, every state that any list of events leaves, and every
--- Run admitted there, whatever events of others follow:
+-- Run admitted there, whatever events follow, turns of its own among them:
 -- 1. no turn traps;
 -- 2. each turn takes at most as many steps as the program has instructions;
 -- 3. each turn changes no zone but the destination, and that one by blocks at its end; it leaves other runs'
@@ -22,7 +22,7 @@ use Rattle.word_domain.specs.Domain.{Operations}
 use Rattle.image_store.specs.Namespace.{ZonedNamespace, zone_at, shape}
 use Rattle.pushdown.specs.Admission.{SameProgram, source_blocks, task_of}
 use Rattle.pushdown.specs.EventReplies.{Happening, Submission}
-use Rattle.pushdown.specs.BlockRuns.{Task, frames_of, last_scratch, runs_of}
+use Rattle.pushdown.specs.BlockRuns.{Task, block_runs_of, frames_of, last_scratch}
 use Rattle.pushdown.specs.Events.{Occurrence, state_after}
 use Rattle.pushdown.specs.Happenings.{added, admitted_place, place_left, slots_left, turn_reply, turned, why_not_run}
 use Rattle.pushdown.specs.Outcome.{Ending, Turn, appended_by, ending_of, outcome}
@@ -71,11 +71,11 @@ EndsWithLast (turn ∷ next ∷ turns) = (turn.ending ≡ None) × EndsWithLast 
 -- a success that tells the frames of these block runs and the blocks of these turns; the scratch bytes that
 -- the last block run left are the result
 abbrev pub success_of : List BlockRun → List Turn → Ending
-success_of runs turns = record {
+success_of block_runs turns = record {
   status = SUCCESS;
-  dw0 = frames_of runs;
+  dw0 = frames_of block_runs;
   dw1 = length (appended_by turns);
-  result = Some (last_scratch runs);
+  result = Some (last_scratch block_runs);
 }
 
 -- ---- the five parts
@@ -91,8 +91,8 @@ module _ {D : Type 0} (operations : Operations D) where
     abbrev pub task : Task
     task = task_of s.namespace (program_at s command.slot) command
 
-    abbrev pub runs : List BlockRun
-    runs = runs_of task (source_blocks s.namespace command)
+    abbrev pub block_runs : List BlockRun
+    block_runs = block_runs_of task (source_blocks s.namespace command)
 
     abbrev pub place : Place
     place = admitted_place submission s command
@@ -113,12 +113,12 @@ module _ {D : Type 0} (operations : Operations D) where
 
     -- 1. No turn traps: each block run ends by EXIT, and the run's last turn ends it, with success.
     pub record NoTurnTraps : Type 0 where
-      pub exits : AllByRecursion (λ r. IsExit r.end) runs
+      pub exits : AllByRecursion (λ r. IsExit r.end) block_runs
       pub ends : EndsWithLast place.turns
 
     -- 2. Each turn takes at most as many steps as the program has instructions.
     abbrev pub FewSteps : Type 0
-    FewSteps = AllByRecursion (λ r. r.steps ≤ instruction_count task.program) runs
+    FewSteps = AllByRecursion (λ r. r.steps ≤ instruction_count task.program) block_runs
 
     -- 3. A turn changes no zone but the destination, and that one by blocks at its end. It leaves every other
     -- run's place, and every slot but the result of its own. Equal source blocks give equal turns: nothing
@@ -152,8 +152,8 @@ module _ {D : Type 0} (operations : Operations D) where
     -- 5. The completion tells how many frames were emitted and how many blocks were appended, which fit into the
     -- 32 bits of its dwords.
     pub record TellsFramesAndBlocks : Type 0 where
-      pub ending : ending_of place.turns ≡ Some (success_of runs place.turns)
-      pub frames : frames_of runs < 2 ^ 32
+      pub ending : ending_of place.turns ≡ Some (success_of block_runs place.turns)
+      pub frames : frames_of block_runs < 2 ^ 32
       pub blocks : length (appended_by place.turns) < 2 ^ 32
 
     -- the run is pushed down: the five parts hold, those of a turn while turns are left

@@ -26,7 +26,7 @@ use Rattle.pushdown.specs.Events.{AreEvents, Occurrence, state_after}
 use Rattle.pushdown.specs.Laws.{AreEmitted}
 use Rattle.pushdown.specs.Happenings.{commanded, happens}
 use Rattle.pushdown.specs.Outcome.{Turn, appended_by}
-use Rattle.pushdown.specs.Pushdown.{IsAdmitted, blocks_at, done, next, place, runs}
+use Rattle.pushdown.specs.Pushdown.{IsAdmitted, block_runs, blocks_at, done, next, place}
 use Rattle.pushdown.specs.Reached.{IsReached}
 use Rattle.pushdown.specs.State.{State, holds_at, place_at, uses}
 use Rattle.device_events.specs.Replies.{ReplyWithData}
@@ -123,7 +123,7 @@ module _ {D : Type 0} (operations : Operations D) where
     abbrev pub EmittedAreRead : Type 0
     EmittedAreRead =
         let blocks = appended_by turns in
-        (records : List (List (List ℕ))) × (AreEmitted (runs operations s queue entry input starved command run events) records
+        (records : List (List (List ℕ))) × (AreEmitted (block_runs operations s queue entry input starved command run events) records
         × (BlocksAreRead (state_after operations later after_turn) pointer blocks
         × (unpacked s.namespace.block (concat blocks) ≡ Ok (flat_map (λ group. group) records))))
 
@@ -137,7 +137,7 @@ module _ {D : Type 0} (operations : Operations D) where
     -- until a run of the slot ends or a Load of it succeeds
     abbrev pub IsResultReadBack : Type 0
     IsResultReadBack =
-        let bytes = last_scratch (runs operations s queue entry input starved command run events) in
+        let bytes = last_scratch (block_runs operations s queue entry input starved command run events) in
         before + 1 ≡ length turns → NoEventReplaces command.slot later after_turn
         → (length bytes ≡ SCRATCH_BYTES) × ResultGives (state_after operations later after_turn) command.slot bytes
 
