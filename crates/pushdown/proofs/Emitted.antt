@@ -38,8 +38,8 @@ emits task (run ∷ block_runs) done =
       some = (group.some, rest.some);
     }
 
-pub emitted_reads_back : {D : Type 0} (operations : Operations D) → AcceptedNeverTraps operations → OutcomeUnpacks operations
-emitted_reads_back operations never s reached sub command run admitted =
+pub outcome_unpacks : {D : Type 0} (operations : Operations D) → AcceptedNeverTraps operations → OutcomeUnpacks operations
+outcome_unpacks operations never s reached sub command run admitted =
     let fine = reached_fine operations never s reached in
     let none = admitted.passed in
     let task = task_of s.namespace (program_at s command.slot) command in

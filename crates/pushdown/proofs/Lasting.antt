@@ -8,7 +8,7 @@ use Rattle.zns_commands.proofs.Proved.{grows_on, events_keep_shapes, events_keep
 use Rattle.zns_commands.proofs.Proved.{KeepsZone}
 use Rattle.pushdown.specs.Events.{Occurrence, state_after}
 use Rattle.pushdown.specs.Happenings.{added, happens}
-use Rattle.pushdown.specs.ReadBack.{EventsKeepShapes, NoEventClears, UnclearedKeepBlocks}
+use Rattle.pushdown.specs.ReadBack.{EventsKeepShapes, NoEventClears, UnclearedZonesKeepBlocks}
 use Rattle.pushdown.specs.State.{State}
 use Rattle.device_events.specs.declared.event.Event.{Event}
 use Rattle.pushdown.proofs.Added.{added_grows, added_shape}
@@ -59,8 +59,8 @@ module _ {D : Type 0} (operations : Operations D) where
       keeps_on s.namespace next.namespace (state_after operations os next).namespace z
       (event_keeps s o.starved o.event z none.0) (events_keep os next z none.1)
 
-  pub uncleared_keep_blocks : UnclearedKeepBlocks operations
-  uncleared_keep_blocks s events z none = (events_keep events s z none).blocks
+  pub uncleared_zones_keep_blocks : UnclearedZonesKeepBlocks operations
+  uncleared_zones_keep_blocks s events z none = (events_keep events s z none).blocks
 
   event_shape : (s : State) (starved : Bool) (e : Event) → shape (happens operations s starved e).state.namespace ≡ shape s.namespace
   event_shape s starved e = after_event operations (λ (t : State). shape t.namespace ≡ shape s.namespace) s starved e (record {
@@ -71,6 +71,6 @@ module _ {D : Type 0} (operations : Operations D) where
     turn = λ run place turn later is at first. added_shape s.namespace place.destination turn.blocks;
   })
 
-  pub shapes_are_kept : EventsKeepShapes operations
-  shapes_are_kept s [] = refl
-  shapes_are_kept s (o ∷ os) = shapes_are_kept (happens operations s o.starved o.event).state os ∙ event_shape s o.starved o.event
+  pub events_keep_shapes : EventsKeepShapes operations
+  events_keep_shapes s [] = refl
+  events_keep_shapes s (o ∷ os) = events_keep_shapes (happens operations s o.starved o.event).state os ∙ event_shape s o.starved o.event

@@ -7,7 +7,7 @@ use Rattle.pushdown.specs.AnyOrder.{TurnsInAnyOrder}
 use Rattle.pushdown.specs.Laws.{BlocksLeaveOthers, DrainingEnds, EventsKeepForRuns, OnlyLoadsChangeSlots, RefusedLeavesState, RestEnds, RestGoesOn, RestIsFew, RoomIsOpen, RoomStays, StatesAreSound, TurnsLeaveFewer}
 use Rattle.pushdown.specs.Parts.{DrainedByTurns, EventsJoin, InParts, ServedAndDrained}
 use Rattle.pushdown.specs.Pushdown.{Pushdown}
-use Rattle.pushdown.specs.ReadBack.{AppendsReadBack, ResultsReadBack, RunsReadBack, WritesReadBack}
+use Rattle.pushdown.specs.ReadBack.{AppendedBlocksReadBack, AppendedByRunsReadsBack, ResultsReadBack, WrittenBlocksReadBack}
 use Rattle.pushdown.specs.Reached.{EventsKeepReached, NewIsReached, TurnsKeepReached}
 use Rattle.pushdown.specs.View.{SeenAtAdmission, SeenStays}
 use Rattle.pushdown.proofs.Added as added
@@ -45,10 +45,10 @@ pub blocks_leave_others : BlocksLeaveOthers
 blocks_leave_others = added.blocks_leave_others
 
 pub room_is_open : RoomIsOpen
-room_is_open = fitting.still_open
+room_is_open = fitting.room_is_open
 
 pub room_stays : RoomStays
-room_stays = fitting.turn_room
+room_stays = fitting.room_stays
 
 pub events_join : EventsJoin
 events_join = parts.events_join
@@ -81,11 +81,11 @@ module _ {D : Type 0} (operations : Operations D) where
   pub only_loads_change_slots : OnlyLoadsChangeSlots operations
   only_loads_change_slots = answered.only_loads_change_slots operations
 
-  pub appended_reads_back : AppendsReadBack operations
-  appended_reads_back = read_back.appended_reads_back operations
+  pub appended_blocks_read_back : AppendedBlocksReadBack operations
+  appended_blocks_read_back = read_back.appended_blocks_read_back operations
 
-  pub written_reads_back : WritesReadBack operations
-  written_reads_back = read_back.written_reads_back operations
+  pub written_blocks_read_back : WrittenBlocksReadBack operations
+  written_blocks_read_back = read_back.written_blocks_read_back operations
 
   module _ (never : AcceptedNeverTraps operations) where
     pub states_are_sound : StatesAreSound operations
@@ -100,8 +100,8 @@ module _ {D : Type 0} (operations : Operations D) where
     pub turns_in_any_order : TurnsInAnyOrder operations
     turns_in_any_order = any_order.turns_in_any_order operations never
 
-    pub runs_read_back : RunsReadBack operations
-    runs_read_back = runs_read.runs_read_back operations never
+    pub appended_by_runs_reads_back : AppendedByRunsReadsBack operations
+    appended_by_runs_reads_back = runs_read.appended_by_runs_reads_back operations never
 
     pub results_read_back : ResultsReadBack operations
     results_read_back = results.results_read_back operations never

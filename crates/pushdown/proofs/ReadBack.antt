@@ -26,7 +26,7 @@ use Rattle.pushdown.specs.EventReplies.{Happening, Submission}
 use Rattle.pushdown.specs.Events.{Occurrence, state_after}
 use Rattle.pushdown.specs.Happenings.{commanded, happens, submitted}
 use Rattle.pushdown.specs.Pushdown.{blocks_at}
-use Rattle.pushdown.specs.ReadBack.{AppendsReadBack, BlocksAreRead, IsCompleted, NoEventClears, ReadsGive, Submits, WritesReadBack, WrittenIsRead}
+use Rattle.pushdown.specs.ReadBack.{AppendedBlocksReadBack, BlocksAreRead, IsCompleted, NoEventClears, ReadsGive, Submits, WrittenBlocksReadBack, WrittenIsRead}
 use Rattle.pushdown.specs.State.{State, holds_at}
 use Rattle.device_events.specs.declared.event.Event.{Event}
 use Rattle.device_events.specs.declared.event.Event.TheVariants as event
@@ -123,8 +123,8 @@ module _ {D : Type 0} (operations : Operations D) where
       let last = state_after operations events then in
       subst (λ (ns : ZonedNamespace). KeepsZone ns last.namespace z) (leaves o.event c input s o.starved is) (events_keep operations events then z none)
 
-  pub appended_reads_back : AppendsReadBack operations
-  appended_reads_back s sound o lba blocks input events is succeeded none =
+  pub appended_blocks_read_back : AppendedBlocksReadBack operations
+  appended_blocks_read_back s sound o lba blocks input events is succeeded none =
       let ns = s.namespace in
       let c = Append lba blocks in
       let done = meaning ns (holds_at s) c input in
@@ -133,8 +133,8 @@ module _ {D : Type 0} (operations : Operations D) where
       let later = appended_stays ns (holds_at s) lba blocks input last.namespace sound (has_blocks o.event c input is) succeeded keeps in
       (completed o.event c input s o.starved is, reads last (done.dw0 + done.dw1 * 2 ^ 32) blocks input later)
 
-  pub written_reads_back : WritesReadBack operations
-  written_reads_back s sound o lba blocks input events is succeeded none =
+  pub written_blocks_read_back : WrittenBlocksReadBack operations
+  written_blocks_read_back s sound o lba blocks input events is succeeded none =
       let ns = s.namespace in
       let c = Write lba blocks in
       let last = state_after operations events (happens operations s o.starved o.event).state in

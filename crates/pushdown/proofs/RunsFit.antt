@@ -9,7 +9,7 @@ use Rattle.pushdown.specs.State.{Place, State, place_at}
 use Rattle.pushdown.proofs.Added.{added_capacity, added_leaves}
 use Rattle.pushdown.proofs.OthersEvents.{there}
 use Rattle.pushdown.proofs.Places.{AreApart}
-use Rattle.pushdown.proofs.TurnsFit.{turn_room}
+use Rattle.pushdown.proofs.TurnsFit.{room_stays}
 
 abbrev pub Rooms : State → Type 0
 Rooms s = (j : ℕ) (p : Place) → place_at s j ≡ Some p → RoomIn s.namespace.capacity (zone_at s.namespace p.destination) p.turns
@@ -39,7 +39,7 @@ module _ (s : State) (run : ℕ) (place : Place) (turn : Turn) (later : List Tur
       let same : record place { turns = later } ≡ p = cc in
       let room = moved_room s.namespace.capacity next.capacity (zone_at next place.destination) (zone_at next place.destination) later
       (added_capacity s.namespace place.destination turn.blocks) refl
-      (turn_room s.namespace place.destination turn.blocks turn.ending later now_room) in
+      (room_stays s.namespace place.destination turn.blocks turn.ending later now_room) in
       subst (λ (q : Place). RoomIn next.capacity (zone_at next q.destination) q.turns) same room
   own_room (Some ending) p is = cc
 

@@ -20,13 +20,13 @@ use Rattle.pushdown.specs.EventReplies.{Submission}
 use Rattle.pushdown.specs.Events.{AreEvents, Occurrence, state_after}
 use Rattle.pushdown.specs.Outcome.{Turn, appended_by}
 use Rattle.pushdown.specs.Pushdown.{IsAdmitted, blocks_at}
-use Rattle.pushdown.specs.ReadBack.{AppendedAreRead, EmittedAreRead, NoEventClears, ReadsGive, RunsReadBack, after_turn, before, destination, pointer, turns}
+use Rattle.pushdown.specs.ReadBack.{AppendedAreRead, AppendedByRunsReadsBack, EmittedAreRead, NoEventClears, ReadsGive, after_turn, before, destination, pointer, turns}
 use Rattle.pushdown.specs.Reached.{IsReached}
 use Rattle.pushdown.specs.State.{State, free_place, holds_at, program_at}
 use Rattle.device_events.specs.declared.event.Event.TheVariants as event
-use Rattle.pushdown.proofs.Emitted.{emitted_reads_back}
+use Rattle.pushdown.proofs.Emitted.{outcome_unpacks}
 use Rattle.pushdown.proofs.Headline.{pushdown}
-use Rattle.pushdown.proofs.Lasting.{events_keep, shapes_are_kept}
+use Rattle.pushdown.proofs.Lasting.{events_keep, events_keep_shapes}
 use Rattle.pushdown.proofs.ReadBack.{each_is_read, part_is_read}
 use Rattle.pushdown.proofs.States.{IsFine, events_fine, reached_fine, turn_fine}
 
@@ -79,7 +79,7 @@ module _ {D : Type 0} (operations : Operations D) (never : AcceptedNeverTraps op
   last_shape : shape last.namespace ≡ shape s.namespace
   last_shape =
       let turn : Occurrence = record { event = event.Turn run; starved = false } in
-      shapes_are_kept operations then later ∙ shapes_are_kept operations now (turn ∷ []) ∙ shapes_are_kept operations s (asked ∷ events)
+      events_keep_shapes operations then later ∙ events_keep_shapes operations now (turn ∷ []) ∙ events_keep_shapes operations s (asked ∷ events)
 
   -- each part of these blocks is read
   abbrev PartsAreRead : List (List ℕ) → Type 0
@@ -110,7 +110,7 @@ module _ {D : Type 0} (operations : Operations D) (never : AcceptedNeverTraps op
     emitted_are_read ended =
         let whole : appended_by (take (so_far + 1) all_turns) ≡ appended_by all_turns = ap appended_by (take_all (so_far + 1) all_turns (omega (arith, ended))) in
         let parts = subst PartsAreRead whole appended_are_read in
-        let back = emitted_reads_back operations never s reached sub command run admitted in
+        let back = outcome_unpacks operations never s reached sub command run admitted in
         let small : 1 * s.namespace.block ≤ MOST_TRANSFER = omega (arith, block_most fine.is.shape) in (
           back.0,
           (
@@ -122,8 +122,8 @@ module _ {D : Type 0} (operations : Operations D) (never : AcceptedNeverTraps op
           ),
         )
 
-pub runs_read_back : {D : Type 0} (operations : Operations D) → AcceptedNeverTraps operations → RunsReadBack operations
-runs_read_back operations never s reached queue entry input starved command run events later admitted fit fit_later less none = (
+pub appended_by_runs_reads_back : {D : Type 0} (operations : Operations D) → AcceptedNeverTraps operations → AppendedByRunsReadsBack operations
+appended_by_runs_reads_back operations never s reached queue entry input starved command run events later admitted fit fit_later less none = (
   appended_are_read operations never s reached queue entry input starved command run events later admitted fit fit_later less none,
   emitted_are_read operations never s reached queue entry input starved command run events later admitted fit fit_later less none,
 )

@@ -21,8 +21,8 @@ use Rattle.pushdown.specs.Outcome.{Ending, Turn, appended_by}
 use Rattle.pushdown.proofs.Added.{added_bytes, bytes_are, bytes_count, bytes_long, inside, open_on}
 use Rattle.pushdown.proofs.Bytes.{AreBlocks}
 
-pub still_open : RoomIsOpen
-still_open capacity zone b bs ending later h = elim h.opened [
+pub room_is_open : RoomIsOpen
+room_is_open capacity zone b bs ending later h = elim h.opened [
   | inl is ↦ is
   | inr filled ↦ absurd (omega (arith, h.room, filled))
 ]
@@ -93,20 +93,20 @@ pub turn_sound : (ns : ZonedNamespace) (z : ℕ) (blocks : List (List ℕ)) (end
     → AreBlocks ns.block blocks → HasRoom ns z blocks ending turns → IsNamespace (added ns z blocks)
 turn_sound ns z [] ending turns sound new h = sound
 turn_sound ns z (b ∷ bs) ending turns sound new h =
-    more_sound ns z b bs (still_open ns.capacity (zone_at ns z) b bs ending turns h)
+    more_sound ns z b bs (room_is_open ns.capacity (zone_at ns z) b bs ending turns h)
     (omega (arith, h.room, length-append (b ∷ bs) (appended_by turns))) sound new
 
 pub turn_appended : (ns : ZonedNamespace) (z : ℕ) (blocks : List (List ℕ)) (ending : Option Ending) (turns : List Turn) → IsNamespace ns
     → AreBlocks ns.block blocks → length blocks ≤ 2 → HasRoom ns z blocks ending turns → blocks ≢ [] → IsAppended ns z blocks
 turn_appended ns z [] ending turns sound new few h some = absurd (some refl)
 turn_appended ns z (b ∷ bs) ending turns sound new few h some =
-    more_appended ns z b bs (still_open ns.capacity (zone_at ns z) b bs ending turns h)
+    more_appended ns z b bs (room_is_open ns.capacity (zone_at ns z) b bs ending turns h)
     (omega (arith, h.room, length-append (b ∷ bs) (appended_by turns))) sound new few
 
-pub turn_room : RoomStays
-turn_room ns z [] ending turns h = record { room = h.room; opened = h.opened }
-turn_room ns z (b ∷ bs) ending turns h =
-    let is = still_open ns.capacity (zone_at ns z) b bs ending turns h in
+pub room_stays : RoomStays
+room_stays ns z [] ending turns h = record { room = h.room; opened = h.opened }
+room_stays ns z (b ∷ bs) ending turns h =
+    let is = room_is_open ns.capacity (zone_at ns z) b bs ending turns h in
     let more = length-append (b ∷ bs) (appended_by turns) in
     let fits : length (zone_at ns z).blocks + length (b ∷ bs) ≤ ns.capacity = omega (arith, h.room, more) in
     let zone = grown ns.capacity (zone_at ns z) (b ∷ bs) in

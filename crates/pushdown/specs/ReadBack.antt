@@ -147,8 +147,8 @@ EventsKeepShapes operations =
     (s : State) (events : List Occurrence) → shape (state_after operations events s).namespace ≡ shape s.namespace
 
 -- a zone that isn't cleared keeps its blocks, and perhaps has some behind them
-abbrev pub UnclearedKeepBlocks : {D : Type 0} → Operations D → Type 0
-UnclearedKeepBlocks operations =
+abbrev pub UnclearedZonesKeepBlocks : {D : Type 0} → Operations D → Type 0
+UnclearedZonesKeepBlocks operations =
     (s : State) (events : List Occurrence) (z : ℕ) → NoEventClears operations z events s
     → Grows (blocks_at s z) (blocks_at (state_after operations events s) z)
 
@@ -161,8 +161,8 @@ WrittenIsRead operations =
 
 -- what an Append that succeeds put in is read from the address that its completion tells, whatever
 -- events happen in between, until the zone is reset or goes offline
-abbrev pub AppendsReadBack : {D : Type 0} → Operations D → Type 0
-AppendsReadBack operations =
+abbrev pub AppendedBlocksReadBack : {D : Type 0} → Operations D → Type 0
+AppendedBlocksReadBack operations =
     (s : State) → IsNamespace s.namespace
     → (o : Occurrence) (lba blocks : ℕ) (input : List ℕ) (events : List Occurrence) → Submits o.event (commands.Standard (Append lba blocks)) input
     → let done = meaning s.namespace (holds_at s) (Append lba blocks) input in
@@ -172,8 +172,8 @@ AppendsReadBack operations =
     × ReadsGive operations (state_after operations events happening.state) (done.dw0 + done.dw1 * 2 ^ 32) blocks input
 
 -- the same of a Write, which is read from its own address
-abbrev pub WritesReadBack : {D : Type 0} → Operations D → Type 0
-WritesReadBack operations =
+abbrev pub WrittenBlocksReadBack : {D : Type 0} → Operations D → Type 0
+WrittenBlocksReadBack operations =
     (s : State) → IsNamespace s.namespace
     → (o : Occurrence) (lba blocks : ℕ) (input : List ℕ) (events : List Occurrence) → Submits o.event (commands.Standard (Write lba blocks)) input
     → let done = meaning s.namespace (holds_at s) (Write lba blocks) input in
@@ -183,8 +183,8 @@ WritesReadBack operations =
 
 -- the same of what a run appends, in each state that events leave: after each of its turns what it has
 -- appended so far, and after the last one all that its program emitted
-abbrev pub RunsReadBack : {D : Type 0} → Operations D → Type 0
-RunsReadBack operations =
+abbrev pub AppendedByRunsReadsBack : {D : Type 0} → Operations D → Type 0
+AppendedByRunsReadsBack operations =
     (s : State) → IsReached operations s
     → (queue : ℕ) (entry : List ℕ) (input : Vec ℕ Global) (starved : Bool) (command : RunCommand) (run : ℕ) (events later : List Occurrence)
     → IsAdmitted s (record { queue = queue; entry = entry; input = input.items }) command run

@@ -7,27 +7,43 @@ ghost use Rattle.pushdown.specs.AnyOrder.{TurnsInAnyOrder};
 ghost use Rattle.pushdown.specs.Laws.{DrainingEnds, OnlyLoadsChangeSlots, RefusedLeavesState, StatesAreSound};
 ghost use Rattle.pushdown.specs.Pushdown.{Pushdown};
 ghost use Rattle.pushdown.specs.Reached.{EventsKeepReached, TurnsKeepReached};
-ghost use Rattle.pushdown.specs.ReadBack.{AppendsReadBack, ResultsReadBack, RunsReadBack, WritesReadBack};
+ghost use Rattle.pushdown.specs.ReadBack.{AppendedBlocksReadBack, AppendedByRunsReadsBack, ResultsReadBack, WrittenBlocksReadBack};
 ghost use Rattle.runner.specs.Laws.{EmptyIsReached, LoadedIsReached, SavedStatesLoad};
 
-/// A device begins with an empty or a loaded image, and events lead on from there. In every state that they
-/// leave, the open and active zones are within the limits, each zone's state fits its written blocks, each
-/// block is whole and of bytes, each loaded program is accepted, and no append of a run's turns can be refused.
-pub fn events_keep_devices_sound()
-    ensures empty { EmptyIsReached }
-    ensures loaded { LoadedIsReached }
-    ensures events { EventsKeepReached intervals }
-    ensures turns { TurnsKeepReached intervals }
-    ensures sound { StatesAreSound intervals }
+/// A device begins with an empty image, in a state that events leave.
+pub fn empty_is_reached()
+    ensures { EmptyIsReached }
+{}
+
+/// So it does with an image that was loaded.
+pub fn loaded_is_reached()
+    ensures { LoadedIsReached }
+{}
+
+/// From each state that events leave, events lead to another.
+pub fn events_keep_reached()
+    ensures { EventsKeepReached intervals }
+{}
+
+/// So do turns, as those that drain a device are.
+pub fn turns_keep_reached()
+    ensures { TurnsKeepReached intervals }
+{}
+
+/// In every state that events leave, the open and active zones are within the limits, each zone's state fits its
+/// written blocks, each block is whole and of bytes, each loaded program is accepted, and no append of a run's turns
+/// can be refused.
+pub fn states_are_sound()
+    ensures { StatesAreSound intervals }
 {}
 
 /// In every state that events leave, turns of the lowest active run come to an end.
-pub fn devices_can_be_drained()
+pub fn draining_ends()
     ensures { DrainingEnds intervals }
 {}
 
 /// What is saved loads again as the same namespace, whatever events happened before.
-pub fn saved_devices_load()
+pub fn saved_states_load()
     ensures { SavedStatesLoad }
 {}
 
@@ -47,18 +63,18 @@ pub fn only_loads_change_slots()
 /// in between, until the zone is reset or goes offline. It holds in every state with a sound
 /// namespace, as those are that events leave.
 pub fn appended_blocks_read_back()
-    ensures { AppendsReadBack intervals }
+    ensures { AppendedBlocksReadBack intervals }
 {}
 
 /// The same of a Write, at its own address.
 pub fn written_blocks_read_back()
-    ensures { WritesReadBack intervals }
+    ensures { WrittenBlocksReadBack intervals }
 {}
 
 /// What a run appends is read back so from where its destination ended at admission. After its last turn the
 /// blocks that are read unpack to the records that its program emitted, in order.
 pub fn appended_by_runs_reads_back()
-    ensures { RunsReadBack intervals }
+    ensures { AppendedByRunsReadsBack intervals }
 {}
 
 /// After a run's last turn a Result of its slot gives the 1024 scratch bytes that its last block run left,
@@ -67,11 +83,14 @@ pub fn results_read_back()
     ensures { ResultsReadBack intervals }
 {}
 
+/// Turns come to the same in any order, but for the result of a slot that two of their runs share.
+pub fn turns_in_any_order()
+    ensures { TurnsInAnyOrder intervals }
+{}
+
 /// The pushdown theorem holds of each Run that a device admits: no turn traps, each takes at most as many
 /// steps as the program has instructions, a turn changes its destination alone, by blocks at its end, and
-/// the appended blocks and the completion are those that are fixed at admission. Turns come to the same in
-/// any order, but for the result of a slot that two of their runs share.
-pub fn runs_are_pushed_down()
-    ensures theorem { Pushdown intervals }
-    ensures order { TurnsInAnyOrder intervals }
+/// the appended blocks and the completion are those that are fixed at admission.
+pub fn pushdown()
+    ensures { Pushdown intervals }
 {}

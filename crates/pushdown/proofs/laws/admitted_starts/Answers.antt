@@ -1,0 +1,5 @@
+use Rattle.pushdown.proofs.Headline.{admitted_starts}
+use Rattle.pushdown.proofs.laws.admitted_starts.Goals as goal
+
+pub returns : goal.returns
+returns g c = admitted_starts g.D.Domain.operations

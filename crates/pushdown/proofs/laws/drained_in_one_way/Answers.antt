@@ -1,0 +1,5 @@
+use Rattle.pushdown.proofs.Parts.{drained_in_one_way}
+use Rattle.pushdown.proofs.laws.drained_in_one_way.Goals as goal
+
+pub returns : goal.returns
+returns c = drained_in_one_way

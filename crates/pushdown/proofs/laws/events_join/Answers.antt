@@ -1,0 +1,5 @@
+use Rattle.pushdown.proofs.Parts.{events_join}
+use Rattle.pushdown.proofs.laws.events_join.Goals as goal
+
+pub returns : goal.returns
+returns c = events_join

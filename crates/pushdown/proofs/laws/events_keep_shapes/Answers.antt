@@ -1,0 +1,5 @@
+use Rattle.pushdown.proofs.Lasting.{events_keep_shapes}
+use Rattle.pushdown.proofs.laws.events_keep_shapes.Goals as goal
+
+pub returns : goal.returns
+returns g c = events_keep_shapes g.D.Domain.operations

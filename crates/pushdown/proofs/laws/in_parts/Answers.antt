@@ -1,0 +1,5 @@
+use Rattle.pushdown.proofs.Parts.{in_parts}
+use Rattle.pushdown.proofs.laws.in_parts.Goals as goal
+
+pub returns : goal.returns
+returns g c = in_parts g.D.Domain.operations

@@ -1,0 +1,5 @@
+use Rattle.pushdown.proofs.Pending.{pending_is_admitted}
+use Rattle.pushdown.proofs.laws.pending_is_admitted.Goals as goal
+
+pub returns : goal.returns
+returns g c = pending_is_admitted g.D.Domain.operations

@@ -1,0 +1,5 @@
+use Rattle.pushdown.proofs.ReadBack.{written_is_read}
+use Rattle.pushdown.proofs.laws.written_is_read.Goals as goal
+
+pub returns : goal.returns
+returns g c = written_is_read g.D.Domain.operations
