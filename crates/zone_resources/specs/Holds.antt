@@ -1,5 +1,5 @@
 -- The zones that active runs use, and what is refused there (profile).
-use Rattle.std.specs.Prelude.{ℕ, ◌≡◌, Bool, true, false, Option, Some, None, ◌==◌, ◌||◌, ◌&&◌, replicate}
+use Rattle.std.specs.Prelude.{ℕ, ◌≡◌, Bool, true, false, Option, Some, None, ◌==◌, ◌||◌, ◌&&◌, get_or, replicate}
 use Rattle.std.specs.List.{list_any}
 use Rattle.zone_resources.specs.declared.holds.Holds.{Holds}
 use Rattle.zone_resources.specs.declared.holds.TheConstants.{RUNS}
@@ -37,12 +37,20 @@ refuses holds action zone = is_destination holds zone || (forgets action && is_s
 abbrev pub no_holds : Holds
 no_holds = record { sources = replicate RUNS None; destinations = replicate RUNS None }
 
+-- a run appends to the zone
+abbrev pub IsAppendedTo : Holds → ℕ → Type 0
+IsAppendedTo holds zone = (run : ℕ) × (get_or holds.destinations run None ≡ Some zone)
+
+-- a run reads from the zone
+abbrev pub IsReadFrom : Holds → ℕ → Type 0
+IsReadFrom holds zone = (run : ℕ) × (get_or holds.sources run None ≡ Some zone)
+
 -- a zone that a run appends to is held against every action; one that runs only read from against those that
 -- forget its blocks, and against no others; and one that no run uses against none
 pub record HoldsRefuse : Type 0 where
-  pub destination : (holds : Holds) (a : Action) (zone : ℕ) → is_destination holds zone ≡ true → refuses holds a zone ≡ true
-  pub source : (holds : Holds) (zone : ℕ) → is_source holds zone ≡ true
+  pub destination : (holds : Holds) (a : Action) (zone : ℕ) → IsAppendedTo holds zone → refuses holds a zone ≡ true
+  pub source : (holds : Holds) (zone : ℕ) → IsReadFrom holds zone
       → (refuses holds action.Reset zone ≡ true) × (refuses holds action.Offline zone ≡ true)
-  pub read : (holds : Holds) (a : Action) (zone : ℕ) → is_destination holds zone ≡ false → forgets a ≡ false → refuses holds a zone ≡ false
-  pub free : (holds : Holds) (a : Action) (zone : ℕ) → is_held holds zone ≡ false → refuses holds a zone ≡ false
-  pub none : (zone : ℕ) → is_held no_holds zone ≡ false
+  pub read : (holds : Holds) (a : Action) (zone : ℕ) → (IsAppendedTo holds zone → ⊥) → forgets a ≡ false → refuses holds a zone ≡ false
+  pub free : (holds : Holds) (a : Action) (zone : ℕ) → (IsAppendedTo holds zone → ⊥) → (IsReadFrom holds zone → ⊥) → refuses holds a zone ≡ false
+  pub none : (zone : ℕ) → (IsAppendedTo no_holds zone → ⊥) × (IsReadFrom no_holds zone → ⊥)
