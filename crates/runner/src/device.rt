@@ -6,7 +6,7 @@ ghost use Rattle.program_interface.specs.Bytes.{AreBytes};
 ghost use Rattle.device_events.specs.Replies.{data_length};
 ghost use Rattle.pushdown.specs.Draining.{HasDrained, StopsDraining, lowest_run, turns_left};
 ghost use Rattle.pushdown.specs.Events.{CarriesBytes, HasHappened, HasServed, HasStopped};
-ghost use Rattle.pushdown.specs.Happenings.{failed};
+ghost use Rattle.pushdown.specs.Happenings.{faulting};
 ghost use Rattle.pushdown.specs.State.{new_state};
 ghost use Rattle.pushdown.specs.Reached.{IsReached};
 ghost use Rattle.device_events.specs.Refusals.{CountsRefusals};
@@ -121,8 +121,8 @@ impl Device {
 
     /// Brings a zone into the state of a fault.
     fn fault(&mut self, zone: u32, state: FaultState) -> Reply
-        ensures reply { result ≡ (failed self.old zone state).reply.reply }
-        ensures state { self.new ≡ (failed self.old zone state).state }
+        ensures reply { result ≡ (faulting self.old zone state).reply.reply }
+        ensures state { self.new ≡ (faulting self.old zone state).state }
         ensures no_data { data_length result ≡ 0 }
     {
         match self.namespace.fault(zone, state, &holds(&self.runs)) {
