@@ -26,7 +26,7 @@ use Rattle.ebpf_asm.specs.Statement.{Statement, statement_of, statement_with, op
 use Rattle.ebpf_asm.specs.Line.{Line, line_of, line_in, labelled, behind_label, split_label, with_statement, slots_in}
 use Rattle.ebpf_asm.specs.Assembly.{LabelMap, lines_of, slot_count, first_fault, bytes_from, label_map, before_later, told_first, assembled, assembled_lines, unless_faulty}
 use Rattle.ebpf_asm.specs.Listing.{mnemonic_of, operand_texts, operands_text, further_texts, text_of_instruction, line_text, listing, source_text}
-use Rattle.text_lines.proofs.Proved.{cut_is_after_first_line}
+use Rattle.text_lines.proofs.Proved.{lines_are_cut}
 use Rattle.ebpf_asm.proofs.Passes.{slot_count-push}
 use Rattle.ebpf_asm.proofs.Names.{mnemonic_again, mnemonic_plain}
 use Rattle.ebpf_asm.proofs.Round.{register_again, immediate_again, wide_again}
@@ -228,7 +228,7 @@ lines_again (instruction ∷ instructions) h =
     let bytes = inline_instruction instruction h.0 in
     let stripped : strip_carriage_return text ≡ text = ap (λ c. cond c (take (length text - 1) text) text) (no_return_at text (length text - 1) (weaker inline (λ b. not (eqb b 13)) inline_no_return text bytes)) in
     ap lines (append_assoc text (10 ∷ []) rest)
-    ∙ cut_is_after_first_line (text ++ 10 ∷ rest) text rest (cut_some 10 text rest refl (weaker inline (λ b. not (eqb b 10)) inline_no_newline text bytes))
+    ∙ lines_are_cut (text ++ 10 ∷ rest) text rest (cut_some 10 text rest refl (weaker inline (λ b. not (eqb b 10)) inline_no_newline text bytes))
     ∙ ap (λ l. l ∷ lines rest) stripped
     ∙ ap (λ ls. text ∷ ls) (lines_again instructions h.1)
 

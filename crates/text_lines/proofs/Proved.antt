@@ -1,5 +1,5 @@
 -- The laws of this crate, proved: all that the proofs of other crates cite of it.
-use Rattle.text_lines.specs.Laws.{CutIsAfterFirstLine, CutIsAfterFirstPart, SomePartIsThere, UncutIsOnePart}
+use Rattle.text_lines.specs.Laws.{CutIsAfterFirstPart, LinesAreCut, SomePartIsThere, UncutIsOnePart}
 use Rattle.text_lines.proofs.LineLemmas.{cut_line}
 use Rattle.text_lines.proofs.PartLemmas.{split_more, split_some, split_whole}
 
@@ -12,5 +12,5 @@ cut_is_after_first_part = split_more
 pub some_part_is_there : SomePartIsThere
 some_part_is_there = split_some
 
-pub cut_is_after_first_line : CutIsAfterFirstLine
-cut_is_after_first_line = cut_line
+pub lines_are_cut : LinesAreCut
+lines_are_cut = cut_line

@@ -3,7 +3,7 @@ use Rattle.std.proofs.Common.{◌≡◌, ℕ, Bool, true, false, ◌&&◌, eqb, 
 use Rattle.std.proofs.Math.Dec.{eqb-suc-zero}
 use Rattle.std.proofs.lemmas.List.{append-nil}
 use Rattle.text_lines.specs.Cut.{is_blank_byte, trimmed, without_end_blanks, without_first_blanks}
-use Rattle.text_lines.specs.Laws.{AreBlanks, IsBetweenBlanks, TrimmedIsBetweenBlanks}
+use Rattle.text_lines.specs.Laws.{AreBlanks, IsBetweenBlanks, TrimmedTextsAreBetweenBlanks}
 
 -- ---- the blanks in front
 
@@ -157,8 +157,8 @@ trimmed_by (byte ∷ bytes) back first last blanks =
     ap without_end_blanks (first_is_kept byte (bytes ++ back) (first byte bytes refl))
     ∙ (back_goes (byte ∷ bytes) back blanks ∙ stays_whole (byte ∷ bytes) last)
 
-pub trimmed_is_between_blanks : TrimmedIsBetweenBlanks
-trimmed_is_between_blanks text bytes = (
+pub trimmed_texts_are_between_blanks : TrimmedTextsAreBetweenBlanks
+trimmed_texts_are_between_blanks text bytes = (
   λ h. sym (ap trimmed h.parts
       ∙ (ap without_end_blanks (front_goes h.front (bytes ++ h.back) h.front_blanks)
       ∙ trimmed_by bytes h.back h.first h.last h.back_blanks)),

@@ -12,10 +12,12 @@ cut_at byte text =
 abbrev pub is_blank_byte : ℕ → Bool
 is_blank_byte byte = byte == 32 || byte == 9
 
+-- the text without the blanks in front
 abbrev pub without_first_blanks : List ℕ → List ℕ
 without_first_blanks [] = []
 without_first_blanks (byte ∷ text) = if is_blank_byte byte then without_first_blanks text else byte ∷ text
 
+-- the text without the blanks behind it
 abbrev pub without_end_blanks : List ℕ → List ℕ
 without_end_blanks [] = []
 without_end_blanks (byte ∷ text) =

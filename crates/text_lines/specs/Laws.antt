@@ -17,6 +17,7 @@ abbrev pub CutIsAfterFirstPart : Type 0
 CutIsAfterFirstPart =
     (byte : ℕ) (text front rest : List ℕ) → cut_at byte text ≡ Some (front, rest) → parts_at byte text ≡ front ∷ parts_at byte rest
 
+-- the list has a first element
 abbrev pub HasFirst : List (List ℕ) → Type 0
 HasFirst parts = (first : List ℕ) × (rest : List (List ℕ)) × (parts ≡ first ∷ rest)
 
@@ -25,8 +26,8 @@ abbrev pub SomePartIsThere : Type 0
 SomePartIsThere = (byte : ℕ) (text : List ℕ) → HasFirst (parts_at byte text)
 
 -- the first line of a text stands before its first newline
-abbrev pub CutIsAfterFirstLine : Type 0
-CutIsAfterFirstLine =
+abbrev pub LinesAreCut : Type 0
+LinesAreCut =
     (text line behind : List ℕ) → cut_at 10 text ≡ Some (line, behind) → lines text ≡ strip_carriage_return line ∷ lines behind
 
 -- a text of blanks alone, or of nothing
@@ -44,5 +45,5 @@ pub record IsBetweenBlanks (text bytes : List ℕ) : Type 0 where
   pub last : (rest : List ℕ) (byte : ℕ) → bytes ≡ rest ++ byte ∷ [] → is_blank_byte byte ≡ false
 
 -- the trimmed text stands so in it, and nothing else does
-abbrev pub TrimmedIsBetweenBlanks : Type 0
-TrimmedIsBetweenBlanks = (text bytes : List ℕ) → IsBetweenBlanks text bytes ↔ (bytes ≡ trimmed text)
+abbrev pub TrimmedTextsAreBetweenBlanks : Type 0
+TrimmedTextsAreBetweenBlanks = (text bytes : List ℕ) → IsBetweenBlanks text bytes ↔ (bytes ≡ trimmed text)

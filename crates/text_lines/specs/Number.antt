@@ -8,5 +8,6 @@ use Rattle.std.specs.Str.Parse.{digits_value}
 abbrev pub is_number : List ℕ → Bool
 is_number word = list_all is_ascii_digit word && (nat_lt 0 (length word) && nat_lt (digits_value 10 word) (2 ^ 32))
 
+-- the number that such a word spells
 abbrev pub decimal_of : List ℕ → Option ℕ
 decimal_of word = if is_number word then Some (digits_value 10 word) else None

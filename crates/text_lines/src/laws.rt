@@ -1,7 +1,7 @@
 //! Laws of the definitions that the contracts of this crate cite. Each function does nothing: what
 //! it ensures is the law.
 
-ghost use Rattle.text_lines.specs.Laws.{CutIsAfterFirstLine, CutIsAfterFirstPart, SomePartIsThere, TrimmedIsBetweenBlanks, UncutIsOnePart};
+ghost use Rattle.text_lines.specs.Laws.{CutIsAfterFirstPart, LinesAreCut, SomePartIsThere, TrimmedTextsAreBetweenBlanks, UncutIsOnePart};
 
 /// A text is cut into parts one cut at a time, and there is a part always.
 pub fn parts_are_cut()
@@ -12,11 +12,11 @@ pub fn parts_are_cut()
 
 /// A text is cut into lines one newline at a time.
 pub fn lines_are_cut()
-    ensures { CutIsAfterFirstLine }
+    ensures { LinesAreCut }
 {}
 
 /// A text is blanks, its trimmed text, which neither begins nor ends with a blank, and blanks; nothing
 /// else stands so in it.
 pub fn trimmed_texts_are_between_blanks()
-    ensures { TrimmedIsBetweenBlanks }
+    ensures { TrimmedTextsAreBetweenBlanks }
 {}
