@@ -8,8 +8,6 @@ pub mod laws;
 mod lines;
 mod reply_file;
 mod submission;
-#[cfg(test)]
-mod tests;
 mod words;
 
 pub use command_file::{ParseFault, parse};

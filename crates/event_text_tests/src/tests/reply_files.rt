@@ -1,7 +1,7 @@
 //! The line that each reply is printed as, and lines that no reply has.
 
-use crate::{Lines, RepliesFault, ToldReply, replies};
 use device_events::{Out, Reply};
+use event_text::{Lines, RepliesFault, ToldReply, replies};
 use std::alloc::Global;
 use std::process::Abort;
 use std::test::Fail;

@@ -1,8 +1,8 @@
 //! Which lines of a command file are events, and what is said of the others.
 
 use super::text_of;
-use crate::{ParseFault, parse, submission_line};
 use device_events::Event;
+use event_text::{ParseFault, parse, submission_line};
 use std::alloc::Global;
 use std::process::Abort;
 use std::test::Fail;
