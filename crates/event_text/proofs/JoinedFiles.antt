@@ -3,7 +3,7 @@ use Rattle.std.proofs.Common.{◌≡◌, ℕ, ◌+◌, ◌<◌, ◌==◌, Bool, 
 use Rattle.std.specs.List.{slice_split, onto_first}
 use Rattle.std.specs.Str.Lines.{lines, lines_of_parts, strip_carriage_return}
 use Rattle.std.proofs.lemmas.List.Splits.{length-slice_split}
-use Rattle.event_text.specs.CommandFile.{Told, line_told, line_before, event_before, events_from}
+use Rattle.event_text.specs.CommandFile.{ToldEvent, line_told, line_before, event_before, events_from}
 use Rattle.event_text.specs.Laws.{EventsAreByLine, ended, told_by_both}
 
 abbrev is_newline : ℕ → Bool
@@ -46,17 +46,17 @@ lines-behind front behind =
 
 -- ---- events
 
-one_more : (event : Told) (count : ℕ) (first later : Result (List Told) ℕ) → event_before event (told_by_both count first later) ≡ told_by_both count (event_before event first) later
+one_more : (event : ToldEvent) (count : ℕ) (first later : Result (List ToldEvent) ℕ) → event_before event (told_by_both count first later) ≡ told_by_both count (event_before event first) later
 one_more event count (Err line) later = refl
 one_more event count (Ok events) (Ok later) = refl
 one_more event count (Ok events) (Err line) = refl
 
-line_joined : (number count : ℕ) (told : Option (Option Told)) (first later : Result (List Told) ℕ) → line_before number told (told_by_both count first later) ≡ told_by_both count (line_before number told first) later
+line_joined : (number count : ℕ) (told : Option (Option ToldEvent)) (first later : Result (List ToldEvent) ℕ) → line_before number told (told_by_both count first later) ≡ told_by_both count (line_before number told first) later
 line_joined number count None first later = refl
 line_joined number count (Some None) first later = refl
 line_joined number count (Some (Some event)) first later = one_more event count first later
 
-moved : (number count : ℕ) (told : Option (Option Told)) (later : Result (List Told) ℕ) → line_before (count + number) told (told_by_both count (Ok []) later) ≡ told_by_both count (Ok []) (line_before number told later)
+moved : (number count : ℕ) (told : Option (Option ToldEvent)) (later : Result (List ToldEvent) ℕ) → line_before (count + number) told (told_by_both count (Ok []) later) ≡ told_by_both count (Ok []) (line_before number told later)
 moved number count None later = refl
 moved number count (Some None) later = refl
 moved number count (Some (Some event)) (Ok later) = refl

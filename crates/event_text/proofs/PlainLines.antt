@@ -14,7 +14,7 @@ use Rattle.std.proofs.lemmas.List.Sums.{AllPass-from_list_all, list_all-from_All
 use Rattle.std.proofs.lemmas.Str.Parse.{digit_from_value}
 use Rattle.text_lines.specs.Cut.{is_blank_byte, uncommented}
 use Rattle.text_lines.specs.Number.{decimal_of}
-use Rattle.event_text.specs.CommandFile.{Told, below, line_told, words_told}
+use Rattle.event_text.specs.CommandFile.{ToldEvent, below, line_told, words_told}
 use Rattle.event_text.specs.Words.{words_of}
 
 -- a byte of a word: no blank, no control, no `;`
@@ -80,7 +80,7 @@ passes_not true e = absurd cc
 passes_not false e = refl
 
 -- a line of such bytes, which tells an event
-pub record IsSpelled (line : List ℕ) (event : Told) : Type 0 where
+pub record IsSpelled (line : List ℕ) (event : ToldEvent) : Type 0 where
   pub plain : All InLine line
   pub told : line_told line ≡ Some (Some event)
 

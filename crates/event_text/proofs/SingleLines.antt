@@ -6,7 +6,7 @@ use Rattle.std.proofs.Math.Dec.{eqb-suc-zero}
 use Rattle.std.proofs.Math.Seq.{take-append_seam, get_or-append_seam}
 use Rattle.std.proofs.lemmas.List.Elements.{All-append, All-cons, All-nil, All-weaker}
 use Rattle.std.proofs.lemmas.List.Splits.{slice_split_at, slice_split_none}
-use Rattle.event_text.specs.CommandFile.{Told, line_told, line_before, events_from, events_in}
+use Rattle.event_text.specs.CommandFile.{ToldEvent, line_told, line_before, events_from, events_in}
 use Rattle.event_text.specs.Laws.{LineEnd, EndOfFile, Newline, ReturnNewline, ReadsBack, end_text}
 use Rattle.event_text.proofs.PlainLines.{InLine, IsSpelled, in_one_line, no_return, passes_not}
 
@@ -36,26 +36,26 @@ at_end (b ∷ line) whole =
     ∙ ap (λ (empty : Bool). events_from 1 (cond empty [] ((b ∷ line) ∷ []))) (eqb-suc-zero (length line))
 
 -- what a line tells, whatever ends it, where it tells the same without a carriage return at its end
-pub told_alone : (line : List ℕ) (told : Option (Option Told)) → AllPass (λ b. not (b == 10)) line → line_told line ≡ told → line_told (strip_carriage_return line) ≡ told → (end : LineEnd)
+pub told_alone : (line : List ℕ) (told : Option (Option ToldEvent)) → AllPass (λ b. not (b == 10)) line → line_told line ≡ told → line_told (strip_carriage_return line) ≡ told → (end : LineEnd)
     → events_in (line ++ end_text end) ≡ line_before 1 told (Ok [])
 told_alone line told whole is stripped_is EndOfFile =
-    ap events_in (append-nil line) ∙ at_end line whole ∙ ap (λ (o : Option (Option Told)). line_before 1 o (Ok [])) is
+    ap events_in (append-nil line) ∙ at_end line whole ∙ ap (λ (o : Option (Option ToldEvent)). line_before 1 o (Ok [])) is
 told_alone line told whole is stripped_is Newline =
-    ap (events_from 1) (lines-one line whole) ∙ ap (λ (o : Option (Option Told)). line_before 1 o (Ok [])) stripped_is
+    ap (events_from 1) (lines-one line whole) ∙ ap (λ (o : Option (Option ToldEvent)). line_before 1 o (Ok [])) stripped_is
 told_alone line told whole is stripped_is ReturnNewline =
     let return = line ++ 13 ∷ [] in
     let alone : AllPass (λ b. not (b == 10)) return = All-append (λ b. not (b == 10) ≡ true) line (13 ∷ []) whole (All-cons (λ b. not (b == 10) ≡ true) 13 [] refl (All-nil (λ b. not (b == 10) ≡ true))) in
     ap events_in (sym (append_assoc line (13 ∷ []) (10 ∷ [])))
     ∙ ap (events_from 1) (lines-one return alone)
     ∙ ap (λ (l : List ℕ). line_before 1 (line_told l) (Ok [])) (stripped line)
-    ∙ ap (λ (o : Option (Option Told)). line_before 1 o (Ok [])) is
+    ∙ ap (λ (o : Option (Option ToldEvent)). line_before 1 o (Ok [])) is
 
 -- a line without a carriage return at its end
 last_plain : (line : List ℕ) → All InLine line → (get_or line (length line - 1) 0 == 13) ≡ false
 last_plain [] plain = refl
 last_plain (b ∷ line) plain = no_return (get_or (b ∷ line) (length (b ∷ line) - 1) 0) (plain (length (b ∷ line) - 1) 0 (omega arith))
 
-pub spelled_reads_back : (line : List ℕ) (event : Told) → IsSpelled line event → ReadsBack line event
+pub spelled_reads_back : (line : List ℕ) (event : ToldEvent) → IsSpelled line event → ReadsBack line event
 spelled_reads_back line event spelled =
     let same : strip_carriage_return line ≡ line = ap (λ (b : Bool). cond b (take (length line - 1) line) line) (last_plain line spelled.plain) in
     told_alone line (Some (Some event)) (in_one_line line spelled.plain) spelled.told (ap line_told same ∙ spelled.told)

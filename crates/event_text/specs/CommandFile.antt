@@ -18,13 +18,13 @@ use Rattle.event_text.specs.declared.command_file.ParseFault.TheVariants.{Line, 
 use Rattle.event_text.specs.Words.{words_of, one_of, two_of, three_of}
 
 -- an event as a line tells it
-pub data Told : Type 0 where
-  Submitted : (queue : ℕ) (entry input : List ℕ) → Told
-  Turned : (run : ℕ) → Told
-  Faulted : (zone : ℕ) (state : FaultState) → Told
+pub data ToldEvent : Type 0 where
+  Submitted : (queue : ℕ) (entry input : List ℕ) → ToldEvent
+  Turned : (run : ℕ) → ToldEvent
+  Faulted : (zone : ℕ) (state : FaultState) → ToldEvent
 
 -- an event without where its data lies in memory
-abbrev pub told_of : Event → Told
+abbrev pub told_of : Event → ToldEvent
 told_of (event.Submit queue entry input) = Submitted queue entry input.items
 told_of (event.Turn run) = Turned run
 told_of (event.Fault zone state) = Faulted zone state
@@ -34,17 +34,17 @@ abbrev pub below : ℕ → ℕ → Option ℕ
 below bound number = if nat_lt number bound then Some number else None
 
 -- a queue, an entry of 64 bytes and the data beside it, which may be left out
-abbrev pub submission : Option ℕ → Option (List ℕ) → Option (List ℕ) → Option Told
+abbrev pub submission : Option ℕ → Option (List ℕ) → Option (List ℕ) → Option ToldEvent
 submission (Some queue) (Some entry) (Some input) = Some (Submitted queue entry input)
 submission _ _ _ = None
 
-abbrev pub submission_of : List (List ℕ) → Option Told
+abbrev pub submission_of : List (List ℕ) → Option ToldEvent
 submission_of words = option_and_then
     (λ w. submission (option_and_then (below (2 ^ 16)) (decimal_of w.0)) (result_ok (decode_sized w.1 64)) (result_ok (decode_of w.2)))
     (three_of words)
 
 -- a run
-abbrev pub turn_of : List (List ℕ) → Option Told
+abbrev pub turn_of : List (List ℕ) → Option ToldEvent
 turn_of words = option_and_then (λ word. option_map Turned (option_and_then (below (2 ^ 8)) (decimal_of word))) (one_of words)
 
 -- a zone, and the state that its fault leads to
@@ -52,46 +52,46 @@ abbrev pub state_named : List ℕ → Option FaultState
 state_named word =
     if bytes_eq word (fault_word ReadOnly) then Some ReadOnly else (if bytes_eq word (fault_word Offline) then Some Offline else None)
 
-abbrev pub fault_told : Option ℕ → Option FaultState → Option Told
+abbrev pub fault_told : Option ℕ → Option FaultState → Option ToldEvent
 fault_told (Some zone) (Some state) = Some (Faulted zone state)
 fault_told _ _ = None
 
-abbrev pub fault_of : List (List ℕ) → Option Told
+abbrev pub fault_of : List (List ℕ) → Option ToldEvent
 fault_of words = option_and_then (λ w. fault_told (decimal_of w.0) (state_named w.1)) (two_of words)
 
 -- the event that a word names and the words behind it describe
-abbrev pub event_named : List ℕ → List (List ℕ) → Option Told
+abbrev pub event_named : List ℕ → List (List ℕ) → Option ToldEvent
 event_named name words =
     if bytes_eq name (codes "submit") then submission_of words
     else (if bytes_eq name (codes "turn") then turn_of words else (if bytes_eq name (codes "fault") then fault_of words else None))
 
 -- what words tell: no words, nothing; words that tell no event are refused
-abbrev pub words_told : List (List ℕ) → Option (Option Told)
+abbrev pub words_told : List (List ℕ) → Option (Option ToldEvent)
 words_told [] = Some None
 words_told (name ∷ words) = option_map Some (event_named name words)
 
 -- what a line tells: a byte that is not ASCII refuses it, in its comment too; a `;` begins a comment
-abbrev pub line_told : List ℕ → Option (Option Told)
+abbrev pub line_told : List ℕ → Option (Option ToldEvent)
 line_told line = if list_all is_ascii line then words_told (words_of (uncommented line)) else None
 
-abbrev pub event_before : Told → Result (List Told) ℕ → Result (List Told) ℕ
+abbrev pub event_before : ToldEvent → Result (List ToldEvent) ℕ → Result (List ToldEvent) ℕ
 event_before first (Ok later) = Ok (first ∷ later)
 event_before first (Err line) = Err line
 
-abbrev pub line_before : ℕ → Option (Option Told) → Result (List Told) ℕ → Result (List Told) ℕ
+abbrev pub line_before : ℕ → Option (Option ToldEvent) → Result (List ToldEvent) ℕ → Result (List ToldEvent) ℕ
 line_before number None later = Err number
 line_before number (Some None) later = later
 line_before number (Some (Some first)) later = event_before first later
 
 -- the events of lines that are counted from a number on, or the number of the lowest that is refused
-abbrev pub events_from : ℕ → List (List ℕ) → Result (List Told) ℕ
+abbrev pub events_from : ℕ → List (List ℕ) → Result (List ToldEvent) ℕ
 events_from number [] = Ok []
 events_from number (line ∷ rest) = line_before number (line_told line) (events_from (number + 1) rest)
 
 -- the events of a file, or its lowest line that is refused
-abbrev pub events_in : List ℕ → Result (List Told) ℕ
+abbrev pub events_in : List ℕ → Result (List ToldEvent) ℕ
 events_in file = events_from 1 (lines file)
 
-abbrev pub RefusesFile : ParseFault → Result (List Told) ℕ → Type 0
+abbrev pub RefusesFile : ParseFault → Result (List ToldEvent) ℕ → Type 0
 RefusesFile (Line number fault) meant = meant ≡ Err number
 RefusesFile Memory meant = Unit {0}

@@ -11,7 +11,7 @@ use Rattle.text_lines.specs.Cut.{is_blank_byte}
 use Rattle.device_events.specs.Replies.{ReplyWithData, data_length}
 use Rattle.device_events.specs.declared.reply.Reply.{Reply}
 use Rattle.device_events.specs.declared.reply.Reply.TheVariants as reply
-use Rattle.event_text.specs.CommandFile.{Told, Submitted, Turned, Faulted, line_told, events_in}
+use Rattle.event_text.specs.CommandFile.{ToldEvent, Submitted, Turned, Faulted, line_told, events_in}
 use Rattle.event_text.specs.Lines.{reply_text}
 use Rattle.event_text.specs.Submission.{submission_text}
 
@@ -20,7 +20,7 @@ abbrev pub ended : List ℕ → List ℕ
 ended file = file ++ 10 ∷ []
 
 -- what two files tell, of which the first has so many lines: a refused line of the second is counted behind those
-abbrev pub told_by_both : ℕ → Result (List Told) ℕ → Result (List Told) ℕ → Result (List Told) ℕ
+abbrev pub told_by_both : ℕ → Result (List ToldEvent) ℕ → Result (List ToldEvent) ℕ → Result (List ToldEvent) ℕ
 told_by_both count (Err line) second = Err line
 told_by_both count (Ok first) (Ok second) = Ok (first ++ second)
 told_by_both count (Ok first) (Err line) = Err (count + line)
@@ -67,7 +67,7 @@ abbrev pub fault_text : ℕ → FaultState → List ℕ
 fault_text zone state = codes "fault " ++ decimal zone ++ codes " " ++ fault_word state
 
 -- a line spelled for an event is read back as that event
-abbrev pub ReadsBack : List ℕ → Told → Type 0
+abbrev pub ReadsBack : List ℕ → ToldEvent → Type 0
 ReadsBack line event = (end : LineEnd) → events_in (line ++ end_text end) ≡ Ok (event ∷ [])
 
 -- the line of a submission, of a turn or of a zone's fault is read back as it

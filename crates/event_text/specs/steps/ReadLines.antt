@@ -6,7 +6,7 @@ use Rattle.device_events.specs.declared.event.Event.{Event}
 use Rattle.event_text.specs.declared.command_file.EventFault.{EventFault}
 use Rattle.event_text.specs.declared.command_file.EventFault.TheVariants as reasons
 use Rattle.event_text.specs.declared.fault.LineFault.TheVariants as fault
-use Rattle.event_text.specs.CommandFile.{Told, told_of}
+use Rattle.event_text.specs.CommandFile.{ToldEvent, told_of}
 
 -- why an entry of so many characters that spells no 64 bytes refuses its line
 abbrev pub entry_reason : ℕ → FromHexError → EventFault
@@ -21,18 +21,18 @@ data_reason characters (digits.InvalidHexCharacter character before) = reasons.R
 data_reason characters _ = reasons.Refused (fault.DataLength characters)
 
 -- the event that is given, or the refusal, is the one that is told, unless memory ran out
-abbrev pub RefusesEvent : EventFault → Option Told → Type 0
+abbrev pub RefusesEvent : EventFault → Option ToldEvent → Type 0
 RefusesEvent (reasons.Refused fault) meant = meant ≡ None
 RefusesEvent reasons.Memory meant = Unit {0}
 
-abbrev pub GivesEvent : Result Event EventFault → Option Told → Type 0
+abbrev pub GivesEvent : Result Event EventFault → Option ToldEvent → Type 0
 GivesEvent (Ok event) meant = meant ≡ Some (told_of event)
 GivesEvent (Err error) meant = RefusesEvent error meant
 
-abbrev pub RefusesLine : EventFault → Option (Option Told) → Type 0
+abbrev pub RefusesLine : EventFault → Option (Option ToldEvent) → Type 0
 RefusesLine (reasons.Refused fault) meant = meant ≡ None
 RefusesLine reasons.Memory meant = Unit {0}
 
-abbrev pub GivesLine : Result (Option Event) EventFault → Option (Option Told) → Type 0
+abbrev pub GivesLine : Result (Option Event) EventFault → Option (Option ToldEvent) → Type 0
 GivesLine (Ok event) meant = meant ≡ Some (option_map told_of event)
 GivesLine (Err error) meant = RefusesLine error meant
