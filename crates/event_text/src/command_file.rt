@@ -23,12 +23,14 @@ use device_events::Event;
 use hex::{FromHex, FromHexError};
 use std::alloc::{AllocFailed, Global};
 use text_lines::{Excerpt, decimal, first_line, is_all_ascii, without_comment};
+use thiserror::Error;
 use zone_state::FaultState;
 
 /// Why a command file has no events.
-#[derive(Clone, Copy, Debug, PartialEq, Eq)]
+#[derive(Clone, Copy, Debug, PartialEq, Eq, Error)]
 pub enum ParseFault {
     /// A line has no event.
+    #[error("line {number}: {fault}")]
     Line {
         /// The line's number, the first being 1.
         number: usize,
@@ -36,6 +38,7 @@ pub enum ParseFault {
         fault: LineFault,
     },
     /// No memory for the events.
+    #[error("no memory")]
     Memory,
 }
 

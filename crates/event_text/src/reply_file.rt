@@ -12,16 +12,19 @@ use device_events::Reply;
 use hex::{FromHex, FromHexError};
 use std::alloc::{AllocFailed, Global};
 use text_lines::{cut, first_line};
+use thiserror::Error;
 
 /// The hexadecimal digits of a completion queue entry.
 const ENTRY_DIGITS: usize = 32;
 
 /// Why a file has no replies.
-#[derive(Clone, Copy, Debug, PartialEq, Eq)]
+#[derive(Clone, Copy, Debug, PartialEq, Eq, Error)]
 pub enum RepliesFault {
     /// A line isn't one that a reply is printed as; the first line is 1.
+    #[error("line {0}: not one that a reply is printed as")]
     Line(usize),
     /// No memory for the replies.
+    #[error("no memory")]
     Memory,
 }
 
