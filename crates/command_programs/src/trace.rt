@@ -277,32 +277,3 @@ fn print_exit<O: Write>(out: &mut O, r0: u64, steps: u64, group: &str) -> io::Re
     let group = if group.is_empty() { "-" } else { group };
     writeln!(out, "exit {r0} {steps} {group}")
 }
-
-#[cfg(test)]
-mod tests {
-    use super::LONG_ABOUT;
-    use program_meaning::Cause;
-    use std::test::Fail;
-
-    const CAUSES: [Cause; 8] = [
-        Cause::NextOutside,
-        Cause::NextInsideWide,
-        Cause::WriteToFramePointer,
-        Cause::LoadOutside,
-        Cause::StoreOutside,
-        Cause::UnknownHelper,
-        Cause::EmitOutside,
-        Cause::EmitLength,
-    ];
-
-    /// The help lists each cause by its number, in the words that a trap is explained with.
-    #[test]
-    fn help_has_the_words_of_each_cause(rt: HostRuntime) -> Result<(), Fail> {
-        for cause in CAUSES {
-            let number = cause.number();
-            let line = format!(in rt.alloc(); "{number} {cause}")?;
-            assert!(rt; LONG_ABOUT.contains(line.as_str()), "{line}");
-        }
-        Ok(())
-    }
-}

@@ -153,34 +153,3 @@ fn print_refused<O: Write>(refusal: Refusal, out: &mut O) -> io::Result<()> {
     let number = reason.number();
     writeln!(out, "refused {slot} {number}")
 }
-
-#[cfg(test)]
-mod tests {
-    use super::LONG_ABOUT;
-    use accepted_programs::Reason;
-    use std::test::Fail;
-
-    const REASONS: [Reason; 10] = [
-        Reason::JumpBack,
-        Reason::JumpOutside,
-        Reason::FallsOff,
-        Reason::WriteToFramePointer,
-        Reason::LoadOutside,
-        Reason::StoreOutside,
-        Reason::UnknownHelper,
-        Reason::EmitAddress,
-        Reason::EmitLength,
-        Reason::EmitLimit,
-    ];
-
-    /// The help lists each reason by its number, in the words that a refusal is explained with.
-    #[test]
-    fn help_has_the_words_of_each_reason(rt: HostRuntime) -> Result<(), Fail> {
-        for reason in REASONS {
-            let number = reason.number();
-            let line = format!(in rt.alloc(); "{number:3} {reason}")?;
-            assert!(rt; LONG_ABOUT.contains(line.as_str()), "{line}");
-        }
-        Ok(())
-    }
-}

@@ -5,6 +5,7 @@ mod entries;
 mod event_lines;
 mod explained;
 mod explaining;
+mod help;
 mod images;
 mod programs;
 mod readme;

@@ -1,6 +1,7 @@
 //! Lines of a command file, made of words.
 
 use super::scenes::{Act, EMPTY_ZONE, EXEC, MAGIC, SHAPE, Scene, play};
+use super::stage::{At, Stage};
 use std::test::Fail;
 
 /// A program that emits nothing.
@@ -256,4 +257,35 @@ const SCENES: &[Scene] = &[
 #[test]
 fn entries_of_words(rt: HostRuntime) -> Result<(), Fail> {
     play(&rt, rt.alloc(), SCENES)
+}
+
+/// The words of `--state`, and the codes of the filters that they name: byte 1 of Command Dword 13 (ZNS 1.1, 3.4.2).
+const FILTERS: &[(&str, &str)] = &[
+    ("all", "00"),
+    ("empty", "01"),
+    ("implicit", "02"),
+    ("explicit", "03"),
+    ("closed", "04"),
+    ("full", "05"),
+    ("readonly", "06"),
+    ("offline", "07"),
+];
+
+#[test]
+fn words_for_states_name_their_filters(rt: HostRuntime) -> Result<(), Fail> {
+    let alloc = rt.alloc();
+    let mut stage = Stage::new(alloc);
+    for (word, code) in FILTERS {
+        let line = format!(in alloc; "zscli entry report --lba 0 --state {word}")?;
+        let printed = format!(in alloc;
+            "submit 1 7a000100010000000000000000000000000000000000000000000000000000000000000000000000\
+0000000000000000ff03000000{code}00000000000000000000\n"
+        )?;
+        let at = At {
+            scene: word,
+            line: line.as_str(),
+        };
+        stage.check(&rt, &at, 0, printed.as_str(), "")?;
+    }
+    Ok(())
 }

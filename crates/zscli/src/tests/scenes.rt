@@ -58,6 +58,8 @@ pub(super) enum Act {
     Stops(&'static str, usize, u8, &'static str),
     /// A command line tells its usage, and ends with this status.
     Tells(&'static str, u8),
+    /// What a command line prints, on either stream, has this text in it.
+    Says(&'static str, &'static str),
     /// A file has these bytes.
     Has(&'static str, Parts),
     /// There is no such file.
@@ -115,6 +117,7 @@ fn judge(rt: &impl Abort, stage: &mut Stage, scene: &str, act: Act) -> Result<()
             stage.run(line, usize::MAX)?;
             stage.check_usage(rt, &At { scene, line }, status);
         }
+        Act::Says(line, text) => stage.check_said(rt, &At { scene, line }, text)?,
         Act::Has(line, parts) => stage.check_file(rt, &At { scene, line }, parts)?,
         Act::HasNo(line) => assert!(rt; stage.files.bytes(line).is_none(), "{scene}: {line}"),
         Act::Verify(text, emit, answer) => {

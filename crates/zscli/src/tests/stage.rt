@@ -137,8 +137,27 @@ impl Stage {
     pub(super) fn check_usage(&self, rt: &impl Abort, at: &At, status: u8) {
         let (out, err) = (self.out.bytes.as_slice(), self.err.as_slice());
         let (told, other) = if status == 0 { (out, err) } else { (err, out) };
-        assert!(rt; has_usage(told) && other.is_empty(), "{at:?}");
+        assert!(rt;
+            has_text(told, "Usage: zscli") && other.is_empty(),
+            "{at:?}"
+        );
         assert_eq!(rt; self.status, status, "{at:?}");
+    }
+
+    /// Runs a command line, and looks for a text in what it prints, on either stream.
+    pub(super) fn check_said(
+        &mut self,
+        rt: &impl Abort,
+        at: &At,
+        text: &str,
+    ) -> Result<(), AllocError> {
+        self.run(at.line, usize::MAX)?;
+        let (out, err) = (self.out.bytes.as_slice(), self.err.as_slice());
+        assert!(rt;
+            has_text(out, text) || has_text(err, text),
+            "{at:?}: {text}"
+        );
+        Ok(())
     }
 
     /// Compares what `verify` says of a program, which is in a file, for blocks of 512 bytes. Where an answer has
@@ -199,10 +218,10 @@ fn assert_printed(rt: &impl Abort, at: &At, printed: &[u8], text: &str) {
     assert_eq!(rt; str::from_utf8(printed), Ok(text), "{at:?}");
 }
 
-/// Does this tell how a command line is written?
-fn has_usage(printed: &[u8]) -> bool {
+/// Does a text stand in what was printed?
+fn has_text(printed: &[u8], text: &str) -> bool {
     match str::from_utf8(printed) {
-        Ok(text) => text.contains("Usage: zscli"),
+        Ok(printed) => printed.contains(text),
         Err(_) => false,
     }
 }
