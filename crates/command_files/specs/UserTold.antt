@@ -23,11 +23,12 @@ told_of_file system.StorageFull = file.Failed cause.NoRoom
 told_of_file system.QuotaExceeded = file.Failed cause.NoRoom
 told_of_file _ = file.Failed cause.Other
 
--- a file with this name that can't be read, or can't be written
+-- a file with this name that can't be read
 abbrev pub told_unread : Bor (List ℕ) → FileFault → Failure
 told_unread path (file.Failed reason) = CannotRead path reason
 told_unread path file.Memory = NoMemory
 
+-- a file with this name that can't be written
 abbrev pub told_unwritten : Bor (List ℕ) → FileFault → Failure
 told_unwritten path (file.Failed reason) = CannotWrite path reason
 told_unwritten path file.Memory = NoMemory

@@ -38,24 +38,27 @@ abbrev pub submission : Option ℕ → Option (List ℕ) → Option (List ℕ) �
 submission (Some queue) (Some entry) (Some input) = Some (Submitted queue entry input)
 submission _ _ _ = None
 
+-- the submission that the words behind `submit` tell
 abbrev pub submission_of : List (List ℕ) → Option ToldEvent
 submission_of words = option_and_then
     (λ w. submission (option_and_then (below (2 ^ 16)) (decimal_of w.0)) (result_ok (decode_sized w.1 64)) (result_ok (decode_of w.2)))
     (three_of words)
 
--- a run
+-- the turn of a run that the words behind `turn` tell
 abbrev pub turn_of : List (List ℕ) → Option ToldEvent
 turn_of words = option_and_then (λ word. option_map Turned (option_and_then (below (2 ^ 8)) (decimal_of word))) (one_of words)
 
--- a zone, and the state that its fault leads to
+-- the state of a fault that a word names
 abbrev pub state_named : List ℕ → Option FaultState
 state_named word =
     if bytes_eq word (fault_word ReadOnly) then Some ReadOnly else (if bytes_eq word (fault_word Offline) then Some Offline else None)
 
+-- a zone, and the state that its fault leads to
 abbrev pub fault_told : Option ℕ → Option FaultState → Option ToldEvent
 fault_told (Some zone) (Some state) = Some (Faulted zone state)
 fault_told _ _ = None
 
+-- the fault that the words behind `fault` tell
 abbrev pub fault_of : List (List ℕ) → Option ToldEvent
 fault_of words = option_and_then (λ w. fault_told (decimal_of w.0) (state_named w.1)) (two_of words)
 
@@ -74,10 +77,12 @@ words_told (name ∷ words) = option_map Some (event_named name words)
 abbrev pub line_told : List ℕ → Option (Option ToldEvent)
 line_told line = if list_all is_ascii line then words_told (words_of (uncommented line)) else None
 
+-- an event of a line, and those of the lines behind it
 abbrev pub event_before : ToldEvent → Result (List ToldEvent) ℕ → Result (List ToldEvent) ℕ
 event_before first (Ok later) = Ok (first ∷ later)
 event_before first (Err line) = Err line
 
+-- what a line of this number tells, and the lines behind it: a line that is refused decides
 abbrev pub line_before : ℕ → Option (Option ToldEvent) → Result (List ToldEvent) ℕ → Result (List ToldEvent) ℕ
 line_before number None later = Err number
 line_before number (Some None) later = later
@@ -92,6 +97,7 @@ events_from number (line ∷ rest) = line_before number (line_told line) (events
 abbrev pub events_in : List ℕ → Result (List ToldEvent) ℕ
 events_in file = events_from 1 (lines file)
 
+-- the fault is that of the lowest line that is refused, or memory ran out
 abbrev pub RefusesFile : ParseFault → Result (List ToldEvent) ℕ → Type 0
 RefusesFile (Line number fault) meant = meant ≡ Err number
 RefusesFile Memory meant = Unit {0}

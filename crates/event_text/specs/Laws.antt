@@ -37,6 +37,7 @@ pub data LineEnd : Type 0 where
   Newline : LineEnd
   ReturnNewline : LineEnd
 
+-- the bytes of a line's end
 abbrev pub end_text : LineEnd → List ℕ
 end_text EndOfFile = []
 end_text Newline = 10 ∷ []
@@ -70,15 +71,17 @@ fault_text zone state = codes "fault " ++ decimal zone ++ codes " " ++ fault_wor
 abbrev pub ReadsBack : List ℕ → ToldEvent → Type 0
 ReadsBack line event = (end : LineEnd) → events_in (line ++ end_text end) ≡ Ok (event ∷ [])
 
--- the line of a submission, of a turn or of a zone's fault is read back as it
+-- the line of a submission is read back as it
 abbrev pub SubmissionsReadBack : Type 0
 SubmissionsReadBack =
     (queue : ℕ) (entry input : List ℕ) → queue < 2 ^ 16 → length entry ≡ 64 → IsBytes entry → IsBytes input
     → ReadsBack (submission_text queue entry input) (Submitted queue entry input)
 
+-- the line of a turn is read back as it
 abbrev pub TurnsReadBack : Type 0
 TurnsReadBack = (run : ℕ) → run < 2 ^ 8 → ReadsBack (turn_text run) (Turned run)
 
+-- the line of a zone's fault is read back as it
 abbrev pub FaultsReadBack : Type 0
 FaultsReadBack = (zone : ℕ) (state : FaultState) → zone < 2 ^ 32 → ReadsBack (fault_text zone state) (Faulted zone state)
 
