@@ -40,50 +40,61 @@ abbrev pub range_text : List ℕ → List ℕ → ℕ → ℕ → Text
 range_text option word least most =
     line (codes "error: '" ++ word ++ codes "' for --" ++ option ++ codes " is not a number from " ++ decimal least ++ codes " to " ++ decimal most)
 
--- a file that can't be read or written: its name, and why, where that is known
+-- a file that can't be read: its name, and why, where that is known
 abbrev pub unread_text : List ℕ → FileCause → Text
 unread_text path cause = line (codes "cannot read " ++ path ++ cause_words cause)
 
+-- the same of a file that can't be written
 abbrev pub unwritten_text : List ℕ → FileCause → Text
 unwritten_text path cause = line (codes "cannot write " ++ path ++ cause_words cause)
 
--- a line of a file: what stands in front of why it is refused, and the line for programs
+-- a line of a file: what stands in front of why it is refused
 abbrev pub line_front : List ℕ → ℕ → List ℕ
 line_front path number = path ++ codes ", line " ++ decimal number ++ codes ": "
 
+-- the line for programs
 abbrev pub line_behind : ℕ → List ℕ
 line_behind number = codes "line " ++ decimal number ++ codes " refused"
 
--- what is refused, by the file's name and the line or the refusal
+-- a line of a file, why it is refused, and the line for programs
 abbrev pub at_line : List ℕ → ℕ → List ℕ → List ℕ
 at_line path number words = line_front path number ++ words ++ 10 ∷ line_behind number ++ 10 ∷ []
 
-abbrev pub line_text : List ℕ → ℕ → Text
-line_text path number = sentence (line_front path number) (line_behind number)
+-- a line of a command file that has no event
+abbrev pub line_failure_text : List ℕ → ℕ → Text
+line_failure_text path number = sentence (line_front path number) (line_behind number)
 
-abbrev pub reply_text : List ℕ → ℕ → Text
-reply_text path number = Said (at_line path number (codes "not one that `exec` prints"))
+-- a line that no reply is printed as
+abbrev pub reply_failure_text : List ℕ → ℕ → Text
+reply_failure_text path number = Said (at_line path number (codes "not one that `exec` prints"))
 
+-- numbers that are no namespace, with the number of what is wrong first
 abbrev pub geometry_text : GeometryRefusal → Text
 geometry_text refusal = sentence [] (codes "geometry refused " ++ decimal (geometry_number (fault_of refusal)))
 
+-- a file that is no image, with the number of its first fault
 abbrev pub image_text : List ℕ → LoadFault → Text
 image_text path fault = sentence (path ++ codes ": ") (codes "image refused " ++ decimal (load_number fault))
 
+-- a text that isn't assembled, with the line and the number of the fault
 abbrev pub assembly_text : List ℕ → AssemblyRefusal → Text
 assembly_text path refusal =
     sentence (path ++ codes ", ") (codes "assembly refused " ++ decimal refusal.fault.line ++ codes " " ++ decimal (assembly_number refusal.fault.kind))
 
+-- bytes that are no program, with the slot and the number of the fault
 abbrev pub program_text : List ℕ → ProgramRefusal → Text
 program_text path refusal =
     sentence (path ++ codes ", ") (codes "program refused " ++ decimal refusal.fault.slot ++ codes " " ++ decimal (program_number refusal.fault.kind))
 
+-- bytes that are no output blocks, with the byte that is refused
 abbrev pub frame_text : List ℕ → FrameRefusal → Text
 frame_text path refusal = sentence (path ++ codes ", ") (codes "frame refused " ++ decimal (refused_byte refusal))
 
-abbrev pub data_text : List ℕ → DataFault → Text
-data_text path fault = sentence (path ++ codes ": ") (codes "data refused " ++ decimal (data_number fault))
+-- a file that no command moves, or that is no block, with the number of the fault
+abbrev pub data_failure_text : List ℕ → DataFault → Text
+data_failure_text path fault = sentence (path ++ codes ": ") (codes "data refused " ++ decimal (data_number fault))
 
+-- what the user is told of each failure
 abbrev pub failure_text : Failure → Text
 failure_text (CommandLine error) = Elsewhere
 failure_text NotText = line (codes "error: a word of the command line is not text")
@@ -92,14 +103,14 @@ failure_text (CannotRead path cause) = unread_text path.now cause
 failure_text (CannotWrite path cause) = unwritten_text path.now cause
 failure_text CannotPrint = line (codes "cannot write to standard output")
 failure_text NoMemory = line (codes "no memory")
-failure_text (LineRefused path number fault) = line_text path.now number
-failure_text (ReplyRefused path number) = reply_text path.now number
+failure_text (LineRefused path number fault) = line_failure_text path.now number
+failure_text (ReplyRefused path number) = reply_failure_text path.now number
 failure_text (GeometryRefused refusal) = geometry_text refusal
 failure_text (ImageRefused path fault) = image_text path.now fault
 failure_text (AssemblyRefused path refusal) = assembly_text path.now refusal
 failure_text (ProgramRefused path refusal) = program_text path.now refusal
 failure_text (FrameRefused path refusal) = frame_text path.now refusal
-failure_text (DataRefused path fault) = data_text path.now fault
+failure_text (DataRefused path fault) = data_failure_text path.now fault
 failure_text NotAccepted = Silence
 
 -- a stream grows by some words, with this in front of them and that behind them

@@ -17,11 +17,12 @@ abbrev pub told_of_words : ErrorKind → Failure
 told_of_words system.OutOfMemory = NoMemory
 told_of_words _ = NotText
 
--- a command line that is wrong
+-- a command line that is wrong, by the kind of what is wrong with it
 abbrev pub told_of_kind : Error → clap.ErrorKind → Failure
 told_of_kind error kind.OutOfMemory = NoMemory
 told_of_kind error _ = CommandLine error
 
+-- a command line that is wrong
 abbrev pub told_of_command_line : Error → Failure
 told_of_command_line error = told_of_kind error (kind_of error)
 

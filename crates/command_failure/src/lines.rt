@@ -2,7 +2,7 @@
 
 ghost use Rattle.std.specs.Prelude.{◌++◌, ◌∷◌, [], codes, decimal, IfSome, OnOk};
 ghost use Rattle.std.specs.Io.KnownBytes.{Appends};
-ghost use Rattle.command_failure.specs.Lines.{IsPrinted, assembly_text, at_line, data_text, frame_text, geometry_text, image_text, line, line_front, line_text, program_text, range_text, reply_text, sentence, failure_text, unread_text, unwritten_text};
+ghost use Rattle.command_failure.specs.Lines.{IsPrinted, assembly_text, at_line, data_failure_text, frame_text, geometry_text, image_text, line, line_front, line_failure_text, program_text, range_text, reply_failure_text, sentence, failure_text, unread_text, unwritten_text};
 
 use crate::data_fault::DataFault;
 use crate::failure::Failure;
@@ -98,14 +98,14 @@ fn print_line_fault<W: Write>(
     number: usize,
     fault: LineFault,
 ) -> io::Result<()>
-    ensures { OnOk result (IsPrinted (line_text path.now number) (W.contents out.old) (W.contents out.new)) }
+    ensures { OnOk result (IsPrinted (line_failure_text path.now number) (W.contents out.old) (W.contents out.new)) }
 {
     let words = Words::of(fault);
     print_at_line(out, path, number, words.as_str())
 }
 
 fn print_reply<W: Write>(out: &mut W, path: &str, number: usize) -> io::Result<()>
-    ensures { OnOk result (IsPrinted (reply_text path.now number) (W.contents out.old) (W.contents out.new)) }
+    ensures { OnOk result (IsPrinted (reply_failure_text path.now number) (W.contents out.old) (W.contents out.new)) }
 {
     print_at_line(out, path, number, "not one that `exec` prints")
 }
@@ -178,7 +178,7 @@ fn print_frame<W: Write>(out: &mut W, path: &str, refusal: FrameRefusal) -> io::
 }
 
 fn print_data<W: Write>(out: &mut W, path: &str, fault: DataFault) -> io::Result<()>
-    ensures { OnOk result (IsPrinted (data_text path.now fault) (W.contents out.old) (W.contents out.new)) }
+    ensures { OnOk result (IsPrinted (data_failure_text path.now fault) (W.contents out.old) (W.contents out.new)) }
 {
     let number = fault.number();
     print_refusal(
