@@ -2,7 +2,7 @@
 
 ghost use Rattle.std.specs.Prelude.{◌≡◌, IfOk, position};
 ghost use Rattle.std.specs.List.{filter_map};
-ghost use Rattle.command_explain.specs.steps.Waiting.{is_of, submission_in, TakesFirst};
+ghost use Rattle.command_explain.specs.steps.Waiting.{has_identifier, submission_in, TakesFirst};
 
 use device_events::Event;
 use nvme_entry::Entry;
@@ -42,18 +42,18 @@ impl Waiting {
     pub(crate) fn complete(&mut self, queue: u16, cid: u16) -> Option<[u8; 64]>
         ensures { TakesFirst queue cid self.old.submissions.items self.new.submissions.items result }
     {
-        let at = self.place(queue, cid)?;
+        let at = self.index(queue, cid)?;
         let submission = self.submissions.remove(at)?;
         Some(submission.entry)
     }
 
-    /// The place of the first that waits with this queue and this command identifier.
-    fn place(&self, queue: u16, cid: u16) -> Option<usize>
-        ensures { result ≡ position (is_of queue cid) self.now.submissions.items }
+    /// The index of the first that waits with this queue and this command identifier.
+    fn index(&self, queue: u16, cid: u16) -> Option<usize>
+        ensures { result ≡ position (has_identifier queue cid) self.now.submissions.items }
     {
         self.submissions
             .iter()
-            .position(|submission| is_of(submission, queue, cid))
+            .position(|submission| has_identifier(submission, queue, cid))
     }
 }
 
@@ -71,8 +71,8 @@ fn submission_in(event: &Event) -> Option<Submission>
 }
 
 /// Is it from this queue, with this command identifier?
-fn is_of(submission: &Submission, queue: u16, cid: u16) -> bool
-    ensures { result ≡ is_of queue cid submission.now }
+fn has_identifier(submission: &Submission, queue: u16, cid: u16) -> bool
+    ensures { result ≡ has_identifier queue cid submission.now }
 {
     submission.queue == queue && Entry::cid(&submission.entry) == cid
 }

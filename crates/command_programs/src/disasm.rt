@@ -2,7 +2,7 @@
 
 ghost use Rattle.std.specs.Prelude.{◌≡◌};
 
-use crate::program::read_program;
+use crate::program::program_in_file;
 use clap::{Arg, ArgAction, ArgMatches, Command};
 use command_failure::{Failure, printed};
 use command_files::Files;
@@ -67,7 +67,7 @@ pub fn disasm<'a, F: Files, O: Write>(
 ) -> Result<(), Failure<'a>>
     ensures { F.made files.new ≡ F.made files.old }
 {
-    let program = read_program(alloc, required(matches, PROGRAM), files)?;
+    let program = program_in_file(alloc, required(matches, PROGRAM), files)?;
     let mut text = String::new(alloc);
     if matches.get_flag(SLOTS) {
         disassemble_with_slots(&program, &mut text)?;

@@ -10,7 +10,7 @@ use instruction_set::Program;
 use std::alloc::Global;
 
 /// The program that the bytes of a file spell.
-pub(crate) fn read_program<'a, F: Files>(
+pub(crate) fn program_in_file<'a, F: Files>(
     alloc: Global,
     path: &'a str,
     files: &mut F,

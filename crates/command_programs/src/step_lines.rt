@@ -30,7 +30,7 @@ impl Emitting {
     }
 
     /// Where its bytes begin, of which at least one lies in an area: that with the greatest address up to theirs.
-    fn place(self) -> Option<Offsets> {
+    fn offsets(self) -> Option<Offsets> {
         let area = [Area::Scratch, Area::Stack, Area::Block, Area::Context]
             .into_iter()
             .find(|area| area.address() <= self.address)?;
@@ -79,8 +79,8 @@ pub(crate) fn print_cause<'a, O: Write>(
 /// Prints what was emitted.
 fn print_emit<O: Write>(emitting: Emitting, out: &mut O) -> io::Result<()> {
     let length = Counted(emitting.length, "byte");
-    match emitting.place() {
-        Some(place) => write!(out, "  emit {length} at {place}"),
+    match emitting.offsets() {
+        Some(offsets) => write!(out, "  emit {length} at {offsets}"),
         None => write!(out, "  emit {length}"),
     }
 }

@@ -5,7 +5,7 @@ ghost use Rattle.program_meaning.specs.Step.{IsAt};
 ghost use Rattle.interp.specs.Machine.{machine_slot, steps_of, group_length};
 ghost use Rattle.program_interface.specs.Context.{context_bytes};
 
-use crate::program::read_program;
+use crate::program::program_in_file;
 use crate::sizes::run_sizes;
 use crate::step_lines::{Emitting, print_cause, print_changes};
 use clap::{Arg, ArgAction, ArgMatches, Command};
@@ -114,8 +114,8 @@ pub fn trace<'a, F: Files, O: Write>(
 ) -> Result<(), Failure<'a>>
     ensures { F.made files.new ≡ F.made files.old }
 {
-    let asked = asked_for(matches)?;
-    let program = read_program(alloc, required(matches, PROGRAM), files)?;
+    let asked = trace_options(matches)?;
+    let program = program_in_file(alloc, required(matches, PROGRAM), files)?;
     let path = required(matches, BLOCK);
     let block = read(path, files)?;
     let sizes = run_sizes(matches, size_as_block(path, block.len())?)?;
@@ -124,15 +124,15 @@ pub fn trace<'a, F: Files, O: Write>(
 
 /// What a user asks for.
 #[derive(Clone, Copy)]
-struct Asked {
+struct TraceOptions {
     argument: u32,
     fuel: u32,
     /// Each instruction, and the register that it changed.
     registers: bool,
 }
 
-fn asked_for<'a>(matches: &ArgMatches<'a>) -> Result<Asked, Failure<'a>> {
-    Ok(Asked {
+fn trace_options<'a>(matches: &ArgMatches<'a>) -> Result<TraceOptions, Failure<'a>> {
+    Ok(TraceOptions {
         argument: number(matches, ARGUMENT)?,
         fuel: number(matches, FUEL)?,
         registers: matches.get_flag(REGISTERS),
@@ -145,7 +145,7 @@ fn run_asked<'a, O: Write>(
     program: &Program,
     block: &[u8],
     sizes: RunSizes,
-    asked: Asked,
+    asked: TraceOptions,
     out: &mut O,
 ) -> Result<(), Failure<'a>>
     requires block { length block.now ≤ LARGEST_BLOCK }

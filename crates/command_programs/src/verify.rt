@@ -2,7 +2,7 @@
 
 ghost use Rattle.std.specs.Prelude.{◌≡◌};
 
-use crate::program::read_program;
+use crate::program::program_in_file;
 use crate::refusal_lines::Refused;
 use crate::sizes::run_sizes;
 use accepted_programs::{Facts, Refusal};
@@ -89,7 +89,7 @@ pub fn verify<'a, F: Files, O: Write>(
     ensures { F.made files.new ≡ F.made files.old }
 {
     let block = number(matches, BLOCK)?;
-    let program = read_program(alloc, required(matches, PROGRAM), files)?;
+    let program = program_in_file(alloc, required(matches, PROGRAM), files)?;
     let sizes = run_sizes(matches, block_size(block)?)?;
     let judgement = judge::<Intervals>(alloc, &program, sizes)?;
     let instructions = program.len();

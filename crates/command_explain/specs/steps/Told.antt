@@ -6,6 +6,7 @@ use Rattle.event_text.specs.declared.reply_file.RepliesFault.TheVariants.{Line, 
 use Rattle.command_failure.specs.declared.failure.Failure.{Failure}
 use Rattle.command_failure.specs.declared.failure.Failure.TheVariants.{NoMemory, ReplyRefused}
 
+-- the file's name and the number of the line, or want of memory
 abbrev pub told_of_replies : Bor (List ℕ) → RepliesFault → Failure
 told_of_replies path (Line line) = ReplyRefused path line
 told_of_replies path Memory = NoMemory

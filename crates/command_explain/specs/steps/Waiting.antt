@@ -13,11 +13,11 @@ submission_in (event.Turn run) = None
 submission_in (event.Fault zone state) = None
 
 -- is it from this queue, with this command identifier?
-abbrev pub is_of : ℕ → ℕ → Submission → Bool
-is_of queue cid submission = (submission.queue == queue) && (identifier_of submission.entry == cid)
+abbrev pub has_identifier : ℕ → ℕ → Submission → Bool
+has_identifier queue cid submission = (submission.queue == queue) && (identifier_of submission.entry == cid)
 
 -- the first that is waits no longer, and its entry is given; where none is, nothing changes
 abbrev pub TakesFirst : ℕ → ℕ → List Submission → List Submission → Option (List ℕ) → Type 0
-TakesFirst queue cid old new given = MatchOption (position (is_of queue cid) old)
+TakesFirst queue cid old new given = MatchOption (position (has_identifier queue cid) old)
     ((given ≡ None) × (new ≡ old))
     (λ at. (given ≡ option_map (λ (submission : Submission). submission.entry) (slice_get old at)) × (new ≡ remove old at))

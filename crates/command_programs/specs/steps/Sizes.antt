@@ -13,6 +13,7 @@ abbrev pub IsLimit : ArgMatches → ℕ → Option (List ℕ) → ℕ → Type 0
 IsLimit matches block None limit = limit ≡ block
 IsLimit matches block (Some word) limit = number_of matches (codes "emit") ≡ Some limit
 
+-- blocks of this size, and the limit that is asked for
 pub record AreAskedFor (matches : ArgMatches) (block : ℕ) (sizes : Sizes) : Type 0 where
   pub same : sizes.block ≡ block
   pub limit : IsLimit matches block (first_value (found_of matches) (codes "emit")) sizes.limit

@@ -13,6 +13,7 @@ use Rattle.emit_append.specs.declared.fault.UnpackFault.TheVariants as frame
 use Rattle.command_failure.specs.declared.failure.Failure.{Failure}
 use Rattle.command_failure.specs.declared.failure.Failure.TheVariants.{NoMemory, CannotWrite, AssemblyRefused, ProgramRefused, FrameRefused}
 
+-- of a text that isn't assembled: the file, and the fault with its line
 abbrev pub IsToldOfAssembly : Bor (List ℕ) → AssembleFault → Failure → Type 0
 IsToldOfAssembly path (assembly.Fault fault) (AssemblyRefused told refusal) = (told ≡ path) × (refusal.fault ≡ fault)
 IsToldOfAssembly path (assembly.Fault fault) _ = ⊥
@@ -25,10 +26,12 @@ MakesNone source path text (CannotWrite told cause) = told ≡ path
 MakesNone source path text NoMemory = Unit {0}
 MakesNone source path text _ = ⊥
 
+-- of bytes that are no program: the file, and the fault with its slot
 abbrev pub told_of_program : Bor (List ℕ) → List ℕ → DecodeFault → Failure
 told_of_program path bytes (program.Fault fault) = ProgramRefused path (program_refusal_of fault bytes)
 told_of_program path bytes program.Memory = NoMemory
 
+-- of bytes that are no output blocks: the file, and the byte that is refused
 abbrev pub IsToldOfFrame : Bor (List ℕ) → UnpackFault → Failure → Type 0
 IsToldOfFrame path (frame.At byte) (FrameRefused told refusal) = (told ≡ path) × (refused_byte refusal ≡ byte)
 IsToldOfFrame path (frame.At byte) _ = ⊥
