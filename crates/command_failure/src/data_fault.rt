@@ -4,6 +4,7 @@ ghost use Rattle.std.specs.Prelude.{◌≡◌};
 ghost use Rattle.command_failure.specs.DataFault.{data_number};
 
 use nvme_entry::MOST_TRANSFER;
+use program_interface::LARGEST_BLOCK;
 use thiserror::Error;
 
 /// Why a file of so many bytes can't be moved by a command of the device, or is no block.
@@ -18,7 +19,7 @@ pub enum DataFault {
     #[error("{bytes} bytes; whole blocks of {block} are expected")]
     NotWholeBlocks { bytes: usize, block: u32 },
     /// No block has as many.
-    #[error("{0} bytes; a block has a power of 2 from 512 to 16384")]
+    #[error("{0} bytes; a block has a power of 2 from 512 to {most}", most = LARGEST_BLOCK)]
     NotABlock(usize),
 }
 
