@@ -21,7 +21,7 @@ Prints a program as assembly text, an instruction on each line, which `asm` asse
 bytes. With --slots each line begins with the instruction's slot, as refusals and `trace` name it.
 
 A program is a file of eBPF instructions (RFC 9669), 8 bytes a slot, from 1 to 4096 slots. Of one \
-that isn't so, `program refused SLOT REASON` tells the first fault.";
+that is not so, `program refused SLOT REASON` tells the first fault.";
 
 const EXAMPLE: &str = "\
 Example: the program of the bytes b700000000000000 9500000000000000.
