@@ -7,16 +7,16 @@ const ENDS: &[Act] = &[
     Act::Start(b"turn 0"),
     Act::Prints(EXEC, "idle\n"),
     Act::Fails(
-        "zscli exec g1 missing",
+        "zscli exec image missing",
         1,
         "",
         "cannot read missing: no such file or folder\n",
     ),
     Act::Fails(
-        "zscli exec g3 missing",
+        "zscli exec gone missing",
         1,
         "",
-        "cannot read g3: no such file or folder\n",
+        "cannot read gone: no such file or folder\n",
     ),
 ];
 
@@ -24,9 +24,9 @@ const USAGE: &[Act] = &[
     Act::Start(b"turn 0"),
     Act::Tells("zscli", 2),
     Act::Tells("zscli fly", 2),
-    Act::Tells("zscli exec g1", 2),
-    Act::Tells("zscli exec g1 events more", 2),
-    Act::Tells("zscli exec --slow g1 events", 2),
+    Act::Tells("zscli exec image", 2),
+    Act::Tells("zscli exec image events more", 2),
+    Act::Tells("zscli exec --slow image events", 2),
     Act::Tells("zscli --help", 0),
     Act::Tells("zscli help exec", 0),
     Act::Tells("zscli exec -h", 0),

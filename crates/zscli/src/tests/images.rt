@@ -26,9 +26,9 @@ const WRITTEN: &[Act] = &[
     Act::Put("block", A_BLOCK),
     Act::Adds("zscli entry append --lba 8 --data block --cid 1"),
     Act::Prints(EXEC, "cpl 1 08000000000000000000010001000000\n"),
-    Act::Has("g1", NEW),
+    Act::Has("image", NEW),
     Act::Prints(
-        "zscli zones g1",
+        "zscli zones image",
         "0 empty 0\n1 implicit 1\n2 empty 0\n3 empty 0\n",
     ),
     Act::Put("events", &[]),
@@ -37,7 +37,7 @@ const WRITTEN: &[Act] = &[
     Act::AddsTo("replies", EXEC),
     Act::Has("replies", READ_AND_APPENDED),
     Act::Prints(
-        "zscli zones g1",
+        "zscli zones image",
         "0 empty 0\n1 implicit 2\n2 empty 0\n3 empty 0\n",
     ),
 ];
@@ -106,9 +106,9 @@ const UPGRADED: &[Act] = &[
 const LEFT: &[Act] = &[
     Act::Start(b"fault 0 offline\nturn 256"),
     Act::Fails(EXEC, 3, "", "line 2 refused\n"),
-    Act::Has("g1", EMPTY_IMAGE),
+    Act::Has("image", EMPTY_IMAGE),
     Act::Fails(
-        "zscli exec g1 missing",
+        "zscli exec image missing",
         1,
         "",
         "cannot read missing: no such file or folder\n",
@@ -120,19 +120,19 @@ const SAVED: &[Act] = &[
     Act::Start(LOSING_THREE),
     Act::Stops(EXEC, 0, 1, "cannot write to standard output\n"),
     Act::Prints(
-        "zscli zones g1",
+        "zscli zones image",
         "0 offline 0\n1 empty 0\n2 empty 0\n3 empty 0\n",
     ),
     Act::Start(LOSING_THREE),
     Act::Stops(EXEC, 1, 1, "cannot write to standard output\n"),
     Act::Prints(
-        "zscli zones g1",
+        "zscli zones image",
         "0 offline 0\n1 offline 0\n2 empty 0\n3 empty 0\n",
     ),
     Act::Start(LOSING_THREE),
     Act::Stops(EXEC, 2, 1, "cannot write to standard output\n"),
     Act::Prints(
-        "zscli zones g1",
+        "zscli zones image",
         "0 offline 0\n1 offline 0\n2 offline 0\n3 empty 0\n",
     ),
 ];
@@ -142,18 +142,18 @@ const LOSING_THREE: &[u8] = b"fault 0 offline\nfault 1 offline\nfault 2 offline"
 const NOT_SAVED: &[Act] = &[
     Act::Start(b"fault 0 offline"),
     Act::Room(80),
-    Act::Stops(EXEC, 0, 1, "cannot write g1\n"),
-    Act::Has("g1", EMPTY_IMAGE),
+    Act::Stops(EXEC, 0, 1, "cannot write image\n"),
+    Act::Has("image", EMPTY_IMAGE),
 ];
 
 const FAILING: &[Act] = &[
     Act::Start(b"fault 0 offline"),
     Act::Room(80),
-    Act::Fails(EXEC, 1, "done\n", "cannot write g1\n"),
-    Act::Has("g1", EMPTY_IMAGE),
+    Act::Fails(EXEC, 1, "done\n", "cannot write image\n"),
+    Act::Has("image", EMPTY_IMAGE),
     Act::Unreadable,
-    Act::Fails(EXEC, 1, "", "cannot read g1\n"),
-    Act::Fails("zscli zones g1", 1, "", "cannot read g1\n"),
+    Act::Fails(EXEC, 1, "", "cannot read image\n"),
+    Act::Fails("zscli zones image", 1, "", "cannot read image\n"),
 ];
 
 const MADE: &[Scene] = &[Scene {

@@ -6,7 +6,7 @@ use std::process::Abort;
 use std::test::Fail;
 
 /// `zscli exec` on the files of [`Act::Start`].
-pub(super) const EXEC: &str = "zscli exec g1 events";
+pub(super) const EXEC: &str = "zscli exec image events";
 
 /// An image of 4 zones of 8 blocks, 6 of them writable, at most 2 open and 3 active, all Empty.
 pub(super) const EMPTY_IMAGE: Parts = &[(MAGIC, 1), (NUMBERS, 1), (EMPTY_ZONE, 4)];
@@ -34,7 +34,7 @@ pub(super) struct Scene {
 /// Something that is done, or that has to hold.
 #[derive(Clone, Copy)]
 pub(super) enum Act {
-    /// Puts `g1`, an image of Empty zones, and `events`, a file of these bytes.
+    /// Puts `image`, an image of Empty zones, and `events`, a file of these bytes.
     Start(&'static [u8]),
     /// Puts a file of these bytes.
     Put(&'static str, Parts),
@@ -87,7 +87,7 @@ fn play_one(rt: &impl Abort, alloc: Global, scene: &str, acts: &[Act]) -> Result
 fn perform(rt: &impl Abort, stage: &mut Stage, scene: &str, act: Act) -> Result<(), Fail> {
     match act {
         Act::Start(events) => {
-            stage.put("g1", EMPTY_IMAGE)?;
+            stage.put("image", EMPTY_IMAGE)?;
             stage.files.put("events", events)?;
         }
         Act::Put(file, parts) => stage.put(file, parts)?,

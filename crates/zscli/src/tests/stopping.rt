@@ -1,10 +1,8 @@
 //! Where standard output fails in the turns after the last event.
 
-use super::scenes::{Act, EMPTY_ZONE, MAGIC, SHAPE, Scene, play};
+use super::scenes::{Act, EMPTY_ZONE, EXEC, MAGIC, SHAPE, Scene, play};
 use super::stage::Parts;
 use std::test::Fail;
-
-const EXEC_IMAGE: &str = "zscli exec image events";
 
 /// Emits 510 bytes of each block, which fill an output block.
 const COPYING: &[u8] = b"mov r1, r2\nmov r2, 510\ncall 1\nmov r0, 0\nexit\n";
@@ -33,37 +31,37 @@ const STOPPED: &[Act] = &[
     Act::Adds("zscli entry load --slot 0 --program copying --emit 512 --cid 1"),
     Act::Adds("zscli entry run --slot 0 --from 0 --blocks 3 --to 8 --cid 2"),
     Act::Put("image", THREE_BLOCKS),
-    Act::Stops(EXEC_IMAGE, 0, 1, "cannot write to standard output\n"),
+    Act::Stops(EXEC, 0, 1, "cannot write to standard output\n"),
     Act::Prints(
         "zscli zones image",
         "0 closed 3\n1 explicit 0\n2 empty 0\n3 empty 0\n",
     ),
     Act::Put("image", THREE_BLOCKS),
-    Act::Stops(EXEC_IMAGE, 1, 1, "cannot write to standard output\n"),
+    Act::Stops(EXEC, 1, 1, "cannot write to standard output\n"),
     Act::Prints(
         "zscli zones image",
         "0 closed 3\n1 explicit 0\n2 empty 0\n3 empty 0\n",
     ),
     Act::Put("image", THREE_BLOCKS),
-    Act::Stops(EXEC_IMAGE, 2, 1, "cannot write to standard output\n"),
+    Act::Stops(EXEC, 2, 1, "cannot write to standard output\n"),
     Act::Prints(
         "zscli zones image",
         "0 closed 3\n1 explicit 0\n2 empty 0\n3 empty 0\n",
     ),
     Act::Put("image", THREE_BLOCKS),
-    Act::Stops(EXEC_IMAGE, 3, 1, "cannot write to standard output\n"),
+    Act::Stops(EXEC, 3, 1, "cannot write to standard output\n"),
     Act::Prints(
         "zscli zones image",
         "0 closed 3\n1 explicit 1\n2 empty 0\n3 empty 0\n",
     ),
     Act::Put("image", THREE_BLOCKS),
-    Act::Stops(EXEC_IMAGE, 4, 1, "cannot write to standard output\n"),
+    Act::Stops(EXEC, 4, 1, "cannot write to standard output\n"),
     Act::Prints(
         "zscli zones image",
         "0 closed 3\n1 explicit 3\n2 empty 0\n3 empty 0\n",
     ),
     Act::Put("image", THREE_BLOCKS),
-    Act::Stops(EXEC_IMAGE, 5, 0, ""),
+    Act::Stops(EXEC, 5, 0, ""),
     Act::Prints(
         "zscli zones image",
         "0 closed 3\n1 explicit 3\n2 empty 0\n3 empty 0\n",

@@ -54,29 +54,29 @@ const LARGE_BLOCKS: &[u8] = b"\0\x20\0\0\x04\0\0\0\x08\0\0\0\x06\0\0\0\x02\0\0\0
 const MANY_ZONES: &[u8] = b"\0\x02\0\0\x01\x04\0\0\x08\0\0\0\x06\0\0\0\x02\0\0\0\x03\0\0\0";
 
 const IMAGES: &[Act] = &[
-    Act::Put("g1", &[]),
+    Act::Put("image", &[]),
     Act::Refuses(
-        "zscli exec g1 missing",
-        "g1: the file is no whole image: its header, a zone row or a block is cut\nimage refused 10\n",
+        "zscli exec image missing",
+        "image: the file is no whole image: its header, a zone row or a block is cut\nimage refused 10\n",
     ),
-    Act::Put("g1", &[(MAGIC, 1), (NUMBERS, 1), (EMPTY_ZONE, 3)]),
+    Act::Put("image", &[(MAGIC, 1), (NUMBERS, 1), (EMPTY_ZONE, 3)]),
     Act::Refuses(
-        "zscli zones g1",
-        "g1: the file is no whole image: its header, a zone row or a block is cut\nimage refused 10\n",
+        "zscli zones image",
+        "image: the file is no whole image: its header, a zone row or a block is cut\nimage refused 10\n",
     ),
-    Act::Put("g1", &[(b"ZNSIMG03", 1), (NUMBERS, 1), (EMPTY_ZONE, 4)]),
+    Act::Put("image", &[(b"ZNSIMG03", 1), (NUMBERS, 1), (EMPTY_ZONE, 4)]),
     Act::Refuses(
-        "zscli zones g1",
-        "g1: the first 8 bytes are neither ZNSIMG01 nor ZNSIMG02\nimage refused 11\n",
+        "zscli zones image",
+        "image: the first 8 bytes are neither ZNSIMG01 nor ZNSIMG02\nimage refused 11\n",
     ),
-    Act::Put("g1", &[(MAGIC, 1), (b"\0", 56)]),
+    Act::Put("image", &[(MAGIC, 1), (b"\0", 56)]),
     Act::Refuses(
-        "zscli zones g1",
-        "g1: header: a block of 0 bytes: the block size is no power of 2 from 512 to 16384\n\
+        "zscli zones image",
+        "image: header: a block of 0 bytes: the block size is no power of 2 from 512 to 16384\n\
          image refused 12\n",
     ),
     Act::Put(
-        "g1",
+        "image",
         &[
             (MAGIC, 1),
             (ZONE_NUMBERS, 1),
@@ -85,12 +85,12 @@ const IMAGES: &[Act] = &[
         ],
     ),
     Act::Refuses(
-        "zscli zones g1",
-        "g1: header: 2 open and 1 active of 4 zones: the limits are not 1 open zone or more, as many active ones, and no more than zones\n\
+        "zscli zones image",
+        "image: header: 2 open and 1 active of 4 zones: the limits are not 1 open zone or more, as many active ones, and no more than zones\n\
          image refused 12\n",
     ),
     Act::Put(
-        "g1",
+        "image",
         &[
             (MAGIC, 1),
             (ZONE_NUMBERS, 1),
@@ -100,29 +100,29 @@ const IMAGES: &[Act] = &[
         ],
     ),
     Act::Refuses(
-        "zscli zones g1",
-        "g1: header: bytes 40 to 63 are not zero\nimage refused 12\n",
+        "zscli zones image",
+        "image: header: bytes 40 to 63 are not zero\nimage refused 12\n",
     ),
     Act::Put(
-        "g1",
+        "image",
         &[(b"ZNSIMG01", 1), (SHAPE, 1), (b"\0", 31), (b"\x01", 1)],
     ),
     Act::Refuses(
-        "zscli zones g1",
-        "g1: header: bytes 32 to 63 are not zero\nimage refused 12\n",
+        "zscli zones image",
+        "image: header: bytes 32 to 63 are not zero\nimage refused 12\n",
     ),
-    Act::Put("g1", &[(b"ZNSIMG01", 1), (LARGE_BLOCKS, 1), (b"\0", 32)]),
+    Act::Put("image", &[(b"ZNSIMG01", 1), (LARGE_BLOCKS, 1), (b"\0", 32)]),
     Act::Refuses(
-        "zscli zones g1",
-        "g1: header: a block of 8192 bytes: version 1 has no such size\nimage refused 12\n",
+        "zscli zones image",
+        "image: header: a block of 8192 bytes: version 1 has no such size\nimage refused 12\n",
     ),
-    Act::Put("g1", &[(b"ZNSIMG01", 1), (MANY_ZONES, 1), (b"\0", 32)]),
+    Act::Put("image", &[(b"ZNSIMG01", 1), (MANY_ZONES, 1), (b"\0", 32)]),
     Act::Refuses(
-        "zscli zones g1",
-        "g1: header: 1025 zones: version 1 has at most 1024\nimage refused 12\n",
+        "zscli zones image",
+        "image: header: 1025 zones: version 1 has at most 1024\nimage refused 12\n",
     ),
     Act::Put(
-        "g1",
+        "image",
         &[
             (MAGIC, 1),
             (NUMBERS, 1),
@@ -131,11 +131,11 @@ const IMAGES: &[Act] = &[
         ],
     ),
     Act::Refuses(
-        "zscli zones g1",
-        "g1: row of zone 3: Empty, with 1 of 6 blocks written\nimage refused 13\n",
+        "zscli zones image",
+        "image: row of zone 3: Empty, with 1 of 6 blocks written\nimage refused 13\n",
     ),
     Act::Put(
-        "g1",
+        "image",
         &[
             (MAGIC, 1),
             (NUMBERS, 1),
@@ -145,11 +145,11 @@ const IMAGES: &[Act] = &[
         ],
     ),
     Act::Refuses(
-        "zscli zones g1",
-        "g1: row of zone 1: Implicitly Opened, with 0 of 6 blocks written\nimage refused 13\n",
+        "zscli zones image",
+        "image: row of zone 1: Implicitly Opened, with 0 of 6 blocks written\nimage refused 13\n",
     ),
     Act::Put(
-        "g1",
+        "image",
         &[
             (MAGIC, 1),
             (NUMBERS, 1),
@@ -159,11 +159,11 @@ const IMAGES: &[Act] = &[
         ],
     ),
     Act::Refuses(
-        "zscli zones g1",
-        "g1: row of zone 1: Implicitly Opened, with 6 of 6 blocks written\nimage refused 13\n",
+        "zscli zones image",
+        "image: row of zone 1: Implicitly Opened, with 6 of 6 blocks written\nimage refused 13\n",
     ),
     Act::Put(
-        "g1",
+        "image",
         &[
             (MAGIC, 1),
             (NUMBERS, 1),
@@ -172,19 +172,19 @@ const IMAGES: &[Act] = &[
         ],
     ),
     Act::Refuses(
-        "zscli zones g1",
-        "g1: row of zone 2: no state has code 5h\nimage refused 13\n",
+        "zscli zones image",
+        "image: row of zone 2: no state has code 5h\nimage refused 13\n",
     ),
     Act::Put(
-        "g1",
+        "image",
         &[(MAGIC, 1), (NUMBERS, 1), (b"\x01\0\0\x01\0\0\0\0", 4)],
     ),
     Act::Refuses(
-        "zscli zones g1",
-        "g1: row of zone 0: bytes 1 to 3 are not zero\nimage refused 13\n",
+        "zscli zones image",
+        "image: row of zone 0: bytes 1 to 3 are not zero\nimage refused 13\n",
     ),
     Act::Put(
-        "g1",
+        "image",
         &[
             (MAGIC, 1),
             (NUMBERS, 1),
@@ -193,11 +193,11 @@ const IMAGES: &[Act] = &[
         ],
     ),
     Act::Refuses(
-        "zscli zones g1",
-        "g1: the header tells of 0 written blocks, the zone rows of 3\nimage refused 18\n",
+        "zscli zones image",
+        "image: the header tells of 0 written blocks, the zone rows of 3\nimage refused 18\n",
     ),
     Act::Put(
-        "g1",
+        "image",
         &[
             (MAGIC, 1),
             (SHAPE, 1),
@@ -208,16 +208,16 @@ const IMAGES: &[Act] = &[
         ],
     ),
     Act::Refuses(
-        "zscli zones g1",
-        "g1: 3 open and 3 active zones, of at most 2 and 3\nimage refused 14\n",
+        "zscli zones image",
+        "image: 3 open and 3 active zones, of at most 2 and 3\nimage refused 14\n",
     ),
     Act::Put(
-        "g1",
+        "image",
         &[(MAGIC, 1), (NUMBERS, 1), (EMPTY_ZONE, 4), (b"\0", 1)],
     ),
     Act::Refuses(
-        "zscli zones g1",
-        "g1: bytes follow the last block\nimage refused 15\n",
+        "zscli zones image",
+        "image: bytes follow the last block\nimage refused 15\n",
     ),
 ];
 
