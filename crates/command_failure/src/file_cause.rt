@@ -18,7 +18,7 @@ pub enum FileCause {
 
 impl FileCause {
     /// What the user is told behind the file's name: nothing of another cause.
-    pub(crate) fn words(self) -> &'static str
+    pub fn words(self) -> &'static str
         ensures { result.now ≡ cause_words self }
     {
         match self {

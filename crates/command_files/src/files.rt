@@ -10,13 +10,16 @@ use command_failure::FileCause;
 use image_store::{Sink, Source};
 use std::alloc::AllocError;
 use std::io::{self, ErrorKind};
+use thiserror::Error;
 
 /// Why a file wasn't read or written.
-#[derive(Clone, Copy, Debug, PartialEq, Eq)]
+#[derive(Clone, Copy, Debug, PartialEq, Eq, Error)]
 pub enum FileFault {
     /// It can't be opened, or reading or writing it failed.
+    #[error("the file fails{}", .0.words())]
     Failed(FileCause),
     /// No memory for what it holds.
+    #[error("no memory")]
     Memory,
 }
 
