@@ -21,10 +21,14 @@ pub fn admission_keeps_limits()
 {}
 
 /// Zones within their limits stay so where one of them comes into a state that holds no more than the
-/// one that it was in, as each does that is neither open nor Closed.
+/// one that it was in.
 pub fn release_keeps_limits()
-    ensures limits { ReleaseKeepsLimits }
-    ensures idle { IdleHoldsNoMore }
+    ensures { ReleaseKeepsLimits }
+{}
+
+/// A state that is neither open nor Closed holds no more than any other.
+pub fn idle_holds_no_more()
+    ensures { IdleHoldsNoMore }
 {}
 
 /// A destination of a run refuses every action, a zone that is only a source Reset and Offline and no other, and a

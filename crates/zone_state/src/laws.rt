@@ -27,8 +27,12 @@ pub fn writes_join()
     ensures { WritesJoin }
 {}
 
-/// Of an ordered list of checks the first that fails decides: its fault is told, and none is where none fails.
-pub fn first_check_decides<F>()
-    ensures first { FirstFailedIsFirst F }
-    ensures none { NoFaultWhereNoneFails F }
+/// Of an ordered list of checks the first that fails decides: the fault that is told is its own.
+pub fn first_failed_is_first<F>()
+    ensures { FirstFailedIsFirst F }
+{}
+
+/// An ordered list of checks has no fault just where none of them fails.
+pub fn no_fault_where_none_fails<F>()
+    ensures { NoFaultWhereNoneFails F }
 {}
