@@ -10,7 +10,7 @@ use Rattle.zone_state.specs.Zone.{CountedZone}
 use Rattle.nvme_entry.specs.Filter.{lists}
 use Rattle.nvme_entry.specs.declared.filter.ZoneFilter.{ZoneFilter}
 use Rattle.nvme_entry.specs.Report.{descriptor_at, fitting, report_header, listed, matching, report, taken}
-use Rattle.nvme_entry.specs.ReportLaws.{GivesWhatMatches, TellsZones, number_in, pieces}
+use Rattle.nvme_entry.specs.ReportLaws.{ReportsGiveWhatMatches, TellsZones, number_in, pieces}
 use Rattle.nvme_entry.proofs.Listings.{length-descriptor, length-header, length-whole, whole}
 
 length-each : (size : ℕ) (zone : ℕ × CountedZone) → length (descriptor_at size zone) ≡ 64
@@ -155,8 +155,8 @@ tells bytes partial size found given long few parts same_length =
           ∙ (drop_at (flat_map f shown) zeros (64 * min room (length found)) size_shown ∙ ap (λ (k : ℕ). replicate k 0) left));
     }
 
-pub gives_what_matches : GivesWhatMatches
-gives_what_matches bytes zones first size option partial long few =
+pub reports_give_what_matches : ReportsGiveWhatMatches
+reports_give_what_matches bytes zones first size option partial long few =
     let found = matching zones first option in
     let same_length = length-report bytes zones first size option partial in
     let few_found : length found < 2 ^ 64 = omega (arith, length-matching zones first option) in

@@ -9,7 +9,7 @@ use Rattle.zone_state.specs.declared.status.TheConstants.Status.{INVALID_FIELD_I
 use Rattle.zone_state.specs.Transition.{action_of}
 use Rattle.zone_state.specs.Checks.{demand, first_failed}
 use Rattle.nvme_entry.specs.Entry.{asked, asked_blocks, checked, command_of, decoded_by, dwords_of, fuse_of, namespace_of, opcode_of, starting_lba}
-use Rattle.nvme_entry.specs.EntryLaws.{AsksFor, FieldsAreSpelled, SpelledEntryIsDecoded, Spells}
+use Rattle.nvme_entry.specs.EntryLaws.{AsksFor, FieldsAreSpelled, SpelledEntriesAreDecoded, Spells}
 use Rattle.nvme_entry.specs.Fields.{dword, field}
 use Rattle.nvme_entry.specs.Filter.{filter_of}
 use Rattle.nvme_entry.specs.ProgramSlot.{program_slot_of}
@@ -216,7 +216,7 @@ named_by (command.Result slot) entry h = record {
   command = ap (λ (o : Option ℕ). option_map (λ (n : ℕ). command.Result n) o) (slot_is (dword entry 10) slot h.1 h.2);
 }
 
-pub spelled_entry_is_decoded : SpelledEntryIsDecoded
-spelled_entry_is_decoded entry c asks =
+pub spelled_entries_are_decoded : SpelledEntriesAreDecoded
+spelled_entries_are_decoded entry c asks =
     let names = named_by c entry asks.2 in
     decoded_is entry names.named names.is asks.0 asks.1 ∙ ap (λ (o : Option Command). ok_or o INVALID_FIELD_IN_COMMAND) names.command

@@ -55,8 +55,8 @@ abbrev pub FieldsAreSpelled : Type 0
 FieldsAreSpelled = (entry : List ℕ) (c : Command) → decoded entry ≡ Ok c → AsksFor entry c
 
 -- and one that asks for a command is decoded to it
-abbrev pub SpelledEntryIsDecoded : Type 0
-SpelledEntryIsDecoded = (entry : List ℕ) (c : Command) → AsksFor entry c → decoded entry ≡ Ok c
+abbrev pub SpelledEntriesAreDecoded : Type 0
+SpelledEntriesAreDecoded = (entry : List ℕ) (c : Command) → AsksFor entry c → decoded entry ≡ Ok c
 
 -- two entries agree in the opcode, in bits 1:0 of byte 1, in the namespace, and in what they spell
 pub record AgreeInNamedFields (entry other : List ℕ) : Type 0 where

@@ -29,8 +29,8 @@ pub record TellsZones (bytes : List ℕ) (partial : Bool) (size given : ℕ) (fo
 
 -- A report has the length of the transfer. It gives the descriptors of the zones that match, as many
 -- as fit whole behind the header.
-abbrev pub GivesWhatMatches : Type 0
-GivesWhatMatches =
+abbrev pub ReportsGiveWhatMatches : Type 0
+ReportsGiveWhatMatches =
     (bytes : ℕ) (zones : List CountedZone) (first size : ℕ) (option : ZoneFilter) (partial : Bool)
     → 64 ≤ bytes → length zones < 2 ^ 64
     → let given = report bytes zones first size option partial in

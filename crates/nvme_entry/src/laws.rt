@@ -1,8 +1,8 @@
 //! Laws of the definitions that the contracts of this crate cite. Each function does nothing: what
 //! it ensures is the law.
 
-ghost use Rattle.nvme_entry.specs.EntryLaws.{FieldsAreSpelled, OnlyNamedFieldsCount, SpelledEntryIsDecoded};
-ghost use Rattle.nvme_entry.specs.ReportLaws.{GivesWhatMatches};
+ghost use Rattle.nvme_entry.specs.EntryLaws.{FieldsAreSpelled, OnlyNamedFieldsCount, SpelledEntriesAreDecoded};
+ghost use Rattle.nvme_entry.specs.ReportLaws.{ReportsGiveWhatMatches};
 ghost use Rattle.nvme_entry.specs.CompletionFields.{CompletionsTell};
 
 /// The fields of the command that an entry is decoded to are the numbers of the entry's bytes at their places.
@@ -12,7 +12,7 @@ pub fn fields_are_spelled()
 
 /// An entry whose bytes spell a command, that is for namespace 1 and no part of a fused command, is decoded to it.
 pub fn spelled_entries_are_decoded()
-    ensures { SpelledEntryIsDecoded }
+    ensures { SpelledEntriesAreDecoded }
 {}
 
 /// Entries that agree in what they spell, and in their opcode, FUSE and namespace, are decoded or refused alike, whatever
@@ -29,5 +29,5 @@ pub fn completions_tell()
 
 /// A report gives the descriptors of the zones that match, in order, as many as fit whole.
 pub fn reports_give_what_matches()
-    ensures { GivesWhatMatches }
+    ensures { ReportsGiveWhatMatches }
 {}

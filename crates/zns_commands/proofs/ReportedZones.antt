@@ -23,7 +23,7 @@ use Rattle.zns_commands.specs.Effect.{Effect, success_effect, concluded}
 use Rattle.zns_commands.specs.Meaning.{meaning}
 use Rattle.zns_commands.specs.Receive.{receive_checks, receive_effect}
 use Rattle.zns_commands.specs.Laws.{ReportsEveryZone, ReportsWhatMatches, all_descriptors, descriptor_room, listed_by}
-use Rattle.nvme_entry.proofs.Proved.{gives_what_matches}
+use Rattle.nvme_entry.proofs.Proved.{reports_give_what_matches}
 
 both_pass : (a b : Bool) (s t : Status) → a ≡ true → b ≡ true → first_failed (demand a s ∷ None ∷ demand b t ∷ []) ≡ None
 both_pass a b s t ea eb = rw (ea, eb) refl
@@ -40,7 +40,7 @@ reports_what_matches ns holds lba dwords option partial sound inside room most =
     let given = report (4 * dwords) zones first ns.size option partial in
     let is : meaning ns holds (Receive lba dwords option partial) [] ≡ success_effect ns 0 given =
     ap (λ (refusal : Option Status). concluded refusal ns (receive_effect ns lba dwords option partial)) none in
-    let tells = (gives_what_matches (4 * dwords) zones first ns.size option partial room (omega (arith, count, sound.shape.zones_most))).1 in
+    let tells = (reports_give_what_matches (4 * dwords) zones first ns.size option partial room (omega (arith, count, sound.shape.zones_most))).1 in
     subst (λ (done : Effect). (done.status ≡ SUCCESS)
     × TellsZones done.output partial ns.size (min (descriptor_room dwords) (length found)) found)
     (sym is) (refl, tells)
