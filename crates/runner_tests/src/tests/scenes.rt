@@ -10,6 +10,7 @@ use std::alloc::Global;
 use std::process::Abort;
 use std::test::Fail;
 use zns_commands::{Image, MOST_TRANSFER};
+use zone_state::ZoneState;
 
 /// The bytes of a block.
 const BLOCK: u32 = 512;
@@ -235,7 +236,7 @@ fn write_image(to: &mut Vec<u8>, shape: &Shape, zones: &str) -> Result<(), Fail>
 fn write_zone_row(to: &mut Vec<u8>, zone: &str) -> Result<(), Fail> {
     let (state, _) = zone.split_once(' ').unwrap_or((zone, ""));
     let blocks = u32::try_from(firsts_of(*to.allocator(), zone)?.len())?;
-    to.extend_from_slice(&[code_of(state), 0, 0, 0])?;
+    to.extend_from_slice(&[code_of(state)?, 0, 0, 0])?;
     to.extend_from_slice(&blocks.to_le_bytes())?;
     Ok(())
 }
@@ -255,15 +256,10 @@ fn firsts_of(alloc: Global, zone: &str) -> Result<Vec<u8>, Fail> {
 }
 
 /// The code of a state as images have it (ZNS 1.1, 3.4.2).
-fn code_of(state: &str) -> u8 {
-    match state {
-        "empty" => 0x1,
-        "implicit" => 0x2,
-        "explicit" => 0x3,
-        "closed" => 0x4,
-        "readonly" => 0xd,
-        "full" => 0xe,
-        "offline" => 0xf,
-        _ => 0,
+fn code_of(word: &str) -> Result<u8, Fail> {
+    let mut states = ZoneState::ALL.iter();
+    match states.find(|state| state.word() == word) {
+        Some(state) => Ok(state.code()),
+        None => Err(Fail::from("no such state")),
     }
 }

@@ -168,8 +168,10 @@ impl Step {
 
 /// So many blocks.
 fn count(blocks: u32) -> Result<BlockCount, Fail> {
-    let last = u16::try_from(blocks.wrapping_sub(1))?;
-    Ok(BlockCount::from_zero_based(last))
+    let Some(blocks) = BlockCount::new(blocks) else {
+        return Err(Fail::from("no command has so many blocks"));
+    };
+    Ok(blocks)
 }
 
 /// The blocks of so many bytes.
