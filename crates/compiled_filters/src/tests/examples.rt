@@ -11,7 +11,7 @@ ghost use Rattle.std.specs.Prelude.{◌<◌, ◌≤◌, length};
 
 use super::{BLOCK, sizes};
 use ebpf_decode::decode;
-use events::{append, done, load, open, read, result, run};
+use events::{APPEND, LOAD, OPEN, READ, RESULT, RUN, append, done, load, open, read, result, run};
 use interval_domain::Intervals;
 use program_interface::SCRATCH_BYTES;
 use runner::{Device, Event, Reply};
@@ -151,22 +151,22 @@ impl Trial {
         let blocks = Vec::from_slice(self.alloc, self.blocks.as_slice())?;
         let pending = Reply::Pending { run: 0 };
         let appending = append(last, blocks);
-        expect(rt, name, device, data, &appending, done(1, [0, 0], 0));
+        expect(rt, name, device, data, &appending, done(APPEND, [0, 0], 0));
         expect(
             rt,
             name,
             device,
             data,
             &open(self.alloc),
-            done(2, [0, 0], 0),
+            done(OPEN, [0, 0], 0),
         );
-        expect(rt, name, device, data, loading, done(3, [0, 0], 0));
+        expect(rt, name, device, data, loading, done(LOAD, [0, 0], 0));
         let running = run(self.alloc, last, argument)?;
         expect(rt, name, device, data, &running, pending);
         for _ in 0..last {
             expect(rt, name, device, data, &Event::Turn { run: 0 }, pending);
         }
-        let ended = done(4, [self.frames, self.appended()?], 0);
+        let ended = done(RUN, [self.frames, self.appended()?], 0);
         expect(rt, name, device, data, &Event::Turn { run: 0 }, ended);
         Ok(())
     }
@@ -194,7 +194,7 @@ impl Trial {
             device,
             data,
             &reading,
-            done(5, [0, 0], output.len()),
+            done(READ, [0, 0], output.len()),
         );
         assert!(rt; data.starts_with(output), "{name}");
         let unused = [0; SCRATCH_BYTES];
@@ -205,7 +205,7 @@ impl Trial {
             device,
             data,
             &result(self.alloc)?,
-            done(6, [0, 0], scratch.len()),
+            done(RESULT, [0, 0], scratch.len()),
         );
         assert!(rt; data.starts_with(scratch), "{name}");
         Ok(())

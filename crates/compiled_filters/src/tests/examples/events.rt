@@ -4,20 +4,41 @@ ghost use Rattle.std.specs.Prelude.{◌≤◌};
 ghost use Rattle.nvme_entry.specs.Encoding.{program_length};
 
 use super::OUTPUT;
-use nvme_entry::{Command, Entry, LoadCommand, ProgramSlot, RunCommand};
+use nvme_entry::{Command, Completion, Entry, LoadCommand, ProgramSlot, RunCommand};
 use runner::{Event, Reply};
 use std::alloc::Global;
 use std::process::Abort;
 use std::test::Fail;
 use zns_commands::{BlockCount, MOST_TRANSFER, StandardCommand};
-use zone_state::Action;
+use zone_state::{Action, Status};
+
+/// The queue of all entries.
+const QUEUE: u16 = 1;
+
+/// The identifier of the command that appends the source blocks.
+pub(super) const APPEND: u16 = 1;
+
+/// Of the one that opens the zone that the run appends to.
+pub(super) const OPEN: u16 = 2;
+
+/// Of the one that loads the program.
+pub(super) const LOAD: u16 = 3;
+
+/// Of the one that runs it.
+pub(super) const RUN: u16 = 4;
+
+/// Of the one that reads what the run appended.
+pub(super) const READ: u16 = 5;
+
+/// Of the one that asks for the scratch bytes that the run left.
+pub(super) const RESULT: u16 = 6;
 
 /// A submission of a command, with bytes beside it.
 fn submit(command: Command, cid: u16, input: Vec<u8>) -> Event
     requires { program_length command ≤ MOST_TRANSFER }
 {
     Event::Submit {
-        queue: 1,
+        queue: QUEUE,
         entry: Entry::encode(command, cid),
         input,
     }
@@ -27,7 +48,7 @@ fn submit(command: Command, cid: u16, input: Vec<u8>) -> Event
 pub(super) fn append(last: u16, bytes: Vec<u8>) -> Event {
     let blocks = BlockCount::from_zero_based(last);
     let command = StandardCommand::Append { lba: 0, blocks };
-    submit(Command::Standard(command), 1, bytes)
+    submit(Command::Standard(command), APPEND, bytes)
 }
 
 /// Opens the zone that the run appends to.
@@ -37,7 +58,7 @@ pub(super) fn open(alloc: Global) -> Event {
         action: Action::Open,
         select_all: false,
     };
-    submit(Command::Standard(command), 2, Vec::new(alloc))
+    submit(Command::Standard(command), OPEN, Vec::new(alloc))
 }
 
 /// Loads a program into slot 0.
@@ -49,7 +70,7 @@ pub(super) fn load(rt: &impl Abort, limit: u32, program: Vec<u8>) -> Result<Even
         limit,
         bytes,
     };
-    Ok(submit(Command::Load(load), 3, program))
+    Ok(submit(Command::Load(load), LOAD, program))
 }
 
 /// Runs it over blocks, one more than `last`.
@@ -61,7 +82,7 @@ pub(super) fn run(alloc: Global, last: u16, argument: u32) -> Result<Event, Fail
         argument,
         destination: OUTPUT,
     };
-    Ok(submit(Command::Run(run), 4, Vec::new(alloc)))
+    Ok(submit(Command::Run(run), RUN, Vec::new(alloc)))
 }
 
 /// Reads blocks, one more than `last`, that the run appended.
@@ -71,12 +92,12 @@ pub(super) fn read(alloc: Global, last: u16) -> Event {
         lba: OUTPUT,
         blocks,
     };
-    submit(Command::Standard(command), 5, Vec::new(alloc))
+    submit(Command::Standard(command), READ, Vec::new(alloc))
 }
 
 /// Reads the scratch bytes that the run left.
 pub(super) fn result(alloc: Global) -> Result<Event, Fail> {
-    Ok(submit(Command::Result(first_slot()?), 6, Vec::new(alloc)))
+    Ok(submit(Command::Result(first_slot()?), RESULT, Vec::new(alloc)))
 }
 
 fn first_slot() -> Result<ProgramSlot, Fail> {
@@ -87,15 +108,17 @@ fn first_slot() -> Result<ProgramSlot, Fail> {
 }
 
 /// The completion of a command that is done, with its Dwords 0 and 1 and so many bytes of data.
-pub(super) fn done(cid: u8, dwords: [u32; 2], length: usize) -> Reply {
-    let mut entry = [0; 16];
-    entry[0..4].copy_from_slice(&dwords[0].to_le_bytes());
-    entry[4..8].copy_from_slice(&dwords[1].to_le_bytes());
-    entry[10] = 1;
-    entry[12] = cid;
+pub(super) fn done(cid: u16, dwords: [u32; 2], length: usize) -> Reply {
+    let completion = Completion {
+        dw0: dwords[0],
+        dw1: dwords[1],
+        queue: QUEUE,
+        cid,
+        status: Status::SUCCESS,
+    };
     Reply::Complete {
-        queue: 1,
-        entry,
+        queue: QUEUE,
+        entry: completion.encode(),
         length,
     }
 }
