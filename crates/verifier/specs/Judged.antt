@@ -1,4 +1,4 @@
--- What a verifier tells of a program beside its answer.
+-- What a verifier tells of a program beside what it gives.
 use Rattle.std.specs.Prelude.{◌≡◌, List, Option, Some, None}
 use Rattle.instruction_set.specs.declared.instruction.Instruction.{Instruction}
 use Rattle.program_interface.specs.RunSizes.{Sizes}

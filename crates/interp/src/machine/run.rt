@@ -12,7 +12,7 @@ impl Machine<'_> {
     ghost use Rattle.program_meaning.specs.Step.{IsAt};
 
     /// Takes steps from where the machine stands until the run ends, and at most `fuel` of them;
-    /// where they are used up the answer is that no fuel is left, also before an instruction that
+    /// where they are used up it gives that no fuel is left, also before an instruction that
     /// can't be done. `limit` and `group` are as for `step`.
     pub fn run_checked(
         &mut self,
