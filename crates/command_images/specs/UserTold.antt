@@ -1,10 +1,9 @@
 -- What the user is told of numbers that are no geometry, and of files that are no images (profile).
 use Rattle.std.specs.Prelude.{ℕ, ◌≡◌, List, Err}
 use Rattle.clap.specs.declared.parser.matches.ArgMatches.{ArgMatches}
-use Rattle.image_store.specs.Geometry.{Shape, tested}
+use Rattle.image_store.specs.Geometry.{Shape}
 use Rattle.image_store.specs.Reading.{namespace_in}
-use Rattle.image_store.specs.Refusal.{geometry_refusal_of}
-use Rattle.image_store.specs.declared.geometry.GeometryFault.{GeometryFault}
+use Rattle.image_store.specs.Refusal.{tested}
 use Rattle.image_store.specs.declared.refusal.GeometryRefusal.{GeometryRefusal}
 use Rattle.command_failure.specs.declared.failure.Failure.{Failure}
 use Rattle.command_failure.specs.declared.failure.Failure.TheVariants.{GeometryRefused, ImageRefused}
@@ -13,10 +12,8 @@ use Rattle.command_images.specs.Images.{IsAskedFor}
 -- of the shape that the options ask for, the first test that it fails is told, with its numbers
 pub record FailsTest (matches : ArgMatches) (refusal : GeometryRefusal) : Type 0 where
   pub shape : Shape
-  pub fault : GeometryFault
   pub asked : IsAskedFor matches shape
-  pub fails : tested shape ≡ Err fault
-  pub told : refusal ≡ geometry_refusal_of fault shape
+  pub fails : tested shape ≡ Err refusal
 
 -- numbers are refused for this
 abbrev pub RefusesShape : ArgMatches → Failure → Type 0

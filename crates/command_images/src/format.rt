@@ -3,17 +3,16 @@
 ghost use Rattle.std.specs.Prelude.{◌≡◌, codes, IfErr, IfOk, OnOk, OnErr};
 ghost use Rattle.command_files.specs.Arguments.{value_of};
 ghost use Rattle.command_files.specs.Made.{MakesOne};
-ghost use Rattle.image_store.specs.Geometry.{shape_of, tested};
+ghost use Rattle.image_store.specs.Refusal.{tested};
 ghost use Rattle.command_images.specs.Images.{IsAskedFor, MakesEmpty};
 ghost use Rattle.command_images.specs.UserTold.{RefusesShape};
-ghost use Rattle.command_images.specs.steps.Told.{told_of_geometry};
 
 use crate::image_file::{self, IMAGE};
 use clap::{Arg, ArgMatches, Command};
 use command_failure::Failure;
 use command_files::Files;
 use command_files::arguments::{BLOCK, and_argument, block_option, number, option, required};
-use image_store::{Geometry, GeometryFault, GeometryRefusal, Image, Limits};
+use image_store::{Geometry, Image, Limits};
 use std::alloc::{AllocError, Global};
 
 /// The command's name.
@@ -119,20 +118,6 @@ fn geometry<'a>(matches: &ArgMatches<'a>) -> Result<Geometry, Failure<'a>>
     };
     match Geometry::new(block, zones, size, capacity, limits) {
         Ok(geometry) => Ok(geometry),
-        Err(fault) => Err(refused(fault, block, zones, size, capacity, limits)),
+        Err(refusal) => Err(Failure::GeometryRefused(refusal)),
     }
-}
-
-/// What the user is told of numbers that are no geometry.
-fn refused<'a>(
-    fault: GeometryFault,
-    block: u32,
-    zones: u32,
-    size: u32,
-    capacity: u32,
-    limits: Limits,
-) -> Failure<'a>
-    ensures { result ≡ told_of_geometry fault (shape_of block zones size capacity limits) }
-{
-    Failure::GeometryRefused(GeometryRefusal::of(fault, block, zones, size, capacity, limits))
 }

@@ -21,7 +21,7 @@ use Rattle.image_store.specs.Geometry.{Shape, shape_checks}
 use Rattle.image_store.specs.Loading.{LoadFails, CountsFault, CountsLoad}
 use Rattle.image_store.specs.steps.LoadedParts.{IsNoStream, NoStreamFails}
 use Rattle.program_interface.specs.Readings.{◌>>=◌}
-use Rattle.image_store.specs.Reading.{are_zeros, number_at, numbers_fault, numbers_in, shape_told, version_in, version_kept, zeros_kept, total_told, header_of, header_told, zone_told, zone_in, total_kept, limits_kept}
+use Rattle.image_store.specs.Reading.{are_zeros, number_at, numbers_fault, numbers_in, numbers_tested, shape_told, version_in, version_kept, zeros_kept, total_told, header_of, header_told, zone_told, zone_in, total_kept, limits_kept}
 use Rattle.image_store.specs.Refusal.{geometry_refusal_of}
 use Rattle.image_store.specs.Text.{written_blocks}
 use Rattle.image_store.specs.Version.{has_block, numbers_of_version}
@@ -64,9 +64,9 @@ magic_fault (Some version) fault e = absurd cc
 
 -- what holds of each fault of a header behind its magic
 module _ (P : LoadFault → Type 0) (of_header : (why : HeaderFault) → P (BadHeader why)) where
-  numbers_text_fault : (check : Option GeometryFault) (s : Shape) (fault : LoadFault) → unless_failed (option_map (numbers_fault s) check) s ≡ Err fault → P fault
+  numbers_text_fault : (check : Option GeometryFault) (s : Shape) (fault : LoadFault) → numbers_tested (unless_failed (option_map (λ (fault : GeometryFault). geometry_refusal_of fault s) check) s) ≡ Err fault → P fault
   numbers_text_fault None s fault e = absurd cc
-  numbers_text_fault (Some first) s fault e = subst P (is_this {X = Shape} (numbers_fault s first) fault e) (of_header (Numbers (geometry_refusal_of first s)))
+  numbers_text_fault (Some first) s fault e = subst P (is_this {X = Shape} (numbers_fault (geometry_refusal_of first s)) fault e) (of_header (Numbers (geometry_refusal_of first s)))
 
   version_text_fault : (a b : Bool) (f g : HeaderFault) (fault : LoadFault)
       → (let r : Result (Unit {0}) LoadFault = unless_failed (first_failed (demand a (BadHeader f) ∷ demand b (BadHeader g) ∷ [])) tt in r) ≡ Err fault → P fault

@@ -31,7 +31,8 @@ use Rattle.image_store.specs.FirstFault.{Begins, FaultIsFirst, HasHeader, HasRow
 use Rattle.image_store.specs.Geometry.{Shape, IsShape, shape_checks}
 use Rattle.image_store.specs.ImageInMemory.{no_counted_zone, zone_seen}
 use Rattle.image_store.specs.Namespace.{ZoneBlocks, ZonedNamespace, namespace_with}
-use Rattle.image_store.specs.Reading.{are_zeros, number_at, numbers_fault, numbers_in, version_in, version_kept, zeros_kept, total_told, bytes_in, header_of, header_told, zone_told, zone_in, zones_in, total_kept, limits_kept, blocks_in, end_in}
+use Rattle.image_store.specs.Reading.{are_zeros, number_at, numbers_fault, numbers_in, numbers_tested, version_in, version_kept, zeros_kept, total_told, bytes_in, header_of, header_told, zone_told, zone_in, zones_in, total_kept, limits_kept, blocks_in, end_in}
+use Rattle.image_store.specs.Refusal.{geometry_refusal_of}
 use Rattle.image_store.specs.Text.{written_blocks}
 use Rattle.image_store.specs.Version.{HasText, has_block, numbers_of_version}
 use Rattle.image_store.proofs.FaultPlaces.{bind_fails, short_rows, short_text, unknown, whole_rows, whole_text}
@@ -75,10 +76,10 @@ module _ (bytes : List ℕ) (version : Version) (begun : Begins version bytes) w
   abbrev s : Shape
   s = shape_in bytes
 
-  numbers_wrong : (check : Option GeometryFault) (fault : LoadFault) → first_failed (shape_checks s) ≡ check → unless_failed (option_map (numbers_fault s) check) s ≡ Err fault → IsFirstFault bytes fault
+  numbers_wrong : (check : Option GeometryFault) (fault : LoadFault) → first_failed (shape_checks s) ≡ check → numbers_tested (unless_failed (option_map (λ (fault : GeometryFault). geometry_refusal_of fault s) check) s) ≡ Err fault → IsFirstFault bytes fault
   numbers_wrong None fault is e = absurd cc
   numbers_wrong (Some first) fault is e =
-      subst (IsFirstFault bytes) (is_this {X = Shape} (numbers_fault s first) fault e) (version, begun, (first, (first_failed_is_first GeometryFault (shape_checks s) first).0 is, refl))
+      subst (IsFirstFault bytes) (is_this {X = Shape} (numbers_fault (geometry_refusal_of first s)) fault e) (version, begun, (first, (first_failed_is_first GeometryFault (shape_checks s) first).0 is, refl))
 
   version_wrong : (a b : Bool) (fault : LoadFault) → IsShape s → has_block version s.block ≡ a → nat_le s.zones (numbers_of_version version).most_zones ≡ b
       → (let r : Result (Unit {0}) LoadFault = unless_failed (first_failed (demand a (BadHeader (VersionBlock version s.block)) ∷ demand b (BadHeader (VersionZones version s.zones)) ∷ [])) tt in r) ≡ Err fault

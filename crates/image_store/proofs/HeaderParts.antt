@@ -14,7 +14,8 @@ use Rattle.image_store.specs.declared.version.Version.TheVariants.{One, Two}
 use Rattle.zone_state.specs.Checks.{demand, first_failed, unless_failed}
 use Rattle.image_store.specs.Geometry.{Shape, IsShape, shape_checks}
 use Rattle.program_interface.specs.Readings.{◌>>=◌}
-use Rattle.image_store.specs.Reading.{are_zeros, numbers_fault, numbers_in, shape_told, version_in, version_checks, version_kept, zeros_kept, total_told, header_of, header_told}
+use Rattle.image_store.specs.Reading.{are_zeros, numbers_in, numbers_tested, shape_told, version_in, version_checks, version_kept, zeros_kept, total_told, header_of, header_told}
+use Rattle.image_store.specs.Refusal.{geometry_refusal_of}
 use Rattle.image_store.specs.Version.{HasText, has_block, numbers_of_version}
 use Rattle.image_store.proofs.ReadingCalls.{bind_ok, ok_is, chosen}
 use Rattle.image_store.proofs.Shapes.{both, none_fails, shape_is}
@@ -42,14 +43,14 @@ pub record ArePassed (told s : Shape) : Type 0 where
   pub same : told ≡ s
   pub known : IsShape told
 
-passed_by : (told s : Shape) (check : Option GeometryFault) → unless_failed (option_map (numbers_fault told) check) told ≡ Ok s → (check ≡ None) × (told ≡ s)
+passed_by : (told s : Shape) (check : Option GeometryFault) → numbers_tested (unless_failed (option_map (λ (fault : GeometryFault). geometry_refusal_of fault told) check) told) ≡ Ok s → (check ≡ None) × (told ≡ s)
 passed_by told s None e = (refl, ok_is told s e)
 passed_by told s (Some first) e = absurd cc
 
 pub passed : (told s : Shape) → numbers_in told ≡ Ok s → ArePassed told s
 passed told s e =
     let p = passed_by told s (first_failed (shape_checks told)) e in
-    record { same = p.1; known = shape_is told told (ap (λ (check : Option GeometryFault). unless_failed check told) p.0) }
+    record { same = p.1; known = shape_is told told (ap (λ (check : Option GeometryFault). unless_failed (option_map (λ (fault : GeometryFault). geometry_refusal_of fault told) check) told) p.0) }
 
 pub version_has : (version : Version) (s : Shape) (done : Unit {0}) → version_kept version s ≡ Ok done → HasText version s
 version_has version s done e =

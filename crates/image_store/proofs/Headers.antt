@@ -2,23 +2,20 @@
 use Rattle.std.proofs.Common.{◌≡◌, ℕ, ◌^◌, ◌<◌, List, ◌∷◌, ◌++◌, length, drop, replicate, Option, Some, None, Result, Ok, refl, ap, ◌∙◌, arith}
 use Rattle.std.proofs.lemmas.Bool.{le-leb}
 use Rattle.std.specs.List.{flat_map}
-use Rattle.std.specs.Option.{option_map}
 use Rattle.std.specs.Prelude.{codes}
 use Rattle.byteorder.specs.Endian.{little_number}
 use Rattle.byteorder.specs.Numbers.{little_number-reads_back}
 use Rattle.image_store.specs.declared.fault.LoadFault.{LoadFault}
-use Rattle.image_store.specs.declared.geometry.GeometryFault.{GeometryFault}
 use Rattle.image_store.specs.declared.header.Header.{Header}
 use Rattle.image_store.specs.declared.version.Version.{Version}
 use Rattle.image_store.specs.declared.version.Version.TheVariants.{One, Two}
-use Rattle.zone_state.specs.Checks.{first_failed, unless_failed}
-use Rattle.image_store.specs.Geometry.{Shape, IsShape, shape_of, shape_checks}
+use Rattle.image_store.specs.Geometry.{Shape, IsShape, shape_of}
 use Rattle.program_interface.specs.Readings.{◌>>=◌}
-use Rattle.image_store.specs.Reading.{numbers_fault, numbers_in, shape_told, version_kept, zeros_kept, total_told, header_of, header_told, header_in}
+use Rattle.image_store.specs.Reading.{numbers_in, numbers_tested, shape_told, version_kept, zeros_kept, total_told, header_of, header_told, header_in}
 use Rattle.image_store.specs.Text.{four_bytes, numbers_of, header_end, header}
 use Rattle.image_store.specs.Version.{HasText, numbers_of_version}
 use Rattle.image_store.proofs.FilledBuffers.{Split, bytes_whole}
-use Rattle.image_store.proofs.Shapes.{block_most, none_fails, shape_passes}
+use Rattle.image_store.proofs.Shapes.{block_most, shape_passes}
 
 pub word_again : (n : ℕ) (rest : List ℕ) → n < 2 ^ 32 → little_number 4 (four_bytes n ++ rest) ≡ n
 word_again n rest h = little_number-reads_back 4 n rest (omega arith)
@@ -53,7 +50,7 @@ told Two s total known = numbers_again 50 s (header_end Two total) known
 
 numbers_pass : (s : Shape) → IsShape s → numbers_in s ≡ Ok s
 numbers_pass s known =
-    ap (λ (check : Option GeometryFault). unless_failed (option_map (numbers_fault s) check) s) (none_fails (first_failed (shape_checks s)) s s (shape_passes s known))
+    ap numbers_tested (shape_passes s known)
 
 version_passes : (version : Version) (s : Shape) → HasText version s → version_kept version s ≡ Ok tt
 version_passes version s has = rw (has.block, le-leb s.zones (numbers_of_version version).most_zones has.zones) refl

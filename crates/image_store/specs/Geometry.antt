@@ -1,12 +1,12 @@
 -- The shape of a namespace.
-use Rattle.std.specs.Prelude.{ℕ, Bool, ◌≤◌, ◌*◌, ◌/◌, ◌%◌, ◌&&◌, nat_le, nat_lt, List, [], ◌∷◌, Option, Some, None, Result, if◌then◌else◌}
+use Rattle.std.specs.Prelude.{ℕ, Bool, ◌≤◌, ◌*◌, ◌/◌, ◌%◌, ◌&&◌, nat_le, nat_lt, List, [], ◌∷◌, Option, Some, None, if◌then◌else◌}
 use Rattle.program_interface.specs.BlockSize.{is_block_size, IsBlockSize}
 use Rattle.zone_resources.specs.declared.admission.Limits.{Limits}
 use Rattle.image_store.specs.declared.geometry.ZoneBlock.{ZoneBlock}
 use Rattle.image_store.specs.declared.geometry.TheConstants.{MOST_BYTES, MOST_ZONES, MOST_ZONE_BLOCKS}
 use Rattle.image_store.specs.declared.geometry.GeometryFault.{GeometryFault}
 use Rattle.image_store.specs.declared.geometry.GeometryFault.TheVariants.{BlockSize, ZoneCount, ZoneSize, ZoneCapacity, ResourceLimits, TooLarge}
-use Rattle.zone_state.specs.Checks.{demand, first_failed, unless_failed}
+use Rattle.zone_state.specs.Checks.{demand}
 
 -- bytes of a block, number of zones, blocks of a zone (zone size), how many of these can be written
 -- (zone capacity), and how many zones may be open and active (ZNS 1.1, 2.1.1)
@@ -45,14 +45,11 @@ shape_checks s =
     ∷ demand (nat_le (s.zones * s.capacity * s.block) MOST_BYTES) TooLarge
     ∷ []
 
+-- the shape of these numbers
 abbrev pub shape_of : ℕ → ℕ → ℕ → ℕ → Limits → Shape
 shape_of block zones size capacity limits = record { block = block; zones = zones; size = size; capacity = capacity; limits = limits }
 
--- the shape, or the first test that it fails
-abbrev pub tested : Shape → Result Shape GeometryFault
-tested s = unless_failed (first_failed (shape_checks s)) s
-
--- what follows for each shape that passes the tests, and for no other
+-- what holds of each shape that passes the tests, and of no other
 pub record IsShape (s : Shape) : Type 0 where
   pub block_size : IsBlockSize s.block
   pub zones_some : 1 ≤ s.zones

@@ -2,7 +2,7 @@
 -- first fault from the left.
 use Rattle.std.specs.Prelude.{ℕ, zero, suc, Bool, ◌+◌, ◌*◌, ◌==◌, ◌&&◌, nat_le, List, [], ◌∷◌, length, get_or, take, drop, Option, Some, None, Result, Ok, Err, if◌then◌else◌}
 use Rattle.std.specs.List.{find, list_all, starts_with}
-use Rattle.std.specs.Option.{ok_or, option_map}
+use Rattle.std.specs.Option.{ok_or}
 use Rattle.byteorder.specs.Endian.{little_number}
 use Rattle.program_interface.specs.Readings.{◌>>=◌}
 use Rattle.zone_state.specs.declared.state.ZoneState.{ZoneState}
@@ -16,12 +16,12 @@ use Rattle.image_store.specs.declared.fault.ZoneRowFault.TheVariants as row_faul
 use Rattle.zone_state.specs.Checks.{demand, first_failed, unless_failed}
 use Rattle.image_store.specs.ImageInMemory.{zone_seen}
 use Rattle.image_store.specs.declared.fault.HeaderFault.TheVariants as header_fault
-use Rattle.image_store.specs.declared.geometry.GeometryFault.{GeometryFault}
 use Rattle.image_store.specs.declared.header.Header.{Header}
 use Rattle.image_store.specs.declared.version.Version.{Version}
 use Rattle.image_store.specs.declared.version.Version.TheVariants.{One, Two}
-use Rattle.image_store.specs.Geometry.{Shape, shape_of, shape_checks}
-use Rattle.image_store.specs.Refusal.{geometry_refusal_of}
+use Rattle.image_store.specs.Geometry.{Shape, shape_of}
+use Rattle.image_store.specs.declared.refusal.GeometryRefusal.{GeometryRefusal}
+use Rattle.image_store.specs.Refusal.{tested}
 use Rattle.image_store.specs.Namespace.{ZoneBlocks, ZonedNamespace, namespace_with}
 use Rattle.image_store.specs.Text.{written_blocks}
 use Rattle.image_store.specs.Version.{numbers_of_version, has_block}
@@ -43,16 +43,18 @@ shape_told bytes =
     shape_of (number_at bytes 8) (number_at bytes 12) (number_at bytes 16) (number_at bytes 20)
     (record { open_limit = number_at bytes 24; active_limit = number_at bytes 28 })
 
--- what is told of the numbers of a header that are none of a geometry
-abbrev pub numbers_fault : Shape → GeometryFault → LoadFault
-numbers_fault s first = fault.Header (header_fault.Numbers (geometry_refusal_of first s))
+-- the fault of a header whose numbers are none of a geometry
+abbrev pub numbers_fault : GeometryRefusal → LoadFault
+numbers_fault refusal = fault.Header (header_fault.Numbers refusal)
 
--- the first test of a geometry that they fail, so told
-abbrev pub numbers_check : Shape → Option LoadFault
-numbers_check s = option_map (numbers_fault s) (first_failed (shape_checks s))
+-- what the tests of a geometry give, of the numbers of a header
+abbrev pub numbers_tested : Result Shape GeometryRefusal → Result Shape LoadFault
+numbers_tested (Ok s) = Ok s
+numbers_tested (Err refusal) = Err (numbers_fault refusal)
 
+-- the shape of a header's numbers, or those of them that have a fault
 abbrev pub numbers_in : Shape → Result Shape LoadFault
-numbers_in s = unless_failed (numbers_check s) s
+numbers_in s = numbers_tested (tested s)
 
 -- the version whose magic the bytes begin with
 abbrev pub version_in : List ℕ → Option Version

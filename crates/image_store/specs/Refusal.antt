@@ -1,5 +1,8 @@
 -- What a user is told of numbers that are no geometry (profile).
-use Rattle.image_store.specs.Geometry.{Shape}
+use Rattle.std.specs.Prelude.{Result}
+use Rattle.std.specs.Option.{option_map}
+use Rattle.zone_state.specs.Checks.{first_failed, unless_failed}
+use Rattle.image_store.specs.Geometry.{Shape, shape_checks}
 use Rattle.image_store.specs.declared.geometry.GeometryFault.{GeometryFault}
 use Rattle.image_store.specs.declared.geometry.GeometryFault.TheVariants as faults
 use Rattle.image_store.specs.declared.refusal.GeometryRefusal.{GeometryRefusal}
@@ -13,6 +16,10 @@ geometry_refusal_of faults.ZoneSize s = ZoneSize s.size
 geometry_refusal_of faults.ZoneCapacity s = ZoneCapacity s.capacity s.size
 geometry_refusal_of faults.ResourceLimits s = ResourceLimits s.limits.open_limit s.limits.active_limit s.zones
 geometry_refusal_of faults.TooLarge s = TooLarge s.zones s.capacity s.block
+
+-- the shape, or those of its numbers that have the fault of the first test that it fails
+abbrev pub tested : Shape → Result Shape GeometryRefusal
+tested s = unless_failed (option_map (λ fault. geometry_refusal_of fault s) (first_failed (shape_checks s))) s
 
 -- the fault that they have
 abbrev pub fault_of : GeometryRefusal → GeometryFault

@@ -1,8 +1,10 @@
 //! The shape of a namespace.
 
 ghost use Rattle.std.specs.Prelude.{◌≡◌, ◌≤◌, ◌<◌, ◌*◌, ◌^◌, ◌+◌, IfSome, OnSome};
-ghost use Rattle.image_store.specs.Geometry.{tested, shape_of, zone_block_of, geometry_fault_number, is_counted, are_limits, IsShape};
+ghost use Rattle.image_store.specs.Geometry.{shape_of, zone_block_of, geometry_fault_number, is_counted, are_limits, IsShape};
+ghost use Rattle.image_store.specs.Refusal.{tested};
 
+use crate::refusal::GeometryRefusal;
 use program_interface::{BlockSize, LARGEST_BLOCK};
 use std::marker::Model;
 use thiserror::Error;
@@ -81,33 +83,41 @@ impl Geometry {
     ///
     /// # Errors
     ///
-    /// The first of [`GeometryFault`] that applies.
+    /// The numbers that have the first [`GeometryFault`] that applies.
     pub fn new(
         block: u32,
         zones: u32,
         size: u32,
         capacity: u32,
         limits: Limits,
-    ) -> Result<Geometry, GeometryFault>
+    ) -> Result<Geometry, GeometryRefusal>
         ensures { result ≡ tested (shape_of block zones size capacity limits) }
     {
         let Some(block) = BlockSize::new(block) else {
-            return Err(GeometryFault::BlockSize);
+            return Err(GeometryRefusal::BlockSize(block as usize));
         };
         if !is_counted(zones, MOST_ZONES) {
-            return Err(GeometryFault::ZoneCount);
+            return Err(GeometryRefusal::ZoneCount(zones));
         }
         if !is_counted(size, MOST_ZONE_BLOCKS) {
-            return Err(GeometryFault::ZoneSize);
+            return Err(GeometryRefusal::ZoneSize(size));
         }
         if !is_counted(capacity, size) {
-            return Err(GeometryFault::ZoneCapacity);
+            return Err(GeometryRefusal::ZoneCapacity { capacity, size });
         }
         if !are_limits(limits, zones) {
-            return Err(GeometryFault::ResourceLimits);
+            return Err(GeometryRefusal::ResourceLimits {
+                open_limit: limits.open_limit,
+                active_limit: limits.active_limit,
+                zones,
+            });
         }
         if u64::from(zones) * u64::from(capacity) * u64::from(block.bytes()) > MOST_BYTES {
-            return Err(GeometryFault::TooLarge);
+            return Err(GeometryRefusal::TooLarge {
+                zones,
+                capacity,
+                block: block.bytes(),
+            });
         }
         Ok(Geometry {
             block,

@@ -7,7 +7,6 @@ ghost use Rattle.image_store.specs.Text.{header};
 use crate::bytes::are_zeros;
 use crate::fault::{HeaderFault, LoadFault};
 use crate::geometry::Geometry;
-use crate::refusal::GeometryRefusal;
 use crate::version::Version;
 use byteorder::{ByteOrder, LittleEndian};
 use zone_resources::Limits;
@@ -88,10 +87,7 @@ fn geometry_told(bytes: &[u8]) -> Result<Geometry, LoadFault>
     };
     match Geometry::new(block, zones, size, capacity, limits) {
         Ok(geometry) => Ok(geometry),
-        Err(fault) => {
-            let refusal = GeometryRefusal::of(fault, block, zones, size, capacity, limits);
-            Err(LoadFault::Header(HeaderFault::Numbers(refusal)))
-        }
+        Err(refusal) => Err(LoadFault::Header(HeaderFault::Numbers(refusal))),
     }
 }
 

@@ -1,12 +1,10 @@
 //! What a user is told of numbers that are no geometry.
 
 ghost use Rattle.std.specs.Prelude.{◌≡◌};
-ghost use Rattle.image_store.specs.Geometry.{shape_of};
-ghost use Rattle.image_store.specs.Refusal.{geometry_refusal_of, fault_of};
+ghost use Rattle.image_store.specs.Refusal.{fault_of};
 
 use crate::geometry::GeometryFault;
 use thiserror::Error;
-use zone_resources::Limits;
 
 /// Those of the numbers of a geometry that have its fault.
 #[derive(Clone, Copy, Debug, PartialEq, Eq, Error)]
@@ -40,35 +38,6 @@ pub enum GeometryRefusal {
 }
 
 impl GeometryRefusal {
-    /// What has this fault, of the numbers that [`Geometry::new`](crate::Geometry::new) was given.
-    pub fn of(
-        fault: GeometryFault,
-        block: u32,
-        zones: u32,
-        size: u32,
-        capacity: u32,
-        limits: Limits,
-    ) -> GeometryRefusal
-        ensures { result ≡ geometry_refusal_of fault (shape_of block zones size capacity limits) }
-    {
-        match fault {
-            GeometryFault::BlockSize => GeometryRefusal::BlockSize(block as usize),
-            GeometryFault::ZoneCount => GeometryRefusal::ZoneCount(zones),
-            GeometryFault::ZoneSize => GeometryRefusal::ZoneSize(size),
-            GeometryFault::ZoneCapacity => GeometryRefusal::ZoneCapacity { capacity, size },
-            GeometryFault::ResourceLimits => GeometryRefusal::ResourceLimits {
-                open_limit: limits.open_limit,
-                active_limit: limits.active_limit,
-                zones,
-            },
-            GeometryFault::TooLarge => GeometryRefusal::TooLarge {
-                zones,
-                capacity,
-                block,
-            },
-        }
-    }
-
     /// The fault.
     pub fn fault(self) -> GeometryFault
         ensures { result ≡ fault_of self }

@@ -1,8 +1,8 @@
 //! What no clause says: images that were written down byte by byte, and what is told of bytes that are none.
 
 use image_store::{
-    Buffer, Geometry, GeometryFault, GeometryRefusal, HeaderFault, Image, Limits, LoadFault, Sink,
-    Version, ZoneRowFault,
+    Buffer, Geometry, GeometryRefusal, HeaderFault, Image, Limits, LoadFault, Sink, Version,
+    ZoneRowFault,
 };
 use std::alloc::{AllocError, Global};
 use std::test::Fail;
@@ -19,7 +19,7 @@ const EMPTY: [u8; 96] =
 \x00\x00\x00\x00\x00\x00\x00\x00\x00\x00\x00\x00\x00\x00\x00\x00\x00\x00\x00\x00\x00\x00\x00\x00\x00\x00\x00\x00\x00\x00\x00\x00\
 \x01\x00\x00\x00\x00\x00\x00\x00\x01\x00\x00\x00\x00\x00\x00\x00\x01\x00\x00\x00\x00\x00\x00\x00\x01\x00\x00\x00\x00\x00\x00\x00";
 
-fn geometry() -> Result<Geometry, GeometryFault> {
+fn geometry() -> Result<Geometry, GeometryRefusal> {
     let limits = Limits {
         open_limit: 2,
         active_limit: 3,

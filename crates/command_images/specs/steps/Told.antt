@@ -1,18 +1,11 @@
--- What the user is told of numbers that are no geometry, and of files that are no images.
+-- What the user is told of files that are no images.
 use Rattle.std.specs.Prelude.{ℕ, List}
 use Rattle.std.specs.Borrow.{Bor}
-use Rattle.image_store.specs.Geometry.{Shape}
-use Rattle.image_store.specs.Refusal.{geometry_refusal_of}
 use Rattle.image_store.specs.declared.fault.LoadFault.{LoadFault}
 use Rattle.image_store.specs.declared.fault.LoadFault.TheVariants.{Stream, Memory}
-use Rattle.image_store.specs.declared.geometry.GeometryFault.{GeometryFault}
 use Rattle.command_failure.specs.declared.failure.Failure.{Failure}
 use Rattle.command_failure.specs.declared.file_cause.FileCause.TheVariants.{Other}
-use Rattle.command_failure.specs.declared.failure.Failure.TheVariants.{CannotRead, GeometryRefused, ImageRefused, NoMemory}
-
--- those of the numbers that have the fault
-abbrev pub told_of_geometry : GeometryFault → Shape → Failure
-told_of_geometry fault shape = GeometryRefused (geometry_refusal_of fault shape)
+use Rattle.command_failure.specs.declared.failure.Failure.TheVariants.{CannotRead, ImageRefused, NoMemory}
 
 -- the fault, but where the stream or memory failed, which says nothing of the file
 abbrev pub told_of_image : Bor (List ℕ) → LoadFault → Failure

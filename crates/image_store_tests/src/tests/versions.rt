@@ -2,7 +2,7 @@
 
 use super::{bad_header, changed, fault_of, fault_of_front, written};
 use image_store::{
-    Buffer, Geometry, GeometryFault, HeaderFault, Image, Limits, LoadFault, Version,
+    Buffer, Geometry, GeometryRefusal, HeaderFault, Image, Limits, LoadFault, Version,
 };
 use std::alloc::{AllocError, Global};
 use std::test::Fail;
@@ -124,14 +124,23 @@ fn there_are_large_blocks_and_many_zones(rt: HostRuntime) {
         active_limit: 1,
     };
     assert!(rt; Geometry::new(8192, 4096, 8, 8, limits).is_ok());
-    for (block, zones, size, fault) in [
-        (8192, 4096, 9, GeometryFault::TooLarge),
-        (32768, 4096, 8, GeometryFault::BlockSize),
-        (8192, 4097, 8, GeometryFault::ZoneCount),
+    for (block, zones, size, refusal) in [
+        (
+            8192,
+            4096,
+            9,
+            GeometryRefusal::TooLarge {
+                zones: 4096,
+                capacity: 9,
+                block: 8192,
+            },
+        ),
+        (32768, 4096, 8, GeometryRefusal::BlockSize(32768)),
+        (8192, 4097, 8, GeometryRefusal::ZoneCount(4097)),
     ] {
         assert_eq!(rt;
             Geometry::new(block, zones, size, size, limits).err(),
-            Some(fault)
+            Some(refusal)
         );
     }
 }

@@ -1,5 +1,6 @@
-use Rattle.std.proofs.Common.{subst}
+use Rattle.std.proofs.Common.{◌≡◌, Ok, subst, sym}
 use Rattle.image_store.specs.Geometry.{Shape}
+use Rattle.image_store.specs.Refusal.{tested}
 use Rattle.command_images.specs.Images.{IsAskedFor}
 use Rattle.command_images.specs.UserTold.{RefusesShape}
 use Rattle.command_images.proofs.Making.{passed_on, same_shape, spells_none}
@@ -15,6 +16,10 @@ returns-in-Ok-clause-asked c =
       open_limit = c.in_ok-number.ensures.value;
       active_limit = c.in_ok-number-2.ensures.value;
     })
+
+pub returns-in-Ok-clause-passes : goal.returns-in-Ok-clause-passes
+returns-in-Ok-clause-passes c =
+    subst (λ (shape : Shape). tested shape ≡ Ok c.in-Ok.geometry) (same_shape _ c.in-Ok.geometry c.in-Ok.ensures) (sym c.in-Ok.ensures)
 
 pub returns-in_err-block-clause-refused : goal.returns-in_err-block-clause-refused
 returns-in_err-block-clause-refused c =
