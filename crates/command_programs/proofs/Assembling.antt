@@ -2,7 +2,7 @@
 use Rattle.std.proofs.Common.{◌≡◌, ℕ, List, Option, Some, None, Result, Ok, Err, OnOk, IfErr, IfSome, ap, sym, subst, ◌∙◌}
 use Rattle.std.specs.Borrow.{Bor}
 use Rattle.ebpf_asm.specs.Assembly.{assembled, fault_in}
-use Rattle.ebpf_asm.specs.declared.fault.AsmFault.{AsmFault}
+use Rattle.ebpf_asm.specs.declared.fault.Fault.{Fault as FaultOfLine}
 use Rattle.ebpf_asm.specs.declared.fault.AssembleFault.{AssembleFault}
 use Rattle.ebpf_asm.specs.declared.fault.AssembleFault.TheVariants.{Fault, Memory}
 use Rattle.command_failure.specs.declared.failure.Failure.{Failure}
@@ -56,7 +56,7 @@ fails_unread contents source asked named is_asked _ is = absurd is
 
 -- no program was made of what was read
 module _ (contents : List ℕ → Option (List ℕ)) (source path : Bor (List ℕ)) (asked named : List ℕ) (is_asked : source.now ≡ asked) (is_named : path.now ≡ named) where
-  at_fault : (known : Option (List ℕ)) (text slice : List ℕ) (fault : AsmFault) → slice ≡ text → IfSome known (λ bytes. text ≡ bytes)
+  at_fault : (known : Option (List ℕ)) (text slice : List ℕ) (fault : FaultOfLine) → slice ≡ text → IfSome known (λ bytes. text ≡ bytes)
       → assembled slice ≡ Err fault → IfSome known (λ bytes. assembled bytes ≡ Err fault)
   at_fault None text slice fault slice_is is found = tt
   at_fault (Some bytes) text slice fault slice_is is found = ap assembled (sym (slice_is ∙ is)) ∙ found

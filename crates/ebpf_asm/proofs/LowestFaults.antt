@@ -6,7 +6,7 @@ use Rattle.std.specs.Result.{result_err}
 use Rattle.std.proofs.lemmas.Bool.{ltb-true, ltb-false}
 use Rattle.std.proofs.lemmas.List.{append-nil, length-append}
 use Rattle.instruction_set.specs.declared.instruction.Instruction.{Instruction}
-use Rattle.ebpf_asm.specs.declared.fault.AsmFault.{AsmFault}
+use Rattle.ebpf_asm.specs.declared.fault.Fault.{Fault}
 use Rattle.ebpf_asm.specs.declared.fault.FaultKind.{FaultKind}
 use Rattle.ebpf_asm.specs.Line.{Line, slots_in}
 use Rattle.ebpf_asm.specs.Assembly.{before_later, bytes_from, bytes_of, first_fault, is_twice, label_map, line_fault, lines_of, resolved, slot_count, told_first, unless_faulty}
@@ -18,10 +18,10 @@ use Rattle.ebpf_asm.proofs.Programs.{none_told}
 some_is : {X : Type 0} (x y : X) → Some x ≡ Some y → x ≡ y
 some_is x y e = cc
 
-abbrev Refused : AsmFault → Result (List ℕ) AsmFault
+abbrev Refused : Fault → Result (List ℕ) Fault
 Refused fault = Err fault
 
-told_is : (x y : AsmFault) → Refused x ≡ Refused y → x ≡ y
+told_is : (x y : Fault) → Refused x ≡ Refused y → x ≡ y
 told_is x y e = cc
 
 -- ---- the line behind some lines
@@ -71,20 +71,20 @@ module _ (all : List Line) where
   abbrev OwnBelow : List Line → Type 0
   OwnBelow before = (k : ℕ) → k < length before → own_fault all k ≡ None
 
-  own_told : (before rest : List Line) (line : Line) (fault : AsmFault) (kind : Option FaultKind) (later : Option AsmFault) → all ≡ before ++ line ∷ rest → OwnBelow before
+  own_told : (before rest : List Line) (line : Line) (fault : Fault) (kind : Option FaultKind) (later : Option Fault) → all ≡ before ++ line ∷ rest → OwnBelow before
       → own_fault all (length before) ≡ kind → told_first (length before + 1) kind later ≡ Some fault
       → (own_fault all (length before) ≡ None → later ≡ Some fault → IsLowest (own_fault all) fault) → IsLowest (own_fault all) fault
   own_told before rest line fault (Some kind) later are below here e more =
       let told : record { line = length before + 1; kind = kind } ≡ fault = some_is _ _ e in
       record {
         index = length before;
-        number = sym (ap (λ (f : AsmFault). f.line) told);
-        told = here ∙ ap (λ (f : AsmFault). Some f.kind) told;
+        number = sym (ap (λ (f : Fault). f.line) told);
+        told = here ∙ ap (λ (f : Fault). Some f.kind) told;
         lower = below;
       }
   own_told before rest line fault None later are below here e more = more here e
 
-  own_lowest : (before rest : List Line) (fault : AsmFault) → all ≡ before ++ rest → OwnBelow before → first_fault before rest ≡ Some fault → IsLowest (own_fault all) fault
+  own_lowest : (before rest : List Line) (fault : Fault) → all ≡ before ++ rest → OwnBelow before → first_fault before rest ≡ Some fault → IsLowest (own_fault all) fault
   own_lowest before [] fault are below e = absurd cc
   own_lowest before (line ∷ rest) fault are below e =
       own_told before rest line fault (own before line) (first_fault (before ++ line ∷ []) rest) are below (at_behind own before rest all line are) e
@@ -113,21 +113,21 @@ module _ (all : List Line) where
   abbrev JumpBelow : List Line → Type 0
   JumpBelow before = (k : ℕ) → k < length before → jump_fault all k ≡ None
 
-  jump_read : (before : List Line) (fault : AsmFault) (read : Result Instruction FaultKind) (later : Result (List ℕ) AsmFault) → JumpBelow before
+  jump_read : (before : List Line) (fault : Fault) (read : Result Instruction FaultKind) (later : Result (List ℕ) Fault) → JumpBelow before
       → jump_fault all (length before) ≡ result_err read → before_later (length before + 1) read later ≡ Err fault
       → (jump_fault all (length before) ≡ None → later ≡ Err fault → IsLowest (jump_fault all) fault) → IsLowest (jump_fault all) fault
   jump_read before fault (Err kind) later below here e more =
       let told : record { line = length before + 1; kind = kind } ≡ fault = told_is _ _ e in
       record {
         index = length before;
-        number = sym (ap (λ (f : AsmFault). f.line) told);
-        told = here ∙ ap (λ (f : AsmFault). Some f.kind) told;
+        number = sym (ap (λ (f : Fault). f.line) told);
+        told = here ∙ ap (λ (f : Fault). Some f.kind) told;
         lower = below;
       }
   jump_read before fault (Ok made) (Err lower) below here e more = more here e
   jump_read before fault (Ok made) (Ok bytes) below here e more = absurd cc
 
-  jump_told : (before : List Line) (fault : AsmFault) (instruction : Result (Option Instruction) FaultKind) (target : Option (List ℕ)) (later : Result (List ℕ) AsmFault) → JumpBelow before
+  jump_told : (before : List Line) (fault : Fault) (instruction : Result (Option Instruction) FaultKind) (target : Option (List ℕ)) (later : Result (List ℕ) Fault) → JumpBelow before
       → jump_fault all (length before) ≡ jump_fault_of (label_map all) (slot_count before) instruction target
       → bytes_of (label_map all) (length before + 1) (slot_count before) instruction target later ≡ Err fault
       → (jump_fault all (length before) ≡ None → later ≡ Err fault → IsLowest (jump_fault all) fault) → IsLowest (jump_fault all) fault
@@ -136,7 +136,7 @@ module _ (all : List Line) where
   jump_told before fault (Ok None) target later below here e more = more here e
   jump_told before fault (Err kind) target later below here e more = more here e
 
-  jump_lowest : (before rest : List Line) (number slot : ℕ) (fault : AsmFault) → all ≡ before ++ rest → number ≡ length before + 1 → slot ≡ slot_count before → JumpBelow before
+  jump_lowest : (before rest : List Line) (number slot : ℕ) (fault : Fault) → all ≡ before ++ rest → number ≡ length before + 1 → slot ≡ slot_count before → JumpBelow before
       → bytes_from (label_map all) number slot rest ≡ Err fault → IsLowest (jump_fault all) fault
   jump_lowest before [] number slot fault are n s below e = absurd cc
   jump_lowest before (line ∷ rest) number slot fault are n s below e =
@@ -148,10 +148,10 @@ module _ (all : List Line) where
       (omega (arith, n, length-append before (line ∷ []))) (omega (arith, s, slot_count-push before line))
       (below_pushed (jump_fault all) before line below here) behind)
 
-  lowest : (first : Option AsmFault) (fault : AsmFault) → first_fault [] all ≡ first → unless_faulty first (bytes_from (label_map all) 1 0 all) ≡ Err fault → IsLowestFault all fault
+  lowest : (first : Option Fault) (fault : Fault) → first_fault [] all ≡ first → unless_faulty first (bytes_from (label_map all) 1 0 all) ≡ Err fault → IsLowestFault all fault
   lowest (Some told) fault is e =
       let same : told ≡ fault = told_is _ _ e in
-      inl (own_lowest [] all fault refl (λ k h. absurd (omega (arith, h))) (is ∙ ap (λ (f : AsmFault). Some f) same))
+      inl (own_lowest [] all fault refl (λ k h. absurd (omega (arith, h))) (is ∙ ap (λ (f : Fault). Some f) same))
   lowest None fault is e =
       inr (own_none [] all refl (λ k h. absurd (omega (arith, h))) is, jump_lowest [] all 1 0 fault refl refl refl (λ k h. absurd (omega (arith, h))) e)
 

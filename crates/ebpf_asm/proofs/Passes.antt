@@ -8,7 +8,7 @@ use Rattle.std.proofs.lemmas.Bool.{ltb-false}
 use Rattle.std.proofs.lemmas.Slice.Eq.{bytes_eq-Decides}
 use Rattle.instruction_set.specs.declared.instruction.Instruction.{Instruction}
 use Rattle.instruction_set.specs.Spelling.{spelling}
-use Rattle.ebpf_asm.specs.declared.fault.AsmFault.{AsmFault}
+use Rattle.ebpf_asm.specs.declared.fault.Fault.{Fault}
 use Rattle.ebpf_asm.specs.declared.fault.FaultKind.{FaultKind}
 use Rattle.ebpf_asm.specs.declared.fault.FaultKind.TheVariants.{TooLong}
 use Rattle.ebpf_asm.specs.declared.line as code
@@ -137,7 +137,7 @@ HasRead-fault before rest all line twice kind labels slots h known told = told_h
 -- ---- the second pass
 
 -- these bytes before those that are still to come
-abbrev pub joined : List ℕ → Result (List ℕ) AsmFault → Result (List ℕ) AsmFault
+abbrev pub joined : List ℕ → Result (List ℕ) Fault → Result (List ℕ) Fault
 joined front (Ok bytes) = Ok (front ++ bytes)
 joined front (Err fault) = Err fault
 
@@ -146,11 +146,11 @@ pub record HasMade (left all : List Line) (labels : LabelMap) (number slot : ℕ
   pub so_far : joined bytes (bytes_from labels number slot left) ≡ bytes_from labels 1 0 all
   pub room : slot + slot_count left ≤ 4096
 
-joined-nothing : (r : Result (List ℕ) AsmFault) → joined [] r ≡ r
+joined-nothing : (r : Result (List ℕ) Fault) → joined [] r ≡ r
 joined-nothing (Ok bytes) = refl
 joined-nothing (Err fault) = refl
 
-joined-joined : (front : List ℕ) (number : ℕ) (instruction : Instruction) (later : Result (List ℕ) AsmFault) → joined front (before_later number (Ok instruction) later) ≡ joined (front ++ spelling instruction) later
+joined-joined : (front : List ℕ) (number : ℕ) (instruction : Instruction) (later : Result (List ℕ) Fault) → joined front (before_later number (Ok instruction) later) ≡ joined (front ++ spelling instruction) later
 joined-joined front number instruction (Ok bytes) = ap (λ (b : List ℕ). Ok b) (sym (append_assoc front (spelling instruction) bytes))
 joined-joined front number instruction (Err fault) = refl
 
@@ -162,7 +162,7 @@ pub HasMade-nothing : (left all : List Line) (line : Line) (labels : LabelMap) (
     → HasMade (line ∷ left) all labels number slot bytes → HasMade left all labels (number + 1) slot bytes
 HasMade-nothing left all line labels number slot bytes none h = at line.instruction refl
   where
-    later : ℕ → Result (List ℕ) AsmFault
+    later : ℕ → Result (List ℕ) Fault
     later s = bytes_from labels (number + 1) s left
 
     at : (instruction : Result (Option Instruction) FaultKind) → line.instruction ≡ instruction → HasMade left all labels (number + 1) slot bytes

@@ -6,7 +6,7 @@ use Rattle.std.specs.Str.Lines.{lines}
 use Rattle.instruction_set.specs.declared.instruction.Instruction.{Instruction}
 use Rattle.instruction_set.specs.Program.{IsProgram, is_wide, slots_of, slots_taken}
 use Rattle.instruction_set.specs.Spelling.{Fits, spelling, program_bytes}
-use Rattle.ebpf_asm.specs.declared.fault.AsmFault.{AsmFault}
+use Rattle.ebpf_asm.specs.declared.fault.Fault.{Fault}
 use Rattle.ebpf_asm.specs.declared.fault.FaultKind.{FaultKind}
 use Rattle.ebpf_asm.specs.Line.{Line, slots_in, slots_of_instruction}
 use Rattle.ebpf_asm.specs.Assembly.{LabelMap, before_later, bytes_from, bytes_of, first_fault, is_twice, label_map, line_fault, lines_of, resolved, slot_count, told_first, unless_faulty}
@@ -17,7 +17,7 @@ use Rattle.ebpf_asm.proofs.RoundProgram.{instructions_again}
 
 -- ---- the room
 
-pub none_told : (number : ℕ) (fault : Option FaultKind) (later : Option AsmFault) → told_first number fault later ≡ None → (fault ≡ None) × (later ≡ None)
+pub none_told : (number : ℕ) (fault : Option FaultKind) (later : Option Fault) → told_first number fault later ≡ None → (fault ≡ None) × (later ≡ None)
 none_told number None later e = (refl, e)
 none_told number (Some kind) later e = absurd cc
 
@@ -45,7 +45,7 @@ counted_more instruction instructions = by_wide (is_wide instruction)
     by_wide true = omega arith
     by_wide false = omega arith
 
-one_more : (number slots : ℕ) (instruction : Instruction) (read : Result Instruction FaultKind) (later : Result (List ℕ) AsmFault) (bytes : List ℕ) → IfOk read (Fills instruction)
+one_more : (number slots : ℕ) (instruction : Instruction) (read : Result Instruction FaultKind) (later : Result (List ℕ) Fault) (bytes : List ℕ) → IfOk read (Fills instruction)
     → ((more : List ℕ) → later ≡ Ok more → Spells more slots) → before_later number read later ≡ Ok bytes → Spells bytes (slots_taken instruction + slots)
 one_more number slots instruction (Err kind) later bytes fits rest e = absurd cc
 one_more number slots instruction (Ok made) (Err fault) bytes fits rest e = absurd cc
@@ -62,7 +62,7 @@ one_more number slots instruction (Ok made) (Ok more) bytes fits rest e =
 no_slot : (bytes : List ℕ) (slots : ℕ) → Spells bytes slots → Spells bytes (0 + slots)
 no_slot bytes slots h = let same : slots ≡ 0 + slots = omega arith in subst (λ (n : ℕ). Spells bytes n) same h
 
-at_line : (labels : LabelMap) (number slot slots : ℕ) (instruction : Result (Option Instruction) FaultKind) (target : Option (List ℕ)) (later : Result (List ℕ) AsmFault) (bytes : List ℕ)
+at_line : (labels : LabelMap) (number slot slots : ℕ) (instruction : Result (Option Instruction) FaultKind) (target : Option (List ℕ)) (later : Result (List ℕ) Fault) (bytes : List ℕ)
     → IfOk instruction (λ i. IfSome i Fits) → ((more : List ℕ) → later ≡ Ok more → Spells more slots)
     → bytes_of labels number slot instruction target later ≡ Ok bytes → Spells bytes (slots_of_instruction instruction + slots)
 at_line labels number slot slots (Ok (Some instruction)) target later bytes fits rest e =
@@ -78,7 +78,7 @@ spells labels number slot (line ∷ rest) bytes fits e =
 
 -- ---- the program
 
-no_fault : (fault : Option AsmFault) (read : Result (List ℕ) AsmFault) (bytes : List ℕ) → unless_faulty fault read ≡ Ok bytes → (fault ≡ None) × (read ≡ Ok bytes)
+no_fault : (fault : Option Fault) (read : Result (List ℕ) Fault) (bytes : List ℕ) → unless_faulty fault read ≡ Ok bytes → (fault ≡ None) × (read ≡ Ok bytes)
 no_fault None read bytes e = (refl, e)
 no_fault (Some fault) read bytes e = absurd cc
 

@@ -7,7 +7,7 @@ use Rattle.instruction_set.specs.declared.instruction.Instruction.{Instruction}
 use Rattle.instruction_set.specs.declared.instruction.Instruction.TheVariants.{Jump, JumpLong, Branch}
 use Rattle.instruction_set.specs.Spelling.{spelling}
 use Rattle.program_interface.specs.declared.TheConstants.{MOST_SLOTS}
-use Rattle.ebpf_asm.specs.declared.fault.AsmFault.{AsmFault}
+use Rattle.ebpf_asm.specs.declared.fault.Fault.{Fault}
 use Rattle.ebpf_asm.specs.declared.fault.AssembleFault.{AssembleFault}
 use Rattle.ebpf_asm.specs.declared.fault.AssembleFault.TheVariants as errors
 use Rattle.ebpf_asm.specs.declared.fault.FaultKind.{FaultKind}
@@ -52,12 +52,12 @@ line_fault twice slots instruction = if twice then Some LabelTwice else instruct
 abbrev pub is_twice : List Line → Line → Bool
 is_twice before line = is_some (option_and_then (label_map before) line.label)
 
-abbrev pub told_first : ℕ → Option FaultKind → Option AsmFault → Option AsmFault
+abbrev pub told_first : ℕ → Option FaultKind → Option Fault → Option Fault
 told_first number (Some kind) later = Some (record { line = number; kind = kind })
 told_first number None later = later
 
 -- the fault of the lowest of these lines that has one, behind the lines before
-abbrev pub first_fault : List Line → List Line → Option AsmFault
+abbrev pub first_fault : List Line → List Line → Option Fault
 first_fault before [] = None
 first_fault before (line ∷ rest) =
     told_first (length before + 1) (line_fault (is_twice before line) (slot_count before) line.instruction) (first_fault (before ++ line ∷ []) rest)
@@ -84,37 +84,37 @@ resolved labels slot instruction None = Ok instruction
 resolved labels slot instruction (Some name) = jump_to instruction slot (labels name)
 
 -- the bytes of a line's instruction, before the bytes of the later lines
-abbrev pub before_later : ℕ → Result Instruction FaultKind → Result (List ℕ) AsmFault → Result (List ℕ) AsmFault
+abbrev pub before_later : ℕ → Result Instruction FaultKind → Result (List ℕ) Fault → Result (List ℕ) Fault
 before_later number (Err kind) later = Err (record { line = number; kind = kind })
 before_later number (Ok instruction) (Err fault) = Err fault
 before_later number (Ok instruction) (Ok bytes) = Ok (spelling instruction ++ bytes)
 
-abbrev pub bytes_of : LabelMap → ℕ → ℕ → Result (Option Instruction) FaultKind → Option (List ℕ) → Result (List ℕ) AsmFault → Result (List ℕ) AsmFault
+abbrev pub bytes_of : LabelMap → ℕ → ℕ → Result (Option Instruction) FaultKind → Option (List ℕ) → Result (List ℕ) Fault → Result (List ℕ) Fault
 bytes_of labels number slot (Ok (Some instruction)) target later = before_later number (resolved labels slot instruction target) later
 bytes_of labels number slot (Ok None) target later = later
 bytes_of labels number slot (Err kind) target later = later
 
 -- the bytes of lines without other faults, from this line number and this slot on
-abbrev pub bytes_from : LabelMap → ℕ → ℕ → List Line → Result (List ℕ) AsmFault
+abbrev pub bytes_from : LabelMap → ℕ → ℕ → List Line → Result (List ℕ) Fault
 bytes_from labels number slot [] = Ok []
 bytes_from labels number slot (line ∷ rest) =
     bytes_of labels number slot line.instruction line.target (bytes_from labels (number + 1) (slot + slots_in line) rest)
 
-abbrev pub unless_faulty : Option AsmFault → Result (List ℕ) AsmFault → Result (List ℕ) AsmFault
+abbrev pub unless_faulty : Option Fault → Result (List ℕ) Fault → Result (List ℕ) Fault
 unless_faulty (Some fault) bytes = Err fault
 unless_faulty None bytes = bytes
 
 abbrev pub lines_of : List ℕ → List Line
 lines_of text = map line_of (lines text)
 
-abbrev pub assembled_lines : List Line → Result (List ℕ) AsmFault
+abbrev pub assembled_lines : List Line → Result (List ℕ) Fault
 assembled_lines all = unless_faulty (first_fault [] all) (bytes_from (label_map all) 1 0 all)
 
 -- what a text gives: the bytes of its instructions, or the first fault
-abbrev pub assembled : List ℕ → Result (List ℕ) AsmFault
+abbrev pub assembled : List ℕ → Result (List ℕ) Fault
 assembled text = assembled_lines (lines_of text)
 
 -- the fault that an error tells; want of memory tells none
-abbrev pub fault_in : AssembleFault → Option AsmFault
+abbrev pub fault_in : AssembleFault → Option Fault
 fault_in errors.Memory = None
 fault_in (errors.Fault fault) = Some fault

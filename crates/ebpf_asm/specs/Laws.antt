@@ -8,7 +8,7 @@ use Rattle.instruction_set.specs.declared.instruction.Instruction.{Instruction}
 use Rattle.instruction_set.specs.Program.{IsProgram}
 use Rattle.instruction_set.specs.Spelling.{program_bytes}
 use Rattle.text_lines.specs.Laws.{AreBlanks}
-use Rattle.ebpf_asm.specs.declared.fault.AsmFault.{AsmFault}
+use Rattle.ebpf_asm.specs.declared.fault.Fault.{Fault}
 use Rattle.ebpf_asm.specs.declared.mnemonic.Mnemonic.{Mnemonic}
 use Rattle.ebpf_asm.specs.Assembly.{assembled, lines_of}
 use Rattle.ebpf_asm.specs.Line.{line_of}
@@ -49,7 +49,7 @@ AssembledIsProgram =
 
 -- the fault of a text is that of the lowest line that has one by itself, or where none has, of the lowest that jumps amiss
 abbrev pub FaultIsLowest : Type 0
-FaultIsLowest = (text : List ℕ) (fault : AsmFault) → assembled text ≡ Err fault → IsLowestFault (lines_of text) fault
+FaultIsLowest = (text : List ℕ) (fault : Fault) → assembled text ≡ Err fault → IsLowestFault (lines_of text) fault
 
 -- blanks around a line change nothing of what it has (profile)
 abbrev pub BlanksDontCount : Type 0

@@ -2,7 +2,7 @@
 use Rattle.std.specs.Prelude.{◌≡◌, ℕ, ◌+◌, ◌<◌, List, take, slice_get, Option, Some, None, option_and_then, Result, Ok, ◌⊎◌}
 use Rattle.std.specs.Result.{result_err}
 use Rattle.instruction_set.specs.declared.instruction.Instruction.{Instruction}
-use Rattle.ebpf_asm.specs.declared.fault.AsmFault.{AsmFault}
+use Rattle.ebpf_asm.specs.declared.fault.Fault.{Fault}
 use Rattle.ebpf_asm.specs.declared.fault.FaultKind.{FaultKind}
 use Rattle.ebpf_asm.specs.Line.{Line}
 use Rattle.ebpf_asm.specs.Assembly.{LabelMap, is_twice, label_map, line_fault, resolved, slot_count}
@@ -23,7 +23,7 @@ jump_fault lines index =
     option_and_then (λ line. jump_fault_of (label_map lines) (slot_count (take index lines)) line.instruction line.target) (slice_get lines index)
 
 -- this fault is that of the lowest line that has one; lines count from 1
-pub record IsLowest (fault_at : ℕ → Option FaultKind) (fault : AsmFault) : Type 0 where
+pub record IsLowest (fault_at : ℕ → Option FaultKind) (fault : Fault) : Type 0 where
   pub index : ℕ
   pub number : fault.line ≡ index + 1
   pub told : fault_at index ≡ Some fault.kind
@@ -34,6 +34,6 @@ abbrev pub HaveNone : (ℕ → Option FaultKind) → Type 0
 HaveNone fault_at = (k : ℕ) → fault_at k ≡ None
 
 -- The fault of a jump is told only where no line has a fault by itself.
-abbrev pub IsLowestFault : List Line → AsmFault → Type 0
+abbrev pub IsLowestFault : List Line → Fault → Type 0
 IsLowestFault lines fault =
     IsLowest (own_fault lines) fault ⊎ (HaveNone (own_fault lines) × IsLowest (jump_fault lines) fault)

@@ -6,7 +6,7 @@ ghost use Rattle.program_interface.specs.Gives.{Gives};
 ghost use Rattle.ebpf_asm.specs.steps.Labels.{label_in};
 ghost use Rattle.ebpf_asm.specs.steps.LineView.{line_views};
 
-use crate::fault::{AsmFault, AssembleFault, FaultKind};
+use crate::fault::{AssembleFault, Fault, FaultKind};
 use crate::label::{Labels, define, is_defined, slot_of};
 use crate::line::{Line, slots_of};
 use crate::number::{long, short};
@@ -77,7 +77,7 @@ fn fault_at(index: usize, kind: FaultKind) -> AssembleFault
     requires { index < 2 ^ 63 }
     ensures { result ≡ AssembleFault.Fault (record { line = index + 1; kind = kind }) }
 {
-    AssembleFault::Fault(AsmFault {
+    AssembleFault::Fault(Fault {
         line: index + 1,
         kind,
     })

@@ -50,7 +50,7 @@ impl FaultKind {
 /// The lowest line, counted from 1, that can't be assembled, and why.
 #[derive(Clone, Copy, Debug, PartialEq, Eq, Error)]
 #[error("line {line}: {kind}")]
-pub struct AsmFault {
+pub struct Fault {
     /// The line's number.
     pub line: usize,
     /// What is wrong with it.
@@ -65,7 +65,7 @@ pub enum AssembleFault {
     Memory,
     /// A line can't be assembled.
     #[error(transparent)]
-    Fault(AsmFault),
+    Fault(Fault),
 }
 
 impl From<AllocError> for AssembleFault {

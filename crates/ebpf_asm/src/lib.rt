@@ -15,6 +15,6 @@ mod statement;
 mod text;
 
 pub use assembly::assemble;
-pub use fault::{AsmFault, AssembleFault, FaultKind};
+pub use fault::{AssembleFault, Fault, FaultKind};
 pub use listing::{disassemble, disassemble_with_slots, instruction_text};
 pub use refusal::AssemblyRefusal;

@@ -2,7 +2,7 @@
 
 ghost use Rattle.std.specs.Prelude.{◌≡◌};
 
-use crate::fault::AsmFault;
+use crate::fault::Fault;
 use text_lines::{Excerpt, line_behind, trim};
 use thiserror::Error;
 
@@ -10,14 +10,14 @@ use thiserror::Error;
 #[derive(Clone, Copy, Debug, PartialEq, Eq, Error)]
 #[error("line {}: {text}: {}", .fault.line, .fault.kind)]
 pub struct AssemblyRefusal {
-    pub fault: AsmFault,
+    pub fault: Fault,
     /// The line, without the blanks at its ends.
     pub text: Excerpt,
 }
 
 impl AssemblyRefusal {
     /// What stands in this text where [`assemble`](crate::assemble) finds this fault.
-    pub fn of(fault: AsmFault, text: &[u8]) -> AssemblyRefusal
+    pub fn of(fault: Fault, text: &[u8]) -> AssemblyRefusal
         ensures { result.fault ≡ fault }
     {
         let line = line_behind(text, fault.line.saturating_sub(1)).unwrap_or(&[]);

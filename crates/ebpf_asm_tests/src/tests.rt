@@ -1,4 +1,4 @@
-use ebpf_asm::{AsmFault, AssembleFault, AssemblyRefusal, FaultKind, assemble, disassemble};
+use ebpf_asm::{AssembleFault, AssemblyRefusal, Fault, FaultKind, assemble, disassemble};
 use ebpf_decode::decode;
 use std::alloc::Global;
 use std::process::Abort;
@@ -319,7 +319,7 @@ fn more_than_4096_slots_are_refused(rt: HostRuntime) -> Result<(), Fail> {
 /// No text gives this fault: a program has at most 4096 slots, and a jump reaches 32767.
 #[test]
 fn a_label_too_far_away_has_a_sentence(rt: HostRuntime) -> Result<(), Fail> {
-    let fault = AsmFault {
+    let fault = Fault {
         line: 2,
         kind: FaultKind::LabelTooFar,
     };
