@@ -25,6 +25,7 @@ abbrev pub label_at : ℕ → Option (List ℕ) → List (List ℕ × ℕ)
 label_at slot None = []
 label_at slot (Some name) = (name, slot) ∷ []
 
+-- the labels of lines with their slots, where the first line begins at this slot
 abbrev pub labels_from : ℕ → List Line → List (List ℕ × ℕ)
 labels_from slot [] = []
 labels_from slot (line ∷ rest) = label_at slot line.label ++ labels_from (slot + slots_in line) rest
@@ -37,6 +38,7 @@ LabelMap = List ℕ → Option ℕ
 abbrev pub slot_named : List (List ℕ × ℕ) → LabelMap
 slot_named labels name = lookup (λ label. bytes_eq label name) labels
 
+-- the slot of each label of these lines
 abbrev pub label_map : List Line → LabelMap
 label_map all name = slot_named (labels_from 0 all) name
 
@@ -45,6 +47,7 @@ abbrev pub instruction_fault : ℕ → Result (Option Instruction) FaultKind →
 instruction_fault slots (Err kind) = Some kind
 instruction_fault slots (Ok instruction) = if nat_lt MOST_SLOTS (slots + slots_of_instruction (Ok instruction)) then Some TooLong else None
 
+-- the fault of a line: that its label stands twice, or that of its instruction
 abbrev pub line_fault : Bool → ℕ → Result (Option Instruction) FaultKind → Option FaultKind
 line_fault twice slots instruction = if twice then Some LabelTwice else instruction_fault slots instruction
 
@@ -52,6 +55,7 @@ line_fault twice slots instruction = if twice then Some LabelTwice else instruct
 abbrev pub is_twice : List Line → Line → Bool
 is_twice before line = is_some (option_and_then (label_map before) line.label)
 
+-- the fault of this line, if it has one, and else the one of later lines
 abbrev pub told_first : ℕ → Option FaultKind → Option Fault → Option Fault
 told_first number (Some kind) later = Some (record { line = number; kind = kind })
 told_first number None later = later
@@ -67,6 +71,7 @@ abbrev pub fitting : (ℤ → Instruction) → Result ℤ FaultKind → Result I
 fitting jump (Ok distance) = Ok (jump distance)
 fitting jump (Err fault) = Err LabelTooFar
 
+-- a jump with its distance, where that fits its field (RFC 9669, 4.3)
 abbrev pub jump_by : Instruction → ℤ → Result Instruction FaultKind
 jump_by (Jump unknown) distance = fitting Jump (short_of distance)
 jump_by (JumpLong unknown) distance = fitting JumpLong (long_of distance)
@@ -89,6 +94,7 @@ before_later number (Err kind) later = Err (record { line = number; kind = kind 
 before_later number (Ok instruction) (Err fault) = Err fault
 before_later number (Ok instruction) (Ok bytes) = Ok (spelling instruction ++ bytes)
 
+-- the bytes of a line's instruction in front of those of later lines
 abbrev pub bytes_of : LabelMap → ℕ → ℕ → Result (Option Instruction) FaultKind → Option (List ℕ) → Result (List ℕ) Fault → Result (List ℕ) Fault
 bytes_of labels number slot (Ok (Some instruction)) target later = before_later number (resolved labels slot instruction target) later
 bytes_of labels number slot (Ok None) target later = later
@@ -100,13 +106,16 @@ bytes_from labels number slot [] = Ok []
 bytes_from labels number slot (line ∷ rest) =
     bytes_of labels number slot line.instruction line.target (bytes_from labels (number + 1) (slot + slots_in line) rest)
 
+-- the bytes, unless there is a fault
 abbrev pub unless_faulty : Option Fault → Result (List ℕ) Fault → Result (List ℕ) Fault
 unless_faulty (Some fault) bytes = Err fault
 unless_faulty None bytes = bytes
 
+-- the lines of a text, read
 abbrev pub lines_of : List ℕ → List Line
 lines_of text = map line_of (lines text)
 
+-- the bytes of the instructions of lines, or the first fault
 abbrev pub assembled_lines : List Line → Result (List ℕ) Fault
 assembled_lines all = unless_faulty (first_fault [] all) (bytes_from (label_map all) 1 0 all)
 

@@ -3,6 +3,7 @@ use Rattle.std.specs.Prelude.{ℕ, Result, Ok, Err}
 use Rattle.ebpf_asm.specs.declared.fault.FaultKind.{FaultKind}
 use Rattle.ebpf_asm.specs.declared.fault.FaultKind.TheVariants.{UnknownMnemonic, Operand, OutOfRange, UnknownLabel, LabelTwice, LabelTooFar, TooLong, NotAscii}
 
+-- the number of a fault, by which a user is told of it (profile)
 abbrev pub fault_number : FaultKind → ℕ
 fault_number UnknownMnemonic = 1
 fault_number Operand = 2

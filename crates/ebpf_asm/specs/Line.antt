@@ -21,6 +21,7 @@ abbrev pub split_label : List ℕ → Option (List ℕ × List ℕ) → Option (
 split_label text None = (None, text)
 split_label text (Some parts) = if is_label_name parts.0 then (Some parts.0, parts.1) else (None, text)
 
+-- a line of a label, if it has one, and a statement, or of the fault of that
 abbrev pub with_statement : Option (List ℕ) → Result Statement FaultKind → Line
 with_statement label (Ok statement) = record { label = label; instruction = Ok (Some statement.0); target = statement.1 }
 with_statement label (Err kind) = record { label = label; instruction = Err kind; target = None }
@@ -30,9 +31,11 @@ abbrev pub labelled : Option (List ℕ) → List ℕ → Line
 labelled label text =
     if length text == 0 then record { label = label; instruction = Ok None; target = None } else with_statement label (statement_of text)
 
+-- a line of a label, if it has one, and what stands behind that
 abbrev pub behind_label : Option (List ℕ) × List ℕ → Line
 behind_label parts = labelled parts.0 (trimmed parts.1)
 
+-- a line without its comment: what stands before its first `:`, if one does, is its label
 abbrev pub line_in : List ℕ → Line
 line_in text = behind_label (split_label text (cut_at 58 text))
 
@@ -42,6 +45,7 @@ line_of bytes =
     if list_all is_ascii bytes then line_in (trimmed (uncommented bytes))
     else record { label = None; instruction = Err NotAscii; target = None }
 
+-- how many slots the instruction of a line takes
 abbrev pub slots_of_instruction : Result (Option Instruction) FaultKind → ℕ
 slots_of_instruction (Ok (Some instruction)) = slots_taken instruction
 slots_of_instruction (Ok None) = 0

@@ -11,6 +11,7 @@ use Rattle.ebpf_asm.specs.declared.mnemonic.Mnemonic.{Mnemonic}
 use Rattle.ebpf_asm.specs.declared.mnemonic.Mnemonic.TheVariants as mnemonics
 use Rattle.ebpf_asm.specs.Mnemonic.{mnemonic_text}
 
+-- a register: `r` and its number
 abbrev pub register_text : ℕ → List ℕ
 register_text number = 114 ∷ decimal number
 
@@ -18,6 +19,7 @@ register_text number = 114 ∷ decimal number
 abbrev pub signed_text : ℤ → List ℕ
 signed_text z = if int_lt z (pos 0) then signed_decimal z else 43 ∷ signed_decimal z
 
+-- an address in memory: a register and an offset in brackets
 abbrev pub memory_text : ℕ → ℤ → List ℕ
 memory_text base offset = 91 ∷ (register_text base ++ signed_text offset) ++ 93 ∷ []
 
@@ -25,10 +27,12 @@ memory_text base offset = 91 ∷ (register_text base ++ signed_text offset) ++ 9
 abbrev pub wide_text : ℕ → List ℕ
 wide_text value = codes "0x" ++ (replicate (16 - length (digits 16 false value)) 48 ++ digits 16 false value)
 
+-- a second operand: a number, or a register
 abbrev pub source_text : Source → List ℕ
 source_text (sources.Immediate value) = signed_decimal value
 source_text (sources.Register register) = register_text register
 
+-- the mnemonic of an instruction
 abbrev pub mnemonic_of : Instruction → Mnemonic
 mnemonic_of (LoadImmediate dst value) = mnemonics.LoadImmediate
 mnemonic_of (Load size dst src offset) = mnemonics.Load size
@@ -45,6 +49,7 @@ mnemonic_of (Branch width relation dst source distance) = mnemonics.Branch width
 mnemonic_of (Call helper) = mnemonics.Call
 mnemonic_of Exit = mnemonics.Exit
 
+-- the operands of an instruction, in order
 abbrev pub operand_texts : Instruction → List (List ℕ)
 operand_texts (LoadImmediate dst value) = register_text dst ∷ wide_text value ∷ []
 operand_texts (Load size dst src offset) = register_text dst ∷ memory_text src offset ∷ []
@@ -70,9 +75,11 @@ abbrev pub operands_text : List (List ℕ) → List ℕ
 operands_text [] = []
 operands_text (first ∷ others) = codes " " ++ (first ++ further_texts others)
 
+-- an instruction as a text: its mnemonic and its operands
 abbrev pub text_of_instruction : Instruction → List ℕ
 text_of_instruction instruction = mnemonic_text (mnemonic_of instruction) ++ operands_text (operand_texts instruction)
 
+-- the same as a line
 abbrev pub line_text : Instruction → List ℕ
 line_text instruction = text_of_instruction instruction ++ codes "\n"
 
@@ -84,6 +91,7 @@ listing slots = flat_map line_text (instructions_of slots)
 abbrev pub slot_text : ℕ → List ℕ
 slot_text slot = padded_integral (format_spec 32 0 0 4 (2 ^ 64 - 1)) false [] (decimal slot) ++ codes "  "
 
+-- the same behind its slot
 abbrev pub line_with_slot : ℕ → Instruction → List ℕ
 line_with_slot slot instruction = slot_text slot ++ line_text instruction
 

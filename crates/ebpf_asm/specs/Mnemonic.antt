@@ -21,6 +21,7 @@ use Rattle.ebpf_asm.specs.declared.mnemonic.Mnemonic.{Mnemonic}
 use Rattle.ebpf_asm.specs.declared.mnemonic.Mnemonic.TheVariants.{LoadImmediate, Load, LoadSigned, StoreImmediate, StoreRegister, Arithmetic, Negate, MoveSigned, SwapBytes, Jump, JumpLong, Branch, Call, Exit}
 use Rattle.ebpf_asm.specs.declared.mnemonic.TheConstants.{MNEMONICS}
 
+-- the name of an operation (RFC 9669, 4.1)
 abbrev pub operation_name : Operation → List ℕ
 operation_name Add = codes "add"
 operation_name Subtract = codes "sub"
@@ -37,6 +38,7 @@ operation_name Xor = codes "xor"
 operation_name Move = codes "mov"
 operation_name ArithmeticShift = codes "arsh"
 
+-- the name of a jump by the relation that it tests (RFC 9669, 4.3)
 abbrev pub relation_name : Relation → List ℕ
 relation_name Equal = codes "jeq"
 relation_name Greater = codes "jgt"
@@ -55,17 +57,20 @@ abbrev pub width_suffix : Width → List ℕ
 width_suffix widths.Bits32 = codes "w"
 width_suffix widths.Bits64 = codes ""
 
+-- what stands for a size behind the name of a load or a store (RFC 9669, 5)
 abbrev pub size_suffix : Size → List ℕ
 size_suffix sizes.Byte = codes "b"
 size_suffix sizes.HalfWord = codes "h"
 size_suffix sizes.Word = codes "w"
 size_suffix sizes.DoubleWord = codes "dw"
 
+-- the same of a load that extends the sign (RFC 9669, 5.2)
 abbrev pub signed_size_suffix : SignedSize → List ℕ
 signed_size_suffix signed_sizes.Byte = codes "b"
 signed_size_suffix signed_sizes.HalfWord = codes "h"
 signed_size_suffix signed_sizes.Word = codes "w"
 
+-- what stands for a sign extension behind the name of a move (RFC 9669, 4.1)
 abbrev pub extension_suffix : SignExtension → List ℕ
 extension_suffix Bits8To32 = codes "8w"
 extension_suffix Bits16To32 = codes "16w"
@@ -73,11 +78,13 @@ extension_suffix Bits8To64 = codes "8"
 extension_suffix Bits16To64 = codes "16"
 extension_suffix Bits32To64 = codes "32"
 
+-- the name of a byte swap (RFC 9669, 4.2)
 abbrev pub swap_name : Swap → List ℕ
 swap_name ToLittle = codes "le"
 swap_name ToBig = codes "be"
 swap_name Reverse = codes "swap"
 
+-- what stands for its size behind that (RFC 9669, 4.2)
 abbrev pub swap_size_suffix : SwapSize → List ℕ
 swap_size_suffix kept.Bits16 = codes "16"
 swap_size_suffix kept.Bits32 = codes "32"
@@ -100,6 +107,7 @@ mnemonic_parts (Branch width relation) = (relation_name relation, width_suffix w
 mnemonic_parts Call = (codes "call", codes "")
 mnemonic_parts Exit = (codes "exit", codes "")
 
+-- the text of a mnemonic: its name, and what stands behind that
 abbrev pub mnemonic_text : Mnemonic → List ℕ
 mnemonic_text mnemonic = (mnemonic_parts mnemonic).0 ++ (mnemonic_parts mnemonic).1
 

@@ -37,6 +37,7 @@ literal_of text =
     if slice_index text 0 == 45 then (numeral_of 10 (drop 1 text) >>= λ n. Ok (neg_ℤ (pos n)))
     else (magnitude_of text >>= λ n. Ok (pos n))
 
+-- is it `+` or `-`?
 abbrev pub is_sign_byte : ℕ → Bool
 is_sign_byte byte = byte == 43 || byte == 45
 
@@ -50,9 +51,11 @@ signed_of text =
 abbrev pub in_range : ℤ → ℤ → ℤ → Result ℤ FaultKind
 in_range least greatest z = if int_le least z && int_le z greatest then Ok z else Err OutOfRange
 
+-- a number that a field of 16 bits takes
 abbrev pub short_of : ℤ → Result ℤ FaultKind
 short_of z = in_range (negsuc 32767) (pos 32767) z
 
+-- a number that a field of 32 bits takes
 abbrev pub long_of : ℤ → Result ℤ FaultKind
 long_of z = in_range (negsuc 2147483647) (pos 2147483647) z
 
@@ -95,9 +98,11 @@ memory_of text = do
 abbrev pub is_label_byte : ℕ → Bool
 is_label_byte byte = is_ascii_alphanumeric byte || byte == 95
 
+-- can a label begin with this byte: a letter, or `_`?
 abbrev pub begins_label : ℕ → Bool
 begins_label byte = is_ascii_alphabetic byte || byte == 95
 
+-- is it a label's name?
 abbrev pub is_label_name : List ℕ → Bool
 is_label_name text = begins_label (slice_index text 0) && list_all is_label_byte text
 
@@ -107,5 +112,6 @@ distance_of in_field text =
     if is_sign_byte (slice_index text 0) then (signed_of text >>= in_field)
     else (if is_label_name text then Ok (pos 0) else Err Operand)
 
+-- the label that a text is, if it is one
 abbrev pub label_of : List ℕ → Option (List ℕ)
 label_of text = if is_label_name text then Some text else None

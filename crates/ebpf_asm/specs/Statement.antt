@@ -22,14 +22,17 @@ unfoldable pub none_of : List (List ℕ) → Result (Option ℕ) FaultKind
 none_of ([] ∷ []) = Ok None
 none_of _ = Err Operand
 
+-- the operand of a mnemonic that takes one
 unfoldable pub one_of : List (List ℕ) → Result (List ℕ) FaultKind
 one_of (first ∷ []) = Ok first
 one_of _ = Err Operand
 
+-- the operands of a mnemonic that takes two
 unfoldable pub two_of : List (List ℕ) → Result (List ℕ × List ℕ) FaultKind
 two_of (first ∷ second ∷ []) = Ok (first, second)
 two_of _ = Err Operand
 
+-- the operands of a mnemonic that takes three
 unfoldable pub three_of : List (List ℕ) → Result (List ℕ × List ℕ × List ℕ) FaultKind
 three_of (first ∷ second ∷ third ∷ []) = Ok (first, second, third)
 three_of _ = Err Operand
@@ -38,6 +41,7 @@ three_of _ = Err Operand
 abbrev pub Statement : Type 0
 Statement = Instruction × Option (List ℕ)
 
+-- a statement that jumps to no label
 abbrev pub plain : Instruction → Result Statement FaultKind
 plain instruction = Ok (instruction, None)
 

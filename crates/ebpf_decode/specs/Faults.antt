@@ -3,6 +3,7 @@ use Rattle.std.specs.Prelude.{ℕ}
 use Rattle.ebpf_decode.specs.declared.fault.FaultKind.{FaultKind}
 use Rattle.ebpf_decode.specs.declared.fault.FaultKind.TheVariants as kinds
 
+-- the number of a fault, by which a user is told of it (profile)
 abbrev pub fault_number : FaultKind → ℕ
 fault_number kinds.Length = 20
 fault_number kinds.Empty = 21

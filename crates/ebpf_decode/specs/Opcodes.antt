@@ -13,6 +13,7 @@ use Rattle.instruction_set.specs.declared.operation.Width.TheVariants as widths
 use Rattle.instruction_set.specs.Spelling.{LD, LDX, ST, STX, MEM, MEMSX, NEG, JA, CALL, EXIT, operation_opcode, arithmetic_class, jump_class}
 use Rattle.instruction_set.specs.Codes.{size_with, signed_size_with, operation_with, swap_with, relation_with, has_variants}
 
+-- where an opcode has its second operand: its source bit (RFC 9669, 4)
 abbrev pub operand_of : ℕ → Operand
 operand_of opcode = if opcode / 8 % 2 == 0 then operands.Immediate else operands.Register
 
@@ -79,14 +80,17 @@ opcode_named opcode =
     else if opcode % 8 == jump_class widths.Bits32 then jump_long_opcode opcode
     else arithmetic_opcode widths.Bits64 opcode
 
+-- is the second operand in the immediate?
 abbrev pub is_immediate : Operand → Bool
 is_immediate operands.Immediate = true
 is_immediate operands.Register = false
 
+-- is it in a register?
 abbrev pub is_register : Operand → Bool
 is_register operands.Immediate = false
 is_register operands.Register = true
 
+-- of the fields dst, src, offset and immediate, those that are used
 abbrev pub fields_used : Bool → Bool → Bool → Bool → Uses
 fields_used dst src offset immediate = record { dst = dst; src = src; offset = offset; immediate = immediate }
 

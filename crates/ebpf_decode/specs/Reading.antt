@@ -44,16 +44,19 @@ slots_at (suc count) bytes = fields_at bytes ∷ slots_at count (drop 8 bytes)
 
 -- ---- the first fault of an instruction
 
+-- is it an instruction that RFC 9669 has and this profile has not?
 abbrev pub is_left_out : Opcode → Fields → Bool
 is_left_out (LeftOut which) f = true
 is_left_out LoadImmediate f = not (f.src == 0)
 is_left_out Call f = not (f.src == 0)
 is_left_out _ f = false
 
+-- is it the wide instruction? (RFC 9669, 5.4)
 abbrev pub is_load_immediate : Opcode → Bool
 is_load_immediate LoadImmediate = true
 is_load_immediate _ = false
 
+-- has a field that names a register a number over 10?
 abbrev pub has_no_register : Uses → Fields → Bool
 has_no_register used f = (used.dst && nat_lt 10 f.dst) || (used.src && nat_lt 10 f.src)
 
@@ -77,15 +80,18 @@ checks opcode f next =
     ∷ (has_unused (uses opcode) f || (is_load_immediate opcode && has_more next), kinds.UnusedField)
     ∷ []
 
+-- the fault of the first of these checks that finds one
 abbrev pub first_fault : Opcode → Fields → Option Fields → Option FaultKind
 first_fault opcode f next = option_map (λ check. check.1) (find (λ check. check.0) (checks opcode f next))
 
 -- ---- an instruction without these faults
 
+-- the second operand: the immediate, or the register that src names
 abbrev pub source_of : Operand → Fields → Source
 source_of operands.Immediate f = sources.Immediate f.immediate
 source_of operands.Register f = sources.Register f.src
 
+-- the 32 bits of the immediate of a slot, as a number; 0, where there is no slot
 abbrev pub immediate_of : Option Fields → ℕ
 immediate_of None = 0
 immediate_of (Some f) = cast_unsigned w32 f.immediate
@@ -125,10 +131,12 @@ instruction_with opcode f next = option_or (load_or_store opcode f) (jump opcode
 
 -- ---- a slot, and all of them
 
+-- what is found, unless there is a fault; where nothing is found, a field has a value that it cannot have
 abbrev pub unless : {X : Type 0} → Option FaultKind → Option X → Result X FaultKind
 unless (Some kind) found = Err kind
 unless None found = ok_or found kinds.Value
 
+-- the instruction of an opcode, or its first fault; an opcode that names nothing is one
 abbrev pub read_named : Option Opcode → Fields → Option Fields → Result Instruction FaultKind
 read_named None f next = Err kinds.Opcode
 read_named (Some opcode) f next = unless (first_fault opcode f next) (instruction_with opcode f next)
@@ -137,6 +145,7 @@ read_named (Some opcode) f next = unless (first_fault opcode f next) (instructio
 abbrev pub read : Fields → Option Fields → Result Instruction FaultKind
 read f next = read_named (opcode_named f.opcode) f next
 
+-- slots with these in front of them, where they have no fault
 abbrev pub with_front : List (Option Instruction) → Result (List (Option Instruction)) Fault → Result (List (Option Instruction)) Fault
 with_front front (Ok slots) = Ok (front ++ slots)
 with_front front (Err fault) = Err fault
@@ -146,6 +155,7 @@ abbrev pub begun : Bool → Fields → Option Fields → Result (Option Instruct
 begun true f next = Ok None
 begun false f next = result_map_both Some (λ kind. kind) (read f next)
 
+-- does a slot begin a wide instruction?
 abbrev pub begins_wide : Option Instruction → Bool
 begins_wide None = false
 begins_wide (Some i) = is_wide i
@@ -165,9 +175,11 @@ abbrev pub length_checks : ℕ → List (Bool × FaultKind)
 length_checks len =
     (not (len % 8 == 0), kinds.Length) ∷ (len == 0, kinds.Empty) ∷ (nat_lt MOST_SLOTS (len / 8), kinds.TooLong) ∷ []
 
+-- what is wrong with a number of bytes: the first of these checks that finds something
 abbrev pub length_fault : ℕ → Option FaultKind
 length_fault len = option_map (λ check. check.1) (find (λ check. check.0) (length_checks len))
 
+-- slots, unless the length has a fault, which is told at slot 0
 abbrev pub unless_length : Option FaultKind → Result (List (Option Instruction)) Fault → Result (List (Option Instruction)) Fault
 unless_length (Some kind) slots = Err (record { slot = 0; kind = kind })
 unless_length None slots = slots

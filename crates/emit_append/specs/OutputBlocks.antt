@@ -5,6 +5,7 @@ use Rattle.program_interface.specs.Bytes.{AreBytes}
 use Rattle.emit_append.specs.PackedLaw.{FitBlock}
 use Rattle.emit_append.specs.Packing.{packed, pending_of, released}
 
+-- each of these blocks has the block size's bytes
 abbrev pub AreWhole : ℕ → List (List ℕ) → Type 0
 AreWhole block blocks = AllByRecursion (λ bytes. length bytes ≡ block) blocks
 
@@ -18,6 +19,7 @@ pub record FillBlocks (block : ℕ) (groups : List (List ℕ)) : Type 0 where
 abbrev pub OutputBlocksAreWhole : Type 0
 OutputBlocksAreWhole = (block : ℕ) (groups : List (List ℕ)) → FitBlock block groups → FillBlocks block groups
 
+-- each of these lists is of bytes
 abbrev pub AreAllBytes : List (List ℕ) → Type 0
 AreAllBytes lists = AllByRecursion AreBytes lists
 

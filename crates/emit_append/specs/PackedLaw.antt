@@ -3,10 +3,12 @@ use Rattle.std.specs.Prelude.{◌≡◌, ◌↔◌, ℕ, ◌-◌, ◌≤◌, ◌
 use Rattle.std.specs.List.{AllByRecursion, concat, flat_map}
 use Rattle.emit_append.specs.Packing.{packed, padded}
 
+-- is a group not empty?
 abbrev pub has_bytes : List ℕ → Bool
 has_bytes [] = false
 has_bytes (x ∷ xs) = true
 
+-- the groups that are not empty, in order
 abbrev pub with_bytes : List (List ℕ) → List (List ℕ)
 with_bytes groups = filter has_bytes groups
 
@@ -15,6 +17,7 @@ abbrev pub NextIsLonger : ℕ → List (List (List ℕ)) → Type 0
 NextIsLonger room ((group ∷ groups) ∷ parts) = room < length group
 NextIsLonger room _ = Unit {0}
 
+-- behind each block the next one begins with a group that is longer than the room left in it
 abbrev pub EachNextIsLonger : ℕ → List (List (List ℕ)) → Type 0
 EachNextIsLonger block [] = Unit {0}
 EachNextIsLonger block (part ∷ parts) = NextIsLonger (block - length (concat part)) parts × EachNextIsLonger block parts
@@ -28,6 +31,7 @@ pub record ArePacked (block : ℕ) (groups blocks : List (List ℕ)) : Type 0 wh
   pub next_is_longer : EachNextIsLonger block parts
   pub rest_is_zeros : blocks ≡ map (padded block) (map concat parts)
 
+-- each of these groups fits into a block
 abbrev pub FitBlock : ℕ → List (List ℕ) → Type 0
 FitBlock block groups = AllByRecursion (λ group. length group ≤ block) groups
 

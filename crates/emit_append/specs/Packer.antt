@@ -15,6 +15,7 @@ pub record IsPacker (block pending : ℕ) (bytes : List ℕ) : Type 0 where
   pub fits : pending ≤ block
   pub whole : length bytes ≡ LARGEST_BLOCK
 
+-- a packer of which nothing is pending
 abbrev pub new_packer : ℕ → PackerState
 new_packer block = record { block = block; pending = [] }
 
@@ -22,12 +23,14 @@ new_packer block = record { block = block; pending = [] }
 abbrev pub given_by_put : PackerState → List ℕ → List (List ℕ)
 given_by_put packer group = released packer.block (packer.pending ∷ group ∷ [])
 
+-- what a packer is once a group is put
 abbrev pub after_put : PackerState → List ℕ → PackerState
 after_put packer group = record {
   block = packer.block;
   pending = pending_of packer.block (packer.pending ∷ group ∷ []);
 }
 
+-- the block that is left in the end, where something is pending
 abbrev pub given_by_finish : PackerState → List (List ℕ)
 given_by_finish packer = packed packer.block (packer.pending ∷ [])
 
@@ -36,6 +39,7 @@ abbrev pub given_by_puts : PackerState → List (List ℕ) → List (List ℕ)
 given_by_puts packer [] = []
 given_by_puts packer (group ∷ groups) = given_by_put packer group ++ given_by_puts (after_put packer group) groups
 
+-- what a packer is once these groups are put, in order
 abbrev pub after_puts : PackerState → List (List ℕ) → PackerState
 after_puts packer [] = packer
 after_puts packer (group ∷ groups) = after_puts (after_put packer group) groups

@@ -33,6 +33,7 @@ padded block bytes = bytes ++ replicate (block - length bytes) 0
 abbrev pub packed : ℕ → List (List ℕ) → List (List ℕ)
 packed block groups = map (padded block) (block_fillings block groups)
 
+-- a list without its last element
 abbrev pub all_but_last : List (List ℕ) → List (List ℕ)
 all_but_last [] = []
 all_but_last (x ∷ []) = []

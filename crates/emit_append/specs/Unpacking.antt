@@ -32,6 +32,7 @@ frame_length rest = if nat_lt (length rest) 2 then 0 else little_number 2 rest
 abbrev pub frame_record : List ℕ → List ℕ
 frame_record rest = take (frame_length rest) (drop 2 rest)
 
+-- the bytes behind the frame in front
 abbrev pub after_frame : List ℕ → List ℕ
 after_frame rest = drop (2 + frame_length rest) rest
 

@@ -24,6 +24,7 @@ zones_of block capacity (z ∷ zs) bytes =
 abbrev pub namespace_of : Shape → List CountedZone → List ℕ → ZonedNamespace
 namespace_of s zones bytes = namespace_with s (zones_of s.block s.capacity zones bytes)
 
+-- what stands for a counted zone that there is not
 abbrev pub no_counted_zone : CountedZone
 no_counted_zone = record { state = Offline; written = 0; capacity = 0 }
 

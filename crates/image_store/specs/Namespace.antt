@@ -24,6 +24,7 @@ pub record ZonedNamespace : Type 0 where
   pub limits : Limits
   pub zones : List ZoneBlocks
 
+-- what stands for a zone that the namespace does not have
 abbrev pub no_zone : ZoneBlocks
 no_zone = record { state = Offline; blocks = [] }
 

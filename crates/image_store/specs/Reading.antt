@@ -30,6 +30,7 @@ use Rattle.image_store.specs.Version.{numbers_of_version, has_block}
 abbrev pub bytes_in : ℕ → List ℕ → Result (List ℕ × List ℕ) LoadFault
 bytes_in n bytes = if nat_le n (length bytes) then Ok (take n bytes, drop n bytes) else Err fault.Truncated
 
+-- are all of these bytes zero?
 abbrev pub are_zeros : List ℕ → Bool
 are_zeros bytes = list_all (λ byte. byte == 0) bytes
 
@@ -67,6 +68,7 @@ version_checks version s =
     ∷ demand (nat_le s.zones (numbers_of_version version).most_zones) (fault.Header (header_fault.VersionZones version s.zones))
     ∷ []
 
+-- a shape is one that texts of the version have
 abbrev pub version_kept : Version → Shape → Result (Unit {0}) LoadFault
 version_kept version s = unless_failed (first_failed (version_checks version s)) tt
 
@@ -90,9 +92,11 @@ header_of bytes version =
     >>= λ kept. zeros_kept version bytes
     >>= λ zeros. Ok (record { geometry = s; total = total_told version bytes })
 
+-- what 64 bytes tell, by the version whose magic they begin with
 abbrev pub header_told : List ℕ → Result Header LoadFault
 header_told bytes = ok_or (version_in bytes) fault.Magic >>= header_of bytes
 
+-- the header in front of a text, and the bytes behind it
 abbrev pub header_in : List ℕ → Result (Header × List ℕ) LoadFault
 header_in bytes = bytes_in 64 bytes >>= λ front. header_told front.0 >>= λ header. Ok (header, front.1)
 
@@ -146,6 +150,7 @@ blocks_in block (z ∷ zs) bytes =
     >>= λ front. blocks_in block zs front.1
     >>= λ rest. Ok (zone_seen block z front.0 ∷ rest.0, rest.1)
 
+-- nothing follows
 abbrev pub end_in : List ℕ → Result Unit LoadFault
 end_in bytes = if length bytes == 0 then Ok tt else Err fault.Trailing
 

@@ -13,6 +13,7 @@ abbrev pub zone_fault_refusal : ZonedNamespace → Holds → ℕ → FaultState 
 zone_fault_refusal ns holds z fault =
     if nat_lt z (length ns.zones) && not (is_held holds z) then fault_refusal fault (zone_at ns z).state else Err (record {})
 
+-- the namespace after a fault that is taken or refused
 abbrev pub faulted_by : Result Unit FaultRefused → ZonedNamespace → ℕ → FaultState → ZonedNamespace
 faulted_by (Ok done) ns z fault = with_state ns z (state_of_fault fault)
 faulted_by (Err refused) ns z fault = ns

@@ -31,6 +31,7 @@ pub data NamespaceEvent : Type 0 where
   Commanded : (holds : Holds) (command : StandardCommand) (input : List ℕ) → NamespaceEvent
   Faulted : (holds : Holds) (zone : ℕ) (fault : FaultState) → NamespaceEvent
 
+-- the namespace after an event
 abbrev pub after : NamespaceEvent → ZonedNamespace → ZonedNamespace
 after (Commanded holds command input) ns = (meaning ns holds command input).namespace
 after (Faulted holds zone fault) ns = faulted ns holds zone fault

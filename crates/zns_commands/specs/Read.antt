@@ -27,6 +27,7 @@ read_checks ns lba blocks input =
     ++ read_refusal (zone_at ns (zone_number ns lba)).state
     ∷ []
 
+-- the blocks are given, and nothing changes
 abbrev pub read_effect : ZonedNamespace → ℕ → ℕ → Effect
 read_effect ns lba blocks =
     let zone = zone_at ns (zone_number ns lba) in

@@ -8,6 +8,7 @@ use Rattle.zone_resources.specs.declared.admission.Wanted.{Wanted}
 use Rattle.zone_resources.specs.declared.holds.Holds.{Holds}
 use Rattle.image_store.specs.Namespace.{ZonedNamespace, with_state, counted_zones}
 
+-- the zone that is closed for what is wanted, if one is, or why there is no room
 abbrev pub room_by : ZonedNamespace → Holds → Option Wanted → Result (Option ℕ) Status
 room_by ns holds None = Ok None
 room_by ns holds (Some wanted) = admission (counted_zones ns) ns.limits holds wanted
@@ -16,10 +17,12 @@ room_by ns holds (Some wanted) = admission (counted_zones ns) ns.limits holds wa
 abbrev pub room_for : ZonedNamespace → Holds → ZoneState → Result (Option ℕ) Status
 room_for ns holds state = room_by ns holds (wanted_of state)
 
+-- the status that a result refuses with
 abbrev pub why_not : {X : Type 0} → Result X Status → Option Status
 why_not (Ok x) = None
 why_not (Err status) = Some status
 
+-- the zone that is closed, if one is
 abbrev pub closing_of : Result (Option ℕ) Status → Option ℕ
 closing_of (Ok closing) = closing
 closing_of (Err status) = None

@@ -85,6 +85,7 @@ all_checks ns holds action =
 abbrev pub swept : Action → ZoneBlocks → ZoneBlocks
 swept action zone = if takes action zone.state then arrived (led_to (transition action zone.state) zone.state) zone else zone
 
+-- the namespace once each zone that Select All takes has moved
 abbrev pub all_effect : ZonedNamespace → Action → ZonedNamespace
 all_effect ns action = record {
   block = ns.block;
@@ -94,9 +95,11 @@ all_effect ns action = record {
   zones = map (swept action) ns.zones;
 }
 
+-- the checks, in order: the data, and those of all zones or of the one that is named
 abbrev pub send_checks : ZonedNamespace → Holds → ℕ → Action → Bool → List ℕ → List (Option Status)
 send_checks ns holds lba action select_all input =
     transfer_checks 0 0 input ++ (if select_all then all_checks ns holds action else zone_checks ns holds lba action)
 
+-- all zones that Select All takes have moved, or the one that is named
 abbrev pub send_effect : ZonedNamespace → Holds → ℕ → Action → Bool → ZonedNamespace
 send_effect ns holds lba action select_all = if select_all then all_effect ns action else zone_effect ns holds lba action

@@ -36,5 +36,6 @@ write_checks ns holds lba blocks input =
     write_address_checks ns lba blocks input
     ++ zone_write_checks ns holds (zone_number ns lba) (zone_offset ns lba) blocks
 
+-- the blocks are written, and nothing is given
 abbrev pub write_effect : ZonedNamespace → Holds → ℕ → List ℕ → Effect
 write_effect ns holds lba input = success_effect (with_written ns holds (zone_number ns lba) input) 0 []

@@ -14,6 +14,7 @@ abbrev pub IsNoStream : LoadFault → Type 0
 IsNoStream Stream = ⊥
 IsNoStream _ = Unit {0}
 
+-- a call that succeeds, or fails for another reason than its stream
 abbrev pub NoStreamFails : {X : Type 0} → Result X LoadFault → Type 0
 NoStreamFails (Ok x) = Unit {0}
 NoStreamFails (Err fault) = IsNoStream fault
