@@ -1,5 +1,5 @@
 -- The laws of this crate, proved: all that the proofs of other crates cite of it.
-use Rattle.ebpf_decode.specs.Laws.{DecodedIsSpelled, FaultIsFirst, FaultIsInside, HasOneProgram, SpelledIsDecoded}
+use Rattle.ebpf_decode.specs.Laws.{DecodedIsSpelled, FaultIsFirst, FaultIsInside, BytesHaveOneProgram, SpelledIsDecoded}
 use Rattle.ebpf_decode.proofs.FaultSlots as fault_slots
 use Rattle.ebpf_decode.proofs.FirstFaults as first_faults
 use Rattle.ebpf_decode.proofs.Programs.{decoded-program, one-program, program-again}
@@ -10,7 +10,7 @@ spelled_is_decoded = program-again
 pub decoded_is_spelled : DecodedIsSpelled
 decoded_is_spelled = decoded-program
 
-pub bytes_have_one_program : HasOneProgram
+pub bytes_have_one_program : BytesHaveOneProgram
 bytes_have_one_program = one-program
 
 pub fault_is_inside : FaultIsInside

@@ -14,8 +14,8 @@ abbrev pub SpelledIsDecoded : Type 0
 SpelledIsDecoded = (slots : List (Option Instruction)) → IsProgram slots → decoded_program (program_bytes slots) ≡ Ok slots
 
 -- programs that are spelled alike are one
-abbrev pub HasOneProgram : Type 0
-HasOneProgram = (a b : List (Option Instruction)) → IsProgram a → IsProgram b → program_bytes a ≡ program_bytes b → a ≡ b
+abbrev pub BytesHaveOneProgram : Type 0
+BytesHaveOneProgram = (a b : List (Option Instruction)) → IsProgram a → IsProgram b → program_bytes a ≡ program_bytes b → a ≡ b
 
 -- what bytes decode as is a program that they spell
 abbrev pub DecodedIsSpelled : Type 0

@@ -1,6 +1,6 @@
 //! Laws of spelling and decoding, for all programs. Each function does nothing: what it ensures is the law.
 
-ghost use Rattle.ebpf_decode.specs.Laws.{DecodedIsSpelled, FaultIsFirst, FaultIsInside, HasOneProgram, SpelledIsDecoded};
+ghost use Rattle.ebpf_decode.specs.Laws.{BytesHaveOneProgram, DecodedIsSpelled, FaultIsFirst, FaultIsInside, SpelledIsDecoded};
 
 /// What a program spells decodes as the program.
 pub fn spelled_is_decoded()
@@ -14,7 +14,7 @@ pub fn decoded_is_spelled()
 
 /// Programs that are spelled alike are one.
 pub fn bytes_have_one_program()
-    ensures { HasOneProgram }
+    ensures { BytesHaveOneProgram }
 {}
 
 /// The slot of a fault is below the most slots of a program.

@@ -13,7 +13,7 @@ use Rattle.program_interface.specs.Bytes.{AreBytes}
 use Rattle.image_store.specs.Blocks.{blocks_of}
 use Rattle.image_store.specs.ImageInMemory.{no_counted_zone, zone_seen}
 use Rattle.image_store.specs.Geometry.{Shape, IsShape}
-use Rattle.image_store.specs.Laws.{LoadedIsNamespace}
+use Rattle.image_store.specs.Laws.{LoadedTextsAreNamespaces}
 use Rattle.image_store.specs.Namespace.{ZoneBlocks, no_zone, counted, IsNamespace, namespace_with}
 use Rattle.program_interface.specs.Readings.{◌>>=◌}
 use Rattle.image_store.specs.Reading.{bytes_in, zone_rows_in, zones_in, limits_kept, blocks_in}
@@ -111,8 +111,8 @@ parts_are s zs zones known allowed within same whole =
       bytes = whole.bytes;
     }
 
-pub loaded_is_namespace : LoadedIsNamespace
-loaded_is_namespace bytes ns fit e =
+pub loaded_texts_are_namespaces : LoadedTextsAreNamespaces
+loaded_texts_are_namespaces bytes ns fit e =
     let p = text_parts bytes ns fit e in
     let s = p.told.geometry in
     subst IsNamespace p.is

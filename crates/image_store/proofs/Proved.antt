@@ -8,7 +8,7 @@ use Rattle.image_store.specs.Blocks.{blocks_of, bytes_of}
 use Rattle.image_store.specs.declared.geometry.TheConstants.{MOST_BYTES}
 use Rattle.image_store.specs.Geometry.{Shape, IsShape}
 use Rattle.image_store.specs.Namespace.{ZoneBlocks, no_zone}
-use Rattle.image_store.specs.Laws.{LoadedIsNamespace, SavedTextsLoad}
+use Rattle.image_store.specs.Laws.{LoadedTextsAreNamespaces, SavedTextsLoad}
 use Rattle.image_store.proofs.TextsReadBack.{saved_again}
 use Rattle.image_store.proofs.ByteParts.{blocks_fit}
 use Rattle.image_store.proofs.ImageFields.{allowed_fits, within_capacity}
@@ -21,8 +21,8 @@ use Rattle.image_store.proofs.Shapes as shapes
 pub saved_texts_load : SavedTextsLoad
 saved_texts_load = saved_again
 
-pub loaded_is_namespace : LoadedIsNamespace
-loaded_is_namespace = loaded.loaded_is_namespace
+pub loaded_texts_are_namespaces : LoadedTextsAreNamespaces
+loaded_texts_are_namespaces = loaded.loaded_texts_are_namespaces
 
 -- of a shape, a block has so many bytes at least,
 pub block_some : {s : Shape} → IsShape s → 512 ≤ s.block

@@ -25,8 +25,8 @@ EachVersionLoads =
     (version : Version) (ns : ZonedNamespace) → IsNamespace ns → HasText version (shape ns) → namespace_in (text_of version ns) ≡ Ok ns
 
 -- what loads is a namespace that an image can have
-abbrev pub LoadedIsNamespace : Type 0
-LoadedIsNamespace = (bytes : List ℕ) (ns : ZonedNamespace) → AreBytes bytes → namespace_in bytes ≡ Ok ns → IsNamespace ns
+abbrev pub LoadedTextsAreNamespaces : Type 0
+LoadedTextsAreNamespaces = (bytes : List ℕ) (ns : ZonedNamespace) → AreBytes bytes → namespace_in bytes ≡ Ok ns → IsNamespace ns
 
 -- no other text loads: what does is the text, of a version, of the namespace that it stands for
 abbrev pub OnlyTextsLoad : Type 0
@@ -35,7 +35,7 @@ OnlyTextsLoad =
     → (version : Version) × HasText version (shape ns) × (bytes ≡ text_of version ns)
 
 -- what is saved of an image that was loaded stands for the same namespace as what was loaded; this follows from
--- `LoadedIsNamespace` and `SavedTextsLoad`
+-- `LoadedTextsAreNamespaces` and `SavedTextsLoad`
 abbrev pub UpgradedStandsForTheSame : Type 0
 UpgradedStandsForTheSame =
     (bytes : List ℕ) (ns : ZonedNamespace) → AreBytes bytes → namespace_in bytes ≡ Ok ns → namespace_in (text ns) ≡ Ok ns

@@ -1,7 +1,7 @@
 //! Laws of the texts of an image. Each function does nothing: what it ensures is the law.
 
 ghost use Rattle.image_store.specs.FirstFault.{FaultIsFirst};
-ghost use Rattle.image_store.specs.Laws.{CutTextsAreTruncated, EachVersionLoads, FaultsAreByPrefix, LastVersionHasAll, LoadedIsNamespace, LongerTextsAreTrailing, OnlyTextsLoad, SavedTextsLoad, ShapesAreTested, UpgradedStandsForTheSame, UpgradingTwiceIsOnce, VersionsAreKnown};
+ghost use Rattle.image_store.specs.Laws.{CutTextsAreTruncated, EachVersionLoads, FaultsAreByPrefix, LastVersionHasAll, LoadedTextsAreNamespaces, LongerTextsAreTrailing, OnlyTextsLoad, SavedTextsLoad, ShapesAreTested, UpgradedStandsForTheSame, UpgradingTwiceIsOnce, VersionsAreKnown};
 
 /// What is saved loads again as the same namespace, and so does the text of each version that has its shape.
 pub fn saved_texts_load()
@@ -12,7 +12,7 @@ pub fn saved_texts_load()
 /// What loads is a namespace that an image can have: its zones' states, their blocks and the limits fit
 /// one another.
 pub fn loaded_texts_are_namespaces()
-    ensures { LoadedIsNamespace }
+    ensures { LoadedTextsAreNamespaces }
 {}
 
 /// Nothing else loads: what does is the text, of a version, of the namespace that it stands for.

@@ -1,5 +1,5 @@
-use Rattle.image_store.proofs.LoadedNamespaces.{loaded_is_namespace}
+use Rattle.image_store.proofs.LoadedNamespaces.{loaded_texts_are_namespaces}
 use Rattle.image_store.proofs.laws.loaded_texts_are_namespaces.Goals as goal
 
 pub returns : goal.returns
-returns c = loaded_is_namespace
+returns c = loaded_texts_are_namespaces
