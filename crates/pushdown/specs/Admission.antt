@@ -29,6 +29,7 @@ abbrev pub program_in : Option Loaded → List (Option Instruction)
 program_in None = []
 program_in (Some loaded) = loaded.program
 
+-- the most bytes that it may emit for a block; none where the slot has none
 abbrev pub limit_in : Option Loaded → ℕ
 limit_in None = 0
 limit_in (Some loaded) = loaded.limit
@@ -47,6 +48,7 @@ sizes_in ns slot = record { block = ns.block; limit = limit_in slot }
 abbrev pub source_zone : ZonedNamespace → RunCommand → ℕ
 source_zone ns command = zone_number ns command.lba
 
+-- the zone that it appends to
 abbrev pub destination_zone : ZonedNamespace → RunCommand → ℕ
 destination_zone ns command = zone_number ns command.destination
 

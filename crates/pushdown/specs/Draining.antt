@@ -13,6 +13,7 @@ abbrev pub replies_to_turns : List ℕ → State → List ReplyWithData
 replies_to_turns [] s = []
 replies_to_turns (run ∷ runs) s = (turned s run).reply ∷ replies_to_turns runs (turned s run).state
 
+-- the state after turns of these runs
 abbrev pub state_after_turns : List ℕ → State → State
 state_after_turns [] s = s
 state_after_turns (run ∷ runs) s = state_after_turns runs (turned s run).state
@@ -22,6 +23,7 @@ abbrev pub AreLowest : List ℕ → State → Type 0
 AreLowest [] s = Unit {0}
 AreLowest (run ∷ runs) s = (lowest_run s ≡ Some run) × AreLowest runs (turned s run).state
 
+-- how many turns are left of the run at a place
 abbrev pub turns_left_at : Option Place → ℕ
 turns_left_at None = 0
 turns_left_at (Some place) = length place.turns

@@ -73,16 +73,19 @@ module _ {D : Type 0} (operations : Operations D) where
   load_unless None true sub s load = refused sub WANT_OF_MEMORY s
   load_unless None false sub s load = read_program sub s load (program_in_bytes sub.input)
 
+  -- what a Load comes to
   abbrev pub loading : Bool → Submission → State → LoadCommand → Happening
   loading starved sub s load = load_unless (first_failed (load_checks s load sub.input)) starved sub s load
 
 -- ---- Result
 
+-- the result of a slot is given, unless a check fails or the slot has no program
 abbrev pub result_by : Option Loaded → Option Status → Submission → State → Happening
 result_by slot (Some status) sub s = refused sub status s
 result_by None None sub s = refused sub NO_SUCH_PROGRAM s
 result_by (Some loaded) None sub s = completed sub SUCCESS 0 0 loaded.result s
 
+-- what a Result of a slot comes to
 abbrev pub giving_result : Submission → State → ℕ → Happening
 giving_result sub s slot = result_by (program_at s slot) (first_failed (transfer_checks 0 0 sub.input)) sub s
 
@@ -111,6 +114,7 @@ start_by None None sub s command = idle s
 start_by None (Some run) sub s command =
     record { reply = plain (reply.Pending run); state = with_place s run (Some (admitted_place sub s command)) }
 
+-- what a Run comes to
 abbrev pub starting : Submission → State → RunCommand → Happening
 starting sub s command = start_by (why_not_run sub s command) (free_place s) sub s command
 
@@ -131,6 +135,7 @@ abbrev pub place_left : Place → List Turn → Option Ending → Option Place
 place_left place later None = Some (record place { turns = later })
 place_left place later (Some ending) = None
 
+-- the slots after a turn: where it ends the run, its result is kept in its slot
 abbrev pub slots_left : State → Place → Option Ending → List (Option Loaded)
 slots_left s place None = s.slots
 slots_left s place (Some ending) = set s.slots place.slot (keeping (program_at s place.slot) ending.result)
@@ -154,19 +159,23 @@ take_turn s run place [] = idle s
 take_turn s run place (turn ∷ later) =
     record { reply = turn_reply run place turn.ending; state = turn_state s run place turn later }
 
+-- a turn of the run at a place, where there is one
 abbrev pub turned_at : State → ℕ → Option Place → Happening
 turned_at s run None = idle s
 turned_at s run (Some place) = take_turn s run place place.turns
 
+-- what a turn of a run comes to
 abbrev pub turned : State → ℕ → Happening
 turned s run = turned_at s run (place_at s run)
 
 -- ---- faults
 
+-- the reply to a zone's fault
 abbrev pub fault_reply : Result Unit FaultRefused → Reply
 fault_reply (Ok done) = reply.FaultTaken
 fault_reply (Err refused) = reply.FaultRefused
 
+-- what a zone's fault comes to
 abbrev pub faulting : State → ℕ → FaultState → Happening
 faulting s zone state = record {
   reply = plain (fault_reply (zone_fault_refusal s.namespace (holds_at s) zone state));

@@ -10,6 +10,7 @@ use Rattle.pushdown.specs.State.{State}
 use Rattle.device_events.specs.declared.event.Event.{Event}
 use Rattle.device_events.specs.declared.event.Event.TheVariants as event
 
+-- is it a Load that an entry names?
 abbrev pub is_load : Result Command Status → Bool
 is_load (Ok (commands.Load load)) = true
 is_load (Ok (commands.Standard c)) = false

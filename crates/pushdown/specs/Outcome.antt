@@ -31,6 +31,7 @@ pub record Emitted : Type 0 where
   pub frames : ℕ
   pub appended : ℕ
 
+-- what a run has emitted before its first block run
 abbrev pub nothing_emitted : Emitted
 nothing_emitted = record { groups = []; frames = 0; appended = 0 }
 
@@ -78,6 +79,7 @@ last_turn_by (end.Exit r0) block emitted run = finished block emitted (with_grou
 last_turn_by (end.Trap slot cause) block emitted run = trapped slot (cause_number cause)
 last_turn_by end.OutOfFuel block emitted run = trapped 0 9
 
+-- the turn that ends a run
 abbrev pub last_turn : ℕ → Emitted → BlockRun → Turn
 last_turn block emitted run = last_turn_by run.end block emitted run
 
@@ -113,6 +115,7 @@ pub record Progress : Type 0 where
   pub frames : ℕ
   pub appended : ℕ
 
+-- how far a run has come before its first turn
 abbrev pub at_admission : Progress
 at_admission = record { index = 0; scratch = no_scratch; pending = []; frames = 0; appended = 0 }
 

@@ -52,12 +52,15 @@ pub record IsAdmitted (s : State) (sub : Submission) (command : RunCommand) (run
   pub passed : why_not_run sub s command ≡ None
   pub free : free_place s ≡ Some run
 
+-- the blocks of a zone
 abbrev pub blocks_at : State → ℕ → List (List ℕ)
 blocks_at s z = (zone_at s.namespace z).blocks
 
+-- a turn that appends nothing and ends no run
 abbrev pub no_turn : Turn
 no_turn = record { blocks = []; ending = None }
 
+-- the ending is a success
 abbrev pub Succeeds : Option Ending → Type 0
 Succeeds None = ⊥
 Succeeds (Some ending) = ending.status ≡ SUCCESS
@@ -84,6 +87,7 @@ module _ {D : Type 0} (operations : Operations D) where
   -- a Run that is submitted in a state, its number, and the events that follow
   module _ (s : State) (queue : ℕ) (entry : List ℕ) (input : Vec ℕ Global) (starved : Bool) (command : RunCommand) (run : ℕ)
       (events : List Occurrence) where
+    -- the entry of the Run, with the data beside it
     abbrev pub submission : Submission
     submission = record { queue = queue; entry = entry; input = input.items }
 
@@ -91,9 +95,11 @@ module _ {D : Type 0} (operations : Operations D) where
     abbrev pub task : Task
     task = task_of s.namespace (program_at s command.slot) command
 
+    -- its block runs
     abbrev pub block_runs : List BlockRun
     block_runs = block_runs_of task (source_blocks s.namespace command)
 
+    -- the place that it is given
     abbrev pub place : Place
     place = admitted_place submission s command
 
@@ -101,6 +107,7 @@ module _ {D : Type 0} (operations : Operations D) where
     abbrev pub now : State
     now = state_after operations (record { event = event.Submit queue entry input; starved = starved } ∷ events) s
 
+    -- how many of the events are its own turns
     abbrev pub done : ℕ
     done = own_turns run events
 
@@ -108,6 +115,7 @@ module _ {D : Type 0} (operations : Operations D) where
     abbrev pub turn : Turn
     turn = get_or place.turns done no_turn
 
+    -- what its next turn comes to
     abbrev pub next : Happening
     next = turned now run
 

@@ -24,5 +24,6 @@ abbrev pub EventsKeepReached : {D : Type 0} → Operations D → Type 0
 EventsKeepReached operations =
     (s : State) (events : List Occurrence) → IsReached operations s → AreEvents events → IsReached operations (state_after operations events s)
 
+-- and so do turns, since they are events (it follows from `DrainedByTurns` and `EventsKeepReached`)
 abbrev pub TurnsKeepReached : {D : Type 0} → Operations D → Type 0
 TurnsKeepReached operations = (s : State) (runs : List ℕ) → IsReached operations s → IsReached operations (state_after_turns runs s)

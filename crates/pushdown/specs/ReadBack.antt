@@ -98,12 +98,15 @@ module _ {D : Type 0} (operations : Operations D) where
     abbrev pub destination : ℕ
     destination = (place operations s queue entry input starved command run events).destination
 
+    -- the turns that are fixed at its admission
     abbrev pub turns : List Turn
     turns = (place operations s queue entry input starved command run events).turns
 
+    -- how many of them came before that turn
     abbrev pub before : ℕ
     before = done operations s queue entry input starved command run events
 
+    -- the state after that turn
     abbrev pub after_turn : State
     after_turn = (next operations s queue entry input starved command run events).state
 

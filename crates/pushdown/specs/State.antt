@@ -28,9 +28,11 @@ pub record State : Type 0 where
 abbrev pub new_state : ZonedNamespace → State
 new_state ns = record { namespace = ns; slots = replicate PROGRAM_SLOTS None; places = replicate RUNS None }
 
+-- the program in a slot
 abbrev pub program_at : State → ℕ → Option Loaded
 program_at s slot = get_or s.slots slot None
 
+-- the run at a place
 abbrev pub place_at : State → ℕ → Option Place
 place_at s run = get_or s.places run None
 
@@ -40,10 +42,12 @@ free_place s = position is_none s.places
 
 -- ---- what the active runs hold
 
+-- the zone that the run at a place reads from
 abbrev pub source_of : Option Place → Option ℕ
 source_of None = None
 source_of (Some place) = Some place.source
 
+-- the zone that it appends to
 abbrev pub destination_of : Option Place → Option ℕ
 destination_of None = None
 destination_of (Some place) = Some place.destination
@@ -52,6 +56,7 @@ destination_of (Some place) = Some place.destination
 abbrev pub holds_at : State → Holds
 holds_at s = record { sources = map source_of s.places; destinations = map destination_of s.places }
 
+-- does the run at a place use the program of this slot?
 abbrev pub uses : ℕ → Option Place → Bool
 uses slot None = false
 uses slot (Some place) = place.slot == slot
@@ -62,11 +67,14 @@ in_use s slot = list_any (uses slot) s.places
 
 -- ---- a state with one part changed
 
+-- with this namespace
 abbrev pub with_namespace : State → ZonedNamespace → State
 with_namespace s ns = record { namespace = ns; slots = s.slots; places = s.places }
 
+-- with this in a slot
 abbrev pub with_slot : State → ℕ → Option Loaded → State
 with_slot s slot loaded = record { namespace = s.namespace; slots = set s.slots slot loaded; places = s.places }
 
+-- with this at a place
 abbrev pub with_place : State → ℕ → Option Place → State
 with_place s run place = record { namespace = s.namespace; slots = s.slots; places = set s.places run place }

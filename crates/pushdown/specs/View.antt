@@ -39,10 +39,12 @@ place_of ns slots a = record {
   turns = turns_of ns (program_in (get_or slots a.command.slot None)) (limit_in (get_or slots a.command.slot None)) a;
 }
 
+-- what is seen of what a device keeps at a place
 abbrev pub seen : ZonedNamespace → List (Option Loaded) → Option Active → Option Place
 seen ns slots None = None
 seen ns slots (Some a) = Some (place_of ns slots a)
 
+-- the state that is seen of a device
 abbrev pub view_of : ZonedNamespace → List (Option Loaded) → List (Option Active) → State
 view_of ns slots runs = record { namespace = ns; slots = slots; places = map (seen ns slots) runs }
 

@@ -17,13 +17,16 @@ active_of a = record {
   so_far = record { index = a.index; scratch = a.scratch; pending = a.packer.pending; frames = a.frames; appended = a.appended };
 }
 
+-- what is at a place for a run
 abbrev pub running : Option ActiveRun → Option Active
 running None = None
 running (Some a) = Some (active_of a)
 
+-- a program in its slot, with its limit and its result
 abbrev pub loaded_of : LoadedProgram → Loaded
 loaded_of p = record { program = program_of p.prepared; limit = (sizes_of p.prepared).limit; result = p.result }
 
+-- what is in a slot
 abbrev pub loaded_slot : Option LoadedProgram → Option Loaded
 loaded_slot None = None
 loaded_slot (Some p) = Some (loaded_of p)

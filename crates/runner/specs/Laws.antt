@@ -13,6 +13,7 @@ use Rattle.pushdown.specs.State.{State, new_state}
 abbrev pub EmptyIsReached : Type 0
 EmptyIsReached = (shape : Shape) → IsShape shape → IsReached intervals (new_state (all_empty shape))
 
+-- and so it does with one that was loaded
 abbrev pub LoadedIsReached : Type 0
 LoadedIsReached = (bytes : List ℕ) (ns : ZonedNamespace) → AreBytes bytes → namespace_in bytes ≡ Ok ns → IsReached intervals (new_state ns)
 

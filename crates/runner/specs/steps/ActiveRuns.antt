@@ -27,9 +27,11 @@ abbrev pub source_held : Option ActiveRun → Option ℕ
 source_held None = None
 source_held (Some a) = Some a.source.zone
 
+-- the zone that a place's run appends to
 abbrev pub destination_held : Option ActiveRun → Option ℕ
 destination_held None = None
 destination_held (Some a) = Some a.destination
 
+-- the zones that the active runs hold
 abbrev pub held_by : List (Option ActiveRun) → Holds
 held_by runs = record { sources = map source_held runs; destinations = map destination_held runs }

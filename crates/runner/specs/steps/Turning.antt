@@ -20,6 +20,7 @@ use Rattle.runner.specs.Ready.{Fits, IsForBlocks, IsReady}
 use Rattle.runner.specs.declared.active_run.ActiveRun.{ActiveRun}
 use Rattle.runner.specs.declared.loaded_program.LoadedProgram.{LoadedProgram}
 
+-- a run with these scratch bytes
 abbrev pub with_scratch : ActiveRun → List ℕ → ActiveRun
 with_scratch a bytes = record a { scratch = bytes }
 
@@ -27,10 +28,11 @@ with_scratch a bytes = record a { scratch = bytes }
 abbrev pub with_packer : ActiveRun → PackerState → ℕ → ActiveRun
 with_packer a packer more = record a { packer = packer; appended = a.appended + more }
 
--- the block that a run reads next, and its program on it
+-- the block that a run reads next
 abbrev pub next_block : ZonedNamespace → Active → List ℕ
 next_block ns a = get_or (zone_at ns (zone_number ns a.command.lba)).blocks (a.command.lba % ns.size + a.so_far.index) []
 
+-- the block run of its program on that block
 abbrev pub next_run : ZonedNamespace → List (Option Instruction) → ℕ → Active → BlockRun
 next_run ns program limit a = block_run (task_by ns program limit a.command) a.so_far.index a.so_far.scratch (next_block ns a)
 
@@ -67,6 +69,7 @@ pub record HasEnded (old new : ZonedNamespace) (program : List (Option Instructi
   pub no_data : answer.length ≡ 0
   pub namespace : new ≡ added old a.destination blocks
 
+-- a turn, which ends the run where it gives an answer
 abbrev pub Turned : ZonedNamespace → ZonedNamespace → List (Option Instruction) → ℕ → ActiveRun → ActiveRun → Option Answer → Type 0
 Turned old new program limit a b None = GoesOn old new program limit a b
 Turned old new program limit a b (Some answer) = HasEnded old new program limit a b answer
