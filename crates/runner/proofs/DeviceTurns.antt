@@ -28,7 +28,7 @@ use Rattle.runner.specs.steps.Answered.{complete_reply}
 use Rattle.runner.specs.DeviceState.{active_of, loaded_slot, loaded_of, running, device_state}
 use Rattle.runner.specs.Ready.{Fits, IsForBlocks, IsReady, IsRunning}
 use Rattle.pushdown.specs.Reached.{IsReached}
-use Rattle.runner.specs.steps.Turning.{FitsAt, FitsIn, FitsOn, GoesOn, HasEnded, IsTurned, Keeps, SlotTurned}
+use Rattle.runner.specs.steps.Turning.{FitsAt, FitsIn, FitsOn, TurnGoesOn, HasEnded, IsTurned, Keeps, SlotTurned}
 use Rattle.runner.specs.declared.active_run.ActiveRun.{ActiveRun}
 use Rattle.runner.specs.declared.loaded_program.LoadedProgram.{LoadedProgram}
 use Rattle.runner.proofs.MayBeThere.{Where, found, still_some, was_set}
@@ -175,7 +175,7 @@ module _ (ns : ZonedNamespace) (slots : List (Option LoadedProgram)) (runs : Lis
 
   -- ---- a turn after which it goes on
 
-  module _ (new : ZonedNamespace) (q : LoadedProgram) (b : ActiveRun) (same : q ≡ p) (g : GoesOn ns new code limit a b) (kept : Keeps a b) where
+  module _ (new : ZonedNamespace) (q : LoadedProgram) (b : ActiveRun) (same : q ≡ p) (g : TurnGoesOn ns new code limit a b) (kept : Keeps a b) where
     abbrev later : List Turn
     later = turns_of new code limit (active_of b)
 

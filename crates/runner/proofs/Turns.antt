@@ -25,7 +25,7 @@ use Rattle.pushdown.specs.View.{Active, to_come, turns_of}
 use Rattle.pushdown.proofs.Proved.{blocks_leave_others, rest_ends, rest_goes_on, room_is_open, room_stays}
 use Rattle.runner.specs.DeviceState.{active_of}
 use Rattle.runner.specs.steps.Ran.{HasRun}
-use Rattle.runner.specs.steps.Turning.{FitsOn, GoesOn, HasEnded, HasRoom, next_block, next_run, with_packer, with_scratch}
+use Rattle.runner.specs.steps.Turning.{FitsOn, TurnGoesOn, HasEnded, HasRoom, next_block, next_run, with_packer, with_scratch}
 use Rattle.runner.specs.declared.active_run.ActiveRun.{ActiveRun}
 use Rattle.runner.proofs.Appends.{added_both}
 
@@ -207,7 +207,7 @@ module _ (ns : ZonedNamespace) (program : List (Option Instruction)) (limit : �
         so_far = record { index = a.index + 1; scratch = scratch_after ran; pending = pending_of block groups; frames = a.frames + ran.state.frames; appended = a.appended + length (released block groups) };
       })) (sym h.run.packer)
 
-  goes_is : goes_on ran.end ≡ true → a.index + 1 < a.command.blocks → GoesOn ns (added ns a.destination sent) program limit a stepped
+  goes_is : goes_on ran.end ≡ true → a.index + 1 < a.command.blocks → TurnGoesOn ns (added ns a.destination sent) program limit a stepped
   goes_is on more = record {
     blocks = sent;
     turns = going on more ∙ ap (λ (turns : List Turn). record { blocks = sent; ending = None } ∷ turns)
@@ -303,7 +303,7 @@ module _ (ns : ZonedNamespace) (program : List (Option Instruction)) (limit : �
       blocks_are : put.command.blocks ≡ a.command.blocks
       blocks_are = ap (λ (x : ActiveRun). x.command.blocks) put_is ∙ ap (λ (x : ActiveRun). x.command.blocks) same
 
-      pub goes : r0 ≡ 0 → counted.index < counted.command.blocks → GoesOn ns then program limit a counted
+      pub goes : r0 ≡ 0 → counted.index < counted.command.blocks → TurnGoesOn ns then program limit a counted
       goes none more =
           let on : goes_on ran.end ≡ true = ap goes_on run.exit ∙ ap (λ (n : ℕ). n == 0) none in
           rw (written, put_is, same, sym run.group, sym run.frames) (goes_is on (omega (arith, index_is, blocks_are, more)))

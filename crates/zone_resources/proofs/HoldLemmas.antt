@@ -4,7 +4,8 @@ use Rattle.std.specs.Prelude.{◌||◌, ◌&&◌}
 use Rattle.std.specs.List.{list_any}
 use Rattle.std.proofs.lemmas.Bool.{eq-eqb}
 use Rattle.std.proofs.lemmas.Bool.Decides.{eqb_tells}
-use Rattle.zone_resources.specs.Holds.{names, is_source, is_destination, forgets, no_holds, HoldsRefuse}
+use Rattle.zone_resources.specs.Holds.{HoldsRefuse, IsAppendedTo, IsReadFrom, forgets, is_destination, is_source, names, no_holds}
+use Rattle.zone_resources.specs.declared.holds.Holds.{Holds}
 
 either_left : (a b : Bool) → a ≡ true → (a || b) ≡ true
 either_left true b e = refl
@@ -40,6 +41,12 @@ unnamed zone (user ∷ users) none =
 elsewhere : (zone : ℕ) (users : List (Option ℕ)) → list_any (names zone) users ≡ false → (run : ℕ) → get_or users run None ≢ Some zone
 elsewhere zone users none run at = let there = named zone users run at in cc
 
+not_appended : (zone : ℕ) (holds : Holds) → is_destination holds zone ≡ false → IsAppendedTo holds zone → ⊥
+not_appended zone holds none is = elsewhere zone holds.destinations none is.0 is.1
+
+not_read : (zone : ℕ) (holds : Holds) → is_source holds zone ≡ false → IsReadFrom holds zone → ⊥
+not_read zone holds none is = elsewhere zone holds.sources none is.0 is.1
+
 -- ---- what is refused
 
 -- what neither is, is neither one nor the other of any kind
@@ -67,5 +74,5 @@ holds_refuse = record {
   free = λ holds a zone other unread.
       neither (is_source holds zone) (is_destination holds zone) (forgets a) (unnamed zone holds.sources (λ run at. unread (run, at)))
       (unnamed zone holds.destinations (λ run at. other (run, at)));
-  none = λ zone. (λ is. elsewhere zone no_holds.destinations refl is.0 is.1, λ is. elsewhere zone no_holds.sources refl is.0 is.1);
+  none = λ zone. (not_appended zone no_holds refl, not_read zone no_holds refl);
 }

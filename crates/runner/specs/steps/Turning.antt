@@ -56,7 +56,7 @@ pub record FitsOn (ns : ZonedNamespace) (program : List (Option Instruction)) (l
   pub room : RoomIn ns.capacity (zone_at ns a.destination) (turns_of ns program limit (active_of a))
 
 -- a turn after which the run goes on
-pub record GoesOn (old new : ZonedNamespace) (program : List (Option Instruction)) (limit : ℕ) (a b : ActiveRun) : Type 0 where
+pub record TurnGoesOn (old new : ZonedNamespace) (program : List (Option Instruction)) (limit : ℕ) (a b : ActiveRun) : Type 0 where
   pub blocks : List (List ℕ)
   pub turns : turns_of old program limit (active_of a) ≡ record { blocks = blocks; ending = None } ∷ turns_of new program limit (active_of b)
   pub namespace : new ≡ added old a.destination blocks
@@ -71,7 +71,7 @@ pub record HasEnded (old new : ZonedNamespace) (program : List (Option Instructi
 
 -- a turn, which ends the run where it gives an answer
 abbrev pub Turned : ZonedNamespace → ZonedNamespace → List (Option Instruction) → ℕ → ActiveRun → ActiveRun → Option Answer → Type 0
-Turned old new program limit a b None = GoesOn old new program limit a b
+Turned old new program limit a b None = TurnGoesOn old new program limit a b
 Turned old new program limit a b (Some answer) = HasEnded old new program limit a b answer
 
 -- what no turn changes in a run
@@ -88,7 +88,7 @@ FitsIn ns (Some p) a = IsForBlocks ns p × FitsOn ns (program_of p.prepared) (si
 -- a turn of a run, by the program of a slot, which has the scratch bytes as its result once the run has ended
 abbrev pub SlotTurned : ZonedNamespace → ZonedNamespace → Option LoadedProgram → Option LoadedProgram → ActiveRun → ActiveRun → Option Answer → Type 0
 SlotTurned old new (Some p) (Some q) a b None =
-    (q ≡ p) × GoesOn old new (program_of p.prepared) (sizes_of p.prepared).limit a b × Keeps a b × Fits new b
+    (q ≡ p) × TurnGoesOn old new (program_of p.prepared) (sizes_of p.prepared).limit a b × Keeps a b × Fits new b
 SlotTurned old new (Some p) (Some q) a b (Some answer) =
     (q ≡ record p { result = b.scratch }) × HasEnded old new (program_of p.prepared) (sizes_of p.prepared).limit a b answer × Keeps a b
 SlotTurned old new _ _ a b answer = ⊥
