@@ -1,5 +1,5 @@
 -- What holds refuse.
-use Rattle.std.proofs.Common.{◌≡◌, ◌≢◌, ◌∙◌, ℕ, zero, suc, Bool, true, false, List, [], ◌∷◌, Option, Some, None, get_or, refl, ap, inl, inr}
+use Rattle.std.proofs.Common.{◌≡◌, ◌∙◌, ℕ, zero, suc, Bool, true, false, List, [], ◌∷◌, Option, Some, None, get_or, refl, ap, inl, inr}
 use Rattle.std.specs.Prelude.{◌||◌, ◌&&◌}
 use Rattle.std.specs.List.{list_any}
 use Rattle.std.proofs.lemmas.Bool.{eq-eqb}
@@ -26,19 +26,19 @@ named zone [] run at = cc
 named zone (user ∷ users) zero at = either_left (names zone user) (list_any (names zone) users) (ap (names zone) at ∙ eq-eqb zone zone refl)
 named zone (user ∷ users) (suc run) at = either_right (names zone user) (list_any (names zone) users) (named zone users run at)
 
-not_this : (zone : ℕ) (user : Option ℕ) → user ≢ Some zone → names zone user ≡ false
+not_this : (zone : ℕ) (user : Option ℕ) → (user ≡ Some zone → ⊥) → names zone user ≡ false
 not_this zone None other = refl
 not_this zone (Some number) other = elim (eqb_tells number zone) [
   | inl same ↦ absurd (other (ap (λ (n : ℕ). Some n) same.1))
   | inr differs ↦ differs.0
 ]
 
-unnamed : (zone : ℕ) (users : List (Option ℕ)) → ((run : ℕ) → get_or users run None ≢ Some zone) → list_any (names zone) users ≡ false
+unnamed : (zone : ℕ) (users : List (Option ℕ)) → ((run : ℕ) → get_or users run None ≡ Some zone → ⊥) → list_any (names zone) users ≡ false
 unnamed zone [] none = refl
 unnamed zone (user ∷ users) none =
     both_false (names zone user) (list_any (names zone) users) (not_this zone user (none zero)) (unnamed zone users (λ run. none (suc run)))
 
-elsewhere : (zone : ℕ) (users : List (Option ℕ)) → list_any (names zone) users ≡ false → (run : ℕ) → get_or users run None ≢ Some zone
+elsewhere : (zone : ℕ) (users : List (Option ℕ)) → list_any (names zone) users ≡ false → (run : ℕ) → get_or users run None ≡ Some zone → ⊥
 elsewhere zone users none run at = let there = named zone users run at in cc
 
 not_appended : (zone : ℕ) (holds : Holds) → is_destination holds zone ≡ false → IsAppendedTo holds zone → ⊥
