@@ -19,7 +19,7 @@ module _ {D : Type 0} (operations : Operations D) where
 abbrev pub NewIsReached : {D : Type 0} → Operations D → Type 0
 NewIsReached operations = (ns : ZonedNamespace) → IsNamespace ns → IsReached operations (new_state ns)
 
--- events lead from each to another, and so do the turns that drain it
+-- events lead from each to another
 abbrev pub EventsKeepReached : {D : Type 0} → Operations D → Type 0
 EventsKeepReached operations =
     (s : State) (events : List Occurrence) → IsReached operations s → AreEvents events → IsReached operations (state_after operations events s)

@@ -9,14 +9,16 @@ use Rattle.image_store.specs.Text.{text}
 use Rattle.pushdown.specs.Reached.{IsReached}
 use Rattle.pushdown.specs.State.{State, new_state}
 
--- a device begins with a namespace of which nothing is written, or with one that was loaded
+-- a device begins in a state that events leave with a namespace of which nothing is written (it follows from
+-- `NewIsReached`, as such a namespace is sound)
 abbrev pub EmptyIsReached : Type 0
 EmptyIsReached = (shape : Shape) → IsShape shape → IsReached intervals (new_state (all_empty shape))
 
--- and so it does with one that was loaded
+-- and so it does with one that was loaded (as such a namespace is sound, too)
 abbrev pub LoadedIsReached : Type 0
 LoadedIsReached = (bytes : List ℕ) (ns : ZonedNamespace) → AreBytes bytes → namespace_in bytes ≡ Ok ns → IsReached intervals (new_state ns)
 
--- what is saved loads again as the same namespace, whatever events happened before
+-- what is saved loads again as the same namespace, whatever events happened before (it follows from
+-- `SavedTextsLoad` and `StatesAreSound`)
 abbrev pub SavedStatesLoad : Type 0
 SavedStatesLoad = (s : State) → IsReached intervals s → namespace_in (text s.namespace) ≡ Ok s.namespace
