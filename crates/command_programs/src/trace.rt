@@ -114,7 +114,7 @@ pub fn trace<'a, F: Files, O: Write>(
 ) -> Result<(), Failure<'a>>
     ensures { F.made files.new ≡ F.made files.old }
 {
-    let asked = trace_options(matches)?;
+    let asked = asked_for(matches)?;
     let program = program_in_file(alloc, required(matches, PROGRAM), files)?;
     let path = required(matches, BLOCK);
     let block = read(path, files)?;
@@ -131,7 +131,7 @@ struct TraceOptions {
     registers: bool,
 }
 
-fn trace_options<'a>(matches: &ArgMatches<'a>) -> Result<TraceOptions, Failure<'a>> {
+fn asked_for<'a>(matches: &ArgMatches<'a>) -> Result<TraceOptions, Failure<'a>> {
     Ok(TraceOptions {
         argument: number(matches, ARGUMENT)?,
         fuel: number(matches, FUEL)?,
