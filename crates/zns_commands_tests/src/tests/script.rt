@@ -64,24 +64,35 @@ pub enum Step {
     Uses(usize, usize),
 }
 
+/// So many blocks, of which there is one at least.
+fn block_count(blocks: u16) -> BlockCount {
+    BlockCount::from_zero_based(blocks.saturating_sub(1))
+}
+
 /// An Append of blocks.
 pub fn append(lba: u64, blocks: u16, status: Status) -> Step {
-    let count = BlockCount::from_zero_based(blocks.saturating_sub(1));
-    let command = StandardCommand::Append { lba, blocks: count };
+    let command = StandardCommand::Append {
+        lba,
+        blocks: block_count(blocks),
+    };
     Step::Execute(command, BLOCK * usize::from(blocks), status)
 }
 
 /// A Write of blocks.
 pub fn write(lba: u64, blocks: u16, status: Status) -> Step {
-    let count = BlockCount::from_zero_based(blocks.saturating_sub(1));
-    let command = StandardCommand::Write { lba, blocks: count };
+    let command = StandardCommand::Write {
+        lba,
+        blocks: block_count(blocks),
+    };
     Step::Execute(command, BLOCK * usize::from(blocks), status)
 }
 
 /// A Read of blocks.
 pub fn read(lba: u64, blocks: u16, status: Status) -> Step {
-    let count = BlockCount::from_zero_based(blocks.saturating_sub(1));
-    let command = StandardCommand::Read { lba, blocks: count };
+    let command = StandardCommand::Read {
+        lba,
+        blocks: block_count(blocks),
+    };
     Step::Execute(command, 0, status)
 }
 
@@ -266,10 +277,9 @@ fn report(
     filter: ZoneFilter,
     partial: bool,
 ) -> Result<StandardCommand, Fail> {
-    let last = (bytes / 4).saturating_sub(1);
     Ok(StandardCommand::Receive {
         lba,
-        dwords: DwordCount::from_zero_based(last).ok_or("too large")?,
+        dwords: DwordCount::new(bytes / 4).ok_or("no command moves so many dwords")?,
         filter,
         partial,
     })
