@@ -1,7 +1,7 @@
 //! Instructions.
 
 ghost use Rattle.std.specs.Prelude.{◌≡◌, ◌<◌};
-ghost use Rattle.instruction_set.specs.Instruction.{access_of, destination_of, distance_of, immediate_word, is_destination, is_emit, target, writes};
+ghost use Rattle.instruction_set.specs.Instruction.{access_of, destination_register, distance_of, immediate_word, is_this_register, is_emit, target, writes};
 ghost use Rattle.instruction_set.specs.Program.{slots_taken};
 
 use crate::access::{Access, AccessKind};
@@ -174,7 +174,7 @@ impl Instruction {
     /// clears registers.
     #[inline(always)]
     pub fn destination(&self) -> Option<Register>
-        ensures { result ≡ destination_of self.now }
+        ensures { result ≡ destination_register self.now }
     {
         match *self {
             Instruction::LoadImmediate { dst, .. }
@@ -193,7 +193,7 @@ impl Instruction {
     pub fn writes(&self, register: Register) -> bool
         ensures { result ≡ writes self.now register }
     {
-        is_destination(self.destination(), register)
+        is_this_register(self.destination(), register)
     }
 
     /// The distance of a jump, in slots from the slot after it, and `None` where the instruction is
@@ -229,10 +229,10 @@ impl Instruction {
     }
 }
 
-/// Is there a destination, and is it this register?
+/// Is there a register, and is it this one?
 #[inline(always)]
-fn is_destination(destination: Option<Register>, register: Register) -> bool
-    ensures { result ≡ is_destination destination register }
+fn is_this_register(destination: Option<Register>, register: Register) -> bool
+    ensures { result ≡ is_this_register destination register }
 {
     match destination {
         Some(dst) => dst == register,
