@@ -13,5 +13,5 @@ pub record AreSizes (sizes : Sizes) : Type 0 where
   pub fits : sizes.limit ≤ sizes.block
 
 -- the sizes of these numbers, if a group fits a block
-abbrev pub sizes_of : ℕ → ℕ → Option Sizes
-sizes_of block limit = if nat_le limit block then Some (record { block = block; limit = limit }) else None
+abbrev pub sizes_with : ℕ → ℕ → Option Sizes
+sizes_with block limit = if nat_le limit block then Some (record { block = block; limit = limit }) else None

@@ -1,7 +1,7 @@
 //! The sizes that a run is granted.
 
 ghost use Rattle.std.specs.Prelude.{◌≡◌, ◌≤◌};
-ghost use Rattle.program_interface.specs.RunSizes.{sizes_of};
+ghost use Rattle.program_interface.specs.RunSizes.{sizes_with};
 ghost use Rattle.program_interface.specs.declared.block_size.TheConstants.{LARGEST_BLOCK};
 
 use crate::block_size::BlockSize;
@@ -31,7 +31,7 @@ impl RunSizes {
     /// Blocks of this size, and at most `limit` bytes emitted for each; `None` where that is more than a
     /// block.
     pub fn new(block: BlockSize, limit: u32) -> Option<RunSizes>
-        ensures { result ≡ sizes_of block limit }
+        ensures { result ≡ sizes_with block limit }
     {
         if limit > block.bytes() {
             return None;
