@@ -22,7 +22,7 @@ use Rattle.word_domain.specs.declared.offsets.Offsets.{Offsets}
 use Rattle.accepted_programs.specs.Cells.{cell_of, filled, is_stack, known_in, no_cells, overwritten}
 use Rattle.accepted_programs.proofs.CellLaws.{if_some, joined_known, left_known, none_known, set_known}
 use Rattle.accepted_programs.specs.declared.facts.TheConstants.{CELLS}
-use Rattle.accepted_programs.specs.Facts.{after_store, along, area_of, cell_at, compared_fact, enters_stack, facts_at_start, fact, facts_at, facts_at_target, facts_behind, given_below, gives, is_register, join_registers, kept, leads, loaded_fact, merge, slot_behind, source_fact, with_both, with_fact}
+use Rattle.accepted_programs.specs.Facts.{after_store, along, area_of, cell_at, compared_fact, enters_stack, facts_at_start, fact, facts_at, facts_at_target, facts_behind, given_below, gives, is_register, join_registers, kept_fact, leads, loaded_fact, merge, slot_behind, source_fact, with_both, with_fact}
 use Rattle.accepted_programs.specs.declared.facts.Facts.{Facts}
 
 -- ---- the words of an instruction
@@ -146,7 +146,7 @@ module _ {D : Type 0} {IsFact : D → Type 0} {operations : Operations D} (give 
       (is_register dst source) (fact_is facts dst are) (compared_is facts width source are))
 
   -- ---- the stack
-  kept_is : (facts : Facts D) (size : Size) (src : ℕ) (d : D) → AreFacts IsFact facts → kept operations facts size src ≡ Some d
+  kept_is : (facts : Facts D) (size : Size) (src : ℕ) (d : D) → AreFacts IsFact facts → kept_fact operations facts size src ≡ Some d
       → IsFact d
   kept_is facts DoubleWord src d are e =
       let from = if_some (nat_le 1 src && nat_le src 9) (Some (fact operations facts src)) d e in
@@ -188,7 +188,7 @@ module _ {D : Type 0} {IsFact : D → Type 0} {operations : Operations D} (give 
     behind_facts (StoreImmediate size dst offset value) facts are =
         stored_facts block facts size dst offset None are (λ d e. cc)
     behind_facts (StoreRegister size dst src offset) facts are =
-        stored_facts block facts size dst offset (kept operations facts size src) are (λ d e. kept_is facts size src d are e)
+        stored_facts block facts size dst offset (kept_fact operations facts size src) are (λ d e. kept_is facts size src d are e)
     behind_facts (Arithmetic width operation dst source) facts are =
         with_facts facts dst _ are
         (give.alu (word.Binary width operation) _ _ (fact_is facts dst are) (source_is facts source are))

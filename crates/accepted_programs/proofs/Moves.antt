@@ -33,7 +33,7 @@ use Rattle.word_domain.specs.declared.offsets.Offsets.{Offsets}
 use Rattle.accepted_programs.specs.Accepted.{all_reasons, fails, goes_back, is_unwritable, reason_of, stores_outside}
 use Rattle.accepted_programs.proofs.CellLaws.{if_some}
 use Rattle.accepted_programs.specs.Cells.{cell_of, filled, is_stack, known_in, overwritten}
-use Rattle.accepted_programs.specs.Facts.{after_emit, after_store, along, area_of, cell_at, compared_fact, enters_stack, fact, facts_at_target, facts_behind, is_register, kept, loaded_fact, slot_behind, with_both, with_fact}
+use Rattle.accepted_programs.specs.Facts.{after_emit, after_store, along, area_of, cell_at, compared_fact, enters_stack, fact, facts_at_target, facts_behind, is_register, kept_fact, loaded_fact, slot_behind, with_both, with_fact}
 use Rattle.accepted_programs.proofs.KnownFacts.{AreFacts, immediate_fits}
 use Rattle.accepted_programs.proofs.StoreLaws.{cell_loaded, in_stack, stack_stays, stack_written, stored_belong}
 use Rattle.accepted_programs.proofs.Unhindered.{all_fail, of_all, size_fits}
@@ -241,7 +241,7 @@ module _ {D : Type 0} {IsFact : D → Type 0} {contains : D → ℕ → Type 0} 
       store_meets writable = by_area _ refl writable
 
     -- a kept word is a whole one
-    kept_belongs : (size : Size) (src : ℕ) (d : D) → kept operations facts size src ≡ Some d
+    kept_belongs : (size : Size) (src : ℕ) (d : D) → kept_fact operations facts size src ≡ Some d
         → (size ≡ DoubleWord) × contains d (register s src)
     kept_belongs DoubleWord src d e =
         let from = if_some (nat_le 1 src && nat_le src 9) (Some (fact operations facts src)) d e in
@@ -284,7 +284,7 @@ module _ {D : Type 0} {IsFact : D → Type 0} {contains : D → ℕ → Type 0} 
         (store_meets size dst offset near (immediate_word value) _ (immediate_fits value) None (λ d e. cc) inside)
     moves (StoreRegister size dst src offset) near goes forth inside =
         behind (StoreRegister size dst src offset) refl
-        (store_meets size dst offset near (register s src) _ (is.words src) (kept operations facts size src)
+        (store_meets size dst offset near (register s src) _ (is.words src) (kept_fact operations facts size src)
         (λ d e. kept_belongs size src d e) inside)
     moves (Arithmetic width operation dst source) near goes forth inside =
         behind (Arithmetic width operation dst source) refl

@@ -102,9 +102,9 @@ module _ {D : Type 0} (operations : Operations D) where
   cell_at facts r offset = cell_of (operations.offsets (fact facts r)) offset
 
   -- a cell keeps whole words, of R1 to R9
-  abbrev pub kept : Facts D → Size → ℕ → Option D
-  kept facts DoubleWord src = if nat_le 1 src && nat_le src 9 then Some (fact facts src) else None
-  kept facts size src = None
+  abbrev pub kept_fact : Facts D → Size → ℕ → Option D
+  kept_fact facts DoubleWord src = if nat_le 1 src && nat_le src 9 then Some (fact facts src) else None
+  kept_fact facts size src = None
 
   -- after a store; a fact, if there is one to be kept, fills the cell that the store goes to
   abbrev pub after_store : ℕ → Facts D → Size → ℕ → ℤ → Option D → Facts D
@@ -174,7 +174,7 @@ module _ {D : Type 0} (operations : Operations D) where
     abbrev pub facts_behind : Instruction → Facts D → Option (Facts D)
     facts_behind (StoreImmediate size dst offset value) facts = Some (after_store block facts size dst offset None)
     facts_behind (StoreRegister size dst src offset) facts =
-        Some (after_store block facts size dst offset (kept facts size src))
+        Some (after_store block facts size dst offset (kept_fact facts size src))
     facts_behind (Branch width relation dst source distance) facts = along false width relation dst source facts
     facts_behind (Call helper) facts = Some (after_emit facts)
     facts_behind i facts = with_word facts (option_or (loaded_word i facts) (computed_word i facts))
