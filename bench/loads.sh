@@ -4,15 +4,15 @@
 # ratio.
 set -eu
 here=$(cd "$(dirname "$0")" && pwd)
-program=verifier
+program=loads
 . "$here/dpdk.sh"
 "$work/dpdk" write "$work"
 head -c 4096 /dev/zero >"$work/block.bin"
-loads=$here/../crates/bench_verifier/out/bench_verifier
+loads=$here/../crates/bench_loads/out/bench_loads
 rounds=10
 repeats=20
 # builds the program where it has to
-(cd "$here/../crates/bench_verifier" && rt run -- "$work/straight-1000.bin" "$work/block.bin" 0 0 >/dev/null)
+(cd "$here/../crates/bench_loads" && rt run -- "$work/straight-1000.bin" "$work/block.bin" 0 0 >/dev/null)
 for name in straight-1000 straight-4000 branchy-1000 branchy-4000 spilling-4000; do
     wanted=$("$work/dpdk" time $name 1 1 | sed -n 1p)
     if [ "$wanted" != "$("$loads" "$work/$name.bin" "$work/block.bin" 0 0 | sed -n 1p)" ]; then

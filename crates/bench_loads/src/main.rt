@@ -1,7 +1,7 @@
 //! Loads a program, that is decodes and verifies it for the block's length and makes its superinstructions. Prints the number
 //! of instructions and, after some rounds, the best time of a load in nanoseconds.
 //!
-//! bench_verifier PROGRAM BLOCK ROUNDS REPEATS
+//! bench_loads PROGRAM BLOCK ROUNDS REPEATS
 #![tactic(auto)]
 
 mod loads;

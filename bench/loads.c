@@ -1,8 +1,8 @@
 // Writes programs to load, and times DPDK's load of them.
 //
-// verifier write FOLDER               writes NAME.bin of each program for our verifier
-// verifier time NAME ROUNDS REPEATS   prints the number of instructions and DPDK's best time of a load
-//                                     in nanoseconds
+// loads write FOLDER               writes NAME.bin of each program for our verifier
+// loads time NAME ROUNDS REPEATS   prints the number of instructions and DPDK's best time of a load
+//                                  in nanoseconds
 //
 // Both get the same instructions. Only the register that has the block's address at entry differs:
 // R2 for our machine, R1 for DPDK's.
