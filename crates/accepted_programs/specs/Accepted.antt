@@ -19,6 +19,7 @@ use Rattle.accepted_programs.specs.declared.reason.Reason.{Reason}
 use Rattle.accepted_programs.specs.declared.reason.Reason.TheVariants.{JumpBack, JumpOutside, FallsOff, WriteToFramePointer, LoadOutside, StoreOutside, UnknownHelper, EmitAddress, EmitLength, EmitLimit}
 use Rattle.accepted_programs.specs.declared.reason.Refusal.{Refusal}
 
+-- the number of a reason, by which a user is told of it
 abbrev pub reason_number : Reason → ℕ
 reason_number JumpBack = 1
 reason_number JumpOutside = 2
@@ -31,6 +32,7 @@ reason_number EmitAddress = 8
 reason_number EmitLength = 9
 reason_number EmitLimit = 10
 
+-- the reasons in the order of their numbers
 abbrev pub all_reasons : List Reason
 all_reasons =
     JumpBack ∷ JumpOutside ∷ FallsOff ∷ WriteToFramePointer ∷ LoadOutside ∷ StoreOutside ∷ UnknownHelper
@@ -40,10 +42,12 @@ all_reasons =
 abbrev pub begins_at : List (Option Instruction) → ℤ → Bool
 begins_at program slot = is_some (instruction_in (slot_in program slot))
 
+-- does a jump of this distance, if it is one, lead back?
 abbrev pub goes_back : Option ℤ → Bool
 goes_back (Some distance) = int_lt distance (pos 0)
 goes_back None = false
 
+-- does a jump of this distance, if it is one, lead to a slot where no instruction begins?
 abbrev pub leads_nowhere : List (Option Instruction) → ℕ → Option ℤ → Bool
 leads_nowhere program slot (Some distance) = not (begins_at program (target slot distance))
 leads_nowhere program slot None = false
@@ -70,6 +74,7 @@ abbrev pub hinders_store : AccessKind → Option Area → Bool
 hinders_store kinds.Load area = false
 hinders_store kinds.Store area = is_unwritable area
 
+-- the refusal of a slot for a reason
 abbrev pub refused_at : ℕ → Reason → Refusal
 refused_at slot reason = record { slot = slot; reason = reason }
 
@@ -78,18 +83,21 @@ module _ {D : Type 0} (operations : Operations D) where
   abbrev pub area_accessed : ℕ → Facts D → Access → Option Area
   area_accessed block facts access = area_of operations block facts access.base access.offset access.size
 
+  -- may a load, if this is one, have bytes that do not all lie in one area?
   abbrev pub loads_outside : ℕ → Facts D → Option Access → Bool
   loads_outside block facts (Some access) = hinders_load access.kind (area_accessed block facts access)
   loads_outside block facts None = false
 
+  -- may a store, if this is one, have bytes that do not all lie in one area that can be written?
   abbrev pub stores_outside : ℕ → Facts D → Option Access → Bool
   stores_outside block facts (Some access) = hinders_store access.kind (area_accessed block facts access)
   stores_outside block facts None = false
 
-  -- the least and the greatest length that emit can be given
+  -- the least length that emit can be given
   abbrev pub least_length : Facts D → ℕ
   least_length facts = (operations.bounds (fact operations facts 2)).low
 
+  -- the greatest length that emit can be given
   abbrev pub greatest_length : Facts D → ℕ
   greatest_length facts = (operations.bounds (fact operations facts 2)).high
 

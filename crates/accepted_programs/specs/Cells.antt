@@ -8,6 +8,7 @@ use Rattle.program_interface.specs.declared.area.TheConstants.{STACK_BYTES}
 use Rattle.word_domain.specs.declared.offsets.Offsets.{Offsets}
 use Rattle.accepted_programs.specs.declared.facts.TheConstants.{CELLS}
 
+-- is the area the stack?
 abbrev pub is_stack : Area → Bool
 is_stack Stack = true
 is_stack _ = false
@@ -61,6 +62,7 @@ module _ {D : Type 0} where
   join_cell join (Some d) (Some e) = Some (join d e)
   join_cell join _ _ = None
 
+  -- two rows of cells, joined cell by cell
   abbrev pub join_cells : (D → D → D) → List (Option D) → List (Option D) → List (Option D)
   join_cells join (c ∷ cs) (d ∷ ds) = join_cell join c d ∷ join_cells join cs ds
   join_cells join _ _ = []

@@ -45,6 +45,7 @@ module _ {D : Type 0} (operations : Operations D) where
   abbrev pub fact : Facts D → ℕ → D
   fact facts r = get_or facts.registers r operations.any
 
+  -- the facts with another about one register
   abbrev pub with_fact : Facts D → ℕ → D → Facts D
   with_fact facts r d = record facts { registers = set facts.registers r d }
 
@@ -74,6 +75,7 @@ module _ {D : Type 0} (operations : Operations D) where
   with_source facts (Register r) d = with_fact facts r d
   with_source facts (Immediate z) d = facts
 
+  -- the facts with others about the destination and the source of a compare, if there is such an edge
   abbrev pub with_both : Facts D → ℕ → Source → Option (D × D) → Option (Facts D)
   with_both facts dst source None = None
   with_both facts dst source (Some both) = Some (with_source (with_fact facts dst both.0) source both.1)
@@ -151,10 +153,12 @@ module _ {D : Type 0} (operations : Operations D) where
 
   -- ---- joins
 
+  -- the facts about two rows of registers, joined one by one
   abbrev pub join_registers : List D → List D → List D
   join_registers (d ∷ ds) (e ∷ es) = operations.join d e ∷ join_registers ds es
   join_registers _ _ = []
 
+  -- what is known where two ways come together
   abbrev pub join_facts : Facts D → Facts D → Facts D
   join_facts a b = record {
     registers = join_registers a.registers b.registers;

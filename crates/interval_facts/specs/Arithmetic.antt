@@ -28,21 +28,24 @@ signed_bounds b =
     then Some (signed Bits64 b.low, signed Bits64 b.high)
     else None
 
--- a pointer moved on by a signed number between bounds, or back by it
+-- a pointer moved on by a signed number between bounds
 abbrev pub moved_on : Area → ℤ → ℤ → Option (ℤ × ℤ) → Fact
 moved_on area low high None = Words full
 moved_on area low high (Some by) = pointer_to area (low +ℤ by.0) (high +ℤ by.1)
 
+-- a pointer moved back by a signed number between bounds
 abbrev pub moved_back : Area → ℤ → ℤ → Option (ℤ × ℤ) → Fact
 moved_back area low high None = Words full
 moved_back area low high (Some by) = pointer_to area (low -ℤ by.1) (high -ℤ by.0)
 
+-- a 64-bit sum, which may be that of a pointer and a word
 abbrev pub added : Fact → Fact → Fact
 added (Words d) (Words s) = Words (sum Bits64 d s)
 added (Pointer area low high) (Words s) = moved_on area low high (signed_bounds s)
 added (Words d) (Pointer area low high) = moved_on area low high (signed_bounds d)
 added (Pointer _ _ _) (Pointer _ _ _) = Words full
 
+-- a 64-bit difference, which may be that of a pointer and a word
 abbrev pub subtracted : Fact → Fact → Fact
 subtracted (Words d) (Words s) = Words (difference Bits64 d s)
 subtracted (Pointer area low high) (Words s) = moved_back area low high (signed_bounds s)
@@ -57,6 +60,7 @@ cut b =
     if nat_lt b.high (2 ^ 32) then b else
     top Bits32
 
+-- an operand at a width, where a pointer counts as every word
 abbrev pub operand_of : Width → Fact → Bounds
 operand_of Bits32 f = cut (bounds_of f)
 operand_of Bits64 f = bounds_of f
@@ -68,6 +72,7 @@ combined_64 Subtract d s = subtracted d s
 combined_64 Move d s = s
 combined_64 operation d s = Words (combined Bits64 operation (bounds_of d) (bounds_of s))
 
+-- what an operation of a width makes of two facts
 abbrev pub combined_of : Width → Operation → Fact → Fact → Fact
 combined_of Bits32 operation d s = Words (combined Bits32 operation (operand_of Bits32 d) (operand_of Bits32 s))
 combined_of Bits64 operation d s = combined_64 operation d s
@@ -82,6 +87,7 @@ unsigned_below Bits8To64 = 2 ^ 7
 unsigned_below Bits16To64 = 2 ^ 15
 unsigned_below Bits32To64 = 2 ^ 31
 
+-- what a sign-extending move makes of its source
 abbrev pub extended_of : SignExtension → Bounds → Bounds
 extended_of extension s = if nat_lt s.high (unsigned_below extension) then s else top (extension_width extension)
 
@@ -93,6 +99,7 @@ swapped_of kept.Bits64 = full
 
 -- ---- all
 
+-- is the word known?
 abbrev pub is_known : Fact → Bool
 is_known f = is_single (bounds_of f)
 

@@ -6,10 +6,12 @@ use Rattle.interval_facts.specs.Fact.{widened}
 use Rattle.interval_facts.specs.Intervals.{intervals}
 use Rattle.interval_facts.specs.declared.fact.Fact.{Fact}
 
+-- both facts widened, if there are two
 abbrev pub both_widened : Option (Fact × Fact) → Option (Fact × Fact)
 both_widened None = None
 both_widened (Some facts) = Some (widened facts.0, widened facts.1)
 
+-- the operations of the domain of constants
 abbrev pub constants : Operations Fact
 constants = record intervals {
   loaded = λ size. widened (intervals.loaded size);

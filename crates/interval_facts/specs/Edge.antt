@@ -10,9 +10,11 @@ use Rattle.word_domain.specs.declared.bounds.Bounds.{Bounds}
 use Rattle.interval_facts.specs.declared.fact.Fact.{Fact}
 use Rattle.interval_facts.specs.declared.fact.Fact.TheVariants.{Words}
 
+-- both are facts
 abbrev pub FactPair : Fact × Fact → Type 0
 FactPair both = IsFact both.0 × IsFact both.1
 
+-- is no number between these bounds?
 abbrev pub is_empty : Bounds → Bool
 is_empty b = nat_lt b.high b.low
 
@@ -47,6 +49,7 @@ less d s =
 abbrev pub at_most : Bounds → Bounds → Option (Bounds × Bounds)
 at_most d s = edge_of (range d.low (min d.high s.high)) (range (max s.low d.low) s.high)
 
+-- both in the other order, if there are two
 abbrev pub exchanged : Option (Bounds × Bounds) → Option (Bounds × Bounds)
 exchanged None = None
 exchanged (Some both) = Some (both.1, both.0)
@@ -72,6 +75,7 @@ narrowed SignedGreaterOrEqual taken d s = Some (d, s)
 narrowed SignedLess taken d s = Some (d, s)
 narrowed SignedLessOrEqual taken d s = Some (d, s)
 
+-- both as facts about words, if there are two
 abbrev pub as_facts : Option (Bounds × Bounds) → Option (Fact × Fact)
 as_facts None = None
 as_facts (Some both) = Some (Words both.0, Words both.1)
@@ -81,6 +85,7 @@ abbrev pub fits : Width → Bounds → Bool
 fits Bits32 b = nat_lt b.high (2 ^ 32)
 fits Bits64 b = true
 
+-- does this edge go with what the compare comes to?
 abbrev pub agrees : Bool → Bool → Bool
 agrees true b = b
 agrees false b = not b
@@ -95,6 +100,7 @@ refine_words width relation taken d s same =
     if same || not (fits width d) || not (fits width s) then Some (Words d, Words s) else
     as_facts (narrowed relation taken d s)
 
+-- the same of any two facts; a pointer stays as it is
 abbrev pub refine_of : Width → Relation → Bool → Fact → Fact → Bool → Option (Fact × Fact)
 refine_of width relation taken (Words d) (Words s) same = refine_words width relation taken d s same
 refine_of width relation taken d s same = Some (d, s)

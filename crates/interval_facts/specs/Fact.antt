@@ -32,12 +32,15 @@ abbrev pub IsFact : Fact → Type 0
 IsFact (Words b) = b.low ≤ b.high
 IsFact (Pointer area low high) = ((pos 0 -ℤ farthest) ≤ℤ low) × (low ≤ℤ high) × (high ≤ℤ farthest)
 
+-- the bounds that are these two numbers
 abbrev pub range : ℕ → ℕ → Bounds
 range low high = record { low = low; high = high }
 
+-- the bounds of one number alone
 abbrev pub single : ℕ → Bounds
 single n = range n n
 
+-- is there one number alone between the bounds?
 abbrev pub is_single : Bounds → Bool
 is_single b = b.low == b.high
 
@@ -50,13 +53,14 @@ abbrev pub pointer_to : Area → ℤ → ℤ → Fact
 pointer_to area low high =
     if int_le (pos 0 -ℤ farthest) low && int_le high farthest then Pointer area low high else Words full
 
--- what a load gives, zero-extended from its bytes or sign-extended
+-- what a load gives, zero-extended from its bytes (RFC 9669, 5.1)
 abbrev pub loaded_of : Size → Fact
 loaded_of Byte = Words (range 0 (2 ^ 8 - 1))
 loaded_of HalfWord = Words (range 0 (2 ^ 16 - 1))
 loaded_of Word = Words (range 0 (2 ^ 32 - 1))
 loaded_of DoubleWord = Words full
 
+-- what a sign-extending load gives (RFC 9669, 5.2): any word
 abbrev pub loaded_signed_of : SignedSize → Fact
 loaded_signed_of size = Words full
 

@@ -7,6 +7,7 @@ use Rattle.interval_facts.specs.Fact.{access_of, bounds_of, full, join_of, loade
 use Rattle.interval_facts.specs.declared.fact.Fact.{Fact}
 use Rattle.interval_facts.specs.declared.fact.Fact.TheVariants.{Words}
 
+-- the operations of the domain of intervals
 abbrev pub intervals : Operations Fact
 intervals = record {
   constant = λ w. Words (single w);

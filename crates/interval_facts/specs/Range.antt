@@ -34,6 +34,7 @@ difference w d s =
     if nat_lt d.high s.low then range (limit w + d.low - s.high) (limit w + d.high - s.low) else
     top w
 
+-- a product, which none of the operands takes past the width, or any number
 abbrev pub product : Width → Bounds → Bounds → Bounds
 product w d s =
     if nat_lt (d.high * s.high) (limit w) then range (d.low * s.low) (d.high * s.high) else top w
@@ -56,21 +57,27 @@ remainder d s =
 abbrev pub if_positive : Width → Bounds → Bounds → Bounds → Bounds
 if_positive w d s bounds = if nat_lt d.high (half w) && nat_lt s.high (half w) then bounds else top w
 
+-- bits that both have: no more than the lesser of the greatest numbers
 abbrev pub conjunction : Bounds → Bounds → Bounds
 conjunction d s = range 0 (min d.high s.high)
 
+-- a shift to the left by a count, which takes none past the width, or any number
 abbrev pub shifted_left_by : Width → ℕ → Bounds → Bounds
 shifted_left_by w c d = if nat_lt (d.high * 2 ^ c) (limit w) then range (d.low * 2 ^ c) (d.high * 2 ^ c) else top w
 
+-- the same by a count that is known, or any number
 abbrev pub shifted_left : Width → Bounds → Bounds → Bounds
 shifted_left w d s = if is_single s then shifted_left_by w (count w s.low) d else top w
 
+-- a shift to the right by a count, with zeros from the left
 abbrev pub shifted_right_by : ℕ → Bounds → Bounds
 shifted_right_by c d = range (d.low / 2 ^ c) (d.high / 2 ^ c)
 
+-- the same by a count that is known, or no more than before
 abbrev pub shifted_right : Width → Bounds → Bounds → Bounds
 shifted_right w d s = if is_single s then shifted_right_by (count w s.low) d else range 0 d.high
 
+-- what each operation of a width makes of numbers between bounds
 abbrev pub combined : Width → Operation → Bounds → Bounds → Bounds
 combined w Add d s = sum w d s
 combined w Subtract d s = difference w d s

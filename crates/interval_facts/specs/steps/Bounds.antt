@@ -4,6 +4,7 @@ use Rattle.instruction_set.specs.declared.operation.Width.{Width}
 use Rattle.word_domain.specs.declared.bounds.Bounds.{Bounds}
 use Rattle.interval_facts.specs.Range.{limit}
 
+-- both bounds are in order
 abbrev pub OrderedPair : Bounds × Bounds → Type 0
 OrderedPair both = (both.0.low ≤ both.0.high) × (both.1.low ≤ both.1.high)
 
