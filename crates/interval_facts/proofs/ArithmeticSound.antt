@@ -24,7 +24,7 @@ use Rattle.program_meaning.specs.declared.word.Arithmetic.TheVariants.{Binary, N
 use Rattle.interval_facts.proofs.FactSound.{any_law, bounds_law, constant_law, either_fact, is_word}
 use Rattle.interval_facts.proofs.PointerSound.{moved_back_law, moved_on_law}
 use Rattle.interval_facts.proofs.RangeSound.{combined_law, either, top_law}
-use Rattle.interval_facts.specs.Arithmetic.{added, alu_of, are_known, combined_64, combined_of, cut, estimated, extended_of, is_known, operand_of, subtracted, swapped_of, unsigned_below}
+use Rattle.interval_facts.specs.Arithmetic.{sum_of, alu_of, are_known, combined_64, combined_of, cut, estimated, extended_of, is_known, operand_of, difference_of, swapped_of, unsigned_below}
 use Rattle.interval_facts.specs.Fact.{ContainsWord, IsWithin, bounds_of, is_single, single}
 use Rattle.interval_facts.specs.Range.{combined, limit, top}
 use Rattle.word_domain.specs.declared.bounds.Bounds.{Bounds}
@@ -62,17 +62,17 @@ general_law w operation d s x y hd hs = (
   words_are_computed (Binary w operation) x y (is_word d x hd) (is_word s y hs),
 )
 
-added_law : (d s : Fact) (x y : ℕ) → ContainsWord d x → ContainsWord s y → ContainsWord (added d s) (computed (Binary Bits64 Add) x y)
+added_law : (d s : Fact) (x y : ℕ) → ContainsWord d x → ContainsWord s y → ContainsWord (sum_of d s) (computed (Binary Bits64 Add) x y)
 added_law (Words b) (Words c) x y hd hs = general_law Bits64 Add (Words b) (Words c) x y hd hs
 added_law (Pointer area low high) (Words c) x y hd hs = moved_on_law area low high c x y hd hs
 added_law (Words b) (Pointer area low high) x y hd hs =
     let turned : y + x ≡ x + y = omega arith in
-    subst (λ n. ContainsWord (added (Words b) (Pointer area low high)) (n % 2 ^ 64)) turned (moved_on_law area low high b y x hs hd)
+    subst (λ n. ContainsWord (sum_of (Words b) (Pointer area low high)) (n % 2 ^ 64)) turned (moved_on_law area low high b y x hs hd)
 added_law (Pointer area low high) (Pointer area' low' high') x y hd hs =
     any_law ((x + y) % 2 ^ 64) (omega arith)
 
 subtracted_law : (d s : Fact) (x y : ℕ) → ContainsWord d x → ContainsWord s y
-    → ContainsWord (subtracted d s) (computed (Binary Bits64 Subtract) x y)
+    → ContainsWord (difference_of d s) (computed (Binary Bits64 Subtract) x y)
 subtracted_law (Words b) (Words c) x y hd hs = general_law Bits64 Subtract (Words b) (Words c) x y hd hs
 subtracted_law (Pointer area low high) (Words c) x y hd hs = moved_back_law area low high c x y hd hs
 subtracted_law (Words b) (Pointer area low high) x y hd hs = any_law ((x + (2 ^ 64 - y)) % 2 ^ 64) (omega arith)

@@ -26,7 +26,7 @@ use Rattle.program_meaning.specs.declared.word.Arithmetic.{Arithmetic}
 use Rattle.program_meaning.specs.declared.word.Arithmetic.TheVariants.{Binary, Negate, MoveSigned, SwapBytes}
 use Rattle.word_domain.specs.Domain.{GiveFacts}
 use Rattle.word_domain.specs.declared.bounds.Bounds.{Bounds}
-use Rattle.interval_facts.specs.Arithmetic.{added, alu_of, are_known, combined_64, combined_of, cut, estimated, extended_of, moved_back, moved_on, operand_of, signed_bounds, subtracted, swapped_of, unsigned_below}
+use Rattle.interval_facts.specs.Arithmetic.{sum_of, alu_of, are_known, combined_64, combined_of, cut, estimated, extended_of, moved_back, moved_on, operand_of, signed_bounds, difference_of, swapped_of, unsigned_below}
 use Rattle.interval_facts.specs.Constants.{both_widened, constants}
 use Rattle.interval_facts.specs.Edge.{FactPair, agrees, as_facts, at_most, different, edge_of, equal, exchanged, fits, is_empty, less, narrowed, refine_of, refine_words, without}
 use Rattle.interval_facts.specs.Fact.{IsFact, bounds_of, farthest, full, is_single, join_of, loaded_of, pointer_to, range, widened}
@@ -161,13 +161,13 @@ operand_is : (w : Width) (f : Fact) → IsFact f → IsOrdered (operand_of w f)
 operand_is Bits32 f is = cut_is (bounds_of f) (bounds_is f is)
 operand_is Bits64 f is = bounds_is f is
 
-added_is : (d s : Fact) → IsFact d → IsFact s → IsFact (added d s)
+added_is : (d s : Fact) → IsFact d → IsFact s → IsFact (sum_of d s)
 added_is (Words d) (Words s) hd hs = sum_is Bits64 d s hd hs
 added_is (Pointer area low high) (Words s) hd hs = moved_on_is area low high s hd.1 hs
 added_is (Words d) (Pointer area low high) hd hs = moved_on_is area low high d hs.1 hd
 added_is (Pointer area low high) (Pointer area' low' high') hd hs = omega arith
 
-subtracted_is : (d s : Fact) → IsFact d → IsFact s → IsFact (subtracted d s)
+subtracted_is : (d s : Fact) → IsFact d → IsFact s → IsFact (difference_of d s)
 subtracted_is (Words d) (Words s) hd hs = difference_is Bits64 d s hd hs
 subtracted_is (Pointer area low high) (Words s) hd hs = moved_back_is area low high s hd.1 hs
 subtracted_is (Words d) (Pointer area low high) hd hs = omega arith

@@ -39,17 +39,17 @@ moved_back area low high None = Words full
 moved_back area low high (Some by) = pointer_to area (low -ℤ by.1) (high -ℤ by.0)
 
 -- a 64-bit sum, which may be that of a pointer and a word
-abbrev pub added : Fact → Fact → Fact
-added (Words d) (Words s) = Words (sum Bits64 d s)
-added (Pointer area low high) (Words s) = moved_on area low high (signed_bounds s)
-added (Words d) (Pointer area low high) = moved_on area low high (signed_bounds d)
-added (Pointer _ _ _) (Pointer _ _ _) = Words full
+abbrev pub sum_of : Fact → Fact → Fact
+sum_of (Words d) (Words s) = Words (sum Bits64 d s)
+sum_of (Pointer area low high) (Words s) = moved_on area low high (signed_bounds s)
+sum_of (Words d) (Pointer area low high) = moved_on area low high (signed_bounds d)
+sum_of (Pointer _ _ _) (Pointer _ _ _) = Words full
 
 -- a 64-bit difference, which may be that of a pointer and a word
-abbrev pub subtracted : Fact → Fact → Fact
-subtracted (Words d) (Words s) = Words (difference Bits64 d s)
-subtracted (Pointer area low high) (Words s) = moved_back area low high (signed_bounds s)
-subtracted _ (Pointer _ _ _) = Words full
+abbrev pub difference_of : Fact → Fact → Fact
+difference_of (Words d) (Words s) = Words (difference Bits64 d s)
+difference_of (Pointer area low high) (Words s) = moved_back area low high (signed_bounds s)
+difference_of _ (Pointer _ _ _) = Words full
 
 -- ---- both widths
 
@@ -67,8 +67,8 @@ operand_of Bits64 f = bounds_of f
 
 -- a move keeps a pointer; but for it and the sums, a pointer counts as every word
 abbrev pub combined_64 : Operation → Fact → Fact → Fact
-combined_64 Add d s = added d s
-combined_64 Subtract d s = subtracted d s
+combined_64 Add d s = sum_of d s
+combined_64 Subtract d s = difference_of d s
 combined_64 Move d s = s
 combined_64 operation d s = Words (combined Bits64 operation (bounds_of d) (bounds_of s))
 

@@ -5,7 +5,7 @@ ghost use Rattle.instruction_set.specs.Spelling.{extension_width};
 ghost use Rattle.program_meaning.specs.Word.{computed};
 ghost use Rattle.interval_facts.specs.Fact.{IsFact, bounds_of};
 ghost use Rattle.interval_facts.specs.steps.Bounds.{IsRange};
-ghost use Rattle.interval_facts.specs.Arithmetic.{signed_bounds, moved_on, moved_back, added, subtracted, cut, operand_of, combined_64, combined_of, unsigned_below, extended_of, swapped_of, is_known, are_known, estimated, alu_of};
+ghost use Rattle.interval_facts.specs.Arithmetic.{signed_bounds, moved_on, moved_back, sum_of, difference_of, cut, operand_of, combined_64, combined_of, unsigned_below, extended_of, swapped_of, is_known, are_known, estimated, alu_of};
 
 use crate::fact::{Fact, is_one, one, pointer_between, words_of};
 use crate::range::{all, combine};
@@ -71,7 +71,7 @@ fn move_back(area: Area, low: i32, high: i32, words: Bounds) -> Fact
 fn add(dst: Fact, source: Fact) -> Fact
     requires dst { IsFact dst }
     requires source { IsFact source }
-    ensures value { result ≡ added dst source }
+    ensures value { result ≡ sum_of dst source }
     ensures fact { IsFact result }
 {
     match (dst, source) {
@@ -90,7 +90,7 @@ fn add(dst: Fact, source: Fact) -> Fact
 fn subtract(dst: Fact, source: Fact) -> Fact
     requires dst { IsFact dst }
     requires source { IsFact source }
-    ensures value { result ≡ subtracted dst source }
+    ensures value { result ≡ difference_of dst source }
     ensures fact { IsFact result }
 {
     match (dst, source) {
