@@ -57,7 +57,8 @@ each_block ns z first count i sound inside =
     let written = (zone_at ns z).blocks in
     let all = read_count ns.block written first count in
     block_in_bytes ns.block i (blocks_read ns.block written first count)
-    (λ k below. ap length (read_at ns.block written first count k (omega arith)) ∙ whole_or_zeros ns.block written (first + k) (sound.whole z)) (omega arith)
+    (λ k below. ap length (read_at ns.block written first count k (omega (arith, all))) ∙ whole_or_zeros ns.block written (first + k) (sound.whole z))
+    (omega (arith, all))
     ∙ read_at ns.block written first count i inside
 
 pub each_block_is_read : EachBlockIsRead
