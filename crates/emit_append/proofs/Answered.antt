@@ -5,18 +5,18 @@ use Rattle.std.proofs.Math.Nat.{div-eq_of_lt}
 use Rattle.program_interface.specs.Gives.{Gives}
 use Rattle.emit_append.specs.declared.fault.UnpackFault.{UnpackFault}
 use Rattle.emit_append.specs.declared.fault.UnpackFault.TheVariants.{At, Memory}
-use Rattle.emit_append.specs.Unpacking.{Reading, and_then, output_block_at, output_blocks_at, place_told, then_read}
+use Rattle.emit_append.specs.Unpacking.{Reading, and_then, output_block_at, output_blocks_at, byte_told, then_read}
 use Rattle.emit_append.proofs.FramesRead.{and_then-err, more_blocks, no_more_blocks, part_of_block}
 
 -- no more records come after these
-pub gives_records : (answer : Result Unit UnpackFault) (records : List (List ℕ)) (reading : Reading) → Gives place_told (λ _. []) answer reading → Gives place_told (λ _. records) answer (then_read records reading)
+pub gives_records : (answer : Result Unit UnpackFault) (records : List (List ℕ)) (reading : Reading) → Gives byte_told (λ _. []) answer reading → Gives byte_told (λ _. records) answer (then_read records reading)
 gives_records (Ok x) records reading is = ap (then_read records) is ∙ ap Ok (append-nil records)
 gives_records (Err (At place)) records reading is = ap (then_read records) is
 gives_records (Err Memory) records reading is = tt
 
 -- a block's fault is that of the blocks
-pub fails_on : (fault : UnpackFault) (records : List (List ℕ)) (first rest : Reading) → IfSome (place_told fault) (λ place. then_read records first ≡ Err place) →
-    IfSome (place_told fault) (λ place. then_read records (and_then first rest) ≡ Err place)
+pub fails_on : (fault : UnpackFault) (records : List (List ℕ)) (first rest : Reading) → IfSome (byte_told fault) (λ place. then_read records first ≡ Err place) →
+    IfSome (byte_told fault) (λ place. then_read records (and_then first rest) ≡ Err place)
 fails_on (At place) records first rest is = and_then-err records first rest place is
 fails_on Memory records first rest is = tt
 

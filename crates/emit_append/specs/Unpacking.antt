@@ -10,7 +10,7 @@ use Rattle.program_interface.specs.Bytes.{AreBytes}
 use Rattle.emit_append.specs.PackedLaw.{FitBlock}
 use Rattle.emit_append.specs.Packing.{packed, padded}
 
--- the records, or the place of the first byte that is refused
+-- the records, or the first byte that is refused, by its number
 abbrev pub Reading : Type 0
 Reading = Result (List (List ℕ)) ℕ
 
@@ -36,7 +36,7 @@ frame_record rest = take (frame_length rest) (drop 2 rest)
 abbrev pub after_frame : List ℕ → List ℕ
 after_frame rest = drop (2 + frame_length rest) rest
 
--- The frames from a place of a block on, where these bytes are left. Each step passes a frame, so as many steps as bytes are enough.
+-- The frames from byte `at` on, where these bytes of a block are left. Each step passes a frame, so as many steps as bytes are enough.
 unfoldable pub frames_at : ℕ → ℕ → List ℕ → Reading
 frames_at zero at rest = Ok []
 frames_at (suc steps) at rest =
@@ -44,7 +44,7 @@ frames_at (suc steps) at rest =
     if nat_lt (length rest) (2 + frame_length rest) then Err at else
     then_read (frame_record rest ∷ []) (frames_at steps (at + (2 + frame_length rest)) (after_frame rest))
 
--- the records of a block whose first byte is at this place
+-- the records of a block whose first byte is byte `at`
 abbrev pub output_block_at : ℕ → List ℕ → Reading
 output_block_at at block = frames_at (length block) at block
 
@@ -53,7 +53,7 @@ abbrev pub and_then : Reading → Reading → Reading
 and_then (Ok records) rest = then_read records rest
 and_then (Err at) rest = Err at
 
--- so many blocks from a place on, after which nothing may follow
+-- so many blocks from byte `at` on, after which nothing may follow
 unfoldable pub output_blocks_at : ℕ → ℕ → ℕ → List ℕ → Reading
 output_blocks_at zero block at [] = Ok []
 output_blocks_at zero block at (byte ∷ rest) = Err at
@@ -67,10 +67,10 @@ unpacked block bytes = output_blocks_at (length bytes / block) block 0 bytes
 abbrev pub record_bytes : List (Vec ℕ Global) → List (List ℕ)
 record_bytes records = map (λ r. r.items) records
 
--- the place that a fault tells; none where memory ran out
-abbrev pub place_told : UnpackFault → Option ℕ
-place_told (At place) = Some place
-place_told Memory = None
+-- the byte that a fault tells; none where memory ran out
+abbrev pub byte_told : UnpackFault → Option ℕ
+byte_told (At byte) = Some byte
+byte_told Memory = None
 
 -- What is packed of groups that hold frames reads back as the records of all of them, in order.
 abbrev pub PackedFramesReadBack : Type 0

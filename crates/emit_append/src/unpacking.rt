@@ -2,7 +2,7 @@
 
 ghost use Rattle.std.specs.Prelude.{◌≡◌, ◌+◌, ◌^◌, ◌<◌, [], length};
 ghost use Rattle.program_interface.specs.Gives.{Gives};
-ghost use Rattle.emit_append.specs.Unpacking.{output_block_at, frame_length as length_in_front, place_told, record_bytes, then_read, unpacked, zeros_at};
+ghost use Rattle.emit_append.specs.Unpacking.{output_block_at, frame_length as length_in_front, byte_told, record_bytes, then_read, unpacked, zeros_at};
 
 use crate::fault::UnpackFault;
 use byteorder::{ByteOrder, LittleEndian};
@@ -19,7 +19,7 @@ use std::alloc::Global;
 /// [`UnpackFault::At`] the lowest byte that is refused, counted from the first of `bytes`; [`UnpackFault::Memory`] where there
 /// was none for the records.
 pub fn unpack(alloc: Global, bytes: &[u8], block: BlockSize) -> Result<Vec<Vec<u8>>, UnpackFault>
-    ensures { Gives place_told (λ records. record_bytes records.items) result (unpacked block bytes.now) }
+    ensures { Gives byte_told (λ records. record_bytes records.items) result (unpacked block bytes.now) }
 {
     let size = block.bytes() as usize;
     let mut records = Vec::new(alloc);
@@ -43,7 +43,7 @@ fn read_block(
     records: &mut Vec<Vec<u8>>,
 ) -> Result<(), UnpackFault>
     requires { at + length block.now < 2 ^ 64 }
-    ensures { Gives place_told (λ _. record_bytes records.new.items) result (then_read (record_bytes records.old.items) (output_block_at at block.now)) }
+    ensures { Gives byte_told (λ _. record_bytes records.new.items) result (then_read (record_bytes records.old.items) (output_block_at at block.now)) }
 {
     let mut rest = block;
     let mut byte = at;
@@ -75,7 +75,7 @@ fn frame_length(rest: &[u8]) -> usize
 /// Refuses the first byte that isn't zero.
 fn check_zeros(rest: &[u8], at: usize) -> Result<(), UnpackFault>
     requires { at + length rest.now < 2 ^ 64 }
-    ensures { Gives place_told (λ _. []) result (zeros_at at rest.now) }
+    ensures { Gives byte_told (λ _. []) result (zeros_at at rest.now) }
 {
     for (i, byte) in rest.iter().enumerate() {
         if *byte != 0 {

@@ -211,7 +211,7 @@ fn refuses_a_part_of_a_block(rt: HostRuntime) -> Result<(), Fail> {
     bytes.push(0)?;
     let size = BlockSize::new(512).unwrap();
     match unpack(rt.alloc(), &bytes, size) {
-        Err(UnpackFault::At(place)) => assert_eq!(rt; place, 512),
+        Err(UnpackFault::At(byte)) => assert_eq!(rt; byte, 512),
         Err(UnpackFault::Memory) => return Err(AllocError)?,
         Ok(records) => panic!(rt; "{} records", records.len()),
     }

@@ -172,11 +172,11 @@ impl Geometry {
         u64::from(self.zones) * u64::from(self.size)
     }
 
-    /// The zone and place of a logical block, or `None` for an address past the namespace's end.
+    /// A logical block as a block of its zone, or `None` for an address past the namespace's end.
     pub fn zone_block(self, lba: u64) -> Option<ZoneBlock>
         ensures value { result ≡ zone_block_of self lba }
-        ensures inside { IfSome result (λ place. place.zone < self.zones) }
-        ensures lowest { IfSome result (λ place. place.zone * self.size + place.offset ≡ lba) }
+        ensures inside { IfSome result (λ block. block.zone < self.zones) }
+        ensures lowest { IfSome result (λ block. block.zone * self.size + block.offset ≡ lba) }
         ensures small { OnSome result (lba < 2 ^ 36) }
     {
         if lba >= self.blocks() {

@@ -142,15 +142,15 @@ fn each_damage_has_its_fault(rt: HostRuntime) -> Result<(), Fail> {
             size: 8
         }))
     );
-    for place in [40, 63] {
+    for at in [40, 63] {
         assert_eq!(rt;
-            fault_of(rt.alloc(), &changed(&[(place, 1)])),
+            fault_of(rt.alloc(), &changed(&[(at, 1)])),
             bad_header(HeaderFault::Reserved(Version::Two))
         );
     }
-    for (place, told) in [(32, 1), (39, 1 << 56)] {
+    for (at, told) in [(32, 1), (39, 1 << 56)] {
         assert_eq!(rt;
-            fault_of(rt.alloc(), &changed(&[(place, 1)])),
+            fault_of(rt.alloc(), &changed(&[(at, 1)])),
             Some(LoadFault::Total { told, counted: 0 })
         );
     }

@@ -76,19 +76,19 @@ fn outcome(alloc: Global, text: &[u8]) -> Result<u8, Fail> {
 }
 
 /// Changes one bit of a text.
-fn flip(text: &mut [u8], place: usize) {
-    if let Some(byte) = text.get_mut(place / 8) {
-        *byte ^= 1 << (place % 8);
+fn flip(text: &mut [u8], bit: usize) {
+    if let Some(byte) = text.get_mut(bit / 8) {
+        *byte ^= 1 << (bit % 8);
     }
 }
 
 /// What comes of a text with each bit of its header and zone rows changed in turn.
 fn outcomes(alloc: Global, text: &mut [u8]) -> Result<Vec<u8>, Fail> {
     let mut numbers = Vec::new(alloc);
-    for place in 0..8 * FRONT {
-        flip(text, place);
+    for bit in 0..8 * FRONT {
+        flip(text, bit);
         numbers.push(outcome(alloc, text)?)?;
-        flip(text, place);
+        flip(text, bit);
     }
     Ok(numbers)
 }

@@ -62,9 +62,9 @@ fn an_image_of_version_1_has_one_length(rt: HostRuntime) -> Result<(), Fail> {
 
 #[test]
 fn each_byte_of_the_magic_counts(rt: HostRuntime) -> Result<(), Fail> {
-    for place in 0..8 {
+    for at in 0..8 {
         for text in [written(rt.alloc())?, of_version_1(rt.alloc())?] {
-            let other = with(text, &[(place, 0)])?;
+            let other = with(text, &[(at, 0)])?;
             assert_eq!(rt;
                 fault_of(rt.alloc(), other.as_slice()),
                 Some(LoadFault::Magic)

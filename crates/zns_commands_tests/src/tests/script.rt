@@ -33,7 +33,7 @@ pub const OFFLINE: ZoneState = ZoneState::Offline;
 /// The words of 8 bytes that a descriptor begins with, of which the other four are zeros.
 pub type Descriptor = [u64; 4];
 
-/// The place of a descriptor where there is none.
+/// No descriptor, but zeros.
 pub const NONE: Descriptor = [0; 4];
 
 /// A step of a script.
@@ -134,8 +134,8 @@ pub fn namespace(alloc: Global) -> Result<Namespace, Fail> {
 /// The data of each write, of which no two blocks are the same.
 fn data(alloc: Global) -> Result<Vec<u8>, Fail> {
     let mut bytes = vec![in alloc; 0; 8 * BLOCK]?;
-    for (place, byte) in bytes.iter_mut().enumerate() {
-        *byte = (place % 251) as u8;
+    for (index, byte) in bytes.iter_mut().enumerate() {
+        *byte = (index % 251) as u8;
     }
     Ok(bytes)
 }
@@ -252,11 +252,11 @@ impl Stage {
     fn assert_list(&self, rt: &impl Abort, length: usize, number: u64, zones: [Descriptor; 4]) {
         let given = self.output.get(..self.last.length).unwrap_or(&[]);
         assert_eq!(rt; given.len(), length, "step {}", self.number);
-        for (place, byte) in given.iter().enumerate() {
-            let word = report_word(number, zones, place / 8);
+        for (index, byte) in given.iter().enumerate() {
+            let word = report_word(number, zones, index / 8);
             assert_eq!(rt;
                 *byte,
-                word.to_le_bytes()[place % 8],
+                word.to_le_bytes()[index % 8],
                 "step {}",
                 self.number
             );
@@ -297,9 +297,9 @@ fn completion(answer: Answer, cid: u16) -> [u8; 16] {
     completion.encode()
 }
 
-/// A word of 8 bytes of a report.
-fn report_word(number: u64, zones: [Descriptor; 4], place: usize) -> u64 {
-    match (place / 8, place % 8) {
+/// The word of 8 bytes of a report with this index.
+fn report_word(number: u64, zones: [Descriptor; 4], index: usize) -> u64 {
+    match (index / 8, index % 8) {
         (0, 0) => number,
         (0, _) => 0,
         (zone, word) => {
