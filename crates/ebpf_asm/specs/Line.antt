@@ -35,7 +35,7 @@ labelled label text =
 abbrev pub behind_label : Option (List ℕ) × List ℕ → Line
 behind_label parts = labelled parts.0 (trimmed parts.1)
 
--- a line without its comment: what stands before its first `:`, if one does, is its label
+-- a line without its comment: what stands before its first `:` is its label, if that is a name
 abbrev pub line_in : List ℕ → Line
 line_in text = behind_label (split_label text (cut_at 58 text))
 
