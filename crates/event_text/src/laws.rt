@@ -8,17 +8,29 @@ pub fn events_are_by_line()
     ensures { EventsAreByLine }
 {}
 
-/// Blank lines and comments make no events.
-pub fn blanks_and_comments_make_no_events()
-    ensures blanks { BlanksDontCount }
-    ensures comments { CommentsDontCount }
+/// A line of blanks and a comment, of which either may be missing, makes no event.
+pub fn blanks_dont_count()
+    ensures { BlanksDontCount }
 {}
 
-/// A line that is spelled for a submission, a turn or a zone's fault is read back as it, whatever ends the line.
-pub fn spelled_events_read_back()
-    ensures submissions { SubmissionsReadBack }
-    ensures turns { TurnsReadBack }
-    ensures faults { FaultsReadBack }
+/// A comment behind a line changes nothing of what the line tells.
+pub fn comments_dont_count()
+    ensures { CommentsDontCount }
+{}
+
+/// The line that is spelled for a submission is read back as it, whatever ends the line.
+pub fn submissions_read_back()
+    ensures { SubmissionsReadBack }
+{}
+
+/// The line that is spelled for a turn of a run is read back as it, whatever ends the line.
+pub fn turns_read_back()
+    ensures { TurnsReadBack }
+{}
+
+/// The line that is spelled for a fault of a zone is read back as it, whatever ends the line.
+pub fn faults_read_back()
+    ensures { FaultsReadBack }
 {}
 
 /// Two replies that are printed as the same line are the same, with the same data.
