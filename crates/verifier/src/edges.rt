@@ -84,7 +84,7 @@ fn emit<D: Domain>(facts: &mut Facts<D>)
     ensures { facts.new ≡ after_emit D.operations facts.old }
 {
     let zero = D::constant(0);
-    let most = facts.get(Register::R2).bounds().high;
+    let most = facts.registers[Register::R2.index()].bounds().high;
     for i in 0..CLEARED_REGISTERS {
         facts.registers[i] = zero;
     }
