@@ -23,8 +23,13 @@ passed None s g is = cc
 passed (Some fault) s g is = cc
 
 -- the shape that tests give is the one that they are made of
-pub same_shape : (s g : Shape) → Ok g ≡ tested s → s ≡ g
+same_shape : (s g : Shape) → Ok g ≡ tested s → s ≡ g
 same_shape s g is = passed (option_map (λ (fault : GeometryFault). geometry_refusal_of fault s) (first_failed (shape_checks s))) s g is
+
+-- what was asked for and passed the tests passes them again
+pub asked_and_passed : (matches : ArgMatches) (s g : Shape) → IsAskedFor matches s → Ok g ≡ tested s → IsAskedFor matches g × (tested g ≡ Ok g)
+asked_and_passed matches s g asked is =
+    subst (λ (shape : Shape). IsAskedFor matches shape × (tested shape ≡ Ok g)) (same_shape s g is) (asked, sym is)
 
 -- of an image that has nothing written, a file was made
 pub makes_empty : {T E : Type 0} (tells : Type 0) (result : Result T E) (image : ZonedNamespace) (shape : Shape) (matches : ArgMatches) (path wanted : List ℕ) (before after : Option (List Made))

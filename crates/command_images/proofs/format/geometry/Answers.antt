@@ -1,25 +1,26 @@
-use Rattle.std.proofs.Common.{◌≡◌, Ok, subst, sym}
-use Rattle.image_store.specs.Geometry.{Shape}
+use Rattle.std.proofs.Common.{◌≡◌, Ok}
 use Rattle.image_store.specs.Refusal.{tested}
 use Rattle.command_images.specs.Images.{IsAskedFor}
 use Rattle.command_images.specs.UserTold.{RefusesShape}
-use Rattle.command_images.proofs.Making.{passed_on, same_shape, spells_none}
+use Rattle.command_images.proofs.Making.{asked_and_passed, passed_on, spells_none}
 use Rattle.command_images.proofs.format.geometry.Goals as goal
 
-pub returns-in-Ok-clause-asked : goal.returns-in-Ok-clause-asked
-returns-in-Ok-clause-asked c =
-    subst (λ (shape : Shape). IsAskedFor c.args.matches.now shape) (same_shape _ c.in-Ok.geometry c.in-Ok.ensures) (record {
+made : (c : goal.In-Ok) → IsAskedFor c.args.matches.now c.in-Ok.geometry × (tested c.in-Ok.geometry ≡ Ok c.in-Ok.geometry)
+made c =
+    asked_and_passed c.args.matches.now _ c.in-Ok.geometry (record {
       block = c.in_ok-block.ensures.value;
       zones = c.in_ok-zones.ensures.value;
       size = c.in_ok-size.ensures.value;
       capacity = c.in_ok-capacity.ensures.value;
       open_limit = c.in_ok-number.ensures.value;
       active_limit = c.in_ok-number-2.ensures.value;
-    })
+    }) c.in-Ok.ensures
+
+pub returns-in-Ok-clause-asked : goal.returns-in-Ok-clause-asked
+returns-in-Ok-clause-asked c = (made c).0
 
 pub returns-in-Ok-clause-passes : goal.returns-in-Ok-clause-passes
-returns-in-Ok-clause-passes c =
-    subst (λ (shape : Shape). tested shape ≡ Ok c.in-Ok.geometry) (same_shape _ c.in-Ok.geometry c.in-Ok.ensures) (sym c.in-Ok.ensures)
+returns-in-Ok-clause-passes c = (made c).1
 
 pub returns-in_err-block-clause-refused : goal.returns-in_err-block-clause-refused
 returns-in_err-block-clause-refused c =
