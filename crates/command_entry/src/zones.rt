@@ -189,32 +189,3 @@ fn filter(name: &str) -> Option<ZoneFilter> {
     let state = ZoneState::ALL.iter().find(|state| state.word() == name)?;
     Some(ZoneFilter::of(*state))
 }
-
-#[cfg(test)]
-mod tests {
-    use super::filter;
-    use std::test::Fail;
-    use zone_state::ZoneState;
-
-    const EACH: [ZoneState; 7] = [
-        ZoneState::Empty,
-        ZoneState::ImplicitlyOpened,
-        ZoneState::ExplicitlyOpened,
-        ZoneState::Closed,
-        ZoneState::ReadOnly,
-        ZoneState::Full,
-        ZoneState::Offline,
-    ];
-
-    /// The word for a state names the filter that lists zones of that state, and no others.
-    #[test]
-    fn words_for_states_name_their_filters(rt: HostRuntime) -> Result<(), Fail> {
-        for state in EACH {
-            let filter = filter(state.word()).ok_or("no filter")?;
-            for other in EACH {
-                assert_eq!(rt; filter.lists(other), other == state, "{state}, {other}");
-            }
-        }
-        Ok(())
-    }
-}
