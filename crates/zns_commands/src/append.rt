@@ -11,7 +11,7 @@ ghost use Rattle.zns_commands.specs.Write.{with_written};
 
 use crate::address::lowest;
 use crate::answer::Answer;
-use crate::write::{check_data, check_end, put};
+use crate::write::{check_at_write_pointer, check_data, put};
 use image_store::Image;
 use nvme_entry::{BlockCount, Status};
 use zone_resources::Holds;
@@ -48,7 +48,7 @@ fn try_append(
 {
     check_data(image, blocks, input)?;
     let zone = lowest(image, lba)?;
-    let plan = check_end(image, holds, zone, blocks)?;
+    let plan = check_at_write_pointer(image, holds, zone, blocks)?;
     let assigned = pointer(image, zone, lba);
     put(image, plan, blocks, input);
     Ok(assigned)

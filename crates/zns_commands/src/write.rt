@@ -76,7 +76,7 @@ pub fn check_write(
 /// # Errors
 ///
 /// Those of [`check_write`].
-pub fn check_end(
+pub fn check_at_write_pointer(
     image: &Image,
     holds: &Holds,
     zone: u32,
