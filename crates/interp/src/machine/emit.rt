@@ -8,8 +8,8 @@ use instruction_set::Register;
 use program_interface::{CLEARED_REGISTERS, FRAME_LENGTH_BYTES, REGISTERS};
 use program_meaning::{AreaOffset, Cause};
 
-/// What a call leaves in the registers that it needn't keep.
-fn clear_scratched(registers: &mut [u64; REGISTERS])
+/// Clears the registers that a call need not keep, R0 to R5 (profile).
+fn clear_registers(registers: &mut [u64; REGISTERS])
     ensures { registers.new ≡ replicate CLEARED_REGISTERS 0 ++ drop CLEARED_REGISTERS registers.old }
 {
     registers[..CLEARED_REGISTERS].copy_from_slice(&[0; CLEARED_REGISTERS]);
@@ -63,6 +63,6 @@ impl Machine<'_> {
         write_frame(group, start, &bytes[place.offset..][..size]);
         self.group_length = start + FRAME_LENGTH_BYTES + size;
         self.frames += 1;
-        clear_scratched(&mut self.registers);
+        clear_registers(&mut self.registers);
     }
 }
