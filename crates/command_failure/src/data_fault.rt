@@ -10,6 +10,7 @@ use thiserror::Error;
 /// Why a file of so many bytes can't be moved by a command of the device, or is no block.
 #[derive(Clone, Copy, Debug, PartialEq, Eq, Error)]
 pub enum DataFault {
+    /// There are none.
     #[error("0 bytes; from 1 to {most} are expected", most = MOST_TRANSFER)]
     Empty,
     /// They are more than one command moves.

@@ -6,11 +6,17 @@ ghost use Rattle.command_failure.specs.FileCause.{cause_words};
 /// Why a file can't be read or written, as far as the system tells.
 #[derive(Clone, Copy, Debug, PartialEq, Eq)]
 pub enum FileCause {
+    /// No file or folder has the name.
     NotFound,
+    /// The user may not.
     PermissionDenied,
+    /// What stands before a `/` of the name is no folder.
     NotADirectory,
+    /// The name is a folder's.
     IsADirectory,
+    /// Nothing can be written to the file system.
     ReadOnly,
+    /// The file system, or what the user may have of it, is full.
     NoRoom,
     /// Another one, or none that is told.
     Other,

@@ -10,6 +10,7 @@ use thiserror::Error;
 #[derive(Clone, Copy, Debug, PartialEq, Eq, Error)]
 #[error("line {}: {text}: {}", .fault.line, .fault.kind)]
 pub struct AssemblyRefusal {
+    /// The line's number, and what is wrong with it.
     pub fault: Fault,
     /// The line, without the blanks at its ends.
     pub text: Excerpt,

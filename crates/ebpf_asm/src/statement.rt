@@ -17,7 +17,9 @@ use text_lines::{cut, trim, word};
 /// An instruction. Where it jumps to a label, its distance is 0 and the label stands beside it.
 #[derive(Clone, Copy, Debug, PartialEq, Eq)]
 pub struct Statement<'a> {
+    /// The instruction.
     pub instruction: Instruction,
+    /// The label that it jumps to, if its text names one.
     pub label: Option<&'a [u8]>,
 }
 

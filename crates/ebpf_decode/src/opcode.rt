@@ -8,11 +8,13 @@ use instruction_set::{Operation, Relation, SignedSize, Size, Swap, Width};
 /// Where the second operand is: the source bit of an opcode (RFC 9669, 4).
 #[derive(Clone, Copy, Debug, PartialEq, Eq)]
 pub enum Operand {
+    /// K: the immediate.
     Immediate,
+    /// X: the source register.
     Register,
 }
 
-/// What an opcode names: an instruction without its fields (RFC 9669, 3.1).
+/// What an opcode names: an instruction without its fields (RFC 9669, 3.1). Variants are named as those of `Instruction`.
 #[derive(Clone, Copy, Debug, PartialEq, Eq)]
 pub enum Opcode {
     LoadImmediate,
@@ -45,9 +47,13 @@ pub enum LeftOut {
 /// Which fields an instruction uses; the others are 0.
 #[derive(Clone, Copy, Debug, PartialEq, Eq)]
 pub struct Uses {
+    /// The destination register.
     pub dst: bool,
+    /// The source register.
     pub src: bool,
+    /// The offset.
     pub offset: bool,
+    /// The immediate.
     pub immediate: bool,
 }
 

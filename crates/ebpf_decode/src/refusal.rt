@@ -16,6 +16,7 @@ const CALL_BY_REGISTER: u8 = 0x8d;
 /// A fault of a program's bytes, with what stands there.
 #[derive(Clone, Copy, Debug, PartialEq, Eq)]
 pub struct ProgramRefusal {
+    /// The slot, and what is wrong there.
     pub fault: Fault,
     /// How many bytes there are.
     pub bytes: usize,

@@ -32,6 +32,7 @@ pub enum HeaderFault {
 /// Why the row of a zone tells none.
 #[derive(Clone, Copy, Debug, PartialEq, Eq, Error)]
 pub enum ZoneRowFault {
+    /// Bytes that are zero in each row.
     #[error("bytes 1 to 3 are not zero")]
     Reserved,
     /// The code that stands for no state.
@@ -49,10 +50,13 @@ pub enum ZoneRowFault {
 /// Why an image could not be loaded.
 #[derive(Clone, Copy, Debug, PartialEq, Eq, Error)]
 pub enum LoadFault {
+    /// The text ends before its header, its zone rows or its written blocks do.
     #[error("the file is no whole image: its header, a zone row or a block is cut")]
     Truncated,
+    /// The text begins as that of no version.
     #[error("the first 8 bytes are neither ZNSIMG01 nor ZNSIMG02")]
     Magic,
+    /// Why the header tells no geometry.
     #[error("header: {0}")]
     Header(HeaderFault),
     /// The lowest zone whose row tells none, and why.
@@ -74,10 +78,13 @@ pub enum LoadFault {
         active: usize,
         limits: Limits,
     },
+    /// The text goes on behind its written blocks.
     #[error("bytes follow the last block")]
     Trailing,
+    /// The source failed, which says nothing of the text.
     #[error("the stream failed")]
     Stream,
+    /// Memory was refused, which says nothing of the text.
     #[error("no memory")]
     Memory,
 }

@@ -23,16 +23,22 @@ const MOST_BYTES: u64 = 268_435_456;
 /// that a user is told (profile).
 #[derive(Clone, Copy, Debug, PartialEq, Eq, Error)]
 pub enum GeometryFault {
+    /// No block has as many bytes.
     #[error("the block size is no power of 2 from 512 to {most}", most = LARGEST_BLOCK)]
     BlockSize = 1,
+    /// There are no zones, or more than [`MOST_ZONES`].
     #[error("the number of zones is not from 1 to {most}", most = MOST_ZONES)]
     ZoneCount = 2,
+    /// A zone has no blocks, or more than 16,777,216.
     #[error("the zone size is not from 1 to {most} blocks", most = MOST_ZONE_BLOCKS)]
     ZoneSize = 3,
+    /// No block of a zone can be written, or more than it has.
     #[error("the zone capacity is not from 1 to the zone size")]
     ZoneCapacity = 4,
+    /// No zone may be open, or more than may be active, or more of these than there are zones (ZNS 1.1, 2.1.1).
     #[error("the limits are not 1 open zone or more, as many active ones, and no more than zones")]
     ResourceLimits = 5,
+    /// The blocks of all zones that can be written take more than 268,435,456 bytes.
     #[error("the zones' capacity is more than {most} bytes in all", most = MOST_BYTES)]
     TooLarge = 6,
 }

@@ -12,6 +12,7 @@ pub enum GeometryRefusal {
     /// Bytes of a block.
     #[error("a block of {0} bytes: {fault}", fault = GeometryFault::BlockSize)]
     BlockSize(usize),
+    /// The number of zones.
     #[error("{0} zones: {fault}", fault = GeometryFault::ZoneCount)]
     ZoneCount(u32),
     /// Blocks of a zone.
@@ -23,12 +24,14 @@ pub enum GeometryRefusal {
         capacity: u32,
         size: u32,
     },
+    /// How many zones may be open, how many may be active, and how many there are.
     #[error("{open_limit} open and {active_limit} active of {zones} zones: {fault}", fault = GeometryFault::ResourceLimits)]
     ResourceLimits {
         open_limit: u32,
         active_limit: u32,
         zones: u32,
     },
+    /// The number of zones, the blocks of each that can be written, and the bytes of a block.
     #[error("{zones} zones of {capacity} writable blocks of {block} bytes: {fault}", fault = GeometryFault::TooLarge)]
     TooLarge {
         zones: u32,

@@ -11,14 +11,19 @@ use zone_state::ZoneState;
 pub enum ZoneFilter {
     /// 00h: every zone.
     All,
-    /// 01h: zones in the state Empty; the codes go on in the order of these states.
+    /// 01h: zones in the state Empty.
     Empty,
+    /// 02h: zones in the state Implicitly Opened.
     ImplicitlyOpened,
+    /// 03h: zones in the state Explicitly Opened.
     ExplicitlyOpened,
+    /// 04h: zones in the state Closed.
     Closed,
+    /// 05h: zones in the state Full.
     Full,
+    /// 06h: zones in the state Read Only.
     ReadOnly,
-    /// 07h.
+    /// 07h: zones in the state Offline.
     Offline,
 }
 
