@@ -13,3 +13,4 @@ mod refusals;
 mod scenes;
 mod stage;
 mod stopping;
+mod submissions;

@@ -7,69 +7,86 @@ use std::test::Fail;
 /// A program that emits nothing.
 const EXIT: &[u8] = b"\xb7\0\0\0\0\0\0\0\x95\0\0\0\0\0\0\0";
 
-/// Each kind that moves no block. Command Dwords 10 to 15 stand on a line of their own.
+/// Each kind that moves no block.
 const LINES: &[Act] = &[
     Act::Put("exit", &[(EXIT, 1)]),
-    Act::Prints(
+    Act::Submits(
         "zscli entry read --lba 8589934600 --blocks 3 --cid 9",
-        "submit 1 02000900010000000000000000000000000000000000000000000000000000000000000000000000\
-080000000200000002000000000000000000000000000000\n",
+        1,
+        &[(0, 0x0009_0002), (10, 8), (11, 2), (12, 2)],
+        "",
     ),
-    Act::Prints(
+    Act::Submits(
         "zscli entry open --lba 8 --queue 65535",
-        "submit 65535 79000100010000000000000000000000000000000000000000000000000000000000000000000000\
-080000000000000000000000030000000000000000000000\n",
+        65535,
+        &[(0, 0x0001_0079), (10, 8), (13, 3)],
+        "",
     ),
-    Act::Prints(
+    Act::Submits(
         "zscli entry open --lba 0x4F --queue 0xffff",
-        "submit 65535 79000100010000000000000000000000000000000000000000000000000000000000000000000000\
-4f0000000000000000000000030000000000000000000000\n",
+        65535,
+        &[(0, 0x0001_0079), (10, 0x4f), (13, 3)],
+        "",
     ),
-    Act::Prints(
+    Act::Submits(
         "zscli entry close --lba 8",
-        "submit 1 79000100010000000000000000000000000000000000000000000000000000000000000000000000\
-080000000000000000000000010000000000000000000000\n",
+        1,
+        &[(0, 0x0001_0079), (10, 8), (13, 1)],
+        "",
     ),
-    Act::Prints(
+    Act::Submits(
         "zscli entry finish --lba 8",
-        "submit 1 79000100010000000000000000000000000000000000000000000000000000000000000000000000\
-080000000000000000000000020000000000000000000000\n",
+        1,
+        &[(0, 0x0001_0079), (10, 8), (13, 2)],
+        "",
     ),
-    Act::Prints(
+    Act::Submits(
         "zscli entry reset --all",
-        "submit 1 79000100010000000000000000000000000000000000000000000000000000000000000000000000\
-000000000000000000000000040100000000000000000000\n",
+        1,
+        &[(0, 0x0001_0079), (13, 0x0104)],
+        "",
     ),
-    Act::Prints(
+    Act::Submits(
         "zscli entry offline --lba 8",
-        "submit 1 79000100010000000000000000000000000000000000000000000000000000000000000000000000\
-080000000000000000000000050000000000000000000000\n",
+        1,
+        &[(0, 0x0001_0079), (10, 8), (13, 5)],
+        "",
     ),
-    Act::Prints(
+    Act::Submits(
         "zscli entry report --lba 9",
-        "submit 1 7a000100010000000000000000000000000000000000000000000000000000000000000000000000\
-0900000000000000ff030000000000000000000000000000\n",
+        1,
+        &[(0, 0x0001_007a), (10, 9), (12, 1023)],
+        "",
     ),
-    Act::Prints(
+    Act::Submits(
         "zscli entry report --lba 0 --state readonly --partial --dwords 40",
-        "submit 1 7a000100010000000000000000000000000000000000000000000000000000000000000000000000\
-000000000000000027000000000601000000000000000000\n",
+        1,
+        &[(0, 0x0001_007a), (12, 39), (13, 0x0001_0600)],
+        "",
     ),
-    Act::Prints(
+    Act::Submits(
         "zscli entry load --slot 7 --program exit --emit 66",
-        "submit 1 c1000100010000000000000000000000000000000000000000000000000000000000000000000000\
-070000004200000010000000000000000000000000000000 \
-b7000000000000009500000000000000\n",
+        1,
+        &[(0, 0x0001_00c1), (10, 7), (11, 66), (12, 16)],
+        "b7000000000000009500000000000000",
     ),
-    Act::Prints(
+    Act::Submits(
         "zscli entry run --slot 1 --from 8 --blocks 52 --to 64 --argument 7",
-        "submit 1 c0000100010000000000000000000000000000000000000000000000000000000000000000000000\
-080000000000000033000100070000004000000000000000\n",
+        1,
+        &[
+            (0, 0x0001_00c0),
+            (10, 8),
+            (12, 0x0001_0033),
+            (13, 7),
+            (14, 64),
+        ],
+        "",
     ),
-    Act::Prints(
+    Act::Submits(
         "zscli entry result --slot 3 --cid 65535",
-        "submit 1 c200ffff010000000000000000000000000000000000000000000000000000000000000000000000\
-030000000000000000000000000000000000000000000000\n",
+        1,
+        &[(0, 0xffff_00c2), (10, 3)],
+        "",
     ),
 ];
 
@@ -259,33 +276,30 @@ fn entries_of_words(rt: HostRuntime) -> Result<(), Fail> {
     play(&rt, rt.alloc(), SCENES)
 }
 
-/// The words of `--state`, and the codes of the filters that they name: byte 1 of Command Dword 13 (ZNS 1.1, 3.4.2).
-const FILTERS: &[(&str, &str)] = &[
-    ("all", "00"),
-    ("empty", "01"),
-    ("implicit", "02"),
-    ("explicit", "03"),
-    ("closed", "04"),
-    ("full", "05"),
-    ("readonly", "06"),
-    ("offline", "07"),
+/// The words of `--state`, and Command Dword 13 for each: its byte 1 has the code of the filter (ZNS 1.1, 3.4.2).
+const FILTERS: &[(&str, u32)] = &[
+    ("all", 0x0000),
+    ("empty", 0x0100),
+    ("implicit", 0x0200),
+    ("explicit", 0x0300),
+    ("closed", 0x0400),
+    ("full", 0x0500),
+    ("readonly", 0x0600),
+    ("offline", 0x0700),
 ];
 
 #[test]
 fn words_for_states_name_their_filters(rt: HostRuntime) -> Result<(), Fail> {
     let alloc = rt.alloc();
     let mut stage = Stage::new(alloc);
-    for (word, code) in FILTERS {
+    for (word, filter) in FILTERS {
         let line = format!(in alloc; "zscli entry report --lba 0 --state {word}")?;
-        let printed = format!(in alloc;
-            "submit 1 7a000100010000000000000000000000000000000000000000000000000000000000000000000000\
-0000000000000000ff03000000{code}00000000000000000000\n"
-        )?;
         let at = At {
             scene: word,
             line: line.as_str(),
         };
-        stage.check(&rt, &at, 0, printed.as_str(), "")?;
+        let dwords = [(0, 0x0001_007a), (12, 1023), (13, *filter)];
+        stage.check_submission(&rt, &at, 1, &dwords, "")?;
     }
     Ok(())
 }

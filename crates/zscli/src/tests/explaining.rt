@@ -132,15 +132,6 @@ queue 1, command 4: report of zones from that of LBA 0 on: 3 zones
     ),
 ];
 
-/// A Load of no bytes, and an entry that is no command.
-const WITHOUT_WORDS: &[u8] = b"\
-submit 1 c1000900010000000000000000000000000000000000000000000000000000000000000000000000\
-000000000000000000000000000000000000000000000000
-submit 1 03000600000000000000000000000000000000000000000000000000000000000000000000000000\
-000000000000000000000000000000000000000000000000
-fault 2 offline
-";
-
 const REPLIES: Parts = &[(
     b"\
 cpl 1 00000000000000000000010003007203
@@ -167,7 +158,10 @@ const ANSWERED: &[Act] = &[
     ),
     Act::AddsTo("commands", "zscli entry open --all --cid 3"),
     Act::AddsTo("commands", "zscli entry result --slot 0 --cid 8"),
-    Act::Add("commands", WITHOUT_WORDS),
+    // A Load of no bytes, and an entry that is no command.
+    Act::AddSubmission("commands", &[(0, 0x0009_00c1)]),
+    Act::AddSubmission("commands", &[(0, 0x0006_0003)]),
+    Act::Add("commands", b"fault 2 offline\n"),
     Act::Put("replies", REPLIES),
     Act::Prints(
         "zscli explain replies --commands commands",

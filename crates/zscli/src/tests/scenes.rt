@@ -1,6 +1,7 @@
 //! What is done with files and command lines, as data, and what has to come of it.
 
 use super::stage::{At, Parts, Stage};
+use super::submissions::Dwords;
 use std::alloc::Global;
 use std::process::Abort;
 use std::test::Fail;
@@ -44,12 +45,17 @@ pub(super) enum Act {
     Unreadable,
     /// A command line succeeds, and prints this alone.
     Prints(&'static str, &'static str),
+    /// A command line succeeds, and prints the submission to this queue of the entry of these dwords, with this data in
+    /// hexadecimal.
+    Submits(&'static str, u16, Dwords, &'static str),
     /// A command line succeeds, and what it prints is put behind `events`.
     Adds(&'static str),
     /// The same, behind a file.
     AddsTo(&'static str, &'static str),
     /// Puts bytes behind a file.
     Add(&'static str, &'static [u8]),
+    /// Puts the submission to queue 1 of the entry of these dwords, without data, behind a file.
+    AddSubmission(&'static str, Dwords),
     /// A command line ends with this status, standard output and last line on standard error.
     Fails(&'static str, u8, &'static str, &'static str),
     /// A command line refuses its input: it prints nothing, and this to standard error.
@@ -92,6 +98,7 @@ fn perform(rt: &impl Abort, stage: &mut Stage, scene: &str, act: Act) -> Result<
         }
         Act::Put(file, parts) => stage.put(file, parts)?,
         Act::Add(file, bytes) => stage.files.add(file, bytes)?,
+        Act::AddSubmission(file, dwords) => stage.add_submission(file, dwords)?,
         Act::Room(room) => stage.files.room = room,
         Act::Unreadable => stage.files.fails = true,
         _ => judge(rt, stage, scene, act)?,
@@ -103,6 +110,9 @@ fn perform(rt: &impl Abort, stage: &mut Stage, scene: &str, act: Act) -> Result<
 fn judge(rt: &impl Abort, stage: &mut Stage, scene: &str, act: Act) -> Result<(), Fail> {
     match act {
         Act::Prints(line, out) => stage.check(rt, &At { scene, line }, 0, out, "")?,
+        Act::Submits(line, queue, dwords, data) => {
+            stage.check_submission(rt, &At { scene, line }, queue, dwords, data)?;
+        }
         Act::Adds(line) => stage.add_printed(rt, &At { scene, line }, "events")?,
         Act::AddsTo(file, line) => stage.add_printed(rt, &At { scene, line }, file)?,
         Act::Fails(line, status, out, err) => {

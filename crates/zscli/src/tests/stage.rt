@@ -1,5 +1,6 @@
 //! Where command lines run.
 
+use super::submissions::submission;
 use crate::commands::command;
 use command_failure::conclude;
 use command_files::MemoryFiles;
@@ -111,6 +112,29 @@ impl Stage {
         self.run(at.line, usize::MAX)?;
         self.check_end(rt, at, 0, "");
         self.files.add(file, self.out.bytes.as_slice())
+    }
+
+    /// Runs a command line that prints the submission of the entry of these dwords to a queue, and compares what it prints.
+    pub(super) fn check_submission(
+        &mut self,
+        rt: &impl Abort,
+        at: &At,
+        queue: u16,
+        dwords: &[(u32, u32)],
+        data: &str,
+    ) -> Result<(), AllocError> {
+        let line = submission(self.alloc, queue, dwords, data)?;
+        self.check(rt, at, 0, line.as_str(), "")
+    }
+
+    /// Puts the submission of the entry of these dwords to queue 1, without data, behind the bytes of a file.
+    pub(super) fn add_submission(
+        &mut self,
+        file: &str,
+        dwords: &[(u32, u32)],
+    ) -> Result<(), AllocError> {
+        let line = submission(self.alloc, 1, dwords, "")?;
+        self.files.add(file, line.as_bytes())
     }
 
     /// Compares the status of the last command line, and the last line that it printed to standard error.
