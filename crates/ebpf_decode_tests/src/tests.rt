@@ -95,40 +95,69 @@ fn each_opcode(rt: HostRuntime) -> Result<(), Fail> {
     Ok(())
 }
 
-/// Decodes bytes: the number of instructions, and whether the program's bytes are these again.
-fn again(alloc: Global, bytes: &[u8]) -> Result<(usize, bool), Fail> {
-    let program = decode(alloc, bytes)?;
+/// The bytes of these slots, each with its own in order.
+fn bytes_of(alloc: Global, slots: &[u64]) -> Result<Vec<u8>, Fail> {
+    let mut bytes = Vec::new(alloc);
+    for slot in slots {
+        bytes.extend_from_slice(&slot.to_be_bytes())?;
+    }
+    Ok(bytes)
+}
+
+/// Decodes the bytes of slots: the number of instructions, and whether the program's bytes are these again.
+fn again(alloc: Global, slots: &[u64]) -> Result<(usize, bool), Fail> {
+    let bytes = bytes_of(alloc, slots)?;
+    let program = decode(alloc, bytes.as_slice())?;
     let encoded = encode(alloc, &program)?;
-    Ok((program.len(), encoded.as_slice() == bytes))
+    Ok((program.len(), encoded.as_slice() == bytes.as_slice()))
 }
 
 /// Emits the first 8 bytes of a block whose first byte is 7.
-const FILTER: [u8; 56] = [
-    0x71, 0x26, 0, 0, 0, 0, 0, 0, 0x55, 0x06, 3, 0, 7, 0, 0, 0, 0xbf, 0x21, 0, 0, 0, 0, 0, 0, 0xb7,
-    0x02, 0, 0, 8, 0, 0, 0, 0x85, 0, 0, 0, 1, 0, 0, 0, 0xb7, 0, 0, 0, 0, 0, 0, 0, 0x95, 0, 0, 0, 0,
-    0, 0, 0,
+const FILTER: [u64; 7] = [
+    0x7126_0000_0000_0000, // ldxb r6, [r2+0]
+    0x5506_0300_0700_0000, // jne r6, 7, +3
+    0xbf21_0000_0000_0000, // mov r1, r2
+    0xb702_0000_0800_0000, // mov r2, 8
+    0x8500_0000_0100_0000, // call 1
+    0xb700_0000_0000_0000, // mov r0, 0
+    0x9500_0000_0000_0000, // exit
 ];
 
 /// Reads a byte at an offset that it masks first.
-const MASKED: [u8; 48] = [
-    0x69, 0x26, 0, 0, 0, 0, 0, 0, 0x57, 0x06, 0, 0, 0xff, 1, 0, 0, 0x0f, 0x62, 0, 0, 0, 0, 0, 0,
-    0x71, 0x20, 0, 0, 0, 0, 0, 0, 0xb7, 0, 0, 0, 0, 0, 0, 0, 0x95, 0, 0, 0, 0, 0, 0, 0,
+const MASKED: [u64; 6] = [
+    0x6926_0000_0000_0000, // ldxh r6, [r2+0]
+    0x5706_0000_ff01_0000, // and r6, 511
+    0x0f62_0000_0000_0000, // add r2, r6
+    0x7120_0000_0000_0000, // ldxb r0, [r2+0]
+    0xb700_0000_0000_0000, // mov r0, 0
+    0x9500_0000_0000_0000, // exit
 ];
 
 /// Sums the first bytes of blocks, up to the third.
-const SUM: [u8; 72] = [
-    0x71, 0x24, 0, 0, 0, 0, 0, 0, 0x79, 0x35, 0, 0, 0, 0, 0, 0, 0x0f, 0x45, 0, 0, 0, 0, 0, 0, 0x7b,
-    0x53, 0, 0, 0, 0, 0, 0, 0x61, 0x16, 8, 0, 0, 0, 0, 0, 0xb7, 0, 0, 0, 0, 0, 0, 0, 0x55, 0x06, 1,
-    0, 2, 0, 0, 0, 0xb7, 0, 0, 0, 1, 0, 0, 0, 0x95, 0, 0, 0, 0, 0, 0, 0,
+const SUM: [u64; 9] = [
+    0x7124_0000_0000_0000, // ldxb r4, [r2+0]
+    0x7935_0000_0000_0000, // ldxdw r5, [r3+0]
+    0x0f45_0000_0000_0000, // add r5, r4
+    0x7b53_0000_0000_0000, // stxdw [r3+0], r5
+    0x6116_0800_0000_0000, // ldxw r6, [r1+8]
+    0xb700_0000_0000_0000, // mov r0, 0
+    0x5506_0100_0200_0000, // jne r6, 2, +1
+    0xb700_0000_0100_0000, // mov r0, 1
+    0x9500_0000_0000_0000, // exit
 ];
 
-/// `mov r0, 0`, `exit`.
-const NOTHING: [u8; 16] = [0xb7, 0, 0, 0, 0, 0, 0, 0, 0x95, 0, 0, 0, 0, 0, 0, 0];
+/// Emits nothing.
+const NOTHING: [u64; 2] = [
+    0xb700_0000_0000_0000, // mov r0, 0
+    0x9500_0000_0000_0000, // exit
+];
 
 /// A jump over a wide instruction to its second slot: decoding takes no offence.
-const INTO_WIDE: [u8; 32] = [
-    0x05, 0, 1, 0, 0, 0, 0, 0, 0x18, 0x01, 0, 0, 0, 0, 0, 0, 0, 0, 0, 0, 0, 0, 0, 0, 0x95, 0, 0, 0,
-    0, 0, 0, 0,
+const INTO_WIDE: [u64; 4] = [
+    0x0500_0100_0000_0000, // ja +1
+    0x1801_0000_0000_0000, // lddw r1, 0
+    0x0000_0000_0000_0000, // its second slot
+    0x9500_0000_0000_0000, // exit
 ];
 
 #[test]

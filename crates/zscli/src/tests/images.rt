@@ -113,6 +113,7 @@ const LEFT: &[Act] = &[
         "",
         "cannot read missing: no such file or folder\n",
     ),
+    Act::Has("image", EMPTY_IMAGE),
 ];
 
 /// The zone is lost whose line isn't printed, and no later one.
