@@ -34,11 +34,14 @@ const STATUS: usize = 14;
 /// The most bytes that the filter emits for a block.
 const LIMIT: u32 = 66;
 
-/// The nanoseconds of a run's admission and of its turns, and its completion.
+/// What a whole run took, and what it came to.
 #[derive(Clone, Copy)]
 pub struct WholeRun {
+    /// The nanoseconds of its admission.
     pub admission: u128,
+    /// The nanoseconds of all its turns.
     pub turns: u128,
+    /// The bytes of its completion (NVMe Base 2.0, 3.3.3.2).
     pub completion: [u8; 16],
 }
 

@@ -81,6 +81,7 @@ int main(void) {
   printf("//! What gcc makes of the operations, printed by `vectors/words.c`.\n\n");
   printf("use crate::word::Arithmetic;\n");
   printf("use instruction_set::{Operation, Relation, SignExtension, Swap, SwapSize, Width};\n\n");
+  printf("/// The number of pairs.\n");
   printf("pub const COUNT: usize = %zu;\n\n", N);
   printf("/// The words of the destination and the source.\n");
   printf("pub const PAIRS: [(u64, u64); COUNT] = [\n");

@@ -3,6 +3,7 @@
 use crate::word::Arithmetic;
 use instruction_set::{Operation, Relation, SignExtension, Swap, SwapSize, Width};
 
+/// The number of pairs.
 pub const COUNT: usize = 12;
 
 /// The words of the destination and the source.

@@ -12,22 +12,31 @@ use zns_commands::{
 };
 use zone_state::{Action, ZoneState};
 
+/// The bytes of a block.
 pub const BLOCK: usize = 512;
 
+/// The command is done.
 pub const OK: Status = Status::SUCCESS;
 
+/// No block is written.
 pub const EMPTY: ZoneState = ZoneState::Empty;
 
+/// A write opened the zone.
 pub const IMPLICIT: ZoneState = ZoneState::ImplicitlyOpened;
 
+/// A command opened it.
 pub const EXPLICIT: ZoneState = ZoneState::ExplicitlyOpened;
 
+/// It is active, and not open.
 pub const CLOSED: ZoneState = ZoneState::Closed;
 
+/// It can only be read.
 pub const READ_ONLY: ZoneState = ZoneState::ReadOnly;
 
+/// Nothing more can be written to it.
 pub const FULL: ZoneState = ZoneState::Full;
 
+/// Its blocks are lost.
 pub const OFFLINE: ZoneState = ZoneState::Offline;
 
 /// The words of 8 bytes that a descriptor begins with, of which the other four are zeros.
