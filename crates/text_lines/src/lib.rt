@@ -2,15 +2,15 @@
 //! the numbers that words spell, and the beginning of a text that a sentence shows.
 #![tactic(auto)]
 
+mod cutting;
 mod excerpt;
 pub mod laws;
 mod lines;
 mod number;
-mod parts;
 #[cfg(test)]
 mod tests;
 
+pub use cutting::{cut, trim, trim_start, word};
 pub use excerpt::Excerpt;
 pub use lines::{first_line, is_all_ascii, line_behind, without_comment};
 pub use number::decimal;
-pub use parts::{cut, trim, trim_start, word};

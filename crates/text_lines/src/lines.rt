@@ -6,7 +6,7 @@ ghost use Rattle.std.specs.Char.{is_ascii};
 ghost use Rattle.std.specs.Str.Lines.{lines as text_lines, strip_carriage_return};
 ghost use Rattle.text_lines.specs.Cut.{uncommented};
 
-use crate::parts::cut;
+use crate::cutting::cut;
 
 /// The first line of a text without the `\n` or `\r\n` that ends it, and the text behind it.
 pub fn first_line(text: &[u8]) -> (&[u8], &[u8])

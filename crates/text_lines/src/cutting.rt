@@ -1,4 +1,4 @@
-//! The parts of a line. Spaces and tabs are its blanks.
+//! Where a text is cut: at a byte, behind its first word, and at the blanks of its ends. Blanks are spaces and tabs.
 
 ghost use Rattle.std.specs.Prelude.{◌≡◌, ◌<◌, ◌==◌, length, position, option_map, IfSome, drop};
 ghost use Rattle.std.specs.List.{position_or_len, before_first};

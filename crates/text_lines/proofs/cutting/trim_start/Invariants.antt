@@ -1,6 +1,6 @@
 use Rattle.std.proofs.Common.{◌≡◌, length}
 use Rattle.text_lines.specs.Cut.{without_first_blanks}
-use Rattle.text_lines.proofs.parts.trim_start.Given as goal
+use Rattle.text_lines.proofs.cutting.trim_start.Given as goal
 
 abbrev pub invariant-loop-inside : goal.invariant-loop-inside
 invariant-loop-inside l = without_first_blanks l.inside ≡ without_first_blanks l.text
