@@ -1,7 +1,7 @@
 //! The checked eBPF machine: it runs programs as they are meant to run.
 #![tactic(auto)]
 
+mod accesses;
 mod machine;
-mod memory;
 
 pub use machine::{Exit, Flow, Machine, Step};

@@ -2,8 +2,8 @@
 
 ghost use Rattle.std.specs.Prelude.{◌≡◌, ◌++◌, replicate, drop};
 
+use crate::accesses::write_frame;
 use crate::machine::Machine;
-use crate::memory::write_frame;
 use instruction_set::Register;
 use program_interface::{CLEARED_REGISTERS, FRAME_LENGTH_BYTES, REGISTERS};
 use program_meaning::{AreaOffset, Cause};
