@@ -5,6 +5,7 @@ use image_store::{
     ZoneRowFault,
 };
 use std::alloc::{AllocError, Global};
+use std::process::Abort;
 use std::test::Fail;
 use zone_state::ZoneState;
 
@@ -249,20 +250,21 @@ fn the_first_fault_decides(rt: HostRuntime) -> Result<(), Fail> {
     Ok(())
 }
 
-#[test]
-fn a_text_cut_short_is_truncated(rt: HostRuntime) -> Result<(), Fail> {
-    let mut text = written(rt.alloc())?;
+/// A text is cut short wherever it is cut, loads whole, and trails with one byte more.
+fn check_one_length(rt: &impl Abort, alloc: Global, mut text: Vec<u8>) -> Result<(), Fail> {
     for length in 0..text.len() {
         assert_eq!(rt;
-            fault_of_front(rt.alloc(), text.as_slice(), length),
+            fault_of_front(alloc, text.as_slice(), length),
             Some(LoadFault::Truncated)
         );
     }
-    assert_eq!(rt; fault_of(rt.alloc(), text.as_slice()), None);
+    assert_eq!(rt; fault_of(alloc, text.as_slice()), None);
     text.push(0)?;
-    assert_eq!(rt;
-        fault_of(rt.alloc(), text.as_slice()),
-        Some(LoadFault::Trailing)
-    );
+    assert_eq!(rt; fault_of(alloc, text.as_slice()), Some(LoadFault::Trailing));
     Ok(())
+}
+
+#[test]
+fn an_image_has_one_length(rt: HostRuntime) -> Result<(), Fail> {
+    check_one_length(&rt, rt.alloc(), written(rt.alloc())?)
 }

@@ -1,6 +1,6 @@
 //! Images of version 1, what is saved of them, and the limits of either version.
 
-use super::{bad_header, changed, fault_of, fault_of_front, written};
+use super::{bad_header, changed, check_one_length, fault_of, fault_of_front, written};
 use image_store::{
     Buffer, Geometry, GeometryRefusal, HeaderFault, Image, Limits, LoadFault, Version,
 };
@@ -45,19 +45,7 @@ fn an_image_of_version_1_is_saved_as_one_of_version_2(rt: HostRuntime) -> Result
 
 #[test]
 fn an_image_of_version_1_has_one_length(rt: HostRuntime) -> Result<(), Fail> {
-    let mut old = of_version_1(rt.alloc())?;
-    for length in 0..old.len() {
-        assert_eq!(rt;
-            fault_of_front(rt.alloc(), old.as_slice(), length),
-            Some(LoadFault::Truncated)
-        );
-    }
-    old.push(0)?;
-    assert_eq!(rt;
-        fault_of(rt.alloc(), old.as_slice()),
-        Some(LoadFault::Trailing)
-    );
-    Ok(())
+    check_one_length(&rt, rt.alloc(), of_version_1(rt.alloc())?)
 }
 
 #[test]
