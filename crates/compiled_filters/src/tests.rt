@@ -20,7 +20,7 @@ fn sizes(limit: u32) -> Result<RunSizes, Fail>
         return Err(Fail::from("no block size"));
     };
     let Some(sizes) = RunSizes::new(block, limit) else {
-        return Err(Fail::from("a group that doesn't fit a block"));
+        return Err(Fail::from("a group that fits no block"));
     };
     Ok(sizes)
 }

@@ -75,7 +75,7 @@ fn check(rt: &impl Abort, alloc: Global, filter: &Filter) -> Result<(), Fail> {
     let bytes = hex::decode(alloc, filter.program)?;
     let verdict = verify::<Intervals>(alloc, decode(alloc, &bytes)?, sizes(filter.emit)?);
     let Err(VerifyFault::Refused(refusal)) = verdict else {
-        return Err(Fail::from("a filter isn't refused"));
+        return Err(Fail::from("a filter that is not refused"));
     };
     let said = (refusal.slot, refusal.reason.number());
     assert_eq!(rt; said, filter.refusal, "{}", filter.name);
