@@ -24,9 +24,9 @@ if ! echo "$symbols" | grep -q ' F \.text'; then
     refuse "has its function in another section than .text"
 fi
 if llvm-objdump -r "$object" | grep -q R_BPF; then
-    refuse "uses data or a function that isn't in the program, as a global variable, a table or a string: \
+    refuse "uses data or a function that is not in the program, as a global variable, a table or a string: \
 put it into the block, the stack or scratch, or write its values as numbers in the code"
 fi
 if llvm-objdump -d "$object" | grep -q 'goto[l]* -'; then
-    refuse "has a loop that clang didn't unroll: write its steps by STEPS_8 or another of pifnjarl.h"
+    refuse "has a loop that clang did not unroll: write its steps by STEPS_8 or another of pifnjarl.h"
 fi

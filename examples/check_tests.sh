@@ -19,7 +19,7 @@ compare() {
         case $tests in
         *"$field:\"$digits\""*) ;;
         *)
-            echo "the $field of $(basename "$program" .bin) isn't in the tests:"
+            echo "the $field of $(basename "$program" .bin) is not in the tests:"
             echo "$digits" | fold -w 100
             status=1
             ;;
