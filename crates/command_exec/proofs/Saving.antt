@@ -10,7 +10,7 @@ use Rattle.device_events.specs.Replies.{Joins, ReplyWithData}
 use Rattle.device_events.proofs.Proved.{prints_in_parts}
 use Rattle.pushdown.specs.Draining.{HasDrained, StopsDraining}
 use Rattle.pushdown.specs.Events.{HasServed, HasStopped}
-use Rattle.pushdown.specs.Parts.{HasFinished}
+use Rattle.pushdown.specs.JoinedEvents.{HasFinished}
 use Rattle.pushdown.specs.State.{State, new_state}
 use Rattle.device_events.specs.declared.event.Event.{Event}
 use Rattle.pushdown.proofs.Proved.{served_and_drained}

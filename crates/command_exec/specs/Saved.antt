@@ -8,7 +8,7 @@ use Rattle.interval_domain.specs.Intervals.{intervals}
 use Rattle.device_events.specs.Replies.{ReplyWithData}
 use Rattle.pushdown.specs.Draining.{StopsDraining}
 use Rattle.pushdown.specs.Events.{HasServed, HasStopped}
-use Rattle.pushdown.specs.Parts.{HasFinished}
+use Rattle.pushdown.specs.JoinedEvents.{HasFinished}
 use Rattle.pushdown.specs.State.{State, new_state}
 use Rattle.device_events.specs.declared.event.Event.{Event}
 use Rattle.event_text.specs.CommandFile.{events_in, told_of}

@@ -2,7 +2,7 @@
 
 ghost use Rattle.std.specs.Prelude.{◌≡◌, ◌≢◌, ◌≤◌, ◌<◌, ◌+◌, ◌^◌, length, OnOk, OnErr, IfErr};
 ghost use Rattle.interval_domain.specs.Intervals.{intervals};
-ghost use Rattle.pushdown.specs.Parts.{HasFinished};
+ghost use Rattle.pushdown.specs.JoinedEvents.{HasFinished};
 ghost use Rattle.command_files.specs.Arguments.{value_of};
 ghost use Rattle.command_files.specs.Made.{MakesOne};
 ghost use Rattle.command_exec.specs.Saved.{Executes, ExecutesFirst, HasBegun, HasPrinted, SavesAll, SavesFirst};

@@ -20,7 +20,7 @@ abbrev pub slot_count : List Line → ℕ
 slot_count [] = 0
 slot_count (line ∷ rest) = slots_in line + slot_count rest
 
--- labels, each with the slot of the next instruction, from the slot at which these lines begin
+-- a label, if there is one, with the slot of the next instruction
 abbrev pub label_at : ℕ → Option (List ℕ) → List (List ℕ × ℕ)
 label_at slot None = []
 label_at slot (Some name) = (name, slot) ∷ []
@@ -42,12 +42,13 @@ slot_named labels name = lookup (λ label. bytes_eq label name) labels
 abbrev pub label_map : List Line → LabelMap
 label_map all name = slot_named (labels_from 0 all) name
 
--- what is wrong with a line, apart from where its jump leads: its label is an earlier line's, or it can't be read, or its instruction ends behind slot 4095
+-- what is wrong with the instruction of a line, apart from where it jumps: it can't be read, or ends behind the last slot that
+-- a program may have
 abbrev pub instruction_fault : ℕ → Result (Option Instruction) FaultKind → Option FaultKind
 instruction_fault slots (Err kind) = Some kind
 instruction_fault slots (Ok instruction) = if nat_lt MOST_SLOTS (slots + slots_of_instruction (Ok instruction)) then Some TooLong else None
 
--- the fault of a line: that its label stands twice, or that of its instruction
+-- the fault of a line, apart from where its instruction jumps: that its label is an earlier line's, or that of its instruction
 abbrev pub line_fault : Bool → ℕ → Result (Option Instruction) FaultKind → Option FaultKind
 line_fault twice slots instruction = if twice then Some LabelTwice else instruction_fault slots instruction
 

@@ -17,7 +17,7 @@ use Rattle.text_lines.specs.Cut.{is_blank_byte, trimmed}
 unfoldable pub operands_of : List ℕ → List (List ℕ)
 operands_of text = map trimmed (slice_split (λ byte. byte == 44) text)
 
--- just so many operands
+-- the operands of a mnemonic that takes none
 unfoldable pub none_of : List (List ℕ) → Result (Option ℕ) FaultKind
 none_of ([] ∷ []) = Ok None
 none_of _ = Err Operand

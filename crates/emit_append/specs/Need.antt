@@ -9,7 +9,7 @@ use Rattle.emit_append.specs.Packing.{packed}
 abbrev pub need : ℕ → Sizes → ℕ
 need groups sizes = if sizes.limit == 0 then 0 else div_ceil groups (sizes.block / sizes.limit)
 
--- No packing needs more.
+-- No packing of groups within the limit, which is at most a block, needs more.
 abbrev pub NeedIsEnough : Type 0
 NeedIsEnough =
     (sizes : Sizes) (groups : List (List ℕ)) → sizes.limit ≤ sizes.block → AllByRecursion (λ group. length group ≤ sizes.limit) groups →

@@ -72,7 +72,7 @@ abbrev pub byte_told : UnpackFault → Option ℕ
 byte_told (At byte) = Some byte
 byte_told Memory = None
 
--- What is packed of groups that hold frames reads back as the records of all of them, in order.
+-- What is packed of groups of frames, each of which fits into a block, reads back as the records of all of them, in order.
 abbrev pub PackedFramesReadBack : Type 0
 PackedFramesReadBack =
     (block : ℕ) (groups : List (List (List ℕ))) → 0 < block → block < 2 ^ 16 →

@@ -7,8 +7,9 @@ ghost use Rattle.emit_append.specs.OutputBlocks.{OutputBlocksAreBytes, OutputBlo
 ghost use Rattle.emit_append.specs.PackedLaw.{PackedAsDescribed};
 ghost use Rattle.emit_append.specs.Packer.{LendingIsFinishing, LendingIsPutting, PuttingIsPacking};
 
-/// The groups that have bytes stand in the blocks whole and in order, at least one in each, the
-/// rest of a block is zeros and shorter than the next group. This holds of the packing alone.
+/// Where each group fits into a block, the groups that have bytes stand in the blocks whole and in order, at
+/// least one in each, the rest of a block is zeros and shorter than the next group. This holds of the packing
+/// alone.
 pub fn packed_as_described()
     ensures { PackedAsDescribed }
 {}
@@ -36,7 +37,7 @@ pub fn putting_is_packing()
     ensures { PuttingIsPacking }
 {}
 
-/// A caller that adds a group where there is room, and else takes the pending block with its zeros,
+/// A caller that adds a group, which fits into a block, where there is room, and else takes the pending block with its zeros,
 /// clears the packer and adds the group then, has put it: the blocks and the packer are those of
 /// putting.
 pub fn lending_is_putting()
@@ -48,7 +49,7 @@ pub fn lending_is_finishing()
     ensures { LendingIsFinishing }
 {}
 
-/// No packing of groups has more blocks than `blocks_needed` tells.
+/// No packing of groups within the limit, which is at most a block, has more blocks than `blocks_needed` tells.
 pub fn need_is_enough()
     ensures { NeedIsEnough }
 {}
@@ -63,7 +64,8 @@ pub fn need_grows()
     ensures { NeedGrows }
 {}
 
-/// What is packed of groups of frames reads back as the records of all of them, in order.
+/// What is packed of groups of frames, each of which fits into a block, reads back as the records of all of
+/// them, in order.
 pub fn packed_frames_read_back()
     ensures { PackedFramesReadBack }
 {}

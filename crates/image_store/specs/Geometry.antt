@@ -68,6 +68,6 @@ pub record IsShape (s : Shape) : Type 0 where
 abbrev pub zone_block_at : ℕ → ℕ → ZoneBlock
 zone_block_at size lba = record { zone = lba / size; offset = lba % size }
 
--- these of a logical block that the shape has
+-- the zone and the offset of a logical block, where the shape has that block
 abbrev pub zone_block_of : Shape → ℕ → Option ZoneBlock
 zone_block_of s lba = if nat_lt lba (s.zones * s.size) then Some (zone_block_at s.size lba) else None

@@ -8,7 +8,7 @@ use Rattle.image_store.specs.declared.geometry.GeometryFault.TheVariants as faul
 use Rattle.image_store.specs.declared.refusal.GeometryRefusal.{GeometryRefusal}
 use Rattle.image_store.specs.declared.refusal.GeometryRefusal.TheVariants.{BlockSize, ZoneCount, ZoneSize, ZoneCapacity, ResourceLimits, TooLarge}
 
--- those of the numbers that have a fault
+-- a fault with those of the numbers of a shape that have it
 abbrev pub geometry_refusal_of : GeometryFault → Shape → GeometryRefusal
 geometry_refusal_of faults.BlockSize s = BlockSize s.block
 geometry_refusal_of faults.ZoneCount s = ZoneCount s.zones
@@ -17,11 +17,11 @@ geometry_refusal_of faults.ZoneCapacity s = ZoneCapacity s.capacity s.size
 geometry_refusal_of faults.ResourceLimits s = ResourceLimits s.limits.open_limit s.limits.active_limit s.zones
 geometry_refusal_of faults.TooLarge s = TooLarge s.zones s.capacity s.block
 
--- the shape, or those of its numbers that have the fault of the first test that it fails
+-- the shape, or the fault of the first test that it fails, with the numbers that have it
 abbrev pub tested : Shape → Result Shape GeometryRefusal
 tested s = unless_failed (option_map (λ fault. geometry_refusal_of fault s) (first_failed (shape_checks s))) s
 
--- the fault that they have
+-- the fault without these numbers
 abbrev pub fault_of : GeometryRefusal → GeometryFault
 fault_of (BlockSize bytes) = faults.BlockSize
 fault_of (ZoneCount zones) = faults.ZoneCount

@@ -33,7 +33,8 @@ pub fn texts_have_one_length()
     ensures longer { LongerTextsAreTrailing }
 {}
 
-/// A text is tested from its front: what stands behind the fault that it is refused with changes nothing of that.
+/// A text is tested from its front: what stands behind the fault that it is refused with, unless that is one of its
+/// end, changes nothing of that.
 pub fn faults_are_by_prefix()
     ensures { FaultsAreByPrefix }
 {}

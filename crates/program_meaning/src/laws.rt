@@ -2,7 +2,7 @@
 
 ghost use Rattle.program_meaning.specs.Laws.{AccessIsMapped, ChangesOnly, EmitsFromMap, EndsInRun, KeepsReadOnly, LoadsFromMap, StoresIntoMap, StuckByLeast};
 
-/// Bytes lie in one area exactly where each of them is in the map from addresses to bytes.
+/// Bytes, at least one, lie in one area exactly where each of them is in the map from addresses to bytes.
 pub fn access_is_mapped()
     ensures { AccessIsMapped }
 {}
@@ -39,8 +39,8 @@ pub fn emits_from_map()
     ensures { EmitsFromMap }
 {}
 
-/// The state in which a block run ends, however it ends, is a state again, and its group is bytes that
-/// are as many whole frames as it counts, within the limit.
+/// A block run that starts in a state whose group is bytes that are as many whole frames as it counts,
+/// within the limit, ends in such a state, however it ends.
 pub fn ends_in_run()
     ensures { EndsInRun }
 {}

@@ -14,13 +14,12 @@ mod ExampleRuns
 mod Examples
 mod FewBlocks
 mod Headline
+mod JoinedEvents
 mod KeptForRuns
 mod Lasting
 mod Loads
-mod Memory
 mod OthersEvents
 mod Outcomes
-mod Parts
 mod Pending
 mod Places
 pub mod Proved
@@ -36,3 +35,4 @@ mod States
 mod TurnsDone
 mod TurnsFit
 mod Views
+mod WantOfMemory

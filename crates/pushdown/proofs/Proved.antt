@@ -4,8 +4,8 @@ use Rattle.word_domain.specs.Domain.{Operations}
 use Rattle.accepted_programs.specs.Laws.{AcceptedNeverTraps}
 use Rattle.device_events.specs.Replies.{Joins, ReplyWithData}
 use Rattle.pushdown.specs.AnyOrder.{TurnsInAnyOrder}
+use Rattle.pushdown.specs.JoinedEvents.{DrainedByTurns, EventsJoin, InParts, ServedAndDrained}
 use Rattle.pushdown.specs.Laws.{BlocksLeaveOthers, DrainingEnds, EventsKeepForRuns, OnlyLoadsChangeSlots, RefusedLeavesState, RestEnds, RestGoesOn, RestIsFew, RoomIsOpen, RoomStays, StatesAreSound, TurnsLeaveFewer}
-use Rattle.pushdown.specs.Parts.{DrainedByTurns, EventsJoin, InParts, ServedAndDrained}
 use Rattle.pushdown.specs.Pushdown.{Pushdown}
 use Rattle.pushdown.specs.ReadBack.{AppendedBlocksReadBack, AppendedByRunsReadsBack, ResultsReadBack, WrittenBlocksReadBack}
 use Rattle.pushdown.specs.Reached.{EventsKeepReached, NewIsReached, TurnsKeepReached}
@@ -15,8 +15,8 @@ use Rattle.pushdown.proofs.Answered as answered
 use Rattle.pushdown.proofs.AnyOrder as any_order
 use Rattle.pushdown.proofs.Drained as drained
 use Rattle.pushdown.proofs.Headline as headline
+use Rattle.pushdown.proofs.JoinedEvents as joined
 use Rattle.pushdown.proofs.KeptForRuns as kept
-use Rattle.pushdown.proofs.Parts as parts
 use Rattle.pushdown.proofs.Reached as reached
 use Rattle.pushdown.proofs.ReadBack as read_back
 use Rattle.pushdown.proofs.Rests as rests
@@ -51,7 +51,7 @@ pub room_stays : RoomStays
 room_stays = fitting.room_stays
 
 pub events_join : EventsJoin
-events_join = parts.events_join
+events_join = joined.events_join
 
 module _ {D : Type 0} (operations : Operations D) where
   pub new_is_reached : NewIsReached operations
@@ -64,13 +64,13 @@ module _ {D : Type 0} (operations : Operations D) where
   turns_keep_reached = reached.turns_keep_reached operations
 
   pub in_parts : InParts operations
-  in_parts = parts.in_parts operations
+  in_parts = joined.in_parts operations
 
   pub drained_by_turns : DrainedByTurns operations
-  drained_by_turns = parts.drained_by_turns operations
+  drained_by_turns = joined.drained_by_turns operations
 
   pub served_and_drained : {T : Type 0} (took : T → T → List ReplyWithData → Type 0) → Joins took → ServedAndDrained operations took
-  served_and_drained = parts.served_and_drained operations
+  served_and_drained = joined.served_and_drained operations
 
   pub events_keep_for_runs : EventsKeepForRuns operations
   events_keep_for_runs = kept.events_keep_for_runs operations

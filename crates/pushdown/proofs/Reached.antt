@@ -2,10 +2,10 @@
 use Rattle.std.proofs.Common.{ℕ, List, [], ◌∷◌, ◌++◌, refl, ap, sym, subst, ◌∙◌}
 use Rattle.word_domain.specs.Domain.{Operations}
 use Rattle.pushdown.specs.Events.{AreEvents, state_after}
-use Rattle.pushdown.specs.Parts.{turn_events}
+use Rattle.pushdown.specs.JoinedEvents.{turn_events}
 use Rattle.pushdown.specs.Reached.{EventsKeepReached, IsReached, NewIsReached, TurnsKeepReached}
 use Rattle.pushdown.specs.State.{new_state}
-use Rattle.pushdown.proofs.Parts.{drained_by_turns, events_join, in_parts}
+use Rattle.pushdown.proofs.JoinedEvents.{drained_by_turns, events_join, in_parts}
 
 turns_are : (runs : List ℕ) → AreEvents (turn_events runs)
 turns_are [] = tt

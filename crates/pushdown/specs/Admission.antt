@@ -29,7 +29,7 @@ abbrev pub program_in : Option Loaded → List (Option Instruction)
 program_in None = []
 program_in (Some loaded) = loaded.program
 
--- the most bytes that it may emit for a block; none where the slot has none
+-- the most bytes that it may emit for a block; 0 where the slot has none
 abbrev pub limit_in : Option Loaded → ℕ
 limit_in None = 0
 limit_in (Some loaded) = loaded.limit
@@ -44,7 +44,7 @@ pub record SameProgram (before after : Option Loaded) : Type 0 where
 abbrev pub sizes_in : ZonedNamespace → Option Loaded → Sizes
 sizes_in ns slot = record { block = ns.block; limit = limit_in slot }
 
--- the zones that a run reads from and appends to
+-- the zone that a run reads from
 abbrev pub source_zone : ZonedNamespace → RunCommand → ℕ
 source_zone ns command = zone_number ns command.lba
 

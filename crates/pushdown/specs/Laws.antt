@@ -68,8 +68,7 @@ RestGoesOn =
     goes_on run.end ≡ true
     → rest task so_far (bytes ∷ more ∷ blocks) ≡ next_turn task so_far run ∷ rest task (further task so_far run) (more ∷ blocks)
 
--- the rest of a run that ends is its last turn alone: after the first block run after which it doesn't go
--- on, or after the last source block
+-- a run ends with a block: it doesn't go on after the block run over it, or no source block is left behind it
 abbrev pub Ends : Task → Progress → List ℕ → List (List ℕ) → Type 0
 Ends task so_far bytes blocks = (goes_on (block_run task so_far.index so_far.scratch bytes).end ≡ false) ⊎ (blocks ≡ [])
 

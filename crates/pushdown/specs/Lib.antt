@@ -7,10 +7,10 @@ pub mod Happenings
 pub mod Draining
 pub mod Events
 pub mod Reached
-pub mod Memory
+pub mod WantOfMemory
 pub mod Pushdown
 pub mod AnyOrder
-pub mod Parts
+pub mod JoinedEvents
 pub mod View
 pub mod Laws
 pub mod ReadBack

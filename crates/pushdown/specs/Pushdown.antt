@@ -91,7 +91,7 @@ module _ {D : Type 0} (operations : Operations D) where
     abbrev pub submission : Submission
     submission = record { queue = queue; entry = entry; input = input.items }
 
-    -- what is fixed at admission: the program and the source blocks, and so the block runs and the turns
+    -- what is fixed at admission: what the run is about, which with the source blocks decides its block runs and its turns
     abbrev pub task : Task
     task = task_of s.namespace (program_at s command.slot) command
 
@@ -103,7 +103,7 @@ module _ {D : Type 0} (operations : Operations D) where
     abbrev pub place : Place
     place = admitted_place submission s command
 
-    -- the state that the Run and the events leave, and how many of these are the run's own turns
+    -- the state that the Run and the events leave
     abbrev pub now : State
     now = state_after operations (record { event = event.Submit queue entry input; starved = starved } ∷ events) s
 
@@ -111,11 +111,11 @@ module _ {D : Type 0} (operations : Operations D) where
     abbrev pub done : ℕ
     done = own_turns run events
 
-    -- the next turn of the run, and what it comes to
+    -- the next turn of the run
     abbrev pub turn : Turn
     turn = get_or place.turns done no_turn
 
-    -- what its next turn comes to
+    -- what that turn comes to
     abbrev pub next : Happening
     next = turned now run
 

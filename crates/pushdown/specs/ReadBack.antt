@@ -93,8 +93,7 @@ module _ {D : Type 0} (operations : Operations D) where
   -- an admitted Run, the events between it and a turn of it, and events after that turn
   module _ (s : State) (queue : ℕ) (entry : List ℕ) (input : Vec ℕ Global) (starved : Bool) (command : RunCommand) (run : ℕ)
       (events later : List Occurrence) where
-    -- as the theorem has them: the zone that it appends to, the turns that are fixed at its admission, and how
-    -- many of them came before that turn
+    -- the zone that it appends to, as the theorem has it
     abbrev pub destination : ℕ
     destination = (place operations s queue entry input starved command run events).destination
 
@@ -155,7 +154,7 @@ UnclearedZonesKeepBlocks operations =
     (s : State) (events : List Occurrence) (z : ℕ) → NoEventClears operations z events s
     → Grows (blocks_at s z) (blocks_at (state_after operations events s) z)
 
--- what is written in a zone is read
+-- a Read of written blocks of a zone, no more than a transfer may be, gives them
 abbrev pub WrittenIsRead : {D : Type 0} → Operations D → Type 0
 WrittenIsRead operations =
     (s : State) (z at blocks : ℕ) → IsNamespace s.namespace

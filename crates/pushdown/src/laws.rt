@@ -2,8 +2,8 @@
 
 ghost use Rattle.pushdown.specs.AnyOrder.{TurnsInAnyOrder};
 ghost use Rattle.pushdown.specs.Laws.{AdmittedStarts, BlocksLeaveOthers, DrainingEnds, EventsKeepForRuns, ForeignLeavesTurns, OnlyLoadsChangeSlots, OutcomeIsPacked, OutcomeUnpacks, PendingIsAdmitted, RefusedLeavesState, RestAtAdmission, RestEnds, RestGoesOn, RestIsFew, RoomIsOpen, RoomStays, StatesAreSound, TurnTakesFirst, TurnsLeaveFewer};
-ghost use Rattle.pushdown.specs.Memory.{OnlyLoadsWantMemory};
-ghost use Rattle.pushdown.specs.Parts.{DrainedByTurns, DrainedInOneWay, EventsJoin, InParts, OneReplyEach, ServedAndDrained, ServedInParts};
+ghost use Rattle.pushdown.specs.WantOfMemory.{OnlyLoadsWantMemory};
+ghost use Rattle.pushdown.specs.JoinedEvents.{DrainedByTurns, DrainedInOneWay, EventsJoin, InParts, OneReplyEach, ServedAndDrained, ServedInParts};
 ghost use Rattle.pushdown.specs.Pushdown.{Pushdown};
 ghost use Rattle.pushdown.specs.Reached.{EventsKeepReached, NewIsReached, TurnsKeepReached};
 ghost use Rattle.pushdown.specs.ReadBack.{AppendedBlocksReadBack, AppendedByRunsReadsBack, EventsKeepShapes, ResultsReadBack, UnclearedZonesKeepBlocks, WrittenBlocksReadBack, WrittenIsRead};
@@ -32,7 +32,8 @@ pub fn rest_is_few()
     ensures { RestIsFew }
 {}
 
-/// All that a run appends is the packing of its groups, and its completion tells their frames and blocks.
+/// Where each block run of a run ends by EXIT, all that the run appends is the packing of their groups, and its
+/// completion tells their frames and blocks.
 pub fn outcome_is_packed()
     ensures { OutcomeIsPacked }
 {}
@@ -188,13 +189,14 @@ pub fn uncleared_zones_keep_blocks<D: Domain>()
     ensures { UnclearedZonesKeepBlocks D.operations }
 {}
 
-/// What is written in a zone is read.
+/// A Read of written blocks of a zone, no more than a transfer may be, gives them, in every state with a sound
+/// namespace.
 pub fn written_is_read<D: Domain>()
     ensures { WrittenIsRead D.operations }
 {}
 
 /// The data of an Append that succeeds is what a Read of the assigned address gives, whatever events
-/// happen in between, until the zone is reset or goes offline.
+/// happen in between, until the zone is reset or goes offline. It holds in every state with a sound namespace.
 pub fn appended_blocks_read_back<D: Domain>()
     ensures { AppendedBlocksReadBack D.operations }
 {}

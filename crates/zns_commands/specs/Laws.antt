@@ -50,8 +50,8 @@ IsSpelled (Commanded holds (Send lba action select_all) input) = Unit {0}
 IsSpelled (Commanded holds (Receive lba dwords filter partial) input) = Unit {0}
 IsSpelled (Faulted holds zone fault) = Unit {0}
 
--- a namespace stays one, its open and active zones within the limits, whatever commands and faults come
--- (ZNS 1.1, 2.1.1)
+-- a namespace stays one, its open and active zones within the limits, whatever commands that entries can spell, and
+-- whatever faults, come (ZNS 1.1, 2.1.1)
 abbrev pub EventsKeepNamespaces : Type 0
 EventsKeepNamespaces = (events : List NamespaceEvent) (ns : ZonedNamespace) → IsNamespace ns → All IsSpelled events → IsNamespace (after_events events ns)
 
@@ -145,8 +145,9 @@ WrittenBlocksReadBack =
 abbrev pub descriptor_room : ℕ → ℕ
 descriptor_room dwords = (4 * dwords - 64) / 64
 
--- a report from any address on, with any filter and any room, tells of the zones that match, from the one that
--- contains the address on: their descriptors, in order and none left out, as many as there is room for
+-- a report from any address of the namespace on, with any filter and room for its header at least, tells of the zones
+-- that match, from the one that contains the address on: their descriptors, in order and none left out, as many as there
+-- is room for
 abbrev pub ReportsWhatMatches : Type 0
 ReportsWhatMatches =
     (ns : ZonedNamespace) (holds : Holds) (lba dwords : ℕ) (option : ZoneFilter) (partial : Bool)

@@ -6,9 +6,9 @@ ghost use Rattle.zns_commands.specs.Left.{ConsecutiveBlocksAreAPart, HeldDestina
 ghost use Rattle.zns_commands.specs.SelectAll.{SelectAllIsEachAlone, SelectAllIsRefusedByHoldsAndLimits, TakenZonesMove};
 ghost use Rattle.zns_commands.specs.Laws.{AddedBlocksAreAppended, AddedBlocksKeepNamespacesSound, AppendedBlocksReadBack, EachBlockIsRead, EmptyIsNamespace, EventsKeepNamespaces, JustOneCase, RefusedCommandsChangeNothing, ReportsEveryZone, ReportsWhatMatches, WrittenBlocksReadBack};
 
-/// A namespace stays one, whatever commands and faults come: its open and active zones are within the
-/// limits, each zone's state fits its written blocks, and each block is whole. One of which nothing is
-/// written is one.
+/// A namespace stays one, whatever commands that entries can spell, and whatever faults, come: its open and
+/// active zones are within the limits, each zone's state fits its written blocks, and each block is whole. One of
+/// which nothing is written is one.
 pub fn commands_keep_namespaces_sound()
     ensures kept { EventsKeepNamespaces }
     ensures start { EmptyIsNamespace }
@@ -53,8 +53,9 @@ pub fn written_blocks_read_back()
     ensures { WrittenBlocksReadBack }
 {}
 
-/// A report from any address on tells of the zones that match, in order, as many as there is room for. Partial reports of all
-/// zones, each from the first zone on that the one before left out, list every zone once, in order.
+/// A report from any address of the namespace on, with room for its header, tells of the zones that match, in order, as
+/// many as there is room for. Partial reports of all zones, each from the first zone on that the one before left out, list
+/// every zone once, in order, where together they have room for all.
 pub fn reports_list_every_zone()
     ensures matching { ReportsWhatMatches }
     ensures every { ReportsEveryZone }
@@ -88,7 +89,8 @@ pub fn consecutive_blocks_are_a_part()
 {}
 
 /// A Write, an Append or an action is refused on a zone that an active run appends to, and Reset and Offline on one
-/// that a run reads from, of one zone and of all: with Zone Held where its data and its address are right.
+/// that a run reads from, and so is Select All where it would take such a zone: with Zone Held where the data and the
+/// address are right.
 pub fn held_commands_are_refused()
     ensures { HeldCommandsAreRefused }
 {}

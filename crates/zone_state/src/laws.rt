@@ -22,7 +22,7 @@ pub fn offline_is_final()
     ensures { OfflineIsFinal }
 {}
 
-/// Two writes, one behind the other, leave the zone that one write of all their blocks leaves.
+/// Where a write fits, two writes of its blocks, one behind the other, fit too, and leave the zone that it leaves.
 pub fn writes_join()
     ensures { WritesJoin }
 {}

@@ -5,6 +5,7 @@ use Rattle.ebpf_asm.specs.declared.listing.Slots.{Slots}
 use Rattle.ebpf_asm.specs.declared.listing.Slots.TheVariants.{Without, With}
 use Rattle.ebpf_asm.specs.Listing.{line_text, line_with_slot, listing, listing_with_slots}
 
+-- the listing of a program, with its slots or without
 abbrev pub listed : Slots → List (Option Instruction) → List ℕ
 listed Without slots = listing slots
 listed With slots = listing_with_slots slots

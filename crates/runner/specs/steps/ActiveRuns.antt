@@ -22,7 +22,7 @@ new_active queue cid command source destination block = record {
   appended = 0;
 }
 
--- the zones that a run reads from and appends to
+-- the zone that a place's run reads from
 abbrev pub source_held : Option ActiveRun → Option ℕ
 source_held None = None
 source_held (Some a) = Some a.source.zone

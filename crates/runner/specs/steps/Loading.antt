@@ -20,13 +20,13 @@ abbrev pub uses_slot : ℕ → Option ActiveRun → Bool
 uses_slot slot None = false
 uses_slot slot (Some a) = a.command.slot == slot
 
--- they spell a program that is accepted, and kept with the sizes that it is accepted for
+-- these bytes spell a program that is accepted, and is kept with the sizes that it is accepted for
 pub record IsAccepted (bytes : List ℕ) (sizes : Sizes) (program : List (Option Instruction)) (kept : Sizes) : Type 0 where
   pub spelled : decoded_program bytes ≡ Ok program
   pub accepted : refusal intervals program sizes ≡ None
   pub kept_is : kept ≡ sizes
 
--- a Load of them that no check refuses is answered so, and changes nothing; memory may have been refused to it
+-- a Load of these bytes that no check refuses is answered so, and changes nothing; memory may have been refused to it
 pub record IsNotAccepted (bytes : List ℕ) (sizes : Sizes) (answer : Answer) : Type 0 where
   pub starved : Bool
   pub happening : (queue : ℕ) (entry : List ℕ) (s : State) (load : LoadCommand) → sizes_for s load ≡ sizes

@@ -1,4 +1,4 @@
-use Rattle.pushdown.proofs.Parts.{drained_by_turns}
+use Rattle.pushdown.proofs.JoinedEvents.{drained_by_turns}
 use Rattle.pushdown.proofs.laws.drained_by_turns.Goals as goal
 
 pub returns : goal.returns

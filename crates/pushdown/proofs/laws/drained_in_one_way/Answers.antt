@@ -1,4 +1,4 @@
-use Rattle.pushdown.proofs.Parts.{drained_in_one_way}
+use Rattle.pushdown.proofs.JoinedEvents.{drained_in_one_way}
 use Rattle.pushdown.proofs.laws.drained_in_one_way.Goals as goal
 
 pub returns : goal.returns

@@ -1,4 +1,4 @@
-use Rattle.pushdown.proofs.Parts.{events_join}
+use Rattle.pushdown.proofs.JoinedEvents.{events_join}
 use Rattle.pushdown.proofs.laws.events_join.Goals as goal
 
 pub returns : goal.returns

@@ -1,4 +1,4 @@
-use Rattle.pushdown.proofs.Parts.{in_parts}
+use Rattle.pushdown.proofs.JoinedEvents.{in_parts}
 use Rattle.pushdown.proofs.laws.in_parts.Goals as goal
 
 pub returns : goal.returns

@@ -1,4 +1,4 @@
-use Rattle.pushdown.proofs.Parts.{one_reply_each}
+use Rattle.pushdown.proofs.JoinedEvents.{one_reply_each}
 use Rattle.pushdown.proofs.laws.one_reply_each.Goals as goal
 
 pub returns : goal.returns

@@ -1,4 +1,4 @@
-use Rattle.pushdown.proofs.Memory.{only_loads_want_memory}
+use Rattle.pushdown.proofs.WantOfMemory.{only_loads_want_memory}
 use Rattle.pushdown.proofs.laws.only_loads_want_memory.Goals as goal
 
 pub returns : goal.returns

@@ -1,4 +1,4 @@
-use Rattle.pushdown.proofs.Parts.{served_and_drained}
+use Rattle.pushdown.proofs.JoinedEvents.{served_and_drained}
 use Rattle.pushdown.proofs.laws.served_and_drained.Goals as goal
 
 pub returns : goal.returns

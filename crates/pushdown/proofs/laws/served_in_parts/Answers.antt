@@ -1,4 +1,4 @@
-use Rattle.pushdown.proofs.Parts.{served_in_parts}
+use Rattle.pushdown.proofs.JoinedEvents.{served_in_parts}
 use Rattle.pushdown.proofs.laws.served_in_parts.Goals as goal
 
 pub returns : goal.returns

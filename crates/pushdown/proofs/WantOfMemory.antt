@@ -7,7 +7,7 @@ use Rattle.nvme_entry.specs.declared.command.Command.TheVariants as commands
 use Rattle.word_domain.specs.Domain.{Operations}
 use Rattle.pushdown.specs.EventReplies.{Submission}
 use Rattle.pushdown.specs.Happenings.{submitted}
-use Rattle.pushdown.specs.Memory.{OnlyLoadsWantMemory, is_load}
+use Rattle.pushdown.specs.WantOfMemory.{OnlyLoadsWantMemory, is_load}
 use Rattle.pushdown.specs.State.{State}
 use Rattle.device_events.specs.declared.event.Event.TheVariants as event
 

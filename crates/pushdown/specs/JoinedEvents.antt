@@ -1,4 +1,4 @@
--- Lists of events, in parts, and turns as events.
+-- Lists of events, one behind another, and turns as events.
 use Rattle.std.specs.Prelude.{ℕ, false, ◌≡◌, List, ◌++◌, length, map, None}
 use Rattle.word_domain.specs.Domain.{Operations}
 use Rattle.device_events.specs.Replies.{ReplyWithData}
