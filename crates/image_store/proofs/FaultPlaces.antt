@@ -21,10 +21,10 @@ use Rattle.image_store.specs.declared.version.Version.{Version}
 use Rattle.image_store.specs.declared.version.Version.TheVariants.{One, Two}
 use Rattle.image_store.specs.ImageInMemory.{zone_seen}
 use Rattle.image_store.specs.Geometry.{Shape}
-use Rattle.image_store.specs.Laws.{FaultsAreByPrefix, fault_end, zones_told}
+use Rattle.image_store.specs.Laws.{FaultsAreByPrefix, fault_end}
 use Rattle.image_store.specs.Namespace.{ZonedNamespace, namespace_with}
 use Rattle.program_interface.specs.Readings.{◌>>=◌}
-use Rattle.image_store.specs.Reading.{are_zeros, number_at, bytes_in, version_in, header_of, header_told, header_in, zone_told, zone_in, zones_in, total_kept, limits_kept, blocks_in, end_in, namespace_in}
+use Rattle.image_store.specs.Reading.{are_zeros, number_at, bytes_in, rows_end, shape_in, version_in, header_of, header_told, header_in, zone_told, zone_in, zones_in, total_kept, limits_kept, blocks_in, end_in, namespace_in}
 use Rattle.image_store.specs.Text.{written_blocks}
 use Rattle.image_store.specs.Version.{numbers_of_version}
 use Rattle.image_store.proofs.Faults.{header_of_fault, is_this, kept_fault}
@@ -251,7 +251,7 @@ short_rows h rest short =
 
 -- a total or limits that are wrong are found by all rows
 abbrev IsOfRows : List ℕ → LoadFault → Type 0
-IsOfRows bytes fault = fault_end bytes fault ≡ 64 + zones_told bytes * 8
+IsOfRows bytes fault = fault_end bytes fault ≡ rows_end bytes
 
 total_of_rows : (bytes : List ℕ) (total : Option ℕ) (zs : List CountedZone) (fault : LoadFault) → total_kept total zs ≡ Err fault → IsOfRows bytes fault
 total_of_rows bytes None zs fault e = absurd cc
@@ -287,7 +287,7 @@ module _ (bytes other : List ℕ) (there : 64 ≤ length bytes) (longer : length
       → ((rest : List ℕ) → after_rows h zs rest ≡ Err fault) → IsOf bytes other fault
   rows_is_of zs fault inside read end fails whole alone same =
       let n = h.geometry.zones * 8 in
-      let zones : zones_told bytes ≡ h.geometry.zones = ap (λ (s : Shape). s.zones) (header_parts (take 64 bytes) h told).same in
+      let zones : (shape_in bytes).zones ≡ h.geometry.zones = ap (λ (s : Shape). s.zones) (header_parts (take 64 bytes) h told).same in
       let front : take (64 + n) other ≡ take (64 + n) bytes = subst (λ (i : ℕ). take i other ≡ take i bytes) (end ∙ ap (λ (i : ℕ). 64 + i * 8) zones) same in
       let rest : take n (drop 64 other) ≡ take n (drop 64 bytes) = rest_of 64 n (64 + n) bytes other refl front in
       told_other (64 + n) (omega arith) front

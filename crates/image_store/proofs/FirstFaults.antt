@@ -27,11 +27,11 @@ use Rattle.image_store.specs.declared.header.Header.{Header}
 use Rattle.image_store.specs.declared.version.Version.{Version}
 use Rattle.image_store.specs.declared.version.Version.TheVariants.{One, Two}
 use Rattle.program_interface.specs.Readings.{◌>>=◌}
-use Rattle.image_store.specs.FirstFault.{Begins, FaultIsFirst, HasHeader, HasRows, IsFirstFault, IsRowFault, TellsAllZones, TellsTotal, TellsZone, TellsZones, blocks_end, row_at, rows_end, shape_in}
+use Rattle.image_store.specs.FirstFault.{Begins, FaultIsFirst, HasHeader, HasRows, IsFirstFault, IsRowFault, TellsAllZones, TellsTotal, TellsZone, TellsZones, blocks_end, row_at}
 use Rattle.image_store.specs.Geometry.{Shape, IsShape, shape_checks}
 use Rattle.image_store.specs.ImageInMemory.{no_counted_zone, zone_seen}
 use Rattle.image_store.specs.Namespace.{ZoneBlocks, ZonedNamespace, namespace_with}
-use Rattle.image_store.specs.Reading.{are_zeros, number_at, numbers_fault, numbers_in, numbers_tested, version_in, version_kept, zeros_kept, total_told, bytes_in, header_of, header_told, zone_told, zone_in, zones_in, total_kept, limits_kept, blocks_in, end_in}
+use Rattle.image_store.specs.Reading.{are_zeros, number_at, numbers_fault, numbers_in, numbers_tested, rows_end, shape_in, version_in, version_kept, zeros_kept, total_told, bytes_in, header_of, header_told, zone_told, zone_in, zones_in, total_kept, limits_kept, blocks_in, end_in}
 use Rattle.image_store.specs.Refusal.{geometry_refusal_of}
 use Rattle.image_store.specs.Text.{written_blocks}
 use Rattle.image_store.specs.Version.{HasText, has_block, numbers_of_version}

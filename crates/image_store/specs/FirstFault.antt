@@ -15,7 +15,7 @@ use Rattle.image_store.specs.declared.geometry.GeometryFault.{GeometryFault}
 use Rattle.image_store.specs.declared.version.Version.{Version}
 use Rattle.image_store.specs.Geometry.{Shape, IsShape, shape_checks}
 use Rattle.image_store.specs.ImageInMemory.{no_counted_zone}
-use Rattle.image_store.specs.Reading.{are_zeros, namespace_in, number_at, shape_told, total_told}
+use Rattle.image_store.specs.Reading.{are_zeros, namespace_in, number_at, rows_end, shape_in, total_told}
 use Rattle.image_store.specs.Refusal.{geometry_refusal_of}
 use Rattle.image_store.specs.Text.{written_blocks}
 use Rattle.image_store.specs.Version.{HasText, has_block, numbers_of_version}
@@ -24,10 +24,6 @@ use Rattle.image_store.specs.Version.{HasText, has_block, numbers_of_version}
 pub record Begins (version : Version) (bytes : List ℕ) : Type 0 where
   pub whole : 64 ≤ length bytes
   pub magic : take 8 bytes ≡ (numbers_of_version version).magic
-
--- the shape that the header of a text tells
-abbrev pub shape_in : List ℕ → Shape
-shape_in bytes = shape_told (take 64 bytes)
 
 -- what can be wrong with a header of a version that tells a shape:
 abbrev pub IsHeaderFault : Version → List ℕ → Shape → HeaderFault → Type 0
@@ -74,10 +70,6 @@ IsRowFault capacity row (row_faults.State code) =
 IsRowFault capacity row (row_faults.Blocks state written most) =
     (are_zeros (take 3 (drop 1 row)) ≡ true) × (state_of (get_or row 0 0) ≡ Some state)
     × (number_at row 4 ≡ written) × (capacity ≡ most) × (fits_state state written most ≡ false)
-
--- the byte behind the rows of a text
-abbrev pub rows_end : List ℕ → ℕ
-rows_end bytes = 64 + (shape_in bytes).zones * 8
 
 -- a text whose header has no fault, with all its rows, of which the first tell these zones
 pub record TellsZones (version : Version) (bytes : List ℕ) (zones : List CountedZone) : Type 0 where

@@ -10,7 +10,7 @@ use Rattle.program_interface.specs.Bytes.{AreBytes}
 use Rattle.image_store.specs.Geometry.{Shape, IsShape}
 use Rattle.image_store.specs.Namespace.{ZonedNamespace, shape, IsNamespace}
 use Rattle.program_interface.specs.Readings.{◌>>=◌}
-use Rattle.image_store.specs.Reading.{shape_told, namespace_in}
+use Rattle.image_store.specs.Reading.{namespace_in, rows_end}
 use Rattle.image_store.specs.Refusal.{tested}
 use Rattle.image_store.specs.Text.{text, text_of}
 use Rattle.image_store.specs.Version.{HasText, has_block, numbers_of_version}
@@ -60,17 +60,13 @@ LongerTextsAreTrailing =
     (version : Version) (ns : ZonedNamespace) → IsNamespace ns → HasText version (shape ns)
     → (more : List ℕ) → more ≢ [] → namespace_in (text_of version ns ++ more) ≡ Err fault.Trailing
 
--- how many zones the header of a text tells
-abbrev pub zones_told : List ℕ → ℕ
-zones_told bytes = (shape_told (take 64 bytes)).zones
-
 -- up to which byte a text has to be read to find a fault of it: those of its magic, of its header, of the zones' rows
 -- up to the one that is told, or else of all rows
 abbrev pub fault_end : List ℕ → LoadFault → ℕ
 fault_end bytes fault.Magic = 8
 fault_end bytes (fault.Header first) = 64
 fault_end bytes (fault.ZoneRow zone first) = 64 + (zone + 1) * 8
-fault_end bytes _ = 64 + zones_told bytes * 8
+fault_end bytes _ = rows_end bytes
 
 -- the fault that a text is refused with, other than one of its end, is that of each text that is no shorter and has
 -- the same bytes up to where the fault stands

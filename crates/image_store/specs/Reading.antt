@@ -44,6 +44,14 @@ shape_told bytes =
     shape_of (number_at bytes 8) (number_at bytes 12) (number_at bytes 16) (number_at bytes 20)
     (record { open_limit = number_at bytes 24; active_limit = number_at bytes 28 })
 
+-- the shape that the header of a text tells
+abbrev pub shape_in : List ℕ → Shape
+shape_in bytes = shape_told (take 64 bytes)
+
+-- the byte behind the rows of a text
+abbrev pub rows_end : List ℕ → ℕ
+rows_end bytes = 64 + (shape_in bytes).zones * 8
+
 -- the fault of a header whose numbers are none of a geometry
 abbrev pub numbers_fault : GeometryRefusal → LoadFault
 numbers_fault refusal = fault.Header (header_fault.Numbers refusal)
