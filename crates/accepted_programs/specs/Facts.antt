@@ -16,6 +16,7 @@ use Rattle.program_meaning.specs.Word.{low_bits}
 use Rattle.program_interface.specs.declared.area.Area.TheVariants.{Context, Block, Stack, Scratch}
 use Rattle.program_meaning.specs.declared.word.Arithmetic.TheVariants as word
 use Rattle.program_interface.specs.declared.area.TheConstants.{STACK_BYTES}
+use Rattle.program_interface.specs.declared.registers.TheConstants.{CLEARED_REGISTERS}
 use Rattle.program_interface.specs.declared.area.Area.{Area}
 use Rattle.word_domain.specs.Domain.{Operations}
 use Rattle.accepted_programs.specs.Cells.{cell_of, filled, is_stack, join_cells, known_in, no_cells, overwritten}
@@ -89,7 +90,7 @@ module _ {D : Type 0} (operations : Operations D) where
   -- is profile), and the group has grown by a frame of at most R2 bytes
   abbrev pub after_emit : Facts D → Facts D
   after_emit facts = record facts {
-    registers = replicate 6 (operations.constant 0) ++ drop 6 facts.registers;
+    registers = replicate CLEARED_REGISTERS (operations.constant 0) ++ drop CLEARED_REGISTERS facts.registers;
     emitted = facts.emitted + 2 + (operations.bounds (fact facts 2)).high;
   }
 
