@@ -15,7 +15,7 @@ use Rattle.instruction_set.specs.declared.operation.SignedSize.TheVariants as si
 use Rattle.instruction_set.specs.declared.operation.Size.{Size}
 use Rattle.instruction_set.specs.declared.operation.Size.TheVariants.{Byte, HalfWord, Word, DoubleWord}
 use Rattle.program_meaning.specs.Cause as machine
-use Rattle.program_meaning.specs.Cause.{causes_of_effect, emits_badly, emits_outside, holds, is_inside_wide, is_not_writable, is_nowhere, is_outside, least_cause, next_slot, slot_in}
+use Rattle.program_meaning.specs.Cause.{causes_of_effect, emits_badly, emits_outside, hinders, is_inside_wide, is_not_writable, is_nowhere, is_outside, least_cause, next_slot, slot_in}
 use Rattle.program_meaning.specs.Effect.{address_from, operand, register}
 use Rattle.program_meaning.specs.Memory.{lies_in, area_offset_of}
 use Rattle.program_interface.specs.Area.{address_of, length_of}
@@ -82,7 +82,7 @@ stands (Some (Some i)) e = (refl, refl)
 module _ (program : List (Option Instruction)) (limit : ℕ) where
   goes_on : (s : State) (i : Instruction) → leads_nowhere program s.slot (distance_of i) ≡ false
       → (if turns_away i then false else not (begins_at program (pos (slot_behind s.slot i)))) ≡ false
-      → (holds program limit s i cause.NextOutside ≡ false) × (holds program limit s i cause.NextInsideWide ≡ false)
+      → (hinders program limit s i cause.NextOutside ≡ false) × (hinders program limit s i cause.NextInsideWide ≡ false)
   goes_on s (LoadImmediate dst value) there behind = stands _ behind
   goes_on s (Load size dst src offset) there behind = stands _ behind
   goes_on s (LoadSigned size dst src offset) there behind = stands _ behind
@@ -247,7 +247,7 @@ module _ {D : Type 0} {IsFact : D → Type 0} {contains : D → ℕ → Type 0} 
           let test = fails operations program sizes s.slot facts i in
           of_all test (all_fail test all_reasons accepted) r
 
-      free : (c : Cause) → holds program sizes.limit s i c ≡ false
+      free : (c : Cause) → hinders program sizes.limit s i c ≡ false
       free cause.NextOutside = (goes_on program sizes.limit s i (passed reason.JumpOutside) (passed reason.FallsOff)).0
       free cause.NextInsideWide = (goes_on program sizes.limit s i (passed reason.JumpOutside) (passed reason.FallsOff)).1
       free cause.WriteToFramePointer = passed reason.WriteToFramePointer
@@ -263,5 +263,5 @@ module _ {D : Type 0} {IsFact : D → Type 0} {contains : D → ℕ → Type 0} 
       → FitsSigned w16 (first_slot i).offset → reason_of operations program sizes s.slot facts i ≡ None
       → least_cause program sizes.limit s i ≡ None
   unhindered program sizes i facts s are_sizes is long are meets near accepted =
-      none_passes (holds program sizes.limit s i) (cause.NextOutside ∷ cause.NextInsideWide ∷ causes_of_effect)
+      none_passes (hinders program sizes.limit s i) (cause.NextOutside ∷ cause.NextInsideWide ∷ causes_of_effect)
       (free sizes facts s are_sizes is long are meets program i near accepted)

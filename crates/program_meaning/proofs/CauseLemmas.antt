@@ -3,7 +3,7 @@ use Rattle.std.proofs.Common.{ℕ, suc, zero, ◌-◌, ◌<◌, ◌≤◌, ◌�
 use Rattle.std.specs.List.{find}
 use Rattle.std.specs.Prelude.{if◌then◌else◌}
 use Rattle.instruction_set.specs.declared.instruction.Instruction.{Instruction}
-use Rattle.program_meaning.specs.Cause.{causes_of_effect, holds, is_exit, least_cause, cause_number}
+use Rattle.program_meaning.specs.Cause.{causes_of_effect, hinders, is_exit, least_cause, cause_number}
 use Rattle.program_meaning.specs.Effect.{register}
 use Rattle.program_meaning.specs.Laws.{StuckByLeast}
 use Rattle.program_meaning.specs.State.{State}
@@ -137,7 +137,7 @@ cause_of_stuck s i (Some least) cause e = cc
 
 pub stuck_by_least : StuckByLeast
 stuck_by_least program limit s i cause =
-    let test = holds program limit s i in (
+    let test = hinders program limit s i in (
       (λ e. let found = cause_of_stuck s i (least_cause program limit s i) cause e in
           (least_holds test cause found, λ other less. least_fails test cause other found less)),
       (λ (is, less). ap (decided s i) (least_is test cause is less)),
@@ -146,7 +146,7 @@ stuck_by_least program limit s i cause =
 -- a step that goes on: no cause holds, and the state is the one after the instruction
 pub record IsDone (program : List (Option Instruction)) (limit : ℕ) (s s' : State) (i : Instruction) : Type 0 where
   pub runs_on : is_exit i ≡ false
-  pub free : (cause : Cause) → holds program limit s i cause ≡ false
+  pub free : (cause : Cause) → hinders program limit s i cause ≡ false
   pub next : after s i ≡ s'
 
 went : (b : Bool) (r0 : ℕ) (s next s' : State) → (if b then Ends r0 s else Goes next) ≡ Goes s' → (b ≡ false) × (next ≡ s')
@@ -165,6 +165,6 @@ done program limit s s' i e =
     let facts = done_by s s' i (least_cause program limit s i) e in
     record {
       runs_on = facts.1;
-      free = λ cause. none_found (holds program limit s i) causes (cause_number cause - 1) cause facts.0 (listed cause);
+      free = λ cause. none_found (hinders program limit s i) causes (cause_number cause - 1) cause facts.0 (listed cause);
       next = facts.2;
     }

@@ -23,7 +23,7 @@ pub fn changes_only()
     ensures { ChangesOnly }
 {}
 
-/// A step is stuck with a cause exactly where that cause holds and none with a smaller number does.
+/// A step is stuck with a cause exactly where that cause hinders it and none with a smaller number does.
 pub fn stuck_by_least()
     ensures { StuckByLeast }
 {}
