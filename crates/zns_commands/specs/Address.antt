@@ -66,4 +66,5 @@ pub record IsZoneBlock (ns : ZonedNamespace) (lba : ℕ) (found : ZoneBlock) : T
   pub is : found ≡ zone_block_in ns lba
   pub inside : found.zone < length ns.zones
   pub address : found.zone * ns.size + found.offset ≡ lba
+  -- no shape has more than 2 ^ 12 zones of 2 ^ 24 blocks
   pub small : lba < 2 ^ 36

@@ -20,22 +20,17 @@ data_reason characters digits.OutOfMemory = reasons.Memory
 data_reason characters (digits.InvalidHexCharacter character before) = reasons.Refused (fault.DataDigit character before)
 data_reason characters _ = reasons.Refused (fault.DataLength characters)
 
--- words are refused that tell no event, or memory ran out
-abbrev pub RefusesEvent : EventFault → Option ToldEvent → Type 0
-RefusesEvent (reasons.Refused fault) meant = meant ≡ None
-RefusesEvent reasons.Memory meant = Unit {0}
+-- words or a line that are refused have no meaning, or memory ran out
+abbrev pub IsRefused : {X : Type 0} → EventFault → Option X → Type 0
+IsRefused (reasons.Refused fault) meant = meant ≡ None
+IsRefused reasons.Memory meant = Unit {0}
 
 -- the event is given that the words tell, or they are refused
 abbrev pub GivesEvent : Result Event EventFault → Option ToldEvent → Type 0
 GivesEvent (Ok event) meant = meant ≡ Some (told_of event)
-GivesEvent (Err error) meant = RefusesEvent error meant
-
--- a line is refused that tells nothing, or memory ran out
-abbrev pub RefusesLine : EventFault → Option (Option ToldEvent) → Type 0
-RefusesLine (reasons.Refused fault) meant = meant ≡ None
-RefusesLine reasons.Memory meant = Unit {0}
+GivesEvent (Err error) meant = IsRefused error meant
 
 -- what a line tells is given, or it is refused
 abbrev pub GivesLine : Result (Option Event) EventFault → Option (Option ToldEvent) → Type 0
 GivesLine (Ok event) meant = meant ≡ Some (option_map told_of event)
-GivesLine (Err error) meant = RefusesLine error meant
+GivesLine (Err error) meant = IsRefused error meant
