@@ -1,12 +1,12 @@
-pub mod Completion
 pub mod Fields
-pub mod Descriptor
 pub mod Filter
 pub mod ProgramSlot
 pub mod Entry
-pub mod Encoding
-pub mod Report
-pub mod CompletionFields
 pub mod EntryLaws
+pub mod Encoding
+pub mod Completion
+pub mod CompletionFields
+pub mod Descriptor
+pub mod Report
 pub mod ReportLaws
 pub mod steps

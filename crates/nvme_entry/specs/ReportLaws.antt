@@ -27,8 +27,8 @@ pub record TellsZones (bytes : List ℕ) (partial : Bool) (size given : ℕ) (fo
   -- and nothing behind them
   pub rest : drop (64 + 64 * given) bytes ≡ replicate (length bytes - (64 + 64 * given)) 0
 
--- A report has the length of the transfer. It gives the descriptors of the zones that match, as many
--- as fit whole behind the header.
+-- A report has the length of the transfer. Where that has room for the header, it gives the descriptors of the zones that
+-- match, as many as fit whole behind it.
 abbrev pub ReportsGiveWhatMatches : Type 0
 ReportsGiveWhatMatches =
     (bytes : ℕ) (zones : List CountedZone) (first size : ℕ) (option : ZoneFilter) (partial : Bool)

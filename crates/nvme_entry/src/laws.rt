@@ -27,7 +27,7 @@ pub fn completions_tell()
     ensures { CompletionsTell }
 {}
 
-/// A report gives the descriptors of the zones that match, in order, as many as fit whole.
+/// A report with room for its header gives the descriptors of the zones that match, in order, as many as fit whole.
 pub fn reports_give_what_matches()
     ensures { ReportsGiveWhatMatches }
 {}
