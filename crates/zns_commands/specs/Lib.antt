@@ -1,7 +1,6 @@
 pub mod Address
 pub mod Answer
 pub mod Effect
-pub mod Fault
 pub mod Resources
 pub mod Transfer
 pub mod Read
@@ -10,6 +9,7 @@ pub mod Send
 pub mod Write
 pub mod Append
 pub mod Meaning
+pub mod Fault
 pub mod Held
 pub mod Laws
 pub mod Left
