@@ -14,7 +14,6 @@ use steps::{Case, Step, bytes_of};
 use zns_commands::{FaultState, MOST_TRANSFER};
 use zone_state::Action;
 
-mod accepting;
 mod admitting;
 mod draining;
 mod holds;

@@ -1,6 +1,6 @@
 //! Programs at the ends of what a field, an area and a word can hold.
 
-use super::rows::Row::{self, Digits, Text};
+use super::rows::Row::{self, Far, Text};
 use super::rows::Verdict::{Accepted, Refused};
 use super::rows::check;
 use std::test::Fail;
@@ -15,27 +15,11 @@ const JUMPS: &[Row] = &[
     Text("jsltw r0, r1, -32768\nexit", 0, Refused(0, 1)),
     Text("jsltw r0, r1, +32767\nexit", 0, Refused(0, 2)),
     // From the first slot of the largest program to its last, and one further.
-    Digits(
-        "0500fe0f00000000 b700000000000000*4094 9500000000000000",
-        0,
-        Accepted(4096),
-    ),
-    Digits(
-        "0500ff0f00000000 b700000000000000*4094 9500000000000000",
-        0,
-        Refused(0, 2),
-    ),
+    Far("ja +4094", 4094, Accepted(4096)),
+    Far("ja +4095", 4094, Refused(0, 2)),
     // The same by a distance of 32 bits.
-    Digits(
-        "06000000fe0f0000 b700000000000000*4094 9500000000000000",
-        0,
-        Accepted(4096),
-    ),
-    Digits(
-        "06000000ff0f0000 b700000000000000*4094 9500000000000000",
-        0,
-        Refused(0, 2),
-    ),
+    Far("jaw +4094", 4094, Accepted(4096)),
+    Far("jaw +4095", 4094, Refused(0, 2)),
 ];
 
 /// Loads at the ends of areas.

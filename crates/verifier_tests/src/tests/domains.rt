@@ -1,8 +1,6 @@
 //! What is refused over constants and over intervals.
 
-use super::super::programs::{
-    BOUNDED, GROWING, INDEXED, INDEXED_TWO, MATCHING, RETURNING, TWO_FRAMES,
-};
+use super::programs::{BOUNDED, GROWING, INDEXED, INDEXED_TWO, MATCHING, RETURNING, TWO_FRAMES};
 use super::{program, sizes};
 use interval_domain::{Constants, Intervals};
 use std::alloc::Global;

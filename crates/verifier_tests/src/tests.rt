@@ -2,12 +2,12 @@
 
 ghost use Rattle.std.specs.Prelude.{◌≡◌, IfOk};
 
-use super::programs::RETURNING;
 use ebpf_asm::assemble;
 use ebpf_decode::decode;
 use instruction_set::Program;
 use interval_domain::Constants;
 use program_interface::{BlockSize, RunSizes};
+use programs::RETURNING;
 use std::alloc::Global;
 use std::test::Fail;
 use verifier::verify;
@@ -18,6 +18,7 @@ mod domains;
 mod emits;
 mod ends;
 mod kept;
+mod programs;
 mod rows;
 mod runs;
 mod slots;

@@ -1,11 +1,8 @@
 //! Programs, each with what the verifier says of it for blocks of 512 bytes, as the rules for facts give it.
 
-use super::super::steps::bytes_of;
-use super::sizes;
-use ebpf_asm::assemble;
-use ebpf_decode::decode;
+use super::{program, sizes};
 use interval_domain::Intervals;
-use std::alloc::Global;
+use std::alloc::{AllocError, Global};
 use std::process::Abort;
 use std::test::Fail;
 use verifier::{VerifyFault, verify};
@@ -15,8 +12,8 @@ use verifier::{VerifyFault, verify};
 pub(super) enum Row {
     /// A program as text.
     Text(&'static str, u32, Verdict),
-    /// A program in hexadecimal.
-    Digits(&'static str, u32, Verdict),
+    /// A jump in front of so many moves and an exit, which emits nothing.
+    Far(&'static str, usize, Verdict),
 }
 
 /// What is said of a program.
@@ -33,22 +30,32 @@ pub(super) fn check(rt: &impl Abort, alloc: Global, rows: &[Row]) -> Result<(), 
     for row in rows {
         match *row {
             Row::Text(text, emit, verdict) => {
-                let bytes = assemble(alloc, text.as_bytes())?;
-                let said = verdict_of(alloc, bytes.as_slice(), emit)?;
+                let said = verdict_of(alloc, text, emit)?;
                 assert_eq!(rt; said, verdict, "{text}");
             }
-            Row::Digits(digits, emit, verdict) => {
-                let bytes = bytes_of(alloc, digits)?;
-                let said = verdict_of(alloc, bytes.as_slice(), emit)?;
-                assert_eq!(rt; said, verdict, "{digits}");
+            Row::Far(jump, moves, verdict) => {
+                let text = far(alloc, jump, moves)?;
+                let said = verdict_of(alloc, text.as_str(), 0)?;
+                assert_eq!(rt; said, verdict, "{jump}");
             }
         }
     }
     Ok(())
 }
 
-fn verdict_of(alloc: Global, bytes: &[u8], emit: u32) -> Result<Verdict, Fail> {
-    let program = decode(alloc, bytes)?;
+/// A jump, so many moves and an exit, as text.
+fn far(alloc: Global, jump: &str, moves: usize) -> Result<String, AllocError> {
+    let mut text = String::new(alloc);
+    text.push_str(jump)?;
+    for _ in 0..moves {
+        text.push_str("\nmov r0, 0")?;
+    }
+    text.push_str("\nexit")?;
+    Ok(text)
+}
+
+fn verdict_of(alloc: Global, text: &str, emit: u32) -> Result<Verdict, Fail> {
+    let program = program(alloc, text)?;
     let instructions = program.len();
     match verify::<Intervals>(alloc, program, sizes(emit, 512)?) {
         Ok(_) => Ok(Verdict::Accepted(instructions)),

@@ -1,6 +1,6 @@
 //! Accepted programs end the same with every check and over their superinstructions.
 
-use super::super::programs::{
+use super::programs::{
     ADDING_THREE, BOUNDED, GROWING, INDEXED, INDEXED_TWO, MATCHING, RETURNING, TWO_FRAMES, Text,
 };
 use super::{program, sizes};
