@@ -10,7 +10,7 @@ use Rattle.zone_state.specs.Zone.{CountedZone}
 use Rattle.nvme_entry.specs.Filter.{lists}
 use Rattle.nvme_entry.specs.declared.filter.ZoneFilter.{ZoneFilter}
 use Rattle.nvme_entry.specs.Report.{descriptor_at, fitting, report_header, listed, matching, report, taken}
-use Rattle.nvme_entry.specs.ReportLaws.{ReportsGiveWhatMatches, TellsZones, number_in, pieces}
+use Rattle.nvme_entry.specs.ReportLaws.{ReportsGiveWhatMatches, ReportsZones, number_in, pieces}
 use Rattle.nvme_entry.proofs.Listings.{length-descriptor, length-header, length-whole, whole}
 
 length-each : (size : ℕ) (zone : ℕ × CountedZone) → length (descriptor_at size zone) ≡ 64
@@ -131,7 +131,7 @@ told-few false room xs = omega arith
 tells : (bytes : ℕ) (partial : Bool) (size : ℕ) (found : List (ℕ × CountedZone)) (given : List ℕ) → 64 ≤ bytes → length found < 2 ^ 64
     → given ≡ report_header (told_by bytes found partial) ++ whole (descriptor_at size) (bytes - 64) found
     → length given ≡ bytes
-    → TellsZones given partial size (min ((bytes - 64) / 64) (length found)) found
+    → ReportsZones given partial size (min ((bytes - 64) / 64) (length found)) found
 tells bytes partial size found given long few parts same_length =
     let f = descriptor_at size in
     let room = (bytes - 64) / 64 in

@@ -19,7 +19,7 @@ abbrev pub descriptors_in : ℕ → List ℕ → List (List ℕ)
 descriptors_in count bytes = pieces count (drop 64 bytes)
 
 -- what bytes tell of zones that match: so many descriptors are given
-pub record TellsZones (bytes : List ℕ) (partial : Bool) (size given : ℕ) (found : List (ℕ × CountedZone)) : Type 0 where
+pub record ReportsZones (bytes : List ℕ) (partial : Bool) (size given : ℕ) (found : List (ℕ × CountedZone)) : Type 0 where
   -- the number of the descriptors given or of all zones that match,
   pub number : number_in bytes ≡ (if partial then given else length found)
   -- the descriptors of the first of these zones, in order and none left out,
@@ -35,4 +35,4 @@ ReportsGiveWhatMatches =
     → 64 ≤ bytes → length zones < 2 ^ 64
     → let given = report bytes zones first size option partial in
     let found = matching zones first option in
-    (length given ≡ bytes) × TellsZones given partial size (min ((bytes - 64) / 64) (length found)) found
+    (length given ≡ bytes) × ReportsZones given partial size (min ((bytes - 64) / 64) (length found)) found

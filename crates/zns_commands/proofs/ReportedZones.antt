@@ -15,7 +15,7 @@ use Rattle.nvme_entry.specs.declared.command.StandardCommand.TheVariants.{Receiv
 use Rattle.nvme_entry.specs.declared.command.TheConstants.{MOST_TRANSFER}
 use Rattle.nvme_entry.specs.declared.filter.ZoneFilter.TheVariants as filter
 use Rattle.zone_state.specs.Checks.{demand, first_failed}
-use Rattle.nvme_entry.specs.ReportLaws.{TellsZones, number_in, descriptors_in}
+use Rattle.nvme_entry.specs.ReportLaws.{ReportsZones, number_in, descriptors_in}
 use Rattle.nvme_entry.specs.Report.{report, descriptor_at, matching, taken}
 use Rattle.image_store.specs.Namespace.{ZonedNamespace, counted, counted_zones, IsNamespace}
 use Rattle.zns_commands.specs.Address.{block_total, zone_number}
@@ -42,7 +42,7 @@ reports_what_matches ns holds lba dwords option partial sound inside room most =
     ap (λ (refusal : Option Status). concluded refusal ns (receive_effect ns lba dwords option partial)) none in
     let tells = (reports_give_what_matches (4 * dwords) zones first ns.size option partial room (omega (arith, count, sound.shape.zones_most))).1 in
     subst (λ (done : Effect). (done.status ≡ SUCCESS)
-    × TellsZones done.output partial ns.size (min (descriptor_room dwords) (length found)) found)
+    × ReportsZones done.output partial ns.size (min (descriptor_room dwords) (length found)) found)
     (sym is) (refl, tells)
 
 -- all zones match that filter

@@ -11,7 +11,7 @@ use Rattle.nvme_entry.specs.declared.command.StandardCommand.TheVariants.{Write,
 use Rattle.nvme_entry.specs.declared.command.TheConstants.{MOST_TRANSFER}
 use Rattle.nvme_entry.specs.declared.filter.ZoneFilter.{ZoneFilter}
 use Rattle.nvme_entry.specs.declared.filter.ZoneFilter.TheVariants as filter
-use Rattle.nvme_entry.specs.ReportLaws.{TellsZones, number_in, descriptors_in}
+use Rattle.nvme_entry.specs.ReportLaws.{ReportsZones, number_in, descriptors_in}
 use Rattle.nvme_entry.specs.Report.{descriptor_at, matching}
 use Rattle.program_interface.specs.Bytes.{AreBytes}
 use Rattle.image_store.specs.Blocks.{block_count}
@@ -154,7 +154,7 @@ ReportsWhatMatches =
     → IsNamespace ns → lba < block_total ns → 64 ≤ 4 * dwords → 4 * dwords ≤ MOST_TRANSFER
     → let done = meaning ns holds (Receive lba dwords option partial) [] in
     let found = matching (counted_zones ns) (zone_number ns lba) option in
-    (done.status ≡ SUCCESS) × TellsZones done.output partial ns.size (min (descriptor_room dwords) (length found)) found
+    (done.status ≡ SUCCESS) × ReportsZones done.output partial ns.size (min (descriptor_room dwords) (length found)) found
 
 -- the descriptors of all zones, in order
 abbrev pub all_descriptors : ZonedNamespace → List (List ℕ)

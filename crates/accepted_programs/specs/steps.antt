@@ -1,2 +1,0 @@
--- What the crate above keeps to itself; no public contract speaks of it.
-pub mod ShortOffsets
