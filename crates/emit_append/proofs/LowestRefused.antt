@@ -9,7 +9,7 @@ use Rattle.std.proofs.lemmas.Bool.Decides.{eqb_tells}
 use Rattle.std.proofs.lemmas.List.{append-nil, drop-take, length-take, length-take-le, take-append-le, take-take, take_all, take_at}
 use Rattle.byteorder.specs.Endian.{little_number}
 use Rattle.program_interface.specs.Frame.{frame, frames}
-use Rattle.emit_append.specs.Packing.{padded}
+use Rattle.program_interface.specs.Bytes.{padded}
 use Rattle.emit_append.proofs.ByteLists.{AllBytes, by_recursion}
 use Rattle.emit_append.specs.Unpacking.{AreFrames, CanBegin, Reading, RefusedIsLowest, after_frame, and_then, frame_length, frame_record, frames_at, output_block_at, output_blocks_at, then_read, zeros_at}
 use Rattle.emit_append.proofs.FramesRead.{step-frame, step-short, step-zeros}

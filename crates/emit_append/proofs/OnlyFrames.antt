@@ -8,7 +8,7 @@ use Rattle.std.proofs.lemmas.List.{drop-drop, length-take-le}
 use Rattle.byteorder.specs.Endian.{little_bytes, little_number}
 use Rattle.program_interface.specs.Frame.{frame, frames}
 use Rattle.emit_append.specs.PackedLaw.{FitBlock}
-use Rattle.emit_append.specs.Packing.{padded}
+use Rattle.program_interface.specs.Bytes.{padded}
 use Rattle.emit_append.proofs.ByteLists.{AllBytes, by_recursion}
 use Rattle.emit_append.specs.Unpacking.{AreFrames, Reading, UnpackedIsFrames, after_frame, and_then, frame_length, frame_record, frames_at, output_blocks_at, then_read, unpacked, zeros_at}
 use Rattle.emit_append.proofs.FramesRead.{step-frame, step-short, step-zeros}

@@ -1,7 +1,7 @@
 -- Zeros fill a block up.
 use Rattle.std.proofs.Common.{◌≡◌, ℕ, ◌-◌, ◌≤◌, List, length, replicate, arith}
 use Rattle.std.proofs.lemmas.List.{length-append, length-replicate}
-use Rattle.emit_append.specs.Packing.{padded}
+use Rattle.program_interface.specs.Bytes.{padded}
 
 pub length-padded : (block : ℕ) (bytes : List ℕ) → length bytes ≤ block → length (padded block bytes) ≡ block
 length-padded block bytes fits =

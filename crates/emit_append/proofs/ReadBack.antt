@@ -10,7 +10,8 @@ use Rattle.byteorder.specs.Endian.{little_number}
 use Rattle.byteorder.specs.Numbers.{little_number-reads_back}
 use Rattle.program_interface.specs.Frame.{frame, frames}
 use Rattle.emit_append.specs.PackedLaw.{FitBlock}
-use Rattle.emit_append.specs.Packing.{Layout, behind, beginning, laid_out, packed, padded}
+use Rattle.program_interface.specs.Bytes.{padded}
+use Rattle.emit_append.specs.Packing.{Layout, behind, beginning, laid_out, packed}
 use Rattle.emit_append.specs.Unpacking.{PackedFramesReadBack, output_block_at, output_blocks_at, frame_length, then_read, unpacked, zeros_at}
 use Rattle.emit_append.proofs.Layouts.{laid-behind, laid-beginning}
 use Rattle.emit_append.proofs.Padding.{length-padded}

@@ -2,10 +2,10 @@
 use Rattle.std.proofs.Common.{◌≡◌, ℕ, zero, suc, ◌-◌, ◌≤◌, List, [], ◌∷◌, ◌++◌, length, map, replicate, arith, lit<, ⊎_elim}
 use Rattle.std.specs.List.{AllByRecursion}
 use Rattle.std.proofs.lemmas.Bool.{cases_lt}
-use Rattle.program_interface.specs.Bytes.{AreBytes}
+use Rattle.program_interface.specs.Bytes.{AreBytes, padded}
 use Rattle.emit_append.specs.OutputBlocks.{AreWhole, OutputBlocksAreBytes, OutputBlocksAreWhole}
 use Rattle.emit_append.specs.PackedLaw.{FitBlock}
-use Rattle.emit_append.specs.Packing.{all_but_last, block_fillings, laid_out, last_or_empty, padded}
+use Rattle.emit_append.specs.Packing.{all_but_last, block_fillings, laid_out, last_or_empty}
 use Rattle.emit_append.proofs.ByteLists.{AllBytes, by_place, lists_by_place, lists_by_recursion}
 use Rattle.emit_append.proofs.Layouts.{laid-behind, laid-beginning}
 use Rattle.emit_append.proofs.Padding.{length-padded}

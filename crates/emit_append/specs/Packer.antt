@@ -2,7 +2,8 @@
 use Rattle.std.specs.Prelude.{◌≡◌, ℕ, ◌+◌, ◌<◌, ◌≤◌, List, [], ◌∷◌, ◌++◌, length}
 use Rattle.program_interface.specs.declared.block_size.TheConstants.{LARGEST_BLOCK}
 use Rattle.program_interface.specs.BlockSize.{IsBlockSize}
-use Rattle.emit_append.specs.Packing.{packed, padded, pending_of, released}
+use Rattle.program_interface.specs.Bytes.{padded}
+use Rattle.emit_append.specs.Packing.{packed, pending_of, released}
 
 -- the size of its blocks, and the bytes of the block that it hasn't released yet
 pub record PackerState : Type 0 where

@@ -1,5 +1,6 @@
 -- How groups of bytes stand in output blocks (profile): whole and in order, each in the block of the group before it where it still fits, the rest of a block zeros.
-use Rattle.std.specs.Prelude.{ℕ, ◌-◌, nat_le, List, [], ◌∷◌, ◌++◌, length, map, replicate, if◌then◌else◌}
+use Rattle.std.specs.Prelude.{ℕ, ◌-◌, nat_le, List, [], ◌∷◌, ◌++◌, length, map, if◌then◌else◌}
+use Rattle.program_interface.specs.Bytes.{padded}
 
 -- what groups add to a block begun, and the bytes of each block after it
 pub record Layout : Type 0 where
@@ -24,10 +25,6 @@ laid_out block room (group ∷ groups) =
 -- the bytes that groups fill in each output block; no block is begun before the first of them
 abbrev pub block_fillings : ℕ → List (List ℕ) → List (List ℕ)
 block_fillings block groups = (laid_out block 0 groups).later
-
--- a block of these bytes and zeros
-abbrev pub padded : ℕ → List ℕ → List ℕ
-padded block bytes = bytes ++ replicate (block - length bytes) 0
 
 -- the output blocks of groups
 abbrev pub packed : ℕ → List (List ℕ) → List (List ℕ)

@@ -6,9 +6,9 @@ use Rattle.byteorder.specs.Endian.{little_number}
 use Rattle.program_interface.specs.Frame.{frames}
 use Rattle.emit_append.specs.declared.fault.UnpackFault.{UnpackFault}
 use Rattle.emit_append.specs.declared.fault.UnpackFault.TheVariants.{At, Memory}
-use Rattle.program_interface.specs.Bytes.{AreBytes}
+use Rattle.program_interface.specs.Bytes.{AreBytes, padded}
 use Rattle.emit_append.specs.PackedLaw.{FitBlock}
-use Rattle.emit_append.specs.Packing.{packed, padded}
+use Rattle.emit_append.specs.Packing.{packed}
 
 -- the records, or the first byte that is refused, by its number
 abbrev pub Reading : Type 0

@@ -1,11 +1,11 @@
 -- Blocks, as pieces of bytes.
-use Rattle.std.specs.Prelude.{ℕ, zero, suc, ◌/◌, List, [], ◌∷◌, length, take, drop}
+use Rattle.std.specs.Prelude.{ℕ, ◌/◌, List, length}
 use Rattle.std.specs.List.{flat_map}
+use Rattle.program_interface.specs.Bytes.{pieces}
 
 -- so many blocks of this many bytes each, from the front of these bytes
 abbrev pub blocks_of : ℕ → ℕ → List ℕ → List (List ℕ)
-blocks_of block zero bytes = []
-blocks_of block (suc count) bytes = take block bytes ∷ blocks_of block count (drop block bytes)
+blocks_of = pieces
 
 -- how many whole blocks these bytes are
 abbrev pub block_count : ℕ → List ℕ → ℕ

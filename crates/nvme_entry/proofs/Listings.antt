@@ -4,9 +4,10 @@ use Rattle.std.specs.List.{enumerate_from, flat_map}
 use Rattle.std.proofs.lemmas.Bool.{cases_lt}
 use Rattle.std.proofs.lemmas.List.{take_at, drop_all, drop_more, length-take-le, length-replicate}
 use Rattle.zone_state.specs.Zone.{CountedZone}
+use Rattle.program_interface.specs.Bytes.{padded}
 use Rattle.nvme_entry.specs.Filter.{lists}
 use Rattle.nvme_entry.specs.declared.filter.ZoneFilter.{ZoneFilter}
-use Rattle.nvme_entry.specs.Report.{descriptor, descriptor_at, padded_to, report_header, listed, taken}
+use Rattle.nvme_entry.specs.Report.{descriptor, descriptor_at, report_header, listed, taken}
 
 pub length-descriptor : (zone : CountedZone) (lowest : ℕ) → length (descriptor zone lowest) ≡ 64
 unfolding descriptor
@@ -18,14 +19,14 @@ length-header number = refl
 
 -- what `listed` is, for pieces of 64 bytes of any kind
 abbrev pub whole : {X : Type 0} → (X → List ℕ) → ℕ → List X → List ℕ
-whole f n xs = padded_to n (flat_map f (take (n / 64) xs))
+whole f n xs = padded n (flat_map f (take (n / 64) xs))
 
 -- too little room for a piece holds none
 whole-short : {X : Type 0} (f : X → List ℕ) (n : ℕ) (xs : List X) → n < 64 → whole f n xs ≡ replicate n 0
 whole-short f n xs h =
     let none : n / 64 ≡ 0 = omega arith in
     let same : n - 0 ≡ n = omega arith in
-    ap (λ (k : ℕ). padded_to n (flat_map f (take k xs))) none ∙ ap (λ (m : ℕ). replicate m 0) same
+    ap (λ (k : ℕ). padded n (flat_map f (take k xs))) none ∙ ap (λ (m : ℕ). replicate m 0) same
 
 whole-more : {X : Type 0} (f : X → List ℕ) (n : ℕ) (x : X) (xs : List X) → length (f x) ≡ 64 → 64 ≤ n
     → whole f n (x ∷ xs) ≡ f x ++ whole f (n - 64) xs
@@ -33,7 +34,7 @@ whole-more f n x xs size h =
     let one : n / 64 ≡ suc ((n - 64) / 64) = omega arith in
     let pieces = flat_map f (take ((n - 64) / 64) xs) in
     let left : n - length (f x ++ pieces) ≡ n - 64 - length pieces = omega (arith, length-append (f x) pieces, size) in
-    ap (λ (k : ℕ). padded_to n (flat_map f (take k (x ∷ xs)))) one
+    ap (λ (k : ℕ). padded n (flat_map f (take k (x ∷ xs)))) one
     ∙ (ap (λ (m : ℕ). (f x ++ pieces) ++ replicate m 0) left
     ∙ append_assoc (f x) pieces (replicate (n - 64 - length pieces) 0))
 
@@ -93,7 +94,7 @@ take-none (suc k) = refl
 pub whole-none : {X : Type 0} (f : X → List ℕ) (n : ℕ) → whole f n [] ≡ replicate n 0
 whole-none {X = X} f n =
     let same : n - 0 ≡ n = omega arith in
-    ap (λ (xs : List X). padded_to n (flat_map f xs)) (take-none (n / 64)) ∙ ap (λ (m : ℕ). replicate m 0) same
+    ap (λ (xs : List X). padded n (flat_map f xs)) (take-none (n / 64)) ∙ ap (λ (m : ℕ). replicate m 0) same
 
 cut : (zones : List CountedZone) (index : ℕ) (zone : CountedZone) → index < length zones → zone ≡ get_or zones index zone → drop index zones ≡ zone ∷ drop (index + 1) zones
 cut zones index zone inside is = drop_more zones index zone inside ∙ ap (λ (z : CountedZone). z ∷ drop (index + 1) zones) (sym is)

@@ -7,10 +7,11 @@ use Rattle.std.proofs.lemmas.List.FromFn.{length-enumerate_from}
 use Rattle.byteorder.specs.Endian.{little_bytes}
 use Rattle.byteorder.specs.Numbers.{little_number-reads_back}
 use Rattle.zone_state.specs.Zone.{CountedZone}
+use Rattle.program_interface.specs.Bytes.{pieces}
 use Rattle.nvme_entry.specs.Filter.{lists}
 use Rattle.nvme_entry.specs.declared.filter.ZoneFilter.{ZoneFilter}
 use Rattle.nvme_entry.specs.Report.{descriptor_at, fitting, report_header, listed, matching, report, taken}
-use Rattle.nvme_entry.specs.ReportLaws.{ReportsGiveWhatMatches, ReportsZones, number_in, pieces}
+use Rattle.nvme_entry.specs.ReportLaws.{ReportsGiveWhatMatches, ReportsZones, number_in}
 use Rattle.nvme_entry.proofs.Listings.{length-descriptor, length-header, length-whole, whole}
 
 length-each : (size : ℕ) (zone : ℕ × CountedZone) → length (descriptor_at size zone) ≡ 64
@@ -102,13 +103,13 @@ length-flat : {X : Type 0} (f : X → List ℕ) → ((x : X) → length (f x) �
 length-flat f each [] = omega arith
 length-flat f each (x ∷ xs) = omega (arith, length-append (f x) (flat_map f xs), each x, length-flat f each xs)
 
-pieces-flat : {X : Type 0} (f : X → List ℕ) → ((x : X) → length (f x) ≡ 64) → (xs : List X) (rest : List ℕ) → pieces (length xs) (flat_map f xs ++ rest) ≡ map f xs
+pieces-flat : {X : Type 0} (f : X → List ℕ) → ((x : X) → length (f x) ≡ 64) → (xs : List X) (rest : List ℕ) → pieces 64 (length xs) (flat_map f xs ++ rest) ≡ map f xs
 pieces-flat f each [] rest = refl
 pieces-flat f each (x ∷ xs) rest =
     let behind = flat_map f xs ++ rest in
-    ap (λ (ys : List ℕ). take 64 ys ∷ pieces (length xs) (drop 64 ys)) (append_assoc (f x) (flat_map f xs) rest)
-    ∙ (ap (λ (ys : List ℕ). ys ∷ pieces (length xs) (drop 64 (f x ++ behind))) (take_at (f x) behind 64 (each x))
-    ∙ (ap (λ (ys : List ℕ). f x ∷ pieces (length xs) ys) (drop_at (f x) behind 64 (each x))
+    ap (λ (ys : List ℕ). take 64 ys ∷ pieces 64 (length xs) (drop 64 ys)) (append_assoc (f x) (flat_map f xs) rest)
+    ∙ (ap (λ (ys : List ℕ). ys ∷ pieces 64 (length xs) (drop 64 (f x ++ behind))) (take_at (f x) behind 64 (each x))
+    ∙ (ap (λ (ys : List ℕ). f x ∷ pieces 64 (length xs) ys) (drop_at (f x) behind 64 (each x))
     ∙ ap (λ (zs : List (List ℕ)). f x ∷ zs) (pieces-flat f each xs rest)))
 
 kept : {X : Type 0} (test : Bool) (x : X) (xs : List X) (n : ℕ) → length xs ≤ n → length (cond test (x ∷ xs) xs) ≤ suc n
@@ -146,8 +147,8 @@ tells bytes partial size found given long few parts same_length =
     record {
       number = ap number_in parts ∙ (number-in-header number (whole f (bytes - 64) found) small ∙ sym (told partial room found));
       descriptors =
-          ap (λ (ys : List ℕ). pieces (min room (length found)) ys) back
-          ∙ (ap (λ (k : ℕ). pieces k (flat_map f shown ++ zeros)) (sym count)
+          ap (λ (ys : List ℕ). pieces 64 (min room (length found)) ys) back
+          ∙ (ap (λ (k : ℕ). pieces 64 k (flat_map f shown ++ zeros)) (sym count)
           ∙ (pieces-flat f (length-each size) shown zeros ∙ ap (λ (zs : List (ℕ × CountedZone)). map f zs) (sym (take_min room found))));
       rest =
           sym (drop-drop (64 * min room (length found)) 64 given)

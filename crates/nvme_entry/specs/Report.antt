@@ -2,6 +2,7 @@
 use Rattle.std.specs.Prelude.{ℕ, Bool, ◌-◌, ◌*◌, ◌/◌, List, ◌++◌, length, take, drop, filter, replicate, if◌then◌else◌}
 use Rattle.std.specs.List.{enumerate_from, flat_map}
 use Rattle.byteorder.specs.Endian.{little_bytes}
+use Rattle.program_interface.specs.Bytes.{padded}
 use Rattle.zone_state.specs.Zone.{CountedZone}
 use Rattle.nvme_entry.specs.Descriptor.{described, descriptor_bytes}
 use Rattle.nvme_entry.specs.Filter.{lists}
@@ -27,17 +28,13 @@ taken option zones = filter (λ (zone : ℕ × CountedZone). lists option zone.1
 abbrev pub matching : List CountedZone → ℕ → ZoneFilter → List (ℕ × CountedZone)
 matching zones first option = taken option (enumerate_from first (drop first zones))
 
--- bytes, and zeros behind them up to a length
-abbrev pub padded_to : ℕ → List ℕ → List ℕ
-padded_to length_wanted bytes = bytes ++ replicate (length_wanted - length bytes) 0
-
 -- the zones whose descriptors fit whole into so many bytes, in order
 abbrev pub fitting : ℕ → List (ℕ × CountedZone) → List (ℕ × CountedZone)
 fitting bytes zones = take (bytes / 64) zones
 
 -- so many bytes with the descriptors of these zones, as many as fit whole, and zeros
 abbrev pub listed : ℕ → ℕ → List (ℕ × CountedZone) → List ℕ
-listed size bytes zones = padded_to bytes (flat_map (descriptor_at size) (fitting bytes zones))
+listed size bytes zones = padded bytes (flat_map (descriptor_at size) (fitting bytes zones))
 
 -- A transfer of so many bytes: the header, and behind it the zones that match. With Partial Report the
 -- header's number is that of the descriptors given, else that of all zones that match. A transfer of

@@ -1,6 +1,7 @@
 -- Laws of reports, in the words of a host that reads them.
-use Rattle.std.specs.Prelude.{ℕ, zero, suc, ◌≡◌, ◌≤◌, ◌<◌, ◌+◌, ◌-◌, ◌*◌, ◌/◌, ◌^◌, min, Bool, List, [], ◌∷◌, length, map, take, drop, replicate, if◌then◌else◌}
+use Rattle.std.specs.Prelude.{ℕ, ◌≡◌, ◌≤◌, ◌<◌, ◌+◌, ◌-◌, ◌*◌, ◌/◌, ◌^◌, min, Bool, List, length, map, take, drop, replicate, if◌then◌else◌}
 use Rattle.byteorder.specs.Endian.{little_number}
+use Rattle.program_interface.specs.Bytes.{pieces}
 use Rattle.zone_state.specs.Zone.{CountedZone}
 use Rattle.nvme_entry.specs.declared.filter.ZoneFilter.{ZoneFilter}
 use Rattle.nvme_entry.specs.Report.{report, matching, descriptor_at}
@@ -9,14 +10,9 @@ use Rattle.nvme_entry.specs.Report.{report, matching, descriptor_at}
 abbrev pub number_in : List ℕ → ℕ
 number_in bytes = little_number 8 bytes
 
--- so many pieces of 64 bytes
-abbrev pub pieces : ℕ → List ℕ → List (List ℕ)
-pieces zero bytes = []
-pieces (suc count) bytes = take 64 bytes ∷ pieces count (drop 64 bytes)
-
 -- the first descriptors of a report, which stand behind its header
 abbrev pub descriptors_in : ℕ → List ℕ → List (List ℕ)
-descriptors_in count bytes = pieces count (drop 64 bytes)
+descriptors_in count bytes = pieces 64 count (drop 64 bytes)
 
 -- what bytes tell of zones that match: so many descriptors are given
 pub record ReportsZones (bytes : List ℕ) (partial : Bool) (size given : ℕ) (found : List (ℕ × CountedZone)) : Type 0 where

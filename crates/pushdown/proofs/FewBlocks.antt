@@ -6,7 +6,8 @@ use Rattle.std.proofs.lemmas.List.{drop_at, length-map}
 use Rattle.program_meaning.specs.BlockRun.{BlockRun}
 use Rattle.program_meaning.specs.declared.end.End.{End}
 use Rattle.program_meaning.specs.declared.end.End.TheVariants as end
-use Rattle.emit_append.specs.Packing.{all_but_last, beginning, behind, block_fillings, laid_out, packed, padded, pending_of, released}
+use Rattle.program_interface.specs.Bytes.{padded}
+use Rattle.emit_append.specs.Packing.{all_but_last, beginning, behind, block_fillings, laid_out, packed, pending_of, released}
 use Rattle.emit_append.proofs.Proved.{packing_goes_on}
 use Rattle.pushdown.specs.Outcome.{Emitted, Turn, last_turn_by, middle_turn, turns_after, with_group}
 
