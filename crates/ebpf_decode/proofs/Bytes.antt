@@ -8,7 +8,7 @@ use Rattle.byteorder.specs.Endian.{little_bytes, little_number}
 use Rattle.instruction_set.specs.declared.fields.Fields.{Fields}
 use Rattle.ebpf_decode.specs.Reading.{fields_at, slots_at}
 use Rattle.instruction_set.specs.Spelling.{slot_bytes}
-use Rattle.ebpf_decode.proofs.Takes.{AreFields}
+use Rattle.ebpf_decode.proofs.ReadAreSpelled.{AreFields}
 
 abbrev pub IsBytes : List ℕ → Type 0
 IsBytes bytes = (i : ℕ) → get_or bytes i 0 < 256

@@ -15,11 +15,11 @@ use Rattle.ebpf_decode.specs.FirstFault.{AllPass, Begins, IsFirst, IsFirstFault,
 use Rattle.ebpf_decode.specs.Laws.{FaultIsFirst}
 use Rattle.ebpf_decode.specs.Opcodes.{opcode_named}
 use Rattle.ebpf_decode.specs.Reading.{checks, instruction_with, length_checks, length_fault, read, read_named, read_slots, slots_at, then_read, unless, unless_length}
-use Rattle.ebpf_decode.proofs.Again.{read-again}
+use Rattle.ebpf_decode.proofs.SpelledAreRead.{read-again}
 use Rattle.ebpf_decode.proofs.Bytes.{slots-fields}
 use Rattle.ebpf_decode.proofs.FaultSlots.{fault_behind, same_slot}
 use Rattle.ebpf_decode.proofs.Programs.{are-fields-in}
-use Rattle.ebpf_decode.proofs.Takes.{AreFields, AreFieldsIn, IsTaken, read-takes}
+use Rattle.ebpf_decode.proofs.ReadAreSpelled.{AreFields, AreFieldsIn, IsTaken, read-takes}
 
 -- ---- the first of some checks
 

@@ -1,8 +1,8 @@
 mod Slots
-mod Takes
+mod ReadAreSpelled
 mod Programs
 mod Bytes
-mod Again
+mod SpelledAreRead
 mod FaultSlots
 mod FirstFaults
 pub mod Proved

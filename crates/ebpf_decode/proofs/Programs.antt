@@ -14,10 +14,10 @@ use Rattle.instruction_set.specs.Spelling.{Fits, first_slot, instructions_of, pr
 use Rattle.program_interface.specs.declared.TheConstants.{MOST_SLOTS}
 use Rattle.std.proofs.lemmas.Bool.{eq-eqb, eqb-false, eqb-true, le-ltb, ltb-false, ne_eqb, not-false, not_from_true}
 use Rattle.std.proofs.lemmas.List.Concat.{flat_map-append}
-use Rattle.ebpf_decode.proofs.Again.{read-again}
+use Rattle.ebpf_decode.proofs.SpelledAreRead.{read-again}
 use Rattle.ebpf_decode.proofs.Bytes.{FitSlot, IsBytes, fits-32, length-slots_bytes, slots-again, slots-bytes, slots-fields}
 use Rattle.ebpf_decode.proofs.Slots.{length-slots}
-use Rattle.ebpf_decode.proofs.Takes.{AreFields, AreFieldsIn, IsTaken, read-takes}
+use Rattle.ebpf_decode.proofs.ReadAreSpelled.{AreFields, AreFieldsIn, IsTaken, read-takes}
 
 -- instructions whose slots they are
 pub record Spelled (fs : List Fields) (slots : List (Option Instruction)) : Type 0 where

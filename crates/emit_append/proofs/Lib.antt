@@ -7,7 +7,7 @@ mod LowestRefused
 mod Needs
 mod OnlyFrames
 mod Padding
-mod Parts
+mod GroupsOfBlocks
 mod Puts
 mod ReadBack
 mod Wholes

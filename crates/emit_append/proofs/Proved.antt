@@ -12,13 +12,13 @@ use Rattle.emit_append.proofs.Continuing as continuing
 use Rattle.emit_append.proofs.LowestRefused as lowest_refused
 use Rattle.emit_append.proofs.Needs as needs
 use Rattle.emit_append.proofs.OnlyFrames as only_frames
-use Rattle.emit_append.proofs.Parts as parts
+use Rattle.emit_append.proofs.GroupsOfBlocks as groups
 use Rattle.emit_append.proofs.Puts as puts
 use Rattle.emit_append.proofs.ReadBack as read_back
 use Rattle.emit_append.proofs.Wholes as wholes
 
 pub packed_as_described : PackedAsDescribed
-packed_as_described = parts.packed_as_described
+packed_as_described = groups.packed_as_described
 
 pub output_blocks_are_whole : OutputBlocksAreWhole
 output_blocks_are_whole = wholes.output_blocks_are_whole

@@ -9,7 +9,7 @@ use Rattle.emit_append.specs.Packing.{all_but_last, block_fillings, laid_out, la
 use Rattle.emit_append.proofs.ByteLists.{AllBytes, by_place, lists_by_place, lists_by_recursion}
 use Rattle.emit_append.proofs.Layouts.{laid-behind, laid-beginning}
 use Rattle.emit_append.proofs.Padding.{length-padded}
-use Rattle.emit_append.proofs.Parts.{filled_fits}
+use Rattle.emit_append.proofs.GroupsOfBlocks.{filled_fits}
 
 -- what holds of each in a list holds of all but the last, and of the last
 module _ (P : List ℕ → Type 0) where

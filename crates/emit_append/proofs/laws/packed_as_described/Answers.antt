@@ -1,4 +1,4 @@
-use Rattle.emit_append.proofs.Parts.{packed_as_described}
+use Rattle.emit_append.proofs.GroupsOfBlocks.{packed_as_described}
 use Rattle.emit_append.proofs.laws.packed_as_described.Goals as goal
 
 pub returns : goal.returns

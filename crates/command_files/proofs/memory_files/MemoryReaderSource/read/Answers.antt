@@ -1,5 +1,5 @@
 use Rattle.std.proofs.Common.{◌≡◌, ℕ, length, ap, sym, ◌∙◌, min}
-use Rattle.command_files.proofs.Pieces.{piece}
+use Rattle.command_files.proofs.MemoryReading.{piece}
 use Rattle.command_files.proofs.memory_files.MemoryReaderSource.read.Goals as goal
 
 pub returns-clause-read : goal.returns-clause-read
