@@ -18,7 +18,7 @@ fn clear_registers(registers: &mut [u64; REGISTERS])
 impl Machine<'_> {
     ghost use Rattle.std.specs.Prelude.{◌≡◌, ◌+◌, ◌<◌, ◌≤◌, ◌^◌, ℕ, Option, Some, length, take, drop, ◌++◌, is_ok, if◌then◌else◌, slice_index};
     ghost use Rattle.program_meaning.specs.Effect.{with_frame, emitted};
-    ghost use Rattle.program_meaning.specs.Memory.{bytes_of, bytes_from, area_offset_of};
+    ghost use Rattle.program_meaning.specs.Memory.{area_bytes, bytes_from, area_offset_of};
     ghost use Rattle.program_interface.specs.Area.{length_of};
     ghost use Rattle.interp.specs.Machine.{state_at, memory_of, group_length, Extends};
     ghost use Rattle.interp.specs.StepEnds.{unless, emit_hindrance};
