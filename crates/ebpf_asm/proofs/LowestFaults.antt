@@ -9,7 +9,7 @@ use Rattle.instruction_set.specs.declared.instruction.Instruction.{Instruction}
 use Rattle.ebpf_asm.specs.declared.fault.Fault.{Fault}
 use Rattle.ebpf_asm.specs.declared.fault.FaultKind.{FaultKind}
 use Rattle.ebpf_asm.specs.Line.{Line, slots_in}
-use Rattle.ebpf_asm.specs.Assembly.{before_later, bytes_from, bytes_of, first_fault, is_twice, label_map, line_fault, lines_of, resolved, slot_count, told_first, unless_faulty}
+use Rattle.ebpf_asm.specs.Assembly.{before_later, bytes_from, bytes_in_front, first_fault, is_twice, label_map, line_fault, lines_of, resolved, slot_count, told_first, unless_faulty}
 use Rattle.ebpf_asm.specs.LowestFault.{HaveNone, IsLowest, IsLowestFault, jump_fault, jump_fault_of, own_fault}
 use Rattle.ebpf_asm.specs.Laws.{FaultIsLowest}
 use Rattle.ebpf_asm.proofs.Passes.{slot_count-push}
@@ -129,7 +129,7 @@ module _ (all : List Line) where
 
   jump_told : (before : List Line) (fault : Fault) (instruction : Result (Option Instruction) FaultKind) (target : Option (List ℕ)) (later : Result (List ℕ) Fault) → JumpBelow before
       → jump_fault all (length before) ≡ jump_fault_of (label_map all) (slot_count before) instruction target
-      → bytes_of (label_map all) (length before + 1) (slot_count before) instruction target later ≡ Err fault
+      → bytes_in_front (label_map all) (length before + 1) (slot_count before) instruction target later ≡ Err fault
       → (jump_fault all (length before) ≡ None → later ≡ Err fault → IsLowest (jump_fault all) fault) → IsLowest (jump_fault all) fault
   jump_told before fault (Ok (Some instruction)) target later below here e more =
       jump_read before fault (resolved (label_map all) (slot_count before) instruction target) later below here e more
@@ -142,7 +142,7 @@ module _ (all : List Line) where
   jump_lowest before (line ∷ rest) number slot fault are n s below e =
       let later = bytes_from (label_map all) (number + 1) (slot + slots_in line) rest in
       jump_told before fault line.instruction line.target later below (at_behind jump before rest all line are)
-      (ap (λ m. bytes_of (label_map all) m (slot_count before) line.instruction line.target later) (sym n) ∙ ap (λ t. bytes_of (label_map all) number t line.instruction line.target later) (sym s) ∙ e)
+      (ap (λ m. bytes_in_front (label_map all) m (slot_count before) line.instruction line.target later) (sym n) ∙ ap (λ t. bytes_in_front (label_map all) number t line.instruction line.target later) (sym s) ∙ e)
       (λ here behind.
       jump_lowest (before ++ line ∷ []) rest (number + 1) (slot + slots_in line) fault (pushed before rest all line are)
       (omega (arith, n, length-append before (line ∷ []))) (omega (arith, s, slot_count-push before line))

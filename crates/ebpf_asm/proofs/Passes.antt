@@ -14,7 +14,7 @@ use Rattle.ebpf_asm.specs.declared.fault.FaultKind.TheVariants.{TooLong}
 use Rattle.ebpf_asm.specs.declared.line as code
 use Rattle.ebpf_asm.specs.Line.{Line, slots_in, slots_of_instruction}
 use Rattle.ebpf_asm.specs.steps.LineView.{line_view, line_views}
-use Rattle.ebpf_asm.specs.Assembly.{LabelMap, label_at, labels_from, label_map, slot_named, slot_count, is_twice, line_fault, first_fault, resolved, before_later, bytes_of, bytes_from, told_first}
+use Rattle.ebpf_asm.specs.Assembly.{LabelMap, label_at, labels_from, label_map, slot_named, slot_count, is_twice, line_fault, first_fault, resolved, before_later, bytes_in_front, bytes_from, told_first}
 use Rattle.ebpf_asm.specs.steps.Labels.{with_label}
 
 -- ---- the lines that are left, and those before
@@ -167,8 +167,8 @@ HasMade-nothing left all line labels number slot bytes none h = at line.instruct
 
     at : (instruction : Result (Option Instruction) FaultKind) → line.instruction ≡ instruction → HasMade left all labels (number + 1) slot bytes
     at (Ok (Some instruction)) e = absurd (none instruction e)
-    at (Ok None) e = record { so_far = ap (λ s. joined bytes (bytes_from labels (number + 1) s left)) (omega (arith, ap slots_of_instruction e)) ∙ ap (λ i. joined bytes (bytes_of labels number slot i line.target (bytes_from labels (number + 1) (slot + slots_in line) left))) (sym e) ∙ h.so_far; room = omega (arith, h.room, ap slots_of_instruction e) }
-    at (Err kind) e = record { so_far = ap (λ s. joined bytes (bytes_from labels (number + 1) s left)) (omega (arith, ap slots_of_instruction e)) ∙ ap (λ i. joined bytes (bytes_of labels number slot i line.target (bytes_from labels (number + 1) (slot + slots_in line) left))) (sym e) ∙ h.so_far; room = omega (arith, h.room, ap slots_of_instruction e) }
+    at (Ok None) e = record { so_far = ap (λ s. joined bytes (bytes_from labels (number + 1) s left)) (omega (arith, ap slots_of_instruction e)) ∙ ap (λ i. joined bytes (bytes_in_front labels number slot i line.target (bytes_from labels (number + 1) (slot + slots_in line) left))) (sym e) ∙ h.so_far; room = omega (arith, h.room, ap slots_of_instruction e) }
+    at (Err kind) e = record { so_far = ap (λ s. joined bytes (bytes_from labels (number + 1) s left)) (omega (arith, ap slots_of_instruction e)) ∙ ap (λ i. joined bytes (bytes_in_front labels number slot i line.target (bytes_from labels (number + 1) (slot + slots_in line) left))) (sym e) ∙ h.so_far; room = omega (arith, h.room, ap slots_of_instruction e) }
 
 pub HasMade-more : (left all : List Line) (line : Line) (labels : LabelMap) (number slot n : ℕ) (bytes more : List ℕ) (instruction made : Instruction) → line.instruction ≡ Ok (Some instruction) → Ok made ≡ resolved labels slot instruction line.target
     → more ≡ bytes ++ spelling made → n ≡ slots_in line → HasMade (line ∷ left) all labels number slot bytes → HasMade left all labels (number + 1) (slot + n) more
@@ -176,7 +176,7 @@ HasMade-more left all line labels number slot n bytes more instruction made e r 
     let later = bytes_from labels (number + 1) (slot + slots_in line) left in
     record {
       so_far = ap (λ s. joined more (bytes_from labels (number + 1) (slot + s) left)) taken ∙ ap (λ b. joined b later) m ∙ sym (joined-joined bytes number made later)
-          ∙ ap (λ i. joined bytes (before_later number i later)) r ∙ ap (λ i. joined bytes (bytes_of labels number slot i line.target later)) (sym e) ∙ h.so_far;
+          ∙ ap (λ i. joined bytes (before_later number i later)) r ∙ ap (λ i. joined bytes (bytes_in_front labels number slot i line.target later)) (sym e) ∙ h.so_far;
       room = omega (arith, h.room);
     }
 
@@ -184,7 +184,7 @@ pub HasMade-fault : (left all : List Line) (line : Line) (labels : LabelMap) (nu
     → HasMade (line ∷ left) all labels number slot bytes → bytes_from labels 1 0 all ≡ Err (record { line = number; kind = kind })
 HasMade-fault left all line labels number slot bytes instruction kind e r h =
     let later = bytes_from labels (number + 1) (slot + slots_in line) left in
-    sym h.so_far ∙ ap (λ i. joined bytes (bytes_of labels number slot i line.target later)) e ∙ ap (λ i. joined bytes (before_later number i later)) (sym r)
+    sym h.so_far ∙ ap (λ i. joined bytes (bytes_in_front labels number slot i line.target later)) e ∙ ap (λ i. joined bytes (before_later number i later)) (sym r)
 
 pub HasMade-end : (all : List Line) (labels : LabelMap) (number slot : ℕ) (bytes : List ℕ) → HasMade [] all labels number slot bytes → bytes_from labels 1 0 all ≡ Ok bytes
 HasMade-end all labels number slot bytes h = sym h.so_far ∙ ap (λ (b : List ℕ). Ok b) (append-nil bytes)

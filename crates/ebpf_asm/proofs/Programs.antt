@@ -9,7 +9,7 @@ use Rattle.instruction_set.specs.Spelling.{Fits, spelling, program_bytes}
 use Rattle.ebpf_asm.specs.declared.fault.Fault.{Fault}
 use Rattle.ebpf_asm.specs.declared.fault.FaultKind.{FaultKind}
 use Rattle.ebpf_asm.specs.Line.{Line, slots_in, slots_of_instruction}
-use Rattle.ebpf_asm.specs.Assembly.{LabelMap, before_later, bytes_from, bytes_of, first_fault, is_twice, label_map, line_fault, lines_of, resolved, slot_count, told_first, unless_faulty}
+use Rattle.ebpf_asm.specs.Assembly.{LabelMap, before_later, bytes_from, bytes_in_front, first_fault, is_twice, label_map, line_fault, lines_of, resolved, slot_count, told_first, unless_faulty}
 use Rattle.ebpf_asm.specs.Laws.{AssembledIsProgram}
 use Rattle.ebpf_asm.proofs.Fitting.{Fills, LineFits, lines_fit, resolved_fits}
 use Rattle.ebpf_asm.proofs.Passes.{fits_if, slot_count-push}
@@ -64,7 +64,7 @@ no_slot bytes slots h = let same : slots ≡ 0 + slots = omega arith in subst (�
 
 at_line : (labels : LabelMap) (number slot slots : ℕ) (instruction : Result (Option Instruction) FaultKind) (target : Option (List ℕ)) (later : Result (List ℕ) Fault) (bytes : List ℕ)
     → IfOk instruction (λ i. IfSome i Fits) → ((more : List ℕ) → later ≡ Ok more → Spells more slots)
-    → bytes_of labels number slot instruction target later ≡ Ok bytes → Spells bytes (slots_of_instruction instruction + slots)
+    → bytes_in_front labels number slot instruction target later ≡ Ok bytes → Spells bytes (slots_of_instruction instruction + slots)
 at_line labels number slot slots (Ok (Some instruction)) target later bytes fits rest e =
     one_more number slots instruction (resolved labels slot instruction target) later bytes (resolved_fits labels slot instruction target fits) rest e
 at_line labels number slot slots (Ok None) target later bytes fits rest e = no_slot bytes slots (rest bytes e)

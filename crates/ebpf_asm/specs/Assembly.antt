@@ -96,16 +96,16 @@ before_later number (Ok instruction) (Err fault) = Err fault
 before_later number (Ok instruction) (Ok bytes) = Ok (spelling instruction ++ bytes)
 
 -- the bytes of a line's instruction in front of those of later lines
-abbrev pub bytes_of : LabelMap → ℕ → ℕ → Result (Option Instruction) FaultKind → Option (List ℕ) → Result (List ℕ) Fault → Result (List ℕ) Fault
-bytes_of labels number slot (Ok (Some instruction)) target later = before_later number (resolved labels slot instruction target) later
-bytes_of labels number slot (Ok None) target later = later
-bytes_of labels number slot (Err kind) target later = later
+abbrev pub bytes_in_front : LabelMap → ℕ → ℕ → Result (Option Instruction) FaultKind → Option (List ℕ) → Result (List ℕ) Fault → Result (List ℕ) Fault
+bytes_in_front labels number slot (Ok (Some instruction)) target later = before_later number (resolved labels slot instruction target) later
+bytes_in_front labels number slot (Ok None) target later = later
+bytes_in_front labels number slot (Err kind) target later = later
 
 -- the bytes of lines without other faults, from this line number and this slot on
 abbrev pub bytes_from : LabelMap → ℕ → ℕ → List Line → Result (List ℕ) Fault
 bytes_from labels number slot [] = Ok []
 bytes_from labels number slot (line ∷ rest) =
-    bytes_of labels number slot line.instruction line.target (bytes_from labels (number + 1) (slot + slots_in line) rest)
+    bytes_in_front labels number slot line.instruction line.target (bytes_from labels (number + 1) (slot + slots_in line) rest)
 
 -- the bytes, unless there is a fault
 abbrev pub unless_faulty : Option Fault → Result (List ℕ) Fault → Result (List ℕ) Fault
