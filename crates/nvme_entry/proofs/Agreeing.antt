@@ -3,7 +3,7 @@ use Rattle.std.proofs.Common.{◌≡◌, ℕ, ◌==◌, List, [], ◌∷◌, Opt
 use Rattle.std.specs.Option.{ok_or}
 use Rattle.zone_state.specs.declared.status.TheConstants.Status.{INVALID_FIELD_IN_COMMAND, INVALID_NAMESPACE_OR_FORMAT}
 use Rattle.zone_state.specs.Checks.{demand, first_failed}
-use Rattle.nvme_entry.specs.Entry.{asked, checked, command_of, decoded_by, entry_checks, fuse_of, namespace_of, opcode_of}
+use Rattle.nvme_entry.specs.Entry.{asked, checked, command_of, decoded_by, entry_checks, fuse_of, namespace_identifier, opcode_of}
 use Rattle.nvme_entry.specs.EntryLaws.{OnlyNamedFieldsCount, Spells}
 use Rattle.nvme_entry.specs.declared.command.Command.{Command}
 use Rattle.nvme_entry.specs.declared.command.Opcode.{Opcode}
@@ -26,11 +26,11 @@ names_too o e f is too spells c named =
     let same : names.named ≡ o = one_opcode names.named o (sym names.is ∙ too) in
     subst (λ (x : Opcode). command_of x f ≡ Some c) same names.command
 
-decoded_same : (found : Option Opcode) (e f : List ℕ) → opcode_of (slice_index e 0) ≡ found → opcode_of (slice_index f 0) ≡ found → fuse_of e ≡ fuse_of f → namespace_of e ≡ namespace_of f
+decoded_same : (found : Option Opcode) (e f : List ℕ) → opcode_of (slice_index e 0) ≡ found → opcode_of (slice_index f 0) ≡ found → fuse_of e ≡ fuse_of f → namespace_identifier e ≡ namespace_identifier f
     → ((c : Command) → (Spells e c → Spells f c) × (Spells f c → Spells e c)) → decoded_by found e ≡ decoded_by found f
 decoded_same None e f is too fuse namespace fields = refl
 decoded_same (Some o) e f is too fuse namespace fields =
-    ap (λ (n : ℕ). checked (first_failed (demand (n == 0) INVALID_FIELD_IN_COMMAND ∷ demand (namespace_of e == 1) INVALID_NAMESPACE_OR_FORMAT ∷ [])) (asked o e)) fuse
+    ap (λ (n : ℕ). checked (first_failed (demand (n == 0) INVALID_FIELD_IN_COMMAND ∷ demand (namespace_identifier e == 1) INVALID_NAMESPACE_OR_FORMAT ∷ [])) (asked o e)) fuse
     ∙ ap (λ (n : ℕ). checked (first_failed (demand (fuse_of f == 0) INVALID_FIELD_IN_COMMAND ∷ demand (n == 1) INVALID_NAMESPACE_OR_FORMAT ∷ [])) (asked o e)) namespace
     ∙ ap (λ (c : Option Command). checked (first_failed (entry_checks f)) (ok_or c INVALID_FIELD_IN_COMMAND))
     (same_found (command_of o e) (command_of o f) (names_too o e f is too (λ c. (fields c).0)) (names_too o f e too is (λ c. (fields c).1)))

@@ -7,7 +7,7 @@ use Rattle.byteorder.specs.Numbers.{little_from-bytes, little_number-reads_back}
 use Rattle.zone_state.specs.declared.status.TheConstants.Status.{INVALID_FIELD_IN_COMMAND, INVALID_NAMESPACE_OR_FORMAT}
 use Rattle.zone_state.specs.Checks.{demand, first_failed}
 use Rattle.nvme_entry.specs.steps.EntryFields.{HasFields}
-use Rattle.nvme_entry.specs.Entry.{asked, checked, decoded, decoded_by, fuse_of, identifier_of, namespace_of, opcode_of}
+use Rattle.nvme_entry.specs.Entry.{asked, checked, decoded, decoded_by, fuse_of, identifier_of, namespace_identifier, opcode_of}
 use Rattle.nvme_entry.specs.declared.command.Opcode.{Opcode}
 use Rattle.nvme_entry.specs.declared.encoding.CommandDwords.{CommandDwords}
 
@@ -29,11 +29,11 @@ byte_is : (place n : ℕ) → byte_at place n ≡ n / 256 ^ place % 256
 byte_is place n = omega (arith, little_from-bytes 1 place n [])
 
 -- no check of all entries fails
-pub decoded_is : (entry : List ℕ) (opcode : Opcode) → opcode_of (slice_index entry 0) ≡ Some opcode → fuse_of entry ≡ 0 → namespace_of entry ≡ 1
+pub decoded_is : (entry : List ℕ) (opcode : Opcode) → opcode_of (slice_index entry 0) ≡ Some opcode → fuse_of entry ≡ 0 → namespace_identifier entry ≡ 1
     → decoded entry ≡ asked opcode entry
 decoded_is entry opcode is_opcode is_fuse is_namespace =
     ap (λ (found : Option Opcode). decoded_by found entry) is_opcode
-    ∙ (ap (λ (n : ℕ). checked (first_failed (demand (n == 0) INVALID_FIELD_IN_COMMAND ∷ demand (namespace_of entry == 1) INVALID_NAMESPACE_OR_FORMAT ∷ [])) (asked opcode entry)) is_fuse
+    ∙ (ap (λ (n : ℕ). checked (first_failed (demand (n == 0) INVALID_FIELD_IN_COMMAND ∷ demand (namespace_identifier entry == 1) INVALID_NAMESPACE_OR_FORMAT ∷ [])) (asked opcode entry)) is_fuse
     ∙ ap (λ (n : ℕ). checked (first_failed (demand (n == 1) INVALID_NAMESPACE_OR_FORMAT ∷ [])) (asked opcode entry)) is_namespace)
 
 -- each dword fits

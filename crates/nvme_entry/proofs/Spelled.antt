@@ -8,7 +8,7 @@ use Rattle.zone_state.specs.declared.status.Status.{Status}
 use Rattle.zone_state.specs.declared.status.TheConstants.Status.{INVALID_FIELD_IN_COMMAND, INVALID_NAMESPACE_OR_FORMAT}
 use Rattle.zone_state.specs.Transition.{action_of}
 use Rattle.zone_state.specs.Checks.{demand, first_failed}
-use Rattle.nvme_entry.specs.Entry.{asked, asked_blocks, checked, command_of, decoded_by, dwords_of, fuse_of, namespace_of, opcode_of, starting_lba}
+use Rattle.nvme_entry.specs.Entry.{asked, asked_blocks, checked, command_of, decoded_by, dwords_of, fuse_of, namespace_identifier, opcode_of, starting_lba}
 use Rattle.nvme_entry.specs.EntryLaws.{AsksFor, FieldsAreSpelled, SpelledEntriesAreDecoded, Spells}
 use Rattle.nvme_entry.specs.Fields.{dword, field}
 use Rattle.nvme_entry.specs.Filter.{filter_of}
@@ -139,8 +139,8 @@ decoded_as : (entry : List ℕ) (found : Option Opcode) (c : Command) → opcode
     → AsksFor entry c
 decoded_as entry None c is e = absurd cc
 decoded_as entry (Some o) c is e =
-    let told = past (fuse_of entry == 0) (namespace_of entry == 1) (asked o entry) c e in
-    (eqb-true (fuse_of entry) 0 told.0, eqb-true (namespace_of entry) 1 told.1, spelled_by o entry c (code_told (slice_index entry 0) o is) (given (command_of o entry) c told.2))
+    let told = past (fuse_of entry == 0) (namespace_identifier entry == 1) (asked o entry) c e in
+    (eqb-true (fuse_of entry) 0 told.0, eqb-true (namespace_identifier entry) 1 told.1, spelled_by o entry c (code_told (slice_index entry 0) o is) (given (command_of o entry) c told.2))
 
 pub fields_are_spelled : FieldsAreSpelled
 fields_are_spelled entry c e = decoded_as entry (opcode_of (slice_index entry 0)) c refl e

@@ -26,8 +26,8 @@ abbrev pub identifier_of : List ℕ → ℕ
 identifier_of entry = field entry 2 2
 
 -- the namespace identifier, which is Dword 1
-abbrev pub namespace_of : List ℕ → ℕ
-namespace_of entry = dword entry 1
+abbrev pub namespace_identifier : List ℕ → ℕ
+namespace_identifier entry = dword entry 1
 
 -- Command Dwords 10 and 11: the starting logical block address
 abbrev pub starting_lba : List ℕ → ℕ
@@ -111,7 +111,7 @@ asked opcode entry = ok_or (command_of opcode entry) INVALID_FIELD_IN_COMMAND
 
 -- the checks of an entry with an opcode that there is, in order (profile); the one namespace is 1 (profile)
 abbrev pub entry_checks : List ℕ → List (Option Status)
-entry_checks entry = demand (fuse_of entry == 0) INVALID_FIELD_IN_COMMAND ∷ demand (namespace_of entry == 1) INVALID_NAMESPACE_OR_FORMAT ∷ []
+entry_checks entry = demand (fuse_of entry == 0) INVALID_FIELD_IN_COMMAND ∷ demand (namespace_identifier entry == 1) INVALID_NAMESPACE_OR_FORMAT ∷ []
 
 -- what is asked for, where no check fails
 abbrev pub checked : Option Status → Result Command Status → Result Command Status

@@ -1,7 +1,7 @@
 //! Submission queue entries.
 
 ghost use Rattle.std.specs.Prelude.{◌≡◌};
-ghost use Rattle.nvme_entry.specs.Entry.{decoded, asked, identifier_of, starting_lba, asked_blocks, fuse_of, namespace_of};
+ghost use Rattle.nvme_entry.specs.Entry.{decoded, asked, identifier_of, starting_lba, asked_blocks, fuse_of, namespace_identifier};
 
 use crate::command::{
     BlockCount, Command, DwordCount, LoadCommand, MOST_TRANSFER, Opcode, RunCommand,
@@ -153,7 +153,7 @@ impl Entry {
     }
 
     fn namespace(entry: &[u8; 64]) -> u32
-        ensures { result ≡ namespace_of entry.now }
+        ensures { result ≡ namespace_identifier entry.now }
     {
         dword(entry, 1)
     }
