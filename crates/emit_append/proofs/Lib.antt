@@ -5,7 +5,7 @@ mod FramesRead
 mod Layouts
 mod LowestRefused
 mod Needs
-mod OnlyFrames
+mod UnpackedFrames
 mod Padding
 mod GroupsOfBlocks
 mod Puts

@@ -13,7 +13,7 @@ use Rattle.program_interface.specs.Bytes.{padded}
 use Rattle.emit_append.proofs.ByteLists.{AllBytes, by_recursion}
 use Rattle.emit_append.specs.Unpacking.{AreFrames, CanBegin, Reading, RefusedIsLowest, after_frame, and_then, frame_length, frame_record, frames_at, output_block_at, output_blocks_at, then_read, zeros_at}
 use Rattle.emit_append.proofs.FramesRead.{step-frame, step-short, step-zeros}
-use Rattle.emit_append.proofs.OnlyFrames.{IsFrames, bytes_from, bytes_up_to, framed, frames-read, only-frames, record_length}
+use Rattle.emit_append.proofs.UnpackedFrames.{IsFrames, bytes_from, bytes_up_to, framed, frames-read, only-frames, record_length}
 use Rattle.emit_append.proofs.ReadBack.{front_two, length-blocks}
 
 -- ---- lists

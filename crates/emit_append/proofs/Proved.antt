@@ -11,7 +11,7 @@ pub use Rattle.emit_append.proofs.ByteLists.{AllBytes, by_place, by_recursion}
 use Rattle.emit_append.proofs.Continuing as continuing
 use Rattle.emit_append.proofs.LowestRefused as lowest_refused
 use Rattle.emit_append.proofs.Needs as needs
-use Rattle.emit_append.proofs.OnlyFrames as only_frames
+use Rattle.emit_append.proofs.UnpackedFrames as unpacked_frames
 use Rattle.emit_append.proofs.GroupsOfBlocks as groups
 use Rattle.emit_append.proofs.Puts as puts
 use Rattle.emit_append.proofs.ReadBack as read_back
@@ -56,7 +56,7 @@ pub packed_frames_read_back : PackedFramesReadBack
 packed_frames_read_back = read_back.packed_frames_read_back
 
 pub unpacked_is_frames : UnpackedIsFrames
-unpacked_is_frames = only_frames.unpacked_is_frames
+unpacked_is_frames = unpacked_frames.unpacked_is_frames
 
 pub refused_is_lowest : RefusedIsLowest
 refused_is_lowest = lowest_refused.refused_is_lowest

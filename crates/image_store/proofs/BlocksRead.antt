@@ -8,7 +8,7 @@ use Rattle.image_store.specs.ImageInMemory.{zones_of, zone_seen, no_counted_zone
 use Rattle.program_interface.specs.Bytes.{spliced}
 use Rattle.image_store.specs.Geometry.{Shape}
 use Rattle.image_store.specs.Loading.{LoadFails}
-use Rattle.image_store.specs.steps.LoadedParts.{spliced_in}
+use Rattle.image_store.specs.steps.LoadStages.{spliced_in}
 use Rattle.image_store.specs.Namespace.{ZoneBlocks}
 use Rattle.program_interface.specs.Readings.{◌>>=◌}
 use Rattle.image_store.specs.Reading.{bytes_in, blocks_in}

@@ -20,7 +20,7 @@ use Rattle.image_store.specs.Version.{HasText}
 use Rattle.image_store.proofs.TextsReadBack.{blocks_read, front_read, length-bytes, length-rows, told_of, total_small}
 use Rattle.image_store.proofs.FilledBuffers.{Split, bytes_short, bytes_whole}
 use Rattle.image_store.proofs.Headers.{header_length, header_read}
-use Rattle.image_store.proofs.LoadedParts.{after_blocks, after_header, after_rows, past_header, past_blocks}
+use Rattle.image_store.proofs.LoadStages.{after_blocks, after_header, after_rows, past_header, past_blocks}
 
 -- ---- more behind the text
 

@@ -30,7 +30,7 @@ use Rattle.image_store.specs.Version.{numbers_of_version}
 use Rattle.image_store.proofs.Faults.{header_of_fault, is_this, kept_fault}
 use Rattle.image_store.proofs.FilledBuffers.{Split, bytes_short}
 use Rattle.image_store.proofs.HeaderParts.{header_parts}
-use Rattle.image_store.proofs.LoadedParts.{after_blocks, after_header, after_limits, after_rows, after_total}
+use Rattle.image_store.proofs.LoadStages.{after_blocks, after_header, after_limits, after_rows, after_total}
 
 -- what fails has failed in the first part, or in the next behind what the first gave
 pub bind_fails : {X Y : Type 0} (P : LoadFault → Type 0) (read : Result X LoadFault) (next : X → Result Y LoadFault) (fault : LoadFault) → (read >>= next) ≡ Err fault

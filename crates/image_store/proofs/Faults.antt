@@ -19,7 +19,7 @@ use Rattle.image_store.specs.declared.version.Version.{Version}
 use Rattle.zone_state.specs.Checks.{demand, first_failed, unless_failed}
 use Rattle.image_store.specs.Geometry.{Shape, shape_checks}
 use Rattle.image_store.specs.Loading.{LoadFails, CountsFault, CountsLoad}
-use Rattle.image_store.specs.steps.LoadedParts.{IsNoStream, NoStreamFails}
+use Rattle.image_store.specs.steps.LoadStages.{IsNoStream, NoStreamFails}
 use Rattle.program_interface.specs.Readings.{◌>>=◌}
 use Rattle.image_store.specs.Reading.{are_zeros, number_at, numbers_fault, numbers_in, numbers_tested, shape_told, version_in, version_kept, zeros_kept, total_told, header_of, header_told, zone_told, zone_in, total_kept, limits_kept}
 use Rattle.image_store.specs.Refusal.{geometry_refusal_of}

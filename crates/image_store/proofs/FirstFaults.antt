@@ -39,7 +39,7 @@ use Rattle.image_store.proofs.FaultPlaces.{bind_fails, short_rows, short_text, u
 use Rattle.image_store.proofs.Faults.{is_this}
 use Rattle.image_store.proofs.FilledBuffers.{Split}
 use Rattle.image_store.proofs.HeaderParts.{begins, header_parts, passed, version_begins, version_has}
-use Rattle.image_store.proofs.LoadedParts.{after_blocks, after_header, after_limits, after_rows, after_total}
+use Rattle.image_store.proofs.LoadStages.{after_blocks, after_header, after_limits, after_rows, after_total}
 use Rattle.image_store.proofs.ReadingCalls.{bind_ok, chosen, ok_is}
 
 -- a test that fails

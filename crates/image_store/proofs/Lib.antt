@@ -16,7 +16,7 @@ mod Shapes
 mod HeaderParts
 mod Upgrades
 mod Faults
-mod LoadedParts
+mod LoadStages
 mod TextsReadBack
 mod SpelledParts
 mod OnlyTextsLoad

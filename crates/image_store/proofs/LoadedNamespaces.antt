@@ -21,7 +21,7 @@ use Rattle.image_store.proofs.TextsReadBack.{at-counted}
 use Rattle.image_store.proofs.ReadingCalls.{bind_ok, ok_is, chosen}
 use Rattle.image_store.proofs.ByteParts.{front_fit, rest_fit, blocks_fit}
 use Rattle.image_store.proofs.FilledBuffers.{bytes_parts, bytes_size}
-use Rattle.image_store.proofs.LoadedParts.{zones_fit}
+use Rattle.image_store.proofs.LoadStages.{zones_fit}
 use Rattle.image_store.proofs.OnlyTextsLoad.{text_parts}
 use Rattle.image_store.proofs.BlocksOfBytes.{length-blocks}
 use Rattle.image_store.proofs.SoundImages.{block-at}

@@ -29,7 +29,7 @@ use Rattle.image_store.proofs.FilledBuffers.{bytes_parts, bytes_size}
 use Rattle.image_store.proofs.HeaderParts.{header_parts}
 use Rattle.image_store.proofs.Headers.{total_in}
 use Rattle.image_store.proofs.ImageFields.{counted_seen}
-use Rattle.image_store.proofs.LoadedParts.{after_header, after_rows, after_total, after_limits, after_blocks}
+use Rattle.image_store.proofs.LoadStages.{after_header, after_rows, after_total, after_limits, after_blocks}
 use Rattle.image_store.proofs.BlocksOfBytes.{bytes-blocks}
 use Rattle.image_store.proofs.SpelledParts.{four_bytes_spelled, zeros_spelled, header_spelled, total_or_none}
 

@@ -31,7 +31,7 @@ use Rattle.image_store.specs.Version.{HasText}
 use Rattle.image_store.proofs.FilledBuffers.{Split, bytes_whole}
 use Rattle.image_store.proofs.Headers.{word_again, header_read, header_seen, total_in}
 use Rattle.image_store.proofs.ImageFields.{within_capacity}
-use Rattle.image_store.proofs.LoadedParts.{after_limits, past_header, past_rows, past_total, past_limits, past_blocks, past_end}
+use Rattle.image_store.proofs.LoadStages.{after_limits, past_header, past_rows, past_total, past_limits, past_blocks, past_end}
 
 code_again : (state : ZoneState) → state_of (code_of state) ≡ Some state
 code_again Empty = refl

@@ -4,7 +4,7 @@ ghost use Rattle.std.specs.Prelude.{◌≡◌, ◌≤◌, ◌<◌, ◌-◌, ◌+
 ghost use Rattle.zone_resources.specs.Admission.{IsWithin};
 ghost use Rattle.image_store.specs.ImageInMemory.{IsFlat, namespace_of, zones_of};
 ghost use Rattle.image_store.specs.Loading.{LoadGives, CountsLoad};
-ghost use Rattle.image_store.specs.steps.LoadedParts.{AreZones, spliced_in};
+ghost use Rattle.image_store.specs.steps.LoadStages.{AreZones, spliced_in};
 ghost use Rattle.image_store.specs.Reading.{bytes_in, header_in, zone_rows_in, total_kept, limits_kept, blocks_in, end_in, namespace_in};
 
 use crate::fault::LoadFault;

@@ -2,7 +2,7 @@
 
 ghost use Rattle.std.specs.Prelude.{◌≡◌, ◌≤◌, ◌*◌, ◌<◌, ◌^◌, length};
 ghost use Rattle.image_store.specs.Loading.{LoadGives};
-ghost use Rattle.image_store.specs.steps.LoadedParts.{NoStreamFails};
+ghost use Rattle.image_store.specs.steps.LoadStages.{NoStreamFails};
 ghost use Rattle.image_store.specs.Reading.{zone_in, zone_with, zones_in};
 ghost use Rattle.image_store.specs.Text.{zone_row, written_blocks};
 

@@ -1,4 +1,4 @@
-use Rattle.emit_append.proofs.OnlyFrames.{unpacked_is_frames}
+use Rattle.emit_append.proofs.UnpackedFrames.{unpacked_is_frames}
 use Rattle.emit_append.proofs.laws.unpacked_is_frames.Goals as goal
 
 pub returns : goal.returns

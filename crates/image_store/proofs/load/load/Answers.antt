@@ -4,7 +4,7 @@ use Rattle.image_store.specs.ImageInMemory.{zones_of}
 use Rattle.image_store.specs.Namespace.{namespace_with}
 use Rattle.image_store.specs.Reading.{zone_rows_in, total_kept, limits_kept, blocks_in, end_in, namespace_in}
 use Rattle.image_store.proofs.Faults.{fails_text, limits_text_fault, total_text_fault}
-use Rattle.image_store.proofs.LoadedParts.{after_rows, after_total, after_limits, after_blocks, past_header, past_rows, past_total, past_limits, past_blocks, past_end, header_accepted, header_fails, fails_at, zones_few}
+use Rattle.image_store.proofs.LoadStages.{after_rows, after_total, after_limits, after_blocks, past_header, past_rows, past_total, past_limits, past_blocks, past_end, header_accepted, header_fails, fails_at, zones_few}
 use Rattle.image_store.proofs.load.load.Goals as goal
 
 pub returns-in_err-header-clause-parts : goal.returns-in_err-header-clause-parts

@@ -1,5 +1,5 @@
 use Rattle.image_store.proofs.Faults.{counts_last}
-use Rattle.image_store.proofs.LoadedParts.{header_given, header_no_stream}
+use Rattle.image_store.proofs.LoadStages.{header_given, header_no_stream}
 use Rattle.image_store.proofs.load.read_header.Goals as goal
 
 pub returns-clause-header : goal.returns-clause-header

@@ -1,7 +1,7 @@
 use Rattle.std.proofs.Common.{rules}
 use Rattle.image_store.specs.Geometry.{IsShape}
 use Rattle.image_store.proofs.Faults.{counts_last}
-use Rattle.image_store.proofs.LoadedParts.{rows_fit}
+use Rattle.image_store.proofs.LoadStages.{rows_fit}
 use Rattle.image_store.proofs.load.read_zone_rows.Goals as goal
 
 pub returns-clause-fit : goal.returns-clause-fit

@@ -1,4 +1,4 @@
--- One part of an image read after another.
+-- One stage of a load after another.
 use Rattle.std.proofs.Common.{◌≡◌, ℕ, ◌+◌, ◌*◌, ◌^◌, ◌<◌, ◌≤◌, zero, suc, List, [], ◌∷◌, length, get_or, replicate, take, drop, Option, Some, None, Result, Ok, Err, refl, ap, sym, subst, arith}
 use Rattle.std.specs.Prelude.{IfOk, IsOk}
 use Rattle.std.proofs.lemmas.List.{length-replicate}
@@ -12,7 +12,7 @@ use Rattle.image_store.specs.declared.header.Header.{Header}
 use Rattle.image_store.specs.ImageInMemory.{no_counted_zone}
 use Rattle.image_store.specs.Geometry.{Shape, IsShape}
 use Rattle.image_store.specs.Loading.{LoadFails, LoadGives}
-use Rattle.image_store.specs.steps.LoadedParts.{NoStreamFails, AreZones}
+use Rattle.image_store.specs.steps.LoadStages.{NoStreamFails, AreZones}
 use Rattle.image_store.specs.Namespace.{ZoneBlocks, ZonedNamespace, namespace_with}
 use Rattle.program_interface.specs.Readings.{◌>>=◌}
 use Rattle.image_store.specs.Reading.{are_zeros, number_at, bytes_in, header_told, header_in, zone_told, zone_in, zones_in, zone_rows_in, total_kept, limits_kept, blocks_in, end_in, namespace_in}
