@@ -10,5 +10,6 @@ mod Padding
 mod GroupsOfBlocks
 mod Puts
 mod ReadBack
+mod RefusedBlocks
 mod Wholes
 pub mod Proved

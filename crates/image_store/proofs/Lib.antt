@@ -23,5 +23,7 @@ mod OnlyTextsLoad
 mod LoadedNamespaces
 mod CutTexts
 mod FaultPlaces
+mod HeaderFaults
+mod RowFaults
 mod FirstFaults
 pub mod Proved
