@@ -9,10 +9,9 @@ use Rattle.ebpf_decode.specs.declared.refusal.ProgramRefusal.{ProgramRefusal}
 use Rattle.emit_append.specs.Refusal.{refused_byte}
 use Rattle.emit_append.specs.declared.refusal.FrameRefusal.{FrameRefusal}
 use Rattle.image_store.specs.Fault.{load_number}
-use Rattle.image_store.specs.Geometry.{geometry_fault_number as geometry_number}
-use Rattle.image_store.specs.Refusal.{fault_of}
+use Rattle.image_store.specs.Geometry.{geometry_refusal_number as geometry_number}
 use Rattle.image_store.specs.declared.fault.LoadFault.{LoadFault}
-use Rattle.image_store.specs.declared.refusal.GeometryRefusal.{GeometryRefusal}
+use Rattle.image_store.specs.declared.geometry.GeometryRefusal.{GeometryRefusal}
 use Rattle.command_failure.specs.DataFault.{data_number}
 use Rattle.command_failure.specs.FileCause.{cause_words}
 use Rattle.command_failure.specs.declared.data_fault.DataFault.{DataFault}
@@ -70,7 +69,7 @@ reply_failure_text path number = Said (at_line path number (codes "not one that 
 
 -- numbers that are no namespace, with the number of what is wrong first
 abbrev pub geometry_text : GeometryRefusal → Text
-geometry_text refusal = sentence [] (codes "geometry refused " ++ decimal (geometry_number (fault_of refusal)))
+geometry_text refusal = sentence [] (codes "geometry refused " ++ decimal (geometry_number refusal))
 
 -- a file that is no image, with the number of its first fault
 abbrev pub image_text : List ℕ → LoadFault → Text

@@ -113,7 +113,7 @@ fn print_reply<W: Write>(out: &mut W, path: &str, number: usize) -> io::Result<(
 fn print_geometry<W: Write>(out: &mut W, refusal: GeometryRefusal) -> io::Result<()>
     ensures { OnOk result (IsPrinted (geometry_text refusal) (W.contents out.old) (W.contents out.new)) }
 {
-    let number = refusal.fault().number();
+    let number = refusal.number();
     print_refusal(
         out,
         "",

@@ -1,15 +1,12 @@
 -- What is known of the images that commands make.
 use Rattle.std.proofs.Common.{◌≡◌, ℕ, List, Option, Some, None, Result, Ok, Err, OnOk, IfErr, IsErrAnd, IfSome, ap, sym, subst, ◌∙◌}
 use Rattle.std.specs.Borrow.{Bor}
-use Rattle.std.specs.Option.{option_map}
 use Rattle.clap.specs.declared.parser.matches.ArgMatches.{ArgMatches}
-use Rattle.image_store.specs.Geometry.{Shape, shape_checks}
+use Rattle.image_store.specs.Geometry.{Shape, shape_checks, tested}
 use Rattle.image_store.specs.Namespace.{ZonedNamespace, all_empty}
 use Rattle.image_store.specs.Reading.{namespace_in}
-use Rattle.image_store.specs.Refusal.{geometry_refusal_of, tested}
 use Rattle.image_store.specs.Text.{text}
-use Rattle.image_store.specs.declared.geometry.GeometryFault.{GeometryFault}
-use Rattle.image_store.specs.declared.refusal.GeometryRefusal.{GeometryRefusal}
+use Rattle.image_store.specs.declared.geometry.GeometryRefusal.{GeometryRefusal}
 use Rattle.zone_state.specs.Checks.{first_failed, unless_failed}
 use Rattle.command_failure.specs.declared.failure.Failure.{Failure}
 use Rattle.command_failure.specs.declared.failure.Failure.TheVariants.{CannotWrite, NoMemory, NotInRange}
@@ -24,7 +21,7 @@ passed (Some fault) s g is = cc
 
 -- the shape that tests give is the one that they are made of
 same_shape : (s g : Shape) → Ok g ≡ tested s → s ≡ g
-same_shape s g is = passed (option_map (λ (fault : GeometryFault). geometry_refusal_of fault s) (first_failed (shape_checks s))) s g is
+same_shape s g is = passed (first_failed (shape_checks s)) s g is
 
 -- what was asked for and passed the tests passes them again
 pub asked_and_passed : (matches : ArgMatches) (s g : Shape) → IsAskedFor matches s → Ok g ≡ tested s → IsAskedFor matches g × (tested g ≡ Ok g)

@@ -1,10 +1,9 @@
 -- The images that commands make.
 use Rattle.std.specs.Prelude.{◌≡◌, ℕ, List, codes, Option, Some, Ok, IfSome}
 use Rattle.clap.specs.declared.parser.matches.ArgMatches.{ArgMatches}
-use Rattle.image_store.specs.Geometry.{Shape}
+use Rattle.image_store.specs.Geometry.{Shape, tested}
 use Rattle.image_store.specs.Namespace.{ZonedNamespace, all_empty}
 use Rattle.image_store.specs.Reading.{namespace_in}
-use Rattle.image_store.specs.Refusal.{tested}
 use Rattle.image_store.specs.Text.{text}
 use Rattle.command_files.specs.Arguments.{number_of}
 use Rattle.command_files.specs.Made.{Made, then_made}

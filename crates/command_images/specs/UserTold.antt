@@ -1,10 +1,9 @@
 -- What the user is told of numbers that are no geometry, and of files that are no images (profile).
 use Rattle.std.specs.Prelude.{ℕ, ◌≡◌, List, Err}
 use Rattle.clap.specs.declared.parser.matches.ArgMatches.{ArgMatches}
-use Rattle.image_store.specs.Geometry.{Shape}
+use Rattle.image_store.specs.Geometry.{Shape, tested}
 use Rattle.image_store.specs.Reading.{namespace_in}
-use Rattle.image_store.specs.Refusal.{tested}
-use Rattle.image_store.specs.declared.refusal.GeometryRefusal.{GeometryRefusal}
+use Rattle.image_store.specs.declared.geometry.GeometryRefusal.{GeometryRefusal}
 use Rattle.command_failure.specs.declared.failure.Failure.{Failure}
 use Rattle.command_failure.specs.declared.failure.Failure.TheVariants.{GeometryRefused, ImageRefused}
 use Rattle.command_images.specs.Images.{IsAskedFor}

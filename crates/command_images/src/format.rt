@@ -3,7 +3,7 @@
 ghost use Rattle.std.specs.Prelude.{◌≡◌, codes, IfErr, IfOk, OnOk, OnErr};
 ghost use Rattle.command_files.specs.Arguments.{value_of};
 ghost use Rattle.command_files.specs.Made.{MakesOne};
-ghost use Rattle.image_store.specs.Refusal.{tested};
+ghost use Rattle.image_store.specs.Geometry.{tested};
 ghost use Rattle.command_images.specs.Images.{IsAskedFor, MakesEmpty};
 ghost use Rattle.command_images.specs.UserTold.{RefusesShape};
 

@@ -1,6 +1,6 @@
 -- Which faults a text has: none of a stream, and no want of memory.
 use Rattle.std.proofs.Common.{◌≡◌, ℕ, Bool, true, false, cond, List, [], ◌∷◌, take, drop, get_or, Option, Some, None, Result, Ok, Err, subst}
-use Rattle.std.specs.Option.{ok_or, option_map}
+use Rattle.std.specs.Option.{ok_or}
 use Rattle.std.specs.Prelude.{◌==◌, ◌&&◌, nat_le}
 use Rattle.zone_state.specs.declared.state.ZoneState.{ZoneState}
 use Rattle.zone_state.specs.State.{state_of}
@@ -13,7 +13,7 @@ use Rattle.image_store.specs.declared.fault.ZoneRowFault.{ZoneRowFault}
 use Rattle.image_store.specs.declared.fault.ZoneRowFault.TheVariants.{Reserved, State, Blocks}
 use Rattle.image_store.specs.declared.fault.HeaderFault.{HeaderFault}
 use Rattle.image_store.specs.declared.fault.HeaderFault.TheVariants.{Numbers, VersionBlock, VersionZones, Reserved as ReservedHeader}
-use Rattle.image_store.specs.declared.geometry.GeometryFault.{GeometryFault}
+use Rattle.image_store.specs.declared.geometry.GeometryRefusal.{GeometryRefusal}
 use Rattle.image_store.specs.declared.header.Header.{Header}
 use Rattle.image_store.specs.declared.version.Version.{Version}
 use Rattle.zone_state.specs.Checks.{demand, first_failed, unless_failed}
@@ -22,7 +22,6 @@ use Rattle.image_store.specs.Loading.{LoadFails, CountsFault, CountsLoad}
 use Rattle.image_store.specs.steps.LoadStages.{IsNoStream, NoStreamFails}
 use Rattle.program_interface.specs.Readings.{◌>>=◌}
 use Rattle.image_store.specs.Reading.{are_zeros, number_at, numbers_fault, numbers_in, numbers_tested, shape_told, version_in, version_kept, zeros_kept, total_told, header_of, header_told, zone_told, zone_in, total_kept, limits_kept}
-use Rattle.image_store.specs.Refusal.{geometry_refusal_of}
 use Rattle.image_store.specs.Text.{written_blocks}
 use Rattle.image_store.specs.Version.{has_block, numbers_of_version}
 use Rattle.image_store.proofs.ReadingCalls.{bind_err}
@@ -64,9 +63,9 @@ magic_fault (Some version) fault e = absurd cc
 
 -- what holds of each fault of a header behind its magic
 module _ (P : LoadFault → Type 0) (of_header : (why : HeaderFault) → P (BadHeader why)) where
-  numbers_text_fault : (check : Option GeometryFault) (s : Shape) (fault : LoadFault) → numbers_tested (unless_failed (option_map (λ (fault : GeometryFault). geometry_refusal_of fault s) check) s) ≡ Err fault → P fault
+  numbers_text_fault : (check : Option GeometryRefusal) (s : Shape) (fault : LoadFault) → numbers_tested (unless_failed check s) ≡ Err fault → P fault
   numbers_text_fault None s fault e = absurd cc
-  numbers_text_fault (Some first) s fault e = subst P (is_this {X = Shape} (numbers_fault (geometry_refusal_of first s)) fault e) (of_header (Numbers (geometry_refusal_of first s)))
+  numbers_text_fault (Some first) s fault e = subst P (is_this {X = Shape} (numbers_fault first) fault e) (of_header (Numbers first))
 
   version_text_fault : (a b : Bool) (f g : HeaderFault) (fault : LoadFault)
       → (let r : Result (Unit {0}) LoadFault = unless_failed (first_failed (demand a (BadHeader f) ∷ demand b (BadHeader g) ∷ [])) tt in r) ≡ Err fault → P fault

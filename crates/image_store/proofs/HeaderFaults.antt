@@ -1,7 +1,7 @@
 -- The fault that a header is refused with is the first of its text.
 use Rattle.std.proofs.Common.{◌≡◌, ◌≢◌, ℕ, ◌≤◌, ◌==◌, nat_le, Bool, true, false, cond, List, [], ◌∷◌, length, take, drop, Option, Some, None, Result, Ok, Err, refl, ap, sym, subst, ◌∙◌, arith}
 use Rattle.std.specs.Cmp.Lexicographic.{pointwise}
-use Rattle.std.specs.Option.{ok_or, option_map}
+use Rattle.std.specs.Option.{ok_or}
 use Rattle.std.proofs.lemmas.Bool.{leb-false}
 use Rattle.std.proofs.lemmas.List.{take-take}
 use Rattle.std.proofs.lemmas.Slice.Eq.{bytes_eq-Decides}
@@ -10,7 +10,7 @@ use Rattle.zone_state.specs.Checks.{demand, first_failed, unless_failed}
 use Rattle.image_store.specs.declared.fault.LoadFault.{LoadFault}
 use Rattle.image_store.specs.declared.fault.LoadFault.TheVariants.{Magic, Header as BadHeader}
 use Rattle.image_store.specs.declared.fault.HeaderFault.TheVariants.{VersionBlock, VersionZones, Reserved as ReservedHeader}
-use Rattle.image_store.specs.declared.geometry.GeometryFault.{GeometryFault}
+use Rattle.image_store.specs.declared.geometry.GeometryRefusal.{GeometryRefusal}
 use Rattle.image_store.specs.declared.header.Header.{Header}
 use Rattle.image_store.specs.declared.version.Version.{Version}
 use Rattle.image_store.specs.declared.version.Version.TheVariants.{One, Two}
@@ -18,7 +18,6 @@ use Rattle.program_interface.specs.Readings.{◌>>=◌}
 use Rattle.image_store.specs.FirstFault.{Begins, HasHeader, IsFirstFault}
 use Rattle.image_store.specs.Geometry.{Shape, IsShape, shape_checks}
 use Rattle.image_store.specs.Reading.{are_zeros, numbers_fault, numbers_in, numbers_tested, shape_in, version_in, version_kept, zeros_kept, total_told, header_of, header_told}
-use Rattle.image_store.specs.Refusal.{geometry_refusal_of}
 use Rattle.image_store.specs.Version.{HasText, has_block, numbers_of_version}
 use Rattle.image_store.proofs.FaultPlaces.{bind_fails, unknown}
 use Rattle.image_store.proofs.Faults.{is_this}
@@ -59,10 +58,10 @@ module _ (bytes : List ℕ) (version : Version) (begun : Begins version bytes) w
   abbrev s : Shape
   s = shape_in bytes
 
-  numbers_wrong : (check : Option GeometryFault) (fault : LoadFault) → first_failed (shape_checks s) ≡ check → numbers_tested (unless_failed (option_map (λ (fault : GeometryFault). geometry_refusal_of fault s) check) s) ≡ Err fault → IsFirstFault bytes fault
+  numbers_wrong : (check : Option GeometryRefusal) (fault : LoadFault) → first_failed (shape_checks s) ≡ check → numbers_tested (unless_failed check s) ≡ Err fault → IsFirstFault bytes fault
   numbers_wrong None fault is e = absurd cc
   numbers_wrong (Some first) fault is e =
-      subst (IsFirstFault bytes) (is_this {X = Shape} (numbers_fault (geometry_refusal_of first s)) fault e) (version, begun, (first, (first_failed_is_first GeometryFault (shape_checks s) first).0 is, refl))
+      subst (IsFirstFault bytes) (is_this {X = Shape} (numbers_fault first) fault e) (version, begun, (first_failed_is_first GeometryRefusal (shape_checks s) first).0 is)
 
   version_wrong : (a b : Bool) (fault : LoadFault) → IsShape s → has_block version s.block ≡ a → nat_le s.zones (numbers_of_version version).most_zones ≡ b
       → (let r : Result (Unit {0}) LoadFault = unless_failed (first_failed (demand a (BadHeader (VersionBlock version s.block)) ∷ demand b (BadHeader (VersionZones version s.zones)) ∷ [])) tt in r) ≡ Err fault

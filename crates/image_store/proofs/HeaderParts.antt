@@ -2,12 +2,12 @@
 use Rattle.std.proofs.Common.{◌≡◌, ℕ, Bool, true, false, cond, List, [], ◌∷◌, drop, Option, Some, None, Result, Ok, refl, ap, subst}
 use Rattle.std.proofs.lemmas.Bool.{leb-true}
 use Rattle.std.specs.List.{starts_with}
-use Rattle.std.specs.Option.{ok_or, option_map}
+use Rattle.std.specs.Option.{ok_or}
 use Rattle.std.specs.Prelude.{◌==◌, nat_le}
 use Rattle.image_store.specs.declared.fault.LoadFault.{LoadFault}
 use Rattle.image_store.specs.declared.fault.LoadFault.TheVariants as fault
 use Rattle.image_store.specs.declared.fault.HeaderFault.TheVariants as header_fault
-use Rattle.image_store.specs.declared.geometry.GeometryFault.{GeometryFault}
+use Rattle.image_store.specs.declared.geometry.GeometryRefusal.{GeometryRefusal}
 use Rattle.image_store.specs.declared.header.Header.{Header}
 use Rattle.image_store.specs.declared.version.Version.{Version}
 use Rattle.image_store.specs.declared.version.Version.TheVariants.{One, Two}
@@ -15,7 +15,6 @@ use Rattle.zone_state.specs.Checks.{demand, first_failed, unless_failed}
 use Rattle.image_store.specs.Geometry.{Shape, IsShape, shape_checks}
 use Rattle.program_interface.specs.Readings.{◌>>=◌}
 use Rattle.image_store.specs.Reading.{are_zeros, numbers_in, numbers_tested, shape_told, version_in, version_checks, version_kept, zeros_kept, total_told, header_of, header_told}
-use Rattle.image_store.specs.Refusal.{geometry_refusal_of}
 use Rattle.image_store.specs.Version.{HasText, has_block, numbers_of_version}
 use Rattle.image_store.proofs.ReadingCalls.{bind_ok, ok_is, chosen}
 use Rattle.image_store.proofs.Shapes.{both, none_fails, shape_is}
@@ -43,14 +42,14 @@ pub record ArePassed (told s : Shape) : Type 0 where
   pub same : told ≡ s
   pub known : IsShape told
 
-passed_by : (told s : Shape) (check : Option GeometryFault) → numbers_tested (unless_failed (option_map (λ (fault : GeometryFault). geometry_refusal_of fault told) check) told) ≡ Ok s → (check ≡ None) × (told ≡ s)
+passed_by : (told s : Shape) (check : Option GeometryRefusal) → numbers_tested (unless_failed check told) ≡ Ok s → (check ≡ None) × (told ≡ s)
 passed_by told s None e = (refl, ok_is told s e)
 passed_by told s (Some first) e = absurd cc
 
 pub passed : (told s : Shape) → numbers_in told ≡ Ok s → ArePassed told s
 passed told s e =
     let p = passed_by told s (first_failed (shape_checks told)) e in
-    record { same = p.1; known = shape_is told told (ap (λ (check : Option GeometryFault). unless_failed (option_map (λ (fault : GeometryFault). geometry_refusal_of fault told) check) told) p.0) }
+    record { same = p.1; known = shape_is told told (ap (λ (check : Option GeometryRefusal). unless_failed check told) p.0) }
 
 pub version_has : (version : Version) (s : Shape) (done : Unit {0}) → version_kept version s ≡ Ok done → HasText version s
 version_has version s done e =

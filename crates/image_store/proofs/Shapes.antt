@@ -3,19 +3,16 @@ use Rattle.std.proofs.Common.{◌≡◌, ℕ, ◌*◌, ◌≤◌, Bool, true, fa
 use Rattle.std.proofs.lemmas.Bool.{le-leb, leb-true, and_parts}
 use Rattle.std.proofs.lemmas.Bool.Decides.{nat_tests}
 use Rattle.std.proofs.Math.Nat.{mul_assoc, mul-le-mul_right}
-use Rattle.std.specs.Option.{option_map}
 use Rattle.std.specs.Prelude.{nat_le}
 use Rattle.program_interface.specs.BlockSize.{is_block_size, IsBlockSize}
 use Rattle.program_interface.specs.declared.block_size.TheConstants.{LARGEST_BLOCK}
-use Rattle.image_store.specs.declared.geometry.GeometryFault.TheVariants.{BlockSize, ZoneCount, ZoneSize, ZoneCapacity, ResourceLimits, TooLarge}
+use Rattle.image_store.specs.declared.geometry.GeometryRefusal.TheVariants.{BlockSize, ZoneCount, ZoneSize, ZoneCapacity, ResourceLimits, TooLarge}
 use Rattle.image_store.specs.declared.geometry.TheConstants.{MOST_BYTES, MOST_ZONES, MOST_ZONE_BLOCKS}
 use Rattle.zone_state.specs.Checks.{demand, or_else, first_failed, unless_failed}
 use Rattle.image_store.specs.declared.version.Version.TheVariants.{One, Two}
 use Rattle.image_store.specs.Laws.{VersionsAreKnown}
 use Rattle.image_store.specs.Version.{has_block}
-use Rattle.image_store.specs.declared.geometry.GeometryFault.{GeometryFault}
-use Rattle.image_store.specs.Geometry.{Shape, IsShape, is_counted, are_limits, shape_checks}
-use Rattle.image_store.specs.Refusal.{geometry_refusal_of, tested}
+use Rattle.image_store.specs.Geometry.{Shape, IsShape, is_counted, are_limits, shape_checks, tested}
 
 block_range : (bytes : ℕ) → IsBlockSize bytes → (512 ≤ bytes) × (bytes ≤ LARGEST_BLOCK)
 block_range bytes is = grind (arith, nat_tests)
@@ -57,28 +54,23 @@ pub none_fails : {X F : Type 0} (check : Option F) (x y : X) → unless_failed c
 none_fails None x y e = refl
 none_fails (Some first) x y e = absurd cc
 
--- the same, where the fault is told in other words
-pub none_told : {X F G : Type 0} (tell : F → G) (check : Option F) (x y : X) → unless_failed (option_map tell check) x ≡ Ok y → check ≡ None
-none_told tell None x y e = refl
-none_told tell (Some first) x y e = absurd cc
-
 in_range : (n most : ℕ) → is_counted n most ≡ true → (1 ≤ n) × (n ≤ most)
 in_range n most e = let p = and_parts (nat_le 1 n) (nat_le n most) e in (leb-true 1 n p.0, leb-true n most p.1)
 
 pub shape_is : (s t : Shape) → tested s ≡ Ok t → IsShape s
 shape_is s t e =
     let room = nat_le (s.zones * s.capacity * s.block) MOST_BYTES in
-    let last = demand room TooLarge ∷ [] in
-    let limits = demand (are_limits s.limits s.zones) ResourceLimits ∷ last in
-    let capacity = demand (is_counted s.capacity s.size) ZoneCapacity ∷ limits in
-    let size = demand (is_counted s.size MOST_ZONE_BLOCKS) ZoneSize ∷ capacity in
-    let zones = demand (is_counted s.zones MOST_ZONES) ZoneCount ∷ size in
-    let a = both (is_block_size s.block) BlockSize (first_failed zones) (none_told (λ (fault : GeometryFault). geometry_refusal_of fault s) (first_failed (shape_checks s)) s t e) in
-    let b = both (is_counted s.zones MOST_ZONES) ZoneCount (first_failed size) a.1 in
-    let c = both (is_counted s.size MOST_ZONE_BLOCKS) ZoneSize (first_failed capacity) b.1 in
-    let d = both (is_counted s.capacity s.size) ZoneCapacity (first_failed limits) c.1 in
-    let f = both (are_limits s.limits s.zones) ResourceLimits (first_failed last) d.1 in
-    let g = both room TooLarge None f.1 in
+    let last = demand room (TooLarge s.zones s.capacity s.block) ∷ [] in
+    let limits = demand (are_limits s.limits s.zones) (ResourceLimits s.limits.open_limit s.limits.active_limit s.zones) ∷ last in
+    let capacity = demand (is_counted s.capacity s.size) (ZoneCapacity s.capacity s.size) ∷ limits in
+    let size = demand (is_counted s.size MOST_ZONE_BLOCKS) (ZoneSize s.size) ∷ capacity in
+    let zones = demand (is_counted s.zones MOST_ZONES) (ZoneCount s.zones) ∷ size in
+    let a = both (is_block_size s.block) (BlockSize s.block) (first_failed zones) (none_fails (first_failed (shape_checks s)) s t e) in
+    let b = both (is_counted s.zones MOST_ZONES) (ZoneCount s.zones) (first_failed size) a.1 in
+    let c = both (is_counted s.size MOST_ZONE_BLOCKS) (ZoneSize s.size) (first_failed capacity) b.1 in
+    let d = both (is_counted s.capacity s.size) (ZoneCapacity s.capacity s.size) (first_failed limits) c.1 in
+    let f = both (are_limits s.limits s.zones) (ResourceLimits s.limits.open_limit s.limits.active_limit s.zones) (first_failed last) d.1 in
+    let g = both room (TooLarge s.zones s.capacity s.block) None f.1 in
     let many = in_range s.zones MOST_ZONES b.0 in
     let long = in_range s.size MOST_ZONE_BLOCKS c.0 in
     let some = in_range s.capacity s.size d.0 in

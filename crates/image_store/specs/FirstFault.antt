@@ -11,12 +11,10 @@ use Rattle.image_store.specs.declared.fault.HeaderFault.{HeaderFault}
 use Rattle.image_store.specs.declared.fault.HeaderFault.TheVariants as header_faults
 use Rattle.image_store.specs.declared.fault.ZoneRowFault.{ZoneRowFault}
 use Rattle.image_store.specs.declared.fault.ZoneRowFault.TheVariants as row_faults
-use Rattle.image_store.specs.declared.geometry.GeometryFault.{GeometryFault}
 use Rattle.image_store.specs.declared.version.Version.{Version}
 use Rattle.image_store.specs.Geometry.{Shape, IsShape, shape_checks}
 use Rattle.image_store.specs.ImageInMemory.{no_counted_zone}
 use Rattle.image_store.specs.Reading.{are_zeros, namespace_in, number_at, rows_end, shape_in, total_told}
-use Rattle.image_store.specs.Refusal.{geometry_refusal_of}
 use Rattle.image_store.specs.Text.{written_blocks}
 use Rattle.image_store.specs.Version.{HasText, has_block, numbers_of_version}
 
@@ -28,8 +26,7 @@ pub record Begins (version : Version) (bytes : List ℕ) : Type 0 where
 -- what can be wrong with a header of a version that tells a shape:
 abbrev pub IsHeaderFault : Version → List ℕ → Shape → HeaderFault → Type 0
 -- its numbers are none of a geometry, and this is the first test that they fail;
-IsHeaderFault version header s (header_faults.Numbers refusal) =
-    (first : GeometryFault) × FailsFirst (shape_checks s) first × (refusal ≡ geometry_refusal_of first s)
+IsHeaderFault version header s (header_faults.Numbers refusal) = FailsFirst (shape_checks s) refusal
 -- they are those of one, but no block of the version has so many bytes;
 IsHeaderFault version header s (header_faults.VersionBlock told block) =
     (told ≡ version) × (block ≡ s.block) × IsShape s × (has_block version s.block ≡ false)

@@ -1,12 +1,12 @@
 -- The shape of a namespace.
-use Rattle.std.specs.Prelude.{ℕ, Bool, ◌≤◌, ◌*◌, ◌/◌, ◌%◌, ◌&&◌, nat_le, nat_lt, List, [], ◌∷◌, Option, Some, None, if◌then◌else◌}
+use Rattle.std.specs.Prelude.{ℕ, Bool, ◌≤◌, ◌*◌, ◌/◌, ◌%◌, ◌&&◌, nat_le, nat_lt, List, [], ◌∷◌, Option, Some, None, Result, if◌then◌else◌}
 use Rattle.program_interface.specs.BlockSize.{is_block_size, IsBlockSize}
 use Rattle.zone_resources.specs.declared.admission.Limits.{Limits}
 use Rattle.image_store.specs.declared.geometry.ZoneBlock.{ZoneBlock}
 use Rattle.image_store.specs.declared.geometry.TheConstants.{MOST_BYTES, MOST_ZONES, MOST_ZONE_BLOCKS}
-use Rattle.image_store.specs.declared.geometry.GeometryFault.{GeometryFault}
-use Rattle.image_store.specs.declared.geometry.GeometryFault.TheVariants.{BlockSize, ZoneCount, ZoneSize, ZoneCapacity, ResourceLimits, TooLarge}
-use Rattle.zone_state.specs.Checks.{demand}
+use Rattle.image_store.specs.declared.geometry.GeometryRefusal.{GeometryRefusal}
+use Rattle.image_store.specs.declared.geometry.GeometryRefusal.TheVariants.{BlockSize, ZoneCount, ZoneSize, ZoneCapacity, ResourceLimits, TooLarge}
+use Rattle.zone_state.specs.Checks.{demand, first_failed, unless_failed}
 
 -- bytes of a block, number of zones, blocks of a zone (zone size), how many of these can be written
 -- (zone capacity), and how many zones may be open and active (ZNS 1.1, 2.1.1)
@@ -26,24 +26,28 @@ abbrev pub are_limits : Limits → ℕ → Bool
 are_limits limits zones = is_counted limits.open_limit limits.active_limit && nat_le limits.active_limit zones
 
 -- the number by which a user is told of a fault (profile)
-abbrev pub geometry_fault_number : GeometryFault → ℕ
-geometry_fault_number BlockSize = 1
-geometry_fault_number ZoneCount = 2
-geometry_fault_number ZoneSize = 3
-geometry_fault_number ZoneCapacity = 4
-geometry_fault_number ResourceLimits = 5
-geometry_fault_number TooLarge = 6
+abbrev pub geometry_refusal_number : GeometryRefusal → ℕ
+geometry_refusal_number (BlockSize bytes) = 1
+geometry_refusal_number (ZoneCount zones) = 2
+geometry_refusal_number (ZoneSize blocks) = 3
+geometry_refusal_number (ZoneCapacity capacity size) = 4
+geometry_refusal_number (ResourceLimits open_limit active_limit zones) = 5
+geometry_refusal_number (TooLarge zones capacity block) = 6
 
--- the limits of a shape, in the order of the tests (profile)
-abbrev pub shape_checks : Shape → List (Option GeometryFault)
+-- the limits of a shape, in the order of the tests, each with those of the numbers that it is of (profile)
+abbrev pub shape_checks : Shape → List (Option GeometryRefusal)
 shape_checks s =
-    demand (is_block_size s.block) BlockSize
-    ∷ demand (is_counted s.zones MOST_ZONES) ZoneCount
-    ∷ demand (is_counted s.size MOST_ZONE_BLOCKS) ZoneSize
-    ∷ demand (is_counted s.capacity s.size) ZoneCapacity
-    ∷ demand (are_limits s.limits s.zones) ResourceLimits
-    ∷ demand (nat_le (s.zones * s.capacity * s.block) MOST_BYTES) TooLarge
+    demand (is_block_size s.block) (BlockSize s.block)
+    ∷ demand (is_counted s.zones MOST_ZONES) (ZoneCount s.zones)
+    ∷ demand (is_counted s.size MOST_ZONE_BLOCKS) (ZoneSize s.size)
+    ∷ demand (is_counted s.capacity s.size) (ZoneCapacity s.capacity s.size)
+    ∷ demand (are_limits s.limits s.zones) (ResourceLimits s.limits.open_limit s.limits.active_limit s.zones)
+    ∷ demand (nat_le (s.zones * s.capacity * s.block) MOST_BYTES) (TooLarge s.zones s.capacity s.block)
     ∷ []
+
+-- the shape, or the fault of the first test that it fails, with the numbers that have it
+abbrev pub tested : Shape → Result Shape GeometryRefusal
+tested s = unless_failed (first_failed (shape_checks s)) s
 
 -- the shape of these numbers
 abbrev pub shape_of : ℕ → ℕ → ℕ → ℕ → Limits → Shape

@@ -7,11 +7,10 @@ use Rattle.image_store.specs.declared.geometry.TheConstants.{MOST_ZONES}
 use Rattle.image_store.specs.declared.version.Version.{Version}
 use Rattle.image_store.specs.declared.version.Version.TheVariants.{Two}
 use Rattle.program_interface.specs.Bytes.{AreBytes}
-use Rattle.image_store.specs.Geometry.{Shape, IsShape}
+use Rattle.image_store.specs.Geometry.{Shape, IsShape, tested}
 use Rattle.image_store.specs.Namespace.{ZonedNamespace, shape, IsNamespace}
 use Rattle.program_interface.specs.Readings.{◌>>=◌}
 use Rattle.image_store.specs.Reading.{namespace_in, rows_end}
-use Rattle.image_store.specs.Refusal.{tested}
 use Rattle.image_store.specs.Text.{text, text_of}
 use Rattle.image_store.specs.Version.{HasText, has_block, numbers_of_version}
 

@@ -1,7 +1,6 @@
 pub mod Blocks
 pub mod Geometry
 pub mod Fault
-pub mod Refusal
 pub mod Namespace
 pub mod ImageInMemory
 pub mod Version

@@ -19,9 +19,8 @@ use Rattle.image_store.specs.declared.fault.HeaderFault.TheVariants as header_fa
 use Rattle.image_store.specs.declared.header.Header.{Header}
 use Rattle.image_store.specs.declared.version.Version.{Version}
 use Rattle.image_store.specs.declared.version.Version.TheVariants.{One, Two}
-use Rattle.image_store.specs.Geometry.{Shape, shape_of}
-use Rattle.image_store.specs.declared.refusal.GeometryRefusal.{GeometryRefusal}
-use Rattle.image_store.specs.Refusal.{tested}
+use Rattle.image_store.specs.Geometry.{Shape, shape_of, tested}
+use Rattle.image_store.specs.declared.geometry.GeometryRefusal.{GeometryRefusal}
 use Rattle.image_store.specs.Namespace.{ZoneBlocks, ZonedNamespace, namespace_with}
 use Rattle.image_store.specs.Text.{written_blocks}
 use Rattle.image_store.specs.Version.{numbers_of_version, has_block}

@@ -4,7 +4,7 @@ ghost use Rattle.std.specs.Prelude.{◌≡◌};
 ghost use Rattle.image_store.specs.Fault.{load_number};
 ghost use Rattle.image_store.specs.declared.fault.LoadFault.TheVariants as load_fault;
 
-use crate::refusal::GeometryRefusal;
+use crate::geometry::GeometryRefusal;
 use crate::streams::StreamFault;
 use crate::version::Version;
 use std::alloc::{AllocError, AllocFailed};

@@ -1,10 +1,8 @@
 //! The shape of a namespace.
 
 ghost use Rattle.std.specs.Prelude.{◌≡◌, ◌≤◌, ◌<◌, ◌*◌, ◌^◌, ◌+◌, IfSome, OnSome};
-ghost use Rattle.image_store.specs.Geometry.{shape_of, zone_block_of, geometry_fault_number, is_counted, are_limits, IsShape};
-ghost use Rattle.image_store.specs.Refusal.{tested};
+ghost use Rattle.image_store.specs.Geometry.{shape_of, zone_block_of, geometry_refusal_number, is_counted, are_limits, tested, IsShape};
 
-use crate::refusal::GeometryRefusal;
 use program_interface::{BlockSize, LARGEST_BLOCK};
 use std::marker::Model;
 use thiserror::Error;
@@ -19,36 +17,54 @@ const MOST_ZONE_BLOCKS: u32 = 16_777_216;
 /// The most bytes that the blocks of all zones may take (profile).
 const MOST_BYTES: u64 = 268_435_456;
 
-/// Why numbers are no geometry. The variants stand in the order of the tests, and have the numbers
-/// that a user is told (profile).
+/// Why numbers are no geometry: those of them that have the fault. The variants stand in the order of the tests.
 #[derive(Clone, Copy, Debug, PartialEq, Eq, Error)]
-pub enum GeometryFault {
-    /// No block has as many bytes.
-    #[error("the block size is no power of 2 from 512 to {most}", most = LARGEST_BLOCK)]
-    BlockSize = 1,
+pub enum GeometryRefusal {
+    /// No block has so many bytes.
+    #[error("a block of {0} bytes: the block size is no power of 2 from 512 to {most}", most = LARGEST_BLOCK)]
+    BlockSize(usize),
     /// There are no zones, or more than [`MOST_ZONES`].
-    #[error("the number of zones is not from 1 to {most}", most = MOST_ZONES)]
-    ZoneCount = 2,
+    #[error("{0} zones: the number of zones is not from 1 to {most}", most = MOST_ZONES)]
+    ZoneCount(u32),
     /// A zone has no blocks, or more than 16,777,216.
-    #[error("the zone size is not from 1 to {most} blocks", most = MOST_ZONE_BLOCKS)]
-    ZoneSize = 3,
-    /// No block of a zone can be written, or more than it has.
-    #[error("the zone capacity is not from 1 to the zone size")]
-    ZoneCapacity = 4,
+    #[error("zones of {0} blocks: the zone size is not from 1 to {most} blocks", most = MOST_ZONE_BLOCKS)]
+    ZoneSize(u32),
+    /// No block of a zone can be written, or more than it has; both numbers are in blocks.
+    #[error("{capacity} writable of {size} blocks: the zone capacity is not from 1 to the zone size")]
+    ZoneCapacity {
+        capacity: u32,
+        size: u32,
+    },
     /// No zone may be open, or more than may be active, or more of these than there are zones (ZNS 1.1, 2.1.1).
-    #[error("the limits are not 1 open zone or more, as many active ones, and no more than zones")]
-    ResourceLimits = 5,
-    /// The blocks of all zones that can be written take more than 268,435,456 bytes.
-    #[error("the zones' capacity is more than {most} bytes in all", most = MOST_BYTES)]
-    TooLarge = 6,
+    #[error("{open_limit} open and {active_limit} active of {zones} zones: the limits are not 1 open zone or more, as many active ones, and no more than zones")]
+    ResourceLimits {
+        open_limit: u32,
+        active_limit: u32,
+        zones: u32,
+    },
+    /// The blocks of all zones that can be written take more than 268,435,456 bytes: the number of zones, the blocks of each
+    /// that can be written, and the bytes of a block.
+    #[error("{zones} zones of {capacity} writable blocks of {block} bytes: the zones' capacity is more than {most} bytes in all", most = MOST_BYTES)]
+    TooLarge {
+        zones: u32,
+        capacity: u32,
+        block: u32,
+    },
 }
 
-impl GeometryFault {
-    /// The fault's number, from 1 to 6.
+impl GeometryRefusal {
+    /// The number that a user is told of the fault, from 1 to 6 (profile).
     pub fn number(self) -> u8
-        ensures { result ≡ geometry_fault_number self }
+        ensures { result ≡ geometry_refusal_number self }
     {
-        self as u8
+        match self {
+            GeometryRefusal::BlockSize(_) => 1,
+            GeometryRefusal::ZoneCount(_) => 2,
+            GeometryRefusal::ZoneSize(_) => 3,
+            GeometryRefusal::ZoneCapacity { .. } => 4,
+            GeometryRefusal::ResourceLimits { .. } => 5,
+            GeometryRefusal::TooLarge { .. } => 6,
+        }
     }
 }
 
@@ -89,7 +105,7 @@ impl Geometry {
     ///
     /// # Errors
     ///
-    /// The numbers that have the first [`GeometryFault`] that applies.
+    /// The first [`GeometryRefusal`] that applies, with the numbers that have it.
     pub fn new(
         block: u32,
         zones: u32,

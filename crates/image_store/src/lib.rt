@@ -10,17 +10,15 @@ mod image_fields;
 pub mod laws;
 mod load;
 mod memory_streams;
-mod refusal;
 mod save;
 mod streams;
 mod version;
 mod zone_row;
 
 pub use fault::{HeaderFault, LoadFault, ZoneRowFault};
-pub use geometry::{Geometry, GeometryFault, MOST_ZONES, ZoneBlock};
+pub use geometry::{Geometry, GeometryRefusal, MOST_ZONES, ZoneBlock};
 pub use image::Image;
 pub use memory_streams::Buffer;
-pub use refusal::GeometryRefusal;
 pub use streams::{Sink, Source, StreamFault};
 pub use version::Version;
 pub use zone_resources::Limits;

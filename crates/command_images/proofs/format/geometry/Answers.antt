@@ -1,5 +1,5 @@
 use Rattle.std.proofs.Common.{◌≡◌, Ok}
-use Rattle.image_store.specs.Refusal.{tested}
+use Rattle.image_store.specs.Geometry.{tested}
 use Rattle.command_images.specs.Images.{IsAskedFor}
 use Rattle.command_images.specs.UserTold.{RefusesShape}
 use Rattle.command_images.proofs.Making.{asked_and_passed, passed_on, spells_none}
