@@ -1,4 +1,4 @@
-mod BlockParts
+mod FollowingBlocks
 mod EachBlock
 mod FittingZones
 mod GivenWay
