@@ -1,6 +1,6 @@
 //! Laws of the definitions. Each function does nothing: what it ensures is the law.
 
-ghost use Rattle.program_meaning.specs.Laws.{AccessIsMapped, ChangesOnly, EmitsFromMap, EndsInRun, KeepsReadOnly, LoadsFromMap, StoresIntoMap, StuckByLeast};
+ghost use Rattle.program_meaning.specs.Laws.{AccessIsMapped, EmitsFromMap, EndsInRun, KeepsReadOnly, LoadsFromMap, StepsChangeOnlyWhatTheyWrite, StoresIntoMap, StuckByLeast};
 
 /// Bytes, at least one, lie in one area exactly where each of them is in the map from addresses to bytes.
 pub fn access_is_mapped()
@@ -19,8 +19,8 @@ pub fn stores_into_map()
 
 /// A step changes no register but its destination and those that a call clears, and no byte but
 /// those that it stores.
-pub fn changes_only()
-    ensures { ChangesOnly }
+pub fn steps_change_only_what_they_write()
+    ensures { StepsChangeOnlyWhatTheyWrite }
 {}
 
 /// A step is stuck with a cause exactly where that cause hinders it and none with a smaller number does.
