@@ -6,7 +6,7 @@ use Rattle.device_events.specs.Replies.{Joins, ReplyWithData}
 use Rattle.pushdown.specs.Draining.{AreLowest, Drains, lowest_run, replies_to_turns, state_after_turns}
 use Rattle.pushdown.specs.Events.{CarriesBytes, Occurrence, replies_to, state_after}
 use Rattle.pushdown.specs.Happenings.{happens, turned}
-use Rattle.pushdown.specs.JoinedEvents.{DrainedByTurns, DrainedInOneWay, EventsJoin, InParts, OneReplyEach, ServedAndDrained, ServedInParts, turn_events}
+use Rattle.pushdown.specs.JoinedEvents.{DrainedByTurns, DrainedInOneWay, EventsInParts, EventsJoin, OneReplyEach, ServedAndDrained, ServedInParts, turn_events}
 use Rattle.pushdown.specs.State.{State}
 use Rattle.device_events.specs.declared.event.Event.{Event}
 use Rattle.pushdown.proofs.Bytes.{all_append}
@@ -34,8 +34,8 @@ module _ {D : Type 0} (operations : Operations D) where
   replies_to-append (o ∷ os) later s =
       ap (λ (replies : List ReplyWithData). (happens operations s o.starved o.event).reply ∷ replies) (replies_to-append os later (next o s))
 
-  pub in_parts : InParts operations
-  in_parts first later s = record { replies = replies_to-append first later s; state = state_after-append first later s }
+  pub events_in_parts : EventsInParts operations
+  events_in_parts first later s = record { replies = replies_to-append first later s; state = state_after-append first later s }
 
   state_in_parts : (first later : List Occurrence) (old between new : State)
       → between ≡ state_after operations first old → new ≡ state_after operations later between

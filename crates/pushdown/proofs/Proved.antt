@@ -4,7 +4,7 @@ use Rattle.word_domain.specs.Domain.{Operations}
 use Rattle.accepted_programs.specs.Laws.{AcceptedNeverTraps}
 use Rattle.device_events.specs.Replies.{Joins, ReplyWithData}
 use Rattle.pushdown.specs.AnyOrder.{TurnsInAnyOrder}
-use Rattle.pushdown.specs.JoinedEvents.{DrainedByTurns, EventsJoin, InParts, ServedAndDrained}
+use Rattle.pushdown.specs.JoinedEvents.{DrainedByTurns, EventsInParts, EventsJoin, ServedAndDrained}
 use Rattle.pushdown.specs.Laws.{BlocksLeaveOthers, DrainingEnds, EventsKeepForRuns, OnlyLoadsChangeSlots, RefusedLeavesState, RestEnds, RestGoesOn, RestIsFew, RoomIsOpen, RoomStays, StatesAreSound, TurnsLeaveFewer}
 use Rattle.pushdown.specs.Pushdown.{Pushdown}
 use Rattle.pushdown.specs.ReadBack.{AppendedBlocksReadBack, AppendedByRunsReadsBack, ResultsReadBack, WrittenBlocksReadBack}
@@ -63,8 +63,8 @@ module _ {D : Type 0} (operations : Operations D) where
   pub turns_keep_reached : TurnsKeepReached operations
   turns_keep_reached = reached.turns_keep_reached operations
 
-  pub in_parts : InParts operations
-  in_parts = joined.in_parts operations
+  pub events_in_parts : EventsInParts operations
+  events_in_parts = joined.events_in_parts operations
 
   pub drained_by_turns : DrainedByTurns operations
   drained_by_turns = joined.drained_by_turns operations

@@ -5,7 +5,7 @@ use Rattle.pushdown.specs.Events.{AreEvents, state_after}
 use Rattle.pushdown.specs.JoinedEvents.{turn_events}
 use Rattle.pushdown.specs.Reached.{EventsKeepReached, IsReached, NewIsReached, TurnsKeepReached}
 use Rattle.pushdown.specs.State.{new_state}
-use Rattle.pushdown.proofs.JoinedEvents.{drained_by_turns, events_join, in_parts}
+use Rattle.pushdown.proofs.JoinedEvents.{drained_by_turns, events_in_parts, events_join}
 
 turns_are : (runs : List ℕ) → AreEvents (turn_events runs)
 turns_are [] = tt
@@ -23,7 +23,7 @@ module _ {D : Type 0} (operations : Operations D) where
     bytes = events_join reached.events events reached.bytes are;
     leaves =
         ap (state_after operations events) reached.leaves
-        ∙ sym ((in_parts operations reached.events events (new_state reached.first)).state);
+        ∙ sym ((events_in_parts operations reached.events events (new_state reached.first)).state);
   }
 
   pub turns_keep_reached : TurnsKeepReached operations

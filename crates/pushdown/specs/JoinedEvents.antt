@@ -44,8 +44,8 @@ abbrev pub EventsJoin : Type 0
 EventsJoin = (first later : List Occurrence) → AreEvents first → AreEvents later → AreEvents (first ++ later)
 
 -- events can be served in parts
-abbrev pub InParts : {D : Type 0} → Operations D → Type 0
-InParts operations = (first later : List Occurrence) (s : State) → AreInParts operations first later s
+abbrev pub EventsInParts : {D : Type 0} → Operations D → Type 0
+EventsInParts operations = (first later : List Occurrence) (s : State) → AreInParts operations first later s
 
 -- a device that did some events and then others has done both, one behind the other
 abbrev pub ServedInParts : {D T : Type 0} → Operations D → (T → T → List ReplyWithData → Type 0) → Type 0

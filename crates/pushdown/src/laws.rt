@@ -3,7 +3,7 @@
 ghost use Rattle.pushdown.specs.AnyOrder.{TurnsInAnyOrder};
 ghost use Rattle.pushdown.specs.Laws.{AdmittedStarts, BlocksLeaveOthers, DrainingEnds, EventsKeepForRuns, ForeignLeavesTurns, OnlyLoadsChangeSlots, OutcomeIsPacked, OutcomeUnpacks, PendingIsAdmitted, RefusedLeavesState, RestAtAdmission, RestEnds, RestGoesOn, RestIsFew, RoomIsOpen, RoomStays, StatesAreSound, TurnTakesFirst, TurnsLeaveFewer};
 ghost use Rattle.pushdown.specs.WantOfMemory.{OnlyLoadsWantMemory};
-ghost use Rattle.pushdown.specs.JoinedEvents.{DrainedByTurns, DrainedInOneWay, EventsJoin, InParts, OneReplyEach, ServedAndDrained, ServedInParts};
+ghost use Rattle.pushdown.specs.JoinedEvents.{DrainedByTurns, DrainedInOneWay, EventsInParts, EventsJoin, OneReplyEach, ServedAndDrained, ServedInParts};
 ghost use Rattle.pushdown.specs.Pushdown.{Pushdown};
 ghost use Rattle.pushdown.specs.Reached.{EventsKeepReached, NewIsReached, TurnsKeepReached};
 ghost use Rattle.pushdown.specs.ReadBack.{AppendedBlocksReadBack, AppendedByRunsReadsBack, EventsKeepShapes, ResultsReadBack, UnclearedZonesKeepBlocks, WrittenBlocksReadBack, WrittenIsRead};
@@ -144,8 +144,8 @@ pub fn events_join()
 {}
 
 /// The later of two lists of events happens to what the earlier leaves.
-pub fn in_parts<D: Domain>()
-    ensures { InParts D.operations }
+pub fn events_in_parts<D: Domain>()
+    ensures { EventsInParts D.operations }
 {}
 
 /// A device that is served one list of events and then another has been served both joined.

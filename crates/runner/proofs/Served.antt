@@ -8,7 +8,7 @@ use Rattle.pushdown.specs.Happenings.{happens}
 use Rattle.pushdown.specs.State.{State}
 use Rattle.device_events.specs.declared.event.Event.{Event}
 use Rattle.device_events.specs.declared.reply.Reply.{Reply}
-use Rattle.pushdown.proofs.Proved.{in_parts}
+use Rattle.pushdown.proofs.Proved.{events_in_parts}
 
 -- a reply with the bytes that go with it
 pub with_data : (r : Reply) (n : ℕ) (xs : List ℕ) → n ≡ data_length r
@@ -30,12 +30,12 @@ module _ (es : List Event) (i : ℕ) (e : Event) (old now new : State) (reply : 
   state_more : (os : List Occurrence) (o : Occurrence) → now ≡ state_after intervals os old → new ≡ (happens intervals now o.starved o.event).state
       → new ≡ state_after intervals (os ++ o ∷ []) old
   state_more os o before step =
-      step ∙ ap (λ (s : State). (happens intervals s o.starved o.event).state) before ∙ sym ((in_parts intervals os (o ∷ []) old).state)
+      step ∙ ap (λ (s : State). (happens intervals s o.starved o.event).state) before ∙ sym ((events_in_parts intervals os (o ∷ []) old).state)
 
   replies_more : (os : List Occurrence) (o : Occurrence) → now ≡ state_after intervals os old → reply ≡ (happens intervals now o.starved o.event).reply
       → replies_to intervals (os ++ o ∷ []) old ≡ replies_to intervals os old ++ reply ∷ []
   replies_more os o before step =
-      (in_parts intervals os (o ∷ []) old).replies
+      (events_in_parts intervals os (o ∷ []) old).replies
       ∙ ap (λ (x : ReplyWithData). replies_to intervals os old ++ x ∷ [])
       (sym (step ∙ ap (λ (s : State). (happens intervals s o.starved o.event).reply) before))
 
