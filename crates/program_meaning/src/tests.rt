@@ -3,95 +3,78 @@
 mod vectors;
 
 use crate::{Arithmetic, alu, is_taken};
+use instruction_set::Operation::{
+    Add, ArithmeticShift, Divide, LeftShift, Modulo, SignedDivide, SignedModulo,
+};
+use instruction_set::Width::{Bits32, Bits64};
 use instruction_set::{Operation, Relation, SignExtension, Swap, SwapSize, Width};
 use std::process::Abort;
 use vectors::{COUNT, OPERATIONS, PAIRS, RELATIONS, UNARY};
 
-fn bits64(operation: Operation) -> Arithmetic {
-    Arithmetic::Binary {
-        width: Width::Bits64,
-        operation,
-    }
+fn binary(width: Width, operation: Operation) -> Arithmetic {
+    Arithmetic::Binary { width, operation }
 }
 
-fn bits32(operation: Operation) -> Arithmetic {
-    Arithmetic::Binary {
-        width: Width::Bits32,
-        operation,
-    }
+const LEAST: u64 = 0x8000_0000_0000_0000;
+
+const MINUS_ONE: u64 = 0xffff_ffff_ffff_ffff;
+
+const MINUS_13: u64 = 0xffff_ffff_ffff_fff3;
+
+/// What an operation at a width makes of the words of its destination and its source.
+type Made = (Width, Operation, u64, u64, u64);
+
+const BY_HAND: &[Made] = &[
+    (Bits64, Divide, 7, 0, 0),
+    (Bits64, Modulo, 7, 0, 7),
+    (Bits32, Modulo, 0x1_0000_0007, 0, 7),
+    (Bits64, SignedDivide, 7, 0, 0),
+    (Bits64, SignedModulo, MINUS_13, 0, MINUS_13),
+    (Bits64, SignedDivide, LEAST, MINUS_ONE, LEAST),
+    (Bits64, SignedModulo, LEAST, MINUS_ONE, 0),
+    (Bits64, SignedModulo, MINUS_13, 3, MINUS_ONE),
+    (Bits64, LeftShift, 5, 64, 5),
+    (Bits32, Add, 0x5_ffff_ffff, 1, 0),
+    (Bits64, Divide, 10, MINUS_ONE, 0),
+    (Bits32, ArithmeticShift, 0x8000_0000, 4, 0xf800_0000),
+    (Bits64, SignedDivide, MINUS_13, 3, 0xffff_ffff_ffff_fffc),
+    (Bits32, SignedDivide, 0x8000_0000, MINUS_ONE, 0x8000_0000),
+    (Bits32, Divide, MINUS_ONE, MINUS_ONE, 1),
+];
+
+fn check_word(rt: &impl Abort, arithmetic: Arithmetic, x: u64, y: u64, word: u64) {
+    let made = alu(arithmetic, x, y);
+    assert_eq!(rt; made, word, "{arithmetic:?} of {x:x} and {y:x}");
 }
 
 #[test]
 fn words_as_worked_out_by_hand(rt: HostRuntime) {
-    let least = 0x8000_0000_0000_0000;
-    let minus_one = 0xffff_ffff_ffff_ffff;
-    let minus_13 = 0xffff_ffff_ffff_fff3;
-    let rows = [
-        (bits64(Operation::Divide), 7, 0, 0),
-        (bits64(Operation::Modulo), 7, 0, 7),
-        (bits32(Operation::Modulo), 0x1_0000_0007, 0, 7),
-        (bits64(Operation::SignedDivide), 7, 0, 0),
-        (bits64(Operation::SignedModulo), minus_13, 0, minus_13),
-        (bits64(Operation::SignedDivide), least, minus_one, least),
-        (bits64(Operation::SignedModulo), least, minus_one, 0),
-        (bits64(Operation::SignedModulo), minus_13, 3, minus_one),
-        (bits64(Operation::LeftShift), 5, 64, 5),
-        (bits32(Operation::Add), 0x5_ffff_ffff, 1, 0),
-        (bits64(Operation::Divide), 10, minus_one, 0),
-        (
-            Arithmetic::MoveSigned {
-                extension: SignExtension::Bits8To64,
-            },
-            0,
-            0x80,
-            0xffff_ffff_ffff_ff80,
-        ),
-        (
-            Arithmetic::SwapBytes {
-                swap: Swap::Reverse,
-                size: SwapSize::Bits16,
-            },
-            0x1234_5678_1234_5678,
-            0,
-            0x7856,
-        ),
-        (
-            Arithmetic::SwapBytes {
-                swap: Swap::ToBig,
-                size: SwapSize::Bits32,
-            },
-            0x1122_3344_aabb_ccdd,
-            0,
-            0xddcc_bbaa,
-        ),
-        (
-            bits32(Operation::ArithmeticShift),
-            0x8000_0000,
-            4,
-            0xf800_0000,
-        ),
-        (
-            bits64(Operation::SignedDivide),
-            minus_13,
-            3,
-            0xffff_ffff_ffff_fffc,
-        ),
-        (
-            bits32(Operation::SignedDivide),
-            0x8000_0000,
-            minus_one,
-            0x8000_0000,
-        ),
-        (bits32(Operation::Divide), minus_one, minus_one, 1),
-    ];
-    for (arithmetic, x, y, word) in rows {
-        assert_eq!(rt;
-            alu(arithmetic, x, y),
-            word,
-            "{arithmetic:?} of {x:x} and {y:x}"
-        );
+    for (width, operation, x, y, word) in BY_HAND {
+        check_word(&rt, binary(*width, *operation), *x, *y, *word);
     }
-    assert!(rt; !is_taken(Width::Bits64, Relation::Greater, 0x1_0000_0000, minus_one));
+}
+
+#[test]
+fn signs_and_bytes_as_worked_out_by_hand(rt: HostRuntime) {
+    let extension = SignExtension::Bits8To64;
+    let moved = Arithmetic::MoveSigned { extension };
+    check_word(&rt, moved, 0, 0x80, 0xffff_ffff_ffff_ff80);
+    let reversed = Arithmetic::SwapBytes {
+        swap: Swap::Reverse,
+        size: SwapSize::Bits16,
+    };
+    check_word(&rt, reversed, 0x1234_5678_1234_5678, 0, 0x7856);
+    let to_big = Arithmetic::SwapBytes {
+        swap: Swap::ToBig,
+        size: SwapSize::Bits32,
+    };
+    check_word(&rt, to_big, 0x1122_3344_aabb_ccdd, 0, 0xddcc_bbaa);
+}
+
+#[test]
+fn all_ones_are_the_greatest_word(rt: HostRuntime) {
+    let is_greater = is_taken(Bits64, Relation::Greater, 0x1_0000_0000, MINUS_ONE);
+    assert!(rt; !is_greater);
 }
 
 fn check_operation(
@@ -102,9 +85,9 @@ fn check_operation(
 ) {
     for ((x, y), (at_64, at_32)) in PAIRS.iter().zip(wide.iter().zip(narrow)) {
         let (x, y) = (*x, *y);
-        let made = alu(bits64(operation), x, y);
+        let made = alu(binary(Bits64, operation), x, y);
         assert_eq!(rt; made, *at_64, "{operation:?} of {x:x} and {y:x}");
-        let made = alu(bits32(operation), x, y);
+        let made = alu(binary(Bits32, operation), x, y);
         assert_eq!(rt; made, *at_32, "32-bit {operation:?} of {x:x} and {y:x}");
     }
 }
@@ -118,15 +101,21 @@ fn check_relation(
     for ((x, y), (at_64, at_32)) in PAIRS.iter().zip(wide.iter().zip(narrow)) {
         let (x, y) = (*x, *y);
         assert_eq!(rt;
-            is_taken(Width::Bits64, relation, x, y),
+            is_taken(Bits64, relation, x, y),
             *at_64,
             "{relation:?} of {x:x} and {y:x}"
         );
         assert_eq!(rt;
-            is_taken(Width::Bits32, relation, x, y),
+            is_taken(Bits32, relation, x, y),
             *at_32,
             "32-bit {relation:?} of {x:x} and {y:x}"
         );
+    }
+}
+
+fn check_unary(rt: &impl Abort, arithmetic: Arithmetic, words: &[u64; COUNT]) {
+    for ((x, _), word) in PAIRS.iter().zip(words) {
+        assert_eq!(rt; alu(arithmetic, *x, *x), *word, "{arithmetic:?} of {x:x}");
     }
 }
 
@@ -135,12 +124,18 @@ fn words_as_gcc_makes_them(rt: HostRuntime) {
     for (operation, wide, narrow) in &OPERATIONS {
         check_operation(&rt, *operation, wide, narrow);
     }
+}
+
+#[test]
+fn relations_as_gcc_tests_them(rt: HostRuntime) {
     for (relation, wide, narrow) in &RELATIONS {
         check_relation(&rt, *relation, wide, narrow);
     }
+}
+
+#[test]
+fn words_of_one_operand_as_gcc_makes_them(rt: HostRuntime) {
     for (arithmetic, words) in &UNARY {
-        for ((x, _), word) in PAIRS.iter().zip(words) {
-            assert_eq!(rt; alu(*arithmetic, *x, *x), *word, "{arithmetic:?} of {x:x}");
-        }
+        check_unary(&rt, *arithmetic, words);
     }
 }
