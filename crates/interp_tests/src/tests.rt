@@ -59,64 +59,87 @@ fn check_run(
     Ok(())
 }
 
-#[test]
-fn memory_as_gcc_has_it(rt: HostRuntime) -> Result<(), Fail> {
+/// The block whose byte i is 37 i + 11.
+fn block_of_gcc() -> [u8; 512] {
     let mut block = [0; 512];
     let mut byte = 11u8;
     for place in block.iter_mut() {
         *place = byte;
         byte = byte.wrapping_add(37);
     }
-    for (slots, r0) in &LOADS {
-        check_run(&rt, slots, &block, *r0)?;
-    }
-    for (slots, r0) in &STORES {
-        check_run(&rt, slots, &block, *r0)?;
-    }
-    for (slots, r0) in &IMMEDIATE_STORES {
-        check_run(&rt, slots, &block, *r0)?;
+    block
+}
+
+/// Runs programs of so many slots, each with the R0 that it has to leave.
+fn check_runs<const N: usize>(
+    rt: &(impl Abort + AllocGlobal),
+    programs: &[([u64; N], u64)],
+) -> Result<(), Fail> {
+    let block = block_of_gcc();
+    for (slots, r0) in programs {
+        check_run(rt, slots, &block, *r0)?;
     }
     Ok(())
 }
 
 #[test]
-fn a_frame_of_a_block_that_matches(rt: HostRuntime) -> Result<(), Fail> {
-    let filter = program(rt.alloc(), &FILTER)?;
+fn memory_as_gcc_has_it(rt: HostRuntime) -> Result<(), Fail> {
+    check_runs(&rt, &LOADS)?;
+    check_runs(&rt, &STORES)?;
+    check_runs(&rt, &IMMEDIATE_STORES)
+}
+
+const NO_ROOM: End = End::Trap {
+    slot: 4,
+    cause: Cause::EmitLength,
+};
+
+/// A run of `FILTER`: the most bytes that it may emit and its fuel; how it ends, after how many steps, and the bytes
+/// and the frames that it has emitted by then.
+type Run = (usize, u64, End, u64, usize, u64);
+
+const RUNS: &[Run] = &[
+    (10, 7, End::Exit { r0: 0 }, 7, 10, 1),
+    (10, 100, End::Exit { r0: 0 }, 7, 10, 1),
+    (9, 100, NO_ROOM, 4, 0, 0),
+    (10, 4, End::OutOfFuel, 4, 0, 0),
+    (9, 4, End::OutOfFuel, 4, 0, 0),
+];
+
+/// Runs the filter over a block that begins with 7.
+fn check_filter(rt: &impl Abort, filter: &Program, run: Run) {
+    let (limit, fuel, end, steps, group_length, frames) = run;
     let mut block = [0; 512];
     block[0] = 7;
     let context = [0; 32];
-    let ends = [
-        (10, 7, End::Exit { r0: 0 }, 7, 10, 1),
-        (10, 100, End::Exit { r0: 0 }, 7, 10, 1),
-        (
-            9,
-            100,
-            End::Trap {
-                slot: 4,
-                cause: Cause::EmitLength,
-            },
-            4,
-            0,
-            0,
-        ),
-        (10, 4, End::OutOfFuel, 4, 0, 0),
-        (9, 4, End::OutOfFuel, 4, 0, 0),
-    ];
-    for (limit, fuel, end, steps, group_length, frames) in ends {
-        let mut scratch = [0; 1024];
-        let mut group = [9; 12];
-        let mut machine = Machine::new(&block, &context, &mut scratch);
-        assert!(rt; filter.at(machine.slot()).is_some());
-        assert_eq!(rt; machine.run_checked(&filter, limit, fuel, &mut group), end);
-        assert_eq!(rt; machine.steps(), steps);
-        assert_eq!(rt; machine.group_length(), group_length);
-        assert_eq!(rt; machine.frames(), frames);
-        if frames == 1 {
-            assert_eq!(rt; group, [8, 0, 7, 0, 0, 0, 0, 0, 0, 0, 9, 9]);
-        } else {
-            assert_eq!(rt; group, [9; 12]);
-        }
+    let mut scratch = [0; 1024];
+    let mut group = [9; 12];
+    let mut machine = Machine::new(&block, &context, &mut scratch);
+    assert!(rt; filter.at(machine.slot()).is_some());
+    assert!(rt; limit <= 10 && fuel <= 100);
+    assert_eq!(rt; machine.run_checked(filter, limit, fuel, &mut group), end);
+    assert_eq!(rt; machine.steps(), steps);
+    assert_eq!(rt; machine.group_length(), group_length);
+    assert_eq!(rt; machine.frames(), frames);
+    if frames == 1 {
+        assert_eq!(rt; group, [8, 0, 7, 0, 0, 0, 0, 0, 0, 0, 9, 9]);
+    } else {
+        assert_eq!(rt; group, [9; 12]);
     }
+}
+
+#[test]
+fn a_frame_of_a_block_that_matches(rt: HostRuntime) -> Result<(), Fail> {
+    let filter = program(rt.alloc(), &FILTER)?;
+    for run in RUNS {
+        check_filter(&rt, &filter, *run);
+    }
+    Ok(())
+}
+
+#[test]
+fn no_frame_of_another_block(rt: HostRuntime) -> Result<(), Fail> {
+    let filter = program(rt.alloc(), &FILTER)?;
     assert_eq!(rt; run(&rt, &filter, &[0; 512]), (End::Exit { r0: 0 }, 4));
     Ok(())
 }
