@@ -8,6 +8,7 @@ use nvme_entry::{
     BlockCount, Command, Completion, DwordCount, Entry, MOST_TRANSFER, Report, StandardCommand,
     Status, ZoneFilter,
 };
+use std::process::Abort;
 use std::test::Fail;
 use zone_state::{Action, Zone, ZoneState};
 
@@ -21,50 +22,44 @@ fn entry_of(dwords: &[(usize, u32)]) -> [u8; 64] {
     bytes
 }
 
+/// Asks that the entry with these dwords names a command of the standards.
+fn check_decoded(rt: &impl Abort, dwords: &[(usize, u32)], command: StandardCommand) {
+    assert_eq!(rt;
+        Entry::decode(&entry_of(dwords)),
+        Ok(Command::Standard(command))
+    );
+}
+
 #[test]
-fn entries_name_commands(rt: HostRuntime) {
-    let one = BlockCount::from_zero_based(0);
-    let high = 0x0000_0002_0000_0008;
-    let cases = [
-        (
-            entry_of(&[(0, 0x0001_007D), (1, 1), (10, 8)]),
-            StandardCommand::Append {
-                lba: 8,
-                blocks: one,
-            },
-        ),
-        (
-            entry_of(&[(0, 0x0002_0002), (1, 1), (10, 8), (11, 2)]),
-            StandardCommand::Read {
-                lba: high,
-                blocks: one,
-            },
-        ),
-        (
-            entry_of(&[(0, 0x0009_0079), (1, 1), (10, 8), (13, 0x0000_0103)]),
-            StandardCommand::Send {
-                lba: 8,
-                action: Action::Open,
-                select_all: true,
-            },
-        ),
-        (
-            entry_of(&[(0, 0x0009_0079), (1, 1), (10, 8), (13, 0xFFFF_FE04)]),
-            StandardCommand::Send {
-                lba: 8,
-                action: Action::Reset,
-                select_all: false,
-            },
-        ),
-    ];
-    for (bytes, command) in cases {
-        assert_eq!(rt; Entry::decode(&bytes), Ok(Command::Standard(command)));
-    }
-    let most = entry_of(&[(0, 0x02), (1, 1), (12, 0xFFFF_FFFF)]);
+fn entries_name_commands_of_blocks(rt: HostRuntime) {
+    let blocks = BlockCount::from_zero_based(0);
+    let append = StandardCommand::Append { lba: 8, blocks };
+    check_decoded(&rt, &[(0, 0x0001_007D), (1, 1), (10, 8)], append);
+    let lba = 0x0000_0002_0000_0008;
+    let read = StandardCommand::Read { lba, blocks };
+    check_decoded(&rt, &[(0, 0x0002_0002), (1, 1), (10, 8), (11, 2)], read);
     let blocks = BlockCount::from_zero_based(0xFFFF);
     assert_eq!(rt; blocks.get(), 65536);
-    let read = StandardCommand::Read { lba: 0, blocks };
-    assert_eq!(rt; Entry::decode(&most), Ok(Command::Standard(read)));
+    let longest = StandardCommand::Read { lba: 0, blocks };
+    check_decoded(&rt, &[(0, 0x02), (1, 1), (12, 0xFFFF_FFFF)], longest);
+}
+
+#[test]
+fn entries_name_actions_on_zones(rt: HostRuntime) {
+    let open_all = StandardCommand::Send {
+        lba: 8,
+        action: Action::Open,
+        select_all: true,
+    };
+    let dwords = [(0, 0x0009_0079), (1, 1), (10, 8), (13, 0x0000_0103)];
+    check_decoded(&rt, &dwords, open_all);
+    let reset = StandardCommand::Send {
+        lba: 8,
+        action: Action::Reset,
+        select_all: false,
+    };
+    let dwords = [(0, 0x0009_0079), (1, 1), (10, 8), (13, 0xFFFF_FE04)];
+    check_decoded(&rt, &dwords, reset);
 }
 
 #[test]

@@ -2,57 +2,59 @@
 
 use super::entry_of;
 use nvme_entry::{BlockCount, Command, Entry, LoadCommand, ProgramSlot, RunCommand, Status};
+use std::process::Abort;
 use std::test::Fail;
+
+/// A Run each of whose fields differs from all others.
+pub(super) fn distinct_run() -> Result<RunCommand, Fail> {
+    Ok(RunCommand {
+        lba: 0x0000_0001_0000_0003,
+        blocks: BlockCount::from_zero_based(0xFFFF),
+        slot: ProgramSlot::new(7).ok_or("the last slot")?,
+        argument: 0xFFFF_FFFE,
+        destination: 0x0000_0002_0000_0010,
+    })
+}
+
+/// Asks that the entry with these dwords names a Run.
+fn check_decoded(rt: &impl Abort, dwords: &[(usize, u32)], run: RunCommand) {
+    assert_eq!(rt; Entry::decode(&entry_of(dwords)), Ok(Command::Run(run)));
+}
 
 #[test]
 fn entries_name_runs(rt: HostRuntime) -> Result<(), Fail> {
-    let first = ProgramSlot::new(0).ok_or("the first slot")?;
-    let last = ProgramSlot::new(7).ok_or("the last slot")?;
-    assert_eq!(rt; last.index(), 7);
-    let cases = [
-        (
-            entry_of(&[(0, 0x0007_00C0), (1, 1), (12, 2), (14, 8)]),
-            RunCommand {
-                lba: 0,
-                blocks: BlockCount::from_zero_based(2),
-                slot: first,
-                argument: 0,
-                destination: 8,
-            },
-        ),
-        (
-            entry_of(&[(0, 0x0001_00C0), (1, 1), (12, 51), (14, 64)]),
-            RunCommand {
-                lba: 0,
-                blocks: BlockCount::from_zero_based(51),
-                slot: first,
-                argument: 0,
-                destination: 64,
-            },
-        ),
-        (
-            entry_of(&[
-                (0, 0xC0),
-                (1, 1),
-                (10, 3),
-                (11, 1),
-                (12, 0xFF07_FFFF),
-                (13, 0xFFFF_FFFE),
-                (14, 16),
-                (15, 2),
-            ]),
-            RunCommand {
-                lba: 0x0000_0001_0000_0003,
-                blocks: BlockCount::from_zero_based(0xFFFF),
-                slot: last,
-                argument: 0xFFFF_FFFE,
-                destination: 0x0000_0002_0000_0010,
-            },
-        ),
+    let short = RunCommand {
+        lba: 0,
+        blocks: BlockCount::from_zero_based(2),
+        slot: ProgramSlot::new(0).ok_or("the first slot")?,
+        argument: 0,
+        destination: 8,
+    };
+    check_decoded(&rt, &[(0, 0x0007_00C0), (1, 1), (12, 2), (14, 8)], short);
+    let long = RunCommand {
+        blocks: BlockCount::from_zero_based(51),
+        destination: 64,
+        ..short
+    };
+    check_decoded(&rt, &[(0, 0x0001_00C0), (1, 1), (12, 51), (14, 64)], long);
+    Ok(())
+}
+
+#[test]
+fn an_entry_names_each_field_of_a_run(rt: HostRuntime) -> Result<(), Fail> {
+    let run = distinct_run()?;
+    assert_eq!(rt; run.slot.index(), 7);
+    let dwords = [
+        (0, 0xC0),
+        (1, 1),
+        (10, 3),
+        (11, 1),
+        (12, 0xFF07_FFFF),
+        (13, 0xFFFF_FFFE),
+        (14, 16),
+        (15, 2),
     ];
-    for (bytes, run) in cases {
-        assert_eq!(rt; Entry::decode(&bytes), Ok(Command::Run(run)));
-    }
+    check_decoded(&rt, &dwords, run);
     Ok(())
 }
 
