@@ -1,6 +1,7 @@
 use ebpf_decode::{DecodeFault, Fault, FaultKind, decode, encode, push_instruction};
 use instruction_set::{Instruction, Operation, Register, Size, Source, Width};
 use std::alloc::Global;
+use std::process::Abort;
 use std::test::Fail;
 
 /// The bytes' fault; `None` where they decode.
@@ -170,65 +171,68 @@ fn programs_and_their_bytes(rt: HostRuntime) -> Result<(), Fail> {
     Ok(())
 }
 
-#[test]
-fn the_instructions_of_a_program(rt: HostRuntime) -> Result<(), Fail> {
-    let r1 = Register::new(1).ok_or("a register")?;
-    let r10 = Register::new(10).ok_or("a register")?;
-    assert_eq!(rt; (r10.number(), r10.index()), (10, 10));
-    let cases = [
-        (
-            [
-                0x18, 0x01, 0, 0, 0xff, 0xff, 0xff, 0xff, 0, 0, 0, 0, 0, 0, 0, 0x80,
-            ],
-            Instruction::LoadImmediate {
-                dst: r1,
-                value: 0x8000_0000_ffff_ffff,
-            },
-        ),
-        (
-            [
-                0x07, 0x01, 0, 0, 0xff, 0xff, 0xff, 0xff, 0x95, 0, 0, 0, 0, 0, 0, 0,
-            ],
-            Instruction::Arithmetic {
-                width: Width::Bits64,
-                operation: Operation::Add,
-                dst: r1,
-                source: Source::Immediate(-1),
-            },
-        ),
-        (
-            [0x05, 0, 0xff, 0xff, 0, 0, 0, 0, 0x95, 0, 0, 0, 0, 0, 0, 0],
-            Instruction::Jump { distance: -1 },
-        ),
-        (
-            [
-                0x7b, 0x1a, 0xf8, 0xff, 0, 0, 0, 0, 0x95, 0, 0, 0, 0, 0, 0, 0,
-            ],
-            Instruction::StoreRegister {
-                size: Size::DoubleWord,
-                dst: r10,
-                src: r1,
-                offset: -8,
-            },
-        ),
-        (
-            [0x3f, 0xa1, 1, 0, 0, 0, 0, 0, 0x95, 0, 0, 0, 0, 0, 0, 0],
-            Instruction::Arithmetic {
-                width: Width::Bits64,
-                operation: Operation::SignedDivide,
-                dst: r1,
-                source: Source::Register(r10),
-            },
-        ),
-    ];
-    for (bytes, instruction) in &cases {
-        let program = decode(rt.alloc(), bytes)?;
-        assert_eq!(rt; program.slots(), 2);
-        assert_eq!(rt; program.at(0).copied(), Some(*instruction));
-        assert_eq!(rt; program.at(2).copied(), None);
-        let mut spelled = Vec::new(rt.alloc());
-        push_instruction(&mut spelled, instruction)?;
-        assert!(rt; bytes.starts_with(spelled.as_slice()));
-    }
+const EXIT: u64 = 0x9500_0000_0000_0000;
+
+/// Asks that a program of two slots begins with an instruction, and that this is spelled by its first bytes.
+fn check_first(
+    rt: &(impl Abort + AllocGlobal),
+    slots: &[u64; 2],
+    instruction: &Instruction,
+) -> Result<(), Fail> {
+    let bytes = bytes_of(rt.alloc(), slots)?;
+    let program = decode(rt.alloc(), bytes.as_slice())?;
+    assert_eq!(rt; program.slots(), 2);
+    assert_eq!(rt; program.at(0).copied(), Some(*instruction));
+    assert_eq!(rt; program.at(2).copied(), None);
+    let mut spelled = Vec::new(rt.alloc());
+    push_instruction(&mut spelled, instruction)?;
+    assert!(rt; bytes.as_slice().starts_with(spelled.as_slice()));
     Ok(())
+}
+
+fn register(number: u8) -> Result<Register, Fail> {
+    Ok(Register::new(number).ok_or("a register")?)
+}
+
+#[test]
+fn a_register_has_its_number(rt: HostRuntime) -> Result<(), Fail> {
+    let r10 = register(10)?;
+    assert_eq!(rt; (r10.number(), r10.index()), (10, 10));
+    Ok(())
+}
+
+#[test]
+fn instructions_of_arithmetic(rt: HostRuntime) -> Result<(), Fail> {
+    let add = Instruction::Arithmetic {
+        width: Width::Bits64,
+        operation: Operation::Add,
+        dst: register(1)?,
+        source: Source::Immediate(-1),
+    };
+    check_first(&rt, &[0x0701_0000_ffff_ffff, EXIT], &add)?;
+    let divide = Instruction::Arithmetic {
+        width: Width::Bits64,
+        operation: Operation::SignedDivide,
+        dst: register(1)?,
+        source: Source::Register(register(10)?),
+    };
+    check_first(&rt, &[0x3fa1_0100_0000_0000, EXIT], &divide)
+}
+
+#[test]
+fn instructions_of_other_kinds(rt: HostRuntime) -> Result<(), Fail> {
+    let wide = Instruction::LoadImmediate {
+        dst: register(1)?,
+        value: 0x8000_0000_ffff_ffff,
+    };
+    check_first(&rt, &[0x1801_0000_ffff_ffff, 0x0000_0000_0000_0080], &wide)?;
+    let backward = Instruction::Jump { distance: -1 };
+    check_first(&rt, &[0x0500_ffff_0000_0000, EXIT], &backward)?;
+    let store = Instruction::StoreRegister {
+        size: Size::DoubleWord,
+        dst: register(10)?,
+        src: register(1)?,
+        offset: -8,
+    };
+    check_first(&rt, &[0x7b1a_f8ff_0000_0000, EXIT], &store)
 }
