@@ -1,7 +1,6 @@
 -- A completion's bytes tell its fields.
-use Rattle.std.proofs.Common.{◌≡◌, ℕ, ◌*◌, ◌/◌, ◌%◌, ◌^◌, ◌<◌, List, ◌++◌, drop, refl, sym, ap, ◌∙◌, arith, true, false, nat_eq, Some, None}
+use Rattle.std.proofs.Common.{◌≡◌, ℕ, ◌*◌, ◌/◌, ◌%◌, ◌^◌, ◌<◌, List, drop, refl, sym, ap, ◌∙◌, arith, true, false, nat_eq, Some, None}
 use lib.Pointwise.{pointwise, bytes_decides}
-use Rattle.byteorder.specs.Endian.{little_bytes, little_number}
 use Rattle.byteorder.specs.Numbers.{little_number-reads_back}
 use Rattle.zone_state.specs.declared.status.StatusType.{StatusType}
 use Rattle.zone_state.specs.declared.status.StatusType.TheVariants.{Generic, CommandSpecific, VendorSpecific}
@@ -10,9 +9,6 @@ use Rattle.nvme_entry.specs.declared.completion.Completion.{Completion}
 use Rattle.nvme_entry.specs.Completion.{completion_bytes, status_dword}
 use Rattle.nvme_entry.specs.Fields.{dword}
 use Rattle.nvme_entry.specs.CompletionFields.{CompletionsTell, AreCompletionFields, completion_in}
-
-again : (n : ℕ) (rest : List ℕ) → n < 2 ^ 32 → little_number 4 (little_bytes 4 n ++ rest) ≡ n
-again n rest h = little_number-reads_back 4 n rest (omega arith)
 
 three_bits : (kind : StatusType) → type_number kind < 2 ^ 3
 three_bits Generic = omega arith
@@ -30,10 +26,10 @@ completions_read_back c fields =
     let bytes = completion_bytes c in
     let few = three_bits c.status.kind in
     let small : status_dword c.cid c.status < 2 ^ 32 = omega (arith, fields.cid, fields.code, few) in
-    let second : dword bytes 2 ≡ c.queue * 2 ^ 16 = again (c.queue * 2 ^ 16) (drop 12 bytes) (omega (arith, fields.queue)) in
-    let third : dword bytes 3 ≡ status_dword c.cid c.status = again (status_dword c.cid c.status) (drop 16 bytes) small in
-    let dw0 : dword bytes 0 ≡ c.dw0 = again c.dw0 (drop 4 bytes) fields.dw0 in
-    let dw1 : dword bytes 1 ≡ c.dw1 = again c.dw1 (drop 8 bytes) fields.dw1 in
+    let second : dword bytes 2 ≡ c.queue * 2 ^ 16 = little_number-reads_back 4 (c.queue * 2 ^ 16) (drop 12 bytes) (omega (arith, fields.queue)) in
+    let third : dword bytes 3 ≡ status_dword c.cid c.status = little_number-reads_back 4 (status_dword c.cid c.status) (drop 16 bytes) (omega (arith, small)) in
+    let dw0 : dword bytes 0 ≡ c.dw0 = little_number-reads_back 4 c.dw0 (drop 4 bytes) (omega (arith, fields.dw0)) in
+    let dw1 : dword bytes 1 ≡ c.dw1 = little_number-reads_back 4 c.dw1 (drop 8 bytes) (omega (arith, fields.dw1)) in
     let queue : dword bytes 2 / 2 ^ 16 ≡ c.queue = ap (λ (n : ℕ). n / 2 ^ 16) second ∙ omega (arith, fields.queue) in
     let cid : dword bytes 3 % 2 ^ 16 ≡ c.cid = ap (λ (n : ℕ). n % 2 ^ 16) third ∙ omega (arith, fields.cid) in
     let code : dword bytes 3 / 2 ^ 17 % 2 ^ 8 ≡ c.status.code = ap (λ (n : ℕ). n / 2 ^ 17 % 2 ^ 8) third ∙ omega (arith, fields.cid, fields.code) in

@@ -1,7 +1,6 @@
 -- The bytes of a zone's descriptor tell its fields.
-use Rattle.std.proofs.Common.{◌≡◌, ℕ, ◌+◌, ◌/◌, ◌%◌, ◌^◌, ◌<◌, List, ◌++◌, drop, refl, sym, ap, ◌∙◌, arith, Bool, true, false, cond, nat_eq, Option, Some, None}
+use Rattle.std.proofs.Common.{◌≡◌, ℕ, ◌+◌, ◌/◌, ◌%◌, ◌^◌, ◌<◌, List, drop, refl, sym, ap, ◌∙◌, arith, Bool, true, false, cond, nat_eq, Option, Some, None}
 use lib.Pointwise.{pointwise, bytes_decides}
-use Rattle.byteorder.specs.Endian.{little_bytes, little_number}
 use Rattle.byteorder.specs.Numbers.{little_number-reads_back}
 use Rattle.zone_state.specs.State.{state_of}
 use Rattle.zone_state.specs.Zone.{CountedZone}
@@ -12,9 +11,6 @@ use Rattle.nvme_entry.specs.declared.descriptor.ZoneDescriptor.{ZoneDescriptor}
 use Rattle.nvme_entry.specs.Descriptor.{has_write_pointer, described, descriptor_bytes, first_word}
 use Rattle.nvme_entry.specs.steps.DescriptorFields.{descriptor_in, word_in}
 use Rattle.nvme_entry.proofs.CompletionFields.{false_is_not_true, some_is_one}
-
-again : (n : ℕ) (rest : List ℕ) → n < 2 ^ 64 → little_number 8 (little_bytes 8 n ++ rest) ≡ n
-again n rest h = little_number-reads_back 8 n rest (omega arith)
 
 state_told : (state : ZoneState) → state_of (first_word state / 2 ^ 12 % 2 ^ 4) ≡ Some state
 state_told Empty = refl
@@ -38,10 +34,10 @@ small Offline = omega arith
 read_back : (d : ZoneDescriptor) → d.capacity < 2 ^ 64 → d.lowest < 2 ^ 64 → d.write_pointer < 2 ^ 64 → descriptor_in (descriptor_bytes d) ≡ Some d
 read_back d capacity lowest pointer =
     let bytes = descriptor_bytes d in
-    let first : word_in bytes 0 ≡ first_word d.state = again (first_word d.state) (drop 8 bytes) (small d.state) in
-    let second : word_in bytes 1 ≡ d.capacity = again d.capacity (drop 16 bytes) capacity in
-    let third : word_in bytes 2 ≡ d.lowest = again d.lowest (drop 24 bytes) lowest in
-    let fourth : word_in bytes 3 ≡ d.write_pointer = again d.write_pointer (drop 32 bytes) pointer in
+    let first : word_in bytes 0 ≡ first_word d.state = little_number-reads_back 8 (first_word d.state) (drop 8 bytes) (omega (arith, small d.state)) in
+    let second : word_in bytes 1 ≡ d.capacity = little_number-reads_back 8 d.capacity (drop 16 bytes) (omega (arith, capacity)) in
+    let third : word_in bytes 2 ≡ d.lowest = little_number-reads_back 8 d.lowest (drop 24 bytes) (omega (arith, lowest)) in
+    let fourth : word_in bytes 3 ≡ d.write_pointer = little_number-reads_back 8 d.write_pointer (drop 32 bytes) (omega (arith, pointer)) in
     let state : state_of (word_in bytes 0 / 2 ^ 12 % 2 ^ 4) ≡ Some d.state = ap (λ (n : ℕ). state_of (n / 2 ^ 12 % 2 ^ 4)) first ∙ state_told d.state in
     rw (state, second, third, fourth) refl
 

@@ -15,14 +15,11 @@ use Rattle.nvme_entry.specs.declared.encoding.CommandDwords.{CommandDwords}
 abbrev bytes_of : ℕ → CommandDwords → List ℕ
 bytes_of first d = flat_map (little_bytes 4) (first ∷ 1 ∷ 0 ∷ 0 ∷ 0 ∷ 0 ∷ 0 ∷ 0 ∷ 0 ∷ 0 ∷ d.cdw10 ∷ d.cdw11 ∷ d.cdw12 ∷ d.cdw13 ∷ d.cdw14 ∷ d.cdw15 ∷ [])
 
-again : (n : ℕ) (rest : List ℕ) → n < 2 ^ 32 → little_number 4 (little_bytes 4 n ++ rest) ≡ n
-again n rest h = little_number-reads_back 4 n rest (omega arith)
-
 -- two dwords are one number
 two_again : (low high : ℕ) (rest : List ℕ) → low < 2 ^ 32 → high < 2 ^ 32 → little_number 8 (little_bytes 4 low ++ (little_bytes 4 high ++ rest)) ≡ low + high * 2 ^ 32
 two_again low high rest small large =
-    let first = again low (little_bytes 4 high ++ rest) small in
-    let second = again high rest large in
+    let first = little_number-reads_back 4 low (little_bytes 4 high ++ rest) (omega (arith, small)) in
+    let second = little_number-reads_back 4 high rest (omega (arith, large)) in
     omega (arith, first, second)
 
 byte_is : (place n : ℕ) → byte_at place n ≡ n / 256 ^ place % 256
@@ -53,16 +50,16 @@ bytes_have first code cid opcode d is_first byte half is_opcode fit =
     let second : fuse_of entry ≡ 0 = ap (λ (n : ℕ). n % 4) (byte_is 1 first) ∙ omega arith in
     let high : identifier_of entry ≡ cid = little_from-bytes 2 2 first (drop 4 entry) ∙ omega arith in
     record {
-      command = decoded_is entry opcode (ap opcode_of lowest ∙ is_opcode) second (again 1 (drop 8 entry) (omega arith));
+      command = decoded_is entry opcode (ap opcode_of lowest ∙ is_opcode) second (little_number-reads_back 4 1 (drop 8 entry) (omega arith));
       identifier = high;
       second_byte = little_from-bytes 1 1 first (drop 2 entry) ∙ omega arith;
       pointers = refl;
-      cdw10 = again d.cdw10 (drop 44 entry) fit.cdw10;
-      cdw11 = again d.cdw11 (drop 48 entry) fit.cdw11;
-      cdw12 = again d.cdw12 (drop 52 entry) fit.cdw12;
-      cdw13 = again d.cdw13 (drop 56 entry) fit.cdw13;
-      cdw14 = again d.cdw14 (drop 60 entry) fit.cdw14;
-      cdw15 = again d.cdw15 [] fit.cdw15;
+      cdw10 = little_number-reads_back 4 d.cdw10 (drop 44 entry) (omega (arith, fit.cdw10));
+      cdw11 = little_number-reads_back 4 d.cdw11 (drop 48 entry) (omega (arith, fit.cdw11));
+      cdw12 = little_number-reads_back 4 d.cdw12 (drop 52 entry) (omega (arith, fit.cdw12));
+      cdw13 = little_number-reads_back 4 d.cdw13 (drop 56 entry) (omega (arith, fit.cdw13));
+      cdw14 = little_number-reads_back 4 d.cdw14 (drop 60 entry) (omega (arith, fit.cdw14));
+      cdw15 = little_number-reads_back 4 d.cdw15 [] (omega (arith, fit.cdw15));
       starting_lba = two_again d.cdw10 d.cdw11 (drop 48 entry) fit.cdw10 fit.cdw11;
       destination = two_again d.cdw14 d.cdw15 [] fit.cdw14 fit.cdw15;
       low_half = little_from-bytes 2 0 d.cdw12 (drop 50 entry) ∙ omega arith;
