@@ -44,8 +44,8 @@ told_send entry d cid lba code what all has is_lba is_13 small is_what =
     ∙ ap (λ (b : Bool). Ok (command.Standard (Send lba what b))) (flag_back all (slice_index entry 53) next)))
 
 -- the report that is asked for, of so many dwords and with a filter, if there is one
-abbrev found : List ℕ → ℕ → Option ZoneFilter → Option Command
-found entry dwords filter = option_map (λ (which : ZoneFilter). command.Standard (Receive (starting_lba entry) dwords which (slice_index entry 54 % 2 == 1))) filter
+abbrev pub reported : List ℕ → ℕ → Option ZoneFilter → Option Command
+reported entry dwords filter = option_map (λ (which : ZoneFilter). command.Standard (Receive (starting_lba entry) dwords which (slice_index entry 54 % 2 == 1))) filter
 
 pub told_receive : (entry : List ℕ) (d : CommandDwords) (cid lba dwords code : ℕ) (which : ZoneFilter) (partial : Bool) → HasFields entry opcode.ZoneManagementReceive cid d
     → d.cdw10 + d.cdw11 * 2 ^ 32 ≡ lba → dwords_of d.cdw12 ≡ Some dwords → d.cdw13 ≡ code * 2 ^ 8 + bool_byte partial * 2 ^ 16 → code < 2 ^ 8 → filter_of code ≡ Some which
@@ -59,9 +59,9 @@ told_receive entry d cid lba dwords code which partial has is_lba is_dwords is_1
     let is_filter : filter_of (slice_index entry 53) ≡ Some which = ap filter_of next ∙ is_which in
     let start : starting_lba entry ≡ lba = omega (arith, has.starting_lba) in
     has.command
-    ∙ (ap (λ (o : Option ℕ). ok_or (option_and_then (λ (k : ℕ). cond (slice_index entry 52 == 0) (found entry k (filter_of (slice_index entry 53))) None) o) INVALID_FIELD_IN_COMMAND) is_count
-    ∙ (ap (λ (n : ℕ). ok_or (cond (n == 0) (found entry dwords (filter_of (slice_index entry 53))) None) INVALID_FIELD_IN_COMMAND) low
-    ∙ (ap (λ (o : Option ZoneFilter). ok_or (found entry dwords o) INVALID_FIELD_IN_COMMAND) is_filter
+    ∙ (ap (λ (o : Option ℕ). ok_or (option_and_then (λ (k : ℕ). cond (slice_index entry 52 == 0) (reported entry k (filter_of (slice_index entry 53))) None) o) INVALID_FIELD_IN_COMMAND) is_count
+    ∙ (ap (λ (n : ℕ). ok_or (cond (n == 0) (reported entry dwords (filter_of (slice_index entry 53))) None) INVALID_FIELD_IN_COMMAND) low
+    ∙ (ap (λ (o : Option ZoneFilter). ok_or (reported entry dwords o) INVALID_FIELD_IN_COMMAND) is_filter
     ∙ (ap (λ (n : ℕ). Ok (command.Standard (Receive n dwords which (slice_index entry 54 % 2 == 1)))) start
     ∙ ap (λ (b : Bool). Ok (command.Standard (Receive lba dwords which b))) (flag_back partial (slice_index entry 54) third)))))
 

@@ -20,7 +20,7 @@ use Rattle.nvme_entry.specs.declared.command.Opcode.TheVariants as opcode
 use Rattle.nvme_entry.specs.declared.command.StandardCommand.TheVariants.{Write, Read, Send, Receive, Append}
 use Rattle.nvme_entry.specs.declared.command.TheConstants.{MOST_TRANSFER}
 use Rattle.nvme_entry.specs.declared.filter.ZoneFilter.{ZoneFilter}
-use Rattle.nvme_entry.proofs.Commands.{slot_back}
+use Rattle.nvme_entry.proofs.Commands.{reported, slot_back}
 use Rattle.nvme_entry.proofs.Encodings.{decoded_is}
 
 abbrev code : Opcode → ℕ
@@ -150,10 +150,6 @@ pub record Names (entry : List ℕ) (c : Command) : Type 0 where
   pub named : Opcode
   pub is : opcode_of (slice_index entry 0) ≡ Some named
   pub command : command_of named entry ≡ Some c
-
--- the report that is asked for, of so many dwords and with a filter, if there is one
-abbrev reported : List ℕ → ℕ → Option ZoneFilter → Option Command
-reported entry dwords filter = option_map (λ (which : ZoneFilter). command.Standard (Receive (starting_lba entry) dwords which (slice_index entry 54 % 2 == 1))) filter
 
 count_back : (count dwords : ℕ) → dwords ≡ count + 1 → 4 * dwords ≤ MOST_TRANSFER → dwords_of count ≡ Some dwords
 count_back count dwords is few =
