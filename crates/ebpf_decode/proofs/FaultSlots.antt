@@ -16,7 +16,7 @@ slot_told : Result (List (Option Instruction)) Fault → ℕ
 slot_told (Ok slots) = 0
 slot_told (Err fault) = fault.slot
 
-abbrev told_at : ℕ → FaultKind → Result (List (Option Instruction)) Fault
+abbrev pub told_at : ℕ → FaultKind → Result (List (Option Instruction)) Fault
 told_at slot kind = Err (record { slot = slot; kind = kind })
 
 pub same_slot : (slot : ℕ) (kind : FaultKind) (fault : Fault) → told_at slot kind ≡ Err fault → fault.slot ≡ slot

@@ -17,7 +17,7 @@ use Rattle.ebpf_decode.specs.Opcodes.{opcode_named}
 use Rattle.ebpf_decode.specs.Reading.{checks, instruction_with, length_checks, length_fault, read, read_named, read_slots, slots_at, then_read, unless, unless_length}
 use Rattle.ebpf_decode.proofs.SpelledAreRead.{read-again}
 use Rattle.ebpf_decode.proofs.Bytes.{slots-fields}
-use Rattle.ebpf_decode.proofs.FaultSlots.{fault_behind, same_slot}
+use Rattle.ebpf_decode.proofs.FaultSlots.{fault_behind, same_slot, told_at}
 use Rattle.ebpf_decode.proofs.Programs.{are-fields-in}
 use Rattle.ebpf_decode.proofs.ReadAreSpelled.{AreFields, AreFieldsIn, IsTaken, read-takes}
 
@@ -144,9 +144,6 @@ behind f fs s fault i true is taken b = record {
 kind_told : Result (List (Option Instruction)) Fault → FaultKind
 kind_told (Ok slots) = kinds.Opcode
 kind_told (Err fault) = fault.kind
-
-abbrev told_at : ℕ → FaultKind → Result (List (Option Instruction)) Fault
-told_at slot kind = Err (record { slot = slot; kind = kind })
 
 same_kind : (slot : ℕ) (kind : FaultKind) (fault : Fault) → told_at slot kind ≡ Err fault → kind ≡ fault.kind
 unfolding kind_told
