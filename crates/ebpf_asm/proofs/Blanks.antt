@@ -1,25 +1,16 @@
 -- Blanks around a line, and a comment behind it, change nothing.
-use Rattle.std.proofs.Common.{◌≡◌, ℕ, ◌+◌, ◌==◌, suc, not, Bool, true, false, ◌&&◌, cond, List, [], ◌∷◌, ◌++◌, length, take, None, Err, refl, sym, ap, ◌∙◌, arith}
+use Rattle.std.proofs.Common.{◌≡◌, ℕ, ◌+◌, ◌==◌, suc, not, Bool, true, false, ◌&&◌, cond, List, [], ◌∷◌, ◌++◌, take, None, Err, refl, sym, ap, ◌∙◌, arith}
 use Rattle.std.specs.Char.{is_ascii}
 use Rattle.std.specs.List.{list_all, position_or_len}
-use Rattle.std.proofs.lemmas.Bool.Decides.{nat_tests}
+use Rattle.std.proofs.Math.Bool.{and-true}
 use Rattle.std.proofs.lemmas.List.Folds.{list_all-append}
 use Rattle.std.proofs.lemmas.List.Sums.{list_all-from_AllPass}
 use Rattle.text_lines.specs.Cut.{is_blank_byte, trimmed, uncommented, without_end_blanks, without_first_blanks}
 use Rattle.text_lines.specs.Laws.{AreBlanks}
+use Rattle.text_lines.proofs.Proved.{back_goes, blank_is_ascii, blank_is_code, front_goes}
 use Rattle.ebpf_asm.specs.declared.fault.FaultKind.TheVariants.{NotAscii}
 use Rattle.ebpf_asm.specs.Laws.{BlanksDontCount, CommentsDontCount}
 use Rattle.ebpf_asm.specs.Line.{Line, line_in, line_of}
-
-blank_is_ascii : (b : ℕ) → is_blank_byte b ≡ true → is_ascii b ≡ true
-blank_is_ascii b e = grind (arith, nat_tests)
-
-blank_is_code : (b : ℕ) → is_blank_byte b ≡ true → (b == 59) ≡ false
-blank_is_code b e = grind (arith, nat_tests)
-
-and_true : (b : Bool) → (b && true) ≡ b
-and_true true = refl
-and_true false = refl
 
 -- ---- ASCII
 
@@ -31,7 +22,7 @@ ascii_before : (xs ys : List ℕ) → list_all is_ascii xs ≡ true → list_all
 ascii_before xs ys e = list_all-append is_ascii xs ys ∙ ap (λ (b : Bool). b && list_all is_ascii ys) e
 
 ascii_behind : (xs ys : List ℕ) → list_all is_ascii ys ≡ true → list_all is_ascii (xs ++ ys) ≡ list_all is_ascii xs
-ascii_behind xs ys e = list_all-append is_ascii xs ys ∙ ap (λ (b : Bool). list_all is_ascii xs && b) e ∙ and_true (list_all is_ascii xs)
+ascii_behind xs ys e = list_all-append is_ascii xs ys ∙ ap (λ (b : Bool). list_all is_ascii xs && b) e ∙ and-true (list_all is_ascii xs)
 
 -- ---- comments
 
@@ -73,10 +64,6 @@ uncommented-front : (front xs : List ℕ) → AreBlanks front → uncommented (f
 uncommented-front [] xs h = refl
 uncommented-front (b ∷ front) xs h = uncommented-cons b (front ++ xs) false (blank_is_code b h.0) ∙ ap (λ (ys : List ℕ). b ∷ ys) (uncommented-front front xs h.1)
 
-first-front : (front xs : List ℕ) → AreBlanks front → without_first_blanks (front ++ xs) ≡ without_first_blanks xs
-first-front [] xs h = refl
-first-front (b ∷ front) xs h = ap (λ (t : Bool). cond t (without_first_blanks (front ++ xs)) (b ∷ (front ++ xs))) h.0 ∙ first-front front xs h.1
-
 -- ---- blanks behind
 
 -- what of the blanks behind a line is no comment
@@ -108,14 +95,6 @@ behind (b ∷ line) back h = by (b == 59) refl (behind line back h)
           ∙ sym (ap (λ (ys : List ℕ). ys ++ later.blanks) (uncommented-cons b line false e));
     }
 
-end-blanks : (blanks : List ℕ) → AreBlanks blanks → without_end_blanks blanks ≡ []
-end-blanks [] h = refl
-end-blanks (b ∷ blanks) h = rw (h.0, end-blanks blanks h.1) refl
-
-end-back : (text back : List ℕ) → AreBlanks back → without_end_blanks (text ++ back) ≡ without_end_blanks text
-end-back [] back h = end-blanks back h
-end-back (b ∷ text) back h = ap (λ (ys : List ℕ). cond (is_blank_byte b && (length ys == 0)) [] (b ∷ ys)) (end-back text back h)
-
 first-blanks : (blanks : List ℕ) → AreBlanks blanks → without_first_blanks blanks ≡ []
 first-blanks [] h = refl
 first-blanks (b ∷ blanks) h = ap (λ (t : Bool). cond t (without_first_blanks blanks) (b ∷ blanks)) h.0 ∙ first-blanks blanks h.1
@@ -129,14 +108,14 @@ trimmed-back (b ∷ text) back h = by (is_blank_byte b) refl (trimmed-back text 
 
     by : (test : Bool) → is_blank_byte b ≡ test → trimmed (text ++ back) ≡ trimmed text → trimmed ((b ∷ text) ++ back) ≡ trimmed (b ∷ text)
     by true e later = ap (trimmed_if (text ++ back)) e ∙ later ∙ sym (ap (trimmed_if text) e)
-    by false e later = ap (trimmed_if (text ++ back)) e ∙ end-back (b ∷ text) back h ∙ sym (ap (trimmed_if text) e)
+    by false e later = ap (trimmed_if (text ++ back)) e ∙ back_goes (b ∷ text) back h ∙ sym (ap (trimmed_if text) e)
 
 pub blanks_dont_count : BlanksDontCount
 blanks_dont_count front line back in_front at_end =
     let rest = behind line back at_end in
     let code : trimmed (uncommented (front ++ (line ++ back))) ≡ trimmed (uncommented line) =
     ap trimmed (uncommented-front front (line ++ back) in_front)
-    ∙ ap without_end_blanks (first-front front (uncommented (line ++ back)) in_front)
+    ∙ ap without_end_blanks (front_goes front (uncommented (line ++ back)) in_front)
     ∙ ap trimmed rest.stand
     ∙ trimmed-back (uncommented line) rest.blanks rest.are in
     same_line (front ++ (line ++ back)) line (ascii_before front (line ++ back) (blanks_ascii front in_front) ∙ ascii_behind line back (blanks_ascii back at_end)) code

@@ -2,17 +2,20 @@
 use Rattle.std.proofs.Common.{◌≡◌, ℕ, ◌-◌, ◌+◌, ◌<◌, ◌==◌, suc, zero, not, Bool, true, false, cond, List, [], ◌∷◌, ◌++◌, length, take, get_or, ◌&&◌, Some, None, refl, sym, ap, ◌∙◌, append-nil, arith, length-append, inl, inr}
 use Rattle.std.specs.List.{All, AllPass, list_all, position_or_len}
 use Rattle.std.specs.Char.{is_ascii}
+use Rattle.std.proofs.Math.Bool.{and-true}
 use Rattle.std.proofs.Math.Seq.{take-append_seam, take-append-le, take-append-add, get_or-append_seam}
+use Rattle.std.proofs.lemmas.Bool.{not-true}
 use Rattle.std.proofs.lemmas.Bool.Decides.{leb_tells, nat_tests}
 use Rattle.std.proofs.lemmas.List.{get_or_append_left}
-use Rattle.std.proofs.lemmas.List.Elements.{All-append, All-cons, All-head, All-nil, All-tail, All-take, All-weaker}
+use Rattle.std.proofs.lemmas.List.Elements.{All-append, All-cons, All-from_recursion, All-head, All-nil, All-tail, All-take, All-weaker}
 use Rattle.std.proofs.lemmas.List.Folds.{list_all-append}
 use Rattle.std.proofs.lemmas.List.Sums.{list_all-from_AllPass, position_or_len_is}
 use Rattle.text_lines.specs.Cut.{is_blank_byte, uncommented}
+use Rattle.text_lines.proofs.Proved.{blank_is_ascii, blank_is_code}
 use Rattle.event_text.specs.CommandFile.{line_told, words_told}
 use Rattle.event_text.specs.Laws.{BlanksDontCount, CommentsDontCount, IsComment}
 use Rattle.event_text.specs.Words.{words_of}
-use Rattle.event_text.proofs.PlainLines.{passes_not, uncommented-same}
+use Rattle.event_text.proofs.PlainLines.{uncommented-same}
 use Rattle.event_text.proofs.SingleLines.{told_alone}
 use Rattle.event_text.proofs.WordLemmas.{words_of-blank}
 
@@ -28,29 +31,19 @@ uncommented-cut line rest h =
     (λ lt. ap (λ (b : ℕ). b == 59) (get_or-append_seam line 59 rest 0)) in
     ap (λ (n : ℕ). take n all) at ∙ take-append_seam line (59 ∷ rest)
 
-and_true : (b : Bool) → (b && true) ≡ b
-and_true true = refl
-and_true false = refl
-
 is_ascii-comment : (line comment : List ℕ) → list_all is_ascii comment ≡ true → list_all is_ascii (line ++ comment) ≡ list_all is_ascii line
-is_ascii-comment line comment e = list_all-append is_ascii line comment ∙ ap (λ (b : Bool). list_all is_ascii line && b) e ∙ and_true (list_all is_ascii line)
+is_ascii-comment line comment e = list_all-append is_ascii line comment ∙ ap (λ (b : Bool). list_all is_ascii line && b) e ∙ and-true (list_all is_ascii line)
 
 pub comments_dont_count : CommentsDontCount
 comments_dont_count line [] plain is = ap line_told (append-nil line)
 comments_dont_count line (first ∷ rest) plain is =
-    let none = All-weaker (λ b. not (b == 59) ≡ true) (λ b. (b == 59) ≡ false) (λ b e. passes_not (b == 59) e) line plain in
+    let none = All-weaker (λ b. not (b == 59) ≡ true) (λ b. (b == 59) ≡ false) (λ b e. not-true (b == 59) e) line plain in
     let comment : list_all is_ascii (59 ∷ rest) ≡ true = list_all-from_AllPass is_ascii rest is.1 in
     ap (λ (b : ℕ). line_told (line ++ b ∷ rest)) is.0
     ∙ ap (λ (b : Bool). cond b (words_told (words_of (uncommented (line ++ 59 ∷ rest)))) None) (is_ascii-comment line (59 ∷ rest) comment)
     ∙ ap (λ (text : List ℕ). cond (list_all is_ascii line) (words_told (words_of text)) None) (uncommented-cut line rest none ∙ sym (uncommented-same line none))
 
 -- ---- blanks
-
-blank_is_ascii : (b : ℕ) → is_blank_byte b ≡ true → is_ascii b ≡ true
-blank_is_ascii b e = grind (arith, nat_tests)
-
-blank_is_code : (b : ℕ) → is_blank_byte b ≡ true → not (b == 59) ≡ true
-blank_is_code b e = grind (arith, nat_tests)
 
 blank_in_line : (b : ℕ) → is_blank_byte b ≡ true → not (b == 10) ≡ true
 blank_in_line b e = grind (arith, nat_tests)
@@ -62,7 +55,7 @@ words_of-blanks (b ∷ blanks) h =
 
 blanks_tell : (blanks : List ℕ) → AllPass is_blank_byte blanks → line_told blanks ≡ Some None
 blanks_tell blanks h =
-    let none = All-weaker (λ b. is_blank_byte b ≡ true) (λ b. (b == 59) ≡ false) (λ b e. passes_not (b == 59) (blank_is_code b e)) blanks h in
+    let none = All-weaker (λ b. is_blank_byte b ≡ true) (λ b. (b == 59) ≡ false) blank_is_code blanks h in
     ap (λ (b : Bool). cond b (words_told (words_of (uncommented blanks))) None)
     (list_all-from_AllPass is_ascii blanks (All-weaker (λ b. is_blank_byte b ≡ true) (λ b. is_ascii b ≡ true) blank_is_ascii blanks h))
     ∙ ap (λ (text : List ℕ). words_told (words_of text)) (uncommented-same blanks none)
@@ -70,7 +63,7 @@ blanks_tell blanks h =
 
 both_tell : (blanks comment : List ℕ) → AllPass is_blank_byte blanks → IsComment comment → line_told (blanks ++ comment) ≡ Some None
 both_tell blanks comment h is =
-    comments_dont_count blanks comment (All-weaker (λ b. is_blank_byte b ≡ true) (λ b. not (b == 59) ≡ true) blank_is_code blanks h) is ∙ blanks_tell blanks h
+    comments_dont_count blanks comment (All-weaker (λ b. is_blank_byte b ≡ true) (λ b. not (b == 59) ≡ true) (λ b e. ap not (blank_is_code b e)) blanks h) is ∙ blanks_tell blanks h
 
 -- ---- without a last byte
 
@@ -102,7 +95,8 @@ comment_in_line [] is = All-nil (λ b. not (b == 10) ≡ true)
 comment_in_line (first ∷ rest) is = All-cons (λ b. not (b == 10) ≡ true) first rest (ap (λ (b : ℕ). not (b == 10)) is.0) is.2
 
 pub blanks_dont_count : BlanksDontCount
-blanks_dont_count blanks comment end h is =
+blanks_dont_count blanks comment end are is =
+    let h = All-from_recursion (λ b. is_blank_byte b ≡ true) blanks are in
     let line = blanks ++ comment in
     let whole : AllPass (λ b. not (b == 10)) line =
     All-append (λ b. not (b == 10) ≡ true) blanks comment (All-weaker (λ b. is_blank_byte b ≡ true) (λ b. not (b == 10) ≡ true) blank_in_line blanks h) (comment_in_line comment is) in

@@ -7,7 +7,7 @@ use Rattle.std.specs.Str.Lines.{lines}
 use Rattle.hex.specs.Hex.{IsBytes}
 use Rattle.zone_state.specs.Words.{fault_word}
 use Rattle.zone_state.specs.declared.state.FaultState.{FaultState}
-use Rattle.text_lines.specs.Cut.{is_blank_byte}
+use Rattle.text_lines.specs.Laws.{AreBlanks}
 use Rattle.device_events.specs.Replies.{ReplyWithData, data_length}
 use Rattle.device_events.specs.declared.reply.Reply.{Reply}
 use Rattle.device_events.specs.declared.reply.Reply.TheVariants as reply
@@ -51,7 +51,7 @@ IsComment (first ∷ rest) = (first ≡ 59) × AllPass is_ascii rest × AllPass 
 -- a line of blanks and a comment, of which either may be missing, makes no event
 abbrev pub BlanksDontCount : Type 0
 BlanksDontCount =
-    (blanks comment : List ℕ) (end : LineEnd) → AllPass is_blank_byte blanks → IsComment comment
+    (blanks comment : List ℕ) (end : LineEnd) → AreBlanks blanks → IsComment comment
     → events_in (blanks ++ comment ++ end_text end) ≡ Ok []
 
 -- a comment behind a line changes nothing that the line tells

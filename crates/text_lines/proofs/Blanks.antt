@@ -1,8 +1,21 @@
--- Blanks at the end of a text.
-use Rattle.std.proofs.Common.{◌≡◌, ℕ, ◌-◌, ◌+◌, ◌≤◌, Bool, true, false, ◌&&◌, eqb, cond, List, [], ◌∷◌, ◌++◌, length, take, get_or, refl, sym, ap, ◌∙◌, arith}
+-- Blanks as bytes, and at the end of a text.
+use Rattle.std.proofs.Common.{◌≡◌, ℕ, ◌-◌, ◌+◌, ◌≤◌, Bool, true, false, ◌&&◌, ◌==◌, eqb, cond, List, [], ◌∷◌, ◌++◌, length, take, get_or, refl, sym, ap, ◌∙◌, arith}
+use Rattle.std.specs.Char.{is_ascii}
 use Rattle.std.proofs.Math.Dec.{eqb-suc-zero}
+use Rattle.std.proofs.lemmas.Bool.Decides.{nat_tests}
 use Rattle.std.proofs.lemmas.List.{take_more, take_all}
 use Rattle.text_lines.specs.Cut.{is_blank_byte, without_end_blanks}
+
+-- ---- a blank byte
+
+pub blank_is_ascii : (byte : ℕ) → is_blank_byte byte ≡ true → is_ascii byte ≡ true
+blank_is_ascii byte e = grind (arith, nat_tests)
+
+-- it begins no comment
+pub blank_is_code : (byte : ℕ) → is_blank_byte byte ≡ true → (byte == 59) ≡ false
+blank_is_code byte e = grind (arith, nat_tests)
+
+-- ---- blanks at the end
 
 -- a blank at the end goes
 without_end_blanks-push_blank : (text : List ℕ) (byte : ℕ) → is_blank_byte byte ≡ true → without_end_blanks (text ++ byte ∷ []) ≡ without_end_blanks text

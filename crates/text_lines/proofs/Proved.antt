@@ -1,7 +1,9 @@
--- The laws of this crate, proved: all that the proofs of other crates cite of it.
+-- The laws of this crate, proved, and lemmas: all that the proofs of other crates cite of it.
 use Rattle.text_lines.specs.Laws.{CutIsAfterFirstPart, LinesAreCut, SomePartIsThere, UncutIsOnePart}
+pub use Rattle.text_lines.proofs.Blanks.{blank_is_ascii, blank_is_code}
 use Rattle.text_lines.proofs.LineLemmas.{cut_line}
 use Rattle.text_lines.proofs.PartLemmas.{split_more, split_some, split_whole}
+pub use Rattle.text_lines.proofs.Trimming.{back_goes, front_goes}
 
 pub uncut_is_one_part : UncutIsOnePart
 uncut_is_one_part = split_whole

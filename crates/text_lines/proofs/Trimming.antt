@@ -127,11 +127,11 @@ trimmed_between text =
 
 -- ---- nothing else stands so
 
-front_goes : (front bytes : List ℕ) → AreBlanks front → without_first_blanks (front ++ bytes) ≡ without_first_blanks bytes
+pub front_goes : (front bytes : List ℕ) → AreBlanks front → without_first_blanks (front ++ bytes) ≡ without_first_blanks bytes
 front_goes [] bytes blanks = refl
 front_goes (byte ∷ front) bytes blanks = rw blanks.0 (front_goes front bytes blanks.1)
 
-back_goes : (bytes back : List ℕ) → AreBlanks back → without_end_blanks (bytes ++ back) ≡ without_end_blanks bytes
+pub back_goes : (bytes back : List ℕ) → AreBlanks back → without_end_blanks (bytes ++ back) ≡ without_end_blanks bytes
 back_goes [] [] blanks = refl
 back_goes [] (byte ∷ back) blanks = rw (blanks.0, back_goes [] back blanks.1) refl
 back_goes (byte ∷ bytes) back blanks = rw (back_goes bytes back blanks) refl
