@@ -31,6 +31,7 @@ use Rattle.ebpf_asm.specs.Statement.{Statement, statement_of, statement_with, op
 use Rattle.ebpf_asm.specs.Line.{Line, line_of, line_in, labelled, split_label, with_statement}
 use Rattle.ebpf_asm.specs.Assembly.{LabelMap, fitting, jump_by, jump_to, resolved}
 use Rattle.text_lines.specs.Cut.{is_blank_byte, cut_at, trimmed, uncommented}
+use Rattle.ebpf_asm.proofs.RoundOperands.{IsSource}
 
 -- ---- readings that follow one another
 
@@ -138,10 +139,6 @@ register_fits text = by_tests (bytes_eq text (codes "r10")) (eqb (length text) 2
     by_tests false true true false d is = tt
     by_tests false true false digit d is = tt
     by_tests false false first digit d is = tt
-
-abbrev IsSource : Source → Type 0
-IsSource (sources.Immediate z) = FitsSigned w32 z
-IsSource (sources.Register n) = n < 11
 
 source_fits : (text : List ℕ) → IfOk (source_of text) IsSource
 unfolding source_of

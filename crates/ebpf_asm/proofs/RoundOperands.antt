@@ -12,6 +12,7 @@ use Rattle.std.proofs.lemmas.Bool.Decides.{nat_tests}
 use Rattle.std.proofs.lemmas.Fmt.{decimal_is_IsNumeral}
 use Rattle.std.proofs.lemmas.Str.Parse.{digit_from_value}
 use Rattle.std.proofs.lemmas.List.{take_at, drop_at, get_or_at, length-append}
+use Rattle.instruction_set.specs.declared.instruction.Source.{Source}
 use Rattle.instruction_set.specs.declared.instruction.Source.TheVariants as sources
 use Rattle.ebpf_asm.specs.declared.fault.FaultKind.{FaultKind}
 use Rattle.ebpf_asm.specs.declared.fault.FaultKind.TheVariants.{Operand}
@@ -84,6 +85,11 @@ offset_again z fits =
     ∙ ap (λ r. r >>= short_of) (signed_again z (omega (arith, fits.sfits))) ∙ short_again z fits
 
 -- ---- registers and sources
+
+-- a source that an instruction can have
+abbrev pub IsSource : Source → Type 0
+IsSource (sources.Immediate z) = FitsSigned w32 z
+IsSource (sources.Register n) = n < 11
 
 no_sign_in : (ds : List ℕ) → AllDigits 10 ds → list_all (λ b. not (is_sign_byte b)) ds ≡ true
 no_sign_in [] h = refl
