@@ -2,9 +2,9 @@
 use Rattle.std.proofs.Common.{ℕ, ℤ, zero, suc, ◌≡◌, ◌≢◌, ◌+◌, ◌*◌, ◌<◌, ◌≤◌, ◌^◌, ◌⊎◌, inl, inr, Bool, true, false, List, [], ◌∷◌, ◌++◌, drop, length, replicate, set, get_or, Option, Some, None, refl, sym, ap, ◌∙◌, arith, subst}
 use Rattle.std.proofs.lemmas.List.{append-nil, get_or-drop}
 use Rattle.std.specs.Prelude.{if◌then◌else◌}
-use Rattle.byteorder.specs.Endian.{little_bytes, little_from, little_number}
+use Rattle.byteorder.specs.Endian.{little_bytes, little_number}
 use Rattle.byteorder.specs.Numbers.{length-bytes_low_first, little_from-lt, little_number-reads_back}
-use Rattle.program_meaning.proofs.Proved.{writes_read_back}
+use Rattle.program_meaning.proofs.Proved.{same_number, writes_read_back}
 use Rattle.program_interface.specs.Bytes.{spliced}
 use Rattle.accepted_programs.specs.Cells.{forgotten, has_byte, join_cell, join_cells}
 use Rattle.accepted_programs.proofs.Meets.{word_in}
@@ -84,13 +84,6 @@ module _ {D : Type 0} where
   joined_known join (c ∷ cs) (d ∷ ds) (suc k) x e = joined_known join cs ds k x e
 
 -- ---- words
-same_number : (n i : ℕ) (xs ys : List ℕ) → ((k : ℕ) → k < i + n → get_or xs k 0 ≡ get_or ys k 0)
-    → little_from i n xs ≡ little_from i n ys
-same_number zero i xs ys same = refl
-same_number (suc n) i xs ys same =
-    let rest = same_number n (suc i) xs ys (λ k below. same k (omega (arith, below))) in
-    rw (same i (omega arith), rest) refl
-
 -- a word of the stack is one of 64 bits
 pub word_fits : (stack : List ℕ) (j : ℕ) → ((k : ℕ) → get_or stack k 0 < 2 ^ 8) → word_in stack j < 2 ^ 64
 word_fits stack j bytes =
