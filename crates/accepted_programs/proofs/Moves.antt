@@ -39,7 +39,7 @@ use Rattle.accepted_programs.proofs.StoreLaws.{cell_loaded, in_stack, stack_stay
 use Rattle.accepted_programs.proofs.Unhindered.{all_fail, of_all, size_fits}
 use Rattle.accepted_programs.specs.declared.reason.Reason.TheVariants as reason
 use Rattle.accepted_programs.proofs.Meets.{Meets, MeetsSome, Moved}
-use Rattle.accepted_programs.proofs.Registers.{belong_drop, belong_refined, belong_replicate, belong_set, belongs, compared, compared_belongs, compares_low, constant_belongs, one_register, source_belongs}
+use Rattle.accepted_programs.proofs.Registers.{belong_drop, belong_refined, belong_replicate, belong_set, compared, compared_belongs, compares_low, constant_belongs, one_register, source_belongs, word_of}
 use Rattle.accepted_programs.specs.declared.facts.Facts.{Facts}
 
 behind_is_later : (slot : ℕ) (i : Instruction) → slot < slot_behind slot i
@@ -87,9 +87,6 @@ module _ {D : Type 0} {IsFact : D → Type 0} {contains : D → ℕ → Type 0} 
 
     -- ---- what is known there
 
-    word_of : (r : ℕ) → Belongs IsFact contains (fact operations facts r) (register s r)
-    word_of r = belongs sound facts s.registers are is.words meets.registers r
-
     zero_is : Belongs IsFact contains (operations.constant 0) 0
     zero_is = constant_belongs sound 0 (lit< tt)
 
@@ -127,7 +124,7 @@ module _ {D : Type 0} {IsFact : D → Type 0} {contains : D → ℕ → Type 0} 
     along_meets taken width relation dst source slot answer =
         both_meet dst width source slot _
         (sound.refine width relation taken (fact operations facts dst) (compared_fact operations width facts source)
-        (is_register dst source) (register s dst) (compared s.registers width source) (word_of dst)
+        (is_register dst source) (register s dst) (compared s.registers width source) (word_of sound facts s are is meets dst)
         (compared_belongs sound facts s.registers are is.words meets.registers width source)
         (one_register s.registers width dst source)
         (compares_low s.registers width relation (register s dst) source ∙ answer))
@@ -140,7 +137,7 @@ module _ {D : Type 0} {IsFact : D → Type 0} {contains : D → ℕ → Type 0} 
       cells = meets.cells;
       group =
           let n = register s 2 in
-          let most = sound.bounds (fact operations facts 2) n (word_of 2) in
+          let most = sound.bounds (fact operations facts 2) n (word_of sound facts s are is meets 2) in
           let longer = frame_length s.memory (register s 1) n in
           let before = meets.group in
           rw length-append (omega (arith, most, longer, before));
@@ -151,7 +148,7 @@ module _ {D : Type 0} {IsFact : D → Type 0} {contains : D → ℕ → Type 0} 
     -- what is told of the address of an access
     told_at : (r : ℕ) (offsets : Offsets) → operations.offsets (fact operations facts r) ≡ Some offsets
         → IsAtOffset offsets (register s r)
-    told_at r offsets told = sound.offsets (fact operations facts r) offsets (register s r) told (word_of r)
+    told_at r offsets told = sound.offsets (fact operations facts r) offsets (register s r) told (word_of sound facts s are is meets r)
 
     any_loaded : (size : Size) (src : ℕ) (offset : ℤ)
         → contains (operations.loaded size) (loaded s.memory (address_from s.registers src offset) (size_of size))
@@ -208,7 +205,7 @@ module _ {D : Type 0} {IsFact : D → Type 0} {contains : D → ℕ → Type 0} 
           → lies_in (length s.memory.block) area address (size_of size) ≡ true
       lies area e = rw long
           (sound.access block (fact operations facts dst) offset (size_of size) area (register s dst)
-          (record { beside = is_size; near = near; counted = size_fits size }) e (word_of dst))
+          (record { beside = is_size; near = near; counted = size_fits size }) e (word_of sound facts s are is meets dst))
 
       outside_stack : (area : Area) → is_stack area ≡ false → area_of operations block facts dst offset (size_of size) ≡ Some area
           → Meets contains facts then_at
@@ -246,7 +243,7 @@ module _ {D : Type 0} {IsFact : D → Type 0} {contains : D → ℕ → Type 0} 
     kept_belongs DoubleWord src d e =
         let from = if_some (nat_le 1 src && nat_le src 9) (Some (fact operations facts src)) d e in
         let same : fact operations facts src ≡ d = cc in
-        (refl, subst (λ x. contains x (register s src)) same (word_of src).within)
+        (refl, subst (λ x. contains x (register s src)) same (word_of sound facts s are is meets src).within)
     kept_belongs Byte src d e = cc
     kept_belongs HalfWord src d e = cc
     kept_belongs Word src d e = cc
@@ -289,20 +286,20 @@ module _ {D : Type 0} {IsFact : D → Type 0} {contains : D → ℕ → Type 0} 
     moves (Arithmetic width operation dst source) near goes forth inside =
         behind (Arithmetic width operation dst source) refl
         (put_meets dst _ _ _
-        (sound.alu (word.Binary width operation) _ _ (register s dst) (operand s.registers source) (word_of dst)
+        (sound.alu (word.Binary width operation) _ _ (register s dst) (operand s.registers source) (word_of sound facts s are is meets dst)
         (source_belongs sound facts s.registers are is.words meets.registers source)))
     moves (Negate width dst) near goes forth inside =
         behind (Negate width dst) refl
         (put_meets dst _ _ _
-        (sound.alu (word.Negate width) _ _ (register s dst) 0 (word_of dst) zero_is))
+        (sound.alu (word.Negate width) _ _ (register s dst) 0 (word_of sound facts s are is meets dst) zero_is))
     moves (MoveSigned extension dst src) near goes forth inside =
         behind (MoveSigned extension dst src) refl
         (put_meets dst _ _ _
-        (sound.alu (word.MoveSigned extension) _ _ 0 (register s src) zero_is (word_of src)))
+        (sound.alu (word.MoveSigned extension) _ _ 0 (register s src) zero_is (word_of sound facts s are is meets src)))
     moves (SwapBytes swap size dst) near goes forth inside =
         behind (SwapBytes swap size dst) refl
         (put_meets dst _ _ _
-        (sound.alu (word.SwapBytes swap size) _ _ (register s dst) 0 (word_of dst) zero_is))
+        (sound.alu (word.SwapBytes swap size) _ _ (register s dst) 0 (word_of sound facts s are is meets dst) zero_is))
     moves (Jump distance) near goes forth inside =
         ahead (Jump distance) distance refl forth refl (elsewhere _)
     moves (JumpLong distance) near goes forth inside =

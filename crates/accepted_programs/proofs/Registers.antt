@@ -8,12 +8,13 @@ use Rattle.instruction_set.specs.declared.instruction.Source.TheVariants.{Immedi
 use Rattle.instruction_set.specs.declared.operation.Relation.{Relation}
 use Rattle.instruction_set.specs.declared.operation.Width.{Width}
 use Rattle.instruction_set.specs.declared.operation.Width.TheVariants.{Bits32, Bits64}
-use Rattle.program_meaning.specs.Effect.{operand}
+use Rattle.program_meaning.specs.Effect.{operand, register}
+use Rattle.program_meaning.specs.State.{IsState, State}
 use Rattle.program_meaning.specs.Word.{is_taken, low_bits}
 use Rattle.word_domain.specs.Domain.{Belongs, IsSound, Operations}
 use Rattle.accepted_programs.specs.Facts.{compared_fact, fact, is_register, source_fact}
 use Rattle.accepted_programs.proofs.KnownFacts.{AreFacts, fact_is, immediate_fits, low_fits}
-use Rattle.accepted_programs.proofs.Meets.{Belong}
+use Rattle.accepted_programs.proofs.Meets.{Belong, Meets}
 use Rattle.accepted_programs.specs.declared.facts.Facts.{Facts}
 
 -- ---- rows of facts
@@ -101,3 +102,8 @@ module _ {D : Type 0} {IsFact : D → Type 0} {contains : D → ℕ → Type 0} 
     compared_belongs width (Register r) = belongs r
     compared_belongs width (Immediate z) =
         constant_belongs (low_bits width (immediate_word z)) (low_fits width (immediate_word z) (immediate_fits z))
+
+  -- the word of a register, in a state that meets the facts, belongs to its fact
+  pub word_of : (facts : Facts D) (s : State) → AreFacts IsFact facts → IsState s → Meets contains facts s → (r : ℕ)
+      → Belongs IsFact contains (fact operations facts r) (register s r)
+  word_of facts s are is meets r = belongs facts s.registers are is.words meets.registers r

@@ -25,13 +25,13 @@ use Rattle.program_meaning.specs.declared.cause.Cause.{Cause}
 use Rattle.program_meaning.specs.declared.cause.Cause.TheVariants as cause
 use Rattle.program_interface.specs.declared.area.Area.{Area}
 use Rattle.program_interface.specs.RunSizes.{AreSizes, Sizes}
-use Rattle.word_domain.specs.Domain.{Belongs, IsSound, Operations}
+use Rattle.word_domain.specs.Domain.{IsSound, Operations}
 use Rattle.program_meaning.proofs.Proved.{areas_are_apart, blocks_are_short}
 use Rattle.accepted_programs.specs.Accepted.{all_reasons, begins_at, fails, greatest_length, is_unwritable, leads_nowhere, least_length, loads_outside, reason_of, stores_outside, turns_away}
 use Rattle.accepted_programs.specs.Facts.{area_of, fact, slot_behind}
 use Rattle.accepted_programs.proofs.KnownFacts.{AreFacts}
 use Rattle.accepted_programs.proofs.Meets.{Meets}
-use Rattle.accepted_programs.proofs.Registers.{belongs}
+use Rattle.accepted_programs.proofs.Registers.{word_of}
 use Rattle.accepted_programs.specs.declared.facts.Facts.{Facts}
 use Rattle.accepted_programs.specs.declared.reason.Reason.{Reason}
 use Rattle.accepted_programs.specs.declared.reason.Reason.TheVariants as reason
@@ -138,16 +138,13 @@ module _ {D : Type 0} {IsFact : D → Type 0} {contains : D → ℕ → Type 0} 
     fits : block < 2 ^ 32
     fits = blocks_are_short block are_sizes.block_size
 
-    word_of : (r : ℕ) → Belongs IsFact contains (fact operations facts r) (register s r)
-    word_of r = belongs sound facts s.registers are is.words meets.registers r
-
     -- the bytes of an access lie in the area that its fact tells
     lies : (area : Area) (r : ℕ) (offset : ℤ) (size : ℕ) → FitsSigned w16 offset → size < 2 ^ 64
         → area_of operations block facts r offset size ≡ Some area
         → lies_in block area (address_from s.registers r offset) size ≡ true
     lies area r offset size near counted told =
         sound.access block (fact operations facts r) offset size area (slice_index s.registers r)
-        (record { beside = are_sizes.block_size; near = near; counted = counted }) told (word_of r)
+        (record { beside = are_sizes.block_size; near = near; counted = counted }) told (word_of sound facts s are is meets r)
 
     somewhere : (area : Area) (address n : ℕ) → lies_in block area address n ≡ true → is_nowhere s address n ≡ false
     somewhere area address n inside = rw (long, areas_are_apart block area address n fits inside) refl
@@ -202,7 +199,7 @@ module _ {D : Type 0} {IsFact : D → Type 0} {contains : D → ℕ → Type 0} 
 
     -- R2 is within its bounds
     bounded : (least_length operations facts ≤ register s 2) × (register s 2 ≤ greatest_length operations facts)
-    bounded = sound.bounds (fact operations facts 2) (register s 2) (word_of 2)
+    bounded = sound.bounds (fact operations facts 2) (register s 2) (word_of sound facts s are is meets 2)
 
     abbrev least : ℕ
     least = least_length operations facts
