@@ -126,16 +126,13 @@ module _ {D : Type 0} (operations : Operations D) (program : List (Option Instru
   abbrev at : ℕ → Option Instruction → Option (Facts D) → Option Refusal
   at slot i facts = refusal_at operations program sizes slot i facts
 
-  abbrev known_at : ℕ → Option (Facts D)
-  known_at slot = facts_at operations sizes.block program slot
-
   -- ---- no refusal
 
   no_reason : (slot : ℕ) (reason : Option Reason) → option_map (refused_at slot) reason ≡ None → reason ≡ None
   no_reason slot None e = refl
   no_reason slot (Some reason) e = cc
 
-  passes_here : (slot : ℕ) → at slot (instruction_at program slot) (known_at slot) ≡ None → IsPassedAt slot
+  passes_here : (slot : ℕ) → at slot (instruction_at program slot) (facts_at operations sizes.block program slot) ≡ None → IsPassedAt slot
   passes_here slot e i facts has =
       let none : option_map (refused_at slot) (reason_of operations program sizes slot facts i) ≡ None =
       rw (has.begins, has.are) at e in
@@ -144,7 +141,7 @@ module _ {D : Type 0} (operations : Operations D) (program : List (Option Instru
   passes_below : (n slot : ℕ) → below n ≡ None → slot < n → IsPassedAt slot
   passes_below zero slot e less = absurd (omega (arith, less))
   passes_below (suc n) slot e less =
-      let none = none_before (below n) (at n (instruction_at program n) (known_at n)) e in
+      let none = none_before (below n) (at n (instruction_at program n) (facts_at operations sizes.block program n)) e in
       elim (cases_lt slot n) [
         | inl inside ↦ passes_below n slot none.0 inside
         | inr past ↦ let same : n ≡ slot = omega (arith, less, past) in subst IsPassedAt same (passes_here n none.1)
@@ -173,17 +170,17 @@ module _ {D : Type 0} (operations : Operations D) (program : List (Option Instru
       subst IsFirst same (first_reason slot i facts reason has is lower)
 
   first_here : (slot : ℕ) (i : Option Instruction) (facts : Option (Facts D)) (r : Refusal) → instruction_at program slot ≡ i
-      → known_at slot ≡ facts → at slot i facts ≡ Some r → ((s : ℕ) → s < slot → IsPassedAt s) → IsFirst r
+      → facts_at operations sizes.block program slot ≡ facts → at slot i facts ≡ Some r → ((s : ℕ) → s < slot → IsPassedAt s) → IsFirst r
   first_here slot (Some i) (Some facts) r begins known e lower =
       first_told slot i facts (reason_of operations program sizes slot facts i) r (record { begins = begins; are = known }) refl e lower
   first_here slot (Some i) None r begins known e lower = cc
   first_here slot None facts r begins known e lower = cc
 
   either_first : (n : ℕ) (before : Option Refusal) (r : Refusal) → below n ≡ before
-      → option_or before (at n (instruction_at program n) (known_at n)) ≡ Some r → (below n ≡ Some r → IsFirst r) → IsFirst r
+      → option_or before (at n (instruction_at program n) (facts_at operations sizes.block program n)) ≡ Some r → (below n ≡ Some r → IsFirst r) → IsFirst r
   either_first n (Some first) r is e earlier = earlier (is ∙ e)
   either_first n None r is e earlier =
-      first_here n (instruction_at program n) (known_at n) r refl refl e (λ s less. passes_below n s is less)
+      first_here n (instruction_at program n) (facts_at operations sizes.block program n) r refl refl e (λ s less. passes_below n s is less)
 
   first_below : (n : ℕ) (r : Refusal) → below n ≡ Some r → IsFirst r
   first_below zero r e = cc

@@ -86,12 +86,9 @@ module _ {D : Type 0} {IsFact : D → Type 0} {contains : D → ℕ → Type 0} 
     both_none None b e = (refl, e)
     both_none (Some first) b e = cc
 
-    abbrev known_at : ℕ → Option (Facts D)
-    known_at slot = facts_at operations sizes.block program slot
-
     abbrev at_slot : ℕ → Option Refusal
     at_slot slot =
-        refusal_at operations program sizes slot (instruction_at program slot) (known_at slot)
+        refusal_at operations program sizes slot (instruction_at program slot) (facts_at operations sizes.block program slot)
 
     none_at : (n slot : ℕ) → refusal_below operations program sizes n ≡ None → slot < n → at_slot slot ≡ None
     none_at zero slot e within = absurd (omega arith)
@@ -106,7 +103,7 @@ module _ {D : Type 0} {IsFact : D → Type 0} {contains : D → ℕ → Type 0} 
         ]
 
     no_reason : (i : Instruction) (facts : Facts D) (slot : ℕ) → IsAt program slot → instruction_at program slot ≡ Some i
-        → known_at slot ≡ Some facts → reason_of operations program sizes slot facts i ≡ None
+        → facts_at operations sizes.block program slot ≡ Some facts → reason_of operations program sizes slot facts i ≡ None
     no_reason i facts slot here begins known =
         let none = none_at (length program) slot accepted (begins_within program slot here) in
         refused_not (refused_at slot) (reason_of operations program sizes slot facts i) (rw (begins, known) at none)
@@ -116,7 +113,7 @@ module _ {D : Type 0} {IsFact : D → Type 0} {contains : D → ℕ → Type 0} 
     Holds s = Stands contains operations program sizes s
 
     next : (i : Instruction) (facts : Facts D) (s : State) → Holds s → step_of program sizes.limit s i ≡ Goes (after s i)
-        → instruction_at program s.slot ≡ Some i → known_at s.slot ≡ Some facts
+        → instruction_at program s.slot ≡ Some i → facts_at operations sizes.block program s.slot ≡ Some facts
         → Moved contains operations sizes.block i facts s (after s i) → Holds (after s i)
     next i facts s holds goes begins known there =
         let stays = keeps_state program sizes.limit s (after s i) i holds.is goes in
@@ -130,7 +127,7 @@ module _ {D : Type 0} {IsFact : D → Type 0} {contains : D → ℕ → Type 0} 
 
     -- a bound on the group, wherever a run is
     abbrev Bounds : ℕ → Type 0
-    Bounds bound = (s : State) (facts : Facts D) → Holds s → known_at s.slot ≡ Some facts → Meets contains facts s
+    Bounds bound = (s : State) (facts : Facts D) → Holds s → facts_at operations sizes.block program s.slot ≡ Some facts → Meets contains facts s
         → length s.group ≤ bound
 
     -- ---- a run, after n steps of at most so many
@@ -141,7 +138,7 @@ module _ {D : Type 0} {IsFact : D → Type 0} {contains : D → ℕ → Type 0} 
       Done at = Exits most bound (continued n s more (step_at program sizes.limit s at))
 
       done_by : (i : Instruction) (facts : Facts D) → instruction_at program s.slot ≡ Some i
-          → known_at s.slot ≡ Some facts → Meets contains facts s → Done (Some i)
+          → facts_at operations sizes.block program s.slot ≡ Some facts → Meets contains facts s → Done (Some i)
       done_by i facts begins known meets =
           let reason = no_reason i facts s.slot holds.here begins known in
           let are = known_facts sound.facts sizes.block program s.slot facts known in
@@ -156,7 +153,7 @@ module _ {D : Type 0} {IsFact : D → Type 0} {contains : D → ℕ → Type 0} 
           rw goes (rest (after s i) (next i facts s holds goes begins known there) there.forward))
 
       done_at : (at : Option Instruction) (known : Option (Facts D)) → instruction_at program s.slot ≡ at
-          → known_at s.slot ≡ known → is_some at ≡ true → MeetsSome contains known s → Done at
+          → facts_at operations sizes.block program s.slot ≡ known → is_some at ≡ true → MeetsSome contains known s → Done at
       done_at (Some i) (Some facts) begins known here meets = done_by i facts begins known meets
       done_at None known begins e here meets = cc
       done_at (Some i) None begins known here meets = absurd meets
@@ -172,7 +169,7 @@ module _ {D : Type 0} {IsFact : D → Type 0} {contains : D → ℕ → Type 0} 
         (λ s' holds' forward.
         let less = fewer program s.slot s'.slot holds.here forward in
         exits bound bounds most fuel (n + 1) s' holds' (omega (arith, less, enough)) (omega (arith, within)))
-        (instruction_at program s.slot) (known_at s.slot) refl refl holds.here holds.known
+        (instruction_at program s.slot) (facts_at operations sizes.block program s.slot) refl refl holds.here holds.known
 
     -- a block run from its start on
     starts : (bound : ℕ) → Bounds bound → is_some (instruction_at program 0) ≡ true → (bytes context scratch : List ℕ)
@@ -192,14 +189,14 @@ module _ {D : Type 0} {IsFact : D → Type 0} {contains : D → ℕ → Type 0} 
         (omega arith) (omega arith)
 
     -- ---- the greatest bound on the group
-    most_at : (n slot : ℕ) (facts : Facts D) → slot < n → known_at slot ≡ Some facts
+    most_at : (n slot : ℕ) (facts : Facts D) → slot < n → facts_at operations sizes.block program slot ≡ Some facts
         → facts.emitted ≤ most_below operations program sizes.block n
     most_at zero slot facts within known = absurd (omega (arith, within))
     most_at (suc n) slot facts within known = elim (cases_lt slot n) [
       | inl below ↦ let earlier = most_at n slot facts below known in omega (arith, earlier)
       | inr from ↦
           let same : slot ≡ n = omega arith in
-          let P : ℕ → Type 0 = λ k. known_at k ≡ Some facts in
+          let P : ℕ → Type 0 = λ k. facts_at operations sizes.block program k ≡ Some facts in
           let here = ap group_in (subst P same known) in
           omega (arith, here)
     ]
