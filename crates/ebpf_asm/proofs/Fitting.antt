@@ -31,6 +31,7 @@ use Rattle.ebpf_asm.specs.Statement.{Statement, statement_of, statement_with, op
 use Rattle.ebpf_asm.specs.Line.{Line, line_of, line_in, labelled, split_label, with_statement}
 use Rattle.ebpf_asm.specs.Assembly.{LabelMap, fitting, jump_by, jump_to, resolved}
 use Rattle.text_lines.specs.Cut.{is_blank_byte, cut_at, trimmed, uncommented}
+use Rattle.ebpf_decode.proofs.Proved.{fits-32}
 use Rattle.ebpf_asm.proofs.RoundOperands.{IsSource}
 
 -- ---- readings that follow one another
@@ -107,9 +108,6 @@ word_in_range (negsuc n) = by_test (leb n 2147483647) refl
     by_test : (b : Bool) → leb n 2147483647 ≡ b → IfOk (cond (b && true) (Ok (negsuc n)) (Err OutOfRange)) (λ x. cast_unsigned w32 x < 2 ^ 32)
     by_test true is = let low = leb-true n 2147483647 is in omega (arith, ints)
     by_test false is = tt
-
-fits-32 : (n : ℕ) → n < 2 ^ 32 → FitsSigned w32 (cast_signed w32 n)
-fits-32 n h = omega (arith, ints)
 
 immediate_fits : (text : List ℕ) → IfOk (immediate_of text) (FitsSigned w32)
 unfolding immediate_of

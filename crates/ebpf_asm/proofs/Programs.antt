@@ -13,7 +13,7 @@ use Rattle.ebpf_asm.specs.Assembly.{LabelMap, before_later, bytes_from, bytes_in
 use Rattle.ebpf_asm.specs.Laws.{AssembledIsProgram}
 use Rattle.ebpf_asm.proofs.Fitting.{Fills, LineFits, lines_fit, resolved_fits}
 use Rattle.ebpf_asm.proofs.Passes.{fits_if, slot_count-push}
-use Rattle.ebpf_asm.proofs.RoundProgram.{instructions_again}
+use Rattle.ebpf_decode.proofs.Proved.{instructions_of-slots_of}
 
 -- ---- the room
 
@@ -95,7 +95,7 @@ program [] bytes fits spelled most = inl spelled
 program (instruction ∷ instructions) bytes fits spelled most = inr (
   slots_of (instruction ∷ instructions),
   record { instructions = instruction ∷ instructions; layout = refl; fits = fits; some = some_slot instruction instructions; most = most },
-  spelled ∙ sym (ap (flat_map spelling) (instructions_again (instruction ∷ instructions))),
+  spelled ∙ sym (ap (flat_map spelling) (instructions_of-slots_of (instruction ∷ instructions))),
 )
 
 pub assembled_is_program : AssembledIsProgram

@@ -1,7 +1,7 @@
 -- A listing assembles to its program's bytes.
 use Rattle.std.proofs.Common.{◌≡◌, ℕ, ℤ, zero, suc, ◌+◌, ◌-◌, ◌<◌, ◌≤◌, Bool, true, false, not, cond, eqb, List, [], ◌∷◌, ◌++◌, length, get_or, drop, take, map, Option, Some, None, Result, Ok, Err, refl, sym, ap, ◌∙◌, subst, append_assoc, arith}
 use Rattle.std.specs.Prelude.{ok_or}
-use Rattle.std.specs.List.{list_all, before_first, position_or_len, flat_map, filter_map, AllByRecursion}
+use Rattle.std.specs.List.{list_all, before_first, position_or_len, flat_map, AllByRecursion}
 use Rattle.std.specs.Char.{is_ascii}
 use Rattle.std.specs.Str.Lines.{lines, strip_carriage_return}
 use Rattle.std.proofs.Math.Dec.{eqb-suc-zero}
@@ -26,6 +26,7 @@ use Rattle.ebpf_asm.specs.Line.{Line, line_of, line_in, labelled, behind_label, 
 use Rattle.ebpf_asm.specs.Assembly.{LabelMap, lines_of, slot_count, first_fault, bytes_from, label_map, before_later, told_first, assembled, assembled_lines, unless_faulty}
 use Rattle.ebpf_asm.specs.Listing.{mnemonic_of, operand_texts, operands_text, further_texts, text_of_instruction, line_text, listing, source_text}
 use Rattle.text_lines.proofs.Proved.{lines_are_cut}
+use Rattle.ebpf_decode.proofs.Proved.{instructions_of-slots_of}
 use Rattle.ebpf_asm.proofs.Passes.{slot_count-push}
 use Rattle.ebpf_asm.proofs.Names.{mnemonic_again, mnemonic_plain}
 use Rattle.ebpf_asm.proofs.Round.{register_again, immediate_again, wide_again}
@@ -252,14 +253,6 @@ slots_counted (instruction ∷ instructions) = one (is_wide instruction) (slots_
     one true e = omega (arith, e)
     one false e = omega (arith, e)
 
-pub instructions_again : (instructions : List Instruction) → instructions_of (slots_of instructions) ≡ instructions
-instructions_again [] = refl
-instructions_again (instruction ∷ instructions) = one (is_wide instruction) ∙ ap (λ is. instruction ∷ is) (instructions_again instructions)
-  where
-    one : (b : Bool) → filter_map (λ i. i) (cond b (Some instruction ∷ None ∷ slots_of instructions) (Some instruction ∷ slots_of instructions)) ≡ instruction ∷ filter_map (λ i. i) (slots_of instructions)
-    one true = refl
-    one false = refl
-
 all_listed : (instructions : List Instruction) → AllByRecursion Fits instructions → AllByRecursion IsListed instructions
 all_listed [] h = tt
 all_listed (instruction ∷ instructions) h = (listed instruction h.0, all_listed instructions h.1)
@@ -274,7 +267,7 @@ lines_assemble instructions fits most =
 
 pub listing_again : (slots : List (Option Instruction)) → IsProgram slots → assembled (listing slots) ≡ Ok (program_bytes slots)
 listing_again slots p =
-    let instructions : instructions_of slots ≡ p.instructions = ap instructions_of p.layout ∙ instructions_again p.instructions in
+    let instructions : instructions_of slots ≡ p.instructions = ap instructions_of p.layout ∙ instructions_of-slots_of p.instructions in
     ap (λ is. assembled (flat_map line_text is)) instructions
     ∙ lines_assemble p.instructions p.fits (subst (λ (ss : List (Option Instruction)). length ss ≤ 4096) p.layout p.most)
     ∙ sym (ap (λ (is : List Instruction). Ok (flat_map spelling is)) instructions)

@@ -8,7 +8,7 @@ use Rattle.byteorder.specs.Endian.{little_bytes, little_number}
 use Rattle.instruction_set.specs.declared.fields.Fields.{Fields}
 use Rattle.ebpf_decode.specs.Reading.{fields_at, slots_at}
 use Rattle.instruction_set.specs.Spelling.{slot_bytes}
-use Rattle.ebpf_decode.proofs.ReadAreSpelled.{AreFields}
+use Rattle.ebpf_decode.proofs.ReadAreSpelled.{AreFields, below-32}
 
 abbrev pub IsBytes : List ℕ → Type 0
 IsBytes bytes = (i : ℕ) → get_or bytes i 0 < 256
@@ -81,9 +81,6 @@ pub record FitSlot (f : Fields) : Type 0 where
 low-16 : (z : ℤ) → FitsSigned w16 z → cast_unsigned w16 z < 2 ^ 16
 low-16 z fits = omega (arith, ints)
 
-low-32 : (z : ℤ) → FitsSigned w32 z → cast_unsigned w32 z < 2 ^ 32
-low-32 z fits = omega (arith, ints)
-
 fields-slot : (f : Fields) (bytes : List ℕ) → FitSlot f → fields_at (slot_bytes f ++ bytes) ≡ f
 fields-slot f bytes fits =
     let m = cast_unsigned w16 f.offset in
@@ -94,7 +91,7 @@ fields-slot f bytes fits =
     let whole : little_number 2 (little_bytes 2 m) ≡ m = omega (arith, low-16 f.offset fits.offset) in
     ap (cast_signed w16) whole ∙ to_z-of_z w16 f.offset fits.offset in
     let immediate : cast_signed w32 (little_number 4 (little_bytes 4 n)) ≡ f.immediate =
-    let whole : little_number 4 (little_bytes 4 n) ≡ n = omega (arith, low-32 f.immediate fits.immediate) in
+    let whole : little_number 4 (little_bytes 4 n) ≡ n = omega (arith, below-32 f.immediate fits.immediate) in
     ap (cast_signed w32) whole ∙ to_z-of_z w32 f.immediate fits.immediate in
     rw (dst, src, offset, immediate) refl
 

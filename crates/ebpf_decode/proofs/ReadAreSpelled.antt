@@ -151,7 +151,7 @@ abbrev pub AreFieldsIn : Option Fields → Type 0
 AreFieldsIn None = Unit {0}
 AreFieldsIn (Some f) = AreFields f
 
-below-32 : (z : ℤ) → FitsSigned w32 z → cast_unsigned w32 z < 2 ^ 32
+pub below-32 : (z : ℤ) → FitsSigned w32 z → cast_unsigned w32 z < 2 ^ 32
 below-32 z fits = omega (arith, ints)
 
 low-half : (z : ℤ) (high : ℕ) → FitsSigned w32 z → cast_signed w32 ((cast_unsigned w32 z + 2 ^ 32 * high) % 2 ^ 32) ≡ z
