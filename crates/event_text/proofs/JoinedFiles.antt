@@ -6,7 +6,7 @@ use Rattle.std.proofs.lemmas.List.Splits.{length-slice_split}
 use Rattle.event_text.specs.CommandFile.{ToldEvent, line_told, line_before, event_before, events_from}
 use Rattle.event_text.specs.Laws.{EventsAreByLine, ended, told_by_both}
 
-abbrev is_newline : ℕ → Bool
+abbrev pub is_newline : ℕ → Bool
 is_newline b = b == 10
 
 -- ---- lines

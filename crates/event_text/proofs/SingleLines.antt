@@ -4,17 +4,16 @@ use Rattle.std.specs.List.{All, AllPass}
 use Rattle.std.specs.Str.Lines.{lines, lines_of_parts, strip_carriage_return}
 use Rattle.std.proofs.Math.Dec.{eqb-suc-zero}
 use Rattle.std.proofs.Math.Seq.{take-append_seam, get_or-append_seam}
+use Rattle.std.proofs.lemmas.Bool.{not-true}
 use Rattle.std.proofs.lemmas.List.Elements.{All-append, All-cons, All-nil, All-weaker}
 use Rattle.std.proofs.lemmas.List.Splits.{slice_split_at, slice_split_none}
 use Rattle.event_text.specs.CommandFile.{ToldEvent, line_told, line_before, events_from, events_in}
 use Rattle.event_text.specs.Laws.{LineEnd, EndOfFile, Newline, ReturnNewline, ReadsBack, end_text}
-use Rattle.event_text.proofs.PlainLines.{InLine, IsSpelled, in_one_line, no_return, passes_not}
-
-abbrev is_newline : ℕ → Bool
-is_newline b = b == 10
+use Rattle.event_text.proofs.JoinedFiles.{is_newline}
+use Rattle.event_text.proofs.PlainLines.{InLine, IsSpelled, in_one_line, no_return}
 
 unended : (line : List ℕ) → AllPass (λ b. not (b == 10)) line → All (λ b. is_newline b ≡ false) line
-unended line h = All-weaker (λ b. not (b == 10) ≡ true) (λ b. is_newline b ≡ false) (λ b e. passes_not (b == 10) e) line h
+unended line h = All-weaker (λ b. not (b == 10) ≡ true) (λ b. is_newline b ≡ false) (λ b e. not-true (b == 10) e) line h
 
 -- a line in front of its newline, which is the last
 lines-one : (line : List ℕ) → AllPass (λ b. not (b == 10)) line → lines (line ++ 10 ∷ []) ≡ strip_carriage_return line ∷ []
