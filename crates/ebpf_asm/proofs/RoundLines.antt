@@ -6,7 +6,7 @@ use Rattle.std.specs.Char.{digit_value, is_ascii}
 use Rattle.std.specs.Str.Parse.{AllDigits}
 use Rattle.std.specs.Fmt.{decimal, signed_decimal, digits}
 use Rattle.std.proofs.Math.Dec.{eqb-suc-zero}
-use Rattle.std.proofs.lemmas.Bool.{lt-ltb, le-ltb}
+use Rattle.std.proofs.lemmas.Bool.{and_parts, le-ltb, lt-ltb, not-true}
 use Rattle.std.proofs.lemmas.Bool.Decides.{nat_tests}
 use Rattle.std.proofs.lemmas.List.{take_at, drop_at, append-nil, length-append}
 use Rattle.std.proofs.lemmas.List.Folds.{list_all-append}
@@ -26,13 +26,9 @@ plain b = ltb 42 b && (ltb b 127 && (not (eqb b 44) && (not (eqb b 58) && not (e
 abbrev pub inline : ℕ → Bool
 inline b = plain b || (eqb b 32 || eqb b 44)
 
-pub both_true : (a b : Bool) → (a && b) ≡ true → (a ≡ true) × (b ≡ true)
-both_true true b e = (refl, e)
-both_true false b e = absurd cc
-
 pub weaker : (p q : ℕ → Bool) → ((b : ℕ) → p b ≡ true → q b ≡ true) → (xs : List ℕ) → list_all p xs ≡ true → list_all q xs ≡ true
 weaker p q imp [] h = refl
-weaker p q imp (x ∷ xs) h = let parts = both_true (p x) (list_all p xs) h in rw (imp x parts.0, weaker p q imp xs parts.1) refl
+weaker p q imp (x ∷ xs) h = let parts = and_parts (p x) (list_all p xs) h in rw (imp x parts.0, weaker p q imp xs parts.1) refl
 
 pub plain_inline : (b : ℕ) → plain b ≡ true → inline b ≡ true
 plain_inline b h = rw h refl
@@ -121,7 +117,7 @@ none_step p x xs q more = rw q (omega (arith, more))
 
 pub place_none : (p : ℕ → Bool) (xs : List ℕ) → list_all (λ b. not (p b)) xs ≡ true → position_or_len p xs ≡ length xs
 place_none p [] h = refl
-place_none p (x ∷ xs) h = let parts = both_true (not (p x)) (list_all (λ b. not (p b)) xs) h in none_step p x xs parts.0 (place_none p xs parts.1)
+place_none p (x ∷ xs) h = let parts = and_parts (not (p x)) (list_all (λ b. not (p b)) xs) h in none_step p x xs parts.0 (place_none p xs parts.1)
 
 pub cut_none : (byte : ℕ) (text : List ℕ) → list_all (λ b. not (eqb b byte)) text ≡ true → cut_at byte text ≡ None
 cut_none byte text h =
@@ -140,24 +136,20 @@ cut_some byte front rest same h =
 
 -- ---- blanks
 
-pub not_true : (b : Bool) → not b ≡ true → b ≡ false
-not_true true e = sym e
-not_true false e = refl
-
 no_blank : (b : ℕ) → plain b ≡ true → is_blank_byte b ≡ false
-no_blank b h = not_true (is_blank_byte b) (plain_no_blank b h)
+no_blank b h = not-true (is_blank_byte b) (plain_no_blank b h)
 
 first_plain : (b : ℕ) (rest : List ℕ) → plain b ≡ true → without_first_blanks (b ∷ rest) ≡ b ∷ rest
 first_plain b rest h = ap (λ c. cond c (without_first_blanks rest) (b ∷ rest)) (no_blank b h)
 
 pub first_text : (text rest : List ℕ) → IsText text → without_first_blanks (text ++ rest) ≡ text ++ rest
 first_text [] rest h = absurd (omega (arith, h.some))
-first_text (b ∷ text) rest h = first_plain b (text ++ rest) (both_true (plain b) (list_all plain text) h.bytes).0
+first_text (b ∷ text) rest h = first_plain b (text ++ rest) (and_parts (plain b) (list_all plain text) h.bytes).0
 
 pub end_plain : (text : List ℕ) → IsPlain text → without_end_blanks text ≡ text
 end_plain [] h = refl
 end_plain (b ∷ text) h =
-    let parts = both_true (plain b) (list_all plain text) h in
+    let parts = and_parts (plain b) (list_all plain text) h in
     ap (λ c. cond (c && eqb (length (without_end_blanks text)) 0) [] (b ∷ without_end_blanks text)) (no_blank b parts.0) ∙ ap (λ t. b ∷ t) (end_plain text parts.1)
 
 pub not_empty : (b : Bool) (n : ℕ) (xs ys : List ℕ) → 0 < n → cond (b && eqb n 0) xs ys ≡ ys

@@ -5,7 +5,7 @@ use Rattle.std.specs.List.{list_all, before_first, position_or_len, flat_map, Al
 use Rattle.std.specs.Char.{is_ascii}
 use Rattle.std.specs.Str.Lines.{lines, strip_carriage_return}
 use Rattle.std.proofs.Math.Dec.{eqb-suc-zero}
-use Rattle.std.proofs.lemmas.Bool.{le-ltb, not-true}
+use Rattle.std.proofs.lemmas.Bool.{and_parts, le-ltb, not-true}
 use Rattle.std.proofs.lemmas.List.{take_all, take_at, drop_at, append-nil, length-append}
 use Rattle.std.proofs.lemmas.List.Folds.{list_all-append}
 use Rattle.instruction_set.specs.declared.instruction.Instruction.{Instruction}
@@ -31,7 +31,7 @@ use Rattle.ebpf_asm.proofs.Passes.{slot_count-push}
 use Rattle.ebpf_asm.proofs.Names.{mnemonic_again, mnemonic_plain}
 use Rattle.ebpf_asm.proofs.Round.{register_again, immediate_again, wide_again}
 use Rattle.ebpf_asm.proofs.RoundOperands.{IsSource, place_behind, immediate_source_again, register_source_again, memory_again, distance_again, short_again, long_again, no_label}
-use Rattle.ebpf_asm.proofs.RoundLines.{IsPlain, IsText, AreTexts, plain, inline, both_true, weaker, plain_inline, plain_no_blank, inline_ascii, inline_no_semicolon, inline_no_colon, inline_no_newline, inline_no_return, place_none, cut_none, cut_some, first_text, end_append, end_plain, operands_again, register_is_text, signed_decimal_is_text, signed_text_is_text, memory_is_text, wide_is_text}
+use Rattle.ebpf_asm.proofs.RoundLines.{IsPlain, IsText, AreTexts, plain, inline, weaker, plain_inline, plain_no_blank, inline_ascii, inline_no_semicolon, inline_no_colon, inline_no_newline, inline_no_return, place_none, cut_none, cut_some, first_text, end_append, end_plain, operands_again, register_is_text, signed_decimal_is_text, signed_text_is_text, memory_is_text, wide_is_text}
 
 -- ---- an instruction's text
 
@@ -213,8 +213,8 @@ instruction_line instruction h =
 
 no_return_at : (l : List ℕ) (k : ℕ) → list_all (λ b. not (eqb b 13)) l ≡ true → eqb (get_or l k 0) 13 ≡ false
 no_return_at [] k h = refl
-no_return_at (b ∷ l) zero h = not-true (eqb b 13) (both_true (not (eqb b 13)) (list_all (λ c. not (eqb c 13)) l) h).0
-no_return_at (b ∷ l) (suc k) h = no_return_at l k (both_true (not (eqb b 13)) (list_all (λ c. not (eqb c 13)) l) h).1
+no_return_at (b ∷ l) zero h = not-true (eqb b 13) (and_parts (not (eqb b 13)) (list_all (λ c. not (eqb c 13)) l) h).0
+no_return_at (b ∷ l) (suc k) h = no_return_at l k (and_parts (not (eqb b 13)) (list_all (λ c. not (eqb c 13)) l) h).1
 
 lines_again : (instructions : List Instruction) → AllByRecursion IsListed instructions → lines (flat_map line_text instructions) ≡ map text_of_instruction instructions
 lines_again [] h = refl

@@ -1,5 +1,5 @@
 -- Lines of printable ASCII without a comment, and the words in them.
-use Rattle.std.proofs.Common.{◌≡◌, ◌≢◌, ℕ, ◌^◌, ◌<◌, ◌==◌, nat_lt, not, Bool, true, false, ◌&&◌, cond, List, [], ◌∷◌, length, take, Some, None, refl, ap, ◌∙◌, arith}
+use Rattle.std.proofs.Common.{◌≡◌, ◌≢◌, ℕ, ◌^◌, ◌<◌, ◌==◌, nat_lt, not, Bool, true, false, ◌&&◌, cond, List, [], ◌∷◌, length, take, Some, None, ap, ◌∙◌, arith}
 use Rattle.std.specs.Fmt.{decimal}
 use Rattle.std.specs.List.{All, AllPass, list_all, position_or_len}
 use Rattle.std.specs.Char.{is_ascii, is_ascii_digit}
@@ -73,11 +73,6 @@ pub line_told-words : (line : List ℕ) → All InLine line → line_told line �
 line_told-words line h =
     ap (λ (b : Bool). cond b (words_told (words_of (uncommented line))) None) (list_all-from_AllPass is_ascii line (All-weaker InLine (λ b. is_ascii b ≡ true) ascii line h))
     ∙ ap (λ (text : List ℕ). words_told (words_of text)) (uncommented-same line (All-weaker InLine (λ b. (b == 59) ≡ false) no_comment line h))
-
--- a test that a byte does not pass
-pub passes_not : (b : Bool) → not b ≡ true → b ≡ false
-passes_not true e = absurd cc
-passes_not false e = refl
 
 -- a line of such bytes, which tells an event
 pub record IsSpelled (line : List ℕ) (event : ToldEvent) : Type 0 where

@@ -2,6 +2,7 @@
 use Rattle.std.proofs.Common.{◌≡◌, ℕ, Bool, true, false, ◌&&◌, eqb, cond, List, [], ◌∷◌, ◌++◌, length, refl, sym, ap, subst, ◌∙◌}
 use Rattle.std.proofs.Math.Dec.{eqb-suc-zero}
 use Rattle.std.proofs.lemmas.List.{append-nil}
+use Rattle.std.proofs.lemmas.Bool.{and_parts}
 use Rattle.text_lines.specs.Cut.{is_blank_byte, trimmed, without_end_blanks, without_first_blanks}
 use Rattle.text_lines.specs.Laws.{AreBlanks, IsBetweenBlanks, TrimmedTextsAreBetweenBlanks}
 
@@ -51,10 +52,6 @@ none_there [] is = refl
 none_there (x ∷ xs) is =
     let some : eqb (length (x ∷ xs)) 0 ≡ false = eqb-suc-zero (length xs) in cc
 
-both : (a b : Bool) → (a && b) ≡ true → (a ≡ true) × (b ≡ true)
-both true b e = (refl, e)
-both false b e = absurd cc
-
 not_both : (a b : Bool) → (a && b) ≡ false → b ≡ true → a ≡ false
 not_both true b e is = cc
 not_both false b e is = refl
@@ -62,7 +59,7 @@ not_both false b e is = refl
 one_more_behind : (byte : ℕ) (text : List ℕ) (end : Bool) → (is_blank_byte byte && eqb (length (without_end_blanks text)) 0) ≡ end
     → BlanksBehind text (without_end_blanks text) → BlanksBehind (byte ∷ text) (cond end [] (byte ∷ without_end_blanks text))
 one_more_behind byte text true is more =
-    let two = both (is_blank_byte byte) (eqb (length (without_end_blanks text)) 0) is in
+    let two = and_parts (is_blank_byte byte) (eqb (length (without_end_blanks text)) 0) is in
     let all : text ≡ more.back = more.is ∙ ap (λ (bytes : List ℕ). bytes ++ more.back) (none_there (without_end_blanks text) two.1) in
     record { back = byte ∷ text; is = refl; blanks = (two.0, subst AreBlanks (sym all) more.blanks) }
 one_more_behind byte text false is more = record { back = more.back; is = ap (λ (bytes : List ℕ). byte ∷ bytes) more.is; blanks = more.blanks }

@@ -1,6 +1,7 @@
 -- That a zone which a run reads from keeps its blocks, through every command and fault under the run's hold.
 use Rattle.std.proofs.Common.{◌≡◌, ℕ, zero, suc, Bool, true, false, cond, List, [], ◌∷◌, length, map, get_or, Option, None, Result, Ok, Err, refl, sym, subst}
 use Rattle.std.specs.Prelude.{nat_lt, ◌&&◌, ◌||◌}
+use Rattle.std.proofs.lemmas.Bool.{or_parts}
 use Rattle.zone_state.specs.Transition.{transition}
 use Rattle.zone_state.specs.Zone.{fault_refusal, state_of_fault}
 use Rattle.zone_state.specs.declared.action.Action.{Action}
@@ -29,7 +30,7 @@ use Rattle.zns_commands.proofs.KeptBlocks.{grows_by_none, grows_on, replaced_gro
 use Rattle.zns_commands.proofs.Meanings.{after_command}
 use Rattle.zns_commands.proofs.MovedZones.{after_action}
 use Rattle.nvme_entry.proofs.Proved.{passed}
-use Rattle.zns_commands.proofs.Untouched.{neither, effect_left}
+use Rattle.zns_commands.proofs.Untouched.{effect_left}
 
 -- a zone that comes into a state that isn't cleared keeps its blocks
 arrived_keeps : (to : ZoneState) (zone : ZoneBlocks) → is_cleared to ≡ false → Grows zone.blocks (arrived to zone).blocks
@@ -125,7 +126,7 @@ module _ (ns : ZonedNamespace) (holds : Holds) (d : ℕ) (held : is_source holds
   faulted_kept z fault (Ok done) free =
       moved_kept None z (state_of_fault fault)
       (λ same.
-      let no_source = (neither (is_source holds z) (is_destination holds z) (free done refl)).0 in
+      let no_source = (or_parts (is_source holds z) (is_destination holds z) (free done refl)).0 in
       let here : is_source holds d ≡ false = subst (λ (n : ℕ). is_source holds n ≡ false) same no_source in
       cc)
 

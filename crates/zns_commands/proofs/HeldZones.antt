@@ -3,7 +3,7 @@ use Rattle.std.proofs.Common.{◌≡◌, ℕ, zero, suc, ◌+◌, Bool, true, fa
 use Rattle.std.specs.Prelude.{nat_lt, not, ◌&&◌, ◌||◌}
 use Rattle.std.specs.List.{list_any, enumerate_from}
 use Rattle.std.specs.Option.{ForSome}
-use Rattle.std.proofs.lemmas.Bool.{eqb-true}
+use Rattle.std.proofs.lemmas.Bool.{eqb-true, not-true, or_parts}
 use Rattle.zone_state.specs.Zone.{CountedZone, fault_refusal}
 use Rattle.zone_state.specs.declared.action.Action.{Action}
 use Rattle.zone_state.specs.declared.action.Action.TheVariants as action
@@ -34,11 +34,7 @@ use Rattle.zns_commands.proofs.GivenWay.{admitted_closable}
 use Rattle.zns_commands.proofs.Meanings.{after_command}
 use Rattle.nvme_entry.proofs.Proved.{passed, demanded}
 use Rattle.zns_commands.proofs.PassedChecks.{roomed}
-use Rattle.zns_commands.proofs.Untouched.{neither, effect_left, faulted_left}
-
-pub not_true : (b : Bool) → not b ≡ true → b ≡ false
-not_true true e = cc
-not_true false e = refl
+use Rattle.zns_commands.proofs.Untouched.{effect_left, faulted_left}
 
 -- the zone that gives way may be closed
 wanted_closable : (ns : ZonedNamespace) (holds : Holds) (wanted : Option Wanted) (gives : Option ℕ)
@@ -81,7 +77,7 @@ not_taken_from holds a c n zero (x ∷ xs) held none =
 not_taken_from holds a c n (suc at) (x ∷ xs) held none =
     let same : n + suc at ≡ n + 1 + at = omega arith in
     not_taken_from holds a c (n + 1) at xs (subst (λ (k : ℕ). refuses holds a k ≡ true) same held)
-    (neither (takes a x.state && refuses holds a n) (held_from holds (n + 1) (map (counted c) xs) a) none).1
+    (or_parts (takes a x.state && refuses holds a n) (held_from holds (n + 1) (map (counted c) xs) a) none).1
 
 -- Select All takes no zone that is held against it
 pub not_taken : (ns : ZonedNamespace) (holds : Holds) (lba : ℕ) (a : Action) (input : List ℕ) (z : ℕ)
@@ -89,7 +85,7 @@ pub not_taken : (ns : ZonedNamespace) (holds : Holds) (lba : ℕ) (a : Action) (
 not_taken ns holds lba a input z none held =
     let same : z ≡ 0 + z = omega arith in
     not_taken_from holds a ns.capacity 0 z ns.zones (subst (λ (k : ℕ). refuses holds a k ≡ true) same held)
-    (not_true (held_among (counted_zones ns) holds a)
+    (not-true (held_among (counted_zones ns) holds a)
     (demanded (not (held_among (counted_zones ns) holds a)) ZONE_HELD (passed (send_checks ns holds lba a true input) 2 none)))
 
 -- an action on one zone is on one that isn't held against it
@@ -97,7 +93,7 @@ pub not_refused : (ns : ZonedNamespace) (holds : Holds) (lba : ℕ) (a : Action)
     → first_failed (send_checks ns holds lba a false input) ≡ None → refuses holds a (zone_number ns lba) ≡ false
 not_refused ns holds lba a input none =
     let z = zone_number ns lba in
-    not_true (refuses holds a z) (demanded (not (refuses holds a z)) ZONE_HELD (passed (send_checks ns holds lba a false input) 4 none))
+    not-true (refuses holds a z) (demanded (not (refuses holds a z)) ZONE_HELD (passed (send_checks ns holds lba a false input) 4 none))
 
 -- a fault that isn't refused is of a zone that no run uses
 pub not_held : (inside held : Bool) (answer : Result Unit FaultRefused) (done : Unit {0})
@@ -129,7 +125,7 @@ module _ (ns : ZonedNamespace) (holds : Holds) (d : ℕ) (held : is_destination 
       → is_either z (closing_of (room_for ns holds (zone_at ns z).state)) d ≡ false
   free_of z checks none is_free has_room =
       let state = (zone_at ns z).state in
-      neither_is z (closing_of (room_for ns holds state)) (not_true (is_destination holds z) (is_free (passed checks 4 none)))
+      neither_is z (closing_of (room_for ns holds state)) (not-true (is_destination holds z) (is_free (passed checks 4 none)))
       (wanted_closable ns holds (wanted_of state) (closing_of (room_for ns holds state)) (has_room (passed checks 6 none)))
 
   sent_free : (lba : ℕ) (a : Action) (select_all : Bool) (input : List ℕ) → first_failed (send_checks ns holds lba a select_all input) ≡ None
@@ -140,7 +136,7 @@ module _ (ns : ZonedNamespace) (holds : Holds) (d : ℕ) (held : is_destination 
       let z = zone_number ns lba in
       let plan = zone_plan ns holds lba a in
       let state = (zone_at ns z).state in
-      let free = neither (is_destination holds z) (forgets a && is_source holds z) (not_refused ns holds lba a input none) in
+      let free = or_parts (is_destination holds z) (forgets a && is_source holds z) (not_refused ns holds lba a input none) in
       neither_is plan.zone plan.closing free.0
       (room_closable ns holds a state (roomed (room_of ns holds a state) (passed (send_checks ns holds lba a false input) 6 none)))
 
@@ -164,4 +160,4 @@ held_destinations_are_left (Faulted holds z fault) ns d held =
     faulted_left ns d z fault (zone_fault_refusal ns holds z fault)
     (λ done e.
     let no = not_held (nat_lt z (length ns.zones)) (is_held holds z) (fault_refusal fault (zone_at ns z).state) done e in
-    other ns holds d held z (neither (is_source holds z) (is_destination holds z) no).1)
+    other ns holds d held z (or_parts (is_source holds z) (is_destination holds z) no).1)

@@ -1,7 +1,6 @@
 -- That commands and faults leave the zones that they do not touch.
 use Rattle.std.proofs.Common.{◌≡◌, ℕ, zero, suc, Bool, true, false, cond, nat_eq, List, [], ◌∷◌, get_or, map, Option, Some, None, Result, Ok, Err, refl, sym, ◌∙◌, get_or-set_other}
-use Rattle.std.specs.Prelude.{◌||◌}
-use Rattle.std.proofs.lemmas.Bool.{eqb-false}
+use Rattle.std.proofs.lemmas.Bool.{eqb-false, or_parts}
 use Rattle.zone_state.specs.Transition.{transition}
 use Rattle.zone_state.specs.Zone.{state_of_fault}
 use Rattle.zone_state.specs.declared.action.Action.{Action}
@@ -25,11 +24,6 @@ use Rattle.zns_commands.specs.Send.{send_effect, takes, swept, led_to}
 use Rattle.zns_commands.specs.declared.write.WritePlan.{WritePlan}
 use Rattle.zns_commands.specs.steps.Plans.{write_plan, written_by, zone_plan}
 use Rattle.zns_commands.proofs.Meanings.{after_command}
-
--- of two, neither
-pub neither : (a b : Bool) → (a || b) ≡ false → (a ≡ false) × (b ≡ false)
-neither true b e = cc
-neither false b e = (refl, e)
 
 not_moved : (taken : Bool) (moved zone : ZoneBlocks) → taken ≡ false → cond taken moved zone ≡ zone
 not_moved true moved zone other = cc
@@ -58,13 +52,13 @@ module _ (ns : ZonedNamespace) (d : ℕ) where
   written_left : (plan : WritePlan) (input : List ℕ) → is_either plan.zone plan.closing d ≡ false → Left (written_by ns plan input)
   written_left plan input other =
       let m = closed ns plan.closing in
-      let none = neither (nat_eq plan.zone d) (names d plan.closing) other in
+      let none = or_parts (nat_eq plan.zone d) (names d plan.closing) other in
       set_left m plan.zone (grown m.capacity (zone_at m plan.zone) (as_blocks m.block input)) none.0 (closed_left plan.closing none.1)
 
   moved_left : (gives : Option ℕ) (z : ℕ) (to : ZoneState) → is_either z gives d ≡ false → Left (with_state (closed ns gives) z to)
   moved_left gives z to other =
       let m = closed ns gives in
-      let none = neither (nat_eq z d) (names d gives) other in
+      let none = or_parts (nat_eq z d) (names d gives) other in
       set_left m z (arrived to (zone_at m z)) none.0 (closed_left gives none.1)
 
   sent_left : (holds : Holds) (lba : ℕ) (a : Action) (select_all : Bool) (input : List ℕ)
