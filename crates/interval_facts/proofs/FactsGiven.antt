@@ -1,7 +1,7 @@
 -- What the rules give of facts are facts: their bounds are in order.
-use Rattle.std.proofs.Common.{ℕ, ℤ, pos, ◌≡◌, ◌+◌, ◌-◌, ◌*◌, ◌^◌, ◌≤◌, ◌+ℤ◌, ◌-ℤ◌, min, max, Bool, true, false, cond, Option, Some, None, inl, inr, refl, arith}
+use Rattle.std.proofs.Common.{ℕ, ℤ, pos, ◌≡◌, ◌+◌, ◌-◌, ◌*◌, ◌^◌, ◌≤◌, ◌+ℤ◌, ◌-ℤ◌, min, max, Bool, true, false, cond, Option, Some, None, inl, inr, arith}
 use Rattle.std.proofs.Math.Pow.{shr_mono}
-use Rattle.std.proofs.lemmas.Bool.{and_parts, cond_both, leb-true, ltb-false, ltb-true, or_cases}
+use Rattle.std.proofs.lemmas.Bool.{and_parts, cond_both, leb-true, ltb-false, ltb-true, or_cases, or_parts}
 use Rattle.std.proofs.lemmas.Int.{ints, to_z_pos}
 use Rattle.std.proofs.lemmas.Nat.{mul-le}
 use Rattle.std.specs.Int.{cast_signed, int_max, int_min, w64}
@@ -223,15 +223,11 @@ AreOrdered o = IfSome o OrderedPair
 abbrev AreFacts : Option (Fact × Fact) → Type 0
 AreFacts o = IfSome o FactPair
 
-neither : (a b : Bool) → (a || b) ≡ false → (a ≡ false) × (b ≡ false)
-neither true b e = absurd cc
-neither false b e = (refl, e)
-
 edge_is : (d s : Bounds) → AreOrdered (edge_of d s)
 edge_is d s =
     cond_both (is_empty d || is_empty s) None (Some (d, s)) (λ o. AreOrdered o)
     (λ _. tt)
-    (λ some. let both = neither (is_empty d) (is_empty s) some in (ltb-false d.high d.low both.0, ltb-false s.high s.low both.1))
+    (λ some. let both = or_parts (is_empty d) (is_empty s) some in (ltb-false d.high d.low both.0, ltb-false s.high s.low both.1))
 
 exchanged_is : (o : Option (Bounds × Bounds)) → AreOrdered o → AreOrdered (exchanged o)
 exchanged_is None are = tt
