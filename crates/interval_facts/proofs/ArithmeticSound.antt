@@ -1,7 +1,7 @@
 -- What an arithmetic instruction makes of words that belong to two facts belongs to the fact that its
 -- rule gives.
 use Rattle.std.proofs.Common.{ℕ, ◌≡◌, ◌+◌, ◌-◌, ◌%◌, ◌^◌, ◌<◌, true, sym, ap, subst, arith}
-use Rattle.std.proofs.lemmas.Bool.{ltb-true, eqb-true, and_parts}
+use Rattle.std.proofs.lemmas.Bool.{ltb-true, and_parts}
 use Rattle.std.proofs.lemmas.Int.{to_z_pos}
 use Rattle.std.proofs.lemmas.Nat.{mod_below, pow_pos}
 use Rattle.std.specs.Int.{w8, w16, w32}
@@ -23,7 +23,7 @@ use Rattle.program_meaning.specs.declared.word.Arithmetic.{Arithmetic}
 use Rattle.program_meaning.specs.declared.word.Arithmetic.TheVariants.{Binary, Negate, MoveSigned, SwapBytes}
 use Rattle.interval_facts.proofs.FactSound.{any_law, bounds_law, constant_law, either_fact, is_word}
 use Rattle.interval_facts.proofs.PointerSound.{moved_back_law, moved_on_law}
-use Rattle.interval_facts.proofs.RangeSound.{combined_law, either, top_law}
+use Rattle.interval_facts.proofs.RangeSound.{combined_law, either, known, top_law}
 use Rattle.interval_facts.specs.Arithmetic.{sum_of, alu_of, are_known, combined_64, combined_of, cut, estimated, extended_of, is_known, operand_of, difference_of, swapped_of, unsigned_below}
 use Rattle.interval_facts.specs.Fact.{ContainsWord, IsWithin, bounds_of, is_single, single}
 use Rattle.interval_facts.specs.Range.{combined, limit, top}
@@ -32,9 +32,6 @@ use Rattle.interval_facts.specs.declared.fact.Fact.{Fact}
 use Rattle.interval_facts.specs.declared.fact.Fact.TheVariants.{Words, Pointer}
 
 -- ---- operands
-
-known : (b : Bounds) (x : ℕ) → IsWithin b x → is_single b ≡ true → x ≡ b.low
-known b x within one = let e = eqb-true b.low b.high one in omega arith
 
 cut_law : (b : Bounds) (x : ℕ) → IsWithin b x → IsWithin (cut b) (x % 2 ^ 32)
 cut_law b x within =

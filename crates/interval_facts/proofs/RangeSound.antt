@@ -146,7 +146,7 @@ conjunction_law d s x y hd hs =
     (omega arith, omega (arith, first, second))
 
 -- the word of a single source
-known : (s : Bounds) (y : ℕ) → IsWithin s y → is_single s ≡ true → y ≡ s.low
+pub known : (s : Bounds) (y : ℕ) → IsWithin s y → is_single s ≡ true → y ≡ s.low
 known s y hs one = let e = eqb-true s.low s.high one in omega arith
 
 shifted_left_by_law : (w : Width) (c : ℕ) (d : Bounds) (x : ℕ) → IsWithin d x
