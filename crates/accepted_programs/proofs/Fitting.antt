@@ -5,7 +5,7 @@ use Rattle.std.specs.Prelude.{if◌then◌else◌}
 use Rattle.instruction_set.specs.Program.{IsProgram, instruction_at, is_wide, slots_of}
 use Rattle.instruction_set.specs.Spelling.{Fits}
 use Rattle.instruction_set.specs.declared.instruction.Instruction.{Instruction}
-use Rattle.accepted_programs.specs.ShortOffsets.{HasShortOffsets}
+use Rattle.accepted_programs.specs.steps.ShortOffsets.{HasShortOffsets}
 
 -- each instruction that begins at some slot fits
 abbrev AllFit : List (Option Instruction) → Type 0

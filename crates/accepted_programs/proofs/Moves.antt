@@ -16,7 +16,7 @@ use Rattle.instruction_set.specs.declared.operation.Size.{Size}
 use Rattle.instruction_set.specs.declared.operation.Size.TheVariants.{Byte, HalfWord, Word, DoubleWord}
 use Rattle.instruction_set.specs.declared.operation.Width.{Width}
 use Rattle.program_meaning.proofs.Proved.{loads_fit}
-use Rattle.program_meaning.specs.Cause.{is_exit, next_slot}
+use Rattle.program_meaning.specs.Cause.{is_exit, is_unwritable, next_slot}
 use Rattle.program_meaning.specs.Effect.{address_from, bytes_at, emitted, operand, put, register}
 use Rattle.program_meaning.specs.Memory.{Memory, bytes_from, lies_in, loaded, area_offset_of, stored}
 use Rattle.program_meaning.specs.State.{IsState, State}
@@ -30,7 +30,7 @@ use Rattle.program_interface.specs.declared.area.Area.{Area}
 use Rattle.program_interface.specs.declared.area.Area.TheVariants.{Context, Block, Stack, Scratch}
 use Rattle.word_domain.specs.Domain.{BelongAfter, Belongs, IsAtOffset, IsSound, Operations}
 use Rattle.word_domain.specs.declared.offsets.Offsets.{Offsets}
-use Rattle.accepted_programs.specs.Accepted.{all_reasons, fails, goes_back, is_unwritable, reason_of, stores_outside}
+use Rattle.accepted_programs.specs.Accepted.{all_reasons, fails, goes_back, reason_of, stores_outside}
 use Rattle.accepted_programs.proofs.CellLaws.{if_some}
 use Rattle.accepted_programs.specs.Cells.{cell_of, filled, is_stack, known_in, overwritten}
 use Rattle.accepted_programs.specs.Facts.{after_emit, after_store, along, area_of, cell_at, compared_fact, enters_stack, fact, facts_at_target, facts_behind, is_register, kept_fact, loaded_fact, slot_behind, with_both, with_fact}

@@ -16,7 +16,7 @@ use Rattle.program_interface.specs.declared.area.Area.TheVariants.{Context, Bloc
 use Rattle.program_interface.specs.RunSizes.{AreSizes, Sizes}
 use Rattle.word_domain.specs.Domain.{IsSound, Operations}
 use Rattle.accepted_programs.specs.Accepted.{reason_of, refusal, refusal_at, refusal_below, refused_at}
-use Rattle.accepted_programs.specs.ShortOffsets.{HasShortOffsets}
+use Rattle.accepted_programs.specs.steps.ShortOffsets.{HasShortOffsets}
 use Rattle.accepted_programs.proofs.CellLaws.{none_known}
 use Rattle.accepted_programs.specs.Facts.{facts_at_start, facts_at}
 use Rattle.accepted_programs.proofs.Flow.{arrives}

@@ -6,7 +6,7 @@ use Rattle.program_meaning.specs.TrapFree.{NeverTraps}
 use Rattle.program_interface.specs.RunSizes.{AreSizes, Sizes}
 use Rattle.word_domain.specs.Domain.{Operations}
 use Rattle.accepted_programs.specs.Accepted.{fails, reason_of, refusal, refusal_at}
-use Rattle.accepted_programs.specs.ShortOffsets.{HasShortOffsets}
+use Rattle.accepted_programs.specs.steps.ShortOffsets.{HasShortOffsets}
 use Rattle.accepted_programs.specs.declared.facts.Facts.{Facts}
 use Rattle.accepted_programs.specs.declared.reason.Reason.{Reason}
 use Rattle.accepted_programs.specs.declared.reason.Refusal.{Refusal}

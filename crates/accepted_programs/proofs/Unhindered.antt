@@ -15,7 +15,7 @@ use Rattle.instruction_set.specs.declared.operation.SignedSize.TheVariants as si
 use Rattle.instruction_set.specs.declared.operation.Size.{Size}
 use Rattle.instruction_set.specs.declared.operation.Size.TheVariants.{Byte, HalfWord, Word, DoubleWord}
 use Rattle.program_meaning.specs.Cause as machine
-use Rattle.program_meaning.specs.Cause.{causes_of_effect, emits_badly, emits_outside, hinders, is_inside_wide, is_not_writable, is_nowhere, is_outside, least_cause, next_slot, slot_in}
+use Rattle.program_meaning.specs.Cause.{causes_of_effect, emits_badly, emits_outside, hinders, is_inside_wide, is_not_writable, is_nowhere, is_outside, is_unwritable, least_cause, next_slot, slot_in}
 use Rattle.program_meaning.specs.Effect.{address_from, operand, register}
 use Rattle.program_meaning.specs.Memory.{lies_in, area_offset_of}
 use Rattle.program_interface.specs.Area.{address_of, length_of}
@@ -27,7 +27,7 @@ use Rattle.program_interface.specs.declared.area.Area.{Area}
 use Rattle.program_interface.specs.RunSizes.{AreSizes, Sizes}
 use Rattle.word_domain.specs.Domain.{IsSound, Operations}
 use Rattle.program_meaning.proofs.Proved.{areas_are_apart, blocks_are_short}
-use Rattle.accepted_programs.specs.Accepted.{all_reasons, begins_at, fails, greatest_length, is_unwritable, leads_nowhere, least_length, loads_outside, reason_of, stores_outside, turns_away}
+use Rattle.accepted_programs.specs.Accepted.{all_reasons, begins_at, fails, greatest_length, leads_nowhere, least_length, loads_outside, reason_of, stores_outside, turns_away}
 use Rattle.accepted_programs.specs.Facts.{area_of, fact, slot_behind}
 use Rattle.accepted_programs.proofs.KnownFacts.{AreFacts}
 use Rattle.accepted_programs.proofs.Meets.{Meets}
@@ -167,7 +167,7 @@ module _ {D : Type 0} {IsFact : D → Type 0} {contains : D → ℕ → Type 0} 
 
     accesses : (i : Instruction) → FitsSigned w16 (first_slot i).offset → loads_outside operations block facts (access_of i) ≡ false
         → stores_outside operations block facts (access_of i) ≡ false
-        → (machine.loads_outside s i ≡ false) × (machine.stores_outside s i ≡ false)
+        → (machine.loads_outside s (access_of i) ≡ false) × (machine.stores_outside s (access_of i) ≡ false)
     accesses (LoadImmediate dst value) near load store = (refl, refl)
     accesses (Load size dst src offset) near load store = (found _ src offset (size_of size) near (size_fits size) refl load, refl)
     accesses (LoadSigned size dst src offset) near load store = (found _ src offset (signed_size_of size) near (signed_size_fits size) refl load, refl)

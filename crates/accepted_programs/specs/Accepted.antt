@@ -4,12 +4,9 @@ use Rattle.std.specs.Option.{option_map, option_or}
 use Rattle.instruction_set.specs.Instruction.{access_of, distance_of, is_emit, target, writes}
 use Rattle.instruction_set.specs.Program.{instruction_at, instruction_in}
 use Rattle.instruction_set.specs.declared.access.Access.{Access}
-use Rattle.instruction_set.specs.declared.access.AccessKind.{AccessKind}
-use Rattle.instruction_set.specs.declared.access.AccessKind.TheVariants as kinds
 use Rattle.instruction_set.specs.declared.instruction.Instruction.{Instruction}
 use Rattle.instruction_set.specs.declared.instruction.Instruction.TheVariants.{Jump, JumpLong, Exit}
-use Rattle.program_meaning.specs.Cause.{calls_unknown, slot_in}
-use Rattle.program_interface.specs.Area.{is_writable}
+use Rattle.program_meaning.specs.Cause.{calls_unknown, hinders_load, hinders_store, slot_in}
 use Rattle.program_interface.specs.declared.area.Area.{Area}
 use Rattle.program_interface.specs.RunSizes.{Sizes}
 use Rattle.word_domain.specs.Domain.{Operations}
@@ -58,21 +55,6 @@ turns_away (Jump distance) = true
 turns_away (JumpLong distance) = true
 turns_away Exit = true
 turns_away _ = false
-
--- may it be that an area can't be written, or that there is none?
-abbrev pub is_unwritable : Option Area → Bool
-is_unwritable None = true
-is_unwritable (Some area) = not (is_writable area)
-
--- a load wants an area that has its bytes
-abbrev pub hinders_load : AccessKind → Option Area → Bool
-hinders_load kinds.Load area = is_none area
-hinders_load kinds.Store area = false
-
--- a store wants one that can be written
-abbrev pub hinders_store : AccessKind → Option Area → Bool
-hinders_store kinds.Load area = false
-hinders_store kinds.Store area = is_unwritable area
 
 -- the refusal of a slot for a reason
 abbrev pub refused_at : ℕ → Reason → Refusal

@@ -4,4 +4,4 @@ pub mod Accepted
 pub mod Emitted
 pub mod FirstRefusal
 pub mod Laws
-pub mod ShortOffsets
+pub mod steps

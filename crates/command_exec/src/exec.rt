@@ -50,7 +50,8 @@ What is printed, which `explain` says in words:
 Where a line cannot be printed, no later event happens and no later turn is given, and the image is \
 written as those up to then left it. Where anything else fails, the image is as it was: the image or the command file cannot be \
 read or is refused, or the new image cannot be written. The new image is written beside the old one, as \
-IMAGE.unfinished, and takes its place when it is whole.";
+IMAGE.unfinished, and takes its place when it is whole. Where only its place cannot be brought to the disk \
+then, it stands there all the same.";
 
 const EXAMPLE: &str = "\
 Example, in the folder of the sources:
@@ -78,7 +79,7 @@ pub fn subcommand<'a>(alloc: Global) -> Result<Command<'a>, AllocError> {
     and_argument(command, commands)
 }
 
-/// Runs the command. Of the failures, that of standard output alone leaves a new image.
+/// Runs the command. Of the failures, that of standard output alone leaves a new image, but for what [`Files::finish`] says.
 ///
 /// # Errors
 ///

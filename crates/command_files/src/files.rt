@@ -51,7 +51,8 @@ pub trait Files {
     ///
     /// # Errors
     ///
-    /// It can't be written, and isn't made then.
+    /// It can't be written. It isn't told as made then; of a file of the system a beginning may
+    /// stand there.
     fn write(&mut self, path: &str, bytes: &[u8]) -> Result<(), FileFault>
         ensures ok { OnOk result (made self.new ≡ then_made (made self.old) path.now bytes.now) }
         ensures err { OnErr result (made self.new ≡ made self.old) };
@@ -82,7 +83,8 @@ pub trait Files {
     ///
     /// # Errors
     ///
-    /// It can't be finished. It is forgotten then, and the file with this name is as it was.
+    /// It can't be finished, and is forgotten then: the file with this name is as it was, unless
+    /// the new one has its name and only its folder couldn't be brought to the disk.
     fn finish(&mut self, path: &str, file: Self::Writer) -> Result<(), FileFault>
         ensures ok { OnOk result (made self.new ≡ then_made (made self.old) path.now (Self.Writer.taken file)) }
         ensures err { OnErr result (made self.new ≡ made self.old) };

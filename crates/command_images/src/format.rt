@@ -86,7 +86,7 @@ fn count<'a>(alloc: Global, name: &'a str, letter: &'a str, help: &'a str) -> Ar
 /// # Errors
 ///
 /// A word is no number, the numbers are no geometry, the image can't be written, or memory is wanting. No file is
-/// made then.
+/// made then, but for what [`Files::finish`] says.
 pub fn format<'a, F: Files>(
     alloc: Global,
     matches: &ArgMatches<'a>,

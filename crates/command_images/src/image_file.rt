@@ -53,7 +53,7 @@ fn refused<'a>(path: &'a str, fault: LoadFault) -> Failure<'a>
 ///
 /// # Errors
 ///
-/// The file can't be written, or memory is wanting. It is as it was then.
+/// The file can't be written, or memory is wanting. It is as it was then, but for what [`Files::finish`] says.
 pub fn save<'a, F: Files>(image: &Image, path: &'a str, files: &mut F) -> Result<(), Failure<'a>>
     ensures saved { OnOk result (F.Writer.tells → F.made files.new ≡ then_made (F.made files.old) path.now (text image.now)) }
     ensures made { OnOk result (MakesOne path.now (F.made files.old) (F.made files.new)) }

@@ -49,7 +49,8 @@ pub fn subcommand<'a>(alloc: Global) -> Result<Command<'a>, AllocError> {
 ///
 /// # Errors
 ///
-/// The image can't be read, is refused, or can't be written, or memory is wanting. The file is as it was then.
+/// The image can't be read, is refused, or can't be written, or memory is wanting. The file is as it was
+/// then, but for what [`Files::finish`] says.
 pub fn upgrade<'a, F: Files>(
     alloc: Global,
     matches: &ArgMatches<'a>,

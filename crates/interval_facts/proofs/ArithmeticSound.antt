@@ -26,7 +26,7 @@ use Rattle.interval_facts.proofs.PointerSound.{moved_back_law, moved_on_law}
 use Rattle.interval_facts.proofs.RangeSound.{combined_law, either, known, top_law}
 use Rattle.interval_facts.specs.Arithmetic.{sum_of, alu_of, are_known, combined_64, combined_of, cut, estimated, extended_of, is_known, operand_of, difference_of, swapped_of, unsigned_below}
 use Rattle.interval_facts.specs.Fact.{ContainsWord, IsWithin, bounds_of, is_single, single}
-use Rattle.interval_facts.specs.Range.{combined, limit, top}
+use Rattle.interval_facts.specs.Range.{combined, number_count, top}
 use Rattle.word_domain.specs.declared.bounds.Bounds.{Bounds}
 use Rattle.interval_facts.specs.declared.fact.Fact.{Fact}
 use Rattle.interval_facts.specs.declared.fact.Fact.TheVariants.{Words, Pointer}
@@ -45,7 +45,7 @@ operand_law : (w : Width) (f : Fact) (x : ℕ) → ContainsWord f x → IsWithin
 operand_law Bits32 f x is = cut_law (bounds_of f) x (bounds_law f x is)
 operand_law Bits64 f x is = bounds_law f x is
 
-low_fits : (w : Width) (x : ℕ) → x < 2 ^ 64 → low_bits w x < limit w
+low_fits : (w : Width) (x : ℕ) → x < 2 ^ 64 → low_bits w x < number_count w
 low_fits Bits32 x h = omega arith
 low_fits Bits64 x h = h
 
@@ -101,7 +101,7 @@ combined_of_law Bits64 operation d s x y hd hs = combined_64_law operation d s x
 -- ---- one operand
 
 negated_law : (w : Width) (x : ℕ) → IsWithin (top w) (computed (Negate w) x 0)
-negated_law w x = top_law w ((limit w - low_bits w x) % limit w) (mod_below (limit w - low_bits w x) (limit w) (pow_pos (bits w)))
+negated_law w x = top_law w ((number_count w - low_bits w x) % number_count w) (mod_below (number_count w - low_bits w x) (number_count w) (pow_pos (bits w)))
 
 -- a number without a sign is its own extension
 extended_is : (extension : SignExtension) (y : ℕ) → low_bits (extension_width extension) y < unsigned_below extension
@@ -117,7 +117,7 @@ extended_is Bits16To64 y h = rw (to_z_pos w16 (y % 2 ^ 16) (omega arith)) (omega
 extended_is Bits32To64 y h = rw (to_z_pos w32 (y % 2 ^ 32) (omega arith)) (omega arith)
 
 -- an extension to 32 bits fits them
-extended_below : (extension : SignExtension) (y : ℕ) → y < 2 ^ 64 → extended extension y < limit (extension_width extension)
+extended_below : (extension : SignExtension) (y : ℕ) → y < 2 ^ 64 → extended extension y < number_count (extension_width extension)
 extended_below Bits8To32 y h = grind arith
 extended_below Bits16To32 y h = grind arith
 extended_below Bits8To64 y h = words_are_computed (MoveSigned Bits8To64) 0 y (omega arith) h

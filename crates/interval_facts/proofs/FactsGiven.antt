@@ -31,7 +31,7 @@ use Rattle.interval_facts.specs.Constants.{both_widened, constants}
 use Rattle.interval_facts.specs.Edge.{FactPair, agrees, as_facts, at_most, different, edge_of, equal, exchanged, fits, is_empty, less, narrowed, refine_of, refine_words, without}
 use Rattle.interval_facts.specs.Fact.{IsFact, bounds_of, farthest, full, is_single, join_of, loaded_of, pointer_to, range, widened}
 use Rattle.interval_facts.specs.Intervals.{intervals}
-use Rattle.interval_facts.specs.Range.{combined, difference, half, if_positive, limit, product, quotient, remainder, shifted_left, shifted_left_by, shifted_right, sum}
+use Rattle.interval_facts.specs.Range.{combined, difference, half, if_positive, number_count, product, quotient, remainder, shifted_left, shifted_left_by, shifted_right, sum}
 use Rattle.interval_facts.specs.declared.fact.Fact.{Fact}
 use Rattle.interval_facts.specs.declared.fact.Fact.TheVariants.{Words, Pointer}
 use Rattle.interval_facts.specs.steps.Bounds.{OrderedPair}
@@ -52,8 +52,8 @@ pick_fact test f g when unless = cond_both test f g (λ chosen. IsFact chosen) w
 module _ (w : Width) (d s : Bounds) (hd : IsOrdered d) (hs : IsOrdered s) where
   sum_is : IsOrdered (sum w d s)
   sum_is =
-      pick (nat_lt (d.high + s.high) (limit w)) _ _ (λ _. omega arith)
-      (λ _. pick (nat_le (limit w) (d.low + s.low)) _ _ (λ _. omega arith) (λ _. omega arith))
+      pick (nat_lt (d.high + s.high) (number_count w)) _ _ (λ _. omega arith)
+      (λ _. pick (nat_le (number_count w) (d.low + s.low)) _ _ (λ _. omega arith) (λ _. omega arith))
 
   difference_is : IsOrdered (difference w d s)
   difference_is =
@@ -61,7 +61,7 @@ module _ (w : Width) (d s : Bounds) (hd : IsOrdered d) (hs : IsOrdered s) where
       (λ _. pick (nat_lt d.high s.low) _ _ (λ _. omega arith) (λ _. omega arith))
 
   product_is : IsOrdered (product w d s)
-  product_is = pick (nat_lt (d.high * s.high) (limit w)) _ _ (λ _. mul-le d.low s.low d.high s.high hd hs) (λ _. omega arith)
+  product_is = pick (nat_lt (d.high * s.high) (number_count w)) _ _ (λ _. mul-le d.low s.low d.high s.high hd hs) (λ _. omega arith)
 
   quotient_is : IsOrdered (quotient d s)
   quotient_is =
@@ -79,7 +79,7 @@ module _ (w : Width) (d s : Bounds) (hd : IsOrdered d) (hs : IsOrdered s) where
   positive_is bounds is = pick (nat_lt d.high (half w) && nat_lt s.high (half w)) _ _ (λ _. is) (λ _. omega arith)
 
   left_by_is : (c : ℕ) → IsOrdered (shifted_left_by w c d)
-  left_by_is c = pick (nat_lt (d.high * 2 ^ c) (limit w)) _ _ (λ _. mul-le d.low (2 ^ c) d.high (2 ^ c) hd (omega arith)) (λ _. omega arith)
+  left_by_is c = pick (nat_lt (d.high * 2 ^ c) (number_count w)) _ _ (λ _. mul-le d.low (2 ^ c) d.high (2 ^ c) hd (omega arith)) (λ _. omega arith)
 
   left_is : IsOrdered (shifted_left w d s)
   left_is = pick (is_single s) _ _ (λ _. left_by_is (count w s.low)) (λ _. omega arith)

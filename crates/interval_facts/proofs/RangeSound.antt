@@ -15,7 +15,7 @@ use Rattle.program_meaning.specs.Word.{bits, count, result_of, signed}
 use Rattle.program_meaning.proofs.Proved.{operations_keep_width}
 use Rattle.interval_facts.proofs.Numbers.{mod_below_is, quotient_grows, wraps_once}
 use Rattle.interval_facts.specs.Fact.{IsWithin, is_single, range, single}
-use Rattle.interval_facts.specs.Range.{limit, half, top, sum, difference, product, quotient, remainder, if_positive, conjunction, shifted_left, shifted_left_by, shifted_right, shifted_right_by, combined}
+use Rattle.interval_facts.specs.Range.{number_count, half, top, sum, difference, product, quotient, remainder, if_positive, conjunction, shifted_left, shifted_left_by, shifted_right, shifted_right_by, combined}
 use Rattle.word_domain.specs.declared.bounds.Bounds.{Bounds}
 
 -- the bounds that a test chooses are right where both are
@@ -23,47 +23,47 @@ pub either : (test : Bool) (b c : Bounds) (n : ℕ) → (test ≡ true → IsWit
     → IsWithin (cond test b c) n
 either test b c n when unless = cond_both test b c (λ chosen. IsWithin chosen n) when unless
 
-pub top_law : (w : Width) (n : ℕ) → n < limit w → IsWithin (top w) n
+pub top_law : (w : Width) (n : ℕ) → n < number_count w → IsWithin (top w) n
 top_law w n fits = (omega arith, omega arith)
 
-wrapped_law : (w : Width) (n : ℕ) → IsWithin (top w) (n % limit w)
-wrapped_law w n = top_law w (n % limit w) (mod_below n (limit w) (pow_pos (bits w)))
+wrapped_law : (w : Width) (n : ℕ) → IsWithin (top w) (n % number_count w)
+wrapped_law w n = top_law w (n % number_count w) (mod_below n (number_count w) (pow_pos (bits w)))
 
-sum_law : (w : Width) (d s : Bounds) (x y : ℕ) → IsWithin d x → IsWithin s y → x < limit w → y < limit w
+sum_law : (w : Width) (d s : Bounds) (x y : ℕ) → IsWithin d x → IsWithin s y → x < number_count w → y < number_count w
     → IsWithin (sum w d s) (result_of w Add x y)
 sum_law w d s x y hd hs fx fy =
-    either (nat_lt (d.high + s.high) (limit w)) _ _ ((x + y) % limit w)
+    either (nat_lt (d.high + s.high) (number_count w)) _ _ ((x + y) % number_count w)
     (λ fits.
-    let below = ltb-true (d.high + s.high) (limit w) fits in
-    rw (mod_below_is (x + y) (limit w) (omega arith)) (omega arith, omega arith))
-    (λ _. either (nat_le (limit w) (d.low + s.low)) _ _ ((x + y) % limit w)
+    let below = ltb-true (d.high + s.high) (number_count w) fits in
+    rw (mod_below_is (x + y) (number_count w) (omega arith)) (omega arith, omega arith))
+    (λ _. either (nat_le (number_count w) (d.low + s.low)) _ _ ((x + y) % number_count w)
     (λ wraps.
-    let above = leb-true (limit w) (d.low + s.low) wraps in
-    rw (wraps_once (limit w) (x + y) (omega arith) (omega arith)) (omega arith, omega arith))
+    let above = leb-true (number_count w) (d.low + s.low) wraps in
+    rw (wraps_once (number_count w) (x + y) (omega arith) (omega arith)) (omega arith, omega arith))
     (λ _. wrapped_law w (x + y)))
 
-difference_law : (w : Width) (d s : Bounds) (x y : ℕ) → IsWithin d x → IsWithin s y → x < limit w → y < limit w
+difference_law : (w : Width) (d s : Bounds) (x y : ℕ) → IsWithin d x → IsWithin s y → x < number_count w → y < number_count w
     → IsWithin (difference w d s) (result_of w Subtract x y)
 difference_law w d s x y hd hs fx fy =
-    either (nat_le s.high d.low) _ _ ((x + (limit w - y)) % limit w)
+    either (nat_le s.high d.low) _ _ ((x + (number_count w - y)) % number_count w)
     (λ fits.
     let below = leb-true s.high d.low fits in
-    rw (wraps_once (limit w) (x + (limit w - y)) (omega arith) (omega arith)) (omega arith, omega arith))
-    (λ _. either (nat_lt d.high s.low) _ _ ((x + (limit w - y)) % limit w)
+    rw (wraps_once (number_count w) (x + (number_count w - y)) (omega arith) (omega arith)) (omega arith, omega arith))
+    (λ _. either (nat_lt d.high s.low) _ _ ((x + (number_count w - y)) % number_count w)
     (λ wraps.
     let above = ltb-true d.high s.low wraps in
-    rw (mod_below_is (x + (limit w - y)) (limit w) (omega arith)) (omega arith, omega arith))
-    (λ _. wrapped_law w (x + (limit w - y))))
+    rw (mod_below_is (x + (number_count w - y)) (number_count w) (omega arith)) (omega arith, omega arith))
+    (λ _. wrapped_law w (x + (number_count w - y))))
 
 product_law : (w : Width) (d s : Bounds) (x y : ℕ) → IsWithin d x → IsWithin s y
     → IsWithin (product w d s) (result_of w Multiply x y)
 product_law w d s x y hd hs =
-    either (nat_lt (d.high * s.high) (limit w)) _ _ ((x * y) % limit w)
+    either (nat_lt (d.high * s.high) (number_count w)) _ _ ((x * y) % number_count w)
     (λ fits.
-    let below = ltb-true (d.high * s.high) (limit w) fits in
+    let below = ltb-true (d.high * s.high) (number_count w) fits in
     let most = mul-le x y d.high s.high hd.1 hs.1 in
     let least = mul-le d.low s.low x y hd.0 hs.0 in
-    rw (mod_below_is (x * y) (limit w) (omega (arith, most))) (least, most))
+    rw (mod_below_is (x * y) (number_count w) (omega (arith, most))) (least, most))
     (λ _. wrapped_law w (x * y))
 
 divided_below : (x y : ℕ) → (cond (y == 0) 0 (x / y)) ≤ x
@@ -121,7 +121,7 @@ both_signed w d s x y hd hs positive =
     let source = ltb-true s.high (half w) both.1 in
     (signed_is w x (omega arith), signed_is w y (omega arith))
 
-signed_quotient_law : (w : Width) (d s : Bounds) (x y : ℕ) → IsWithin d x → IsWithin s y → x < limit w → y < limit w
+signed_quotient_law : (w : Width) (d s : Bounds) (x y : ℕ) → IsWithin d x → IsWithin s y → x < number_count w → y < number_count w
     → IsWithin (if_positive w d s (quotient d s)) (result_of w SignedDivide x y)
 signed_quotient_law w d s x y hd hs fx fy =
     either (nat_lt d.high (half w) && nat_lt s.high (half w)) _ _ (result_of w SignedDivide x y)
@@ -130,7 +130,7 @@ signed_quotient_law w d s x y hd hs fx fy =
     rw (are.0, are.1) (quotient_law d s x y hd hs))
     (λ _. top_law w (result_of w SignedDivide x y) (operations_keep_width w SignedDivide x y fx fy))
 
-signed_remainder_law : (w : Width) (d s : Bounds) (x y : ℕ) → IsWithin d x → IsWithin s y → x < limit w → y < limit w
+signed_remainder_law : (w : Width) (d s : Bounds) (x y : ℕ) → IsWithin d x → IsWithin s y → x < number_count w → y < number_count w
     → IsWithin (if_positive w d s (remainder d s)) (result_of w SignedModulo x y)
 signed_remainder_law w d s x y hd hs fx fy =
     either (nat_lt d.high (half w) && nat_lt s.high (half w)) _ _ (result_of w SignedModulo x y)
@@ -150,14 +150,14 @@ pub known : (s : Bounds) (y : ℕ) → IsWithin s y → is_single s ≡ true →
 known s y hs one = let e = eqb-true s.low s.high one in omega arith
 
 shifted_left_by_law : (w : Width) (c : ℕ) (d : Bounds) (x : ℕ) → IsWithin d x
-    → IsWithin (shifted_left_by w c d) ((x * 2 ^ c) % limit w)
+    → IsWithin (shifted_left_by w c d) ((x * 2 ^ c) % number_count w)
 shifted_left_by_law w c d x hd =
-    either (nat_lt (d.high * 2 ^ c) (limit w)) _ _ ((x * 2 ^ c) % limit w)
+    either (nat_lt (d.high * 2 ^ c) (number_count w)) _ _ ((x * 2 ^ c) % number_count w)
     (λ fits.
-    let below = ltb-true (d.high * 2 ^ c) (limit w) fits in
+    let below = ltb-true (d.high * 2 ^ c) (number_count w) fits in
     let most = mul-le x (2 ^ c) d.high (2 ^ c) hd.1 (omega arith) in
     let least = mul-le d.low (2 ^ c) x (2 ^ c) hd.0 (omega arith) in
-    rw (mod_below_is (x * 2 ^ c) (limit w) (omega (arith, most))) (least, most))
+    rw (mod_below_is (x * 2 ^ c) (number_count w) (omega (arith, most))) (least, most))
     (λ _. wrapped_law w (x * 2 ^ c))
 
 shifted_left_law : (w : Width) (d s : Bounds) (x y : ℕ) → IsWithin d x → IsWithin s y
@@ -176,7 +176,7 @@ shifted_right_law w d s x y hd hs =
     (shr_mono (count w s.low) hd.0, shr_mono (count w s.low) hd.1))
     (λ _. let below = shr_le x (count w y) in (omega arith, omega (arith, below)))
 
-arithmetic_shift_law : (w : Width) (d s : Bounds) (x y : ℕ) → IsWithin d x → IsWithin s y → x < limit w → y < limit w
+arithmetic_shift_law : (w : Width) (d s : Bounds) (x y : ℕ) → IsWithin d x → IsWithin s y → x < number_count w → y < number_count w
     → IsWithin (combined w ArithmeticShift d s) (result_of w ArithmeticShift x y)
 arithmetic_shift_law w d s x y hd hs fx fy =
     either (nat_lt d.high (half w)) _ _ (result_of w ArithmeticShift x y)
@@ -186,7 +186,7 @@ arithmetic_shift_law w d s x y hd hs fx fy =
     (λ _. top_law w (result_of w ArithmeticShift x y) (operations_keep_width w ArithmeticShift x y fx fy))
 
 pub combined_law : (w : Width) (operation : Operation) (d s : Bounds) (x y : ℕ) → IsWithin d x → IsWithin s y
-    → x < limit w → y < limit w → IsWithin (combined w operation d s) (result_of w operation x y)
+    → x < number_count w → y < number_count w → IsWithin (combined w operation d s) (result_of w operation x y)
 combined_law w Add d s x y hd hs fx fy = sum_law w d s x y hd hs fx fy
 combined_law w Subtract d s x y hd hs fx fy = difference_law w d s x y hd hs fx fy
 combined_law w Multiply d s x y hd hs fx fy = product_law w d s x y hd hs

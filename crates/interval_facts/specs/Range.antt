@@ -9,35 +9,35 @@ use Rattle.interval_facts.specs.Fact.{is_single, range, single}
 use Rattle.word_domain.specs.declared.bounds.Bounds.{Bounds}
 
 -- the number of numbers of a width
-abbrev pub limit : Width → ℕ
-limit w = 2 ^ bits w
+abbrev pub number_count : Width → ℕ
+number_count w = 2 ^ bits w
 
 -- all numbers of a width
 abbrev pub top : Width → Bounds
-top w = range 0 (limit w - 1)
+top w = range 0 (number_count w - 1)
 
 -- a number below this has no sign in a width
 abbrev pub half : Width → ℕ
-half w = limit w / 2
+half w = number_count w / 2
 
 -- a sum that may wrap, but then does for all operands
 abbrev pub sum : Width → Bounds → Bounds → Bounds
 sum w d s =
-    if nat_lt (d.high + s.high) (limit w) then range (d.low + s.low) (d.high + s.high) else
-    if nat_le (limit w) (d.low + s.low) then range (d.low + s.low - limit w) (d.high + s.high - limit w) else
+    if nat_lt (d.high + s.high) (number_count w) then range (d.low + s.low) (d.high + s.high) else
+    if nat_le (number_count w) (d.low + s.low) then range (d.low + s.low - number_count w) (d.high + s.high - number_count w) else
     top w
 
 -- the same for a difference
 abbrev pub difference : Width → Bounds → Bounds → Bounds
 difference w d s =
     if nat_le s.high d.low then range (d.low - s.high) (d.high - s.low) else
-    if nat_lt d.high s.low then range (limit w + d.low - s.high) (limit w + d.high - s.low) else
+    if nat_lt d.high s.low then range (number_count w + d.low - s.high) (number_count w + d.high - s.low) else
     top w
 
 -- a product, which none of the operands takes past the width, or any number
 abbrev pub product : Width → Bounds → Bounds → Bounds
 product w d s =
-    if nat_lt (d.high * s.high) (limit w) then range (d.low * s.low) (d.high * s.high) else top w
+    if nat_lt (d.high * s.high) (number_count w) then range (d.low * s.low) (d.high * s.high) else top w
 
 -- a division by zero gives 0
 abbrev pub quotient : Bounds → Bounds → Bounds
@@ -63,7 +63,7 @@ conjunction d s = range 0 (min d.high s.high)
 
 -- a shift to the left by a count, which takes none past the width, or any number
 abbrev pub shifted_left_by : Width → ℕ → Bounds → Bounds
-shifted_left_by w c d = if nat_lt (d.high * 2 ^ c) (limit w) then range (d.low * 2 ^ c) (d.high * 2 ^ c) else top w
+shifted_left_by w c d = if nat_lt (d.high * 2 ^ c) (number_count w) then range (d.low * 2 ^ c) (d.high * 2 ^ c) else top w
 
 -- the same by a count that is known, or any number
 abbrev pub shifted_left : Width → Bounds → Bounds → Bounds

@@ -3,7 +3,7 @@
 ghost use Rattle.std.specs.Prelude.{◌≡◌, ◌≤◌, ◌<◌, ◌^◌, ◌-◌, ◌+◌, nat_lt};
 ghost use Rattle.program_meaning.specs.Word.{bits, count};
 ghost use Rattle.interval_facts.specs.Fact.{range};
-ghost use Rattle.interval_facts.specs.Range.{limit, top, half, sum, difference, product, quotient, remainder, if_positive, conjunction, shifted_left, shifted_left_by, shifted_right, shifted_right_by, combined};
+ghost use Rattle.interval_facts.specs.Range.{number_count, top, half, sum, difference, product, quotient, remainder, if_positive, conjunction, shifted_left, shifted_left_by, shifted_right, shifted_right_by, combined};
 ghost use Rattle.interval_facts.specs.steps.Bounds.{IsRange};
 
 use crate::fact::{is_one, one};
@@ -12,7 +12,7 @@ use word_domain::Bounds;
 
 /// The greatest number of a width.
 pub fn greatest(width: Width) -> u64
-    ensures { result + 1 ≡ limit width }
+    ensures { result + 1 ≡ number_count width }
 {
     match width {
         Width::Bits32 => u64::from(u32::MAX),
@@ -53,18 +53,18 @@ fn add(width: Width, dst: Bounds, source: Bounds) -> Bounds
     ensures value { result ≡ sum width dst source }
     ensures range { IsRange width result }
 {
-    let limit = u128::from(greatest(width)) + 1;
+    let number_count = u128::from(greatest(width)) + 1;
     let low = u128::from(dst.low) + u128::from(source.low);
     let high = u128::from(dst.high) + u128::from(source.high);
-    if high < limit {
+    if high < number_count {
         Bounds {
             low: low as u64,
             high: high as u64,
         }
-    } else if limit <= low {
+    } else if number_count <= low {
         Bounds {
-            low: (low - limit) as u64,
-            high: (high - limit) as u64,
+            low: (low - number_count) as u64,
+            high: (high - number_count) as u64,
         }
     } else {
         all(width)

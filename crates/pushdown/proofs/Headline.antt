@@ -128,8 +128,8 @@ module _ {D : Type 0} (operations : Operations D) (s : State) (queue : ℕ) (ent
               ∙ added_leaves now.namespace place.destination z blocks differs;
           shape_kept = ap shape next.namespace ∙ added_shape now.namespace place.destination blocks;
           at_its_end = next.at_its_end;
-          runs_left = next.runs_left;
-          slots_left = next.slots_kept;
+          other_runs = next.other_runs;
+          other_slots = next.other_slots;
           program_left = next.program_left;
           same_blocks = λ ns same_size same_source.
               let of : ℕ → List (List ℕ) → List Turn =

@@ -65,7 +65,7 @@ used_at places run place at =
 -- ---- events
 
 unchanged : (place : Place) (s : State) → KeepsFor place s s
-unchanged place s = record { source = grows_by_none (zone_at s.namespace place.source).blocks; program = same_program (program_at s place.slot); sizes = refl }
+unchanged place s = record { source = grows_by_none (zone_at s.namespace place.source).blocks; program = same_program (program_at s place.slot); shape_kept = refl }
 
 -- a Load doesn't take the slot of an active run
 not_loaded : (s : State) (run : ℕ) (place : Place) (load : LoadCommand) (input : List ℕ) → place_at s run ≡ Some place
@@ -84,7 +84,7 @@ module _ {D : Type 0} (operations : Operations D) where
       source = held_sources_keep_blocks step s.namespace place.source
           (subst (λ (holds : Holds). is_source holds place.source ≡ true) (sym same) (source_at s.places run place at));
       program = same_program (program_at s place.slot);
-      sizes = events_keep_shapes step s.namespace;
+      shape_kept = events_keep_shapes step s.namespace;
     };
     load = λ sub load t are takes.
         let new = Some (just_loaded takes.program load.limit) in
@@ -92,17 +92,17 @@ module _ {D : Type 0} (operations : Operations D) where
         record {
           source = grows_by_none (zone_at s.namespace place.source).blocks;
           program = subst (SameProgram (program_at s place.slot)) (sym other) (same_program (program_at s place.slot));
-          sizes = refl;
+          shape_kept = refl;
         };
     start = λ sub command first passed free some. record {
       source = grows_by_none (zone_at s.namespace place.source).blocks;
       program = same_program (program_at s place.slot);
-      sizes = refl;
+      shape_kept = refl;
     };
     turn = λ other p turn later is there first. record {
       source = added_grows s.namespace p.destination place.source turn.blocks;
       program = left_program s p turn.ending place.slot;
-      sizes = added_shape s.namespace p.destination turn.blocks;
+      shape_kept = added_shape s.namespace p.destination turn.blocks;
     };
   })
 

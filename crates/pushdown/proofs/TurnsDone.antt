@@ -182,8 +182,8 @@ pub record Next (s now : State) (run : ℕ) (place : Place) (turns : List Turn) 
       ≡ blocks_at s place.destination ++ appended_by (take (k + 1) turns)
   pub then_left : place_at (turned now run).state run ≡ place_left place (drop (k + 1) turns) (get_or turns k no_turn).ending
   pub then_slots : (turned now run).state.slots ≡ slots_left now place (get_or turns k no_turn).ending
-  pub runs_left : (other : ℕ) → other ≢ run → place_at (turned now run).state other ≡ place_at now other
-  pub slots_kept : (slot : ℕ) → slot ≢ place.slot → program_at (turned now run).state slot ≡ program_at now slot
+  pub other_runs : (other : ℕ) → other ≢ run → place_at (turned now run).state other ≡ place_at now other
+  pub other_slots : (slot : ℕ) → slot ≢ place.slot → program_at (turned now run).state slot ≡ program_at now slot
   pub program_left : SameProgram (program_at now place.slot) (program_at (turned now run).state place.slot)
 
 pub next_is : (s now : State) (run : ℕ) (place : Place) (turns : List Turn) (k : ℕ) → Stands s now run place turns k → k < length turns
@@ -207,10 +207,10 @@ next_is s now run place turns k stands less =
           ∙ get_or-set_same now.places run (place_left here later turn.ending) None (there now.places run here stands.left)
           ∙ place_of place (drop k turns) later turn.ending;
       then_slots = ap (λ (h : Happening). h.state.slots) took ∙ slots_of now place (drop k turns) turn.ending;
-      runs_left = λ other differs.
+      other_runs = λ other differs.
           ap (λ (h : Happening). place_at h.state other) took
           ∙ get_or-set_other now.places run other (place_left here later turn.ending) None differs;
-      slots_kept = λ slot differs. ap (λ (h : Happening). program_at h.state slot) took ∙ left_other now here turn.ending slot differs;
+      other_slots = λ slot differs. ap (λ (h : Happening). program_at h.state slot) took ∙ left_other now here turn.ending slot differs;
       program_left = subst (λ (h : Happening). SameProgram (program_at now place.slot) (program_at h.state place.slot)) (sym took)
           (left_program now here turn.ending place.slot);
     }

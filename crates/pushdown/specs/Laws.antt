@@ -181,7 +181,7 @@ TurnTakesFirst =
 pub record KeepsFor (place : Place) (s t : State) : Type 0 where
   pub source : Grows (zone_at s.namespace place.source).blocks (zone_at t.namespace place.source).blocks
   pub program : SameProgram (program_at s place.slot) (program_at t place.slot)
-  pub sizes : shape t.namespace ≡ shape s.namespace
+  pub shape_kept : shape t.namespace ≡ shape s.namespace
 
 -- every event keeps it, the turns of the run and of others among them
 abbrev pub EventsKeepForRuns : {D : Type 0} → Operations D → Type 0

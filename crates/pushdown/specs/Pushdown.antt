@@ -135,8 +135,8 @@ module _ {D : Type 0} (operations : Operations D) where
       pub others : (z : ℕ) → z ≢ place.destination → zone_at next.state.namespace z ≡ zone_at now.namespace z
       pub shape_kept : shape next.state.namespace ≡ shape now.namespace
       pub at_its_end : blocks_at next.state place.destination ≡ blocks_at now place.destination ++ turn.blocks
-      pub runs_left : (other : ℕ) → other ≢ run → place_at next.state other ≡ place_at now other
-      pub slots_left : (slot : ℕ) → slot ≢ command.slot → program_at next.state slot ≡ program_at now slot
+      pub other_runs : (other : ℕ) → other ≢ run → place_at next.state other ≡ place_at now other
+      pub other_slots : (slot : ℕ) → slot ≢ command.slot → program_at next.state slot ≡ program_at now slot
       pub program_left : SameProgram (program_at now command.slot) (program_at next.state command.slot)
       pub same_blocks : (ns : ZonedNamespace) → ns.block ≡ s.namespace.block
           → source_blocks ns command ≡ source_blocks s.namespace command

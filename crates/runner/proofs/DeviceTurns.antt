@@ -110,7 +110,7 @@ module _ (ns : ZonedNamespace) (slots : List (Option LoadedProgram)) (runs : Lis
         (placed_at ns slots runs j b there)
 
     same_shape : shape new ≡ shape ns
-    same_shape = subst (λ (m : ZonedNamespace). shape m ≡ shape ns) namespace_is (keeps k a at).sizes
+    same_shape = subst (λ (m : ZonedNamespace). shape m ≡ shape ns) namespace_is (keeps k a at).shape_kept
 
     same_block : ns.block ≡ new.block
     same_block = ap (λ (x : Shape). x.block) (sym same_shape)

@@ -4,7 +4,7 @@ ghost use Rattle.std.specs.Prelude.{◌≡◌, is_some, true, None, Option};
 ghost use Rattle.instruction_set.specs.Program.{instruction_at};
 ghost use Rattle.program_interface.specs.RunSizes.{AreSizes};
 ghost use Rattle.accepted_programs.specs.Accepted.{refusal};
-ghost use Rattle.accepted_programs.specs.ShortOffsets.{HasShortOffsets};
+ghost use Rattle.accepted_programs.specs.steps.ShortOffsets.{HasShortOffsets};
 
 use instruction_set::Program;
 use program_interface::RunSizes;

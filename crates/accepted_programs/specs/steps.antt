@@ -1,0 +1,2 @@
+-- What a verified program keeps for proofs; no public contract speaks of it.
+pub mod ShortOffsets
