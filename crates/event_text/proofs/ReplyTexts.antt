@@ -13,7 +13,7 @@ use Rattle.device_events.specs.declared.reply.Reply.TheVariants.{Complete, Pendi
 use Rattle.text_lines.specs.Number.{decimal_of}
 use Rattle.event_text.specs.Laws.{IsReply, LinesTellReplies}
 use Rattle.event_text.specs.Lines.{data_text, reply_text}
-use Rattle.event_text.specs.Words.{one_of, three_of, words_of}
+use Rattle.event_text.specs.Words.{one_of, two_or_three_of, words_of}
 use Rattle.event_text.proofs.PlainLines.{decimal_again, decimal_in_word, spelled_in_word, unblank}
 use Rattle.event_text.proofs.SubmissionLemmas.{data_words, hex_in_word, not_empty, spaced, words_of-spaced}
 use Rattle.event_text.proofs.WordLemmas.{word_first, word_last}
@@ -29,7 +29,7 @@ without_data reply = record { reply = reply; bytes = [] }
 
 abbrev reply_named : List ℕ → List (List ℕ) → Option ReplyWithData
 reply_named name words =
-    if bytes_eq name (codes "cpl") then option_and_then (λ w. completed (decimal_of w.0) (result_ok (decode_of w.1)) (result_ok (decode_of w.2))) (three_of words)
+    if bytes_eq name (codes "cpl") then option_and_then (λ w. completed (decimal_of w.0) (result_ok (decode_of w.1)) (result_ok (decode_of w.2))) (two_or_three_of words)
     else (if bytes_eq name (codes "pending") then option_and_then (λ word. option_map (λ run. without_data (Pending run)) (decimal_of word)) (one_of words)
     else (if bytes_eq name (codes "idle") then Some (without_data Idle)
     else (if bytes_eq name (codes "done") then Some (without_data FaultTaken) else Some (without_data FaultRefused))))

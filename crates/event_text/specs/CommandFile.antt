@@ -15,7 +15,7 @@ use Rattle.device_events.specs.declared.event.Event.{Event}
 use Rattle.device_events.specs.declared.event.Event.TheVariants as event
 use Rattle.event_text.specs.declared.command_file.ParseFault.{ParseFault}
 use Rattle.event_text.specs.declared.command_file.ParseFault.TheVariants.{Line, Memory}
-use Rattle.event_text.specs.Words.{words_of, one_of, two_of, three_of}
+use Rattle.event_text.specs.Words.{words_of, one_of, two_of, two_or_three_of}
 
 -- an event as a line tells it
 pub data ToldEvent : Type 0 where
@@ -42,7 +42,7 @@ submission _ _ _ = None
 abbrev pub submission_of : List (List ℕ) → Option ToldEvent
 submission_of words = option_and_then
     (λ w. submission (option_and_then (below (2 ^ 16)) (decimal_of w.0)) (result_ok (decode_sized w.1 64)) (result_ok (decode_of w.2)))
-    (three_of words)
+    (two_or_three_of words)
 
 -- the turn of a run that the words behind `turn` tell
 abbrev pub turn_of : List (List ℕ) → Option ToldEvent

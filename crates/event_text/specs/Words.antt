@@ -18,7 +18,7 @@ two_of (first ∷ second ∷ []) = Some (first, second)
 two_of _ = None
 
 -- two words, or three; the third is empty where it is missing
-abbrev pub three_of : List (List ℕ) → Option (List ℕ × List ℕ × List ℕ)
-three_of (first ∷ second ∷ []) = Some (first, second, [])
-three_of (first ∷ second ∷ third ∷ []) = Some (first, second, third)
-three_of _ = None
+abbrev pub two_or_three_of : List (List ℕ) → Option (List ℕ × List ℕ × List ℕ)
+two_or_three_of (first ∷ second ∷ []) = Some (first, second, [])
+two_or_three_of (first ∷ second ∷ third ∷ []) = Some (first, second, third)
+two_or_three_of _ = None

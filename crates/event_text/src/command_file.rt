@@ -113,7 +113,7 @@ fn submit(alloc: Global, words: Words<'_>) -> Result<Event, EventFault>
     ensures { GivesEvent result (submission_of (words_of words.entry.rest.now)) }
 {
     let line = words.shown();
-    let (queue, entry, input) = words.three().ok_or(LineFault::SubmitWords(line))?;
+    let (queue, entry, input) = words.two_or_three().ok_or(LineFault::SubmitWords(line))?;
     let queue = queue_number(queue).ok_or(LineFault::Queue(Excerpt::of(queue)))?;
     let entry = <[u8; 64]>::from_hex(entry).map_err(|error| entry_error(error, entry.len()))?;
     let input = hex::decode(alloc, input).map_err(|error| data_error(error, input.len()))?;

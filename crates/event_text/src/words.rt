@@ -1,7 +1,7 @@
 //! The words of a line.
 
 ghost use Rattle.std.specs.Prelude.{◌≡◌, [], ◌∷◌, MatchOption, option_copied, option_map};
-ghost use Rattle.event_text.specs.Words.{words_of, one_of, two_of, three_of};
+ghost use Rattle.event_text.specs.Words.{words_of, one_of, two_of, two_or_three_of};
 
 use text_lines::{Excerpt, trim, trim_start, word};
 
@@ -63,8 +63,8 @@ impl<'a> Words<'a> {
 
     /// The two or three words that are left, if there are just so many. The third is empty where it
     /// is missing.
-    pub(crate) fn three(mut self) -> Option<(&'a [u8], &'a [u8], &'a [u8])>
-        ensures { option_map (λ words. (words.0.now, words.1.now, words.2.now)) result ≡ three_of (words_of self.entry.rest.now) }
+    pub(crate) fn two_or_three(mut self) -> Option<(&'a [u8], &'a [u8], &'a [u8])>
+        ensures { option_map (λ words. (words.0.now, words.1.now, words.2.now)) result ≡ two_or_three_of (words_of self.entry.rest.now) }
     {
         let first = self.next()?;
         let second = self.next()?;
