@@ -6,10 +6,11 @@ use Rattle.std.specs.Result.{result_err}
 use Rattle.std.proofs.lemmas.Bool.{ltb-true, ltb-false}
 use Rattle.std.proofs.lemmas.List.{append-nil, length-append}
 use Rattle.instruction_set.specs.declared.instruction.Instruction.{Instruction}
+use Rattle.program_interface.specs.Readings.{unless_fault}
 use Rattle.ebpf_asm.specs.declared.fault.Fault.{Fault}
 use Rattle.ebpf_asm.specs.declared.fault.FaultKind.{FaultKind}
 use Rattle.ebpf_asm.specs.Line.{Line, slots_in}
-use Rattle.ebpf_asm.specs.Assembly.{before_later, bytes_from, bytes_in_front, first_fault, is_twice, label_map, line_fault, lines_of, resolved, slot_count, told_first, unless_faulty}
+use Rattle.ebpf_asm.specs.Assembly.{before_later, bytes_from, bytes_in_front, first_fault, is_twice, label_map, line_fault, lines_of, resolved, slot_count, told_first}
 use Rattle.ebpf_asm.specs.LowestFault.{HaveNone, IsLowest, IsLowestFault, jump_fault, jump_fault_of, own_fault}
 use Rattle.ebpf_asm.specs.Laws.{FaultIsLowest}
 use Rattle.ebpf_asm.proofs.Passes.{slot_count-push}
@@ -148,7 +149,7 @@ module _ (all : List Line) where
       (omega (arith, n, length-append before (line ∷ []))) (omega (arith, s, slot_count-push before line))
       (below_pushed (jump_fault all) before line below here) behind)
 
-  lowest : (first : Option Fault) (fault : Fault) → first_fault [] all ≡ first → unless_faulty first (bytes_from (label_map all) 1 0 all) ≡ Err fault → IsLowestFault all fault
+  lowest : (first : Option Fault) (fault : Fault) → first_fault [] all ≡ first → unless_fault first (bytes_from (label_map all) 1 0 all) ≡ Err fault → IsLowestFault all fault
   lowest (Some told) fault is e =
       let same : told ≡ fault = told_is _ _ e in
       inl (own_lowest [] all fault refl (λ k h. absurd (omega (arith, h))) (is ∙ ap (λ (f : Fault). Some f) same))

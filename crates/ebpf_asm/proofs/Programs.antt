@@ -6,10 +6,11 @@ use Rattle.std.specs.Str.Lines.{lines}
 use Rattle.instruction_set.specs.declared.instruction.Instruction.{Instruction}
 use Rattle.instruction_set.specs.Program.{IsProgram, is_wide, slots_of, slots_taken}
 use Rattle.instruction_set.specs.Spelling.{Fits, spelling, program_bytes}
+use Rattle.program_interface.specs.Readings.{unless_fault}
 use Rattle.ebpf_asm.specs.declared.fault.Fault.{Fault}
 use Rattle.ebpf_asm.specs.declared.fault.FaultKind.{FaultKind}
 use Rattle.ebpf_asm.specs.Line.{Line, slots_in, slots_of_instruction}
-use Rattle.ebpf_asm.specs.Assembly.{LabelMap, before_later, bytes_from, bytes_in_front, first_fault, is_twice, label_map, line_fault, lines_of, resolved, slot_count, told_first, unless_faulty}
+use Rattle.ebpf_asm.specs.Assembly.{LabelMap, before_later, bytes_from, bytes_in_front, first_fault, is_twice, label_map, line_fault, lines_of, resolved, slot_count, told_first}
 use Rattle.ebpf_asm.specs.Laws.{AssembledIsProgram}
 use Rattle.ebpf_asm.proofs.Fitting.{Fills, LineFits, lines_fit, resolved_fits}
 use Rattle.ebpf_asm.proofs.Passes.{fits_if, slot_count-push}
@@ -78,7 +79,7 @@ spells labels number slot (line ∷ rest) bytes fits e =
 
 -- ---- the program
 
-no_fault : (fault : Option Fault) (read : Result (List ℕ) Fault) (bytes : List ℕ) → unless_faulty fault read ≡ Ok bytes → (fault ≡ None) × (read ≡ Ok bytes)
+no_fault : (fault : Option Fault) (read : Result (List ℕ) Fault) (bytes : List ℕ) → unless_fault fault read ≡ Ok bytes → (fault ≡ None) × (read ≡ Ok bytes)
 no_fault None read bytes e = (refl, e)
 no_fault (Some fault) read bytes e = absurd cc
 

@@ -17,13 +17,13 @@ use Rattle.instruction_set.specs.Spelling.{Fits, spelling, instructions_of, prog
 use Rattle.ebpf_asm.specs.declared.mnemonic.Mnemonic.{Mnemonic}
 use Rattle.ebpf_asm.specs.declared.fault.FaultKind.{FaultKind}
 use Rattle.ebpf_asm.specs.declared.fault.FaultKind.TheVariants.{UnknownMnemonic, NotAscii, TooLong}
-use Rattle.program_interface.specs.Readings.{◌>>=◌}
+use Rattle.program_interface.specs.Readings.{◌>>=◌, unless_fault}
 use Rattle.ebpf_asm.specs.Mnemonic.{mnemonic_text, mnemonic_named}
 use Rattle.ebpf_asm.specs.Operand.{source_of, short_of, long_of}
 use Rattle.text_lines.specs.Cut.{is_blank_byte, trimmed, uncommented, without_end_blanks}
 use Rattle.ebpf_asm.specs.Statement.{Statement, statement_of, statement_with, operands_of, one_of, two_of, three_of, none_of}
 use Rattle.ebpf_asm.specs.Line.{Line, line_of, line_in, labelled, behind_label, split_label, with_statement, slots_in}
-use Rattle.ebpf_asm.specs.Assembly.{LabelMap, lines_of, slot_count, first_fault, bytes_from, label_map, before_later, told_first, assembled, assembled_lines, unless_faulty}
+use Rattle.ebpf_asm.specs.Assembly.{LabelMap, lines_of, slot_count, first_fault, bytes_from, label_map, before_later, told_first, assembled, assembled_lines}
 use Rattle.ebpf_asm.specs.Listing.{mnemonic_of, operand_texts, operands_text, further_texts, text_of_instruction, line_text, listing, source_text}
 use Rattle.text_lines.proofs.Proved.{lines_are_cut}
 use Rattle.ebpf_decode.proofs.Proved.{instructions_of-slots_of}
@@ -262,7 +262,7 @@ lines_assemble instructions fits most =
     let good = all_listed instructions fits in
     let all : lines_of (flat_map line_text instructions) ≡ map line_with instructions = ap (map line_of) (lines_again instructions good) ∙ read_again instructions good in
     ap assembled_lines all
-    ∙ ap (λ f. unless_faulty f (bytes_from (label_map (map line_with instructions)) 1 0 (map line_with instructions))) (no_fault [] instructions (omega (arith, most, slots_counted instructions)))
+    ∙ ap (λ f. unless_fault f (bytes_from (label_map (map line_with instructions)) 1 0 (map line_with instructions))) (no_fault [] instructions (omega (arith, most, slots_counted instructions)))
     ∙ bytes_again (label_map (map line_with instructions)) 1 0 instructions
 
 pub listing_again : (slots : List (Option Instruction)) → IsProgram slots → assembled (listing slots) ≡ Ok (program_bytes slots)

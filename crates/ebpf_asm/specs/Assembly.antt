@@ -7,6 +7,7 @@ use Rattle.instruction_set.specs.declared.instruction.Instruction.{Instruction}
 use Rattle.instruction_set.specs.declared.instruction.Instruction.TheVariants.{Jump, JumpLong, Branch}
 use Rattle.instruction_set.specs.Spelling.{spelling}
 use Rattle.program_interface.specs.declared.TheConstants.{MOST_SLOTS}
+use Rattle.program_interface.specs.Readings.{unless_fault}
 use Rattle.ebpf_asm.specs.declared.fault.Fault.{Fault}
 use Rattle.ebpf_asm.specs.declared.fault.AssembleFault.{AssembleFault}
 use Rattle.ebpf_asm.specs.declared.fault.AssembleFault.TheVariants as errors
@@ -107,18 +108,13 @@ bytes_from labels number slot [] = Ok []
 bytes_from labels number slot (line ∷ rest) =
     bytes_in_front labels number slot line.instruction line.target (bytes_from labels (number + 1) (slot + slots_in line) rest)
 
--- the bytes, unless there is a fault
-abbrev pub unless_faulty : Option Fault → Result (List ℕ) Fault → Result (List ℕ) Fault
-unless_faulty (Some fault) bytes = Err fault
-unless_faulty None bytes = bytes
-
 -- the lines of a text, read
 abbrev pub lines_of : List ℕ → List Line
 lines_of text = map line_of (lines text)
 
 -- the bytes of the instructions of lines, or the first fault
 abbrev pub assembled_lines : List Line → Result (List ℕ) Fault
-assembled_lines all = unless_faulty (first_fault [] all) (bytes_from (label_map all) 1 0 all)
+assembled_lines all = unless_fault (first_fault [] all) (bytes_from (label_map all) 1 0 all)
 
 -- what a text gives: the bytes of its instructions, or the first fault
 abbrev pub assembled : List ℕ → Result (List ℕ) Fault

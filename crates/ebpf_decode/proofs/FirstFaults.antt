@@ -1,5 +1,6 @@
 -- What is refused is the first fault.
 use Rattle.std.proofs.Common.{◌≡◌, ℕ, suc, ◌+◌, ◌/◌, Bool, true, false, cond, find, option_map, List, [], ◌∷◌, ◌++◌, length, take, Option, Some, None, Result, Ok, Err, is_none, refl, sym, ap, ◌∙◌, append_assoc, arith, inl, inr}
+use Rattle.std.specs.Option.{ok_or}
 use Rattle.std.specs.Result.{result_map_both}
 use Rattle.std.specs.List.{AllByRecursion, flat_map, slice_get}
 use Rattle.ebpf_decode.specs.declared.fault.Fault.{Fault}
@@ -11,10 +12,11 @@ use Rattle.instruction_set.specs.declared.instruction.Instruction.{Instruction}
 use Rattle.instruction_set.specs.Program.{is_wide}
 use Rattle.instruction_set.specs.Spelling.{Fits, slots_spelled}
 use Rattle.program_interface.specs.Bytes.{AreBytes}
+use Rattle.program_interface.specs.Readings.{unless_fault}
 use Rattle.ebpf_decode.specs.FirstFault.{Begins, FindsFirst, IsFirstFault, IsOfSlot, IsTold, NoneFinds}
 use Rattle.ebpf_decode.specs.Laws.{FaultIsFirst}
 use Rattle.ebpf_decode.specs.Opcodes.{opcode_named}
-use Rattle.ebpf_decode.specs.Reading.{checks, instruction_with, length_checks, length_fault, read, read_named, read_slots, slots_at, then_read, unless, unless_length}
+use Rattle.ebpf_decode.specs.Reading.{checks, instruction_with, length_checks, length_fault, read, read_named, read_slots, slots_at, then_read, unless_length}
 use Rattle.ebpf_decode.proofs.SpelledAreRead.{read-again}
 use Rattle.ebpf_decode.proofs.Bytes.{slots-fields}
 use Rattle.ebpf_decode.proofs.FaultSlots.{fault_behind, same_slot, told_at}
@@ -60,7 +62,7 @@ err-same : (a b : FaultKind) → fails_by a ≡ fails_by b → a ≡ b
 err-same a b e = cc
 
 with-value : (tests : List (Bool × FaultKind)) (found : Option Instruction) (kind : FaultKind) (fault : Option FaultKind) → first_found tests ≡ fault
-    → unless fault found ≡ Err kind → FindsFirst kind (tests ++ (is_none found, kinds.Value) ∷ [])
+    → unless_fault fault (ok_or found kinds.Value) ≡ Err kind → FindsFirst kind (tests ++ (is_none found, kinds.Value) ∷ [])
 with-value tests found kind (Some told) is e =
     let same : told ≡ kind = err-same told kind e in
     let first = finds-first tests kind (is ∙ ap (λ k. Some k) same) in

@@ -2,11 +2,13 @@
 use Rattle.std.proofs.Common.{◌≡◌, FitsSigned, ℕ, ℤ, pos, ◌+◌, ◌*◌, ◌%◌, ◌/◌, ◌^◌, ◌<◌, Bool, true, false, not, ◌&&◌, ◌||◌, cond, eqb, ltb, List, [], ◌∷◌, Option, Some, None, Ok, is_none, find, option_map, refl, sym, ap, subst, ◌∙◌, arith}
 use Rattle.std.specs.Ordering.{int_eq}
 use Rattle.std.specs.Int.{w16, w32, cast_signed, cast_unsigned}
-use Rattle.std.specs.Option.{option_or}
+use Rattle.std.specs.Option.{ok_or, option_or}
 use Rattle.std.proofs.lemmas.Bool.{agree_below_at, and_parts, eqb-true, ltb-false, not-false, or_parts}
 use Rattle.std.proofs.lemmas.Bool.Decides.{Decides-int_eq}
 use Rattle.std.proofs.lemmas.Int.{ints, to_z-of_z}
 use Rattle.ebpf_decode.specs.declared.fault.FaultKind.{FaultKind}
+use Rattle.ebpf_decode.specs.declared.fault.FaultKind.TheVariants as kinds
+use Rattle.program_interface.specs.Readings.{unless_fault}
 use Rattle.instruction_set.specs.declared.fields.Fields.{Fields}
 use Rattle.instruction_set.specs.declared.instruction.Instruction.{Instruction}
 use Rattle.instruction_set.specs.declared.instruction.Instruction.TheVariants as instructions
@@ -25,7 +27,7 @@ use Rattle.instruction_set.specs.declared.operation.Width.TheVariants as widths
 use Rattle.instruction_set.specs.Codes.{extension_with, plain_operations, swap_size_with, variant_with, width_eq}
 use Rattle.ebpf_decode.specs.Opcodes.{opcode_named, uses}
 use Rattle.instruction_set.specs.Program.{is_wide}
-use Rattle.ebpf_decode.specs.Reading.{first_fault, has_more, has_no_register, has_unused, instruction_with, is_left_out, is_load_immediate, read, read_named, signed_move, source_of, unless}
+use Rattle.ebpf_decode.specs.Reading.{first_fault, has_more, has_no_register, has_unused, instruction_with, is_left_out, is_load_immediate, read, read_named, signed_move, source_of}
 use Rattle.instruction_set.specs.Spelling.{CALL, EXIT, Fits, HasValue, IMM, JA, LD, LDX, MEM, MEMSX, MOV, NEG, ST, STX, access_opcode, arithmetic_class, extension_offset, extension_width, first_slot, jump_class, kept_bits, operation_code, operation_offset, operation_opcode, relation_code, second_slot, signed_size_code, size_code, slot, swap_opcode}
 
 -- ---- opcodes
@@ -70,10 +72,10 @@ four false false true d p q r s e = absurd cc
 four false false false true p q r s e = absurd cc
 four false false false false p q r s e = (refl, refl, refl, refl)
 
-unless_ok : {X : Type 0} (fault : Option FaultKind) (found : Option X) (x : X) → unless fault found ≡ Ok x → (fault ≡ None) × (found ≡ Some x)
-unless_ok (Some kind) found x e = absurd cc
-unless_ok None (Some y) x e = (refl, cc)
-unless_ok None None x e = absurd cc
+found_without_fault : {X : Type 0} (fault : Option FaultKind) (found : Option X) (x : X) → unless_fault fault (ok_or found kinds.Value) ≡ Ok x → (fault ≡ None) × (found ≡ Some x)
+found_without_fault (Some kind) found x e = absurd cc
+found_without_fault None (Some y) x e = (refl, cc)
+found_without_fault None None x e = absurd cc
 
 zero_when : (used : Bool) (n : ℕ) → (not used && not (eqb n 0)) ≡ false → used ≡ false → n ≡ 0
 zero_when true n h e = absurd cc
@@ -274,7 +276,7 @@ read-named : (f : Fields) (next : Option Fields) (i : Instruction) (named : Opti
     → AreFields f → AreFieldsIn next → read_named named f next ≡ Ok i → IsTaken f next i
 read-named f next i None is fits others e = absurd cc
 read-named f next i (Some opcode) is fits others e =
-    let u = unless_ok (first_fault opcode f next) (instruction_with opcode f next) i e in
+    let u = found_without_fault (first_fault opcode f next) (instruction_with opcode f next) i e in
     let v = four (is_left_out opcode f) (is_load_immediate opcode && is_none next) (has_no_register (uses opcode) f) (has_unused (uses opcode) f || (is_load_immediate opcode && has_more next)) _ _ _ _ u.0 in
     let w = or_parts (has_unused (uses opcode) f) (is_load_immediate opcode && has_more next) v.3 in
     let used = is_used (uses opcode) f v.2 w.0 in

@@ -1,5 +1,6 @@
 -- What an instruction spells is read as the instruction again.
 use Rattle.std.proofs.Common.{◌≡◌, ℕ, pos, ◌+◌, ◌*◌, ◌%◌, ◌/◌, ◌^◌, ◌<◌, false, not, ◌&&◌, cond, Option, Some, None, Ok, is_none, refl, sym, ap, ◌∙◌, arith}
+use Rattle.std.specs.Option.{ok_or}
 use Rattle.std.specs.Ordering.{int_eq}
 use Rattle.std.specs.Int.{w32, cast_signed, cast_unsigned}
 use Rattle.std.proofs.lemmas.Bool.{and_right, le-ltb, or_from}
@@ -32,7 +33,9 @@ use Rattle.instruction_set.specs.Codes.{extension_with, swap_size_with, variant_
 use Rattle.instruction_set.specs.Codes.{has_variants}
 use Rattle.ebpf_decode.specs.Opcodes.{opcode_named, uses}
 use Rattle.instruction_set.specs.Program.{is_wide}
-use Rattle.ebpf_decode.specs.Reading.{first_fault, has_more, has_no_register, has_unused, instruction_with, is_left_out, is_load_immediate, read, read_named, unless}
+use Rattle.ebpf_decode.specs.declared.fault.FaultKind.TheVariants as kinds
+use Rattle.program_interface.specs.Readings.{unless_fault}
+use Rattle.ebpf_decode.specs.Reading.{first_fault, has_more, has_no_register, has_unused, instruction_with, is_left_out, is_load_immediate, read, read_named}
 use Rattle.instruction_set.specs.Spelling.{Fits, LDX, MEM, MEMSX, MOV, NEG, ST, STX, access_opcode, arithmetic_class, extension_offset, extension_width, first_slot, jump_class, kept_bits, operation_code, operation_offset, operation_opcode, relation_code, second_slot, signed_size_code, size_code, swap_opcode}
 
 -- ---- what the opcodes of instructions name
@@ -160,7 +163,8 @@ answered : (f : Fields) (next : Option Fields) (opcode : Opcode) (i : Instructio
 answered f next opcode i named dst src left_out cut unused more found =
     let registers : has_no_register (uses opcode) f ≡ false = no-register (uses opcode) f dst src in
     let fault : first_fault opcode f next ≡ None = rw (left_out, cut, registers, unused, more) refl in
-    ap (λ m. read_named m f next) named ∙ ap (λ k. unless k (instruction_with opcode f next)) fault ∙ ap (unless None) found
+    ap (λ m. read_named m f next) named ∙ ap (λ k. unless_fault k (ok_or (instruction_with opcode f next) kinds.Value)) fault
+    ∙ ap (λ instruction. ok_or instruction kinds.Value) found
 
 narrow : (i : Instruction) (next : Option Fields) (opcode : Opcode) → Fits i → opcode_named (first_slot i).opcode ≡ Some opcode
     → is_left_out opcode (first_slot i) ≡ false → is_load_immediate opcode ≡ false → has_unused (uses opcode) (first_slot i) ≡ false

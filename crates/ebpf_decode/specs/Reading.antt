@@ -26,6 +26,7 @@ use Rattle.instruction_set.specs.Codes.{extension_with, variant_with, swap_size_
 use Rattle.ebpf_decode.specs.Opcodes.{opcode_named, uses}
 use Rattle.instruction_set.specs.Program.{is_wide}
 use Rattle.program_interface.specs.declared.TheConstants.{MOST_SLOTS}
+use Rattle.program_interface.specs.Readings.{unless_fault}
 
 -- the fields of the slot at the front of bytes (RFC 9669, 3.1)
 abbrev pub fields_at : List ℕ → Fields
@@ -131,15 +132,11 @@ instruction_with opcode f next = option_or (load_or_store opcode f) (jump opcode
 
 -- ---- a slot, and all of them
 
--- what is found, unless there is a fault; where nothing is found, a field has a value that it cannot have
-abbrev pub unless : {X : Type 0} → Option FaultKind → Option X → Result X FaultKind
-unless (Some kind) found = Err kind
-unless None found = ok_or found kinds.Value
-
--- the instruction of an opcode, or its first fault; an opcode that names nothing is one
+-- the instruction of an opcode, or its first fault; an opcode that names nothing is one, and where no instruction is
+-- found, a field has a value that it cannot have
 abbrev pub read_named : Option Opcode → Fields → Option Fields → Result Instruction FaultKind
 read_named None f next = Err kinds.Opcode
-read_named (Some opcode) f next = unless (first_fault opcode f next) (instruction_with opcode f next)
+read_named (Some opcode) f next = unless_fault (first_fault opcode f next) (ok_or (instruction_with opcode f next) kinds.Value)
 
 -- the instruction of a slot, where the next slot is known, or its first fault
 abbrev pub read : Fields → Option Fields → Result Instruction FaultKind

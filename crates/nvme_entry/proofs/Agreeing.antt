@@ -2,8 +2,9 @@
 use Rattle.std.proofs.Common.{◌≡◌, ℕ, ◌==◌, List, [], ◌∷◌, Option, Some, None, slice_index, refl, ap, sym, subst, ◌∙◌}
 use Rattle.std.specs.Option.{ok_or}
 use Rattle.zone_state.specs.declared.status.TheConstants.Status.{INVALID_FIELD_IN_COMMAND, INVALID_NAMESPACE_OR_FORMAT}
+use Rattle.program_interface.specs.Readings.{unless_fault}
 use Rattle.zone_state.specs.Checks.{demand, first_failed}
-use Rattle.nvme_entry.specs.Entry.{asked, checked, command_of, decoded_by, entry_checks, fuse_of, namespace_identifier, opcode_of}
+use Rattle.nvme_entry.specs.Entry.{asked, command_of, decoded_by, entry_checks, fuse_of, namespace_identifier, opcode_of}
 use Rattle.nvme_entry.specs.EntryLaws.{OnlyNamedFieldsCount, Spells}
 use Rattle.nvme_entry.specs.declared.command.Command.{Command}
 use Rattle.nvme_entry.specs.declared.command.Opcode.{Opcode}
@@ -30,9 +31,9 @@ decoded_same : (found : Option Opcode) (e f : List ℕ) → opcode_of (slice_ind
     → ((c : Command) → (Spells e c → Spells f c) × (Spells f c → Spells e c)) → decoded_by found e ≡ decoded_by found f
 decoded_same None e f is too fuse namespace fields = refl
 decoded_same (Some o) e f is too fuse namespace fields =
-    ap (λ (n : ℕ). checked (first_failed (demand (n == 0) INVALID_FIELD_IN_COMMAND ∷ demand (namespace_identifier e == 1) INVALID_NAMESPACE_OR_FORMAT ∷ [])) (asked o e)) fuse
-    ∙ ap (λ (n : ℕ). checked (first_failed (demand (fuse_of f == 0) INVALID_FIELD_IN_COMMAND ∷ demand (n == 1) INVALID_NAMESPACE_OR_FORMAT ∷ [])) (asked o e)) namespace
-    ∙ ap (λ (c : Option Command). checked (first_failed (entry_checks f)) (ok_or c INVALID_FIELD_IN_COMMAND))
+    ap (λ (n : ℕ). unless_fault (first_failed (demand (n == 0) INVALID_FIELD_IN_COMMAND ∷ demand (namespace_identifier e == 1) INVALID_NAMESPACE_OR_FORMAT ∷ [])) (asked o e)) fuse
+    ∙ ap (λ (n : ℕ). unless_fault (first_failed (demand (fuse_of f == 0) INVALID_FIELD_IN_COMMAND ∷ demand (n == 1) INVALID_NAMESPACE_OR_FORMAT ∷ [])) (asked o e)) namespace
+    ∙ ap (λ (c : Option Command). unless_fault (first_failed (entry_checks f)) (ok_or c INVALID_FIELD_IN_COMMAND))
     (same_found (command_of o e) (command_of o f) (names_too o e f is too (λ c. (fields c).0)) (names_too o f e too is (λ c. (fields c).1)))
 
 pub only_named_fields_count : OnlyNamedFieldsCount

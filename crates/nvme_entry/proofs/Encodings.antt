@@ -5,9 +5,10 @@ use Rattle.std.specs.Int.{byte_at}
 use Rattle.byteorder.specs.Endian.{little_bytes, little_number}
 use Rattle.byteorder.specs.Numbers.{little_from-bytes, little_number-reads_back}
 use Rattle.zone_state.specs.declared.status.TheConstants.Status.{INVALID_FIELD_IN_COMMAND, INVALID_NAMESPACE_OR_FORMAT}
+use Rattle.program_interface.specs.Readings.{unless_fault}
 use Rattle.zone_state.specs.Checks.{demand, first_failed}
 use Rattle.nvme_entry.specs.steps.EntryFields.{HasFields}
-use Rattle.nvme_entry.specs.Entry.{asked, checked, decoded, decoded_by, fuse_of, identifier_of, namespace_identifier, opcode_of}
+use Rattle.nvme_entry.specs.Entry.{asked, decoded, decoded_by, fuse_of, identifier_of, namespace_identifier, opcode_of}
 use Rattle.nvme_entry.specs.declared.command.Opcode.{Opcode}
 use Rattle.nvme_entry.specs.declared.encoding.CommandDwords.{CommandDwords}
 
@@ -30,8 +31,8 @@ pub decoded_is : (entry : List ℕ) (opcode : Opcode) → opcode_of (slice_index
     → decoded entry ≡ asked opcode entry
 decoded_is entry opcode is_opcode is_fuse is_namespace =
     ap (λ (found : Option Opcode). decoded_by found entry) is_opcode
-    ∙ (ap (λ (n : ℕ). checked (first_failed (demand (n == 0) INVALID_FIELD_IN_COMMAND ∷ demand (namespace_identifier entry == 1) INVALID_NAMESPACE_OR_FORMAT ∷ [])) (asked opcode entry)) is_fuse
-    ∙ ap (λ (n : ℕ). checked (first_failed (demand (n == 1) INVALID_NAMESPACE_OR_FORMAT ∷ [])) (asked opcode entry)) is_namespace)
+    ∙ (ap (λ (n : ℕ). unless_fault (first_failed (demand (n == 0) INVALID_FIELD_IN_COMMAND ∷ demand (namespace_identifier entry == 1) INVALID_NAMESPACE_OR_FORMAT ∷ [])) (asked opcode entry)) is_fuse
+    ∙ ap (λ (n : ℕ). unless_fault (first_failed (demand (n == 1) INVALID_NAMESPACE_OR_FORMAT ∷ [])) (asked opcode entry)) is_namespace)
 
 -- each dword fits
 pub record AreDwords (d : CommandDwords) : Type 0 where

@@ -7,8 +7,9 @@ use Rattle.zone_state.specs.declared.action.Action.{Action}
 use Rattle.zone_state.specs.declared.status.Status.{Status}
 use Rattle.zone_state.specs.declared.status.TheConstants.Status.{INVALID_FIELD_IN_COMMAND, INVALID_NAMESPACE_OR_FORMAT}
 use Rattle.zone_state.specs.Transition.{action_of}
+use Rattle.program_interface.specs.Readings.{unless_fault}
 use Rattle.zone_state.specs.Checks.{demand, first_failed}
-use Rattle.nvme_entry.specs.Entry.{asked, asked_blocks, checked, command_of, decoded_by, dwords_of, fuse_of, namespace_identifier, opcode_of, starting_lba}
+use Rattle.nvme_entry.specs.Entry.{asked, asked_blocks, command_of, decoded_by, dwords_of, fuse_of, namespace_identifier, opcode_of, starting_lba}
 use Rattle.nvme_entry.specs.EntryLaws.{AsksFor, FieldsAreSpelled, SpelledEntriesAreDecoded, Spells}
 use Rattle.nvme_entry.specs.Fields.{dword, field}
 use Rattle.nvme_entry.specs.Filter.{filter_of}
@@ -123,7 +124,7 @@ spelled_by opcode.Result entry c is e =
     mapped (Spells entry) (λ (slot : ℕ). command.Result slot) (program_slot_of (dword entry 10)) c
     (λ slot told. let number = slot_told (dword entry 10) slot told in (is, number.0, number.1)) e
 
-past : (a b : Bool) (r : Result Command Status) (c : Command) → checked (first_failed (demand a INVALID_FIELD_IN_COMMAND ∷ demand b INVALID_NAMESPACE_OR_FORMAT ∷ [])) r ≡ Ok c
+past : (a b : Bool) (r : Result Command Status) (c : Command) → unless_fault (first_failed (demand a INVALID_FIELD_IN_COMMAND ∷ demand b INVALID_NAMESPACE_OR_FORMAT ∷ [])) r ≡ Ok c
     → (a ≡ true) × (b ≡ true) × (r ≡ Ok c)
 past true true r c e = (refl, refl, e)
 past true false r c e = absurd cc

@@ -1,6 +1,7 @@
 -- The fields of a submission queue entry and the command that they name.
 use Rattle.std.specs.Prelude.{ℕ, ◌+◌, ◌*◌, ◌%◌, ◌==◌, nat_le, List, [], ◌∷◌, Option, Some, None, Result, Err, if◌then◌else◌, slice_index}
 use Rattle.std.specs.Option.{ok_or, option_and_then, option_map}
+use Rattle.program_interface.specs.Readings.{unless_fault}
 use Rattle.zone_state.specs.declared.action.Action.{Action}
 use Rattle.zone_state.specs.declared.status.Status.{Status}
 use Rattle.zone_state.specs.declared.status.TheConstants.Status.{INVALID_COMMAND_OPCODE, INVALID_FIELD_IN_COMMAND, INVALID_NAMESPACE_OR_FORMAT}
@@ -113,15 +114,10 @@ asked opcode entry = ok_or (command_of opcode entry) INVALID_FIELD_IN_COMMAND
 abbrev pub entry_checks : List ℕ → List (Option Status)
 entry_checks entry = demand (fuse_of entry == 0) INVALID_FIELD_IN_COMMAND ∷ demand (namespace_identifier entry == 1) INVALID_NAMESPACE_OR_FORMAT ∷ []
 
--- what is asked for, where no check fails
-abbrev pub checked : Option Status → Result Command Status → Result Command Status
-checked None found = found
-checked (Some status) found = Err status
-
 -- the command of an entry with this opcode, which there is or isn't
 abbrev pub decoded_by : Option Opcode → List ℕ → Result Command Status
 decoded_by None entry = Err INVALID_COMMAND_OPCODE
-decoded_by (Some opcode) entry = checked (first_failed (entry_checks entry)) (asked opcode entry)
+decoded_by (Some opcode) entry = unless_fault (first_failed (entry_checks entry)) (asked opcode entry)
 
 -- the command of an entry, or the status of the first check that fails
 abbrev pub decoded : List ℕ → Result Command Status
