@@ -7,7 +7,8 @@ use Rattle.emit_append.specs.Need.{need}
 use Rattle.program_meaning.specs.BlockRun.{BlockRun, block_run_of}
 use Rattle.pushdown.specs.BlockRuns.{Task, block_runs_of, no_scratch}
 use Rattle.pushdown.specs.Outcome.{Turn, outcome}
-use Rattle.pushdown.proofs.Examples.{block_of, frame, loops, passes, sevens, sums, tells, traps, twice, waits}
+use Rattle.pushdown.specs.Pushdown.{no_turn}
+use Rattle.pushdown.proofs.Examples.{block_of, frame, loops, passes, sevens, sums, tells, traps, twice}
 
 -- a program over so many blocks from address 0 on
 abbrev task_of : List (Option Instruction) → ℕ → ℕ → Task
@@ -26,7 +27,7 @@ module _ (x y z : List ℕ) where
   abbrev idle : Task
   idle = task_of passes 0 3
 
-  pub passes_turns : outcome idle (x ∷ y ∷ z ∷ []) ≡ waits ∷ waits ∷ ends [] 0 0 no_scratch ∷ []
+  pub passes_turns : outcome idle (x ∷ y ∷ z ∷ []) ≡ no_turn ∷ no_turn ∷ ends [] 0 0 no_scratch ∷ []
   unfolding block_run_of
   passes_turns = refl
 
@@ -44,7 +45,7 @@ module _ where
   sevens_need = refl
 
   pub sevens_turns : outcome matching (replicate 52 (block_of 7))
-      ≡ replicate 51 waits ++ ends ((concat (replicate 51 frame) ++ 0 ∷ 0 ∷ []) ∷ (frame ++ replicate 502 0) ∷ []) 52 2 no_scratch ∷ []
+      ≡ replicate 51 no_turn ++ ends ((concat (replicate 51 frame) ++ 0 ∷ 0 ∷ []) ∷ (frame ++ replicate 502 0) ∷ []) 52 2 no_scratch ∷ []
   unfolding block_run_of
   sevens_turns = refl
 
@@ -55,13 +56,13 @@ module _ where
 
 -- ten blocks, of which three are read: the sum of their first bytes is the result
 pub sums_turns : outcome (task_of sums 0 10) (map block_of (1 ∷ 2 ∷ 3 ∷ 4 ∷ 5 ∷ 6 ∷ 7 ∷ 8 ∷ 9 ∷ 10 ∷ []))
-    ≡ waits ∷ waits ∷ ends [] 0 0 (6 ∷ replicate 1023 0) ∷ []
+    ≡ no_turn ∷ no_turn ∷ ends [] 0 0 (6 ∷ replicate 1023 0) ∷ []
 unfolding block_run_of
 sums_turns = refl
 
 -- frames are told, not groups: two of each block
 pub twice_turns : outcome (task_of twice 6 2) (block_of 4 ∷ block_of 5 ∷ [])
-    ≡ waits ∷ ends ((1 ∷ 0 ∷ 4 ∷ 1 ∷ 0 ∷ 4 ∷ 1 ∷ 0 ∷ 5 ∷ 1 ∷ 0 ∷ 5 ∷ replicate 500 0) ∷ []) 4 1 no_scratch ∷ []
+    ≡ no_turn ∷ ends ((1 ∷ 0 ∷ 4 ∷ 1 ∷ 0 ∷ 4 ∷ 1 ∷ 0 ∷ 5 ∷ 1 ∷ 0 ∷ 5 ∷ replicate 500 0) ∷ []) 4 1 no_scratch ∷ []
 unfolding block_run_of
 twice_turns = refl
 
@@ -82,7 +83,7 @@ module _ where
       ∷ replicate 8 0
 
   pub tells_turns : outcome telling (block_of 0 ∷ block_of 0 ∷ [])
-      ≡ waits ∷ ends ((told 2 0 ++ told 3 1 ++ replicate 444 0) ∷ []) 2 1 no_scratch ∷ []
+      ≡ no_turn ∷ ends ((told 2 0 ++ told 3 1 ++ replicate 444 0) ∷ []) 2 1 no_scratch ∷ []
   unfolding block_run_of
   tells_turns = refl
 
@@ -92,7 +93,7 @@ module _ where
   stopped slot cause = record { blocks = []; ending = Some (record { status = PROGRAM_TRAPPED; dw0 = slot; dw1 = cause; result = None }) }
 
   pub traps_turns : outcome (task_of traps 512 3) (block_of 1 ∷ block_of 1 ∷ block_of 9 ∷ [])
-      ≡ waits ∷ record { blocks = (0xfe ∷ 0x01 ∷ 1 ∷ replicate 509 0) ∷ []; ending = None } ∷ stopped 7 4 ∷ []
+      ≡ no_turn ∷ record { blocks = (0xfe ∷ 0x01 ∷ 1 ∷ replicate 509 0) ∷ []; ending = None } ∷ stopped 7 4 ∷ []
   unfolding block_run_of
   traps_turns = refl
 

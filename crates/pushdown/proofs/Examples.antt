@@ -6,15 +6,10 @@ use Rattle.instruction_set.specs.declared.instruction.Instruction.{Instruction}
 use Rattle.image_store.specs.Namespace.{ZoneBlocks, ZonedNamespace}
 use Rattle.pushdown.specs.Admission.{Loaded}
 use Rattle.pushdown.specs.BlockRuns.{no_scratch}
-use Rattle.pushdown.specs.Outcome.{Turn}
 
 -- a block that begins with this byte, the others zeros
 abbrev pub block_of : ℕ → List ℕ
 block_of byte = byte ∷ replicate 511 0
-
--- a turn that appends nothing, and after which the run goes on
-abbrev pub waits : Turn
-waits = record { blocks = []; ending = None }
 
 -- ---- programs
 
