@@ -13,7 +13,7 @@ use Rattle.word_domain.specs.Domain.{Operations}
 use Rattle.image_store.specs.Namespace.{zone_at}
 use Rattle.zns_commands.proofs.Proved.{grows_by_none, held_sources_keep_blocks, events_keep_shapes}
 use Rattle.nvme_entry.proofs.Proved.{demanded, passed}
-use Rattle.zone_resources.proofs.Proved.{users_name_zones}
+use Rattle.zone_resources.proofs.Proved.{there, users_name_zones}
 use Rattle.pushdown.specs.Admission.{Loaded, SameProgram}
 use Rattle.pushdown.specs.Laws.{EventsKeepForRuns, KeepsFor}
 use Rattle.pushdown.specs.Happenings.{happens, just_loaded, keeping, load_checks, slots_left}
@@ -22,7 +22,6 @@ use Rattle.pushdown.specs.State.{Place, State, in_use, place_at, program_at, sou
 use Rattle.device_events.specs.declared.event.Event.{Event}
 use Rattle.pushdown.proofs.Added.{added_grows, added_shape}
 use Rattle.pushdown.proofs.Changes.{after_event}
-use Rattle.pushdown.proofs.OthersEvents.{there}
 use Rattle.pushdown.proofs.Places.{not_true}
 
 -- ---- programs

@@ -1,9 +1,10 @@
 -- What events leave of a run that they are no turns of, and what its own turn leaves.
-use Rattle.std.proofs.Common.{◌≡◌, ◌≢◌, ℕ, zero, suc, ◌<◌, Bool, true, false, List, [], ◌∷◌, length, get_or, Option, Some, None, refl, ap, sym, subst, ◌∙◌, arith, get_or-set_other, get_or-set_same}
+use Rattle.std.proofs.Common.{◌≡◌, ◌≢◌, ℕ, ◌<◌, Bool, true, false, List, ◌∷◌, length, get_or, Option, Some, None, refl, ap, sym, subst, ◌∙◌, get_or-set_other, get_or-set_same}
 use Rattle.std.specs.Prelude.{is_none, position, nat_eq}
 use Rattle.std.proofs.lemmas.Bool.{eqb-false}
 use Rattle.std.proofs.lemmas.List.Quantifiers.{position-Some}
 use Rattle.word_domain.specs.Domain.{Operations}
+use Rattle.zone_resources.proofs.Proved.{there}
 use Rattle.pushdown.specs.EventReplies.{Happening}
 use Rattle.pushdown.specs.Laws.{ForeignLeavesTurns, TurnTakesFirst}
 use Rattle.pushdown.specs.Happenings.{admitted_place, happens, place_left, take_turn, turned, turned_at}
@@ -15,12 +16,6 @@ use Rattle.device_events.specs.declared.event.Event.TheVariants as event
 use Rattle.pushdown.proofs.Changes.{after_event, after_turn}
 
 -- ---- lists of places
-
--- an occupied place is one of the list
-pub there : {A : Type 0} (places : List (Option A)) (run : ℕ) (place : A) → get_or places run None ≡ Some place → run < length places
-there [] run place at = cc
-there (p ∷ ps) zero place at = omega arith
-there (p ∷ ps) (suc run) place at = let less = there ps run place at in omega (arith, less)
 
 -- a free run number is one of a place, which is empty
 pub free_within : (places : List (Option Place)) (free : ℕ) → position is_none places ≡ Some free → free < length places

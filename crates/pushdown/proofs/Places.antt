@@ -10,7 +10,7 @@ use Rattle.nvme_entry.specs.declared.command.RunCommand.{RunCommand}
 use Rattle.word_domain.specs.Domain.{Operations}
 use Rattle.image_store.specs.Namespace.{ZonedNamespace}
 use Rattle.nvme_entry.proofs.Proved.{passed, demanded}
-use Rattle.zone_resources.proofs.Proved.{users_name_zones}
+use Rattle.zone_resources.proofs.Proved.{there, users_name_zones}
 use Rattle.pushdown.specs.Admission.{admission_checks, destination_zone}
 use Rattle.pushdown.specs.EventReplies.{Submission}
 use Rattle.pushdown.specs.Happenings.{admitted_place, happens, place_left, turned, why_not_run}
@@ -18,7 +18,7 @@ use Rattle.pushdown.specs.Outcome.{Ending, Turn}
 use Rattle.pushdown.specs.State.{Place, State, destination_of, free_place, holds_at, new_state, place_at, program_at}
 use Rattle.device_events.specs.declared.event.Event.{Event}
 use Rattle.pushdown.proofs.Changes.{after_event, after_turn}
-use Rattle.pushdown.proofs.OthersEvents.{free_within, there}
+use Rattle.pushdown.proofs.OthersEvents.{free_within}
 
 pub record AreApart (places : List (Option Place)) : Type 0 where
   pub apart : (j k : ℕ) (p q : Place) → get_or places j None ≡ Some p → get_or places k None ≡ Some q

@@ -17,6 +17,7 @@ use Rattle.accepted_programs.specs.Laws.{AcceptedNeverTraps}
 use Rattle.program_meaning.specs.BlockRun.{BlockRun}
 use Rattle.zns_commands.specs.Effect.{success_effect}
 use Rattle.zns_commands.specs.Transfer.{transfer_checks}
+use Rattle.zone_resources.proofs.Proved.{there}
 use Rattle.pushdown.specs.Admission.{Loaded, admission_checks}
 use Rattle.pushdown.specs.BlockRuns.{Task, last_scratch}
 use Rattle.pushdown.specs.EventReplies.{Submission, completed}
@@ -34,7 +35,6 @@ use Rattle.pushdown.proofs.Changes.{after_event}
 use Rattle.pushdown.proofs.Headline.{pushdown}
 use Rattle.pushdown.proofs.KeptForRuns.{left_program}
 use Rattle.pushdown.proofs.Loads.{loading_is}
-use Rattle.pushdown.proofs.OthersEvents.{there}
 use Rattle.pushdown.proofs.Spelled.{decoded_has}
 use Rattle.pushdown.proofs.States.{reached_fine, runs_all_done, some_run}
 

@@ -2,12 +2,12 @@
 use Rattle.std.proofs.Common.{◌≡◌, ℕ, List, ◌∷◌, set, get_or, Option, Some, None, refl, ap, sym, subst, ◌∙◌, inl, inr, get_or-set_other, get_or-set_same}
 use Rattle.std.proofs.lemmas.Bool.Decides.{eqb_tells}
 use Rattle.image_store.specs.Namespace.{ZoneBlocks, ZonedNamespace, zone_at}
+use Rattle.zone_resources.proofs.Proved.{there}
 use Rattle.pushdown.specs.Laws.{RoomIn}
 use Rattle.pushdown.specs.Happenings.{added, place_left}
 use Rattle.pushdown.specs.Outcome.{Ending, Turn}
 use Rattle.pushdown.specs.State.{Place, State, place_at}
 use Rattle.pushdown.proofs.Added.{added_capacity, added_leaves}
-use Rattle.pushdown.proofs.OthersEvents.{there}
 use Rattle.pushdown.proofs.Places.{AreApart}
 use Rattle.pushdown.proofs.TurnsFit.{room_stays}
 

@@ -8,6 +8,7 @@ use Rattle.zone_resources.specs.declared.holds.Holds.{Holds}
 use Rattle.word_domain.specs.Domain.{Operations}
 use Rattle.image_store.specs.Namespace.{ZoneBlocks, ZonedNamespace, zone_at}
 use Rattle.zns_commands.proofs.Proved.{held_destinations_are_left}
+use Rattle.zone_resources.proofs.Proved.{there}
 use Rattle.pushdown.specs.Admission.{SameProgram}
 use Rattle.pushdown.specs.EventReplies.{Happening}
 use Rattle.pushdown.specs.Events.{Occurrence, state_after}
@@ -20,7 +21,7 @@ use Rattle.device_events.specs.declared.event.Event.{Event}
 use Rattle.device_events.specs.declared.event.Event.TheVariants as event
 use Rattle.pushdown.proofs.Added.{added_leaves, is_added}
 use Rattle.pushdown.proofs.Changes.{after_event}
-use Rattle.pushdown.proofs.OthersEvents.{foreign_event, not_own, there, turn_takes_first, turned_is}
+use Rattle.pushdown.proofs.OthersEvents.{foreign_event, not_own, turn_takes_first, turned_is}
 use Rattle.pushdown.proofs.KeptForRuns.{left_program}
 use Rattle.pushdown.proofs.Places.{AreApart, event_apart, held_at}
 

@@ -6,7 +6,8 @@ use Rattle.std.proofs.lemmas.List.{length-map, get_or-map}
 use Rattle.std.proofs.lemmas.List.Folds.{list_any_at}
 use Rattle.zone_resources.specs.Holds.{names}
 
-there : {A : Type 0} (users : List (Option A)) (number : ℕ) (user : A) → get_or users number None ≡ Some user → number < length users
+-- what is there is one of the list
+pub there : {A : Type 0} (users : List (Option A)) (number : ℕ) (user : A) → get_or users number None ≡ Some user → number < length users
 there [] number user at = cc
 there (x ∷ xs) zero user at = omega arith
 there (x ∷ xs) (suc number) user at = let less = there xs number user at in omega (arith, less)
