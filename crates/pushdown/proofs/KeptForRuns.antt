@@ -2,7 +2,7 @@
 use Rattle.std.proofs.Common.{◌≡◌, ◌≢◌, ℕ, zero, suc, Bool, true, List, [], ◌∷◌, map, set, get_or, Option, Some, None, refl, ap, sym, subst, ◌∙◌, get_or-set_other}
 use Rattle.std.specs.Prelude.{not}
 use Rattle.std.specs.List.{list_any}
-use Rattle.std.proofs.lemmas.Bool.{eq-eqb}
+use Rattle.std.proofs.lemmas.Bool.{eq-eqb, not-true}
 use Rattle.std.proofs.lemmas.List.Folds.{list_any_at}
 use Rattle.zone_state.specs.declared.status.TheConstants.Status.{PROGRAM_IN_USE}
 use Rattle.zone_resources.specs.Holds.{is_source, names}
@@ -22,7 +22,6 @@ use Rattle.pushdown.specs.State.{Place, State, in_use, place_at, program_at, sou
 use Rattle.device_events.specs.declared.event.Event.{Event}
 use Rattle.pushdown.proofs.Added.{added_grows, added_shape}
 use Rattle.pushdown.proofs.Changes.{after_event}
-use Rattle.pushdown.proofs.Places.{not_true}
 
 -- ---- programs
 
@@ -70,7 +69,7 @@ unchanged place s = record { source = grows_by_none (zone_at s.namespace place.s
 not_loaded : (s : State) (run : ℕ) (place : Place) (load : LoadCommand) (input : List ℕ) → place_at s run ≡ Some place
     → first_failed (load_checks s load input) ≡ None → place.slot ≢ load.slot
 not_loaded s run place load input at none same =
-    let free = not_true (in_use s load.slot) (demanded (not (in_use s load.slot)) PROGRAM_IN_USE (passed (load_checks s load input) 3 none)) in
+    let free = not-true (in_use s load.slot) (demanded (not (in_use s load.slot)) PROGRAM_IN_USE (passed (load_checks s load input) 3 none)) in
     let used : in_use s load.slot ≡ true = subst (λ (n : ℕ). list_any (uses n) s.places ≡ true) same (used_at s.places run place at) in
     cc
 

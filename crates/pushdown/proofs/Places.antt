@@ -2,6 +2,7 @@
 use Rattle.std.proofs.Common.{◌≡◌, ◌≢◌, ℕ, zero, suc, ◌<◌, Bool, true, false, List, length, set, map, get_or, replicate, Option, Some, None, refl, ap, sym, subst, ◌∙◌, inl, inr, get_or-set_other, get_or-set_same}
 use Rattle.std.specs.Prelude.{not, is_some}
 use Rattle.std.specs.List.{list_any}
+use Rattle.std.proofs.lemmas.Bool.{not-true}
 use Rattle.std.proofs.lemmas.Bool.Decides.{eqb_tells}
 use Rattle.zone_state.specs.declared.status.TheConstants.Status.{ZONE_HELD}
 use Rattle.zone_resources.specs.Holds.{is_destination, names}
@@ -82,10 +83,6 @@ left_older places run place later ending at = record {
 
 -- ---- a run that is admitted
 
-pub not_true : (b : Bool) → not b ≡ true → b ≡ false
-not_true true e = cc
-not_true false e = refl
-
 -- the destination of an admitted run is no other run's
 pub admitted_free : (sub : Submission) (s : State) (command : RunCommand) → why_not_run sub s command ≡ None
     → is_destination (holds_at s) (destination_zone s.namespace command) ≡ false
@@ -93,7 +90,7 @@ admitted_free sub s command none =
     let holds = holds_at s in
     let z = destination_zone s.namespace command in
     let checks = admission_checks s.namespace holds (is_some (free_place s)) (program_at s command.slot) command sub.input in
-    not_true (is_destination holds z) (demanded (not (is_destination holds z)) ZONE_HELD (passed checks 11 none))
+    not-true (is_destination holds z) (demanded (not (is_destination holds z)) ZONE_HELD (passed checks 11 none))
 
 -- a run to a zone that no other has
 module _ (places : List (Option Place)) (run : ℕ) (new : Place) (h : AreApart places) (inside : run < length places)
