@@ -1,6 +1,6 @@
 //! Files in memory. They tell which files were made, and the bytes of each.
 
-ghost use Rattle.std.specs.Prelude.{◌≡◌, List, [], ◌∷◌, ◌++◌, drop, Some, OnOk, OnErr, option_copied};
+ghost use Rattle.std.specs.Prelude.{◌≡◌, List, [], ◌∷◌, ◌++◌, drop, false, Some, OnOk, OnErr, option_copied, unwrap_or};
 ghost use Rattle.command_files.specs.Made.{Made};
 ghost use Rattle.command_files.specs.MemoryFiles.{bytes_named, last_named, made_of};
 
@@ -31,7 +31,9 @@ pub struct MemoryFiles {
 impl MemoryFiles {
     /// No files, and room for all.
     pub fn new(alloc: Global) -> MemoryFiles
-        ensures { made_of result.files.items ≡ [] }
+        ensures made { made_of result.files.items ≡ [] }
+        ensures room { result.room ≡ usize.MAX }
+        ensures healthy { result.fails ≡ false }
     {
         MemoryFiles {
             alloc,
@@ -48,7 +50,7 @@ impl MemoryFiles {
     /// Want of memory, which leaves the files as they were.
     pub fn put(&mut self, name: &str, bytes: &[u8]) -> Result<(), AllocError>
         ensures ok { OnOk result (made_of self.new.files.items ≡ made_of self.old.files.items ++ record { path = name.now; bytes = bytes.now } ∷ []) }
-        ensures err { OnErr result (made_of self.new.files.items ≡ made_of self.old.files.items) }
+        ensures err { OnErr result (self.new.files.items ≡ self.old.files.items) }
     {
         let file = NamedFile {
             name: String::from_str(self.alloc, name)?,
@@ -64,7 +66,8 @@ impl MemoryFiles {
     ///
     /// Want of memory, which leaves the files as they were.
     pub fn add(&mut self, name: &str, bytes: &[u8]) -> Result<(), AllocError>
-        ensures { OnErr result (made_of self.new.files.items ≡ made_of self.old.files.items) }
+        ensures ok { OnOk result (made_of self.new.files.items ≡ made_of self.old.files.items ++ record { path = name.now; bytes = unwrap_or (bytes_named self.old.files.items name.now) [] ++ bytes.now } ∷ []) }
+        ensures err { OnErr result (self.new.files.items ≡ self.old.files.items) }
     {
         let mut all = Vec::new(self.alloc);
         if let Some(before) = self.bytes(name) {
