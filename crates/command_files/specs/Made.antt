@@ -1,5 +1,5 @@
 -- The files that a command makes.
-use Rattle.std.specs.Prelude.{◌≡◌, ℕ, List, [], ◌∷◌, ◌++◌, ◌⊎◌, Option}
+use Rattle.std.specs.Prelude.{◌≡◌, ◌≢◌, ℕ, List, [], ◌∷◌, ◌++◌, ◌⊎◌, Option, IfSome}
 use Rattle.std.specs.Option.{option_map}
 
 -- a file with its name
@@ -19,3 +19,8 @@ pub record MakesOne (path : List ℕ) (before after : Option (List Made)) : Type
 -- none is made, or one with some name
 abbrev pub MakesAtMostOne : Option (List Made) → Option (List Made) → Type 0
 MakesAtMostOne before after = (after ≡ before) ⊎ ((path : List ℕ) × MakesOne path before after)
+
+-- the bytes of this name, where they are told, are these, and those of every other name are what they were
+pub record HasReplaced (path bytes : List ℕ) (before after : List ℕ → Option (List ℕ)) : Type 0 where
+  pub same : IfSome (after path) (λ told. told ≡ bytes)
+  pub others : (name : List ℕ) → name ≢ path → after name ≡ before name

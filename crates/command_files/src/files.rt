@@ -2,7 +2,7 @@
 
 ghost use Rattle.std.specs.Prelude.{◌≡◌, ℕ, List, [], ◌∷◌, IfOk, IfSome, OnOk, OnErr, Option, None};
 ghost use Rattle.std.specs.IoError.{error_kind};
-ghost use Rattle.command_files.specs.Made.{Made, then_made};
+ghost use Rattle.command_files.specs.Made.{Made, then_made, HasReplaced};
 ghost use Rattle.command_files.specs.UserTold.{told_of_file};
 ghost use Rattle.command_files.specs.declared.files.FileFault.TheVariants.{Memory};
 
@@ -55,7 +55,9 @@ pub trait Files {
     /// stand there.
     fn write(&mut self, path: &str, bytes: &[u8]) -> Result<(), FileFault>
         ensures ok { OnOk result (made self.new ≡ then_made (made self.old) path.now bytes.now) }
-        ensures err { OnErr result (made self.new ≡ made self.old) };
+        ensures err { OnErr result (made self.new ≡ made self.old) }
+        ensures replaced { OnOk result (HasReplaced path.now bytes.now (contents self.old) (contents self.new)) }
+        ensures kept { OnErr result (contents self.new ≡ contents self.old) };
 
     /// A file, from its first byte on.
     ///
@@ -76,6 +78,7 @@ pub trait Files {
     /// It can't be begun, or memory is wanting.
     fn begin(&mut self, path: &str) -> Result<Self::Writer, FileFault>
         ensures made { made self.new ≡ made self.old }
+        ensures contents { contents self.new ≡ contents self.old }
         ensures healthy { IfOk result (λ file. Self.Writer.failures file ≡ 0) }
         ensures empty { Self.Writer.tells → IfOk result (λ file. Self.Writer.taken file ≡ []) };
 
@@ -87,11 +90,14 @@ pub trait Files {
     /// the new one has its name and only its folder couldn't be brought to the disk.
     fn finish(&mut self, path: &str, file: Self::Writer) -> Result<(), FileFault>
         ensures ok { OnOk result (made self.new ≡ then_made (made self.old) path.now (Self.Writer.taken file)) }
-        ensures err { OnErr result (made self.new ≡ made self.old) };
+        ensures err { OnErr result (made self.new ≡ made self.old) }
+        ensures replaced { OnOk result (HasReplaced path.now (Self.Writer.taken file) (contents self.old) (contents self.new)) }
+        ensures kept { OnErr result (contents self.new ≡ contents self.old) };
 
     /// Forgets a file that was begun.
     fn discard(&mut self, file: Self::Writer)
-        ensures { made self.new ≡ made self.old };
+        ensures made { made self.new ≡ made self.old }
+        ensures contents { contents self.new ≡ contents self.old };
 }
 
 impl From<io::Error> for FileFault {

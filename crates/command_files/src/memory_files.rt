@@ -1,7 +1,7 @@
 //! Files in memory. They tell which files were made, and the bytes of each.
 
 ghost use Rattle.std.specs.Prelude.{◌≡◌, List, [], ◌∷◌, ◌++◌, drop, false, Some, OnOk, OnErr, option_copied, unwrap_or};
-ghost use Rattle.command_files.specs.Made.{Made};
+ghost use Rattle.command_files.specs.Made.{Made, HasReplaced};
 ghost use Rattle.command_files.specs.MemoryFiles.{bytes_named, last_named, made_of};
 
 use crate::files::{FileFault, Files};
@@ -50,6 +50,7 @@ impl MemoryFiles {
     /// Want of memory, which leaves the files as they were.
     pub fn put(&mut self, name: &str, bytes: &[u8]) -> Result<(), AllocError>
         ensures ok { OnOk result (made_of self.new.files.items ≡ made_of self.old.files.items ++ record { path = name.now; bytes = bytes.now } ∷ []) }
+        ensures contents { OnOk result (HasReplaced name.now bytes.now (bytes_named self.old.files.items) (bytes_named self.new.files.items)) }
         ensures err { OnErr result (self.new.files.items ≡ self.old.files.items) }
     {
         let file = NamedFile {
