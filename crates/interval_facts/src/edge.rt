@@ -22,7 +22,7 @@ fn edge(dst: Bounds, source: Bounds) -> Option<(Bounds, Bounds)>
     }
 }
 
-/// Destination = source.
+/// The bounds of both operands where destination and source are equal, or `None` where they can't be.
 fn keep_equal(dst: Bounds, source: Bounds) -> Option<(Bounds, Bounds)>
     ensures value { result ≡ equal dst source }
     ensures ordered { IfSome result OrderedPair }
@@ -54,7 +54,7 @@ fn remove(number: u64, bounds: Bounds) -> Bounds
     }
 }
 
-/// Destination not = source.
+/// The bounds of both operands where destination and source differ, or `None` where they can't.
 fn keep_different(dst: Bounds, source: Bounds) -> Option<(Bounds, Bounds)>
     requires dst { dst.low ≤ dst.high }
     requires source { source.low ≤ source.high }
@@ -71,7 +71,7 @@ fn keep_different(dst: Bounds, source: Bounds) -> Option<(Bounds, Bounds)>
     }
 }
 
-/// Destination < source.
+/// The bounds of both operands where the destination is less than the source, or `None` where it can't be.
 fn keep_less(dst: Bounds, source: Bounds) -> Option<(Bounds, Bounds)>
     requires dst { dst.low ≤ dst.high }
     requires source { source.low ≤ source.high }
@@ -92,7 +92,7 @@ fn keep_less(dst: Bounds, source: Bounds) -> Option<(Bounds, Bounds)>
     Some((below, above))
 }
 
-/// Destination <= source.
+/// The bounds of both operands where the destination is at most the source, or `None` where it can't be.
 fn keep_at_most(dst: Bounds, source: Bounds) -> Option<(Bounds, Bounds)>
     ensures value { result ≡ at_most dst source }
     ensures ordered { IfSome result OrderedPair }
