@@ -227,12 +227,14 @@ impl Geometry {
     }
 }
 
+/// Is the number from 1 to `most`?
 fn is_counted(n: u32, most: u32) -> bool
     ensures { result ≡ is_counted n most }
 {
     1 <= n && n <= most
 }
 
+/// Is the limit on open zones from 1 to that on active ones, and this at most the number of zones?
 fn are_limits(limits: Limits, zones: u32) -> bool
     ensures { result ≡ are_limits limits zones }
 {
