@@ -33,8 +33,8 @@ pub block_most : {s : Shape} → IsShape s → s.block ≤ LARGEST_BLOCK
 block_most = shapes.block_most
 
 -- and the blocks of a zone take no more than those of all zones may
-pub slot_room : {s : Shape} → IsShape s → s.capacity * s.block ≤ MOST_BYTES
-slot_room = shapes.slot_room
+pub zone_room_is_bounded : {s : Shape} → IsShape s → s.capacity * s.block ≤ MOST_BYTES
+zone_room_is_bounded = shapes.zone_room_is_bounded
 
 -- bytes are cut into as many blocks as are asked for,
 pub blocks_are_counted : (block count : ℕ) (bytes : List ℕ) → length (blocks_of block count bytes) ≡ count

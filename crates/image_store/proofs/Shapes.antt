@@ -26,8 +26,8 @@ pub block_most : {s : Shape} → IsShape s → s.block ≤ LARGEST_BLOCK
 block_most {s} known = (block_range s.block known.block_size).1
 
 -- what the blocks of a zone take at most
-pub slot_room : {s : Shape} → IsShape s → s.capacity * s.block ≤ MOST_BYTES
-slot_room {s} known =
+pub zone_room_is_bounded : {s : Shape} → IsShape s → s.capacity * s.block ≤ MOST_BYTES
+zone_room_is_bounded {s} known =
     let room = known.room in
     let one : 1 * (s.capacity * s.block) ≤ s.zones * (s.capacity * s.block) = mul-le-mul_right (s.capacity * s.block) known.zones_some in
     omega arith

@@ -212,7 +212,7 @@ impl Geometry {
     }
 
     /// Bytes that the blocks of one zone may take.
-    #[tactic(auto, using(crate::proofs::Shapes::slot_room))]
+    #[tactic(auto, using(crate::proofs::Shapes::zone_room_is_bounded))]
     pub fn zone_room(self) -> usize
         ensures { result ≡ self.capacity * self.block }
     {

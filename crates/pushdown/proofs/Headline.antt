@@ -14,7 +14,7 @@ use Rattle.program_meaning.specs.BlockRun.{BlockRun}
 use Rattle.word_domain.specs.Domain.{Operations}
 use Rattle.accepted_programs.specs.Laws.{AcceptedNeverTraps}
 use Rattle.image_store.specs.Namespace.{ZoneBlocks, ZonedNamespace, IsNamespace, no_zone, shape, zone_at}
-use Rattle.image_store.proofs.Proved.{slot_room, written_is_within}
+use Rattle.image_store.proofs.Proved.{written_is_within, zone_room_is_bounded}
 use Rattle.nvme_entry.proofs.Proved.{demanded, passed}
 use Rattle.pushdown.specs.Admission.{admission_checks, source_blocks, task_of}
 use Rattle.pushdown.specs.EventReplies.{Happening, Submission, plain}
@@ -181,7 +181,7 @@ module _ {D : Type 0} (operations : Operations D) (never : AcceptedNeverTraps op
       let room = (admitted_room operations never block given s command fine none).room in
       record {
         ending = whole.ending (some_run operations never block given s command fine none some);
-        frames = omega (arith, frames, product, slot_room shape);
+        frames = omega (arith, frames, product, zone_room_is_bounded shape);
         blocks = omega (arith, room, shape.capacity_most, shape.size_most);
       }
 
