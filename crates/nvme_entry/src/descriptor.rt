@@ -42,7 +42,8 @@ impl ZoneDescriptor {
         }
     }
 
-    /// The descriptor that the bytes spell. `None` where no zone's descriptor has them.
+    /// The descriptor that the bytes spell. `None` where they have another zone type, a code that no state has, or
+    /// attributes, information on them or reserved bits that aren't 0. Whether a zone can have these numbers isn't asked.
     pub fn decode(bytes: &[u8; DESCRIPTOR_BYTES]) -> Option<ZoneDescriptor>
         ensures spelled { IfSome result (λ found. bytes.now ≡ descriptor_bytes found) }
         ensures read_back { (zone : CountedZone) (lowest : ℕ) → zone.capacity < 2 ^ 64 → lowest + zone.written < 2 ^ 64 → bytes.now ≡ descriptor zone lowest → result ≡ Some (described zone lowest) }
