@@ -18,7 +18,7 @@ use Rattle.nvme_entry.specs.Fields.{field, dword}
 use Rattle.nvme_entry.specs.Filter.{filter_of}
 use Rattle.nvme_entry.specs.ProgramSlot.{program_slot_of}
 
--- Command Dword 0, bits 9:8: is the command part of a fused one? (NVMe Base 2.0, 3.3.3.1)
+-- Command Dword 0, bits 9:8: the number in FUSE, 0 for no part of a fused command (NVMe Base 2.0, 3.3.3.1)
 abbrev pub fuse_of : List ℕ → ℕ
 fuse_of entry = slice_index entry 1 % 4
 

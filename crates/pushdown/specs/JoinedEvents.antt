@@ -39,7 +39,7 @@ module _ {D : Type 0} (operations : Operations D) where
     pub replies : took (replies_to operations (occurrences ++ turn_events runs) old)
     pub none_left : lowest_run new ≡ None
 
--- the events of two lists that bytes can spell are so together
+-- two lists of events whose data is bytes are, joined, such a list
 abbrev pub EventsJoin : Type 0
 EventsJoin = (first later : List Occurrence) → AreEvents first → AreEvents later → AreEvents (first ++ later)
 

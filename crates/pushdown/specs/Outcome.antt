@@ -83,7 +83,7 @@ last_turn_by end.OutOfFuel block emitted run = trapped 0 9
 abbrev pub last_turn : ℕ → Emitted → BlockRun → Turn
 last_turn block emitted run = last_turn_by run.end block emitted run
 
--- the turns of these block runs, of which the last ends the run, after what was put out before
+-- the turns of these block runs, of which the last ends the run, after what was emitted before
 abbrev pub turns_after : ℕ → Emitted → List BlockRun → List Turn
 turns_after block emitted [] = []
 turns_after block emitted (run ∷ []) = last_turn block emitted run ∷ []
