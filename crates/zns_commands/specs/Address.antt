@@ -24,7 +24,7 @@ zone_number ns lba = (zone_block_in ns lba).zone
 abbrev pub zone_offset : ZonedNamespace → ℕ → ℕ
 zone_offset ns lba = (zone_block_in ns lba).offset
 
--- the logical block that a zone's next write goes to (ZNS 1.1, 2.1.1.2)
+-- the logical block that a zone's next write goes to (ZNS 1.1, 2.1.1.3)
 abbrev pub write_pointer : ZonedNamespace → ℕ → ℕ
 write_pointer ns z = z * ns.size + length (zone_at ns z).blocks
 
