@@ -3,7 +3,7 @@
 ghost use Rattle.std.proofs.Common.{◌∙◌, ap, append_assoc, rules};
 ghost use Rattle.std.specs.Prelude.{◌≡◌, ◌≤◌, ◌++◌, length, map};
 
-use programs::EMITTING;
+use example_programs::EMITTING;
 use runner::{Device, Event, NotTaken, Out, Reply};
 use scenes::{ALL_EMPTY, FOUR_ZONES, check_steps, check_zones, device_of};
 use std::alloc::Global;
@@ -18,7 +18,6 @@ mod admitting;
 mod draining;
 mod holds;
 mod loading;
-mod programs;
 mod refusing;
 mod running;
 mod scenes;

@@ -1,9 +1,9 @@
 //! Which runs are admitted.
 
-use super::programs::{MATCHING, RETURNING};
 use super::scenes::{FOUR_ZONES, Scene, TWELVE_ZONES, TWO_LONG_ZONES, play};
 use super::steps::Expected::{Done, DoneWith, Idle, Pending, Refused};
 use super::steps::{Case, Step};
+use example_programs::{MATCHING, RETURNING};
 use nvme_entry::Status;
 use std::test::Fail;
 

@@ -1,9 +1,9 @@
 //! Turns after the last event.
 
-use super::programs::{EMITTING, RETURNING};
 use super::scenes::{EIGHT_ZONES, Scene, TWELVE_ZONES, play};
 use super::steps::Expected::{Done, DoneWith, Pending};
 use super::steps::{Case, Step};
+use example_programs::{EMITTING, RETURNING};
 use std::test::Fail;
 
 /// A run of three blocks, and one of one block, without a turn.

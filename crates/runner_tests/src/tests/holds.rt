@@ -1,9 +1,9 @@
 //! What active runs keep from their zones.
 
-use super::programs::RETURNING;
 use super::scenes::{FOUR_ZONES, Scene, play};
 use super::steps::Expected::{Done, DoneWith, FaultRefused, Pending, Refused};
 use super::steps::{Case, Step};
+use example_programs::RETURNING;
 use nvme_entry::Status;
 use std::test::Fail;
 use zns_commands::FaultState;

@@ -1,9 +1,9 @@
 //! Programs that are loaded into slots.
 
-use super::programs::{ADDING, GROWING, MATCHING, RETURNING};
 use super::scenes::{ALL_EMPTY, FOUR_ZONES, Scene, play};
 use super::steps::Expected::{Done, Pending, ProgramRefused, Refused};
 use super::steps::{Case, Step};
+use example_programs::{ADDING, GROWING, MATCHING, RETURNING};
 use nvme_entry::Status;
 use std::test::Fail;
 

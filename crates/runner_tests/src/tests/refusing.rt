@@ -2,10 +2,10 @@
 
 ghost use Rattle.std.specs.Prelude.{◌≡◌, ◌+◌, ◌<◌, ◌≤◌, ◌^◌, length};
 
-use super::programs::EMITTING;
 use super::scenes::{EIGHT_ZONES, Zones, device_of};
 use super::steps::Step;
 use super::{Kept, room};
+use example_programs::EMITTING;
 use image_store::Buffer;
 use runner::{Device, Event, Out, Reply};
 use std::alloc::Global;

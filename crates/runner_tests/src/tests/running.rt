@@ -1,9 +1,9 @@
 //! Runs, turn by turn.
 
-use super::programs::{ADDING_THREE, GROWING, MATCHING, RETURNING};
 use super::scenes::{FOUR_ZONES, Scene, TWO_LONG_ZONES, play};
 use super::steps::Expected::{Done, DoneWith, Idle, Pending, Refused};
 use super::steps::{Case, Step};
+use example_programs::{ADDING_THREE, GROWING, MATCHING, RETURNING};
 use nvme_entry::Status;
 use std::test::Fail;
 

@@ -1,9 +1,9 @@
 //! Runs from and to zones of each state, and runs in each other's zones.
 
-use super::programs::{MATCHING, RETURNING};
 use super::scenes::{EIGHT_ZONES, FOUR_ZONES, Scene, Zones, play};
 use super::steps::Expected::{self, Done, DoneWith, FaultRefused, Faulted, Pending, Refused};
 use super::steps::{A_BLOCK, Case, Step};
+use example_programs::{MATCHING, RETURNING};
 use nvme_entry::Status;
 use std::test::Fail;
 use zns_commands::FaultState;

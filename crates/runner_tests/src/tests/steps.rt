@@ -3,9 +3,9 @@
 ghost use Rattle.std.specs.Prelude.{◌≤◌};
 ghost use Rattle.nvme_entry.specs.Encoding.{program_length};
 
-use super::programs::Text;
 use byteorder::{ByteOrder, LittleEndian};
 use ebpf_asm::assemble;
+use example_programs::Text;
 use nvme_entry::{
     BlockCount, Command, Completion, Entry, LoadCommand, ProgramSlot, RunCommand, StandardCommand,
     Status,

@@ -1,7 +1,7 @@
 //! What is refused over constants and over intervals.
 
-use super::programs::{BOUNDED, GROWING, INDEXED, INDEXED_TWO, MATCHING, RETURNING, TWO_FRAMES};
 use super::{program, sizes};
+use example_programs::{BOUNDED, GROWING, INDEXED, INDEXED_TWO, MATCHING, RETURNING, TWO_FRAMES};
 use interval_domain::{Constants, Intervals};
 use std::alloc::Global;
 use std::process::Abort;

@@ -1,9 +1,9 @@
 //! Accepted programs end the same with every check and over their superinstructions.
 
-use super::programs::{
+use super::{program, sizes};
+use example_programs::{
     ADDING_THREE, BOUNDED, GROWING, INDEXED, INDEXED_TWO, MATCHING, RETURNING, TWO_FRAMES, Text,
 };
-use super::{program, sizes};
 use interp::Machine;
 use interval_domain::Intervals;
 use program_interface::{BlockSize, CONTEXT_BYTES, Context, RunSizes, SCRATCH_BYTES};
