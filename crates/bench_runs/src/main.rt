@@ -17,8 +17,8 @@ use std::alloc::Global;
 use std::rt::{Env, Files};
 use std::{env, fs, io};
 use work::{
-    BLOCK, CACHED, MOST_BLOCKS, SOURCE, ZONE_SIZE, admission, appends, copies, events, fill,
-    load_filter, refusal, source_reads, whole_run,
+    BLOCK, CACHED, MOST_BLOCKS, SOURCE, ZONE_SIZE, admission, appends, cached_turns, copies,
+    events, fill, load_filter, refusal, source_reads, whole_run,
 };
 use zns_commands::{Geometry, Image, Limits, MOST_TRANSFER};
 
@@ -34,7 +34,8 @@ fn main(rt: HostRuntime) -> io::Result<()> {
             let rounds = number(&rounds)?;
             compare_turns(&rt, &mut large, &mut data, rounds)?;
             compare_appends(&rt, &mut large, &mut data, rounds)?;
-            compare_sizes(&rt, &mut small, &mut large, &mut data, rounds)
+            compare_admissions(&rt, &mut small, &mut large, &mut data, rounds)?;
+            compare_refusals(&rt, &mut small, &mut large, &mut data, rounds)
         }
         None => {
             let run = whole_run(&rt, rt.alloc(), &mut large, SOURCE, &mut data)?;
@@ -82,9 +83,7 @@ fn compare_turns(
     for _ in 0..rounds {
         turns = turns.min(whole_run(rt, rt.alloc(), device, SOURCE, data)?.turns);
         read = read.min(events(rt, device, &reads, data)?);
-        for _ in 0..SOURCE / CACHED {
-            cached = cached.min(whole_run(rt, rt.alloc(), device, CACHED, data)?.turns);
-        }
+        cached = cached.min(cached_turns(rt, rt.alloc(), device, data)?);
     }
     let blocks = u128::from(SOURCE);
     println!(rt; "{} ns a turn", turns / blocks)?;
@@ -126,8 +125,8 @@ fn compare_appends(
     Ok(())
 }
 
-/// Prints the best times of admitting and of refusing runs of two lengths on two images.
-fn compare_sizes(
+/// Prints the best times of admitting runs of two lengths on two images.
+fn compare_admissions(
     rt: &HostRuntime,
     small: &mut Device,
     large: &mut Device,
@@ -135,6 +134,7 @@ fn compare_sizes(
     rounds: u32,
 ) -> io::Result<()>
     requires { MOST_TRANSFER ≤ length data.old }
+    ensures { MOST_TRANSFER ≤ length data.new }
 {
     let alloc = rt.alloc();
     let (mut one, mut many, mut one_in_small) = (u128::MAX, u128::MAX, u128::MAX);
@@ -146,6 +146,20 @@ fn compare_sizes(
     println!(rt;
         "{one} ns to admit a run over one block, {many} ns over {SOURCE}, {one_in_small} ns on a small image"
     )?;
+    Ok(())
+}
+
+/// Prints the best times of refusing runs of two lengths on two images.
+fn compare_refusals(
+    rt: &HostRuntime,
+    small: &mut Device,
+    large: &mut Device,
+    data: &mut [u8],
+    rounds: u32,
+) -> io::Result<()>
+    requires { MOST_TRANSFER ≤ length data.old }
+{
+    let alloc = rt.alloc();
     let (mut one, mut many, mut one_in_small) = (u128::MAX, u128::MAX, u128::MAX);
     for _ in 0..rounds {
         one = one.min(refusal(rt, alloc, large, u64::from(SOURCE), 1, data)?);

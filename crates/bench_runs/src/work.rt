@@ -167,6 +167,27 @@ pub fn whole_run(
     }
 }
 
+/// The least nanoseconds of all turns of a run over [`CACHED`] blocks, of as many runs as go over [`SOURCE`] blocks.
+///
+/// # Errors
+///
+/// Those of [`whole_run`].
+pub fn cached_turns(
+    rt: &impl Clock,
+    alloc: Global,
+    device: &mut Device,
+    data: &mut [u8],
+) -> io::Result<u128>
+    requires { MOST_TRANSFER ≤ length data.old }
+    ensures { MOST_TRANSFER ≤ length data.new }
+{
+    let mut least = u128::MAX;
+    for _ in 0..SOURCE / CACHED {
+        least = least.min(whole_run(rt, alloc, device, CACHED, data)?.turns);
+    }
+    Ok(least)
+}
+
 /// The least nanoseconds of admitting a run over so many blocks, of a few times: the first meets cold caches.
 ///
 /// # Errors
@@ -189,6 +210,17 @@ pub fn admission(
     Ok(least)
 }
 
+/// Runs that are refused, over so many blocks from `unwritten` on, or from one of the 7 blocks behind it, none of which is
+/// written, to the zone whose lowest block is `to`.
+fn refused_runs(alloc: Global, unwritten: u64, blocks: u16, to: u64) -> io::Result<Vec<Event>> {
+    let mut orders = Vec::with_capacity(alloc, REFUSALS)?;
+    for number in 0..REFUSALS as u64 {
+        let lba = unwritten.saturating_add(number % 8);
+        orders.push(run(lba, blocks, to, Vec::new(alloc))?)?;
+    }
+    Ok(orders)
+}
+
 /// The nanoseconds of refusing a Run, whose blocks from one of a few on aren't written.
 ///
 /// # Errors
@@ -206,11 +238,7 @@ pub fn refusal(
     ensures { MOST_TRANSFER ≤ length data.new }
 {
     let lowest = u64::from(device.image().geometry().size());
-    let mut orders = Vec::with_capacity(alloc, REFUSALS)?;
-    for number in 0..REFUSALS as u64 {
-        let lba = unwritten.saturating_add(number % 8);
-        orders.push(run(lba, blocks, lowest, Vec::new(alloc))?)?;
-    }
+    let orders = refused_runs(alloc, unwritten, blocks, lowest)?;
     let begin = Instant::now(rt)?;
     let mut admitted = false;
     for order in &orders {
