@@ -207,6 +207,14 @@ pub(super) fn device_of(alloc: Global, shape: &Shape, zones: &str) -> Result<Dev
 
 /// Writes the bytes of an image.
 fn write_image(to: &mut Vec<u8>, shape: &Shape, zones: &str) -> Result<(), Fail> {
+    write_header(to, shape, zones)?;
+    for zone in zones.split(", ") {
+        write_zone_row(to, zone)?;
+    }
+    write_blocks(to, zones)
+}
+
+fn write_header(to: &mut Vec<u8>, shape: &Shape, zones: &str) -> Result<(), Fail> {
     to.extend_from_slice(&Version::Two.magic())?;
     for number in [
         BLOCK,
@@ -218,19 +226,19 @@ fn write_image(to: &mut Vec<u8>, shape: &Shape, zones: &str) -> Result<(), Fail>
     ] {
         to.extend_from_slice(&number.to_le_bytes())?;
     }
-    let mut total = 0u64;
-    for zone in zones.split(", ") {
-        total = total.wrapping_add(firsts_of(*to.allocator(), zone)?.len() as u64);
-    }
-    to.extend_from_slice(&total.to_le_bytes())?;
+    let blocks = blocks_in(*to.allocator(), zones)?;
+    to.extend_from_slice(&blocks.to_le_bytes())?;
     to.extend_from_slice(&[0; 24])?;
-    for zone in zones.split(", ") {
-        write_zone_row(to, zone)?;
-    }
-    for zone in zones.split(", ") {
-        write_blocks(to, zone)?;
-    }
     Ok(())
+}
+
+/// How many blocks these zones have.
+fn blocks_in(alloc: Global, zones: &str) -> Result<u64, Fail> {
+    let mut blocks = 0u64;
+    for zone in zones.split(", ") {
+        blocks = blocks.wrapping_add(firsts_of(alloc, zone)?.len() as u64);
+    }
+    Ok(blocks)
 }
 
 fn write_zone_row(to: &mut Vec<u8>, zone: &str) -> Result<(), Fail> {
@@ -241,7 +249,14 @@ fn write_zone_row(to: &mut Vec<u8>, zone: &str) -> Result<(), Fail> {
     Ok(())
 }
 
-fn write_blocks(to: &mut Vec<u8>, zone: &str) -> Result<(), Fail> {
+fn write_blocks(to: &mut Vec<u8>, zones: &str) -> Result<(), Fail> {
+    for zone in zones.split(", ") {
+        write_blocks_of(to, zone)?;
+    }
+    Ok(())
+}
+
+fn write_blocks_of(to: &mut Vec<u8>, zone: &str) -> Result<(), Fail> {
     for first in firsts_of(*to.allocator(), zone)?.iter() {
         to.push(*first)?;
         to.extend_from_slice(&[0; 511])?;
