@@ -8,7 +8,7 @@ use Rattle.zone_state.specs.State.{is_cleared}
 use Rattle.zone_state.specs.Zone.{CountedZone, after_write, IsZone}
 use Rattle.program_interface.specs.Bytes.{AreBytes}
 use Rattle.image_store.specs.Blocks.{as_blocks}
-use Rattle.image_store.specs.Geometry.{Shape, IsShape}
+use Rattle.image_store.specs.Geometry.{Shape, IsShape, zone_block_at}
 
 -- a zone: its state, and its written blocks from its lowest logical block on (ZNS 1.1, 2.1.1)
 pub record ZoneBlocks : Type 0 where
@@ -82,6 +82,10 @@ all_empty s = namespace_with s (replicate s.zones (record { state = Empty; block
 -- the shape of a namespace
 abbrev pub shape : ZonedNamespace → Shape
 shape ns = record { block = ns.block; zones = length ns.zones; size = ns.size; capacity = ns.capacity; limits = ns.limits }
+
+-- a written block, by its address
+abbrev pub block_at : ZonedNamespace → ℕ → List ℕ
+block_at ns lba = let at = zone_block_at ns.size lba in get_or (zone_at ns at.zone).blocks at.offset []
 
 -- what holds of each namespace that an image has: its shape is one that is accepted, each zone's
 -- state allows its written blocks, the open and active zones are within the limits, and each block is

@@ -1,4 +1,4 @@
-mod FollowingBlocks
+mod BlockParts
 mod EachBlock
 mod FittingZones
 mod GivenWay

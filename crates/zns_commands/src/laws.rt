@@ -2,7 +2,7 @@
 //! it ensures is the law.
 
 ghost use Rattle.zns_commands.specs.Held.{HeldCommandsAreRefused};
-ghost use Rattle.zns_commands.specs.Left.{BlocksFollowInZone, HeldDestinationsAreLeft, HeldSourcesKeepBlocks, OtherZonesAreLeft, ShapesAreKept};
+ghost use Rattle.zns_commands.specs.Left.{ConsecutiveBlocksAreAPart, HeldDestinationsAreLeft, HeldSourcesKeepBlocks, OtherZonesAreLeft, ShapesAreKept};
 ghost use Rattle.zns_commands.specs.SelectAll.{SelectAllIsEachAlone, SelectAllIsRefusedByHoldsAndLimits, TakenZonesMove};
 ghost use Rattle.zns_commands.specs.Laws.{AddedBlocksAreAppended, AddedBlocksKeepNamespacesSound, AppendedBlocksReadBack, EachBlockIsRead, EmptyIsNamespace, EventsKeepNamespaces, JustOneCase, RefusedCommandsChangeNothing, ReportsEveryZone, ReportsWhatMatches, WrittenBlocksReadBack};
 
@@ -83,9 +83,9 @@ pub fn shapes_are_kept()
     ensures { ShapesAreKept }
 {}
 
-/// Logical blocks that follow one another within a zone are blocks of the zone that do.
-pub fn blocks_follow_in_zone()
-    ensures { BlocksFollowInZone }
+/// Written blocks that follow one another in a zone are a part of the list of its blocks.
+pub fn consecutive_blocks_are_a_part()
+    ensures { ConsecutiveBlocksAreAPart }
 {}
 
 /// A Write, an Append or an action is refused on a zone that an active run appends to, and Reset and Offline on one
