@@ -1,8 +1,9 @@
 -- A program that is put into a slot that no run uses.
-use Rattle.std.proofs.Common.{◌≡◌, ◌≢◌, ℕ, zero, suc, ◌<◌, Bool, true, false, List, [], ◌∷◌, length, map, set, get_or, Option, Some, None, refl, ap, sym, subst, ◌∙◌, inl, inr, get_or-set_other, get_or-set_same}
+use Rattle.std.proofs.Common.{◌≡◌, ◌≢◌, ℕ, zero, suc, ◌<◌, Bool, false, List, [], ◌∷◌, length, map, set, get_or, Option, Some, None, refl, ap, sym, subst, ◌∙◌, inl, inr, get_or-set_other, get_or-set_same}
 use Rattle.std.specs.Prelude.{◌==◌, ◌||◌, not}
 use Rattle.std.specs.List.{list_any}
 use Rattle.std.proofs.lemmas.List.{map-set}
+use Rattle.std.proofs.lemmas.Bool.{eqb-false, not-true, or_parts}
 use Rattle.std.proofs.lemmas.Bool.Decides.{eqb_tells}
 use Rattle.zone_state.specs.declared.status.Status.{Status}
 use Rattle.zone_state.specs.declared.status.TheConstants.Status.{PROGRAM_IN_USE, SUCCESS}
@@ -31,20 +32,6 @@ use Rattle.runner.specs.declared.loaded_program.LoadedProgram.{LoadedProgram}
 
 -- ---- which slots are used
 
-either_false : (a b : Bool) → (a || b) ≡ false → (a ≡ false) × (b ≡ false)
-either_false true b e = cc
-either_false false b e = (refl, e)
-
-differ : (a b : ℕ) → (a == b) ≡ false → a ≢ b
-differ a b e = elim (eqb_tells a b) [
-  | inl same ↦ cc
-  | inr other ↦ other.1
-]
-
-not_true : (b : Bool) → not b ≡ true → b ≡ false
-not_true true e = cc
-not_true false e = refl
-
 pub used_is : (ns : ZonedNamespace) (slots : List (Option LoadedProgram)) (runs : List (Option ActiveRun)) (slot : ℕ)
     → in_use (device_state ns slots runs) slot ≡ list_any (uses_slot slot) runs
 used_is ns slots [] slot = refl
@@ -54,8 +41,8 @@ used_is ns slots (Some a ∷ runs) slot = ap (λ (b : Bool). (a.command.slot == 
 not_at : (runs : List (Option ActiveRun)) (slot k : ℕ) (a : ActiveRun) → list_any (uses_slot slot) runs ≡ false → get_or runs k None ≡ Some a → (a.command.slot == slot) ≡ false
 not_at [] slot k a none at = cc
 not_at (r ∷ runs) slot zero a none at =
-    sym (ap (uses_slot slot) at) ∙ (either_false (uses_slot slot r) (list_any (uses_slot slot) runs) none).0
-not_at (r ∷ runs) slot (suc k) a none at = not_at runs slot k a (either_false (uses_slot slot r) (list_any (uses_slot slot) runs) none).1 at
+    sym (ap (uses_slot slot) at) ∙ (or_parts (uses_slot slot r) (list_any (uses_slot slot) runs) none).0
+not_at (r ∷ runs) slot (suc k) a none at = not_at runs slot k a (or_parts (uses_slot slot r) (list_any (uses_slot slot) runs) none).1 at
 
 -- ---- what is seen of runs that don't use it
 
@@ -70,8 +57,8 @@ module _ (ns : ZonedNamespace) (slots : List (Option Loaded)) (slot : ℕ) (new 
   all_seen [] none = refl
   all_seen (None ∷ runs) none = ap (λ (places : List (Option Place)). None ∷ places) (all_seen runs none)
   all_seen (Some a ∷ runs) none =
-      let neither = either_false (a.command.slot == slot) (list_any (uses slot) (map (seen ns slots) runs)) none in
-      ap (λ (place : Place). Some place ∷ map (seen ns (set slots slot new)) runs) (seen_same a (differ a.command.slot slot neither.0))
+      let neither = or_parts (a.command.slot == slot) (list_any (uses slot) (map (seen ns slots) runs)) none in
+      ap (λ (place : Place). Some place ∷ map (seen ns (set slots slot new)) runs) (seen_same a (eqb-false a.command.slot slot neither.0))
       ∙ ap (λ (places : List (Option Place)). Some (place_of ns slots a) ∷ places) (all_seen runs neither.1)
 
 -- ---- the program is put there
@@ -83,7 +70,7 @@ module _ (ns : ZonedNamespace) (slots : List (Option LoadedProgram)) (runs : Lis
   s = device_state ns slots runs
 
   unused : in_use s load.slot ≡ false
-  unused = not_true (in_use s load.slot) (demanded (not (in_use s load.slot)) PROGRAM_IN_USE (passed (load_checks s load input) 3 loadable.checks))
+  unused = not-true (in_use s load.slot) (demanded (not (in_use s load.slot)) PROGRAM_IN_USE (passed (load_checks s load input) 3 loadable.checks))
 
   put : new.result ≡ no_scratch → device_state ns (set slots load.slot (Some new)) runs
       ≡ with_slot s load.slot (Some (just_loaded (program_of new.prepared) load.limit))
@@ -123,7 +110,7 @@ module _ (ns : ZonedNamespace) (slots : List (Option LoadedProgram)) (runs : Lis
     ];
     running = λ k a at.
         let was = ready.running k a at in
-        let other = differ a.command.slot load.slot (not_at runs load.slot k a (sym (used_is ns slots runs load.slot) ∙ unused) at) in
+        let other = eqb-false a.command.slot load.slot (not_at runs load.slot k a (sym (used_is ns slots runs load.slot) ∙ unused) at) in
         record {
           program = was.program;
           loaded = get_or-set_other slots load.slot a.command.slot (Some new) None other ∙ was.loaded;
