@@ -1,6 +1,6 @@
 //! Lines of command files and of replies, worked out by hand.
 
-use std::alloc::{AllocError, Global};
+use std::alloc::Global;
 use std::test::Fail;
 
 mod command_files;
@@ -11,14 +11,7 @@ fn text_of(alloc: Global, parts: &str) -> Result<String, Fail> {
     let mut text = String::new(alloc);
     for part in parts.split('|') {
         let (again, times) = part.split_once('*').unwrap_or((part, "1"));
-        push_times(&mut text, again, times.parse::<usize>()?)?;
+        text.push_str(again.repeat(alloc, times.parse::<usize>()?)?.as_str())?;
     }
     Ok(text)
-}
-
-fn push_times(text: &mut String, again: &str, times: usize) -> Result<(), AllocError> {
-    for _ in 0..times {
-        text.push_str(again)?;
-    }
-    Ok(())
 }

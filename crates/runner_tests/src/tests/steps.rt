@@ -11,7 +11,7 @@ use nvme_entry::{
     Status,
 };
 use runner::{Event, Reply};
-use std::alloc::{AllocError, Global};
+use std::alloc::Global;
 use std::test::Fail;
 use zns_commands::{FaultState, MOST_TRANSFER};
 use zone_state::Action;
@@ -288,14 +288,7 @@ pub(super) fn bytes_of(alloc: Global, bytes: &str) -> Result<Vec<u8>, Fail> {
     let mut digits = String::new(alloc);
     for word in bytes.split(' ') {
         let (part, times) = word.split_once('*').unwrap_or((word, "1"));
-        push_times(&mut digits, part, times.parse::<usize>()?)?;
+        digits.push_str(part.repeat(alloc, times.parse::<usize>()?)?.as_str())?;
     }
     Ok(hex::decode(alloc, digits.as_str())?)
-}
-
-fn push_times(text: &mut String, digits: &str, times: usize) -> Result<(), AllocError> {
-    for _ in 0..times {
-        text.push_str(digits)?;
-    }
-    Ok(())
 }
