@@ -167,14 +167,20 @@ fn bytes_of_hex(alloc: Global, digits: &str) -> Result<Vec<u8>, hex::FromHexErro
     hex::decode(alloc, digits)
 }
 
+/// The bytes that stand behind the lines of a text.
+fn told_bytes(alloc: Global, text: &str) -> Result<Vec<u8>, Fail> {
+    let mut bytes = Vec::new(alloc);
+    for line in text.lines() {
+        let (_, digits) = line.split_once(" ; ").ok_or("the bytes of each line")?;
+        bytes.extend_from_slice(&bytes_of_hex(alloc, digits)?)?;
+    }
+    Ok(bytes)
+}
+
 #[test]
 fn mnemonics_assemble_to_their_bytes(rt: HostRuntime) -> Result<(), Fail> {
     for text in [ARITHMETIC, JUMPS, MEMORY] {
-        let mut wanted = Vec::new(rt.alloc());
-        for line in text.lines() {
-            let (_, digits) = line.split_once(" ; ").ok_or("the bytes of each line")?;
-            wanted.extend_from_slice(&bytes_of_hex(rt.alloc(), digits)?)?;
-        }
+        let wanted = told_bytes(rt.alloc(), text)?;
         let bytes = assemble(rt.alloc(), text.as_bytes())?;
         assert_eq!(rt; bytes.as_slice(), wanted.as_slice());
     }

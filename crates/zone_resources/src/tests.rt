@@ -47,7 +47,7 @@ fn an_implicitly_opened_zone_gives_way(rt: HostRuntime) -> Result<(), Fail> {
     let active_full = Err(Status::TOO_MANY_ACTIVE_ZONES);
     let open_full = Err(Status::TOO_MANY_OPEN_ZONES);
 
-    let mut holds = Holds::none();
+    let holds = Holds::none();
     for (zones, told) in [
         ([implicit, implicit, empty, empty], Ok(Some(0))),
         ([closed, implicit, implicit, empty], active_full),
@@ -56,6 +56,19 @@ fn an_implicitly_opened_zone_gives_way(rt: HostRuntime) -> Result<(), Fail> {
     ] {
         assert_eq!(rt; answer(&zones, &holds, Wanted::OpenAndActive), told);
     }
+    assert_eq!(rt; Wanted::of(empty.state()), Some(Wanted::OpenAndActive));
+    Ok(())
+}
+
+#[test]
+fn an_implicitly_opened_zone_gives_way_to_an_active_one(rt: HostRuntime) -> Result<(), Fail> {
+    let implicit = zone(ZoneState::ImplicitlyOpened, 1)?;
+    let explicit = zone(ZoneState::ExplicitlyOpened, 1)?;
+    let closed = zone(ZoneState::Closed, 1)?;
+    let empty = zone(ZoneState::Empty, 0)?;
+    let open_full = Err(Status::TOO_MANY_OPEN_ZONES);
+
+    let mut holds = Holds::none();
     for (zones, told) in [
         ([implicit, closed, closed, empty], Ok(None)),
         ([implicit, implicit, closed, empty], Ok(Some(0))),
@@ -66,7 +79,6 @@ fn an_implicitly_opened_zone_gives_way(rt: HostRuntime) -> Result<(), Fail> {
     holds.destinations[RUNS - 1] = Some(0);
     let zones = [implicit, implicit, closed, empty];
     assert_eq!(rt; answer(&zones, &holds, Wanted::OpenOnly), Ok(Some(1)));
-    assert_eq!(rt; Wanted::of(empty.state()), Some(Wanted::OpenAndActive));
     Ok(())
 }
 

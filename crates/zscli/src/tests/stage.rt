@@ -253,9 +253,7 @@ fn has_text(printed: &[u8], text: &str) -> bool {
 fn joined(alloc: Global, parts: Parts) -> Result<Vec<u8>, AllocError> {
     let mut bytes = Vec::new(alloc);
     for (part, times) in parts {
-        for _ in 0..*times {
-            bytes.extend_from_slice(part)?;
-        }
+        bytes.extend_from_slice(&part.repeat(alloc, *times)?)?;
     }
     Ok(bytes)
 }
