@@ -92,10 +92,8 @@ pub(crate) fn append<'a, F: Files>(
 ) -> Result<Asked, Failure<'a>>
     ensures { F.made files.new ≡ F.made files.old }
 {
-    let lba = address(matches, LBA)?;
-    let (blocks, data) = data_blocks(matches, files)?;
-    let command = StandardCommand::Append { lba, blocks };
-    Ok(Asked::standard(command, data))
+    let (lba, blocks, data) = address_and_data(matches, files)?;
+    Ok(Asked::standard(StandardCommand::Append { lba, blocks }, data))
 }
 
 /// What the words of a `write` ask for.
@@ -105,10 +103,8 @@ pub(crate) fn write<'a, F: Files>(
 ) -> Result<Asked, Failure<'a>>
     ensures { F.made files.new ≡ F.made files.old }
 {
-    let lba = address(matches, LBA)?;
-    let (blocks, data) = data_blocks(matches, files)?;
-    let command = StandardCommand::Write { lba, blocks };
-    Ok(Asked::standard(command, data))
+    let (lba, blocks, data) = address_and_data(matches, files)?;
+    Ok(Asked::standard(StandardCommand::Write { lba, blocks }, data))
 }
 
 /// What the words of a `read` ask for.
@@ -119,16 +115,17 @@ pub(crate) fn read<'a>(alloc: Global, matches: &ArgMatches<'a>) -> Result<Asked,
     Ok(Asked::alone(alloc, command))
 }
 
-/// The blocks of the file that the words name, with their number.
-fn data_blocks<'a, F: Files>(
+/// The address that the words name, and the blocks of the file, with their number before them.
+fn address_and_data<'a, F: Files>(
     matches: &ArgMatches<'a>,
     files: &mut F,
-) -> Result<(BlockCount, Vec<u8>), Failure<'a>>
+) -> Result<(u64, BlockCount, Vec<u8>), Failure<'a>>
     ensures { F.made files.new ≡ F.made files.old }
 {
+    let lba = address(matches, LBA)?;
     let block = block_size(number(matches, BLOCK)?)?;
     let path = required(matches, DATA);
     let data = read_data(path, files)?;
     let blocks = whole_blocks(path, data.len(), block)?;
-    Ok((blocks, data))
+    Ok((lba, blocks, data))
 }
