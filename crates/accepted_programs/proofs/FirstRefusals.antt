@@ -1,5 +1,6 @@
 -- What is refused is the first failure, and what isn't fails nowhere.
 use Rattle.std.proofs.Common.{◌≡◌, ℕ, zero, suc, ◌<◌, ◌≤◌, ◌==◌, Bool, true, false, find, List, [], ◌∷◌, length, Option, Some, None, IsSome, refl, sym, ap, ◌∙◌, subst, arith, inl, inr}
+use Rattle.std.proofs.lemmas.Option.{same_Some}
 use Rattle.std.proofs.lemmas.Bool.{cases_lt, eqb-true, eqb-false}
 use Rattle.std.specs.Option.{option_map, option_or}
 use Rattle.instruction_set.specs.Program.{instruction_at}
@@ -35,11 +36,8 @@ numbered_again reasons.EmitAddress = refl
 numbered_again reasons.EmitLength = refl
 numbered_again reasons.EmitLimit = refl
 
-some_same : (a b : Reason) → Some a ≡ Some b → a ≡ b
-some_same a b e = cc
-
 same_number : (a b : Reason) → reason_number a ≡ reason_number b → a ≡ b
-same_number a b e = some_same a b (sym (numbered_again a) ∙ ap numbered e ∙ numbered_again b)
+same_number a b e = same_Some a b (sym (numbered_again a) ∙ ap numbered e ∙ numbered_again b)
 
 -- reasons whose numbers go up by one, from this one on
 abbrev AreFrom : ℕ → List Reason → Type 0
@@ -63,7 +61,7 @@ some_number reasons.EmitLimit = omega arith
 
 module _ (test : Reason → Bool) where
   found_here : (x : Reason) (xs : List Reason) (r : Reason) → test x ≡ true → find test (x ∷ xs) ≡ Some r → x ≡ r
-  found_here x xs r is e = let h : Some x ≡ Some r = rw is at e in some_same x r h
+  found_here x xs r is e = let h : Some x ≡ Some r = rw is at e in same_Some x r h
 
   found_later : (x : Reason) (xs : List Reason) (r : Reason) → test x ≡ false → find test (x ∷ xs) ≡ Some r → find test xs ≡ Some r
   found_later x xs r is e = rw is at e

@@ -1,5 +1,6 @@
 -- The fault that is told is that of the lowest line.
 use Rattle.std.proofs.Common.{◌≡◌, ℕ, zero, suc, ◌+◌, ◌<◌, ◌≤◌, Bool, true, false, ltb, List, [], ◌∷◌, ◌++◌, length, take, Option, Some, None, Result, Ok, Err, refl, sym, ap, ◌∙◌, append_assoc, subst, arith, inl, inr}
+use Rattle.std.proofs.lemmas.Option.{same_Some}
 use Rattle.std.specs.List.{slice_get}
 use Rattle.std.specs.Option.{option_and_then}
 use Rattle.std.specs.Result.{result_err}
@@ -15,9 +16,6 @@ use Rattle.ebpf_asm.specs.LowestFault.{HaveNone, IsLowest, IsLowestFault, jump_f
 use Rattle.ebpf_asm.specs.Laws.{FaultIsLowest}
 use Rattle.ebpf_asm.proofs.Passes.{slot_count-push}
 use Rattle.ebpf_asm.proofs.Programs.{none_told}
-
-some_is : {X : Type 0} (x y : X) → Some x ≡ Some y → x ≡ y
-some_is x y e = cc
 
 abbrev Refused : Fault → Result (List ℕ) Fault
 Refused fault = Err fault
@@ -76,7 +74,7 @@ module _ (all : List Line) where
       → own_fault all (length before) ≡ kind → told_first (length before + 1) kind later ≡ Some fault
       → (own_fault all (length before) ≡ None → later ≡ Some fault → IsLowest (own_fault all) fault) → IsLowest (own_fault all) fault
   own_told before rest line fault (Some kind) later are below here e more =
-      let told : record { line = length before + 1; kind = kind } ≡ fault = some_is _ _ e in
+      let told : record { line = length before + 1; kind = kind } ≡ fault = same_Some _ _ e in
       record {
         index = length before;
         number = sym (ap (λ (f : Fault). f.line) told);

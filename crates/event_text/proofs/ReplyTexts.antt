@@ -1,5 +1,6 @@
 -- The words of a reply's line tell the reply and its data.
 use Rattle.std.proofs.Common.{◌≡◌, ℕ, ◌^◌, ◌<◌, if◌then◌else◌, List, [], ◌∷◌, ◌++◌, length, Option, Some, None, Ok, refl, ap, sym, ◌∙◌, codes, append_assoc, arith}
+use Rattle.std.proofs.lemmas.Option.{same_Some}
 use Rattle.std.specs.Fmt.{decimal}
 use Rattle.std.specs.Option.{option_and_then, option_map}
 use Rattle.std.specs.Result.{result_ok}
@@ -91,9 +92,6 @@ told_again FaultTaken bytes is = ap told_by (word_last (codes "done") (omega ari
 told_again FaultRefused bytes is =
     ap told_by (word_last (codes "refused") (omega arith) (unblank (codes "refused") (spelled_in_word (codes "refused") refl))) ∙ ap Some (alone FaultRefused bytes is.told)
 
-same : {X : Type 0} (x y : X) → Some x ≡ Some y → x ≡ y
-same x y e = cc
-
 pub lines_tell_replies : LinesTellReplies
 lines_tell_replies a b is_a is_b e =
-    same a b (sym (told_again a.reply a.bytes is_a) ∙ ap (λ (text : List ℕ). told_by (words_of text)) e ∙ told_again b.reply b.bytes is_b)
+    same_Some a b (sym (told_again a.reply a.bytes is_a) ∙ ap (λ (text : List ℕ). told_by (words_of text)) e ∙ told_again b.reply b.bytes is_b)

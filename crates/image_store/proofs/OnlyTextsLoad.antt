@@ -1,5 +1,6 @@
 -- What is read as a namespace is a text of that namespace.
 use Rattle.std.proofs.Common.{◌≡◌, ℕ, ◌+◌, ◌*◌, ◌<◌, ◌≤◌, zero, suc, Bool, true, false, cond, List, [], ◌∷◌, ◌++◌, length, get_or, map, take, drop, Option, Some, None, Ok, refl, ap, sym, subst, ◌∙◌, append_assoc, arith, length-drop}
+use Rattle.std.proofs.lemmas.Option.{same_Some}
 use Rattle.std.proofs.lemmas.Bool.{eqb-true}
 use Rattle.std.proofs.lemmas.List.{append-nil, drop_all, length-map, length-take-le, nil_from_length, take_all, take-append-drop}
 use Rattle.std.proofs.Math.Nat.{suc-mul}
@@ -73,15 +74,12 @@ header_counted One s total zs done e = refl
 header_counted Two s total zs done e =
     ap (header Two s) (eqb-true total (written_blocks zs) (chosen (total == written_blocks zs) tt done (fault.Total total (written_blocks zs)) e).0)
 
-some_is : (x y : ZoneState) → Some x ≡ Some y → x ≡ y
-some_is x y e = cc
-
 -- a state that is found has the code
 found : (xs : List ZoneState) (n : ℕ) (s : ZoneState) → find (λ x. code_of x == n) xs ≡ Some s → code_of s ≡ n
 found [] n s e = absurd cc
 found (x ∷ xs) n s e =
     let P : Bool → Type 0 = λ test. (code_of x == n) ≡ test → cond test (Some x) (find (λ y. code_of y == n) xs) ≡ Some s → code_of s ≡ n in
-    elim (code_of x == n) as P [ true ↦ λ here same. ap code_of (sym (some_is x s same)) ∙ eqb-true (code_of x) n here | false ↦ λ here later. found xs n s later ] refl e
+    elim (code_of x == n) as P [ true ↦ λ here same. ap code_of (sym (same_Some x s same)) ∙ eqb-true (code_of x) n here | false ↦ λ here later. found xs n s later ] refl e
 
 zone_told_only : (zone code : ℕ) (told : Option ZoneState) (written capacity : ℕ) (z : CountedZone) → zone_told zone code told written capacity ≡ Ok z
     → (told ≡ Some z.state) × (z.written ≡ written) × (z.capacity ≡ capacity)

@@ -1,5 +1,6 @@
 -- Entries that agree in what is named for their opcode are decoded alike.
 use Rattle.std.proofs.Common.{◌≡◌, ℕ, ◌==◌, List, [], ◌∷◌, Option, Some, None, slice_index, refl, ap, sym, subst, ◌∙◌}
+use Rattle.std.proofs.lemmas.Option.{same_Some}
 use Rattle.std.specs.Option.{ok_or}
 use Rattle.zone_state.specs.declared.status.TheConstants.Status.{INVALID_FIELD_IN_COMMAND, INVALID_NAMESPACE_OR_FORMAT}
 use Rattle.program_interface.specs.Readings.{unless_fault}
@@ -16,15 +17,12 @@ same_found (Some c) b there back = sym (there c refl)
 same_found None (Some d) there back = back d refl
 same_found None None there back = refl
 
-one_opcode : (a b : Opcode) → Some a ≡ Some b → a ≡ b
-one_opcode a b e = cc
-
 -- where the entry spells what another does, its fields name what the other's do
 names_too : (o : Opcode) (e f : List ℕ) → opcode_of (slice_index e 0) ≡ Some o → opcode_of (slice_index f 0) ≡ Some o → ((c : Command) → Spells e c → Spells f c)
     → (c : Command) → command_of o e ≡ Some c → command_of o f ≡ Some c
 names_too o e f is too spells c named =
     let names = named_by c f (spells c (spelled_by o e c (code_told (slice_index e 0) o is) named)) in
-    let same : names.named ≡ o = one_opcode names.named o (sym names.is ∙ too) in
+    let same : names.named ≡ o = same_Some names.named o (sym names.is ∙ too) in
     subst (λ (x : Opcode). command_of x f ≡ Some c) same names.command
 
 decoded_same : (found : Option Opcode) (e f : List ℕ) → opcode_of (slice_index e 0) ≡ found → opcode_of (slice_index f 0) ≡ found → fuse_of e ≡ fuse_of f → namespace_identifier e ≡ namespace_identifier f

@@ -1,5 +1,6 @@
 -- The bytes of a zone's descriptor tell its fields.
 use Rattle.std.proofs.Common.{◌≡◌, ℕ, ◌+◌, ◌/◌, ◌%◌, ◌^◌, ◌<◌, List, drop, refl, sym, ap, ◌∙◌, arith, Bool, true, false, cond, nat_eq, Option, Some, None}
+use Rattle.std.proofs.lemmas.Option.{same_Some}
 use lib.Pointwise.{pointwise, bytes_decides}
 use Rattle.byteorder.specs.Numbers.{little_number-reads_back}
 use Rattle.zone_state.specs.State.{state_of}
@@ -10,7 +11,7 @@ use Rattle.nvme_entry.specs.Report.{descriptor}
 use Rattle.nvme_entry.specs.declared.descriptor.ZoneDescriptor.{ZoneDescriptor}
 use Rattle.nvme_entry.specs.Descriptor.{has_write_pointer, described, descriptor_bytes, first_word}
 use Rattle.nvme_entry.specs.steps.DescriptorFields.{descriptor_in, word_in}
-use Rattle.nvme_entry.proofs.CompletionFields.{false_is_not_true, some_is_one}
+use Rattle.nvme_entry.proofs.CompletionFields.{false_is_not_true}
 
 state_told : (state : ZoneState) → state_of (first_word state / 2 ^ 12 % 2 ^ 4) ≡ Some state
 state_told Empty = refl
@@ -60,6 +61,6 @@ pub no_other_is_read : (bytes again : List ℕ) (read : ZoneDescriptor) → Some
     → (zone : CountedZone) (lowest : ℕ) → zone.capacity < 2 ^ 64 → lowest + zone.written < 2 ^ 64 → bytes ≡ descriptor zone lowest → None ≡ Some (described zone lowest)
 unfolding descriptor
 no_other_is_read bytes again read told spelled differ zone lowest capacity written is =
-    let one : read ≡ described zone lowest = some_is_one read (described zone lowest) (is_read_back bytes (Some read) told zone lowest capacity written is) in
+    let one : read ≡ described zone lowest = same_Some read (described zone lowest) (is_read_back bytes (Some read) told zone lowest capacity written is) in
     let equal : again ≡ bytes = spelled ∙ ap descriptor_bytes one ∙ sym is in
     absurd (false_is_not_true (sym differ ∙ (bytes_decides again bytes).1 equal))

@@ -87,12 +87,12 @@ pub record IsWithin (zones : List CountedZone) (limits : Limits) : Type 0 where
 -- one that was admitted is in its new state
 abbrev pub AdmissionKeepsLimits : Type 0
 AdmissionKeepsLimits =
-    (zones : List CountedZone) (limits : Limits) (holds : Holds) (wanted : Wanted) (closing : Option ℕ)
-    → IsWithin zones limits → admission zones limits holds wanted ≡ Ok closing
-    → IsWithin (after_closing closing zones) limits
+    (zones : List CountedZone) (limits : Limits) (holds : Holds) (wanted : Wanted) (to_close : Option ℕ)
+    → IsWithin zones limits → admission zones limits holds wanted ≡ Ok to_close
+    → IsWithin (after_closing to_close zones) limits
     × ((number : ℕ) (was is : CountedZone)
     → slice_get zones number ≡ Some was → wanted_of was.state ≡ Some wanted
-    → IsWithin (slice_set (after_closing closing zones) number is) limits)
+    → IsWithin (slice_set (after_closing to_close zones) number is) limits)
 
 -- a zone of the first state holds no resource that one of the second doesn't hold
 pub record HoldsNoMore (is was : ZoneState) : Type 0 where
