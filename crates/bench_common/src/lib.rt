@@ -4,7 +4,7 @@
 
 use ebpf_decode::decode;
 use interval_domain::Intervals;
-use program_interface::{BlockSize, LARGEST_BLOCK, RunSizes};
+use program_interface::{BlockSize, RunSizes};
 use std::alloc::Global;
 use std::env::Args;
 use std::fmt::Display;
@@ -40,11 +40,14 @@ pub fn told<D: Display + Drop>(alloc: Global, fault: D) -> io::Error {
 ///
 /// # Errors
 ///
-/// The word spells none of 32 bits.
-pub fn number(word: &str) -> io::Result<u32> {
+/// The word spells none of 32 bits, or memory is wanting.
+pub fn number(alloc: Global, word: &str) -> io::Result<u32> {
     match word.parse::<u32>() {
         Ok(number) => Ok(number),
-        Err(_) => Err(io::Error::other("a number is expected")),
+        Err(_) => {
+            let words = format!(in alloc; "`{word}` is not a number of 32 bits")?;
+            Err(io::Error::other(words.as_str()))
+        }
     }
 }
 
@@ -52,20 +55,18 @@ pub fn number(word: &str) -> io::Result<u32> {
 ///
 /// # Errors
 ///
-/// A word lacks, or is no number where one is due; a file can't be read; or no block has the second one's length.
+/// A word lacks, or is no number where one is due; a file can't be read; no block has the second one's length; or memory is
+/// wanting.
 pub fn read_words<R: Files + AllocGlobal>(rt: &R, words: &mut Args) -> io::Result<Timed> {
     let program = words.next().ok_or(io::Error::other("no program"))?;
-    let block = words.next().ok_or(io::Error::other("no block"))?;
-    let rounds = number(&words.next().ok_or(io::Error::other("no rounds"))?)?;
-    let repeats = number(&words.next().ok_or(io::Error::other("no repeats"))?)?;
+    let file = words.next().ok_or(io::Error::other("no block"))?;
+    let rounds = words.next().ok_or(io::Error::other("no rounds"))?;
+    let rounds = number(rt.alloc(), &rounds)?;
+    let repeats = words.next().ok_or(io::Error::other("no repeats"))?;
+    let repeats = number(rt.alloc(), &repeats)?;
     let program = fs::read(rt, &program)?;
-    let block = fs::read(rt, &block)?;
-    if block.len() > LARGEST_BLOCK {
-        return Err(io::Error::other("the block is too long"));
-    }
-    let Some(size) = BlockSize::new(block.len() as u32) else {
-        return Err(io::Error::other("that is the size of no block"));
-    };
+    let block = fs::read(rt, &file)?;
+    let size = size_as_block(rt.alloc(), &file, block.len())?;
     Ok(Timed {
         program,
         block,
@@ -73,6 +74,19 @@ pub fn read_words<R: Files + AllocGlobal>(rt: &R, words: &mut Args) -> io::Resul
         rounds,
         repeats,
     })
+}
+
+/// The size of the block that a file of so many bytes is.
+fn size_as_block(alloc: Global, file: &str, bytes: usize) -> io::Result<BlockSize> {
+    match u32::try_from(bytes).ok().and_then(BlockSize::new) {
+        Some(size) => Ok(size),
+        None => {
+            let words = format!(in alloc;
+                "`{file}` has {bytes} bytes, which is the size of no block"
+            )?;
+            Err(io::Error::other(words.as_str()))
+        }
+    }
 }
 
 /// Decodes and verifies a program for runs of these sizes.

@@ -36,7 +36,7 @@ fn main(rt: HostRuntime) -> io::Result<()> {
     args.next();
     let asked = read_words(&rt, &mut args)?;
     let Some(sizes) = RunSizes::new(asked.size, 0) else {
-        return Err(io::Error::other("nothing emitted fits no block"));
+        return Err(io::Error::other("a limit of 0 bytes was refused"));
     };
     let verified = load(rt.alloc(), &asked.program, sizes)?;
     println!(rt; "accepted {}", verified.program().len())?;

@@ -39,7 +39,7 @@ fn round(
     let done = repeat(program, form, block, repeats, scratch, group);
     let spent = start.elapsed(rt)?.as_nanos();
     if !done {
-        return Err(io::Error::other("a block of another size"));
+        return Err(io::Error::other("a run was not done"));
     }
     Ok(spent)
 }
@@ -51,14 +51,14 @@ fn main(rt: HostRuntime) -> io::Result<()> {
     let form = form_of(&args.next().ok_or(io::Error::other("no form"))?)?;
     let block = asked.block.as_slice();
     let Some(sizes) = RunSizes::new(asked.size, asked.size.bytes()) else {
-        return Err(io::Error::other("too much"));
+        return Err(io::Error::other("the limit is more than a block"));
     };
     let program = Prepared::new(rt.alloc(), load(rt.alloc(), &asked.program, sizes)?)?;
     let context = [0; CONTEXT_BYTES];
     let mut scratch = [0; SCRATCH_BYTES];
     let mut group = [0; LARGEST_BLOCK];
     let Some(exit) = run(&program, form, block, &context, &mut scratch, &mut group) else {
-        return Err(io::Error::other("a block of another size"));
+        return Err(io::Error::other("a run was not done"));
     };
     println!(rt;
         "{} {} {} {}",

@@ -31,7 +31,7 @@ fn main(rt: HostRuntime) -> io::Result<()> {
     let mut large = device(rt.alloc(), ZONE_SIZE, &filter, &mut data)?;
     match args.next() {
         Some(rounds) => {
-            let rounds = number(&rounds)?;
+            let rounds = number(rt.alloc(), &rounds)?;
             compare_turns(&rt, &mut large, &mut data, rounds)?;
             compare_appends(&rt, &mut large, &mut data, rounds)?;
             compare_admissions(&rt, &mut small, &mut large, &mut data, rounds)?;
