@@ -66,6 +66,12 @@ END
     "$zscli" entry result --slot 0 --cid 6
 } > "$work/given/loads"
 
+# What a completion ends with, in hexadecimal: queue 1, the command (here two digits and 00), the status. That of a Load
+# without memory has type 7h and code C7h; a Result that succeeds has status 0000, and its data behind it, here the sum.
+queue=0100
+wants_memory=008e0f
+gives_sum='0000 07'
+
 # Runs the command with these words in a folder with the files, where a call fails: `KIND NUMBER`.
 run() {
     failing=$1
@@ -90,7 +96,7 @@ ending() {
         whole=$work/whole-$file
         made="$made, $file: $(compare "$work/given/$file" "as before" "$whole" "$work/run/$file")"
     fi
-    wants=$(sed -n 's/.*0100\(..\)008e0f$/, Load \1 wants memory/p' "$work/out")
+    wants=$(sed -n "s/.*$queue\(..\)$wants_memory\$/, Load \1 wants memory/p" "$work/out")
     echo "status $status$made$wants, told: $(tail -n 1 "$work/err")"
 }
 
@@ -107,10 +113,10 @@ compare() {
     fi
 }
 
-# An image is whole, no other file is left, and where the second Load of `loads` finds no memory, the slot has the
-# program and the result of before.
+# An image is whole, no other file is left, and where the second Load of `loads`, its command 7, finds no memory, the slot
+# has the program and the result of before: each of the three Results gives the sum.
 check() {
-    if grep -q '010007008e0f$' "$work/out" && [ "$(grep -c '0000 07' "$work/out")" != 3 ]; then
+    if grep -q "${queue}07$wants_memory\$" "$work/out" && [ "$(grep -c "$gives_sum" "$work/out")" != 3 ]; then
         echo "wrong: run $number changes a slot though its Load was refused"
         wrong=1
     fi
