@@ -3,6 +3,7 @@ use instruction_set::{Instruction, Operation, Register, Size, Source, Width};
 use std::alloc::Global;
 use std::process::Abort;
 use std::test::Fail;
+use test_inputs::slots::{FILTER, bytes_of};
 
 /// The bytes' fault; `None` where they decode.
 fn fault_of(alloc: Global, bytes: &[u8]) -> Result<Option<Fault>, Fail> {
@@ -96,15 +97,6 @@ fn each_opcode(rt: HostRuntime) -> Result<(), Fail> {
     Ok(())
 }
 
-/// The bytes of these slots, each with its own in order.
-fn bytes_of(alloc: Global, slots: &[u64]) -> Result<Vec<u8>, Fail> {
-    let mut bytes = Vec::new(alloc);
-    for slot in slots {
-        bytes.extend_from_slice(&slot.to_be_bytes())?;
-    }
-    Ok(bytes)
-}
-
 /// Decodes the bytes of slots: the number of instructions, and whether the program's bytes are these again.
 fn again(alloc: Global, slots: &[u64]) -> Result<(usize, bool), Fail> {
     let bytes = bytes_of(alloc, slots)?;
@@ -112,17 +104,6 @@ fn again(alloc: Global, slots: &[u64]) -> Result<(usize, bool), Fail> {
     let encoded = encode(alloc, &program)?;
     Ok((program.len(), encoded.as_slice() == bytes.as_slice()))
 }
-
-/// Emits the first 8 bytes of a block whose first byte is 7.
-const FILTER: [u64; 7] = [
-    0x7126_0000_0000_0000, // ldxb r6, [r2+0]
-    0x5506_0300_0700_0000, // jne r6, 7, +3
-    0xbf21_0000_0000_0000, // mov r1, r2
-    0xb702_0000_0800_0000, // mov r2, 8
-    0x8500_0000_0100_0000, // call 1
-    0xb700_0000_0000_0000, // mov r0, 0
-    0x9500_0000_0000_0000, // exit
-];
 
 /// Reads a byte at an offset that it masks first.
 const MASKED: [u64; 6] = [
@@ -192,13 +173,6 @@ fn check_first(
 
 fn register(number: u8) -> Result<Register, Fail> {
     Ok(Register::new(number).ok_or("a register")?)
-}
-
-#[test]
-fn a_register_has_its_number(rt: HostRuntime) -> Result<(), Fail> {
-    let r10 = register(10)?;
-    assert_eq!(rt; (r10.number(), r10.index()), (10, 10));
-    Ok(())
 }
 
 #[test]

@@ -144,12 +144,12 @@ fn lends_the_pending_block(rt: HostRuntime) -> Result<(), Fail> {
 
 #[test]
 fn packs_the_largest_blocks(rt: HostRuntime) -> Result<(), Fail> {
-    let mut packer = Packer::new(BlockSize::new(4096).unwrap());
+    let mut packer = Packer::new(BlockSize::new(16384).unwrap());
     let mut blocks = Vec::new(rt.alloc());
-    put(&mut packer, &[1; 4096], &mut blocks)?;
+    put(&mut packer, &[1; 16384], &mut blocks)?;
     put(&mut packer, &[2], &mut blocks)?;
-    assert_eq!(rt; blocks.as_slice(), [1; 4096].as_slice());
-    let expected = block_with(rt.alloc(), &[2], 4096, 0)?;
+    assert_eq!(rt; blocks.as_slice(), [1; 16384].as_slice());
+    let expected = block_with(rt.alloc(), &[2], 16384, 0)?;
     assert_eq!(rt; packer.padded(), expected.as_slice());
     Ok(())
 }

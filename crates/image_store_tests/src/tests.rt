@@ -28,14 +28,19 @@ fn geometry() -> Result<Geometry, GeometryRefusal> {
     Geometry::new(512, 4, 8, 6, limits)
 }
 
-/// The empty image with some bytes changed.
-fn changed(changes: &[(usize, u8)]) -> [u8; 96] {
-    let mut image = EMPTY;
+/// Changes some bytes of a text.
+fn change(text: &mut [u8], changes: &[(usize, u8)]) {
     for (at, to) in changes {
-        if let Some(byte) = image.get_mut(*at) {
+        if let Some(byte) = text.get_mut(*at) {
             *byte = *to;
         }
     }
+}
+
+/// The empty image with some bytes changed.
+fn changed(changes: &[(usize, u8)]) -> [u8; 96] {
+    let mut image = EMPTY;
+    change(&mut image, changes);
     image
 }
 

@@ -12,29 +12,16 @@ use program_meaning::{Cause, End};
 use std::alloc::Global;
 use std::process::Abort;
 use std::test::Fail;
+use test_inputs::slots::{FILTER, bytes_of};
 use vectors::{IMMEDIATE_STORES, LOADS, STORES};
-
-/// Emits the first 8 bytes of a block whose first byte is 7.
-const FILTER: [u64; 7] = [
-    0x7126_0000_0000_0000, // ldxb r6, [r2+0]
-    0x5506_0300_0700_0000, // jne r6, 7, +3
-    0xbf21_0000_0000_0000, // mov r1, r2
-    0xb702_0000_0800_0000, // mov r2, 8
-    0x8500_0000_0100_0000, // call 1
-    0xb700_0000_0000_0000, // mov r0, 0
-    0x9500_0000_0000_0000, // exit
-];
 
 const MOVE_TO_R10: u64 = 0xb70a_0000_0100_0000;
 
 const EXIT: u64 = 0x9500_0000_0000_0000;
 
-/// The program of these slots, each with its bytes in order.
+/// The program of these slots.
 fn program(alloc: Global, slots: &[u64]) -> Result<Program, Fail> {
-    let mut bytes = Vec::new(alloc);
-    for slot in slots {
-        bytes.extend_from_slice(&slot.to_be_bytes())?;
-    }
+    let bytes = bytes_of(alloc, slots)?;
     Ok(decode(alloc, &bytes)?)
 }
 

@@ -22,26 +22,30 @@ fn entry_of(dwords: &[(usize, u32)]) -> [u8; 64] {
     bytes
 }
 
-/// Asks that the entry with these dwords names a command of the standards.
-fn check_decoded(rt: &impl Abort, dwords: &[(usize, u32)], command: StandardCommand) {
-    assert_eq!(rt;
-        Entry::decode(&entry_of(dwords)),
-        Ok(Command::Standard(command))
-    );
+/// Asks that the entry with these dwords names the command.
+fn check_decoded(rt: &impl Abort, dwords: &[(usize, u32)], command: Command) {
+    assert_eq!(rt; Entry::decode(&entry_of(dwords)), Ok(command));
+}
+
+/// Asks that each of these entries is refused with its status.
+fn check_refused(rt: &impl Abort, cases: &[([u8; 64], Status)]) {
+    for (bytes, status) in cases {
+        assert_eq!(rt; Entry::decode(bytes), Err(*status));
+    }
 }
 
 #[test]
 fn entries_name_commands_of_blocks(rt: HostRuntime) {
     let blocks = BlockCount::from_zero_based(0);
     let append = StandardCommand::Append { lba: 8, blocks };
-    check_decoded(&rt, &[(0, 0x0001_007D), (1, 1), (10, 8)], append);
+    check_decoded(&rt, &[(0, 0x0001_007D), (1, 1), (10, 8)], Command::Standard(append));
     let lba = 0x0000_0002_0000_0008;
     let read = StandardCommand::Read { lba, blocks };
-    check_decoded(&rt, &[(0, 0x0002_0002), (1, 1), (10, 8), (11, 2)], read);
+    check_decoded(&rt, &[(0, 0x0002_0002), (1, 1), (10, 8), (11, 2)], Command::Standard(read));
     let blocks = BlockCount::from_zero_based(0xFFFF);
     assert_eq!(rt; blocks.get(), 65536);
     let longest = StandardCommand::Read { lba: 0, blocks };
-    check_decoded(&rt, &[(0, 0x02), (1, 1), (12, 0xFFFF_FFFF)], longest);
+    check_decoded(&rt, &[(0, 0x02), (1, 1), (12, 0xFFFF_FFFF)], Command::Standard(longest));
 }
 
 #[test]
@@ -52,40 +56,38 @@ fn entries_name_actions_on_zones(rt: HostRuntime) {
         select_all: true,
     };
     let dwords = [(0, 0x0009_0079), (1, 1), (10, 8), (13, 0x0000_0103)];
-    check_decoded(&rt, &dwords, open_all);
+    check_decoded(&rt, &dwords, Command::Standard(open_all));
     let reset = StandardCommand::Send {
         lba: 8,
         action: Action::Reset,
         select_all: false,
     };
     let dwords = [(0, 0x0009_0079), (1, 1), (10, 8), (13, 0xFFFF_FE04)];
-    check_decoded(&rt, &dwords, reset);
+    check_decoded(&rt, &dwords, Command::Standard(reset));
 }
 
 #[test]
 fn entries_name_reports(rt: HostRuntime) -> Result<(), Fail> {
     let forty = DwordCount::from_zero_based(39).ok_or("forty dwords")?;
     assert_eq!(rt; forty.bytes(), 160);
-    assert_eq!(rt;
-        Entry::decode(&entry_of(&[(0, 0x0001_007A), (1, 1), (12, 39), (13, 0x0001_0000)])),
-        Ok(Command::Standard(StandardCommand::Receive {
-            lba: 0,
-            dwords: forty,
-            filter: ZoneFilter::All,
-            partial: true,
-        }))
-    );
+    let partial = StandardCommand::Receive {
+        lba: 0,
+        dwords: forty,
+        filter: ZoneFilter::All,
+        partial: true,
+    };
+    let dwords = [(0, 0x0001_007A), (1, 1), (12, 39), (13, 0x0001_0000)];
+    check_decoded(&rt, &dwords, Command::Standard(partial));
     let most = DwordCount::from_zero_based(32767).ok_or("the most")?;
     assert_eq!(rt; most.bytes(), MOST_TRANSFER);
-    assert_eq!(rt;
-        Entry::decode(&entry_of(&[(0, 0x7A), (1, 1), (10, 9), (12, 32767), (13, 0xFFFE_0100)])),
-        Ok(Command::Standard(StandardCommand::Receive {
-            lba: 9,
-            dwords: most,
-            filter: ZoneFilter::Empty,
-            partial: false,
-        }))
-    );
+    let whole = StandardCommand::Receive {
+        lba: 9,
+        dwords: most,
+        filter: ZoneFilter::Empty,
+        partial: false,
+    };
+    let dwords = [(0, 0x7A), (1, 1), (10, 9), (12, 32767), (13, 0xFFFE_0100)];
+    check_decoded(&rt, &dwords, Command::Standard(whole));
     Ok(())
 }
 
@@ -105,18 +107,14 @@ fn a_filter_of_a_state_lists_no_other(rt: HostRuntime) {
 
 #[test]
 fn reports_are_refused(rt: HostRuntime) {
+    let field = Status::INVALID_FIELD_IN_COMMAND;
     let cases = [
-        entry_of(&[(0, 0x7A), (1, 1), (12, 32768)]),
-        entry_of(&[(0, 0x7A), (1, 1), (12, 0xFFFF_FFFF)]),
-        entry_of(&[(0, 0x7A), (1, 1), (13, 0x01)]),
-        entry_of(&[(0, 0x7A), (1, 1), (13, 0x0800)]),
+        (entry_of(&[(0, 0x7A), (1, 1), (12, 32768)]), field),
+        (entry_of(&[(0, 0x7A), (1, 1), (12, 0xFFFF_FFFF)]), field),
+        (entry_of(&[(0, 0x7A), (1, 1), (13, 0x01)]), field),
+        (entry_of(&[(0, 0x7A), (1, 1), (13, 0x0800)]), field),
     ];
-    for bytes in cases {
-        assert_eq!(rt;
-            Entry::decode(&bytes),
-            Err(Status::INVALID_FIELD_IN_COMMAND)
-        );
-    }
+    check_refused(&rt, &cases);
 }
 
 #[test]
@@ -137,9 +135,7 @@ fn entries_are_refused_in_order(rt: HostRuntime) {
             Status::INVALID_FIELD_IN_COMMAND,
         ),
     ];
-    for (bytes, status) in cases {
-        assert_eq!(rt; Entry::decode(&bytes), Err(status));
-    }
+    check_refused(&rt, &cases);
     assert_eq!(rt; Entry::cid(&entry_of(&[(0, 0xABCD_007D)])), 0xABCD);
 }
 

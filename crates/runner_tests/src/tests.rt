@@ -3,7 +3,6 @@
 ghost use Rattle.std.proofs.Common.{◌∙◌, ap, append_assoc, rules};
 ghost use Rattle.std.specs.Prelude.{◌≡◌, ◌≤◌, ◌++◌, length, map};
 
-use example_programs::EMITTING;
 use runner::{Device, Event, NotTaken, Out, Reply};
 use scenes::{ALL_EMPTY, FOUR_ZONES, check_steps, check_zones, device_of};
 use std::alloc::Global;
@@ -11,6 +10,7 @@ use std::process::Abort;
 use std::test::Fail;
 use steps::Expected::{Done, DoneWith, Faulted, Idle, Pending};
 use steps::{Case, Step, bytes_of};
+use test_inputs::programs::EMITTING;
 use zns_commands::{FaultState, MOST_TRANSFER};
 use zone_state::Action;
 
@@ -129,9 +129,9 @@ const DRAINED: &[Case] = &[
 ];
 
 /// What happens in these steps.
-fn events_of(alloc: Global, steps: &[Case]) -> Result<Vec<Event>, Fail> {
+fn events_of<'a>(alloc: Global, steps: impl Iterator<Item = &'a Step>) -> Result<Vec<Event>, Fail> {
     let mut events = Vec::new(alloc);
-    for (step, _) in steps {
+    for step in steps {
         events.push(step.event(alloc)?)?;
     }
     Ok(events)
@@ -156,7 +156,8 @@ fn replies_are_handed_out_with_their_data(rt: HostRuntime) -> Result<(), Fail> {
     let mut room = room(&rt, alloc);
     let data = room.as_mut_slice();
     let mut served = Kept::new(alloc, usize::MAX);
-    device.serve(&events_of(alloc, SERVED)?, data, &mut served)?;
+    let events = events_of(alloc, SERVED.iter().map(|(step, _)| step))?;
+    device.serve(&events, data, &mut served)?;
     check_kept(&rt, alloc, &served, SERVED)?;
     let mut drained = Kept::new(alloc, usize::MAX);
     device.drain(data, &mut drained)?;

@@ -4,12 +4,12 @@ ghost use Rattle.std.specs.Prelude.{◌≡◌, IfOk};
 
 use ebpf_asm::assemble;
 use ebpf_decode::decode;
-use example_programs::RETURNING;
 use instruction_set::Program;
 use interval_domain::Constants;
 use program_interface::{BlockSize, RunSizes};
 use std::alloc::Global;
 use std::test::Fail;
+use test_inputs::programs::RETURNING;
 use verifier::verify;
 
 mod accesses;

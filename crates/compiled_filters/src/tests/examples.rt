@@ -264,19 +264,6 @@ fn fill(bytes: &mut Vec<u8>, size: usize) -> Result<(), AllocError>
     Ok(())
 }
 
-/// Numbers that look random.
-#[derive(Drop)]
-struct Numbers(u64);
-
-impl Numbers {
-    /// The next number, of 32 bits: the upper half of a linear congruence.
-    fn draw(&mut self) -> u64 {
-        let next = self.0.wrapping_mul(0x5851_f42d_4c95_7f2d);
-        self.0 = next.wrapping_add(0x1405_7b7e_f767_814f);
-        self.0 >> 32
-    }
-}
-
 /// The byte of 8 bits, the lowest first.
 fn byte_of(bits: &[bool]) -> u8 {
     let mut byte = 0;

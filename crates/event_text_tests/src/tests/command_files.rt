@@ -1,11 +1,11 @@
 //! Which lines of a command file are events, and what is said of the others.
 
-use super::text_of;
 use device_events::Event;
 use event_text::{ParseFault, parse, submission_line};
 use std::alloc::Global;
 use std::process::Abort;
 use std::test::Fail;
+use test_inputs::texts::repeated;
 
 /// Command files, and the events that they tell.
 const EVENTS: &[(&str, &str)] = &[
@@ -79,7 +79,7 @@ const REFUSED: &[(&str, &str)] = &[
     ),
 ];
 
-/// Submissions, which stand before a line that is refused.
+/// Submissions, most of which are refused, each file with what is said of its lowest line that is.
 const SUBMISSIONS: &[(&str, &str)] = &[
     (
         "submit 65535 |0*128|\nturn 256",
@@ -133,7 +133,7 @@ const SUBMISSIONS: &[(&str, &str)] = &[
 
 /// The events of a command file as Rust shows them, or the line that has none and what is said of it.
 fn told(alloc: Global, file: &str) -> Result<String, Fail> {
-    let file = text_of(alloc, file)?;
+    let file = repeated(alloc, file, '|')?;
     let told = match parse(alloc, file.as_bytes()) {
         Ok(events) => format!(in alloc; "{events:?}")?,
         Err(ParseFault::Line { number, fault }) => format!(in alloc; "{number}: {fault}")?,
@@ -161,7 +161,7 @@ fn lines_of_command_files(rt: HostRuntime) -> Result<(), Fail> {
 fn a_submission_is_told(rt: HostRuntime) -> Result<(), Fail> {
     let alloc = rt.alloc();
     let line = submission_line(alloc, 65535, &[0x7d; 64], b"\0\xab")?;
-    let expected = text_of(alloc, "submit 65535 |7d*64| 00ab\n")?;
+    let expected = repeated(alloc, "submit 65535 |7d*64| 00ab\n", '|')?;
     assert_eq!(rt; line.as_slice(), expected.as_bytes());
     let told = Event::Submit {
         queue: 65535,

@@ -1,8 +1,7 @@
 //! Entries of the commands for programs.
 
-use super::entry_of;
-use nvme_entry::{BlockCount, Command, Entry, LoadCommand, ProgramSlot, RunCommand, Status};
-use std::process::Abort;
+use super::{check_decoded, check_refused, entry_of};
+use nvme_entry::{BlockCount, Command, LoadCommand, ProgramSlot, RunCommand, Status};
 use std::test::Fail;
 
 /// A Run each of whose fields differs from all others.
@@ -16,11 +15,6 @@ pub(super) fn distinct_run() -> Result<RunCommand, Fail> {
     })
 }
 
-/// Asks that the entry with these dwords names a Run.
-fn check_decoded(rt: &impl Abort, dwords: &[(usize, u32)], run: RunCommand) {
-    assert_eq!(rt; Entry::decode(&entry_of(dwords)), Ok(Command::Run(run)));
-}
-
 #[test]
 fn entries_name_runs(rt: HostRuntime) -> Result<(), Fail> {
     let short = RunCommand {
@@ -30,13 +24,13 @@ fn entries_name_runs(rt: HostRuntime) -> Result<(), Fail> {
         argument: 0,
         destination: 8,
     };
-    check_decoded(&rt, &[(0, 0x0007_00C0), (1, 1), (12, 2), (14, 8)], short);
+    check_decoded(&rt, &[(0, 0x0007_00C0), (1, 1), (12, 2), (14, 8)], Command::Run(short));
     let long = RunCommand {
         blocks: BlockCount::from_zero_based(51),
         destination: 64,
         ..short
     };
-    check_decoded(&rt, &[(0, 0x0001_00C0), (1, 1), (12, 51), (14, 64)], long);
+    check_decoded(&rt, &[(0, 0x0001_00C0), (1, 1), (12, 51), (14, 64)], Command::Run(long));
     Ok(())
 }
 
@@ -54,7 +48,7 @@ fn an_entry_names_each_field_of_a_run(rt: HostRuntime) -> Result<(), Fail> {
         (14, 16),
         (15, 2),
     ];
-    check_decoded(&rt, &dwords, run);
+    check_decoded(&rt, &dwords, Command::Run(run));
     Ok(())
 }
 
@@ -69,20 +63,11 @@ fn entries_name_loads_and_results(rt: HostRuntime) -> Result<(), Fail> {
     ];
     for (number, limit, bytes) in loads {
         let slot = ProgramSlot::new(number).ok_or("a slot")?;
-        assert_eq!(rt;
-            Entry::decode(&entry_of(&[
-                (0, 0x0008_00C1),
-                (1, 1),
-                (10, number),
-                (11, limit),
-                (12, bytes)
-            ])),
-            Ok(Command::Load(LoadCommand { slot, limit, bytes }))
-        );
-        assert_eq!(rt;
-            Entry::decode(&entry_of(&[(0, 0x0009_00C2), (1, 1), (10, number)])),
-            Ok(Command::Result(slot))
-        );
+        let load = Command::Load(LoadCommand { slot, limit, bytes });
+        let dwords = [(0, 0x0008_00C1), (1, 1), (10, number), (11, limit), (12, bytes)];
+        check_decoded(&rt, &dwords, load);
+        let dwords = [(0, 0x0009_00C2), (1, 1), (10, number)];
+        check_decoded(&rt, &dwords, Command::Result(slot));
     }
     Ok(())
 }
@@ -106,7 +91,5 @@ fn entries_for_programs_are_refused_in_order(rt: HostRuntime) {
         (entry_of(&[(0, 0xC1), (1, 1), (12, 131_073)]), field),
         (entry_of(&[(0, 0xC2), (1, 1), (10, 8)]), field),
     ];
-    for (bytes, status) in cases {
-        assert_eq!(rt; Entry::decode(&bytes), Err(status));
-    }
+    check_refused(&rt, &cases);
 }

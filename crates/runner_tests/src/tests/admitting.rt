@@ -3,9 +3,9 @@
 use super::scenes::{FOUR_ZONES, Scene, TWELVE_ZONES, TWO_LONG_ZONES, play};
 use super::steps::Expected::{Done, DoneWith, Idle, Pending, Refused};
 use super::steps::{Case, Step};
-use example_programs::{MATCHING, RETURNING};
 use nvme_entry::Status;
 use std::test::Fail;
+use test_inputs::programs::{MATCHING, RETURNING};
 
 /// Zone 0 has 3 blocks, zone 1 is open, zone 2 is Offline and zone 3 Closed.
 const REFUSED: &[Case] = &[

@@ -3,8 +3,8 @@
 use super::scenes::{EIGHT_ZONES, Scene, TWELVE_ZONES, play};
 use super::steps::Expected::{Done, DoneWith, Pending};
 use super::steps::{Case, Step};
-use example_programs::{EMITTING, RETURNING};
 use std::test::Fail;
+use test_inputs::programs::{EMITTING, RETURNING};
 
 /// A run of three blocks, and one of one block, without a turn.
 const LEFT: &[Case] = &[

@@ -3,9 +3,9 @@
 use super::scenes::{FOUR_ZONES, Scene, play};
 use super::steps::Expected::{Done, DoneWith, FaultRefused, Pending, Refused};
 use super::steps::{Case, Step};
-use example_programs::RETURNING;
 use nvme_entry::Status;
 use std::test::Fail;
+use test_inputs::programs::RETURNING;
 use zns_commands::FaultState;
 use zone_state::Action;
 

@@ -3,9 +3,9 @@
 use super::scenes::{ALL_EMPTY, FOUR_ZONES, Scene, play};
 use super::steps::Expected::{Done, Pending, ProgramRefused, Refused};
 use super::steps::{Case, Step};
-use example_programs::{ADDING, GROWING, MATCHING, RETURNING};
 use nvme_entry::Status;
 use std::test::Fail;
+use test_inputs::programs::{ADDING, GROWING, MATCHING, RETURNING};
 
 const ACCEPTED: &[Case] = &[
     (Step::Load(1, 0, 0, RETURNING), Done(1)),

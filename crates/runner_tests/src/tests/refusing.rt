@@ -2,15 +2,14 @@
 
 ghost use Rattle.std.specs.Prelude.{◌≡◌, ◌+◌, ◌<◌, ◌≤◌, ◌^◌, length};
 
-use super::scenes::{EIGHT_ZONES, Zones, device_of};
+use super::scenes::{EIGHT_ZONES, Zones, device_of, saved};
 use super::steps::Step;
-use super::{Kept, room};
-use example_programs::EMITTING;
-use image_store::Buffer;
+use super::{Kept, events_of, room};
 use runner::{Device, Event, Out, Reply};
 use std::alloc::Global;
 use std::process::Abort;
 use std::test::Fail;
+use test_inputs::programs::EMITTING;
 use zns_commands::{FaultState, MOST_TRANSFER};
 use zone_state::Action;
 
@@ -40,15 +39,6 @@ const STEPS: &[Step] = &[
     Step::Turns(1, 1),
 ];
 
-/// What happens in them.
-fn events(alloc: Global) -> Result<Vec<Event>, Fail> {
-    let mut events = Vec::new(alloc);
-    for step in STEPS {
-        events.push(step.event(alloc)?)?;
-    }
-    Ok(events)
-}
-
 /// Does events and then the turns that are left. An `Err` tells how many of both were done where a reply was refused.
 fn serve_and_drain<O: Out>(
     device: &mut Device,
@@ -66,13 +56,6 @@ fn serve_and_drain<O: Out>(
         Ok(()) => Ok(()),
         Err(stopped) => Err(events.len().saturating_add(stopped.done)),
     }
-}
-
-/// The text of a device's image.
-fn saved(alloc: Global, device: &Device) -> Result<Vec<u8>, Fail> {
-    let mut sink = Buffer::new(alloc);
-    device.image().save(&mut sink)?;
-    Ok(sink.into_bytes())
 }
 
 /// Does all where each reply is taken.
@@ -124,34 +107,11 @@ fn check_refused(
 #[test]
 fn each_reply_is_refused_in_turn(rt: HostRuntime) -> Result<(), Fail> {
     let alloc = rt.alloc();
-    let events = events(alloc)?;
+    let events = events_of(alloc, STEPS.iter())?;
     let whole = all_taken(&rt, alloc, &events)?;
     assert_eq!(rt; whole.out.replies.len(), 14);
     for taken in 0..14 {
         check_refused(&rt, alloc, &events, &whole, taken)?;
     }
-    Ok(())
-}
-
-#[test]
-fn turns_of_no_run(rt: HostRuntime) -> Result<(), Fail> {
-    let alloc = rt.alloc();
-    let mut device = device_of(alloc, &EIGHT_ZONES, EIGHT_EMPTY)?;
-    let mut data = room(&rt, alloc);
-    let mut out = Kept::new(alloc, usize::MAX);
-    let events = events(alloc)?;
-    device.serve(
-        events.get(..5).unwrap_or(&[]),
-        data.as_mut_slice(),
-        &mut out,
-    )?;
-    let image = saved(alloc, &device)?;
-    for run in 1..=255 {
-        let reply = device.apply(&Event::Turn { run }, data.as_mut_slice());
-        assert_eq!(rt; reply, Reply::Idle, "run {run}");
-    }
-    assert!(rt; saved(alloc, &device)?.as_slice() == image.as_slice());
-    let reply = device.apply(&Event::Turn { run: 0 }, data.as_mut_slice());
-    assert_eq!(rt; reply, Reply::Pending { run: 0 });
     Ok(())
 }

@@ -1,11 +1,15 @@
 //! Runs, turn by turn.
 
-use super::scenes::{FOUR_ZONES, Scene, TWO_LONG_ZONES, play};
+use super::scenes::{
+    ALL_EMPTY, FOUR_ZONES, Scene, TWO_LONG_ZONES, check_steps, device_of, play, saved,
+};
 use super::steps::Expected::{Done, DoneWith, Idle, Pending, Refused};
 use super::steps::{Case, Step};
-use example_programs::{ADDING_THREE, GROWING, MATCHING, RETURNING};
+use super::{UP_TO_ITS_LAST_TURN, room};
 use nvme_entry::Status;
+use runner::{Event, Reply};
 use std::test::Fail;
+use test_inputs::programs::{ADDING_THREE, GROWING, MATCHING, RETURNING};
 
 const TURNS: &[Case] = &[
     (Step::Load(1, 0, 0, RETURNING), Done(1)),
@@ -160,6 +164,14 @@ const EMITTED: &[Scene] = &[
         left: "closed 52, explicit 2",
     },
     Scene {
+        name: "a turn fills its zone",
+        shape: FOUR_ZONES,
+        zones: "closed 07 07, implicit 01 02 03 04 05, empty, empty",
+        steps: FILLING,
+        drained: &[],
+        left: "closed 2, full 6, empty 0, empty 0",
+    },
+    Scene {
         name: "scratch lasts from block to block",
         shape: TWO_LONG_ZONES,
         zones: "closed 01 02 03 04 05 06 07 08 09 0a, explicit",
@@ -215,17 +227,26 @@ const TURNS_OF_RUNS: &[Scene] = &[
         drained: &[],
         left: "closed 2, implicit 3, explicit 1, empty 0",
     },
-    Scene {
-        name: "a turn fills its zone",
-        shape: FOUR_ZONES,
-        zones: "closed 07 07, implicit 01 02 03 04 05, empty, empty",
-        steps: FILLING,
-        drained: &[],
-        left: "closed 2, full 6, empty 0, empty 0",
-    },
 ];
 
 #[test]
 fn turns_in_any_order(rt: HostRuntime) -> Result<(), Fail> {
     play(&rt, rt.alloc(), TURNS_OF_RUNS)
+}
+
+#[test]
+fn turns_of_no_run(rt: HostRuntime) -> Result<(), Fail> {
+    let alloc = rt.alloc();
+    let mut device = device_of(alloc, &FOUR_ZONES, ALL_EMPTY)?;
+    let mut room = room(&rt, alloc);
+    let data = room.as_mut_slice();
+    let scene = "turns of no run";
+    check_steps(&rt, alloc, &mut device, data, scene, UP_TO_ITS_LAST_TURN)?;
+    let image = saved(alloc, &device)?;
+    for run in 1..=255 {
+        let reply = device.apply(&Event::Turn { run }, data);
+        assert_eq!(rt; reply, Reply::Idle, "run {run}");
+    }
+    assert!(rt; saved(alloc, &device)?.as_slice() == image.as_slice());
+    Ok(())
 }

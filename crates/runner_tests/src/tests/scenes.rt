@@ -4,7 +4,7 @@ ghost use Rattle.std.specs.Prelude.{◌≤◌, length};
 
 use super::steps::{Case, Expected, bytes_of};
 use super::{Kept, room};
-use image_store::Version;
+use image_store::{Buffer, Version};
 use runner::{Device, Event, Reply};
 use std::alloc::Global;
 use std::process::Abort;
@@ -203,6 +203,13 @@ pub(super) fn device_of(alloc: Global, shape: &Shape, zones: &str) -> Result<Dev
     write_image(&mut bytes, shape, zones)?;
     let mut source = bytes.as_slice();
     Ok(Device::new(alloc, Image::load(alloc, &mut source)?))
+}
+
+/// The text of a device's image.
+pub(super) fn saved(alloc: Global, device: &Device) -> Result<Vec<u8>, Fail> {
+    let mut sink = Buffer::new(alloc);
+    device.image().save(&mut sink)?;
+    Ok(sink.into_bytes())
 }
 
 /// Writes the bytes of an image.

@@ -3,9 +3,9 @@
 use super::scenes::{EIGHT_ZONES, FOUR_ZONES, Scene, Zones, play};
 use super::steps::Expected::{self, Done, DoneWith, FaultRefused, Faulted, Pending, Refused};
 use super::steps::{A_BLOCK, Case, Step};
-use example_programs::{MATCHING, RETURNING};
 use nvme_entry::Status;
 use std::test::Fail;
+use test_inputs::programs::{MATCHING, RETURNING};
 use zns_commands::FaultState;
 use zone_state::Action;
 

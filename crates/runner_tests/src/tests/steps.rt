@@ -5,7 +5,6 @@ ghost use Rattle.nvme_entry.specs.Encoding.{program_length};
 
 use byteorder::{ByteOrder, LittleEndian};
 use ebpf_asm::assemble;
-use example_programs::Text;
 use nvme_entry::{
     BlockCount, Command, Completion, Entry, LoadCommand, ProgramSlot, RunCommand, StandardCommand,
     Status,
@@ -13,6 +12,8 @@ use nvme_entry::{
 use runner::{Event, Reply};
 use std::alloc::Global;
 use std::test::Fail;
+use test_inputs::programs::Text;
+use test_inputs::texts::repeated;
 use zns_commands::{FaultState, MOST_TRANSFER};
 use zone_state::Action;
 
@@ -285,10 +286,6 @@ fn complete(cid: u16, dwords: [u32; 2], status: Status, length: usize) -> Reply 
 
 /// The bytes that hexadecimal words spell.
 pub(super) fn bytes_of(alloc: Global, bytes: &str) -> Result<Vec<u8>, Fail> {
-    let mut digits = String::new(alloc);
-    for word in bytes.split(' ') {
-        let (part, times) = word.split_once('*').unwrap_or((word, "1"));
-        digits.push_str(part.repeat(alloc, times.parse::<usize>()?)?.as_str())?;
-    }
+    let digits = repeated(alloc, bytes, ' ')?;
     Ok(hex::decode(alloc, digits.as_str())?)
 }

@@ -6,18 +6,6 @@ use super::rows::check;
 use std::test::Fail;
 
 const INDICES: &[Row] = &[
-    // AND with 511 gives at most 511.
-    Text(
-        "ldxh r6, [r2+0]\nand r6, 511\nadd r2, r6\nldxb r0, [r2+0]\nexit",
-        0,
-        Accepted(5),
-    ),
-    // Two bytes from 511 on pass the end.
-    Text(
-        "ldxh r6, [r2+0]\nand r6, 511\nadd r2, r6\nldxh r0, [r2+0]\nexit",
-        0,
-        Refused(3, 5),
-    ),
     // Two bytes give up to 65535.
     Text(
         "ldxh r6, [r2+0]\nadd r2, r6\nldxb r0, [r2+0]\nexit",
@@ -203,6 +191,12 @@ const INDICES: &[Row] = &[
         "mov r6, 1\nsub r6, 2\nadd r2, r6\nldxb r0, [r2+1]\nexit",
         0,
         Accepted(5),
+    ),
+    // 256 counts of 4 bytes fill scratch.
+    Text(
+        "ldxb r1, [r2+0]\nlsh r1, 2\nadd r3, r1\nldxw r1, [r3+0]\naddw r1, 1\nstxw [r3+0], r1\nmov r0, 0\nexit",
+        0,
+        Accepted(8),
     ),
     // A byte swap of a known word takes all of its 64 bits.
     Text(

@@ -2,8 +2,9 @@
 
 use super::rows::Row::{self, Text};
 use super::rows::Verdict::{Accepted, Refused};
-use super::rows::check;
+use super::rows::check_both;
 use std::test::Fail;
+use test_inputs::programs::{MATCHING, TWO_FRAMES};
 
 const EMITS: &[Row] = &[
     // There is one helper, number 1.
@@ -14,6 +15,8 @@ const EMITS: &[Row] = &[
     Text("call 1\nexit", 0, Refused(0, 9)),
     // R1 is 0, and no address.
     Text("mov r1, 0\nmov r2, 1\ncall 1\nexit", 3, Refused(2, 8)),
+    // An address that is none comes before a length that is none.
+    Text("mov r1, 0\ncall 1\nexit", 16, Refused(1, 8)),
     // The byte before the context.
     Text("sub r1, 1\nmov r2, 1\ncall 1\nexit", 3, Refused(2, 8)),
     // A frame has at least one byte.
@@ -36,30 +39,10 @@ const EMITS: &[Row] = &[
     ),
     // From the stack's end on there is no byte.
     Text("mov r1, r10\nmov r2, 1\ncall 1\nexit", 3, Refused(2, 9)),
-    // 1 to 8 bytes, and their length.
-    Text(
-        "ldxb r6, [r2+0]\nand r6, 7\nadd r6, 1\nmov r1, r2\nmov r2, r6\ncall 1\nmov r0, 0\nexit",
-        10,
-        Accepted(8),
-    ),
-    // One byte too many.
-    Text(
-        "ldxb r6, [r2+0]\nand r6, 7\nadd r6, 1\nmov r1, r2\nmov r2, r6\ncall 1\nmov r0, 0\nexit",
-        9,
-        Refused(5, 10),
-    ),
     // 8 bytes, and their length.
-    Text(
-        "ldxb r6, [r2+0]\njne r6, 7, +3\nmov r1, r2\nmov r2, 8\ncall 1\nmov r0, 0\nexit",
-        10,
-        Accepted(7),
-    ),
+    Text(MATCHING, 10, Accepted(7)),
     // One byte too many.
-    Text(
-        "ldxb r6, [r2+0]\njne r6, 7, +3\nmov r1, r2\nmov r2, 8\ncall 1\nmov r0, 0\nexit",
-        9,
-        Refused(4, 10),
-    ),
+    Text(MATCHING, 9, Refused(4, 10)),
     // Two frames of 5 bytes.
     Text(
         "mov r6, r2\nmov r1, r6\nmov r2, 3\ncall 1\nmov r1, r6\nmov r2, 3\ncall 1\nexit",
@@ -86,6 +69,10 @@ mov r1, r7\nmov r2, 1\ncall 1\nexit",
         5,
         Refused(8, 10),
     ),
+    // A frame of 10 bytes, where the first is 7, and one of 6.
+    Text(TWO_FRAMES, 16, Accepted(11)),
+    // Both are longer than the group may be.
+    Text(TWO_FRAMES, 15, Refused(8, 10)),
     // A call leaves 0 in R0 to R5.
     Text(
         "mov r1, r2\nmov r2, 1\ncall 1\nldxb r0, [r3+0]\nexit",
@@ -96,5 +83,5 @@ mov r1, r7\nmov r2, 1\ncall 1\nexit",
 
 #[test]
 fn emits(rt: HostRuntime) -> Result<(), Fail> {
-    check(&rt, rt.alloc(), EMITS)
+    check_both(&rt, rt.alloc(), EMITS)
 }

@@ -2,7 +2,7 @@
 
 use super::rows::Row::{self, Far, Text};
 use super::rows::Verdict::{Accepted, Refused};
-use super::rows::check;
+use super::rows::{check, check_both};
 use std::test::Fail;
 
 /// The farthest jumps.
@@ -143,9 +143,9 @@ const SUMS: &[Row] = &[
 
 #[test]
 fn ends(rt: HostRuntime) -> Result<(), Fail> {
-    check(&rt, rt.alloc(), JUMPS)?;
-    check(&rt, rt.alloc(), LOADS)?;
-    check(&rt, rt.alloc(), STORES)?;
-    check(&rt, rt.alloc(), EMITS)?;
+    check_both(&rt, rt.alloc(), JUMPS)?;
+    check_both(&rt, rt.alloc(), LOADS)?;
+    check_both(&rt, rt.alloc(), STORES)?;
+    check_both(&rt, rt.alloc(), EMITS)?;
     check(&rt, rt.alloc(), SUMS)
 }

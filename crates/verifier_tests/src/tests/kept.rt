@@ -2,7 +2,7 @@
 
 use super::rows::Row::{self, Text};
 use super::rows::Verdict::{Accepted, Refused};
-use super::rows::check;
+use super::rows::{check, check_both};
 use std::test::Fail;
 
 /// Kept over emit.
@@ -161,7 +161,7 @@ stxdw [r10-8], r7\nboth: ldxdw r1, [r10-8]\nldxb r0, [r1+504]\nexit",
 
 #[test]
 fn kept_on_the_stack(rt: HostRuntime) -> Result<(), Fail> {
-    check(&rt, rt.alloc(), OVER_EMIT)?;
+    check_both(&rt, rt.alloc(), OVER_EMIT)?;
     check(&rt, rt.alloc(), STORES)?;
     check(&rt, rt.alloc(), LOADS)?;
     check(&rt, rt.alloc(), WAYS)

@@ -1,11 +1,12 @@
-//! Programs, each with what the verifier says of it for blocks of 512 bytes, as the rules for facts give it.
+//! Programs, each with what the verifier says of it, as the rules for facts give it.
 
 use super::{program, sizes};
-use interval_domain::Intervals;
+use interval_domain::{Constants, Intervals};
 use std::alloc::{AllocError, Global};
 use std::process::Abort;
 use std::test::Fail;
 use verifier::{VerifyFault, verify};
+use word_domain::Domain;
 
 /// A program, the most bytes that it may emit for a block, and what is said of it.
 #[derive(Clone, Copy)]
@@ -25,17 +26,30 @@ pub(super) enum Verdict {
     Refused(usize, u8),
 }
 
-/// Compares what is said of each program.
+/// The bytes of a block, where nothing else is said.
+const BLOCK: u32 = 512;
+
+/// Compares what is said of each program over intervals.
 pub(super) fn check(rt: &impl Abort, alloc: Global, rows: &[Row]) -> Result<(), Fail> {
+    check_over::<Intervals>(rt, alloc, rows)
+}
+
+/// Compares what is said of each program over intervals and over constants, which both say the same.
+pub(super) fn check_both(rt: &impl Abort, alloc: Global, rows: &[Row]) -> Result<(), Fail> {
+    check_over::<Intervals>(rt, alloc, rows)?;
+    check_over::<Constants>(rt, alloc, rows)
+}
+
+fn check_over<D: Domain>(rt: &impl Abort, alloc: Global, rows: &[Row]) -> Result<(), Fail> {
     for row in rows {
         match *row {
             Row::Text(text, emit, verdict) => {
-                let said = verdict_of(alloc, text, emit)?;
+                let said = verdict_of::<D>(alloc, text, emit, BLOCK)?;
                 assert_eq!(rt; said, verdict, "{text}");
             }
             Row::Far(jump, moves, verdict) => {
                 let text = far(alloc, jump, moves)?;
-                let said = verdict_of(alloc, text.as_str(), 0)?;
+                let said = verdict_of::<D>(alloc, text.as_str(), 0, BLOCK)?;
                 assert_eq!(rt; said, verdict, "{jump}");
             }
         }
@@ -54,10 +68,16 @@ fn far(alloc: Global, jump: &str, moves: usize) -> Result<String, AllocError> {
     Ok(text)
 }
 
-fn verdict_of(alloc: Global, text: &str, emit: u32) -> Result<Verdict, Fail> {
+/// What is said of a program that may emit so many bytes for a block of so many.
+pub(super) fn verdict_of<D: Domain>(
+    alloc: Global,
+    text: &str,
+    emit: u32,
+    block: u32,
+) -> Result<Verdict, Fail> {
     let program = program(alloc, text)?;
     let instructions = program.len();
-    match verify::<Intervals>(alloc, program, sizes(emit, 512)?) {
+    match verify::<D>(alloc, program, sizes(emit, block)?) {
         Ok(_) => Ok(Verdict::Accepted(instructions)),
         Err(VerifyFault::Refused(refusal)) => {
             Ok(Verdict::Refused(refusal.slot, refusal.reason.number()))

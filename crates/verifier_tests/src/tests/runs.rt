@@ -1,9 +1,6 @@
 //! Accepted programs end the same with every check and over their superinstructions.
 
 use super::{program, sizes};
-use example_programs::{
-    ADDING_THREE, BOUNDED, GROWING, INDEXED, INDEXED_TWO, MATCHING, RETURNING, TWO_FRAMES, Text,
-};
 use interp::Machine;
 use interval_domain::Intervals;
 use program_interface::{BlockSize, CONTEXT_BYTES, Context, RunSizes, SCRATCH_BYTES};
@@ -11,6 +8,9 @@ use program_meaning::End;
 use std::alloc::Global;
 use std::process::Abort;
 use std::test::Fail;
+use test_inputs::programs::{
+    ADDING_THREE, BOUNDED, GROWING, INDEXED, INDEXED_TWO, MATCHING, RETURNING, TWO_FRAMES, Text,
+};
 use verified_run::Prepared;
 use verifier::{Verified, verify};
 
@@ -36,14 +36,11 @@ const SCENES: &[(Text, u32, u32, &[u8])] = &[
     (BOUNDED, 16, 512, FIRSTS),
 ];
 
-/// Fills a block with bytes that look random, each of the upper bits of a linear congruence, but for the first.
+/// Fills a block with bytes that look random, but for the first.
 fn scatter(block: &mut [u8], first: u8, seed: u64) {
-    let mut state = seed;
+    let mut numbers = Numbers::behind(seed);
     for byte in block.iter_mut() {
-        state = state
-            .wrapping_mul(0x5851_F42D_4C95_7F2D)
-            .wrapping_add(0x1405_7B7E_F767_814F);
-        *byte = state.to_be_bytes()[0];
+        *byte = (numbers.draw() >> 24) as u8;
     }
     if !block.is_empty() {
         block[0] = first;

@@ -2,7 +2,7 @@
 
 use super::rows::Row::{self, Text};
 use super::rows::Verdict::{Accepted, Refused};
-use super::rows::check;
+use super::rows::check_both;
 use std::test::Fail;
 
 /// Jumps.
@@ -15,6 +15,8 @@ const JUMPS: &[Row] = &[
     Text("ja +0\nexit", 0, Accepted(2)),
     // A jump to itself is no jump forward.
     Text("ja -1\nexit", 0, Refused(0, 1)),
+    // Nor is one to the slot before.
+    Text("mov r0, 0\nja -2\nexit", 0, Refused(1, 1)),
     // Backward comes before outside.
     Text("ja -5\nexit", 0, Refused(0, 1)),
     // A compare that jumps backward.
@@ -83,6 +85,6 @@ const WRITES: &[Row] = &[
 
 #[test]
 fn jumps_and_writes_to_the_frame_pointer(rt: HostRuntime) -> Result<(), Fail> {
-    check(&rt, rt.alloc(), JUMPS)?;
-    check(&rt, rt.alloc(), WRITES)
+    check_both(&rt, rt.alloc(), JUMPS)?;
+    check_both(&rt, rt.alloc(), WRITES)
 }

@@ -1,7 +1,8 @@
 //! Filters that look at fields of each record.
 
-use super::{BLOCKS, Filter, Numbers, Trial, byte_of};
+use super::{BLOCKS, Filter, Trial, byte_of};
 use std::test::Fail;
+use test_inputs::numbers::Numbers;
 
 const FILTER: Filter = Filter {
     name: "filter.c",
@@ -178,7 +179,7 @@ impl Row {
 #[test]
 fn blocks_of_a_kind(rt: HostRuntime) -> Result<(), Fail> {
     let mut trial = Trial::new(rt.alloc());
-    let mut numbers = Numbers(1);
+    let mut numbers = Numbers::behind(1);
     for _ in 0..BLOCKS {
         let row = Row::drawn(&mut numbers);
         trial.add(&row.bytes())?;
@@ -193,7 +194,7 @@ fn blocks_of_a_kind(rt: HostRuntime) -> Result<(), Fail> {
 #[test]
 fn keys_beside_prices(rt: HostRuntime) -> Result<(), Fail> {
     let mut trial = Trial::new(rt.alloc());
-    let mut numbers = Numbers(2);
+    let mut numbers = Numbers::behind(2);
     let mut pair = [0; 16];
     for _ in 0..BLOCKS {
         let row = Row::drawn(&mut numbers);
@@ -248,7 +249,7 @@ impl Order {
 #[test]
 fn orders_of_a_region(rt: HostRuntime) -> Result<(), Fail> {
     let mut trial = Trial::new(rt.alloc());
-    let mut numbers = Numbers(3);
+    let mut numbers = Numbers::behind(3);
     for _ in 0..8 * BLOCKS {
         let order = Order::drawn(&mut numbers);
         trial.add(&order.bytes())?;
@@ -274,7 +275,7 @@ const NAMES: [&[u8]; 5] = [b"disk", b"disc", b"diskette", b"fan", b"a disk"];
 #[test]
 fn names_with_a_prefix(rt: HostRuntime) -> Result<(), Fail> {
     let mut trial = Trial::new(rt.alloc());
-    let mut numbers = Numbers(4);
+    let mut numbers = Numbers::behind(4);
     for _ in 0..8 * BLOCKS {
         let name = NAMES[(numbers.draw() % 5) as usize];
         let bytes = named(name, numbers.draw());
@@ -289,7 +290,7 @@ fn names_with_a_prefix(rt: HostRuntime) -> Result<(), Fail> {
 #[test]
 fn bits_of_those_that_match(rt: HostRuntime) -> Result<(), Fail> {
     let mut trial = Trial::new(rt.alloc());
-    let mut numbers = Numbers(5);
+    let mut numbers = Numbers::behind(5);
     for lba in 0..BLOCKS {
         let bits = add_levels(&mut trial, &mut numbers)?;
         if bits.contains(&true) {
@@ -318,7 +319,7 @@ fn add_levels(trial: &mut Trial, numbers: &mut Numbers) -> Result<[bool; 8], Fai
 #[test]
 fn events_of_an_hour(rt: HostRuntime) -> Result<(), Fail> {
     let mut trial = Trial::new(rt.alloc());
-    let mut numbers = Numbers(6);
+    let mut numbers = Numbers::behind(6);
     for _ in 0..8 * BLOCKS {
         let (time, code) = (numbers.draw() % 20_000, numbers.draw());
         let mut bytes = [0x11; 64];

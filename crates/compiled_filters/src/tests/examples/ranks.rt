@@ -1,8 +1,9 @@
 //! Filters that keep the least or the greatest.
 
-use super::{BLOCKS, Filter, Numbers, Trial};
+use super::{BLOCKS, Filter, Trial};
 use std::alloc::Global;
 use std::test::Fail;
+use test_inputs::numbers::Numbers;
 
 const MINMAX: Filter = Filter {
     name: "minmax.c",
@@ -121,7 +122,7 @@ bd520200000000007b23100000000000bf52000000000000bd420100000000007b23180000000000
 #[test]
 fn the_least_and_the_greatest(rt: HostRuntime) -> Result<(), Fail> {
     let mut trial = Trial::new(rt.alloc());
-    let mut numbers = Numbers(9);
+    let mut numbers = Numbers::behind(9);
     let mut temperatures = Vec::new(rt.alloc());
     for _ in 0..8 * BLOCKS {
         let temperature = (numbers.draw() % 900) as i32 - 1200;
@@ -159,7 +160,7 @@ fn range_of(numbers: &[i32]) -> [u8; 24] {
 #[test]
 fn the_four_greatest(rt: HostRuntime) -> Result<(), Fail> {
     let mut trial = Trial::new(rt.alloc());
-    let mut numbers = Numbers(11);
+    let mut numbers = Numbers::behind(11);
     let mut records = Vec::new(rt.alloc());
     for key in 0..8 * BLOCKS as u32 {
         // few measures, so that some are equal

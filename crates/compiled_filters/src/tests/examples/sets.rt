@@ -2,9 +2,10 @@
 
 ghost use Rattle.std.specs.Prelude.{◌<◌};
 
-use super::{BLOCKS, Filter, Numbers, Trial, byte_of};
+use super::{BLOCKS, Filter, Trial, byte_of};
 use std::alloc::Global;
 use std::test::Fail;
+use test_inputs::numbers::Numbers;
 
 const SAMPLE: Filter = Filter {
     name: "sample.c",
@@ -229,7 +230,7 @@ fn record(key: u64, value: u64) -> [u8; 64] {
 #[test]
 fn a_sample_of_keys(rt: HostRuntime) -> Result<(), Fail> {
     let mut trial = Trial::new(rt.alloc());
-    let mut numbers = Numbers(12);
+    let mut numbers = Numbers::behind(12);
     for _ in 0..8 * BLOCKS {
         let (key, value) = (numbers.draw(), numbers.draw());
         let bytes = record(key, value);
@@ -244,7 +245,7 @@ fn a_sample_of_keys(rt: HostRuntime) -> Result<(), Fail> {
 #[test]
 fn keys_that_are_new(rt: HostRuntime) -> Result<(), Fail> {
     let mut trial = Trial::new(rt.alloc());
-    let mut numbers = Numbers(13);
+    let mut numbers = Numbers::behind(13);
     let mut set = [false; 1024];
     for _ in 0..8 * BLOCKS {
         let key = numbers.draw() % 20;
@@ -280,7 +281,7 @@ fn places(key: u64) -> (usize, usize)
 #[test]
 fn rows_with_a_known_key(rt: HostRuntime) -> Result<(), Fail> {
     let mut trial = Trial::new(rt.alloc());
-    let mut numbers = Numbers(14);
+    let mut numbers = Numbers::behind(14);
     for _ in 0..BLOCKS {
         let keys = drawn_keys(rt.alloc(), &mut numbers)?;
         add_rows(&mut trial, &mut numbers, keys.as_slice())?;

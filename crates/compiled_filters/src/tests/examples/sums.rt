@@ -1,8 +1,9 @@
 //! Filters that add up or count.
 
-use super::{BLOCKS, Filter, Numbers, Trial};
+use super::{BLOCKS, Filter, Trial};
 use std::alloc::Global;
 use std::test::Fail;
+use test_inputs::numbers::Numbers;
 
 const AGGREGATE: Filter = Filter {
     name: "aggregate.c",
@@ -171,7 +172,7 @@ const HISTOGRAM: Filter = Filter {
 #[test]
 fn a_sum_of_fields(rt: HostRuntime) -> Result<(), Fail> {
     let mut trial = Trial::new(rt.alloc());
-    let mut numbers = Numbers(7);
+    let mut numbers = Numbers::behind(7);
     let mut sum = 0u64;
     for _ in 0..BLOCKS {
         let field = (numbers.draw() % 0x1_0000_0000) as u32;
@@ -212,7 +213,7 @@ impl Total {
 #[test]
 fn sums_by_kind(rt: HostRuntime) -> Result<(), Fail> {
     let mut trial = Trial::new(rt.alloc());
-    let mut numbers = Numbers(8);
+    let mut numbers = Numbers::behind(8);
     let none = Total {
         sum: 0,
         count: 0,
@@ -245,7 +246,7 @@ fn bytes_of(alloc: Global, totals: &[Total]) -> Result<Vec<u8>, Fail> {
 #[test]
 fn counts_in_buckets(rt: HostRuntime) -> Result<(), Fail> {
     let mut trial = Trial::new(rt.alloc());
-    let mut numbers = Numbers(10);
+    let mut numbers = Numbers::behind(10);
     let mut counts = [0u32; 64];
     for _ in 0..32 * BLOCKS {
         let byte = (numbers.draw() % 256) as u8;

@@ -1,7 +1,8 @@
 //! Filters over records of different lengths, and over packets.
 
-use super::{Filter, Numbers, Trial};
+use super::{Filter, Trial};
 use std::test::Fail;
+use test_inputs::numbers::Numbers;
 
 const RECORDS: Filter = Filter {
     name: "records.c",
@@ -56,7 +57,7 @@ const PACKETS: Filter = Filter {
 #[test]
 fn data_of_a_kind(rt: HostRuntime) -> Result<(), Fail> {
     let mut trial = Trial::new(rt.alloc());
-    let mut numbers = Numbers(15);
+    let mut numbers = Numbers::behind(15);
     // how many records a block has; of ten the last two aren't reached
     for count in [8, 3, 0, 10, 8, 1] {
         add_records(&mut trial, &mut numbers, count)?;

@@ -1,5 +1,4 @@
 //! Programs by name, as text: those that the tests of the verifier and of the device load.
-#![tactic(auto)]
 
 /// A program as text.
 pub type Text = &'static str;

@@ -1,0 +1,8 @@
+//! What the tests of several crates take in: programs by name and as slots, numbers that look random, and texts with parts
+//! that repeat.
+#![tactic(auto)]
+
+pub mod numbers;
+pub mod programs;
+pub mod slots;
+pub mod texts;
