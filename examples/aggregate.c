@@ -2,7 +2,7 @@
 
    Record:   one at the block's start: a field (u32) at byte 16
    Block:    512 bytes
-   Emit:     10, a frame of 8 bytes
+   Emit:     10, a record of 8 bytes
    Argument: none */
 #include "pifnjarl.h"
 

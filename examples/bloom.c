@@ -3,7 +3,7 @@
 
    Record:   64 bytes, 8 in a block: a key (u64) at byte 0
    Block:    512 bytes
-   Emit:     80, 8 frames of 8 bytes
+   Emit:     80, 8 records of 8 bytes
    Argument: none */
 #include "pifnjarl.h"
 

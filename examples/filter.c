@@ -2,7 +2,7 @@
 
    Record:   64 bytes, one at the block's start: a field (u32) at byte 8
    Block:    512 bytes
-   Emit:     66, a frame of 64 bytes
+   Emit:     66, a record of 64 bytes
    Argument: the field's value */
 #include "pifnjarl.h"
 

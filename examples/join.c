@@ -3,7 +3,7 @@
 
    Record:   32 bytes, 8 at the block's start: a key (u16) at byte 2
    Block:    512 bytes; the dictionary, 16 keys (u16) in order, is its last 32
-   Emit:     272, 8 frames of 32 bytes
+   Emit:     272, 8 records of 32 bytes
    Argument: none */
 #include "pifnjarl.h"
 

@@ -3,7 +3,7 @@
 
    Record:   64 bytes, 8 in a block: a level (u32) at byte 12
    Block:    512 bytes
-   Emit:     18, a frame of 16 bytes: the block's LBA (u64), and the bits (u64), the lowest for the first record
+   Emit:     18, a record of 16 bytes: the block's LBA (u64), and the bits (u64), the lowest for the first record
    Argument: the least level */
 #include "pifnjarl.h"
 

@@ -3,7 +3,7 @@
 
    Record:   64 bytes, 8 in a block: a temperature (32 bits, signed) at byte 8; the least of all stands for none
    Block:    512 bytes
-   Emit:     26, a frame of 24 bytes: struct range
+   Emit:     26, a record of 24 bytes: struct range
    Argument: none */
 #include "pifnjarl.h"
 

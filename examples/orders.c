@@ -2,7 +2,7 @@
 
    Record:   64 bytes, 8 in a block; struct order
    Block:    512 bytes
-   Emit:     512, 8 frames of 62 bytes: orders are emitted without their last 2 bytes, which hold nothing
+   Emit:     512, 8 records of 62 bytes: orders are emitted without their last 2 bytes, which hold nothing
    Argument: the region */
 #include "pifnjarl.h"
 

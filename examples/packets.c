@@ -3,7 +3,7 @@
 
    Record:   an Ethernet frame, one in a block
    Block:    512 bytes
-   Emit:     56, a frame of 54 bytes: the headers
+   Emit:     56, a record of 54 bytes: the headers
    Argument: the other port */
 #include "pifnjarl.h"
 

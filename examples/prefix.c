@@ -2,7 +2,7 @@
 
    Record:   64 bytes, 8 in a block: a name of 48 bytes, and 16 more
    Block:    512 bytes
-   Emit:     496, 8 frames of 60 bytes: the first 4 are the argument, and needn't be emitted
+   Emit:     496, 8 records of 60 bytes: the first 4 are the argument, and needn't be emitted
    Argument: 4 bytes, the first in the lowest 8 bits */
 #include "pifnjarl.h"
 

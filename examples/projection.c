@@ -2,7 +2,7 @@
 
    Record:   one at the block's start: a key (u64) at byte 0, a price (u32) at byte 24
    Block:    512 bytes
-   Emit:     18, a frame of 16 bytes: the key (u64) and the price (u64)
+   Emit:     18, a record of 16 bytes: the key (u64) and the price (u64)
    Argument: none */
 #include "pifnjarl.h"
 

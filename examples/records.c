@@ -3,7 +3,7 @@
 
    Record:   a length, a kind, and so many bytes of data; a length of 0 ends the block
    Block:    512 bytes
-   Emit:     496, 8 frames of 60 bytes
+   Emit:     496, 8 records of 60 bytes
    Argument: the kind */
 #include "pifnjarl.h"
 

@@ -3,7 +3,7 @@
 
    Record:   64 bytes, 8 in a block: a key (u64) at byte 0, a value (u64) at byte 8
    Block:    512 bytes
-   Emit:     144, 8 frames of 16 bytes
+   Emit:     144, 8 records of 16 bytes
    Argument: how many of 256 keys are taken, 0 to 256 */
 #include "pifnjarl.h"
 

@@ -3,7 +3,7 @@
 
    Record:   32 bytes, 16 in a block: a price (u32) at byte 8, a kind at byte 12, of which the low 4 bits count
    Block:    512 bytes
-   Emit:     258, a frame of 256 bytes: 16 times struct total
+   Emit:     258, a record of 256 bytes: 16 times struct total
    Argument: none */
 #include "pifnjarl.h"
 

@@ -3,7 +3,7 @@
 
    Record:   64 bytes, 8 in a block: a key (u32) at byte 0, a measure (u32) at byte 16
    Block:    512 bytes
-   Emit:     34, a frame of 32 bytes: 4 times a key and a measure (u32 each), zeros where there were fewer records
+   Emit:     34, a record of 32 bytes: 4 times a key and a measure (u32 each), zeros where there were fewer records
    Argument: none */
 #include "pifnjarl.h"
 

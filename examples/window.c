@@ -2,7 +2,7 @@
 
    Record:   64 bytes, 8 in a block: a time in seconds (u64) at byte 0, a code (u64) at byte 8
    Block:    512 bytes
-   Emit:     144, 8 frames of 16 bytes: the time and the code
+   Emit:     144, 8 records of 16 bytes: the time and the code
    Argument: the hour's first second */
 #include "pifnjarl.h"
 

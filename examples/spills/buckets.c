@@ -3,7 +3,7 @@
 
    Record:   32 bytes, the first 4 of a block: the byte that is counted is byte 5
    Block:    512 bytes
-   Emit:     40, four frames of 8 bytes: a record's first
+   Emit:     40, four records of 8 bytes: a record's first
    Argument: what each record adds to its bucket
    Kept:     the address of the context, over the emits */
 #include "pifnjarl.h"

@@ -4,7 +4,7 @@
    Record:   16 bytes, 16 at the block's start: the number of the next entry (its low 4 bits) at byte 0, what is compared
              with the argument at byte 1; the first entry's number (its low 4 bits) is the block's byte 256
    Block:    512 bytes
-   Emit:     108, six frames of 16 bytes
+   Emit:     108, six records of 16 bytes
    Argument: what ends the chain
    Kept:     the address of scratch, over the emits */
 #include "pifnjarl.h"

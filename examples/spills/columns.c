@@ -3,7 +3,7 @@
    Record:   the head: for each column its offset (u8, its low 5 bits) and its width less 1 (u8, its low 3 bits), at bytes 0
              to 3; rows of 64 bytes from byte 64 on
    Block:    512 bytes
-   Emit:     60, six frames of at most 8 bytes
+   Emit:     60, six records of at most 8 bytes
    Argument: none
    Kept:     the columns' offsets, each at most 31, and the address of scratch, over the emits */
 #include "pifnjarl.h"

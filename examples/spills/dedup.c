@@ -3,7 +3,7 @@
 
    Record:   16 bytes, the first 4 of a block: a key (u64), not 0, at byte 0
    Block:    512 bytes
-   Emit:     72, four frames of 16 bytes
+   Emit:     72, four records of 16 bytes
    Argument: none
    Kept:     the address of the context, over the emits, and counts, which branches leave in one place */
 #include "pifnjarl.h"

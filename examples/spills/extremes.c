@@ -2,7 +2,7 @@
 
    Record:   64 bytes, the first 4 of a block: a measure (u32) at byte 4
    Block:    512 bytes
-   Emit:     36, two frames of 16 bytes: a record's first
+   Emit:     36, two records of 16 bytes: a record's first
    Argument: none
    Kept:     the addresses of the records that are the least and the greatest so far, which branches leave in one place
              each, and those of scratch and of the context, over the emits */

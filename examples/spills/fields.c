@@ -4,7 +4,7 @@
    Record:   64 bytes, 8 in a block: fields of 8 bytes at bytes 8, 16, 24 and 32; the row's number (its low 3 bits) is the
              block's byte 0
    Block:    512 bytes
-   Emit:     40, four frames of 8 bytes
+   Emit:     40, four records of 8 bytes
    Argument: a bit for each field, the lowest for the first
    Kept:     the addresses of the context and of scratch, over the emits */
 #include "pifnjarl.h"

@@ -4,7 +4,7 @@
    Record:   one in a block: the offsets of its body, its body's length and its note's offset (u16 each), a header of 8
              bytes at byte 8, a body of 1 to 64 bytes, a note of 32
    Block:    512 bytes
-   Emit:     110, frames of 8, of at most 64 and of 32 bytes
+   Emit:     110, records of 8, of at most 64 and of 32 bytes
    Argument: 0 for no note
    Kept:     the note's offset, which is at most 448, and the address of scratch, over the first two emits */
 #include "pifnjarl.h"

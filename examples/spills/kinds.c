@@ -4,7 +4,7 @@
    Record:   a kind at byte 0; kind 1 has a head of 4 bytes at byte 8 and its trailer where byte 1 says, others a head of 12
              and the trailer 128 bytes behind where byte 2 says; bytes 3 and 4 say where the fields are, of 4 bytes each
    Block:    512 bytes
-   Emit:     36, frames of 12, 4, 4 and 8 bytes
+   Emit:     36, records of 12, 4, 4 and 8 bytes
    Argument: none
    Kept:     the offsets of the two fields, each at most 255, over the emit of either branch, and the address of the
              context */

@@ -3,7 +3,7 @@
    Record:   the length of a name less 1 (u8, its low 3 bits) and of its value less 1 (u8, its low 4 bits), three times at
              the block's start; pairs of 64 bytes from byte 64 on: a name at byte 0, a value at byte 32
    Block:    512 bytes
-   Emit:     84, three frames of at most 8 and three of at most 16 bytes
+   Emit:     84, three records of at most 8 and three of at most 16 bytes
    Argument: none
    Kept:     lengths, with their bounds, over the emits. They have 64 bits: those of 32 would be stored by their 4 bytes,
              which keep no range */

@@ -5,7 +5,7 @@
    Record:   two lists, at bytes 0 and 256: the entry's offset in the list (its low 7 bits), its length less 1 (its low 4
              bits), the number of entries (u16)
    Block:    512 bytes
-   Emit:     62, frames of 2 and of at most 16 bytes for each list, and one of at most 16
+   Emit:     62, records of 2 and of at most 16 bytes for each list, and one of at most 16
    Argument: the entries' bound
    Kept:     the addresses of the context and of scratch, over both calls. The bound, of 32 bits, is stored by its 4 bytes,
              which keep no range: it is compared and no more, so that none is needed */

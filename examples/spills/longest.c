@@ -4,7 +4,7 @@
    Record:   4 times an entry's offset and length (u16 each) at the block's start; an entry has 1 to 32 bytes, and one that
              hasn't ends the block
    Block:    512 bytes
-   Emit:     170, five frames of at most 32 bytes
+   Emit:     170, five records of at most 32 bytes
    Argument: none
    Kept:     the length of the entry that is emitted, and the offset of the longest so far, which a step's branches leave in
              one place */

@@ -2,7 +2,7 @@
 
    Record:   two lists of 4 entries of 16 bytes, at bytes 0 and 256: a key (u32) at byte 0
    Block:    512 bytes
-   Emit:     72, four frames of 16 bytes
+   Emit:     72, four records of 16 bytes
    Argument: none
    Kept:     the address of the context, over the emits, and a count, which branches leave in one place */
 #include "pifnjarl.h"

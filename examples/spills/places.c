@@ -3,7 +3,7 @@
 
    Record:   one in a block: its offset (its low 7 bits) at byte 0, its length less 1 (its low 4 bits) at byte 1
    Block:    512 bytes
-   Emit:     44, frames of 24 and of at most 16 bytes
+   Emit:     44, records of 24 and of at most 16 bytes
    Argument: none
    Kept:     the structure's fields, of 8 bytes each, which are read again behind the emit of all of it */
 #include "pifnjarl.h"

@@ -3,7 +3,7 @@
 
    Record:   64 bytes, the first 4 of a block: a key (u32) at byte 0, a measure (u32) at byte 16
    Block:    512 bytes
-   Emit:     34, a frame of 32 bytes: 4 times a key and a measure (u32 each)
+   Emit:     34, a record of 32 bytes: 4 times a key and a measure (u32 each)
    Argument: none
    Kept:     the address of the context, over steps that take all other registers */
 #include "pifnjarl.h"

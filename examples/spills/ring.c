@@ -4,7 +4,7 @@
 
    Record:   16 bytes at the block's start: the place that it names (its low 3 bits) at byte 0
    Block:    512 bytes
-   Emit:     54, three frames of 16 bytes
+   Emit:     54, three records of 16 bytes
    Argument: a bit for each of the three, the lowest for the first
    Kept:     the addresses of scratch and of the block, over the emits */
 #include "pifnjarl.h"

@@ -3,7 +3,7 @@
 
    Record:   16 bytes, the first 4 of a block: a measure (u64) at byte 8
    Block:    512 bytes
-   Emit:     72, four frames of 16 bytes
+   Emit:     72, four records of 16 bytes
    Argument: none
    Kept:     the address of the context, over the emits */
 #include "pifnjarl.h"

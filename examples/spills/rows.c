@@ -3,7 +3,7 @@
 
    Record:   64 bytes, the first 4 of a block: a field (u32) at byte 12
    Block:    512 bytes
-   Emit:     72, four frames of 16 bytes
+   Emit:     72, four records of 16 bytes
    Argument: what the field has to be above
    Kept:     the addresses of scratch and of the context, beside the row, which is on the stack too */
 #include "pifnjarl.h"

@@ -2,7 +2,7 @@
 
    Record:   5 offsets (u16) at the block's start, of which the low 8 bits count
    Block:    512 bytes
-   Emit:     30, five frames of 4 bytes
+   Emit:     30, five records of 4 bytes
    Argument: none
    Kept:     an offset, which is at most 255, over the emits of the sections before */
 #include "pifnjarl.h"

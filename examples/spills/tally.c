@@ -4,7 +4,7 @@
    Record:   32 bytes at the block's start, whose bytes 0, 8, 16 and 24 are counted; 4 records of 8 bytes at byte 64, of
              which the low 2 bits of byte 63 name one
    Block:    512 bytes
-   Emit:     54, frames of 32, 8 and 8 bytes
+   Emit:     54, records of 32, 8 and 8 bytes
    Argument: 0 for no first bytes
    Kept:     the address of the context, beside the array, into which stores go at an index that isn't known */
 #include "pifnjarl.h"
