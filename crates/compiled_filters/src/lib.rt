@@ -1,5 +1,5 @@
-//! Filters as clang makes them, those of `examples/` and, with values kept on the stack, of `examples/spills`: the crate has
-//! their tests, and nothing else.
+//! Filters as clang makes them: those of `examples/`, those of `examples/spills`, which keep values on the stack, and those of
+//! `examples/refused`, with what refuses them. The crate has their tests, and nothing else.
 #![tactic(auto)]
 
 #[cfg(test)]

@@ -5,7 +5,8 @@ use std::alloc::Global;
 use std::test::Fail;
 
 /// Lines with an instruction each, as it is listed, its bytes, and what `llvm-objdump -d` has in its place. The first three
-/// are `filter.c`, `projection.c` and `aggregate.c` of `examples/`, which `compiled_filters` runs.
+/// are `filter.c`, `projection.c` and `aggregate.c` of `examples/`, which `compiled_filters` runs; the others are of this table
+/// alone.
 const PROGRAMS: &[(&str, &str)] = &[
     (
         "filter",
@@ -53,7 +54,7 @@ exit ; 9500000000000000 ; exit\n\
 ",
     ),
     (
-        "checksum",
+        "mixing",
         "\
 mov r1, r3 ; bf31000000000000 ; r1 = r3\n\
 ldxdw r3, [r2+0] ; 7923000000000000 ; r3 = *(u64 *)(r2 + 0)\n\
@@ -76,7 +77,7 @@ exit ; 9500000000000000 ; exit\n\
 ",
     ),
     (
-        "histogram",
+        "counting",
         "\
 ldxh r2, [r2+2] ; 6922020000000000 ; r2 = *(u16 *)(r2 + 2)\n\
 lshw r2, 2 ; 6402000002000000 ; w2 <<= 2\n\
