@@ -12,4 +12,6 @@ pub mod SlotListings
 pub mod Fitting
 pub mod Programs
 pub mod LowestFaults
+pub mod Jumps
+pub mod InOrder
 pub mod Blanks

@@ -89,7 +89,7 @@ module _ (all : List Line) where
       own_told before rest line fault (own before line) (first_fault (before ++ line ∷ []) rest) are below (at_behind own before rest all line are) e
       (λ here later. own_lowest (before ++ line ∷ []) rest fault (pushed before rest all line are) (below_pushed (own_fault all) before line below here) later)
 
-  own_none : (before rest : List Line) → all ≡ before ++ rest → OwnBelow before → first_fault before rest ≡ None → HaveNone (own_fault all)
+  pub own_none : (before rest : List Line) → all ≡ before ++ rest → OwnBelow before → first_fault before rest ≡ None → HaveNone (own_fault all)
   own_none before [] are below e k = by_test (ltb k (length before)) refl
     where
       whole : all ≡ before

@@ -79,7 +79,7 @@ spells labels number slot (line ∷ rest) bytes fits e =
 
 -- ---- the program
 
-no_fault : (fault : Option Fault) (read : Result (List ℕ) Fault) (bytes : List ℕ) → unless_fault fault read ≡ Ok bytes → (fault ≡ None) × (read ≡ Ok bytes)
+pub no_fault : (fault : Option Fault) (read : Result (List ℕ) Fault) (bytes : List ℕ) → unless_fault fault read ≡ Ok bytes → (fault ≡ None) × (read ≡ Ok bytes)
 no_fault None read bytes e = (refl, e)
 no_fault (Some fault) read bytes e = absurd cc
 

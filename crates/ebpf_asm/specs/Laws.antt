@@ -10,6 +10,7 @@ use Rattle.instruction_set.specs.Spelling.{program_bytes}
 use Rattle.text_lines.specs.Laws.{AreBlanks}
 use Rattle.ebpf_asm.specs.declared.fault.Fault.{Fault}
 use Rattle.ebpf_asm.specs.declared.mnemonic.Mnemonic.{Mnemonic}
+use Rattle.ebpf_asm.specs.Assembled.{AreInOrder}
 use Rattle.ebpf_asm.specs.Assembly.{assembled, lines_of}
 use Rattle.ebpf_asm.specs.Line.{line_of}
 use Rattle.ebpf_asm.specs.LowestFault.{IsLowestFault}
@@ -46,6 +47,10 @@ abbrev pub AssembledIsProgram : Type 0
 AssembledIsProgram =
     (text bytes : List ℕ) → assembled text ≡ Ok bytes
     → (bytes ≡ []) ⊎ ((slots : List (Option Instruction)) × IsProgram slots × (bytes ≡ program_bytes slots))
+
+-- the bytes of a text are the spellings of its lines' instructions in their order, and a jump to a label leads to the instruction behind that label
+abbrev pub LinesAreInOrder : Type 0
+LinesAreInOrder = (text bytes : List ℕ) → assembled text ≡ Ok bytes → AreInOrder (lines_of text) bytes
 
 -- the fault of a text is that of the lowest line that has one by itself, or where none has, of the lowest that jumps amiss
 abbrev pub FaultIsLowest : Type 0

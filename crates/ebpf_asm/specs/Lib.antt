@@ -6,5 +6,6 @@ pub mod Listing
 pub mod Line
 pub mod Assembly
 pub mod LowestFault
+pub mod Assembled
 pub mod Laws
 pub mod steps

@@ -1,10 +1,15 @@
 //! Laws of assembly text. Each function does nothing: what it ensures is the law.
 
-ghost use Rattle.ebpf_asm.specs.Laws.{MnemonicsReadBack, RegistersReadBack, ImmediatesReadBack, WideValuesReadBack, MemoryOperandsReadBack, ListingsAssemble, AssembledIsProgram, FaultIsLowest, BlanksDontCount, CommentsDontCount};
+ghost use Rattle.ebpf_asm.specs.Laws.{MnemonicsReadBack, RegistersReadBack, ImmediatesReadBack, WideValuesReadBack, MemoryOperandsReadBack, ListingsAssemble, AssembledIsProgram, LinesAreInOrder, FaultIsLowest, BlanksDontCount, CommentsDontCount};
 
 /// What a text assembles to is nothing, where it has no instructions, or the bytes of a program.
 pub fn assembled_is_program()
     ensures { AssembledIsProgram }
+{}
+
+/// The bytes of a text are the spellings of its lines' instructions in their order, and a jump to a label leads to the instruction behind that label.
+pub fn lines_are_in_order()
+    ensures { LinesAreInOrder }
 {}
 
 /// The fault of a text is that of the lowest line that has one by itself, or where none has, of the lowest that jumps amiss.

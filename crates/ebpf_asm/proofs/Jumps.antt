@@ -1,0 +1,117 @@
+-- A line that names a label jumps.
+use Rattle.std.proofs.Common.{◌≡◌, ℕ, ℤ, pos, negsuc, ◌&&◌, Bool, true, false, cond, eqb, List, [], ◌∷◌, length, drop, map, Option, Some, None, Result, Ok, Err, refl, ap, ◌∙◌}
+use Rattle.std.specs.Prelude.{IfOk, IfSome, int_le, ok_or}
+use Rattle.std.specs.List.{AllByRecursion, list_all, before_first, position_or_len}
+use Rattle.std.specs.Char.{is_ascii}
+use Rattle.instruction_set.specs.declared.instruction.Instruction.{Instruction}
+use Rattle.instruction_set.specs.declared.instruction.Instruction.TheVariants as instructions
+use Rattle.ebpf_asm.specs.declared.mnemonic.Mnemonic.{Mnemonic}
+use Rattle.ebpf_asm.specs.declared.mnemonic.Mnemonic.TheVariants.{LoadImmediate, Load, LoadSigned, StoreImmediate, StoreRegister, Arithmetic, Negate, MoveSigned, SwapBytes, Jump, JumpLong, Branch, Call, Exit}
+use Rattle.ebpf_asm.specs.declared.fault.FaultKind.{FaultKind}
+use Rattle.ebpf_asm.specs.declared.fault.FaultKind.TheVariants.{UnknownMnemonic, OutOfRange, NotAscii}
+use Rattle.program_interface.specs.Readings.{◌>>=◌}
+use Rattle.ebpf_asm.specs.Fault.{read_both}
+use Rattle.ebpf_asm.specs.Mnemonic.{mnemonic_named}
+use Rattle.ebpf_asm.specs.Operand.{distance_of, immediate_of, in_range, label_of, long_of, memory_of, register_of, short_of, source_of, wide_of}
+use Rattle.ebpf_asm.specs.Statement.{Statement, none_of, one_of, operands_of, statement_of, statement_with, three_of, two_of}
+use Rattle.ebpf_asm.specs.Line.{Line, labelled, line_in, line_of, split_label, with_statement}
+use Rattle.ebpf_asm.specs.Assembly.{fitting, jump_by}
+use Rattle.ebpf_asm.specs.Assembled.{with_distance}
+use Rattle.text_lines.specs.Cut.{cut_at, is_blank_byte, trimmed, uncommented}
+
+-- ---- jumps
+
+-- an instruction takes a distance in place of its own
+abbrev pub Jumps : Instruction → Type 0
+Jumps instruction = (distance : ℤ) (made : Instruction) → jump_by instruction distance ≡ Ok made → with_distance distance instruction ≡ Some made
+
+in_range_same : (least greatest z x : ℤ) → in_range least greatest z ≡ Ok x → z ≡ x
+in_range_same least greatest z x e = by (int_le least z && int_le z greatest) e
+  where
+    by : (b : Bool) → cond b (Ok z) (Err OutOfRange) ≡ Ok x → z ≡ x
+    by true is = cc
+    by false is = absurd cc
+
+fitting_made : (jump : ℤ → Instruction) (distance : ℤ) (read : Result ℤ FaultKind) (made : Instruction) → ((x : ℤ) → read ≡ Ok x → distance ≡ x) → fitting jump read ≡ Ok made → jump distance ≡ made
+fitting_made jump distance (Ok x) made same e = let is : jump x ≡ made = cc in ap jump (same x refl) ∙ is
+fitting_made jump distance (Err kind) made same e = absurd cc
+
+short_made : (jump : ℤ → Instruction) (distance : ℤ) (made : Instruction) → fitting jump (short_of distance) ≡ Ok made → Some (jump distance) ≡ Some made
+short_made jump distance made e =
+    ap (λ (i : Instruction). Some i) (fitting_made jump distance (short_of distance) made (in_range_same (negsuc 32767) (pos 32767) distance) e)
+
+long_made : (jump : ℤ → Instruction) (distance : ℤ) (made : Instruction) → fitting jump (long_of distance) ≡ Ok made → Some (jump distance) ≡ Some made
+long_made jump distance made e =
+    ap (λ (i : Instruction). Some i) (fitting_made jump distance (long_of distance) made (in_range_same (negsuc 2147483647) (pos 2147483647) distance) e)
+
+-- ---- statements
+
+abbrev StatementJumps : Statement → Type 0
+StatementJumps s = IfSome s.1 (λ (label : List ℕ). Jumps s.0)
+
+after : {A : Type 0} (m : Result A FaultKind) (f : A → Result Statement FaultKind) → ((x : A) → IfOk (f x) StatementJumps) → IfOk (m >>= f) StatementJumps
+after (Ok x) f next = next x
+after (Err fault) f next = tt
+
+to_label : (instruction : Instruction) (label : Option (List ℕ)) → Jumps instruction → StatementJumps (instruction, label)
+to_label instruction None jumps = tt
+to_label instruction (Some label) jumps = jumps
+
+statement_with_jumps : (mnemonic : Mnemonic) (texts : List (List ℕ)) → IfOk (statement_with mnemonic texts) StatementJumps
+unfolding statement_with
+statement_with_jumps LoadImmediate texts = after (two_of texts) _ (λ t. after (read_both (register_of t.0) (wide_of t.1)) _ (λ x. tt))
+statement_with_jumps (Load size) texts = after (two_of texts) _ (λ t. after (read_both (register_of t.0) (memory_of t.1)) _ (λ x. tt))
+statement_with_jumps (LoadSigned size) texts = after (two_of texts) _ (λ t. after (read_both (register_of t.0) (memory_of t.1)) _ (λ x. tt))
+statement_with_jumps (StoreImmediate size) texts = after (two_of texts) _ (λ t. after (read_both (memory_of t.0) (immediate_of t.1)) _ (λ x. tt))
+statement_with_jumps (StoreRegister size) texts = after (two_of texts) _ (λ t. after (read_both (memory_of t.0) (register_of t.1)) _ (λ x. tt))
+statement_with_jumps (Arithmetic width operation) texts = after (two_of texts) _ (λ t. after (read_both (register_of t.0) (source_of t.1)) _ (λ x. tt))
+statement_with_jumps (Negate width) texts = after (one_of texts) _ (λ t. after (register_of t) _ (λ dst. tt))
+statement_with_jumps (MoveSigned extension) texts = after (two_of texts) _ (λ t. after (read_both (register_of t.0) (register_of t.1)) _ (λ x. tt))
+statement_with_jumps (SwapBytes swap size) texts = after (one_of texts) _ (λ t. after (register_of t) _ (λ dst. tt))
+statement_with_jumps Jump texts =
+    after (one_of texts) _ (λ t. after (distance_of short_of t) _ (λ z. to_label (instructions.Jump z) (label_of t) (short_made instructions.Jump)))
+statement_with_jumps JumpLong texts =
+    after (one_of texts) _ (λ t. after (distance_of long_of t) _ (λ z. to_label (instructions.JumpLong z) (label_of t) (long_made instructions.JumpLong)))
+statement_with_jumps (Branch width relation) texts =
+    after (three_of texts) _ (λ t. after (read_both (read_both (register_of t.0) (source_of t.1)) (distance_of short_of t.2)) _
+    (λ x. to_label (instructions.Branch width relation x.0.0 x.0.1 x.1) (label_of t.2) (short_made (instructions.Branch width relation x.0.0 x.0.1))))
+statement_with_jumps Call texts = after (one_of texts) _ (λ t. after (immediate_of t) _ (λ helper. tt))
+statement_with_jumps Exit texts = after (none_of texts) _ (λ none. tt)
+
+statement_jumps : (text : List ℕ) → IfOk (statement_of text) StatementJumps
+unfolding statement_of
+statement_jumps text =
+    after (ok_or (mnemonic_named (before_first is_blank_byte text)) UnknownMnemonic) _
+    (λ mnemonic. statement_with_jumps mnemonic (operands_of (drop (position_or_len is_blank_byte text) text)))
+
+-- ---- lines
+
+-- the instruction of a line, if it has one, jumps if the line names a label
+abbrev pub LineJumps : Line → Type 0
+LineJumps line = IfOk line.instruction (λ instruction. IfSome instruction (λ i. IfSome line.target (λ (label : List ℕ). Jumps i)))
+
+with_jumps : (label : Option (List ℕ)) (read : Result Statement FaultKind) → IfOk read StatementJumps → LineJumps (with_statement label read)
+with_jumps label (Ok statement) h = h
+with_jumps label (Err kind) h = tt
+
+labelled_jumps : (label : Option (List ℕ)) (text : List ℕ) → LineJumps (labelled label text)
+labelled_jumps label text = by_length (eqb (length text) 0)
+  where
+    by_length : (b : Bool) → LineJumps (cond b (record { label = label; instruction = Ok None; target = None }) (with_statement label (statement_of text)))
+    by_length true = tt
+    by_length false = with_jumps label (statement_of text) (statement_jumps text)
+
+line_jumps : (bytes : List ℕ) → LineJumps (line_of bytes)
+unfolding line_of
+line_jumps bytes = by_ascii (list_all is_ascii bytes)
+  where
+    text : List ℕ
+    text = trimmed (uncommented bytes)
+
+    by_ascii : (b : Bool) → LineJumps (cond b (line_in text) (record { label = None; instruction = Err NotAscii; target = None }))
+    by_ascii true = let parts = split_label text (cut_at 58 text) in labelled_jumps parts.0 (trimmed parts.1)
+    by_ascii false = tt
+
+pub lines_jump : (all : List (List ℕ)) → AllByRecursion LineJumps (map line_of all)
+lines_jump [] = tt
+lines_jump (bytes ∷ all) = (line_jumps bytes, lines_jump all)
