@@ -2,12 +2,11 @@
 use Rattle.std.proofs.Common.{◌≡◌, ℕ, ◌+◌, ◌==◌, suc, not, Bool, true, false, ◌&&◌, cond, List, [], ◌∷◌, ◌++◌, take, None, Err, refl, sym, ap, ◌∙◌, arith}
 use Rattle.std.specs.Char.{is_ascii}
 use Rattle.std.specs.List.{list_all, position_or_len}
-use Rattle.std.proofs.Math.Bool.{and-true}
 use Rattle.std.proofs.lemmas.List.Folds.{list_all-append}
 use Rattle.std.proofs.lemmas.List.Sums.{list_all-from_AllPass}
 use Rattle.text_lines.specs.Cut.{is_blank_byte, trimmed, uncommented, without_end_blanks, without_first_blanks}
 use Rattle.text_lines.specs.Laws.{AreBlanks}
-use Rattle.text_lines.proofs.Proved.{back_goes, blank_is_ascii, blank_is_code, front_goes}
+use Rattle.text_lines.proofs.Proved.{ascii_behind, back_goes, blank_is_ascii, blank_is_code, front_goes}
 use Rattle.ebpf_asm.specs.declared.fault.FaultKind.TheVariants.{NotAscii}
 use Rattle.ebpf_asm.specs.Laws.{BlanksDontCount, CommentsDontCount}
 use Rattle.ebpf_asm.specs.Line.{Line, line_in, line_of}
@@ -20,9 +19,6 @@ blanks_ascii (b ∷ blanks) h = rw (blank_is_ascii b h.0, blanks_ascii blanks h.
 
 ascii_before : (xs ys : List ℕ) → list_all is_ascii xs ≡ true → list_all is_ascii (xs ++ ys) ≡ list_all is_ascii ys
 ascii_before xs ys e = list_all-append is_ascii xs ys ∙ ap (λ (b : Bool). b && list_all is_ascii ys) e
-
-ascii_behind : (xs ys : List ℕ) → list_all is_ascii ys ≡ true → list_all is_ascii (xs ++ ys) ≡ list_all is_ascii xs
-ascii_behind xs ys e = list_all-append is_ascii xs ys ∙ ap (λ (b : Bool). list_all is_ascii xs && b) e ∙ and-true (list_all is_ascii xs)
 
 -- ---- comments
 

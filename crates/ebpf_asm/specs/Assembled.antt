@@ -32,19 +32,19 @@ pub record LeadsToLabel (lines : List Line) (index : ℕ) (label : List ℕ) (ju
   pub leads : target (slot_of_line lines index) distance ≡ pos (slot_of_line lines at)
   pub changed : with_distance distance jump ≡ Some made
 
--- what is made of the instruction of the line at an index: nothing else, unless it names a label
+-- the instruction that is made of a line's: the same, unless that names a label, to which it leads then
 abbrev pub IsMadeOf : List Line → ℕ → Option (List ℕ) → Instruction → Instruction → Type 0
 IsMadeOf lines index None instruction made = made ≡ instruction
 IsMadeOf lines index (Some label) instruction made = LeadsToLabel lines index label instruction made
 
--- the slots of the line at an index have the bytes of its instruction, whose numbers fit their fields
+-- the slots of the line at an index have the bytes of its instruction, whose registers and numbers fit their fields
 pub record IsInPlace (lines : List Line) (bytes : List ℕ) (index : ℕ) (line : Line) (instruction : Instruction) : Type 0 where
   pub made : Instruction
   pub from : IsMadeOf lines index line.target instruction made
   pub fits : Fits made
   pub spelled : take (8 * slots_in line) (drop (8 * slot_of_line lines index) bytes) ≡ spelling made
 
--- the bytes are those of the lines' instructions in order, and no line has a fault
+-- the bytes are those of the lines' instructions in order, and no line has a fault by itself
 pub record AreInOrder (lines : List Line) (bytes : List ℕ) : Type 0 where
   pub faultless : HaveNone (own_fault lines)
   pub whole : length bytes ≡ 8 * slot_count lines

@@ -4,6 +4,7 @@ ghost use Rattle.std.specs.Prelude.{◌≡◌, option_copied, None};
 ghost use Rattle.ebpf_asm.specs.declared.mnemonic.Mnemonic.TheVariants as mnemonics;
 ghost use Rattle.std.specs.Result.{result_map_both};
 ghost use Rattle.ebpf_asm.specs.Statement.{operands_of, none_of, one_of, two_of, three_of, statement_with, statement_of};
+ghost use Rattle.ebpf_asm.specs.steps.LineView.{statement_view};
 
 use crate::fault::FaultKind;
 use crate::mnemonic::Mnemonic;
@@ -36,7 +37,7 @@ fn plain<'a>(instruction: Instruction) -> Statement<'a>
 /// The statement that a text without blanks at its ends is.
 #[tactic(auto, unfolding(crate::specs::Statement::statement_of))]
 pub(crate) fn read(text: &[u8]) -> Result<Statement<'_>, FaultKind>
-    ensures { result_map_both (λ s. (s.instruction, option_copied s.label)) (λ fault. fault) result ≡ statement_of text.now }
+    ensures { statement_view result ≡ statement_of text.now }
 {
     let (name, operands) = word(text);
     let mnemonic = Mnemonic::named(name).ok_or(FaultKind::UnknownMnemonic)?;
@@ -44,7 +45,7 @@ pub(crate) fn read(text: &[u8]) -> Result<Statement<'_>, FaultKind>
 }
 
 fn with_operands(mnemonic: Mnemonic, operands: &[u8]) -> Result<Statement<'_>, FaultKind>
-    ensures { result_map_both (λ s. (s.instruction, option_copied s.label)) (λ fault. fault) result ≡ statement_with mnemonic (operands_of operands.now) }
+    ensures { statement_view result ≡ statement_with mnemonic (operands_of operands.now) }
 {
     match mnemonic {
         Mnemonic::LoadImmediate => load_immediate(operands),
@@ -66,7 +67,7 @@ fn with_operands(mnemonic: Mnemonic, operands: &[u8]) -> Result<Statement<'_>, F
 
 #[tactic(auto, unfolding(crate::specs::Statement::statement_with))]
 fn load_immediate(operands: &[u8]) -> Result<Statement<'_>, FaultKind>
-    ensures { result_map_both (λ s. (s.instruction, option_copied s.label)) (λ fault. fault) result ≡ statement_with mnemonics.LoadImmediate (operands_of operands.now) }
+    ensures { statement_view result ≡ statement_with mnemonics.LoadImmediate (operands_of operands.now) }
 {
     let (dst, value) = two(operands)?;
     let (dst, value) = both(register(dst), wide(value))?;
@@ -75,7 +76,7 @@ fn load_immediate(operands: &[u8]) -> Result<Statement<'_>, FaultKind>
 
 #[tactic(auto, unfolding(crate::specs::Statement::statement_with))]
 fn load(size: Size, operands: &[u8]) -> Result<Statement<'_>, FaultKind>
-    ensures { result_map_both (λ s. (s.instruction, option_copied s.label)) (λ fault. fault) result ≡ statement_with (mnemonics.Load size) (operands_of operands.now) }
+    ensures { statement_view result ≡ statement_with (mnemonics.Load size) (operands_of operands.now) }
 {
     let (dst, src) = two(operands)?;
     let (dst, (src, offset)) = both(register(dst), memory(src))?;
@@ -89,7 +90,7 @@ fn load(size: Size, operands: &[u8]) -> Result<Statement<'_>, FaultKind>
 
 #[tactic(auto, unfolding(crate::specs::Statement::statement_with))]
 fn load_signed(size: SignedSize, operands: &[u8]) -> Result<Statement<'_>, FaultKind>
-    ensures { result_map_both (λ s. (s.instruction, option_copied s.label)) (λ fault. fault) result ≡ statement_with (mnemonics.LoadSigned size) (operands_of operands.now) }
+    ensures { statement_view result ≡ statement_with (mnemonics.LoadSigned size) (operands_of operands.now) }
 {
     let (dst, src) = two(operands)?;
     let (dst, (src, offset)) = both(register(dst), memory(src))?;
@@ -103,7 +104,7 @@ fn load_signed(size: SignedSize, operands: &[u8]) -> Result<Statement<'_>, Fault
 
 #[tactic(auto, unfolding(crate::specs::Statement::statement_with))]
 fn store_immediate(size: Size, operands: &[u8]) -> Result<Statement<'_>, FaultKind>
-    ensures { result_map_both (λ s. (s.instruction, option_copied s.label)) (λ fault. fault) result ≡ statement_with (mnemonics.StoreImmediate size) (operands_of operands.now) }
+    ensures { statement_view result ≡ statement_with (mnemonics.StoreImmediate size) (operands_of operands.now) }
 {
     let (dst, value) = two(operands)?;
     let ((dst, offset), value) = both(memory(dst), immediate(value))?;
@@ -117,7 +118,7 @@ fn store_immediate(size: Size, operands: &[u8]) -> Result<Statement<'_>, FaultKi
 
 #[tactic(auto, unfolding(crate::specs::Statement::statement_with))]
 fn store_register(size: Size, operands: &[u8]) -> Result<Statement<'_>, FaultKind>
-    ensures { result_map_both (λ s. (s.instruction, option_copied s.label)) (λ fault. fault) result ≡ statement_with (mnemonics.StoreRegister size) (operands_of operands.now) }
+    ensures { statement_view result ≡ statement_with (mnemonics.StoreRegister size) (operands_of operands.now) }
 {
     let (dst, src) = two(operands)?;
     let ((dst, offset), src) = both(memory(dst), register(src))?;
@@ -135,7 +136,7 @@ fn arithmetic(
     operation: Operation,
     operands: &[u8],
 ) -> Result<Statement<'_>, FaultKind>
-    ensures { result_map_both (λ s. (s.instruction, option_copied s.label)) (λ fault. fault) result ≡ statement_with (mnemonics.Arithmetic width operation) (operands_of operands.now) }
+    ensures { statement_view result ≡ statement_with (mnemonics.Arithmetic width operation) (operands_of operands.now) }
 {
     let (dst, value) = two(operands)?;
     let (dst, source) = both(register(dst), source(value))?;
@@ -149,7 +150,7 @@ fn arithmetic(
 
 #[tactic(auto, unfolding(crate::specs::Statement::statement_with))]
 fn negate(width: Width, operands: &[u8]) -> Result<Statement<'_>, FaultKind>
-    ensures { result_map_both (λ s. (s.instruction, option_copied s.label)) (λ fault. fault) result ≡ statement_with (mnemonics.Negate width) (operands_of operands.now) }
+    ensures { statement_view result ≡ statement_with (mnemonics.Negate width) (operands_of operands.now) }
 {
     let dst = register(one(operands)?)?;
     Ok(plain(Instruction::Negate { width, dst }))
@@ -157,7 +158,7 @@ fn negate(width: Width, operands: &[u8]) -> Result<Statement<'_>, FaultKind>
 
 #[tactic(auto, unfolding(crate::specs::Statement::statement_with))]
 fn move_signed(extension: SignExtension, operands: &[u8]) -> Result<Statement<'_>, FaultKind>
-    ensures { result_map_both (λ s. (s.instruction, option_copied s.label)) (λ fault. fault) result ≡ statement_with (mnemonics.MoveSigned extension) (operands_of operands.now) }
+    ensures { statement_view result ≡ statement_with (mnemonics.MoveSigned extension) (operands_of operands.now) }
 {
     let (dst, src) = two(operands)?;
     let (dst, src) = both(register(dst), register(src))?;
@@ -170,7 +171,7 @@ fn move_signed(extension: SignExtension, operands: &[u8]) -> Result<Statement<'_
 
 #[tactic(auto, unfolding(crate::specs::Statement::statement_with))]
 fn swap_bytes(swap: Swap, size: SwapSize, operands: &[u8]) -> Result<Statement<'_>, FaultKind>
-    ensures { result_map_both (λ s. (s.instruction, option_copied s.label)) (λ fault. fault) result ≡ statement_with (mnemonics.SwapBytes swap size) (operands_of operands.now) }
+    ensures { statement_view result ≡ statement_with (mnemonics.SwapBytes swap size) (operands_of operands.now) }
 {
     let dst = register(one(operands)?)?;
     Ok(plain(Instruction::SwapBytes { swap, size, dst }))
@@ -178,7 +179,7 @@ fn swap_bytes(swap: Swap, size: SwapSize, operands: &[u8]) -> Result<Statement<'
 
 #[tactic(auto, unfolding(crate::specs::Statement::statement_with))]
 fn jump(operands: &[u8]) -> Result<Statement<'_>, FaultKind>
-    ensures { result_map_both (λ s. (s.instruction, option_copied s.label)) (λ fault. fault) result ≡ statement_with mnemonics.Jump (operands_of operands.now) }
+    ensures { statement_view result ≡ statement_with mnemonics.Jump (operands_of operands.now) }
 {
     let target = one(operands)?;
     let distance = short_distance(target)?;
@@ -190,7 +191,7 @@ fn jump(operands: &[u8]) -> Result<Statement<'_>, FaultKind>
 
 #[tactic(auto, unfolding(crate::specs::Statement::statement_with))]
 fn jump_long(operands: &[u8]) -> Result<Statement<'_>, FaultKind>
-    ensures { result_map_both (λ s. (s.instruction, option_copied s.label)) (λ fault. fault) result ≡ statement_with mnemonics.JumpLong (operands_of operands.now) }
+    ensures { statement_view result ≡ statement_with mnemonics.JumpLong (operands_of operands.now) }
 {
     let target = one(operands)?;
     let distance = long_distance(target)?;
@@ -202,7 +203,7 @@ fn jump_long(operands: &[u8]) -> Result<Statement<'_>, FaultKind>
 
 #[tactic(auto, unfolding(crate::specs::Statement::statement_with))]
 fn branch(width: Width, relation: Relation, operands: &[u8]) -> Result<Statement<'_>, FaultKind>
-    ensures { result_map_both (λ s. (s.instruction, option_copied s.label)) (λ fault. fault) result ≡ statement_with (mnemonics.Branch width relation) (operands_of operands.now) }
+    ensures { statement_view result ≡ statement_with (mnemonics.Branch width relation) (operands_of operands.now) }
 {
     let (dst, value, target) = three(operands)?;
     let ((dst, source), distance) = both(
@@ -223,7 +224,7 @@ fn branch(width: Width, relation: Relation, operands: &[u8]) -> Result<Statement
 
 #[tactic(auto, unfolding(crate::specs::Statement::statement_with))]
 fn call(operands: &[u8]) -> Result<Statement<'_>, FaultKind>
-    ensures { result_map_both (λ s. (s.instruction, option_copied s.label)) (λ fault. fault) result ≡ statement_with mnemonics.Call (operands_of operands.now) }
+    ensures { statement_view result ≡ statement_with mnemonics.Call (operands_of operands.now) }
 {
     let helper = immediate(one(operands)?)?;
     Ok(plain(Instruction::Call { helper }))
@@ -231,7 +232,7 @@ fn call(operands: &[u8]) -> Result<Statement<'_>, FaultKind>
 
 #[tactic(auto, unfolding(crate::specs::Statement::statement_with))]
 fn exit(operands: &[u8]) -> Result<Statement<'_>, FaultKind>
-    ensures { result_map_both (λ s. (s.instruction, option_copied s.label)) (λ fault. fault) result ≡ statement_with mnemonics.Exit (operands_of operands.now) }
+    ensures { statement_view result ≡ statement_with mnemonics.Exit (operands_of operands.now) }
 {
     none(operands)?;
     Ok(plain(Instruction::Exit))

@@ -1,17 +1,15 @@
 -- Blanks and comments tell nothing.
-use Rattle.std.proofs.Common.{◌≡◌, ℕ, ◌-◌, ◌+◌, ◌<◌, ◌==◌, suc, zero, not, Bool, true, false, cond, List, [], ◌∷◌, ◌++◌, length, take, get_or, ◌&&◌, Some, None, refl, sym, ap, ◌∙◌, append-nil, arith, length-append, inl, inr}
+use Rattle.std.proofs.Common.{◌≡◌, ℕ, ◌-◌, ◌+◌, ◌<◌, ◌==◌, suc, zero, not, Bool, true, false, cond, List, [], ◌∷◌, ◌++◌, length, take, get_or, Some, None, refl, sym, ap, ◌∙◌, append-nil, arith, length-append, inl, inr}
 use Rattle.std.specs.List.{All, AllPass, list_all, position_or_len}
 use Rattle.std.specs.Char.{is_ascii}
-use Rattle.std.proofs.Math.Bool.{and-true}
 use Rattle.std.proofs.Math.Seq.{take-append_seam, take-append-le, take-append-add, get_or-append_seam}
 use Rattle.std.proofs.lemmas.Bool.{not-true}
 use Rattle.std.proofs.lemmas.Bool.Decides.{leb_tells, nat_tests}
 use Rattle.std.proofs.lemmas.List.{get_or_append_left}
 use Rattle.std.proofs.lemmas.List.Elements.{All-append, All-cons, All-from_recursion, All-head, All-nil, All-tail, All-take, All-weaker}
-use Rattle.std.proofs.lemmas.List.Folds.{list_all-append}
 use Rattle.std.proofs.lemmas.List.Sums.{list_all-from_AllPass, position_or_len_is}
 use Rattle.text_lines.specs.Cut.{is_blank_byte, uncommented}
-use Rattle.text_lines.proofs.Proved.{blank_is_ascii, blank_is_code}
+use Rattle.text_lines.proofs.Proved.{ascii_behind, blank_is_ascii, blank_is_code}
 use Rattle.event_text.specs.CommandFile.{line_told, words_told}
 use Rattle.event_text.specs.Laws.{BlanksDontCount, CommentsDontCount, IsComment}
 use Rattle.event_text.specs.Words.{words_of}
@@ -31,16 +29,13 @@ uncommented-cut line rest h =
     (λ lt. ap (λ (b : ℕ). b == 59) (get_or-append_seam line 59 rest 0)) in
     ap (λ (n : ℕ). take n all) at ∙ take-append_seam line (59 ∷ rest)
 
-is_ascii-comment : (line comment : List ℕ) → list_all is_ascii comment ≡ true → list_all is_ascii (line ++ comment) ≡ list_all is_ascii line
-is_ascii-comment line comment e = list_all-append is_ascii line comment ∙ ap (λ (b : Bool). list_all is_ascii line && b) e ∙ and-true (list_all is_ascii line)
-
 pub comments_dont_count : CommentsDontCount
 comments_dont_count line [] plain is = ap line_told (append-nil line)
 comments_dont_count line (first ∷ rest) plain is =
     let none = All-weaker (λ b. not (b == 59) ≡ true) (λ b. (b == 59) ≡ false) (λ b e. not-true (b == 59) e) line plain in
     let comment : list_all is_ascii (59 ∷ rest) ≡ true = list_all-from_AllPass is_ascii rest is.1 in
     ap (λ (b : ℕ). line_told (line ++ b ∷ rest)) is.0
-    ∙ ap (λ (b : Bool). cond b (words_told (words_of (uncommented (line ++ 59 ∷ rest)))) None) (is_ascii-comment line (59 ∷ rest) comment)
+    ∙ ap (λ (b : Bool). cond b (words_told (words_of (uncommented (line ++ 59 ∷ rest)))) None) (ascii_behind line (59 ∷ rest) comment)
     ∙ ap (λ (text : List ℕ). cond (list_all is_ascii line) (words_told (words_of text)) None) (uncommented-cut line rest none ∙ sym (uncommented-same line none))
 
 -- ---- blanks

@@ -1,9 +1,12 @@
--- Blanks as bytes, and at the end of a text.
+-- Blanks as bytes, and at the end of a text; ASCII behind a text.
 use Rattle.std.proofs.Common.{◌≡◌, ℕ, ◌-◌, ◌+◌, ◌≤◌, Bool, true, false, ◌&&◌, ◌==◌, eqb, cond, List, [], ◌∷◌, ◌++◌, length, take, get_or, refl, sym, ap, ◌∙◌, arith}
 use Rattle.std.specs.Char.{is_ascii}
+use Rattle.std.specs.List.{list_all}
+use Rattle.std.proofs.Math.Bool.{and-true}
 use Rattle.std.proofs.Math.Dec.{eqb-suc-zero}
 use Rattle.std.proofs.lemmas.Bool.Decides.{nat_tests}
 use Rattle.std.proofs.lemmas.List.{take_more, take_all}
+use Rattle.std.proofs.lemmas.List.Folds.{list_all-append}
 use Rattle.text_lines.specs.Cut.{is_blank_byte, without_end_blanks}
 
 -- ---- a blank byte
@@ -14,6 +17,12 @@ blank_is_ascii byte e = grind (arith, nat_tests)
 -- it begins no comment
 pub blank_is_code : (byte : ℕ) → is_blank_byte byte ≡ true → (byte == 59) ≡ false
 blank_is_code byte e = grind (arith, nat_tests)
+
+-- ---- ASCII
+
+-- a text is ASCII, where ASCII stands behind it, if it was without that
+pub ascii_behind : (text rest : List ℕ) → list_all is_ascii rest ≡ true → list_all is_ascii (text ++ rest) ≡ list_all is_ascii text
+ascii_behind text rest e = list_all-append is_ascii text rest ∙ ap (λ (b : Bool). list_all is_ascii text && b) e ∙ and-true (list_all is_ascii text)
 
 -- ---- blanks at the end
 

@@ -1,7 +1,15 @@
--- Lines as the definitions see them: without where their bytes lie in memory.
-use Rattle.std.specs.Prelude.{List, map, option_copied}
+-- Statements and lines as the definitions see them: without where their bytes lie in memory.
+use Rattle.std.specs.Prelude.{List, map, option_copied, Result}
+use Rattle.std.specs.Result.{result_map_both}
+use Rattle.ebpf_asm.specs.declared.fault.FaultKind.{FaultKind}
 use Rattle.ebpf_asm.specs.declared.line.Line.{Line}
+use Rattle.ebpf_asm.specs.declared.statement.Statement.{Statement}
 use Rattle.ebpf_asm.specs.Line as lines
+use Rattle.ebpf_asm.specs.Statement as statements
+
+-- a statement, with its label as bytes alone, or what is wrong with it
+abbrev pub statement_view : Result Statement FaultKind → Result statements.Statement FaultKind
+statement_view result = result_map_both (λ statement. (statement.instruction, option_copied statement.label)) (λ fault. fault) result
 
 -- a line, with its label and its target as bytes alone
 abbrev pub line_view : Line → lines.Line
