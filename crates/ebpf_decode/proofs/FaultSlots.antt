@@ -1,12 +1,13 @@
 -- Where the faults of a program's bytes lie.
-use Rattle.std.proofs.Common.{◌≡◌, ℕ, suc, ◌+◌, ◌/◌, ◌<◌, ◌≤◌, Bool, false, List, [], ◌∷◌, length, Option, Some, None, Result, Ok, Err, refl, sym, ap, arith}
+use Rattle.std.proofs.Common.{◌≡◌, ℕ, suc, ◌+◌, ◌/◌, ◌<◌, ◌≤◌, Bool, false, option_map, List, [], ◌∷◌, length, Option, Some, None, Result, Ok, Err, refl, sym, ap, arith}
 use Rattle.ebpf_decode.specs.declared.fault.Fault.{Fault}
 use Rattle.ebpf_decode.specs.declared.fault.FaultKind.{FaultKind}
 use Rattle.instruction_set.specs.declared.fields.Fields.{Fields}
 use Rattle.instruction_set.specs.declared.instruction.Instruction.{Instruction}
 use Rattle.ebpf_decode.specs.Laws.{FaultIsInside}
-use Rattle.ebpf_decode.specs.Reading.{begins_wide, begun, length_fault, read_slots, slots_at, then_read, unless_length, with_front}
+use Rattle.ebpf_decode.specs.Reading.{at_first_slot, begins_wide, begun, length_fault, read_slots, slots_at, then_read, with_front}
 use Rattle.program_interface.specs.declared.TheConstants.{MOST_SLOTS}
+use Rattle.program_interface.specs.Readings.{unless_fault}
 use Rattle.std.specs.List.{slice_get}
 use Rattle.ebpf_decode.proofs.Programs.{few_slots}
 use Rattle.ebpf_decode.proofs.Slots.{length-slots}
@@ -44,7 +45,7 @@ fault_within second s (f ∷ rest) fault e =
     (begun second f (slice_get rest 0)) e
 
 by_length : (bytes : List ℕ) (fault : Fault) (found : Option FaultKind) → length_fault (length bytes) ≡ found
-    → unless_length found (read_slots false 0 (slots_at (length bytes / 8) bytes)) ≡ Err fault → fault.slot < MOST_SLOTS
+    → unless_fault (option_map at_first_slot found) (read_slots false 0 (slots_at (length bytes / 8) bytes)) ≡ Err fault → fault.slot < MOST_SLOTS
 by_length bytes fault (Some kind) is e = let at : fault.slot ≡ 0 = same_slot 0 kind fault e in omega arith
 by_length bytes fault None is e =
     let within : fault.slot < 0 + length (slots_at (length bytes / 8) bytes) = fault_within false 0 (slots_at (length bytes / 8) bytes) fault e in

@@ -16,7 +16,7 @@ use Rattle.program_interface.specs.Readings.{unless_fault}
 use Rattle.ebpf_decode.specs.FirstFault.{Begins, FindsFirst, IsFirstFault, IsOfSlot, IsTold, NoneFinds}
 use Rattle.ebpf_decode.specs.Laws.{FaultIsFirst}
 use Rattle.ebpf_decode.specs.Opcodes.{opcode_named}
-use Rattle.ebpf_decode.specs.Reading.{checks, instruction_with, length_checks, length_fault, read, read_named, read_slots, slots_at, then_read, unless_length}
+use Rattle.ebpf_decode.specs.Reading.{at_first_slot, checks, instruction_with, length_checks, length_fault, read, read_named, read_slots, slots_at, then_read}
 use Rattle.ebpf_decode.proofs.SpelledAreRead.{read-again}
 use Rattle.ebpf_decode.proofs.Bytes.{slots-fields}
 use Rattle.ebpf_decode.proofs.FaultSlots.{fault_behind, same_slot, told_at}
@@ -197,7 +197,7 @@ of-slot fs fault all e =
     }
 
 by-length : (bytes : List ℕ) (fault : Fault) (found : Option FaultKind) → AreBytes bytes → length_fault (length bytes) ≡ found
-    → unless_length found (read_slots false 0 (slots_at (length bytes / 8) bytes)) ≡ Err fault → IsFirstFault bytes fault
+    → unless_fault (option_map at_first_slot found) (read_slots false 0 (slots_at (length bytes / 8) bytes)) ≡ Err fault → IsFirstFault bytes fault
 by-length bytes fault (Some kind) fits is e =
     inl (record {
       slot = same_slot 0 kind fault e;

@@ -9,9 +9,10 @@ use Rattle.instruction_set.specs.declared.fields.Fields.{Fields}
 use Rattle.instruction_set.specs.declared.instruction.Instruction.{Instruction}
 use Rattle.instruction_set.specs.declared.instruction.Instruction.TheVariants.{LoadImmediate}
 use Rattle.instruction_set.specs.Program.{IsProgram, is_wide, slots_of}
-use Rattle.ebpf_decode.specs.Reading.{decoded_program, length_fault, read, read_slots, slots_at, then_read, unless_length, with_front}
+use Rattle.ebpf_decode.specs.Reading.{at_first_slot, decoded_program, length_fault, read, read_slots, slots_at, then_read, with_front}
 use Rattle.instruction_set.specs.Spelling.{Fits, first_slot, instructions_of, program_bytes, second_slot, slot_bytes, slots_spelled, spelling}
 use Rattle.program_interface.specs.declared.TheConstants.{MOST_SLOTS}
+use Rattle.program_interface.specs.Readings.{unless_fault}
 use Rattle.std.proofs.lemmas.Bool.{eq-eqb, eqb-false, eqb-true, le-ltb, ltb-false, ne_eqb, not-false, not_from_true}
 use Rattle.std.proofs.lemmas.List.Concat.{flat_map-append}
 use Rattle.ebpf_decode.proofs.SpelledAreRead.{read-again}
@@ -193,7 +194,7 @@ program-again slots program =
     let filled : eqb (length (flat_map slot_bytes fs)) 0 ≡ false = ne_eqb _ _ (λ none. omega arith) in
     let few : ltb MOST_SLOTS (length (flat_map slot_bytes fs) / 8) ≡ false = le-ltb _ _ (omega arith) in
     ap decoded_program bytes
-    ∙ ap (λ k. unless_length k (read_slots false 0 (slots_at (length (flat_map slot_bytes fs) / 8) (flat_map slot_bytes fs)))) (three-none _ _ _ _ _ _ whole filled few)
+    ∙ ap (λ k. unless_fault (option_map at_first_slot k) (read_slots false 0 (slots_at (length (flat_map slot_bytes fs) / 8) (flat_map slot_bytes fs)))) (three-none _ _ _ _ _ _ whole filled few)
     ∙ ap (λ n. read_slots false 0 (slots_at n (flat_map slot_bytes fs))) count
     ∙ ap (read_slots false 0) (slots-again fs (fit-slots is program.fits))
     ∙ read-program is 0 program.fits
@@ -209,12 +210,13 @@ one-read a b e = cc
 pub one-program : (a b : List (Option Instruction)) → IsProgram a → IsProgram b → program_bytes a ≡ program_bytes b → a ≡ b
 one-program a b p q same = one-read a b (sym (program-again a p) ∙ ap decoded_program same ∙ program-again b q)
 
-unless_length-ok : (k : Option FaultKind) (read : Result (List (Option Instruction)) Fault) (slots : List (Option Instruction)) → unless_length k read ≡ Ok slots → (k ≡ None) × (read ≡ Ok slots)
-unless_length-ok (Some kind) read slots e = absurd cc
-unless_length-ok None read slots e = (refl, e)
+no-length-fault : (k : Option FaultKind) (read : Result (List (Option Instruction)) Fault) (slots : List (Option Instruction))
+    → unless_fault (option_map at_first_slot k) read ≡ Ok slots → (k ≡ None) × (read ≡ Ok slots)
+no-length-fault (Some kind) read slots e = absurd cc
+no-length-fault None read slots e = (refl, e)
 
 -- what decodes is a program, spelled by the bytes
 pub decoded-program : (bytes : List ℕ) (slots : List (Option Instruction)) → IsBytes bytes → decoded_program bytes ≡ Ok slots → IsProgram slots × (bytes ≡ program_bytes slots)
 decoded-program bytes slots fits e =
-    let ok = unless_length-ok (length_fault (length bytes)) (read_slots false 0 (slots_at (length bytes / 8) bytes)) slots e in
+    let ok = no-length-fault (length_fault (length bytes)) (read_slots false 0 (slots_at (length bytes / 8) bytes)) slots e in
     program-read bytes slots fits ok.0 ok.1

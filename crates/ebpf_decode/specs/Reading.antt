@@ -176,14 +176,14 @@ length_checks len =
 abbrev pub length_fault : ℕ → Option FaultKind
 length_fault len = option_map (λ check. check.1) (find (λ check. check.0) (length_checks len))
 
--- slots, unless the length has a fault, which is told at slot 0
-abbrev pub unless_length : Option FaultKind → Result (List (Option Instruction)) Fault → Result (List (Option Instruction)) Fault
-unless_length (Some kind) slots = Err (record { slot = 0; kind = kind })
-unless_length None slots = slots
+-- a fault at slot 0, where those of the length are told
+abbrev pub at_first_slot : FaultKind → Fault
+at_first_slot kind = record { slot = 0; kind = kind }
 
 -- the program that bytes spell, or their first fault
 abbrev pub decoded_program : List ℕ → Result (List (Option Instruction)) Fault
-decoded_program bytes = unless_length (length_fault (length bytes)) (read_slots false 0 (slots_at (length bytes / 8) bytes))
+decoded_program bytes =
+    unless_fault (option_map at_first_slot (length_fault (length bytes))) (read_slots false 0 (slots_at (length bytes / 8) bytes))
 
 -- ---- what a function answers
 
