@@ -1,4 +1,4 @@
-mod Places
+mod AreaOffsets
 mod Running
 mod Statements
 mod Stepping

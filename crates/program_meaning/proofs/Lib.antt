@@ -1,8 +1,8 @@
+mod AreaOffsets
 mod CauseLemmas
 mod Groups
 mod MapLemmas
 mod MemoryLemmas
-mod Placed
 mod Running
 mod Start
 mod StateLemmas

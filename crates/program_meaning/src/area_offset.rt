@@ -1,12 +1,12 @@
-//! Places in memory.
+//! Offsets in the areas of memory.
 
 use program_interface::Area;
 
-/// A place in an area, in bytes from its first.
+/// An offset in an area.
 #[derive(Clone, Copy, Debug, PartialEq, Eq)]
 pub struct AreaOffset {
     /// The area.
     pub area: Area,
-    /// How many bytes behind its first.
+    /// In bytes from its first.
     pub offset: usize,
 }

@@ -41,26 +41,26 @@ impl Machine<'_> {
         if size == 0 {
             return Err(Cause::EmitLength);
         }
-        let Some(place) = self.area_offset(self.register(Register::R1), size) else {
+        let Some(area_offset) = self.area_offset(self.register(Register::R1), size) else {
             return Err(Cause::EmitOutside);
         };
         if (self.group_length + FRAME_LENGTH_BYTES) as u64 + size > limit as u64 {
             return Err(Cause::EmitLength);
         }
-        self.add_frame(place, size as usize, group);
+        self.add_frame(area_offset, size as usize, group);
         Ok(())
     }
 
-    fn add_frame(&mut self, place: AreaOffset, size: usize, group: &mut [u8])
-        requires room { place.offset + size ≤ length_of (length self.old.block.now) place.area }
+    fn add_frame(&mut self, area_offset: AreaOffset, size: usize, group: &mut [u8])
+        requires room { area_offset.offset + size ≤ length_of (length self.old.block.now) area_offset.area }
         requires size { size < 2 ^ 16 }
         requires fits { self.old.group_length + 2 + size ≤ length group.old }
-        ensures state { (slot : ℕ) → state_at self.new slot group.new ≡ with_frame (state_at self.old slot group.old) (take size (bytes_from (memory_of self.old) (Some place))) }
+        ensures state { (slot : ℕ) → state_at self.new slot group.new ≡ with_frame (state_at self.old slot group.old) (take size (bytes_from (memory_of self.old) (Some area_offset))) }
         ensures extends { Extends self.old self.new group.old group.new }
     {
         let start = self.group_length;
-        let bytes = self.bytes(place.area);
-        write_frame(group, start, &bytes[place.offset..][..size]);
+        let bytes = self.bytes(area_offset.area);
+        write_frame(group, start, &bytes[area_offset.offset..][..size]);
         self.group_length = start + FRAME_LENGTH_BYTES + size;
         self.frames += 1;
         clear_registers(&mut self.registers);
