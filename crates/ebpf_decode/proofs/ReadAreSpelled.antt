@@ -1,14 +1,15 @@
 -- What is read from a slot is spelled by it.
-use Rattle.std.proofs.Common.{◌≡◌, FitsSigned, ℕ, ℤ, pos, ◌+◌, ◌*◌, ◌%◌, ◌/◌, ◌^◌, ◌<◌, Bool, true, false, not, ◌&&◌, ◌||◌, cond, eqb, ltb, List, [], ◌∷◌, Option, Some, None, Ok, is_none, find, option_map, refl, sym, ap, subst, ◌∙◌, arith}
+use Rattle.std.proofs.Common.{◌≡◌, FitsSigned, ℕ, ℤ, pos, ◌+◌, ◌*◌, ◌%◌, ◌/◌, ◌^◌, ◌<◌, Bool, true, false, not, ◌&&◌, ◌||◌, cond, eqb, leb, List, [], ◌∷◌, Option, Some, None, Ok, is_none, find, option_map, refl, sym, ap, subst, ◌∙◌, arith}
 use Rattle.std.specs.Ordering.{int_eq}
 use Rattle.std.specs.Int.{w16, w32, cast_signed, cast_unsigned}
 use Rattle.std.specs.Option.{ok_or, option_or}
-use Rattle.std.proofs.lemmas.Bool.{agree_below_at, and_parts, eqb-true, ltb-false, not-false, or_parts}
+use Rattle.std.proofs.lemmas.Bool.{agree_below_at, and_parts, eqb-true, leb-false, not-false, or_parts}
 use Rattle.std.proofs.lemmas.Bool.Decides.{Decides-int_eq}
 use Rattle.std.proofs.lemmas.Int.{ints, to_z-of_z}
 use Rattle.ebpf_decode.specs.declared.fault.FaultKind.{FaultKind}
 use Rattle.ebpf_decode.specs.declared.fault.FaultKind.TheVariants as kinds
 use Rattle.program_interface.specs.Readings.{unless_fault}
+use Rattle.program_interface.specs.declared.registers.TheConstants.{REGISTERS}
 use Rattle.instruction_set.specs.declared.fields.Fields.{Fields}
 use Rattle.instruction_set.specs.declared.instruction.Instruction.{Instruction}
 use Rattle.instruction_set.specs.declared.instruction.Instruction.TheVariants as instructions
@@ -85,8 +86,8 @@ int_zero_when : (used : Bool) (z : ℤ) → (not used && not (int_eq z (pos 0)))
 int_zero_when true z h e = absurd cc
 int_zero_when false z h e = (Decides-int_eq z (pos 0)).0 (not-false _ h)
 
-low_when : (used : Bool) (n : ℕ) → (used && ltb 10 n) ≡ false → used ≡ true → n < 11
-low_when true n h e = omega (arith, ltb-false 10 n h)
+low_when : (used : Bool) (n : ℕ) → (used && leb REGISTERS n) ≡ false → used ≡ true → n < 11
+low_when true n h e = omega (arith, leb-false REGISTERS n h)
 low_when false n h e = absurd cc
 
 low : (used : Bool) (n : ℕ) → (used ≡ true → n < 11) → (used ≡ false → n ≡ 0) → n < 11
@@ -104,7 +105,7 @@ pub record IsUsed (used : Uses) (f : Fields) : Type 0 where
 
 is_used : (used : Uses) (f : Fields) → has_no_register used f ≡ false → has_unused used f ≡ false → IsUsed used f
 is_used used f registers unused =
-    let r = or_parts (used.dst && ltb 10 f.dst) (used.src && ltb 10 f.src) registers in
+    let r = or_parts (used.dst && leb REGISTERS f.dst) (used.src && leb REGISTERS f.src) registers in
     let p = or_parts _ (not used.immediate && not (int_eq f.immediate (pos 0))) unused in
     let q = or_parts _ (not used.offset && not (int_eq f.offset (pos 0))) p.0 in
     let s = or_parts (not used.dst && not (eqb f.dst 0)) (not used.src && not (eqb f.src 0)) q.0 in

@@ -3,7 +3,7 @@ use Rattle.std.proofs.Common.{◌≡◌, ℕ, pos, ◌+◌, ◌*◌, ◌%◌, �
 use Rattle.std.specs.Option.{ok_or}
 use Rattle.std.specs.Ordering.{int_eq}
 use Rattle.std.specs.Int.{w32, cast_signed, cast_unsigned}
-use Rattle.std.proofs.lemmas.Bool.{and_right, le-ltb, or_from}
+use Rattle.std.proofs.lemmas.Bool.{and_right, lt-leb, or_from}
 use Rattle.std.proofs.lemmas.Int.{of_z-to_z}
 use Rattle.instruction_set.specs.declared.fields.Fields.{Fields}
 use Rattle.instruction_set.specs.declared.instruction.Instruction.{Instruction}
@@ -35,6 +35,7 @@ use Rattle.ebpf_decode.specs.Opcodes.{opcode_named, uses}
 use Rattle.instruction_set.specs.Program.{is_wide}
 use Rattle.ebpf_decode.specs.declared.fault.FaultKind.TheVariants as kinds
 use Rattle.program_interface.specs.Readings.{unless_fault}
+use Rattle.program_interface.specs.declared.registers.TheConstants.{REGISTERS}
 use Rattle.ebpf_decode.specs.Reading.{first_fault, has_more, has_no_register, has_unused, instruction_with, is_left_out, is_load_immediate, read, read_named}
 use Rattle.instruction_set.specs.Spelling.{Fits, LDX, MEM, MEMSX, MOV, NEG, ST, STX, access_opcode, arithmetic_class, extension_offset, extension_width, first_slot, jump_class, kept_bits, operation_code, operation_offset, operation_opcode, relation_code, second_slot, signed_size_code, size_code, swap_opcode}
 
@@ -154,7 +155,7 @@ extension-told Bits32To64 = (refl, refl, refl)
 
 no-register : (used : Uses) (f : Fields) → f.dst < 11 → f.src < 11 → has_no_register used f ≡ false
 no-register used f dst src =
-    or_from _ _ (and_right used.dst _ (le-ltb 10 f.dst (omega arith))) (and_right used.src _ (le-ltb 10 f.src (omega arith)))
+    or_from _ _ (and_right used.dst _ (lt-leb REGISTERS f.dst (omega arith))) (and_right used.src _ (lt-leb REGISTERS f.src (omega arith)))
 
 answered : (f : Fields) (next : Option Fields) (opcode : Opcode) (i : Instruction) → opcode_named f.opcode ≡ Some opcode → f.dst < 11 → f.src < 11
     → is_left_out opcode f ≡ false → (is_load_immediate opcode && is_none next) ≡ false

@@ -1,5 +1,5 @@
 -- Reading bytes: the program that they spell, or their first fault.
-use Rattle.std.specs.Prelude.{ℕ, zero, suc, pos, ◌+◌, ◌*◌, ◌/◌, ◌%◌, ◌^◌, ◌==◌, nat_lt, Bool, true, false, not, ◌&&◌, ◌||◌, List, [], ◌∷◌, ◌++◌, length, drop, slice_get, slice_index, find, Option, Some, None, is_none, option_map, Result, Ok, Err, ok_or}
+use Rattle.std.specs.Prelude.{ℕ, zero, suc, pos, ◌+◌, ◌*◌, ◌/◌, ◌%◌, ◌^◌, ◌==◌, nat_le, nat_lt, Bool, true, false, not, ◌&&◌, ◌||◌, List, [], ◌∷◌, ◌++◌, length, drop, slice_get, slice_index, find, Option, Some, None, is_none, option_map, Result, Ok, Err, ok_or}
 use Rattle.std.specs.Ordering.{int_eq}
 use Rattle.std.specs.Int.{w16, w32, cast_signed, cast_unsigned}
 use Rattle.std.specs.Option.{option_or}
@@ -26,6 +26,7 @@ use Rattle.instruction_set.specs.Codes.{extension_with, variant_with, swap_size_
 use Rattle.ebpf_decode.specs.Opcodes.{opcode_named, uses}
 use Rattle.instruction_set.specs.Program.{is_wide}
 use Rattle.program_interface.specs.declared.TheConstants.{MOST_SLOTS}
+use Rattle.program_interface.specs.declared.registers.TheConstants.{REGISTERS}
 use Rattle.program_interface.specs.Readings.{unless_fault}
 
 -- the fields of the slot at the front of bytes (RFC 9669, 3.1)
@@ -57,9 +58,9 @@ abbrev pub is_load_immediate : Opcode → Bool
 is_load_immediate LoadImmediate = true
 is_load_immediate _ = false
 
--- has a field that names a register a number over 10?
+-- has a field that names a register a number that none has?
 abbrev pub has_no_register : Uses → Fields → Bool
-has_no_register used f = (used.dst && nat_lt 10 f.dst) || (used.src && nat_lt 10 f.src)
+has_no_register used f = (used.dst && nat_le REGISTERS f.dst) || (used.src && nat_le REGISTERS f.src)
 
 -- is a field that isn't used other than 0?
 abbrev pub has_unused : Uses → Fields → Bool

@@ -16,12 +16,13 @@ fn clear_registers(registers: &mut [u64; REGISTERS])
 }
 
 impl Machine<'_> {
-    ghost use Rattle.std.specs.Prelude.{◌≡◌, ◌+◌, ◌<◌, ◌≤◌, ◌^◌, ℕ, Option, Some, length, take, drop, ◌++◌, is_ok, if◌then◌else◌, slice_index};
+    ghost use Rattle.std.specs.Prelude.{◌≡◌, ◌+◌, ◌<◌, ◌≤◌, ◌^◌, ℕ, Option, Some, Ok, length, take, drop, ◌++◌, is_ok, if◌then◌else◌, slice_index};
     ghost use Rattle.program_meaning.specs.Effect.{with_frame, emitted};
     ghost use Rattle.program_meaning.specs.Memory.{area_bytes, bytes_from, area_offset_of};
     ghost use Rattle.program_interface.specs.Area.{length_of};
     ghost use Rattle.interp.specs.Machine.{state_at, memory_of, group_length, Extends};
-    ghost use Rattle.interp.specs.StepEnds.{unless, emit_hindrance};
+    ghost use Rattle.interp.specs.StepEnds.{emit_hindrance};
+    ghost use Rattle.program_interface.specs.Readings.{unless_fault};
 
     /// Adds the frame that R1 and R2 tell to the group, unless a cause hinders it.
     ///
@@ -33,7 +34,7 @@ impl Machine<'_> {
         requires limit { limit < 2 ^ 16 }
         requires room { limit ≤ length group.old }
         requires used { self.old.group_length ≤ length group.old }
-        ensures answer { (slot : ℕ) → result ≡ unless (emit_hindrance limit (state_at self.old slot group.old)) }
+        ensures answer { (slot : ℕ) → result ≡ unless_fault (emit_hindrance limit (state_at self.old slot group.old)) (Ok tt) }
         ensures state { (slot : ℕ) → state_at self.new slot group.new ≡ (if is_ok result then emitted (state_at self.old slot group.old) else state_at self.old slot group.old) }
         ensures extends { Extends self.old self.new group.old group.new }
     {
