@@ -1,5 +1,5 @@
 -- What an opcode names, and which fields it uses.
-use Rattle.std.specs.Prelude.{ℕ, ◌==◌, ◌/◌, ◌%◌, Bool, true, false, [], ◌∷◌, Option, Some, None, option_map, if◌then◌else◌}
+use Rattle.std.specs.Prelude.{ℕ, ◌==◌, ◌/◌, ◌%◌, Bool, true, false, List, [], ◌∷◌, find, Option, Some, None, option_and_then, option_map, if◌then◌else◌}
 use Rattle.std.specs.List.{list_any}
 use Rattle.std.specs.Option.{option_or}
 use Rattle.ebpf_decode.specs.declared.opcode.LeftOut.TheVariants.{Atomic, Packet}
@@ -68,17 +68,22 @@ jump_long_opcode opcode =
     if opcode == operation_opcode JA 0 (jump_class widths.Bits32) then Some opcodes.JumpLong
     else branch_opcode widths.Bits32 opcode
 
--- what an opcode names, by its class (RFC 9669, 3.3)
+-- the classes, each with what its opcodes name (RFC 9669, 3.3)
+abbrev pub classes : List (ℕ × (ℕ → Option Opcode))
+classes =
+    (LD, load_immediate_opcode)
+    ∷ (LDX, load_opcode)
+    ∷ (ST, store_immediate_opcode)
+    ∷ (STX, store_register_opcode)
+    ∷ (arithmetic_class widths.Bits32, arithmetic_opcode widths.Bits32)
+    ∷ (jump_class widths.Bits64, jump_opcode)
+    ∷ (jump_class widths.Bits32, jump_long_opcode)
+    ∷ (arithmetic_class widths.Bits64, arithmetic_opcode widths.Bits64)
+    ∷ []
+
+-- what an opcode names, by its class
 abbrev pub opcode_named : ℕ → Option Opcode
-opcode_named opcode =
-    if opcode % 8 == LD then load_immediate_opcode opcode
-    else if opcode % 8 == LDX then load_opcode opcode
-    else if opcode % 8 == ST then store_immediate_opcode opcode
-    else if opcode % 8 == STX then store_register_opcode opcode
-    else if opcode % 8 == arithmetic_class widths.Bits32 then arithmetic_opcode widths.Bits32 opcode
-    else if opcode % 8 == jump_class widths.Bits64 then jump_opcode opcode
-    else if opcode % 8 == jump_class widths.Bits32 then jump_long_opcode opcode
-    else arithmetic_opcode widths.Bits64 opcode
+opcode_named opcode = option_and_then (λ class. class.1 opcode) (find (λ class. class.0 == opcode % 8) classes)
 
 -- is the second operand in the immediate?
 abbrev pub is_immediate : Operand → Bool
