@@ -2,7 +2,7 @@
 use Rattle.std.specs.Prelude.{ℕ, ◌*◌, List, drop}
 use Rattle.byteorder.specs.Endian.{little_number}
 
--- the number that so many bytes from a byte on spell, the lowest first (NVMe Base 2.0, Byte, Word, and Dword Relationships)
+-- the number that so many bytes from a byte on spell, the lowest first (NVMe Base 2.0, 1.4)
 abbrev pub field : List ℕ → ℕ → ℕ → ℕ
 field entry at bytes = little_number bytes (drop at entry)
 

@@ -35,14 +35,14 @@ abbrev pub zone_to_close : Holds → List CountedZone → Option ℕ
 zone_to_close holds zones = position (λ p. may_close holds p.0 p.1) (enumerate_from 0 zones)
 
 -- what is answered where no open resource is free
-abbrev pub closing : Option ℕ → Result (Option ℕ) Status
-closing None = Err TOO_MANY_OPEN_ZONES
-closing (Some number) = Ok (Some number)
+abbrev pub closing_answer : Option ℕ → Result (Option ℕ) Status
+closing_answer None = Err TOO_MANY_OPEN_ZONES
+closing_answer (Some number) = Ok (Some number)
 
 -- whether an open resource can be had, and the zone to be closed for it, if one has to be
 abbrev pub open_admission : List CountedZone → Limits → Holds → Result (Option ℕ) Status
 open_admission zones limits holds =
-    if nat_lt (open_count zones) limits.open_limit then Ok None else closing (zone_to_close holds zones)
+    if nat_lt (open_count zones) limits.open_limit then Ok None else closing_answer (zone_to_close holds zones)
 
 -- whether what is wanted can be had: an active resource first (ZNS 1.1, 2.1.1;
 -- the order: profile)
@@ -87,12 +87,12 @@ pub record IsWithin (zones : List CountedZone) (limits : Limits) : Type 0 where
 -- one that was admitted is in its new state
 abbrev pub AdmissionKeepsLimits : Type 0
 AdmissionKeepsLimits =
-    (zones : List CountedZone) (limits : Limits) (holds : Holds) (wanted : Wanted) (to_close : Option ℕ)
-    → IsWithin zones limits → admission zones limits holds wanted ≡ Ok to_close
-    → IsWithin (after_closing to_close zones) limits
+    (zones : List CountedZone) (limits : Limits) (holds : Holds) (wanted : Wanted) (closing : Option ℕ)
+    → IsWithin zones limits → admission zones limits holds wanted ≡ Ok closing
+    → IsWithin (after_closing closing zones) limits
     × ((number : ℕ) (was is : CountedZone)
     → slice_get zones number ≡ Some was → wanted_of was.state ≡ Some wanted
-    → IsWithin (slice_set (after_closing to_close zones) number is) limits)
+    → IsWithin (slice_set (after_closing closing zones) number is) limits)
 
 -- a zone of the first state holds no resource that one of the second doesn't hold
 pub record HoldsNoMore (is was : ZoneState) : Type 0 where

@@ -141,9 +141,8 @@ const MEANINGS: &[Meaning] = &[
     },
 ];
 
-/// The name (that of its constant, with the sections there), the numbers and
-/// a sentence: `Zone Is Full (type 1h, code B9h): a write to a Full zone`. Of a status that isn't among them,
-/// the numbers alone.
+/// The name, the numbers and a sentence: `Zone Is Full (type 1h, code B9h): a write to a Full zone`. Of a status that isn't
+/// among them, the numbers alone.
 impl fmt::Display for Status {
     fn fmt<W: fmt::Write>(&self, f: &mut fmt::Formatter<W>) -> fmt::Result {
         let kind = self.kind.number();

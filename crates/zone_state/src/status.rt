@@ -49,8 +49,7 @@ pub struct Status {
     pub code: u8,
 }
 
-/// Generic command status (NVMe Base 2.0, Generic Command Status Values; LBA Out of Range: NVM
-/// Command Set 1.0, Generic Command Status Values).
+/// Generic command status (NVMe Base 2.0, 3.3.3.2; LBA Out of Range: NVM Command Set 1.0, Generic Command Status Values).
 impl Status {
     /// The command is done.
     pub const SUCCESS: Status = Status {
@@ -58,7 +57,7 @@ impl Status {
         code: 0x00,
     };
 
-    /// The opcode is none that the controller knows.
+    /// The opcode is none that is supported.
     pub const INVALID_COMMAND_OPCODE: Status = Status {
         kind: StatusType::Generic,
         code: 0x01,
@@ -70,7 +69,7 @@ impl Status {
         code: 0x02,
     };
 
-    /// There is no namespace of that identifier.
+    /// The namespace is not 1.
     pub const INVALID_NAMESPACE_OR_FORMAT: Status = Status {
         kind: StatusType::Generic,
         code: 0x0B,
@@ -85,7 +84,7 @@ impl Status {
 
 /// Command specific status (ZNS 1.1, Command Specific Status Values).
 impl Status {
-    /// The blocks are not all in one zone, or a write passes the zone's capacity.
+    /// A Read or the source of a Run passes its zone's end, or a write its zone's capacity.
     pub const ZONE_BOUNDARY_ERROR: Status = Status {
         kind: StatusType::CommandSpecific,
         code: 0xB8,
@@ -103,31 +102,31 @@ impl Status {
         code: 0xBA,
     };
 
-    /// A read of, or a write to, an Offline zone.
+    /// A Read of an Offline zone, a Run from one, or a write to one.
     pub const ZONE_IS_OFFLINE: Status = Status {
         kind: StatusType::CommandSpecific,
         code: 0xBB,
     };
 
-    /// A write that does not begin at the zone's write pointer.
+    /// A Write that does not begin at the zone's write pointer.
     pub const ZONE_INVALID_WRITE: Status = Status {
         kind: StatusType::CommandSpecific,
         code: 0xBC,
     };
 
-    /// The command wants an active resource, and none is free.
+    /// An active resource is wanted, and none is free.
     pub const TOO_MANY_ACTIVE_ZONES: Status = Status {
         kind: StatusType::CommandSpecific,
         code: 0xBD,
     };
 
-    /// The command wants an open resource, and none is free or can be freed.
+    /// An open resource is wanted, none is free, and no zone can be closed.
     pub const TOO_MANY_OPEN_ZONES: Status = Status {
         kind: StatusType::CommandSpecific,
         code: 0xBE,
     };
 
-    /// The zone's state does not allow the zone send action.
+    /// The zone's state does not allow the action.
     pub const INVALID_ZONE_STATE_TRANSITION: Status = Status {
         kind: StatusType::CommandSpecific,
         code: 0xBF,
@@ -142,43 +141,43 @@ impl Status {
         code: 0xC0,
     };
 
-    /// The program slot holds no program.
+    /// The slot has no program.
     pub const NO_SUCH_PROGRAM: Status = Status {
         kind: StatusType::VendorSpecific,
         code: 0xC1,
     };
 
-    /// The program was not accepted; the completion tells the instruction's slot and the reason.
+    /// The bytes are no program, or it is not accepted; the completion tells the instruction's slot and the reason.
     pub const PROGRAM_REFUSED: Status = Status {
         kind: StatusType::VendorSpecific,
         code: 0xC2,
     };
 
-    /// Every run number is in use.
+    /// As many runs are active as can be.
     pub const NO_RUN_FREE: Status = Status {
         kind: StatusType::VendorSpecific,
         code: 0xC3,
     };
 
-    /// A block of the run's source is not written.
+    /// Not all of the blocks that the run is to read are written.
     pub const SOURCE_NOT_WRITTEN: Status = Status {
         kind: StatusType::VendorSpecific,
         code: 0xC4,
     };
 
-    /// The run's destination is not open.
+    /// The zone that the run is to append to is not open.
     pub const DESTINATION_NOT_OPEN: Status = Status {
         kind: StatusType::VendorSpecific,
         code: 0xC5,
     };
 
-    /// The run's destination has fewer blocks of capacity left than the run may append.
+    /// The zone that the run is to append to has less room than the run may need.
     pub const DESTINATION_LACKS_ROOM: Status = Status {
         kind: StatusType::VendorSpecific,
         code: 0xC6,
     };
 
-    /// The command wanted memory, and was refused it.
+    /// There is no memory for the program; nothing has changed.
     pub const WANT_OF_MEMORY: Status = Status {
         kind: StatusType::VendorSpecific,
         code: 0xC7,
@@ -190,13 +189,13 @@ impl Status {
         code: 0xC8,
     };
 
-    /// The run's source and destination are one zone.
+    /// The run's source and its destination are one zone.
     pub const SOURCE_IS_DESTINATION: Status = Status {
         kind: StatusType::VendorSpecific,
         code: 0xC9,
     };
 
-    /// An active run uses the program slot.
+    /// An active run uses the slot's program.
     pub const PROGRAM_IN_USE: Status = Status {
         kind: StatusType::VendorSpecific,
         code: 0xCA,

@@ -77,7 +77,8 @@ impl Zone {
 
     /// How many blocks can be written before the zone has to be reset: at least 1.
     pub fn capacity(&self) -> u32
-        ensures { result ≡ self.now.capacity }
+        ensures value { result ≡ self.now.capacity }
+        ensures some { 1 ≤ result }
     {
         self.capacity
     }
