@@ -45,25 +45,25 @@ told_send entry d cid lba code what all has is_lba is_13 small is_what =
 
 -- the report that is asked for, of so many dwords and with a filter, if there is one
 abbrev pub reported : List ℕ → ℕ → Option ZoneFilter → Option Command
-reported entry dwords filter = option_map (λ (which : ZoneFilter). command.Standard (Receive (starting_lba entry) dwords which (slice_index entry 54 % 2 == 1))) filter
+reported entry dwords told = option_map (λ (filter : ZoneFilter). command.Standard (Receive (starting_lba entry) dwords filter (slice_index entry 54 % 2 == 1))) told
 
-pub told_receive : (entry : List ℕ) (d : CommandDwords) (cid lba dwords code : ℕ) (which : ZoneFilter) (partial : Bool) → HasFields entry opcode.ZoneManagementReceive cid d
-    → d.cdw10 + d.cdw11 * 2 ^ 32 ≡ lba → dwords_of d.cdw12 ≡ Some dwords → d.cdw13 ≡ code * 2 ^ 8 + bool_byte partial * 2 ^ 16 → code < 2 ^ 8 → filter_of code ≡ Some which
-    → decoded entry ≡ Ok (command.Standard (Receive lba dwords which partial))
-told_receive entry d cid lba dwords code which partial has is_lba is_dwords is_13 small is_which =
+pub told_receive : (entry : List ℕ) (d : CommandDwords) (cid lba dwords code : ℕ) (filter : ZoneFilter) (partial : Bool) → HasFields entry opcode.ZoneManagementReceive cid d
+    → d.cdw10 + d.cdw11 * 2 ^ 32 ≡ lba → dwords_of d.cdw12 ≡ Some dwords → d.cdw13 ≡ code * 2 ^ 8 + bool_byte partial * 2 ^ 16 → code < 2 ^ 8 → filter_of code ≡ Some filter
+    → decoded entry ≡ Ok (command.Standard (Receive lba dwords filter partial))
+told_receive entry d cid lba dwords code filter partial has is_lba is_dwords is_13 small is_which =
     let bounded = bit_small partial in
     let low : slice_index entry 52 ≡ 0 = omega (arith, has.first_of_13) in
     let next : slice_index entry 53 ≡ code = omega (arith, has.second_of_13) in
     let third : slice_index entry 54 ≡ bool_byte partial = omega (arith, has.third_of_13) in
     let is_count : dwords_of (dword entry 12) ≡ Some dwords = ap dwords_of has.cdw12 ∙ is_dwords in
-    let is_filter : filter_of (slice_index entry 53) ≡ Some which = ap filter_of next ∙ is_which in
+    let is_filter : filter_of (slice_index entry 53) ≡ Some filter = ap filter_of next ∙ is_which in
     let start : starting_lba entry ≡ lba = omega (arith, has.starting_lba) in
     has.command
     ∙ (ap (λ (o : Option ℕ). ok_or (option_and_then (λ (k : ℕ). cond (slice_index entry 52 == 0) (reported entry k (filter_of (slice_index entry 53))) None) o) INVALID_FIELD_IN_COMMAND) is_count
     ∙ (ap (λ (n : ℕ). ok_or (cond (n == 0) (reported entry dwords (filter_of (slice_index entry 53))) None) INVALID_FIELD_IN_COMMAND) low
     ∙ (ap (λ (o : Option ZoneFilter). ok_or (reported entry dwords o) INVALID_FIELD_IN_COMMAND) is_filter
-    ∙ (ap (λ (n : ℕ). Ok (command.Standard (Receive n dwords which (slice_index entry 54 % 2 == 1)))) start
-    ∙ ap (λ (b : Bool). Ok (command.Standard (Receive lba dwords which b))) (flag_back partial (slice_index entry 54) third)))))
+    ∙ (ap (λ (n : ℕ). Ok (command.Standard (Receive n dwords filter (slice_index entry 54 % 2 == 1)))) start
+    ∙ ap (λ (b : Bool). Ok (command.Standard (Receive lba dwords filter b))) (flag_back partial (slice_index entry 54) third)))))
 
 pub slot_back : (number : ℕ) → number < 8 → program_slot_of number ≡ Some number
 slot_back number few = ap (λ (b : Bool). cond b (Some number) None) (lt-ltb number 8 few)

@@ -7,7 +7,7 @@ use Rattle.zone_state.specs.Zone.{CountedZone}
 use Rattle.program_interface.specs.Bytes.{padded}
 use Rattle.nvme_entry.specs.Filter.{lists}
 use Rattle.nvme_entry.specs.declared.filter.ZoneFilter.{ZoneFilter}
-use Rattle.nvme_entry.specs.Report.{descriptor, descriptor_at, report_header, listed, taken}
+use Rattle.nvme_entry.specs.Report.{descriptor, descriptor_at, report_header, listed, listed_zones}
 
 pub length-descriptor : (zone : CountedZone) (lowest : ℕ) → length (descriptor zone lowest) ≡ 64
 unfolding descriptor
@@ -99,54 +99,54 @@ whole-none {X = X} f n =
 cut : (zones : List CountedZone) (index : ℕ) (zone : CountedZone) → index < length zones → zone ≡ get_or zones index zone → drop index zones ≡ zone ∷ drop (index + 1) zones
 cut zones index zone inside is = drop_more zones index zone inside ∙ ap (λ (z : CountedZone). z ∷ drop (index + 1) zones) (sym is)
 
-taken-cut : (option : ZoneFilter) (first index : ℕ) (zones : List CountedZone) (zone : CountedZone) (test : Bool) → index < length zones → zone ≡ get_or zones index zone
-    → lists option zone.state ≡ test
-    → taken option (enumerate_from (first + index) (drop index zones))
-    ≡ cond test ((first + index, zone) ∷ taken option (enumerate_from (first + (index + 1)) (drop (index + 1) zones))) (taken option (enumerate_from (first + (index + 1)) (drop (index + 1) zones)))
-taken-cut option first index zones zone test inside is tested =
+listed_zones-cut : (filter : ZoneFilter) (first index : ℕ) (zones : List CountedZone) (zone : CountedZone) (test : Bool) → index < length zones → zone ≡ get_or zones index zone
+    → lists filter zone.state ≡ test
+    → listed_zones filter (enumerate_from (first + index) (drop index zones))
+    ≡ cond test ((first + index, zone) ∷ listed_zones filter (enumerate_from (first + (index + 1)) (drop (index + 1) zones))) (listed_zones filter (enumerate_from (first + (index + 1)) (drop (index + 1) zones)))
+listed_zones-cut filter first index zones zone test inside is tested =
     let behind = drop (index + 1) zones in
     let next : first + index + 1 ≡ first + (index + 1) = omega arith in
-    ap (λ (zs : List CountedZone). taken option (enumerate_from (first + index) zs)) (cut zones index zone inside is)
-    ∙ (ap (λ (b : Bool). cond b ((first + index, zone) ∷ taken option (enumerate_from (first + index + 1) behind)) (taken option (enumerate_from (first + index + 1) behind))) tested
-    ∙ ap (λ (n : ℕ). cond test ((first + index, zone) ∷ taken option (enumerate_from n behind)) (taken option (enumerate_from n behind))) next)
+    ap (λ (zs : List CountedZone). listed_zones filter (enumerate_from (first + index) zs)) (cut zones index zone inside is)
+    ∙ (ap (λ (b : Bool). cond b ((first + index, zone) ∷ listed_zones filter (enumerate_from (first + index + 1) behind)) (listed_zones filter (enumerate_from (first + index + 1) behind))) tested
+    ∙ ap (λ (n : ℕ). cond test ((first + index, zone) ∷ listed_zones filter (enumerate_from n behind)) (listed_zones filter (enumerate_from n behind))) next)
 
 -- a zone that the filter lists is the first of those that are left
-pub taken-next : (option : ZoneFilter) (first index : ℕ) (zones : List CountedZone) (zone : CountedZone) → index < length zones → zone ≡ get_or zones index zone
-    → lists option zone.state ≡ true
-    → taken option (enumerate_from (first + index) (drop index zones)) ≡ (first + index, zone) ∷ taken option (enumerate_from (first + (index + 1)) (drop (index + 1) zones))
-taken-next option first index zones zone inside is tested = taken-cut option first index zones zone true inside is tested
+pub listed_zones-next : (filter : ZoneFilter) (first index : ℕ) (zones : List CountedZone) (zone : CountedZone) → index < length zones → zone ≡ get_or zones index zone
+    → lists filter zone.state ≡ true
+    → listed_zones filter (enumerate_from (first + index) (drop index zones)) ≡ (first + index, zone) ∷ listed_zones filter (enumerate_from (first + (index + 1)) (drop (index + 1) zones))
+listed_zones-next filter first index zones zone inside is tested = listed_zones-cut filter first index zones zone true inside is tested
 
 -- a zone that it doesn't take is none of them
-pub taken-not : (option : ZoneFilter) (first index : ℕ) (zones : List CountedZone) (zone : CountedZone) → index < length zones → zone ≡ get_or zones index zone
-    → lists option zone.state ≡ false
-    → taken option (enumerate_from (first + index) (drop index zones)) ≡ taken option (enumerate_from (first + (index + 1)) (drop (index + 1) zones))
-taken-not option first index zones zone inside is tested = taken-cut option first index zones zone false inside is tested
+pub listed_zones-not : (filter : ZoneFilter) (first index : ℕ) (zones : List CountedZone) (zone : CountedZone) → index < length zones → zone ≡ get_or zones index zone
+    → lists filter zone.state ≡ false
+    → listed_zones filter (enumerate_from (first + index) (drop index zones)) ≡ listed_zones filter (enumerate_from (first + (index + 1)) (drop (index + 1) zones))
+listed_zones-not filter first index zones zone inside is tested = listed_zones-cut filter first index zones zone false inside is tested
 
 -- so far: what the loop over the zones has found and put before one of them
-pub record HasListed (option : ZoneFilter) (first size : ℕ) (zones : List CountedZone) (start output : List ℕ) (index found at : ℕ) : Type 0 where
+pub record HasListed (filter : ZoneFilter) (first size : ℕ) (zones : List CountedZone) (start output : List ℕ) (index found at : ℕ) : Type 0 where
   pub inside : at ≤ length output
   pub few : found ≤ index
-  pub number : found + length (taken option (enumerate_from (first + index) (drop index zones))) ≡ length (taken option (enumerate_from first zones))
-  pub bytes : take at output ++ listed size (length output - at) (taken option (enumerate_from (first + index) (drop index zones))) ≡ listed size (length start) (taken option (enumerate_from first zones))
+  pub number : found + length (listed_zones filter (enumerate_from (first + index) (drop index zones))) ≡ length (listed_zones filter (enumerate_from first zones))
+  pub bytes : take at output ++ listed size (length output - at) (listed_zones filter (enumerate_from (first + index) (drop index zones))) ≡ listed size (length start) (listed_zones filter (enumerate_from first zones))
 
-pub listed-begins : (option : ZoneFilter) (first size : ℕ) (zones : List CountedZone) (output : List ℕ) → HasListed option first size zones output output 0 0 0
-listed-begins option first size zones output =
+pub listed-begins : (filter : ZoneFilter) (first size : ℕ) (zones : List CountedZone) (output : List ℕ) → HasListed filter first size zones output output 0 0 0
+listed-begins filter first size zones output =
     let same : first + 0 ≡ first = omega arith in
     let long : length output - 0 ≡ length output = omega arith in
     record {
       inside = omega arith;
       few = omega arith;
-      number = omega (arith, ap (λ (n : ℕ). length (taken option (enumerate_from n zones))) same);
+      number = omega (arith, ap (λ (n : ℕ). length (listed_zones filter (enumerate_from n zones))) same);
       bytes =
-          ap (λ (n : ℕ). listed size (length output - 0) (taken option (enumerate_from n zones))) same
-          ∙ ap (λ (n : ℕ). listed size n (taken option (enumerate_from first zones))) long;
+          ap (λ (n : ℕ). listed size (length output - 0) (listed_zones filter (enumerate_from n zones))) same
+          ∙ ap (λ (n : ℕ). listed size n (listed_zones filter (enumerate_from first zones))) long;
     }
 
-pub listed-not : (option : ZoneFilter) (first size : ℕ) (zones : List CountedZone) (start output : List ℕ) (index found at : ℕ) (zone : CountedZone)
-    → index < length zones → zone ≡ get_or zones index zone → lists option zone.state ≡ false
-    → HasListed option first size zones start output index found at → HasListed option first size zones start output (index + 1) found at
-listed-not option first size zones start output index found at zone inside is tested has =
-    let next = taken-not option first index zones zone inside is tested in
+pub listed-not : (filter : ZoneFilter) (first size : ℕ) (zones : List CountedZone) (start output : List ℕ) (index found at : ℕ) (zone : CountedZone)
+    → index < length zones → zone ≡ get_or zones index zone → lists filter zone.state ≡ false
+    → HasListed filter first size zones start output index found at → HasListed filter first size zones start output (index + 1) found at
+listed-not filter first size zones start output index found at zone inside is tested has =
+    let next = listed_zones-not filter first index zones zone inside is tested in
     record {
       inside = has.inside;
       few = omega (arith, has.few);
@@ -154,16 +154,16 @@ listed-not option first size zones start output index found at zone inside is te
       bytes = ap (λ (zs : List (ℕ × CountedZone)). take at output ++ listed size (length output - at) zs) (sym next) ∙ has.bytes;
     }
 
-pub listed-next : (option : ZoneFilter) (first size : ℕ) (zones : List CountedZone) (start output new : List ℕ) (index found at place lowest : ℕ) (zone : CountedZone)
-    → index < length zones → zone ≡ get_or zones index zone → lists option zone.state ≡ true
+pub listed-next : (filter : ZoneFilter) (first size : ℕ) (zones : List CountedZone) (start output new : List ℕ) (index found at place lowest : ℕ) (zone : CountedZone)
+    → index < length zones → zone ≡ get_or zones index zone → lists filter zone.state ≡ true
     → lowest ≡ (first + index) * size
     → place ≤ length new → length new ≡ length output
     → (at + 64 ≤ length output → (place ≡ at + 64) × (take place new ≡ take at output ++ descriptor zone lowest))
     → (length output < at + 64 → (place ≡ at) × (new ≡ output))
-    → HasListed option first size zones start output index found at → HasListed option first size zones start new (index + 1) (found + 1) place
-listed-next option first size zones start output new index found at place lowest zone inside is tested is_lowest within same_length fits full has =
-    let next = taken-next option first index zones zone inside is tested in
-    let rest = taken option (enumerate_from (first + (index + 1)) (drop (index + 1) zones)) in
+    → HasListed filter first size zones start output index found at → HasListed filter first size zones start new (index + 1) (found + 1) place
+listed-next filter first size zones start output new index found at place lowest zone inside is tested is_lowest within same_length fits full has =
+    let next = listed_zones-next filter first index zones zone inside is tested in
+    let rest = listed_zones filter (enumerate_from (first + (index + 1)) (drop (index + 1) zones)) in
     let longer = ap (λ (zs : List (ℕ × CountedZone)). length zs) next in
     record {
       inside = within;
@@ -176,19 +176,19 @@ listed-next option first size zones start output new index found at place lowest
     }
 
 -- behind the last zone nothing is left to list
-taken-last : (option : ZoneFilter) (first index : ℕ) (zones : List CountedZone) → length zones ≤ index → taken option (enumerate_from (first + index) (drop index zones)) ≡ []
-taken-last option first index zones past = ap (λ (zs : List CountedZone). taken option (enumerate_from (first + index) zs)) (drop_all index zones past)
+listed_zones-last : (filter : ZoneFilter) (first index : ℕ) (zones : List CountedZone) → length zones ≤ index → listed_zones filter (enumerate_from (first + index) (drop index zones)) ≡ []
+listed_zones-last filter first index zones past = ap (λ (zs : List CountedZone). listed_zones filter (enumerate_from (first + index) zs)) (drop_all index zones past)
 
-pub listed-number : (option : ZoneFilter) (first size : ℕ) (zones : List CountedZone) (start output : List ℕ) (index found at : ℕ) → length zones ≤ index
-    → HasListed option first size zones start output index found at → found ≡ length (taken option (enumerate_from first zones))
-listed-number option first size zones start output index found at past has =
-    let none = ap (λ (zs : List (ℕ × CountedZone)). length zs) (taken-last option first index zones past) in
+pub listed-number : (filter : ZoneFilter) (first size : ℕ) (zones : List CountedZone) (start output : List ℕ) (index found at : ℕ) → length zones ≤ index
+    → HasListed filter first size zones start output index found at → found ≡ length (listed_zones filter (enumerate_from first zones))
+listed-number filter first size zones start output index found at past has =
+    let none = ap (λ (zs : List (ℕ × CountedZone)). length zs) (listed_zones-last filter first index zones past) in
     omega (arith, has.number, none)
 
-pub listed-bytes : (option : ZoneFilter) (first size : ℕ) (zones : List CountedZone) (start output new : List ℕ) (index found at : ℕ) → length zones ≤ index
+pub listed-bytes : (filter : ZoneFilter) (first size : ℕ) (zones : List CountedZone) (start output new : List ℕ) (index found at : ℕ) → length zones ≤ index
     → new ≡ take at output ++ replicate (length output - at) 0
-    → HasListed option first size zones start output index found at → new ≡ listed size (length start) (taken option (enumerate_from first zones))
-listed-bytes option first size zones start output new index found at past is has =
+    → HasListed filter first size zones start output index found at → new ≡ listed size (length start) (listed_zones filter (enumerate_from first zones))
+listed-bytes filter first size zones start output new index found at past is has =
     is
     ∙ (ap (λ (ys : List ℕ). take at output ++ ys) (sym (whole-none (descriptor_at size) (length output - at)))
-    ∙ (ap (λ (zs : List (ℕ × CountedZone)). take at output ++ listed size (length output - at) zs) (sym (taken-last option first index zones past)) ∙ has.bytes))
+    ∙ (ap (λ (zs : List (ℕ × CountedZone)). take at output ++ listed size (length output - at) zs) (sym (listed_zones-last filter first index zones past)) ∙ has.bytes))

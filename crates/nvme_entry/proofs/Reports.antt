@@ -10,7 +10,7 @@ use Rattle.zone_state.specs.Zone.{CountedZone}
 use Rattle.program_interface.specs.Bytes.{pieces}
 use Rattle.nvme_entry.specs.Filter.{lists}
 use Rattle.nvme_entry.specs.declared.filter.ZoneFilter.{ZoneFilter}
-use Rattle.nvme_entry.specs.Report.{descriptor_at, fitting, report_header, listed, matching, report, taken}
+use Rattle.nvme_entry.specs.Report.{descriptor_at, fitting, report_header, listed, matching, report, listed_zones}
 use Rattle.nvme_entry.specs.ReportLaws.{ReportsGiveWhatMatches, ReportsZones, number_in}
 use Rattle.nvme_entry.proofs.Listings.{length-descriptor, length-header, length-whole, whole}
 
@@ -48,18 +48,18 @@ behind-header f each output start xs is =
     ⊎_elim (λ short. behind-short f each output start xs is short) (λ enough. behind-long f output start xs is enough) (cases_lt (length output) 64)
 
 -- the two parts, written one after the other, are the report
-pub report-written : (output second new : List ℕ) (zones : List CountedZone) (first size : ℕ) (option : ZoneFilter) (partial : Bool) (start room number : ℕ)
+pub report-written : (output second new : List ℕ) (zones : List CountedZone) (first size : ℕ) (filter : ZoneFilter) (partial : Bool) (start room number : ℕ)
     → start ≡ min (length output) 64
     → room ≡ (length output - start) / 64
-    → second ≡ take start output ++ listed size (length output - start) (matching zones first option)
-    → number ≡ cond partial (min room (length (matching zones first option))) (length (matching zones first option))
+    → second ≡ take start output ++ listed size (length output - start) (matching zones first filter)
+    → number ≡ cond partial (min room (length (matching zones first filter))) (length (matching zones first filter))
     → new ≡ take (length second) (report_header number) ++ drop 64 second
-    → new ≡ report (length output) zones first size option partial
+    → new ≡ report (length output) zones first size filter partial
 unfolding report
-report-written output second new zones first size option partial start room number is_start is_room is_second is_number is_new =
+report-written output second new zones first size filter partial start room number is_start is_room is_second is_number is_new =
     let n = length output in
     let f = descriptor_at size in
-    let found = matching zones first option in
+    let found = matching zones first filter in
     let behind : n - start ≡ n - 64 = omega arith in
     let inside : start ≤ n = omega arith in
     let places : room ≡ (n - 64) / 64 = is_room ∙ ap (λ (k : ℕ). k / 64) behind in
@@ -76,19 +76,19 @@ report-written output second new zones first size option partial start room numb
 abbrev told_by : ℕ → List (ℕ × CountedZone) → Bool → ℕ
 told_by bytes found partial = length (cond partial (fitting (bytes - 64) found) found)
 
-report-parts : (bytes : ℕ) (zones : List CountedZone) (first size : ℕ) (option : ZoneFilter) (partial : Bool) → 64 ≤ bytes
-    → report bytes zones first size option partial ≡ report_header (told_by bytes (matching zones first option) partial) ++ whole (descriptor_at size) (bytes - 64) (matching zones first option)
+report-parts : (bytes : ℕ) (zones : List CountedZone) (first size : ℕ) (filter : ZoneFilter) (partial : Bool) → 64 ≤ bytes
+    → report bytes zones first size filter partial ≡ report_header (told_by bytes (matching zones first filter) partial) ++ whole (descriptor_at size) (bytes - 64) (matching zones first filter)
 unfolding report
-report-parts bytes zones first size option partial long =
-    let number = told_by bytes (matching zones first option) partial in
+report-parts bytes zones first size filter partial long =
+    let number = told_by bytes (matching zones first filter) partial in
     let fits : length (report_header number) ≤ bytes = omega (arith, length-header number) in
-    ap (λ (ys : List ℕ). ys ++ whole (descriptor_at size) (bytes - 64) (matching zones first option)) (take_all bytes (report_header number) fits)
+    ap (λ (ys : List ℕ). ys ++ whole (descriptor_at size) (bytes - 64) (matching zones first filter)) (take_all bytes (report_header number) fits)
 
 -- a report has the length of the transfer
-pub length-report : (bytes : ℕ) (zones : List CountedZone) (first size : ℕ) (option : ZoneFilter) (partial : Bool) → length (report bytes zones first size option partial) ≡ bytes
+pub length-report : (bytes : ℕ) (zones : List CountedZone) (first size : ℕ) (filter : ZoneFilter) (partial : Bool) → length (report bytes zones first size filter partial) ≡ bytes
 unfolding report
-length-report bytes zones first size option partial =
-    let found = matching zones first option in
+length-report bytes zones first size filter partial =
+    let found = matching zones first filter in
     let front = take bytes (report_header (told_by bytes found partial)) in
     let behind = whole (descriptor_at size) (bytes - 64) found in
     omega (arith, length-append front behind, length-take bytes (report_header (told_by bytes found partial)), length-header (told_by bytes found partial), length-whole (descriptor_at size) (length-each size) (bytes - 64) found)
@@ -116,13 +116,13 @@ kept : {X : Type 0} (test : Bool) (x : X) (xs : List X) (n : ℕ) → length xs 
 kept true x xs n few = omega arith
 kept false x xs n few = omega arith
 
-length-taken : (option : ZoneFilter) (zones : List (ℕ × CountedZone)) → length (taken option zones) ≤ length zones
-length-taken option [] = omega arith
-length-taken option (zone ∷ zones) = kept (lists option zone.1.state) zone (taken option zones) (length zones) (length-taken option zones)
+length-listed_zones : (filter : ZoneFilter) (zones : List (ℕ × CountedZone)) → length (listed_zones filter zones) ≤ length zones
+length-listed_zones filter [] = omega arith
+length-listed_zones filter (zone ∷ zones) = kept (lists filter zone.1.state) zone (listed_zones filter zones) (length zones) (length-listed_zones filter zones)
 
-length-matching : (zones : List CountedZone) (first : ℕ) (option : ZoneFilter) → length (matching zones first option) ≤ length zones
-length-matching zones first option =
-    omega (arith, length-taken option (enumerate_from first (drop first zones)), length-enumerate_from first (drop first zones), length-drop first zones)
+length-matching : (zones : List CountedZone) (first : ℕ) (filter : ZoneFilter) → length (matching zones first filter) ≤ length zones
+length-matching zones first filter =
+    omega (arith, length-listed_zones filter (enumerate_from first (drop first zones)), length-enumerate_from first (drop first zones), length-drop first zones)
 
 told-few : {X : Type 0} (partial : Bool) (room : ℕ) (xs : List X) → length (cond partial (take room xs) xs) ≤ length xs
 told-few true room xs = omega (arith, length-take room xs)
@@ -157,8 +157,8 @@ tells bytes partial size found given long few parts same_length =
     }
 
 pub reports_give_what_matches : ReportsGiveWhatMatches
-reports_give_what_matches bytes zones first size option partial long few =
-    let found = matching zones first option in
-    let same_length = length-report bytes zones first size option partial in
-    let few_found : length found < 2 ^ 64 = omega (arith, length-matching zones first option) in
-    (same_length, tells bytes partial size found (report bytes zones first size option partial) long few_found (report-parts bytes zones first size option partial long) same_length)
+reports_give_what_matches bytes zones first size filter partial long few =
+    let found = matching zones first filter in
+    let same_length = length-report bytes zones first size filter partial in
+    let few_found : length found < 2 ^ 64 = omega (arith, length-matching zones first filter) in
+    (same_length, tells bytes partial size found (report bytes zones first size filter partial) long few_found (report-parts bytes zones first size filter partial long) same_length)

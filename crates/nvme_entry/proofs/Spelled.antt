@@ -99,11 +99,11 @@ spelled_by opcode.ZoneManagementSend entry c is e =
     mapped (Spells entry) (λ (what : Action). command.Standard (Send (starting_lba entry) what (slice_index entry 53 % 2 == 1))) (action_of (slice_index entry 52)) c
     (λ what told. (is, refl, told, refl)) e
 spelled_by opcode.ZoneManagementReceive entry c is e =
-    let made = λ (dwords : ℕ) (which : ZoneFilter). command.Standard (Receive (starting_lba entry) dwords which (slice_index entry 54 % 2 == 1)) in
+    let made = λ (dwords : ℕ) (filter : ZoneFilter). command.Standard (Receive (starting_lba entry) dwords filter (slice_index entry 54 % 2 == 1)) in
     chained (Spells entry) (λ (dwords : ℕ). cond (slice_index entry 52 == 0x00) (option_map (made dwords) (filter_of (slice_index entry 53))) None) (dwords_of (dword entry 12)) c
     (λ dwords count. passed (Spells entry) (slice_index entry 52 == 0x00) (option_map (made dwords) (filter_of (slice_index entry 53))) c
     (λ reports. mapped (Spells entry) (made dwords) (filter_of (slice_index entry 53)) c
-    (λ which told.
+    (λ filter told.
     let number = count_told (dword entry 12) dwords count in
     (is, refl, number.0, number.1, eqb-true (slice_index entry 52) 0x00 reports, told, refl))))
     e

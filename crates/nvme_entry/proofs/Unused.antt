@@ -34,9 +34,9 @@ pub unused_send : (entry : List ℕ) (o : Opcode) (cid : ℕ) (d : CommandDwords
 unused_send entry o cid d lba what all has none12 few none14 none15 =
     (none _ has.second_byte, (none _ has.pointers, (none _ (has.cdw12 ∙ none12), (fits _ d.cdw13 9 has.cdw13 few, (no_second entry o cid d has none14 none15, tt)))))
 
-pub unused_receive : (entry : List ℕ) (o : Opcode) (cid : ℕ) (d : CommandDwords) (lba dwords : ℕ) (which : ZoneFilter) (partial : Bool) → HasFields entry o cid d → d.cdw13 < 2 ^ 17 → d.cdw14 ≡ 0 → d.cdw15 ≡ 0
-    → AreZero entry (unused (command.Standard (Receive lba dwords which partial)))
-unused_receive entry o cid d lba dwords which partial has few none14 none15 =
+pub unused_receive : (entry : List ℕ) (o : Opcode) (cid : ℕ) (d : CommandDwords) (lba dwords : ℕ) (filter : ZoneFilter) (partial : Bool) → HasFields entry o cid d → d.cdw13 < 2 ^ 17 → d.cdw14 ≡ 0 → d.cdw15 ≡ 0
+    → AreZero entry (unused (command.Standard (Receive lba dwords filter partial)))
+unused_receive entry o cid d lba dwords filter partial has few none14 none15 =
     (none _ has.second_byte, (none _ has.pointers, (fits _ d.cdw13 17 has.cdw13 few, (no_second entry o cid d has none14 none15, tt))))
 
 pub unused_run : (entry : List ℕ) (o : Opcode) (cid : ℕ) (d : CommandDwords) (run : RunCommand) → HasFields entry o cid d → d.cdw12 < 2 ^ 24

@@ -1,5 +1,5 @@
 -- Zone descriptors (ZNS 1.1, 3.4.2): what they tell of a zone, and their bytes.
-use Rattle.std.specs.Prelude.{ℕ, Bool, true, false, ◌+◌, ◌*◌, ◌^◌, List, [], ◌∷◌, if◌then◌else◌}
+use Rattle.std.specs.Prelude.{ℕ, Bool, true, false, ◌<◌, ◌+◌, ◌*◌, ◌^◌, List, [], ◌∷◌, if◌then◌else◌}
 use Rattle.std.specs.List.{flat_map}
 use Rattle.byteorder.specs.Endian.{little_bytes}
 use Rattle.zone_state.specs.State.{code_of}
@@ -28,6 +28,13 @@ described zone lowest = record { state = zone.state; capacity = zone.capacity; l
 abbrev pub first_word : ZoneState → ℕ
 first_word state = 0x02 + code_of state * 2 ^ 12
 
--- the 64 bytes of a descriptor; those from 32 on are reserved
+-- the 64 bytes of a descriptor: behind the first 8 the zone's capacity, its lowest address and its write pointer, in 8 bytes
+-- each; those from 32 on are reserved
 abbrev pub descriptor_bytes : ZoneDescriptor → List ℕ
 descriptor_bytes d = flat_map (little_bytes 8) (first_word d.state ∷ d.capacity ∷ d.lowest ∷ d.write_pointer ∷ 0 ∷ 0 ∷ 0 ∷ 0 ∷ [])
+
+-- the fields have the numbers of their types
+pub record AreDescriptorFields (d : ZoneDescriptor) : Type 0 where
+  pub capacity : d.capacity < 2 ^ 64
+  pub lowest : d.lowest < 2 ^ 64
+  pub write_pointer : d.write_pointer < 2 ^ 64

@@ -66,7 +66,7 @@ send_of entry = option_map
 abbrev pub receive_of : List ℕ → Option Command
 receive_of entry = option_and_then
     (λ (dwords : ℕ). if slice_index entry 52 == 0x00
-    then option_map (λ (which : ZoneFilter). command.Standard (Receive (starting_lba entry) dwords which (slice_index entry 54 % 2 == 1))) (filter_of (slice_index entry 53))
+    then option_map (λ (filter : ZoneFilter). command.Standard (Receive (starting_lba entry) dwords filter (slice_index entry 54 % 2 == 1))) (filter_of (slice_index entry 53))
     else None)
     (dwords_of (dword entry 12))
 

@@ -1,5 +1,6 @@
 -- The report of zones that Zone Management Receive gives (ZNS 1.1, 3.4.2).
-use Rattle.std.specs.Prelude.{ℕ, Bool, ◌-◌, ◌*◌, ◌/◌, List, ◌++◌, length, take, drop, filter, replicate, if◌then◌else◌}
+use Rattle.std.specs.Prelude.{ℕ, Bool, ◌-◌, ◌*◌, ◌/◌, List, ◌++◌, length, take, drop, replicate, if◌then◌else◌}
+use Rattle.std.specs.Prelude as prelude
 use Rattle.std.specs.List.{enumerate_from, flat_map}
 use Rattle.byteorder.specs.Endian.{little_bytes}
 use Rattle.program_interface.specs.Bytes.{padded}
@@ -21,12 +22,12 @@ unfoldable pub report_header : ℕ → List ℕ
 report_header number = little_bytes 8 number ++ replicate 56 0
 
 -- those of numbered zones that the filter lists
-abbrev pub taken : ZoneFilter → List (ℕ × CountedZone) → List (ℕ × CountedZone)
-taken option zones = filter (λ (zone : ℕ × CountedZone). lists option zone.1.state) zones
+abbrev pub listed_zones : ZoneFilter → List (ℕ × CountedZone) → List (ℕ × CountedZone)
+listed_zones filter zones = prelude.filter (λ (zone : ℕ × CountedZone). lists filter zone.1.state) zones
 
 -- the zones with their numbers, from the first on, that match the filter
 abbrev pub matching : List CountedZone → ℕ → ZoneFilter → List (ℕ × CountedZone)
-matching zones first option = taken option (enumerate_from first (drop first zones))
+matching zones first filter = listed_zones filter (enumerate_from first (drop first zones))
 
 -- the zones whose descriptors fit whole into so many bytes, in order
 abbrev pub fitting : ℕ → List (ℕ × CountedZone) → List (ℕ × CountedZone)
@@ -40,7 +41,7 @@ listed size bytes zones = padded bytes (flat_map (descriptor_at size) (fitting b
 -- header's number is that of the descriptors given, else that of all zones that match. A transfer of
 -- fewer than 64 bytes is a beginning of the header (profile).
 unfoldable pub report : ℕ → List CountedZone → ℕ → ℕ → ZoneFilter → Bool → List ℕ
-report bytes zones first size option partial =
-    let found = matching zones first option in
+report bytes zones first size filter partial =
+    let found = matching zones first filter in
     let counted = if partial then fitting (bytes - 64) found else found in
     take bytes (report_header (length counted)) ++ listed size (bytes - 64) found

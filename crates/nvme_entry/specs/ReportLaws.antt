@@ -14,6 +14,10 @@ number_in bytes = little_number 8 bytes
 abbrev pub descriptors_in : ℕ → List ℕ → List (List ℕ)
 descriptors_in count bytes = pieces 64 count (drop 64 bytes)
 
+-- how many descriptors a report of so many bytes has room for behind its header
+abbrev pub descriptor_room : ℕ → ℕ
+descriptor_room bytes = (bytes - 64) / 64
+
 -- what bytes tell of zones that match: so many descriptors are given
 pub record ReportsZones (bytes : List ℕ) (partial : Bool) (size given : ℕ) (found : List (ℕ × CountedZone)) : Type 0 where
   -- the number of the descriptors given or of all zones that match,
@@ -27,8 +31,8 @@ pub record ReportsZones (bytes : List ℕ) (partial : Bool) (size given : ℕ) (
 -- match, as many as fit whole behind it.
 abbrev pub ReportsGiveWhatMatches : Type 0
 ReportsGiveWhatMatches =
-    (bytes : ℕ) (zones : List CountedZone) (first size : ℕ) (option : ZoneFilter) (partial : Bool)
+    (bytes : ℕ) (zones : List CountedZone) (first size : ℕ) (filter : ZoneFilter) (partial : Bool)
     → 64 ≤ bytes → length zones < 2 ^ 64
-    → let given = report bytes zones first size option partial in
-    let found = matching zones first option in
-    (length given ≡ bytes) × ReportsZones given partial size (min ((bytes - 64) / 64) (length found)) found
+    → let given = report bytes zones first size filter partial in
+    let found = matching zones first filter in
+    (length given ≡ bytes) × ReportsZones given partial size (min (descriptor_room bytes) (length found)) found

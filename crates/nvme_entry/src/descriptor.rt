@@ -1,9 +1,7 @@
 //! Zone descriptors, as a report has them and a host reads them.
 
-ghost use Rattle.std.specs.Prelude.{◌≡◌, ◌<◌, ◌≤◌, ◌+◌, ◌*◌, ◌/◌, ◌%◌, ◌^◌, ℕ, length, IfSome};
-ghost use Rattle.zone_state.specs.Zone.{CountedZone};
-ghost use Rattle.nvme_entry.specs.Report.{descriptor};
-ghost use Rattle.nvme_entry.specs.Descriptor.{first_word, pointer_told, descriptor_bytes, described};
+ghost use Rattle.std.specs.Prelude.{◌≡◌, ◌<◌, ◌≤◌, ◌+◌, ◌*◌, ◌/◌, ◌%◌, ◌^◌, IfSome};
+ghost use Rattle.nvme_entry.specs.Descriptor.{AreDescriptorFields, first_word, pointer_told, descriptor_bytes, described};
 ghost use Rattle.nvme_entry.specs.steps.DescriptorFields.{word_in, descriptor_in};
 
 use byteorder::{ByteOrder, LittleEndian};
@@ -42,11 +40,12 @@ impl ZoneDescriptor {
         }
     }
 
-    /// The descriptor that the bytes spell. `None` where they have another zone type, a code that no state has, or
-    /// attributes, information on them or reserved bits that aren't 0. Whether a zone can have these numbers isn't asked.
+    /// The descriptor that the bytes spell. `None` where no descriptor has them: they have another zone type, a code that no
+    /// state has, or attributes, information on them or reserved bits that aren't 0. Whether a zone can have these numbers
+    /// isn't asked.
     pub fn decode(bytes: &[u8; DESCRIPTOR_BYTES]) -> Option<ZoneDescriptor>
-        ensures spelled { IfSome result (λ found. bytes.now ≡ descriptor_bytes found) }
-        ensures read_back { (zone : CountedZone) (lowest : ℕ) → zone.capacity < 2 ^ 64 → lowest + zone.written < 2 ^ 64 → bytes.now ≡ descriptor zone lowest → result ≡ Some (described zone lowest) }
+        ensures spelled { IfSome result (λ descriptor. bytes.now ≡ descriptor_bytes descriptor) }
+        ensures read_back { (descriptor : ZoneDescriptor) → AreDescriptorFields descriptor → bytes.now ≡ descriptor_bytes descriptor → result ≡ Some descriptor }
     {
         let found = fields(bytes)?;
         if found.encode() == *bytes {

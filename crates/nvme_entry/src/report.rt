@@ -2,7 +2,7 @@
 
 ghost use Rattle.std.specs.Prelude.{◌≡◌, ◌≤◌, ◌<◌, ◌+◌, ◌-◌, ◌*◌, ◌^◌, ◌++◌, length, take, drop, min, if◌then◌else◌};
 ghost use Rattle.std.specs.List.{enumerate_from};
-ghost use Rattle.nvme_entry.specs.Report.{report, listed, taken, report_header, descriptor};
+ghost use Rattle.nvme_entry.specs.Report.{report, listed, listed_zones, report_header, descriptor};
 ghost use Rattle.nvme_entry.specs.ReportLaws.{number_in};
 
 use crate::descriptor::{DESCRIPTOR_BYTES, ZoneDescriptor};
@@ -108,8 +108,8 @@ fn write_header(output: &mut [u8], number: u64)
 /// and zeros, and tells how many it lists. The zones are those from number `first` on.
 fn list(zones: &[Zone], first: u32, size: u32, filter: ZoneFilter, output: &mut [u8]) -> usize
     requires { first + length zones.now ≤ 2 ^ 32 }
-    ensures number { result ≡ length (taken filter (enumerate_from first zones.now)) }
-    ensures bytes { output.new ≡ listed size (length output.old) (taken filter (enumerate_from first zones.now)) }
+    ensures number { result ≡ length (listed_zones filter (enumerate_from first zones.now)) }
+    ensures bytes { output.new ≡ listed size (length output.old) (listed_zones filter (enumerate_from first zones.now)) }
 {
     let mut found = 0;
     let mut at = 0;

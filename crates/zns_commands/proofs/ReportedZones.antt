@@ -13,42 +13,42 @@ use Rattle.zone_state.specs.declared.status.TheConstants.Status.{SUCCESS, INVALI
 use Rattle.zone_resources.specs.declared.holds.Holds.{Holds}
 use Rattle.nvme_entry.specs.declared.command.StandardCommand.TheVariants.{Receive}
 use Rattle.nvme_entry.specs.declared.command.TheConstants.{MOST_TRANSFER}
-use Rattle.nvme_entry.specs.declared.filter.ZoneFilter.TheVariants as filter
+use Rattle.nvme_entry.specs.declared.filter.ZoneFilter.TheVariants as filters
 use Rattle.zone_state.specs.Checks.{demand, first_failed}
-use Rattle.nvme_entry.specs.ReportLaws.{ReportsZones, number_in, descriptors_in}
-use Rattle.nvme_entry.specs.Report.{report, descriptor_at, matching, taken}
+use Rattle.nvme_entry.specs.ReportLaws.{ReportsZones, number_in, descriptors_in, descriptor_room}
+use Rattle.nvme_entry.specs.Report.{report, descriptor_at, matching, listed_zones}
 use Rattle.image_store.specs.Namespace.{ZonedNamespace, counted, counted_zones, IsNamespace}
 use Rattle.zns_commands.specs.Address.{block_total, zone_number}
 use Rattle.zns_commands.specs.Effect.{Effect, success_effect, concluded}
 use Rattle.zns_commands.specs.Meaning.{meaning}
 use Rattle.zns_commands.specs.Receive.{receive_checks, receive_effect}
-use Rattle.zns_commands.specs.Laws.{ReportsEveryZone, ReportsWhatMatches, all_descriptors, descriptor_room, listed_by}
+use Rattle.zns_commands.specs.Laws.{ReportsEveryZone, ReportsWhatMatches, all_descriptors, listed_by}
 use Rattle.nvme_entry.proofs.Proved.{reports_give_what_matches}
 
 both_pass : (a b : Bool) (s t : Status) → a ≡ true → b ≡ true → first_failed (demand a s ∷ None ∷ demand b t ∷ []) ≡ None
 both_pass a b s t ea eb = rw (ea, eb) refl
 
 pub reports_what_matches : ReportsWhatMatches
-reports_what_matches ns holds lba dwords option partial sound inside room most =
+reports_what_matches ns holds lba dwords filter partial sound inside room most =
     let zones = counted_zones ns in
     let first = zone_number ns lba in
-    let found = matching zones first option in
+    let found = matching zones first filter in
     let count : length zones ≡ length ns.zones = length-map ns.zones (counted ns.capacity) in
     let none : first_failed (receive_checks ns lba dwords []) ≡ None =
     both_pass (nat_le (4 * dwords) MOST_TRANSFER) (nat_lt lba (block_total ns)) INVALID_FIELD_IN_COMMAND LBA_OUT_OF_RANGE
     (le-leb _ _ most) (lt-ltb _ _ inside) in
-    let given = report (4 * dwords) zones first ns.size option partial in
-    let is : meaning ns holds (Receive lba dwords option partial) [] ≡ success_effect ns 0 given =
-    ap (λ (refusal : Option Status). concluded refusal ns (receive_effect ns lba dwords option partial)) none in
-    let tells = (reports_give_what_matches (4 * dwords) zones first ns.size option partial room (omega (arith, count, sound.shape.zones_most))).1 in
+    let given = report (4 * dwords) zones first ns.size filter partial in
+    let is : meaning ns holds (Receive lba dwords filter partial) [] ≡ success_effect ns 0 given =
+    ap (λ (refusal : Option Status). concluded refusal ns (receive_effect ns lba dwords filter partial)) none in
+    let tells = (reports_give_what_matches (4 * dwords) zones first ns.size filter partial room (omega (arith, count, sound.shape.zones_most))).1 in
     subst (λ (done : Effect). (done.status ≡ SUCCESS)
-    × ReportsZones done.output partial ns.size (min (descriptor_room dwords) (length found)) found)
+    × ReportsZones done.output partial ns.size (min (descriptor_room (4 * dwords)) (length found)) found)
     (sym is) (refl, tells)
 
 -- all zones match that filter
-all_taken : (zones : List (ℕ × CountedZone)) → taken filter.All zones ≡ zones
-all_taken [] = refl
-all_taken (zone ∷ zones) = ap (λ (zs : List (ℕ × CountedZone)). zone ∷ zs) (all_taken zones)
+all_are_listed : (zones : List (ℕ × CountedZone)) → listed_zones filters.All zones ≡ zones
+all_are_listed [] = refl
+all_are_listed (zone ∷ zones) = ap (λ (zs : List (ℕ × CountedZone)). zone ∷ zs) (all_are_listed zones)
 
 -- later elements keep their numbers
 numbered_on : {X : Type 0} (n k : ℕ) (xs : List X) → enumerate_from (n + k) (drop k xs) ≡ drop k (enumerate_from n xs)
@@ -66,11 +66,11 @@ nothing_given false b s t ns effect eb = refl
 
 -- a partial report of all zones from this zone on
 abbrev reported : ZonedNamespace → Holds → ℕ → ℕ → List ℕ
-reported ns holds dwords z = (meaning ns holds (Receive (z * ns.size) dwords filter.All true) []).output
+reported ns holds dwords z = (meaning ns holds (Receive (z * ns.size) dwords filters.All true) []).output
 
 -- what a report gives of all zones from this one on, if there are any
 record ListsOn (ns : ZonedNamespace) (dwords z : ℕ) (bytes : List ℕ) : Type 0 where
-  number : number_in bytes ≡ min (descriptor_room dwords) (length ns.zones - z)
+  number : number_in bytes ≡ min (descriptor_room (4 * dwords)) (length ns.zones - z)
   given : descriptors_in (number_in bytes) bytes ≡ take (number_in bytes) (drop z (all_descriptors ns))
 
 -- where there are some,
@@ -84,22 +84,22 @@ lists_some ns holds dwords z sound room most inside =
     let below : suc z ≤ length ns.zones = omega (arith, inside) in
     let product : suc z * size ≤ length ns.zones * size = mul-le-mul_right size below in
     let start : z * size < block_total ns = omega (arith, suc-mul z size, product, some) in
-    let tells = (reports_what_matches ns holds (z * size) dwords filter.All true sound start room most).1 in
+    let tells = (reports_what_matches ns holds (z * size) dwords filters.All true sound start room most).1 in
     let bytes = reported ns holds dwords z in
     let named : zone_number ns (z * size) ≡ z = mul-div_cancel z (omega (arith, some)) in
-    let found = matching zones (zone_number ns (z * size)) filter.All in
+    let found = matching zones (zone_number ns (z * size)) filters.All in
     let from_zero : 0 + z ≡ z = omega arith in
     let is_found : found ≡ drop z all =
-    ap (λ (k : ℕ). matching zones k filter.All) named
-    ∙ (all_taken (enumerate_from z (drop z zones))
+    ap (λ (k : ℕ). matching zones k filters.All) named
+    ∙ (all_are_listed (enumerate_from z (drop z zones))
     ∙ (ap (λ (k : ℕ). enumerate_from k (drop z zones)) (sym from_zero) ∙ numbered_on 0 z zones)) in
     let count : length zones ≡ length ns.zones = length-map ns.zones (counted ns.capacity) in
     let long : length found ≡ length ns.zones - z =
     ap (λ (xs : List (ℕ × CountedZone)). length xs) is_found ∙ omega (arith, length-drop z all, length-enumerate_from 0 zones, count) in
-    let n = min (descriptor_room dwords) (length found) in
+    let n = min (descriptor_room (4 * dwords)) (length found) in
     let number : number_in bytes ≡ n = tells.number in
     record {
-      number = number ∙ ap (λ (k : ℕ). min (descriptor_room dwords) k) long;
+      number = number ∙ ap (λ (k : ℕ). min (descriptor_room (4 * dwords)) k) long;
       given =
           ap (λ (k : ℕ). descriptors_in k bytes) number
           ∙ (tells.descriptors
@@ -115,7 +115,7 @@ lists_none ns holds dwords z past =
     let product : length ns.zones * ns.size ≤ z * ns.size = mul-le-mul_right ns.size past in
     let refused : reported ns holds dwords z ≡ [] =
     nothing_given (nat_le (4 * dwords) MOST_TRANSFER) (nat_lt (z * ns.size) (block_total ns)) INVALID_FIELD_IN_COMMAND LBA_OUT_OF_RANGE
-    ns (receive_effect ns (z * ns.size) dwords filter.All true) (le-ltb (z * ns.size) (block_total ns) product) in
+    ns (receive_effect ns (z * ns.size) dwords filters.All true) (le-ltb (z * ns.size) (block_total ns) product) in
     let nothing : ListsOn ns dwords z [] = record { number = omega arith; given = refl } in
     subst (ListsOn ns dwords z) (sym refused) nothing
 
@@ -143,7 +143,7 @@ module _ (ns : ZonedNamespace) (holds : Holds) (dwords room : ℕ) (sound : IsNa
       let lists = lists_on z in
       let k = number_in (reported ns holds dwords z) in
       let all = all_descriptors ns in
-      let wide : room ≤ descriptor_room dwords = le-div room (4 * dwords - 64) 64 (omega arith) (omega (arith, fits)) in
+      let wide : room ≤ descriptor_room (4 * dwords) = le-div room (4 * dwords - 64) 64 (omega arith) (omega (arith, fits)) in
       let later_inside : z + k ≤ length ns.zones = omega (arith, lists.number, inside) in
       let later_enough : length ns.zones ≤ z + k + reports * room = omega (arith, lists.number, wide, enough, suc-mul reports room) in
       let rest = rest_is_listed reports (z + k) later_inside later_enough in

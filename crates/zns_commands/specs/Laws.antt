@@ -10,8 +10,8 @@ use Rattle.nvme_entry.specs.declared.command.StandardCommand.{StandardCommand}
 use Rattle.nvme_entry.specs.declared.command.StandardCommand.TheVariants.{Write, Read, Send, Receive, Append}
 use Rattle.nvme_entry.specs.declared.command.TheConstants.{MOST_TRANSFER}
 use Rattle.nvme_entry.specs.declared.filter.ZoneFilter.{ZoneFilter}
-use Rattle.nvme_entry.specs.declared.filter.ZoneFilter.TheVariants as filter
-use Rattle.nvme_entry.specs.ReportLaws.{ReportsZones, number_in, descriptors_in}
+use Rattle.nvme_entry.specs.declared.filter.ZoneFilter.TheVariants as filters
+use Rattle.nvme_entry.specs.ReportLaws.{ReportsZones, number_in, descriptors_in, descriptor_room}
 use Rattle.nvme_entry.specs.Report.{descriptor_at, matching}
 use Rattle.program_interface.specs.Bytes.{AreBytes}
 use Rattle.image_store.specs.Blocks.{block_count}
@@ -141,20 +141,16 @@ WrittenBlocksReadBack =
     NoneClears (zone_number ns lba) events done.namespace
     → AreRead (after_events events done.namespace) lba blocks input
 
--- how many descriptors a transfer of so many dwords has room for behind the header
-abbrev pub descriptor_room : ℕ → ℕ
-descriptor_room dwords = (4 * dwords - 64) / 64
-
 -- a report from any address of the namespace on, with any filter and room for its header at least, tells of the zones
 -- that match, from the one that contains the address on: their descriptors, in order and none left out, as many as there
 -- is room for
 abbrev pub ReportsWhatMatches : Type 0
 ReportsWhatMatches =
-    (ns : ZonedNamespace) (holds : Holds) (lba dwords : ℕ) (option : ZoneFilter) (partial : Bool)
+    (ns : ZonedNamespace) (holds : Holds) (lba dwords : ℕ) (filter : ZoneFilter) (partial : Bool)
     → IsNamespace ns → lba < block_total ns → 64 ≤ 4 * dwords → 4 * dwords ≤ MOST_TRANSFER
-    → let done = meaning ns holds (Receive lba dwords option partial) [] in
-    let found = matching (counted_zones ns) (zone_number ns lba) option in
-    (done.status ≡ SUCCESS) × ReportsZones done.output partial ns.size (min (descriptor_room dwords) (length found)) found
+    → let done = meaning ns holds (Receive lba dwords filter partial) [] in
+    let found = matching (counted_zones ns) (zone_number ns lba) filter in
+    (done.status ≡ SUCCESS) × ReportsZones done.output partial ns.size (min (descriptor_room (4 * dwords)) (length found)) found
 
 -- the descriptors of all zones, in order
 abbrev pub all_descriptors : ZonedNamespace → List (List ℕ)
@@ -165,7 +161,7 @@ all_descriptors ns = map (descriptor_at ns.size) (enumerate_from 0 (counted_zone
 abbrev pub listed_by : ZonedNamespace → Holds → ℕ → ℕ → ℕ → List (List ℕ)
 listed_by ns holds dwords zero z = []
 listed_by ns holds dwords (suc reports) z =
-    let bytes = (meaning ns holds (Receive (z * ns.size) dwords filter.All true) []).output in
+    let bytes = (meaning ns holds (Receive (z * ns.size) dwords filters.All true) []).output in
     descriptors_in (number_in bytes) bytes ++ listed_by ns holds dwords reports (z + number_in bytes)
 
 -- such reports from the first zone on list every zone once, in order, where together they have room for all
