@@ -85,6 +85,7 @@ zone_bad zone capacity bytes fault e =
 -- a row that tells no zone is found by the rows up to it
 record IsFoundAt (zone capacity n : ℕ) (xs : List ℕ) (fault : LoadFault) : Type 0 where
   pub before : ℕ
+  pub inside : before < n
   pub why : ZoneRowFault
   pub is : fault ≡ ZoneRow (zone + before) why
   pub same : (ys : List ℕ) → take ((before + 1) * 8) ys ≡ take ((before + 1) * 8) xs → zones_in zone capacity n ys ≡ Err fault
@@ -94,6 +95,7 @@ first_found zone capacity n xs fault e =
     let bad = zone_bad zone capacity (take 8 xs) fault e in
     record {
       before = 0;
+      inside = omega arith;
       why = bad.0;
       is = bad.1 ∙ ap (λ (k : ℕ). ZoneRow k bad.0) (let same : zone ≡ zone + 0 = omega arith in same);
       same = λ ys same. ap (λ (r : Result CountedZone LoadFault). r >>= λ z. zones_in (zone + 1) capacity n (drop 8 ys) >>= λ zs. Ok (z ∷ zs)) (ap (zone_in zone capacity) same ∙ e);
@@ -104,6 +106,7 @@ later_found zone capacity n xs z fault first found =
     let k = found.before in
     record {
       before = k + 1;
+      inside = omega (arith, found.inside);
       why = found.why;
       is = found.is ∙ ap (λ (i : ℕ). ZoneRow i found.why) (let same : zone + 1 + k ≡ zone + (k + 1) = omega arith in same);
       same = λ ys same.
@@ -222,13 +225,6 @@ module _ (bytes other : List ℕ) (there : 64 ≤ length bytes) (longer : length
 
 -- ---- behind the header
 
-take_comm : (m n : ℕ) (xs : List ℕ) → take m (take n xs) ≡ take n (take m xs)
-take_comm zero zero xs = refl
-take_comm zero (suc n) xs = refl
-take_comm (suc m) zero xs = refl
-take_comm (suc m) (suc n) [] = refl
-take_comm (suc m) (suc n) (x ∷ xs) = ap (λ (ys : List ℕ). x ∷ ys) (take_comm m n xs)
-
 pub whole_rows : (h : Header) (rest : List ℕ) → h.geometry.zones * 8 ≤ length rest
     → after_header h rest ≡ (zones_in 0 h.geometry.capacity h.geometry.zones (take (h.geometry.zones * 8) rest) >>= λ zs. after_rows h zs (drop (h.geometry.zones * 8) rest))
 whole_rows h rest there =
@@ -277,7 +273,8 @@ module _ (bytes other : List ℕ) (there : 64 ≤ length bytes) (longer : length
       let end : fault_end bytes fault ≡ 64 + m = ap (fault_end bytes) found.is ∙ ap (λ (i : ℕ). 64 + (i + 1) * 8) (let e : 0 + k ≡ k = omega arith in e) in
       let front : take (64 + m) other ≡ take (64 + m) bytes = subst (λ (i : ℕ). take i other ≡ take i bytes) end same in
       let rest : take m (drop 64 other) ≡ take m (drop 64 bytes) = rest_of 64 m (64 + m) bytes other refl front in
-      let cut : take m (take n (drop 64 other)) ≡ take m (take n (drop 64 bytes)) = take_comm m n (drop 64 other) ∙ ap (take n) rest ∙ take_comm n m (drop 64 bytes) in
+      let less : m ≤ n = omega (arith, found.inside) in
+      let cut : take m (take n (drop 64 other)) ≡ take m (take n (drop 64 bytes)) = take-take m n (drop 64 other) less ∙ rest ∙ sym (take-take m n (drop 64 bytes) less) in
       told_other (64 + m) (omega arith) front
       ∙ whole_rows h (drop 64 other) (rest_there inside)
       ∙ ap (λ (r : Result (List CountedZone) LoadFault). r >>= λ zs. after_rows h zs (drop n (drop 64 other))) (found.same (take n (drop 64 other)) cut)

@@ -2,8 +2,8 @@
 use Rattle.std.proofs.Common.{◌≡◌, ◌≢◌, ℕ, ◌+◌, ◌*◌, ◌<◌, ◌≤◌, ◌==◌, zero, suc, nat_le, true, false, List, [], ◌∷◌, length, take, drop, get_or, Option, Some, None, Ok, Err, refl, ap, sym, subst, ◌∙◌, arith, inl, inr, length-drop}
 use Rattle.std.specs.Prelude.{◌&&◌, IfSome}
 use Rattle.std.proofs.Math.Nat.{add-mul}
-use Rattle.std.proofs.lemmas.Bool.{and_parts, eqb-true, leb-false, leb-true, le-leb}
-use Rattle.std.proofs.lemmas.Bool.Decides.{leb_tells, nat_tests}
+use Rattle.std.proofs.lemmas.Bool.{and_parts, eqb-false, eqb-true, leb-false, leb-true, le-leb}
+use Rattle.std.proofs.lemmas.Bool.Decides.{leb_tells}
 use Rattle.std.proofs.lemmas.List.Sums.{sum_by-cons}
 use Rattle.zone_state.specs.Zone.{CountedZone}
 use Rattle.zone_resources.specs.declared.admission.Limits.{Limits as ResourceLimits}
@@ -86,9 +86,6 @@ total_right : (total : Option ℕ) (zs : List CountedZone) (done : Unit {0}) →
 total_right None zs done e = tt
 total_right (Some total) zs done e = eqb-true total (written_blocks zs) (chosen (total == written_blocks zs) tt done (Total total (written_blocks zs)) e).0
 
-differ : (m n : ℕ) → (m == n) ≡ false → m ≢ n
-differ m n e same = grind (arith, nat_tests)
-
 module _ (bytes : List ℕ) (h : Header) (there : 64 ≤ length bytes) (read : IsRead bytes h) where
   abbrev given : Shape
   given = h.geometry
@@ -135,7 +132,7 @@ module _ (bytes : List ℕ) (h : Header) (there : 64 ≤ length bytes) (read : I
   total_first zs None fault all is e = absurd cc
   total_first zs (Some total) fault all is e =
       let p = wrong (total == written_blocks zs) tt (Total total (written_blocks zs)) fault e in
-      subst (IsFirstFault bytes) p.1 (read.version, zs, all, sym is, refl, differ total (written_blocks zs) p.0)
+      subst (IsFirstFault bytes) p.1 (read.version, zs, all, sym is, refl, eqb-false total (written_blocks zs) p.0)
 
   limits_first : (zs : List CountedZone) (fault : LoadFault) → TellsAllZones read.version bytes zs → TellsTotal read.version bytes zs → limits_kept given.limits zs ≡ Err fault → IsFirstFault bytes fault
   limits_first zs fault all total e =
@@ -162,7 +159,7 @@ module _ (bytes : List ℕ) (h : Header) (there : 64 ≤ length bytes) (read : I
       bind_fails (IsFirstFault bytes) (end_in blocks.1) (λ end. Ok (namespace_with given blocks.0)) fault later
       (λ first more.
       let p = wrong (length blocks.1 == 0) tt Trailing first more in
-      let some = differ (length blocks.1) 0 p.0 in
+      let some = eqb-false (length blocks.1) 0 p.0 in
       let one : 0 < length blocks.1 = positive (length blocks.1) some in
       subst (IsFirstFault bytes) p.1 (read.version, zs, rows, omega (arith, one, size, front, rest, end, inside)))
       (λ done fine none. absurd cc))

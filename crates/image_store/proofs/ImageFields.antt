@@ -7,7 +7,8 @@ use Rattle.zone_state.specs.declared.state.ZoneState.{ZoneState}
 use Rattle.zone_state.specs.declared.state.ZoneState.TheVariants.{Empty, ImplicitlyOpened, ExplicitlyOpened, Closed, ReadOnly, Full, Offline}
 use Rattle.zone_state.specs.Zone.{CountedZone, IsZone, write_check, write_check_in, after_write}
 use Rattle.image_store.specs.Blocks.{blocks_of, as_blocks, block_count, bytes_of}
-use Rattle.image_store.specs.ImageInMemory.{zones_of, zone_seen, no_counted_zone, empty_counted_zone, namespace_of, IsFlat}
+use Rattle.image_store.specs.ImageInMemory.{zones_of, zone_seen, no_counted_zone, namespace_of, IsFlat}
+use Rattle.image_store.specs.steps.EmptyZone.{empty_counted_zone}
 use Rattle.program_interface.specs.Bytes.{spliced}
 use Rattle.image_store.specs.Geometry.{Shape}
 use Rattle.image_store.specs.Namespace.{ZoneBlocks, ZonedNamespace, zone_at, counted, grown, appended, all_empty, shape}

@@ -1,6 +1,6 @@
 -- An image in memory: counted zones, and one list of bytes with a room of one size for the blocks of each.
 use Rattle.std.specs.Prelude.{ℕ, ◌≡◌, ◌<◌, ◌*◌, List, [], ◌∷◌, length, get_or, drop}
-use Rattle.zone_state.specs.declared.state.ZoneState.TheVariants.{Empty, Offline}
+use Rattle.zone_state.specs.declared.state.ZoneState.TheVariants.{Offline}
 use Rattle.zone_resources.specs.Admission.{IsWithin}
 use Rattle.zone_resources.specs.Counts.{counts_of}
 use Rattle.zone_resources.specs.declared.counts.Counts.{Counts}
@@ -27,10 +27,6 @@ namespace_of s zones bytes = namespace_with s (zones_of s.block s.capacity zones
 -- what stands for a counted zone that there is not
 abbrev pub no_counted_zone : CountedZone
 no_counted_zone = record { state = Offline; written = 0; capacity = 0 }
-
--- a zone of which nothing is written
-abbrev pub empty_counted_zone : ℕ → CountedZone
-empty_counted_zone capacity = record { state = Empty; written = 0; capacity = capacity }
 
 -- a room for each zone, and each zone's state allows its written blocks
 pub record IsFlat (s : Shape) (zones : List CountedZone) (bytes : List ℕ) : Type 0 where

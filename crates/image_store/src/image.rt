@@ -62,13 +62,12 @@ impl Image {
         })
     }
 
-    /// The image whose text comes from a source. Reading stops at the first fault.
+    /// The image whose text comes from a source.
     ///
     /// # Errors
     ///
     /// The first fault of the text from the left, or [`LoadFault::Stream`] where the source fails, or
-    /// [`LoadFault::Memory`] where memory is refused: for the zone rows once the header is accepted,
-    /// and for the blocks once the rows are.
+    /// [`LoadFault::Memory`] where memory is refused once the header is accepted.
     pub fn load<R: Source>(alloc: Global, source: &mut R) -> Result<Image, LoadFault>
         requires { R.failures source.old < 2 ^ 64 - 1 }
         ensures image { R.tells → LoadGives (IsOk (header_in (R.rest source.old))) (λ image. image) result (namespace_in (R.rest source.old)) }

@@ -4,7 +4,8 @@ ghost use Rattle.std.specs.Prelude.{◌≡◌, ◌≤◌, ◌<◌, ◌+◌, ◌*
 ghost use Rattle.zone_resources.specs.Counts.{counts_of};
 ghost use Rattle.zone_state.specs.Zone.{write_check, IsZone, kept};
 ghost use Rattle.image_store.specs.Blocks.{block_count, bytes_of};
-ghost use Rattle.image_store.specs.ImageInMemory.{IsFlat, IsImage, namespace_of, empty_counted_zone, no_counted_zone};
+ghost use Rattle.image_store.specs.ImageInMemory.{IsFlat, IsImage, namespace_of, no_counted_zone};
+ghost use Rattle.image_store.specs.steps.EmptyZone.{empty_counted_zone};
 ghost use Rattle.program_interface.specs.Bytes.{spliced};
 ghost use Rattle.image_store.specs.Namespace.{appended, with_state, zone_at, IsWithinLimits};
 
