@@ -1,7 +1,7 @@
 //! What a user is told of bytes that are no output blocks.
 
-ghost use Rattle.std.specs.Prelude.{◌≡◌};
-ghost use Rattle.emit_append.specs.Refusal.{refused_byte};
+ghost use Rattle.std.specs.Prelude.{◌≡◌, ◌<◌, length};
+ghost use Rattle.emit_append.specs.Refusal.{StandsAt, refused_byte};
 
 use program_interface::BlockSize;
 use thiserror::Error;
@@ -20,7 +20,8 @@ pub enum FrameRefusal {
 impl FrameRefusal {
     /// What stands at byte `at` of these bytes, where [`unpack`](crate::unpack) refuses it.
     pub fn of(at: usize, bytes: &[u8], block: BlockSize) -> FrameRefusal
-        ensures { refused_byte result ≡ at }
+        ensures place { refused_byte result ≡ at }
+        ensures there { at < length bytes.now → StandsAt block bytes.now at result }
     {
         let block = block.bytes();
         let left = bytes.len() % block as usize;
