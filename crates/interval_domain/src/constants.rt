@@ -4,7 +4,8 @@ ghost use Rattle.std.specs.Prelude.{◌≡◌};
 
 use instruction_set::{Relation, SignedSize, Size, Width};
 use interval_facts::{
-    Fact, access, arithmetic_on, join, load, offsets, one, pointer_between, refine, widen, words_of,
+    Fact, access, arithmetic_on, join, load, offsets, pointer_between, refine, single, widen,
+    words_of,
 };
 use program_interface::{Area, BlockSize};
 use program_meaning::Arithmetic;
@@ -47,7 +48,7 @@ impl Domain for Constants {
 
     fn constant(word: u64) -> Constants {
         Constants {
-            fact: Fact::Words(one(word)),
+            fact: Fact::Words(single(word)),
         }
     }
 

@@ -4,7 +4,7 @@ ghost use Rattle.std.specs.Prelude.{◌≡◌};
 
 use instruction_set::{Relation, SignedSize, Size, Width};
 use interval_facts::{
-    Fact, access, arithmetic_on, join, load, offsets, one, pointer_between, refine, words_of,
+    Fact, access, arithmetic_on, join, load, offsets, pointer_between, refine, single, words_of,
 };
 use program_interface::{Area, BlockSize};
 use program_meaning::Arithmetic;
@@ -57,7 +57,7 @@ impl Domain for Intervals {
 
     fn constant(word: u64) -> Intervals {
         Intervals {
-            fact: Fact::Words(one(word)),
+            fact: Fact::Words(single(word)),
         }
     }
 

@@ -1,10 +1,10 @@
-//! Each operation at both domains, with values worked out from the rules by hand.
+//! The operations of the two domains, with values worked out from the rules by hand.
 
 mod edges;
 mod words;
 
 use crate::{Constants, Intervals};
-use instruction_set::{Operation, Size, Width};
+use instruction_set::{Operation, SignedSize, Size, Width};
 use program_interface::{Area, BlockSize};
 use program_meaning::Arithmetic;
 use std::process::Abort;
@@ -73,6 +73,10 @@ fn loads_tell_their_size(rt: HostRuntime) {
         between(0, 0xffff_ffff)
     );
     assert_eq!(rt; Constants::loaded(Size::Byte).bounds(), Bounds::FULL);
+    assert_eq!(rt;
+        Intervals::loaded_signed(SignedSize::Byte).bounds(),
+        Bounds::FULL
+    );
 }
 
 #[test]

@@ -7,8 +7,8 @@ ghost use Rattle.interval_facts.specs.Fact.{IsFact, bounds_of};
 ghost use Rattle.interval_facts.specs.steps.Bounds.{IsRange};
 ghost use Rattle.interval_facts.specs.Arithmetic.{signed_bounds, moved_on, moved_back, sum_of, difference_of, cut, operand_of, combined_64, combined_of, unsigned_below, extended_of, swapped_of, is_known, are_known, estimated, alu_of};
 
-use crate::fact::{Fact, is_one, one, pointer_between, words_of};
-use crate::range::{all, combine};
+use crate::fact::{Fact, is_single, pointer_between, single, words_of};
+use crate::range::{combine, top};
 use instruction_set::{Operation, SignExtension, SwapSize, Width};
 use program_interface::Area;
 use program_meaning::{Arithmetic, alu};
@@ -113,8 +113,8 @@ fn operand(width: Width, fact: Fact) -> Bounds
 {
     let words = words_of(fact);
     match width {
-        Width::Bits32 if is_one(words) => one(words.low % 0x1_0000_0000),
-        Width::Bits32 if words.high >= 0x1_0000_0000 => all(width),
+        Width::Bits32 if is_single(words) => single(words.low % 0x1_0000_0000),
+        Width::Bits32 if words.high >= 0x1_0000_0000 => top(width),
         _ => words,
     }
 }
@@ -155,7 +155,7 @@ fn extend(extension: SignExtension, source: Fact) -> Bounds
     if source.high < signed_from {
         source
     } else {
-        all(width)
+        top(width)
     }
 }
 
@@ -178,8 +178,8 @@ fn are_all_known(arithmetic: Arithmetic, dst: Fact, source: Fact) -> bool
     requires source { IsFact source }
     ensures { result ≡ are_known arithmetic dst source }
 {
-    let dst = is_one(words_of(dst));
-    let source = is_one(words_of(source));
+    let dst = is_single(words_of(dst));
+    let source = is_single(words_of(source));
     match arithmetic {
         Arithmetic::Binary {
             operation: Operation::Move,
@@ -200,7 +200,7 @@ fn estimate(arithmetic: Arithmetic, dst: Fact, source: Fact) -> Fact
 {
     match arithmetic {
         Arithmetic::Binary { width, operation } => combine_facts(width, operation, dst, source),
-        Arithmetic::Negate { width } => Fact::Words(all(width)),
+        Arithmetic::Negate { width } => Fact::Words(top(width)),
         Arithmetic::MoveSigned { extension } => Fact::Words(extend(extension, source)),
         Arithmetic::SwapBytes { size, .. } => Fact::Words(swap(size)),
     }
@@ -215,7 +215,7 @@ pub fn arithmetic_on(arithmetic: Arithmetic, dst: Fact, source: Fact) -> Fact
 {
     if are_all_known(arithmetic, dst, source) {
         let (dst, source) = (words_of(dst), words_of(source));
-        Fact::Words(one(alu(arithmetic, dst.low, source.low)))
+        Fact::Words(single(alu(arithmetic, dst.low, source.low)))
     } else {
         estimate(arithmetic, dst, source)
     }

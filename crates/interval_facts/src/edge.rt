@@ -1,11 +1,11 @@
 //! What an edge of a compare tells of its operands.
 
 ghost use Rattle.std.specs.Prelude.{◌≡◌, ◌≤◌, ◌==◌, ◌&&◌, IfSome, false};
-ghost use Rattle.interval_facts.specs.Fact.{IsFact, is_single};
+ghost use Rattle.interval_facts.specs.Fact.{IsFact, is_single as is_single_number};
 ghost use Rattle.interval_facts.specs.Edge.{FactPair, edge_of, equal, without, different, less, at_most, exchanged, narrowed, as_facts, fits, agrees, refine_words, refine_of};
 ghost use Rattle.interval_facts.specs.steps.Bounds.{OrderedPair};
 
-use crate::fact::{Fact, is_one};
+use crate::fact::{Fact, is_single};
 use instruction_set::{Relation, Width};
 use program_meaning::is_taken;
 use word_domain::Bounds;
@@ -37,7 +37,7 @@ fn keep_equal(dst: Bounds, source: Bounds) -> Option<(Bounds, Bounds)>
 /// Bounds without a number where it is one of the two.
 fn remove(number: u64, bounds: Bounds) -> Bounds
     requires ordered { bounds.low ≤ bounds.high }
-    requires several { is_single bounds ≡ false }
+    requires several { is_single_number bounds ≡ false }
     ensures { result ≡ without number bounds }
 {
     Bounds {
@@ -58,13 +58,13 @@ fn remove(number: u64, bounds: Bounds) -> Bounds
 fn keep_different(dst: Bounds, source: Bounds) -> Option<(Bounds, Bounds)>
     requires dst { dst.low ≤ dst.high }
     requires source { source.low ≤ source.high }
-    requires several { (is_single dst && is_single source) ≡ false }
+    requires several { (is_single_number dst && is_single_number source) ≡ false }
     ensures value { result ≡ different dst source }
     ensures ordered { IfSome result OrderedPair }
 {
-    if is_one(source) {
+    if is_single(source) {
         edge(remove(source.low, dst), source)
-    } else if is_one(dst) {
+    } else if is_single(dst) {
         edge(dst, remove(dst.low, source))
     } else {
         Some((dst, source))
@@ -124,7 +124,7 @@ fn exchange(both: Option<(Bounds, Bounds)>) -> Option<(Bounds, Bounds)>
 fn narrow(relation: Relation, taken: bool, dst: Bounds, source: Bounds) -> Option<(Bounds, Bounds)>
     requires dst { dst.low ≤ dst.high }
     requires source { source.low ≤ source.high }
-    requires several { (is_single dst && is_single source) ≡ false }
+    requires several { (is_single_number dst && is_single_number source) ≡ false }
     ensures value { result ≡ narrowed relation taken dst source }
     ensures ordered { IfSome result OrderedPair }
 {
@@ -167,7 +167,7 @@ fn refine_bounds(
     ensures value { result ≡ refine_words width relation taken dst source same }
     ensures facts { IfSome result FactPair }
 {
-    if is_one(dst) && is_one(source) {
+    if is_single(dst) && is_single(source) {
         if is_taken(width, relation, dst.low, source.low) == taken {
             return Some((Fact::Words(dst), Fact::Words(source)));
         }

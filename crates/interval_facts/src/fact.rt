@@ -2,7 +2,7 @@
 
 ghost use Rattle.std.specs.Prelude.{◌≡◌, ◌≤◌, ◌≤ℤ◌, ◌+ℤ◌, int_le, pos};
 ghost use Rattle.std.specs.Int.{int_min, int_max};
-ghost use Rattle.interval_facts.specs.Fact.{IsFact, is_single, single, full, pointer_to, loaded_of, join_of, bounds_of, access_of, offsets_of, widened};
+ghost use Rattle.interval_facts.specs.Fact.{IsFact, is_single as is_single_number, single as single_number, full, pointer_to, loaded_of, join_of, bounds_of, access_of, offsets_of, widened};
 
 use instruction_set::Size;
 use program_interface::{Area, BlockSize};
@@ -21,8 +21,8 @@ pub enum Fact {
 const FARTHEST: i128 = 1 << 20;
 
 /// The bounds of one word.
-pub fn one(word: u64) -> Bounds
-    ensures { result ≡ single word }
+pub fn single(word: u64) -> Bounds
+    ensures { result ≡ single_number word }
 {
     Bounds {
         low: word,
@@ -31,8 +31,8 @@ pub fn one(word: u64) -> Bounds
 }
 
 /// Is there one word alone between the bounds?
-pub fn is_one(bounds: Bounds) -> bool
-    ensures { result ≡ is_single bounds }
+pub fn is_single(bounds: Bounds) -> bool
+    ensures { result ≡ is_single_number bounds }
 {
     bounds.low == bounds.high
 }
@@ -178,7 +178,7 @@ pub fn widen(fact: Fact) -> Fact
     ensures fact { IsFact result }
 {
     match fact {
-        Fact::Words(bounds) if is_one(bounds) => fact,
+        Fact::Words(bounds) if is_single(bounds) => fact,
         Fact::Pointer { low, high, .. } if low == high => fact,
         _ => Fact::Words(Bounds::FULL),
     }

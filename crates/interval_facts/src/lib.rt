@@ -5,8 +5,8 @@ mod arithmetic;
 mod edge;
 mod fact;
 mod range;
-mod words;
+mod text;
 
 pub use arithmetic::arithmetic_on;
 pub use edge::refine;
-pub use fact::{Fact, access, join, load, offsets, one, pointer_between, widen, words_of};
+pub use fact::{Fact, access, join, load, offsets, pointer_between, single, widen, words_of};

@@ -3,10 +3,10 @@
 ghost use Rattle.std.specs.Prelude.{◌≡◌, ◌≤◌, ◌<◌, ◌^◌, ◌-◌, ◌+◌, nat_lt};
 ghost use Rattle.program_meaning.specs.Word.{bits, count};
 ghost use Rattle.interval_facts.specs.Fact.{range};
-ghost use Rattle.interval_facts.specs.Range.{number_count, top, half, sum, difference, product, quotient, remainder, if_positive, conjunction, shifted_left, shifted_left_by, shifted_right, shifted_right_by, combined};
+ghost use Rattle.interval_facts.specs.Range.{number_count, top as top_of_width, half, sum, difference, product, quotient, remainder, if_positive, conjunction, shifted_left, shifted_left_by, shifted_right, shifted_right_by, combined};
 ghost use Rattle.interval_facts.specs.steps.Bounds.{IsRange};
 
-use crate::fact::{is_one, one};
+use crate::fact::{is_single, single};
 use instruction_set::{Operation, Width};
 use word_domain::Bounds;
 
@@ -28,8 +28,8 @@ fn up_to(high: u64) -> Bounds
 }
 
 /// All numbers of a width.
-pub fn all(width: Width) -> Bounds
-    ensures value { result ≡ top width }
+pub fn top(width: Width) -> Bounds
+    ensures value { result ≡ top_of_width width }
     ensures range { IsRange width result }
 {
     up_to(greatest(width))
@@ -67,7 +67,7 @@ fn add(width: Width, dst: Bounds, source: Bounds) -> Bounds
             high: (high - number_count) as u64,
         }
     } else {
-        all(width)
+        top(width)
     }
 }
 
@@ -90,7 +90,7 @@ fn subtract(width: Width, dst: Bounds, source: Bounds) -> Bounds
             high: greatest - (source.low - dst.high) + 1,
         }
     } else {
-        all(width)
+        top(width)
     }
 }
 
@@ -106,7 +106,7 @@ fn multiply(width: Width, dst: Bounds, source: Bounds) -> Bounds
             low: dst.low * source.low,
             high,
         },
-        _ => all(width),
+        _ => top(width),
     }
 }
 
@@ -118,7 +118,7 @@ fn divide(width: Width, dst: Bounds, source: Bounds) -> Bounds
     ensures range { IsRange width result }
 {
     if source.high == 0 {
-        one(0)
+        single(0)
     } else if source.low >= 1 {
         Bounds {
             low: dst.low / source.high,
@@ -159,8 +159,8 @@ fn shift_left(width: Width, dst: Bounds, source: Bounds) -> Bounds
     ensures value { result ≡ shifted_left width dst source }
     ensures range { IsRange width result }
 {
-    if !is_one(source) {
-        return all(width);
+    if !is_single(source) {
+        return top(width);
     }
     let count = shift_count(width, source.low);
     if dst.high <= greatest(width) >> count {
@@ -169,7 +169,7 @@ fn shift_left(width: Width, dst: Bounds, source: Bounds) -> Bounds
             high: dst.high << count,
         }
     } else {
-        all(width)
+        top(width)
     }
 }
 
@@ -180,7 +180,7 @@ fn shift_right(width: Width, dst: Bounds, source: Bounds) -> Bounds
     ensures value { result ≡ shifted_right width dst source }
     ensures range { IsRange width result }
 {
-    if is_one(source) {
+    if is_single(source) {
         let count = shift_count(width, source.low);
         Bounds {
             low: dst.low >> count,
@@ -213,6 +213,6 @@ pub fn combine(width: Width, operation: Operation, dst: Bounds, source: Bounds) 
         Operation::SignedModulo if both_positive => modulo(width, dst, source),
         Operation::Move => source,
         Operation::ArithmeticShift if positive => shift_right(width, dst, source),
-        _ => all(width),
+        _ => top(width),
     }
 }

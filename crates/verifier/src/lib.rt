@@ -3,11 +3,11 @@
 #![tactic(auto)]
 
 mod cells;
-mod check;
 mod edges;
 mod facts;
 mod fault;
 mod judging;
+mod reasons;
 mod rows;
 mod verified;
 mod verifying;

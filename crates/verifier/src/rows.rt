@@ -8,9 +8,9 @@ ghost use Rattle.accepted_programs.specs.Facts.{facts_at_target, facts_behind, g
 ghost use Rattle.verifier.specs.steps.Instructions.{HasRoom, StaysInside};
 ghost use Rattle.verifier.specs.steps.Rows.{held, held_at, refusal_in};
 
-use crate::check::{find_reason, slot_behind};
 use crate::edges::{refined, set_both, step};
 use crate::facts::join;
+use crate::reasons::{find_reason, slot_behind};
 use accepted_programs::{Facts, Refusal};
 use instruction_set::{Instruction, Program, Register, Source};
 use program_interface::{BlockSize, MOST_SLOTS, RunSizes};

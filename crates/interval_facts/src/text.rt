@@ -1,10 +1,10 @@
-//! Facts in words.
+//! Facts as text.
 
 use crate::fact::Fact;
 use std::fmt;
 use word_domain::{Bounds, Offsets};
 
-/// A fact in words: `any word`, `7`, `0 to 255`, or the offsets of a pointer.
+/// A fact as text: `any word`, `7`, `0 to 255`, or the offsets of a pointer.
 impl fmt::Display for Fact {
     fn fmt<W: fmt::Write>(&self, f: &mut fmt::Formatter<W>) -> fmt::Result {
         match *self {
