@@ -7,7 +7,7 @@ use Rattle.byteorder.specs.Numbers.{length-bytes_low_first, little_from-lt, litt
 use Rattle.program_meaning.proofs.Proved.{same_number, writes_read_back}
 use Rattle.program_interface.specs.Bytes.{spliced}
 use Rattle.accepted_programs.specs.Cells.{forgotten, has_byte, join_cell, join_cells}
-use Rattle.accepted_programs.proofs.Meets.{word_in}
+use Rattle.accepted_programs.specs.Meets.{word_in}
 
 pub if_some : {X : Type 0} (test : Bool) (o : Option X) (x : X) → (if test then o else None) ≡ Some x
     → (test ≡ true) × (o ≡ Some x)

@@ -11,7 +11,7 @@ use Rattle.word_domain.specs.Domain.{Operations}
 use Rattle.accepted_programs.specs.Accepted.{all_reasons, fails, reason_number, reason_of, refusal_at, refusal_below, refused_at}
 use Rattle.accepted_programs.specs.Facts.{facts_at}
 use Rattle.accepted_programs.specs.FirstRefusal.{HasFacts, IsFirstRefusal, IsPassed}
-use Rattle.accepted_programs.specs.Laws.{AcceptedFailsNowhere, RefusalIsFirst}
+use Rattle.accepted_programs.specs.Laws.{AcceptedFailsNowhere, RefusalIsFirst, RefusalIsInside}
 use Rattle.accepted_programs.specs.declared.facts.Facts.{Facts}
 use Rattle.accepted_programs.specs.declared.reason.Reason.{Reason}
 use Rattle.accepted_programs.specs.declared.reason.Reason.TheVariants as reasons
@@ -190,6 +190,13 @@ module _ {D : Type 0} (operations : Operations D) where
 
   begins_by : (i : Instruction) (found : Option Instruction) → found ≡ Some i → IsSome found
   begins_by i found e = rw e refl
+
+  pub refusal_inside : RefusalIsInside operations
+  refusal_inside program is sizes r e =
+      let first = refusal_is_first program sizes r e in
+      let inside = begins_inside program r.slot (begins_by first.instruction (instruction_at program r.slot) first.known.begins) in
+      let most = is.most in
+      (inside, omega (arith, inside, most))
 
   pub accepted_fails_nowhere : AcceptedFailsNowhere operations
   accepted_fails_nowhere program sizes e slot i facts has =

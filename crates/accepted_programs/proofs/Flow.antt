@@ -12,7 +12,8 @@ use Rattle.word_domain.specs.Domain.{IsSound, Operations}
 use Rattle.accepted_programs.proofs.CellLaws.{joined_known, word_fits}
 use Rattle.accepted_programs.specs.Facts.{facts_at, facts_at_target, facts_behind, given_below, gives, join_registers, leads, merge, slot_behind}
 use Rattle.accepted_programs.proofs.KnownFacts.{AreFacts, SomeAreFacts, ahead_given, behind_given, given_facts, known_facts, merge_facts}
-use Rattle.accepted_programs.proofs.Meets.{Belong, IsAlong, MeetsSome, Moved, word_in}
+use Rattle.accepted_programs.proofs.Edges.{IsAlong, Moved}
+use Rattle.accepted_programs.specs.Meets.{Belong, MeetsSome, word_in}
 use Rattle.accepted_programs.specs.declared.facts.Facts.{Facts}
 
 module _ {D : Type 0} {IsFact : D → Type 0} {contains : D → ℕ → Type 0} {operations : Operations D}

@@ -1,9 +1,9 @@
 mod CellLaws
+mod Edges
 mod FirstRefusals
 mod Fitting
 mod Flow
 mod KnownFacts
-mod Meets
 mod Moves
 mod Progress
 pub mod Proved

@@ -30,15 +30,17 @@ use Rattle.program_interface.specs.declared.area.Area.{Area}
 use Rattle.program_interface.specs.declared.area.Area.TheVariants.{Context, Block, Stack, Scratch}
 use Rattle.word_domain.specs.Domain.{BelongAfter, Belongs, IsAtOffset, IsSound, Operations}
 use Rattle.word_domain.specs.declared.offsets.Offsets.{Offsets}
-use Rattle.accepted_programs.specs.Accepted.{all_reasons, fails, goes_back, reason_of, stores_outside}
+use Rattle.accepted_programs.specs.Accepted.{fails, goes_back, stores_outside}
 use Rattle.accepted_programs.proofs.CellLaws.{if_some}
 use Rattle.accepted_programs.specs.Cells.{cell_of, filled, is_stack, known_in, overwritten}
 use Rattle.accepted_programs.specs.Facts.{after_emit, after_store, along, area_of, cell_at, compared_fact, enters_stack, fact, facts_at_target, facts_behind, is_register, kept_fact, loaded_fact, slot_behind, with_both, with_fact}
 use Rattle.accepted_programs.proofs.KnownFacts.{AreFacts, immediate_fits}
 use Rattle.accepted_programs.proofs.StoreLaws.{cell_loaded, in_stack, stack_stays, stack_written, stored_belong}
-use Rattle.accepted_programs.proofs.Unhindered.{all_fail, of_all, size_fits}
+use Rattle.accepted_programs.proofs.Unhindered.{size_fits}
+use Rattle.accepted_programs.specs.declared.reason.Reason.{Reason}
 use Rattle.accepted_programs.specs.declared.reason.Reason.TheVariants as reason
-use Rattle.accepted_programs.proofs.Meets.{Meets, MeetsSome, Moved}
+use Rattle.accepted_programs.specs.Meets.{Meets, MeetsSome}
+use Rattle.accepted_programs.proofs.Edges.{Moved}
 use Rattle.accepted_programs.proofs.Registers.{belong_drop, belong_refined, belong_replicate, belong_set, compared, compared_belongs, compares_low, constant_belongs, one_register, source_belongs, word_of}
 use Rattle.accepted_programs.specs.declared.facts.Facts.{Facts}
 
@@ -313,10 +315,8 @@ module _ {D : Type 0} {IsFact : D → Type 0} {contains : D → ℕ → Type 0} 
   pub moved : (program : List (Option Instruction)) (sizes : Sizes) (i : Instruction) (facts : Facts D) (s : State)
       → AreSizes sizes → IsState s → length s.memory.block ≡ sizes.block → AreFacts IsFact facts → Meets contains facts s
       → FitsSigned w16 (first_slot i).offset → is_exit i ≡ false
-      → reason_of operations program sizes s.slot facts i ≡ None
+      → ((r : Reason) → fails operations program sizes s.slot facts i r ≡ false)
       → Moved contains operations sizes.block i facts s (after s i)
-  moved program sizes i facts s are_sizes is long are meets near goes accepted =
-      let test = fails operations program sizes s.slot facts i in
-      let passed = all_fail test all_reasons accepted in
-      moves sizes.block facts s are_sizes.block_size is long are meets i near goes (of_all test passed reason.JumpBack)
-      (of_all test passed reason.StoreOutside)
+  moved program sizes i facts s are_sizes is long are meets near goes passed =
+      moves sizes.block facts s are_sizes.block_size is long are meets i near goes (passed reason.JumpBack)
+      (passed reason.StoreOutside)

@@ -1,5 +1,5 @@
 -- A step forward leaves fewer instructions.
-use Rattle.std.specs.Prelude.{ℕ, zero, suc, ◌≡◌, ◌+◌, ◌<◌, ◌≤◌, List, [], ◌∷◌, length, drop, count_by, is_some, Option, Some, None, if◌then◌else◌}
+use Rattle.std.specs.Prelude.{ℕ, zero, suc, ◌≡◌, ◌+◌, ◌<◌, ◌≤◌, List, [], ◌∷◌, drop, count_by, is_some, Option, Some, None, if◌then◌else◌}
 use Rattle.std.proofs.Common.{arith}
 use Rattle.std.proofs.Math.Nat.{le_of_lt}
 use Rattle.std.proofs.lemmas.List.Sums.{sum_by-cons}
@@ -30,8 +30,3 @@ fewer (slot ∷ slots) (suc k) (suc m) here before = fewer slots k m here (omega
 
 pub some_left : (slots : List (Option Instruction)) (k : ℕ) → IsAt slots k → 1 ≤ count_by is_some (drop k slots)
 some_left slots k here = let less = fewer slots k (suc k) here (omega arith) in omega (arith, less)
-
-pub begins_within : (slots : List (Option Instruction)) (k : ℕ) → IsAt slots k → k < length slots
-begins_within [] k here = cc
-begins_within (slot ∷ slots) zero here = omega arith
-begins_within (slot ∷ slots) (suc k) here = let rest = begins_within slots k here in omega (arith, rest)

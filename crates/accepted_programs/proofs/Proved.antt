@@ -1,8 +1,9 @@
 -- The laws of accepted programs that other crates cite.
 use Rattle.std.specs.Prelude.{ℕ}
 use Rattle.word_domain.specs.Domain.{IsSound, Operations}
-use Rattle.accepted_programs.specs.Laws.{AcceptedEmitsNoMore, AcceptedNeverTraps, RefusalIsInside}
+use Rattle.accepted_programs.specs.Laws.{AcceptedNeverTraps, RefusalIsInside}
 use Rattle.accepted_programs.proofs.Statements.{AcceptedSlotsNeverTrap, NoReasonHolds, OffsetsAreShort, RefusalIsAtItsSlot}
+use Rattle.accepted_programs.proofs.FirstRefusals as first_refusals
 use Rattle.accepted_programs.proofs.Fitting as fitting
 use Rattle.accepted_programs.proofs.Refusals as refusals
 use Rattle.accepted_programs.proofs.Soundness as soundness
@@ -12,7 +13,7 @@ offsets_are_short = fitting.short_offsets
 
 module _ {D : Type 0} (operations : Operations D) where
   pub refusal_is_inside : RefusalIsInside operations
-  refusal_is_inside = refusals.refusal_inside operations
+  refusal_is_inside = first_refusals.refusal_inside operations
 
   pub refusal_is_at_its_slot : RefusalIsAtItsSlot operations
   refusal_is_at_its_slot = refusals.at_its_slot operations
@@ -27,6 +28,3 @@ module _ {D : Type 0} {IsFact : D → Type 0} {contains : D → ℕ → Type 0} 
 
   pub accepted_slots_never_trap : AcceptedSlotsNeverTrap operations
   accepted_slots_never_trap = soundness.never_traps sound
-
-  pub accepted_emits_no_more : AcceptedEmitsNoMore operations
-  accepted_emits_no_more = soundness.accepted_emits_no_more sound

@@ -1,26 +1,47 @@
 -- Why and where a program is refused.
-use Rattle.std.proofs.Common.{◌≡◌, ℕ, zero, suc, ◌<◌, List, length, Option, Some, None, arith}
-use Rattle.std.specs.Option.{option_map, option_or}
-use Rattle.instruction_set.specs.Program.{instruction_at}
+use Rattle.std.proofs.Common.{◌≡◌, ℕ, Bool, true, false, find, List, [], ◌∷◌, Option, Some, None, refl}
+use Rattle.std.specs.Option.{option_map}
 use Rattle.instruction_set.specs.declared.instruction.Instruction.{Instruction}
 use Rattle.program_interface.specs.RunSizes.{Sizes}
 use Rattle.word_domain.specs.Domain.{Operations}
-use Rattle.accepted_programs.specs.Accepted.{all_reasons, fails, reason_of, refusal_at, refusal_below, refused_at}
-use Rattle.accepted_programs.specs.Laws.{RefusalIsInside}
-use Rattle.accepted_programs.specs.Facts.{facts_at}
+use Rattle.accepted_programs.specs.Accepted.{all_reasons, fails, reason_of, refused_at}
+use Rattle.accepted_programs.specs.declared.facts.Facts.{Facts}
 use Rattle.accepted_programs.specs.declared.reason.Reason.{Reason}
+use Rattle.accepted_programs.specs.declared.reason.Reason.TheVariants as reason
 use Rattle.accepted_programs.specs.declared.reason.Refusal.{Refusal}
 use Rattle.accepted_programs.proofs.Statements.{NoReasonHolds, RefusalIsAtItsSlot}
-use Rattle.accepted_programs.proofs.Unhindered.{all_fail, of_all}
+
+module _ (test : Reason → Bool) where
+  -- none of these passes
+  abbrev AllFail : List Reason → Type 0
+  AllFail [] = Unit {0}
+  AllFail (r ∷ rs) = (test r ≡ false) × AllFail rs
+
+  first_fails : (r : Reason) (rs : List Reason) (passes : Bool) → test r ≡ passes → find test (r ∷ rs) ≡ None
+      → (test r ≡ false) × (find test rs ≡ None)
+  first_fails r rs true is e = let h : Some r ≡ None = rw is at e in cc
+  first_fails r rs false is e = (is, rw is at e)
+
+  all_fail : (rs : List Reason) → find test rs ≡ None → AllFail rs
+  all_fail [] e = tt
+  all_fail (r ∷ rs) e = let first = first_fails r rs (test r) refl e in (first.0, all_fail rs first.1)
+
+  -- what holds of all reasons holds of each
+  of_all : AllFail all_reasons → (r : Reason) → test r ≡ false
+  of_all fail reason.JumpBack = fail.0
+  of_all fail reason.JumpOutside = fail.1.0
+  of_all fail reason.FallsOff = fail.1.1.0
+  of_all fail reason.WriteToFramePointer = fail.1.1.1.0
+  of_all fail reason.LoadOutside = fail.1.1.1.1.0
+  of_all fail reason.StoreOutside = fail.1.1.1.1.1.0
+  of_all fail reason.UnknownHelper = fail.1.1.1.1.1.1.0
+  of_all fail reason.EmitAddress = fail.1.1.1.1.1.1.1.0
+  of_all fail reason.EmitLength = fail.1.1.1.1.1.1.1.1.0
+  of_all fail reason.EmitLimit = fail.1.1.1.1.1.1.1.1.1.0
 
 told_here : (slot : ℕ) (reason : Option Reason) (r : Refusal) → option_map (refused_at slot) reason ≡ Some r → r.slot ≡ slot
 told_here slot None r e = cc
 told_here slot (Some reason) r e = cc
-
-either_below : (n : ℕ) (before last : Option Refusal) (r : Refusal) → (before ≡ Some r → r.slot < n)
-    → (last ≡ Some r → r.slot ≡ n) → option_or before last ≡ Some r → r.slot < suc n
-either_below n (Some first) last r earlier here e = let less = earlier e in omega (arith, less)
-either_below n None last r earlier here e = let same = here e in omega (arith, same)
 
 module _ {D : Type 0} (operations : Operations D) where
   pub none_holds : NoReasonHolds operations
@@ -33,18 +54,3 @@ module _ {D : Type 0} (operations : Operations D) where
       told_here slot (reason_of operations program sizes slot facts i) r e
   at_its_slot program sizes slot (Some i) None r e = cc
   at_its_slot program sizes slot None facts r e = cc
-
-  refused_below : (program : List (Option Instruction)) (sizes : Sizes) (n : ℕ) (r : Refusal)
-      → refusal_below operations program sizes n ≡ Some r → r.slot < n
-  refused_below program sizes zero r e = cc
-  refused_below program sizes (suc n) r e =
-      let known = facts_at operations sizes.block program n in
-      let at = instruction_at program n in
-      either_below n (refusal_below operations program sizes n) (refusal_at operations program sizes n at known) r
-      (refused_below program sizes n r) (at_its_slot program sizes n at known r) e
-
-  pub refusal_inside : RefusalIsInside operations
-  refusal_inside program is sizes r e =
-      let inside = refused_below program sizes (length program) r e in
-      let most = is.most in
-      (inside, omega (arith, inside, most))

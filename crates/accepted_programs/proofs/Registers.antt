@@ -14,7 +14,7 @@ use Rattle.program_meaning.specs.Word.{is_taken, low_bits}
 use Rattle.word_domain.specs.Domain.{Belongs, IsSound, Operations}
 use Rattle.accepted_programs.specs.Facts.{compared_fact, fact, is_register, source_fact}
 use Rattle.accepted_programs.proofs.KnownFacts.{AreFacts, fact_is, immediate_fits, low_fits}
-use Rattle.accepted_programs.proofs.Meets.{Belong, Meets}
+use Rattle.accepted_programs.specs.Meets.{Belong, Meets}
 use Rattle.accepted_programs.specs.declared.facts.Facts.{Facts}
 
 -- ---- rows of facts

@@ -1,21 +1,22 @@
--- A program that is accepted over a sound domain never traps.
+-- What is known at a slot is met by the runs that come there, and a program that is accepted over a sound domain never traps.
 use Rattle.std.specs.Prelude.{ℕ, zero, suc, ◌≡◌, ◌+◌, ◌<◌, ◌≤◌, Bool, true, false, List, length, drop, count_by, is_some, Option, Some, None}
-use Rattle.std.proofs.Common.{arith, inl, inr, lit<, refl, ap, subst, ◌∙◌}
-use Rattle.std.specs.Option.{option_map, option_or}
+use Rattle.std.proofs.Common.{arith, inl, inr, ◌⊎◌, lit<, refl, ap, subst, ◌∙◌}
 use Rattle.std.proofs.lemmas.Bool.{cases_lt}
+use Rattle.instruction_set.proofs.Proved.{begins_inside}
 use Rattle.instruction_set.specs.Program.{instruction_at, instruction_count}
 use Rattle.instruction_set.specs.declared.instruction.Instruction.{Instruction}
 use Rattle.program_meaning.proofs.Proved.{begins_at_instruction, keeps_group_limit, keeps_read_only, keeps_state, leads_to_instruction}
 use Rattle.program_meaning.specs.Cause.{is_exit, least_cause}
 use Rattle.program_meaning.specs.Effect.{register}
-use Rattle.program_meaning.specs.BlockRun.{BlockRun, block_run_of, continued}
+use Rattle.program_meaning.specs.BlockRun.{BlockRun, block_run_of, continued, ran}
 use Rattle.program_meaning.specs.State.{IsState, State, at_start}
 use Rattle.program_meaning.specs.Step.{Ends, Goes, IsAt, after, decided, step_at, step_of}
 use Rattle.program_meaning.specs.declared.cause.Cause.{Cause}
+use Rattle.program_meaning.specs.declared.end.End.TheVariants.{Exit, OutOfFuel}
 use Rattle.program_interface.specs.declared.area.Area.TheVariants.{Context, Block, Stack, Scratch}
 use Rattle.program_interface.specs.RunSizes.{AreSizes, Sizes}
 use Rattle.word_domain.specs.Domain.{IsSound, Operations}
-use Rattle.accepted_programs.specs.Accepted.{reason_of, refusal, refusal_at, refusal_below, refused_at}
+use Rattle.accepted_programs.specs.Accepted.{refusal}
 use Rattle.accepted_programs.specs.steps.ShortOffsets.{HasShortOffsets}
 use Rattle.accepted_programs.proofs.CellLaws.{none_known}
 use Rattle.accepted_programs.specs.Facts.{facts_at_start, facts_at}
@@ -23,17 +24,18 @@ use Rattle.accepted_programs.proofs.Flow.{arrives}
 use Rattle.accepted_programs.proofs.Fitting.{short_offsets}
 use Rattle.accepted_programs.specs.Emitted.{group_in, most_below, most_emitted}
 use Rattle.accepted_programs.proofs.KnownFacts.{known_facts}
-use Rattle.accepted_programs.specs.Laws.{AcceptedEmitsNoMore, AcceptedNeverTraps}
-use Rattle.accepted_programs.proofs.Meets.{Meets, MeetsSome, Moved}
+use Rattle.accepted_programs.specs.Laws.{AcceptedEmitsNoMore, AcceptedNeverTraps, FactsAreMet}
+use Rattle.accepted_programs.specs.Meets.{Meets, MeetsSome}
+use Rattle.accepted_programs.specs.FirstRefusal.{IsPassed}
+use Rattle.accepted_programs.proofs.Edges.{Moved}
+use Rattle.accepted_programs.proofs.FirstRefusals.{accepted_fails_nowhere}
 use Rattle.accepted_programs.proofs.Moves.{moved}
-use Rattle.accepted_programs.proofs.Progress.{begins_within, fewer, some_left}
+use Rattle.accepted_programs.proofs.Progress.{fewer, some_left}
 use Rattle.program_meaning.specs.TrapFree.{Exits}
 use Rattle.accepted_programs.proofs.Statements.{AcceptedSlotsNeverTrap}
 use Rattle.accepted_programs.proofs.Unhindered.{unhindered}
 use Rattle.accepted_programs.specs.declared.facts.Facts.{Facts}
 use Rattle.accepted_programs.specs.declared.facts.TheConstants.{CELLS}
-use Rattle.accepted_programs.specs.declared.reason.Reason.{Reason}
-use Rattle.accepted_programs.specs.declared.reason.Refusal.{Refusal}
 
 -- ---- a step that nothing hinders
 decided_goes : (s : State) (i : Instruction) (least : Option Cause) → least ≡ None → is_exit i ≡ false
@@ -75,39 +77,7 @@ module _ {D : Type 0} {IsFact : D → Type 0} {contains : D → ℕ → Type 0} 
         group = omega arith;
       }
 
-  module _ (program : List (Option Instruction)) (short : HasShortOffsets program) (sizes : Sizes) (are_sizes : AreSizes sizes)
-      (accepted : refusal operations program sizes ≡ None) where
-    -- ---- no refusal
-    refused_not : (refuses : Reason → Refusal) (reason : Option Reason) → option_map refuses reason ≡ None → reason ≡ None
-    refused_not refuses None e = refl
-    refused_not refuses (Some reason) e = cc
-
-    both_none : (a b : Option Refusal) → option_or a b ≡ None → (a ≡ None) × (b ≡ None)
-    both_none None b e = (refl, e)
-    both_none (Some first) b e = cc
-
-    abbrev at_slot : ℕ → Option Refusal
-    at_slot slot =
-        refusal_at operations program sizes slot (instruction_at program slot) (facts_at operations sizes.block program slot)
-
-    none_at : (n slot : ℕ) → refusal_below operations program sizes n ≡ None → slot < n → at_slot slot ≡ None
-    none_at zero slot e within = absurd (omega arith)
-    none_at (suc n) slot e within =
-        let (before, last) = both_none (refusal_below operations program sizes n) (at_slot n) e in
-        elim (cases_lt slot n) [
-          | inl below ↦ none_at n slot before below
-          | inr from ↦
-              let same : n ≡ slot = omega arith in
-              let P : ℕ → Type 0 = λ k. at_slot k ≡ None in
-              subst P same last
-        ]
-
-    no_reason : (i : Instruction) (facts : Facts D) (slot : ℕ) → IsAt program slot → instruction_at program slot ≡ Some i
-        → facts_at operations sizes.block program slot ≡ Some facts → reason_of operations program sizes slot facts i ≡ None
-    no_reason i facts slot here begins known =
-        let none = none_at (length program) slot accepted (begins_within program slot here) in
-        refused_not (refused_at slot) (reason_of operations program sizes slot facts i) (rw (begins, known) at none)
-
+  module _ (program : List (Option Instruction)) (short : HasShortOffsets program) (sizes : Sizes) (are_sizes : AreSizes sizes) where
     -- ---- a step
     abbrev Holds : State → Type 0
     Holds s = Stands contains operations program sizes s
@@ -125,68 +95,121 @@ module _ {D : Type 0} {IsFact : D → Type 0} {contains : D → ℕ → Type 0} 
           group = keeps_group_limit program sizes.limit s (after s i) i holds.group goes;
         }
 
-    -- a bound on the group, wherever a run is
-    abbrev Bounds : ℕ → Type 0
-    Bounds bound = (s : State) (facts : Facts D) → Holds s → facts_at operations sizes.block program s.slot ≡ Some facts → Meets contains facts s
-        → length s.group ≤ bound
+    -- a step leads forward to a state of which the same holds
+    record Leads (s : State) : Type 0 where
+      to : State
+      goes : step_at program sizes.limit s (instruction_at program s.slot) ≡ Some (Goes to)
+      holds : Holds to
+      forward : s.slot < to.slot
 
-    -- ---- a run, after n steps of at most so many
-    module _ (bound : ℕ) (bounds : Bounds bound) (most n : ℕ) (s : State) (holds : Holds s) (one_left : n < most)
-        (more : State → BlockRun)
-        (rest : (s' : State) → Holds s' → s.slot < s'.slot → Exits most bound (more s')) where
-      abbrev Done : Option Instruction → Type 0
-      Done at = Exits most bound (continued n s more (step_at program sizes.limit s at))
+    -- a step ends the run, or leads on
+    abbrev EndsOrLeads : State → Type 0
+    EndsOrLeads s = (step_at program sizes.limit s (instruction_at program s.slot) ≡ Some (Ends (register s 0) s)) ⊎ Leads s
 
-      done_by : (i : Instruction) (facts : Facts D) → instruction_at program s.slot ≡ Some i
-          → facts_at operations sizes.block program s.slot ≡ Some facts → Meets contains facts s → Done (Some i)
-      done_by i facts begins known meets =
-          let reason = no_reason i facts s.slot holds.here begins known in
+    abbrev IsPassedAt : ℕ → Type 0
+    IsPassedAt slot = IsPassed operations program sizes slot
+
+    -- ---- a step at a slot that is passed
+    module _ (s : State) (holds : Holds s) (passed : IsPassedAt s.slot) where
+      passed_by : (i : Instruction) (facts : Facts D) → instruction_at program s.slot ≡ Some i
+          → facts_at operations sizes.block program s.slot ≡ Some facts → Meets contains facts s → EndsOrLeads s
+      passed_by i facts begins known meets =
+          let passes = passed i facts (record { begins = begins; are = known }) in
           let are = known_facts sound.facts sizes.block program s.slot facts known in
           let near = short.offsets s.slot i begins in
-          let none = unhindered sound program sizes i facts s are_sizes holds.is holds.block_long are meets near reason in
-          by_test (Done (Some i)) (is_exit i)
-          (λ exits. rw (decided_ends s i (least_cause program sizes.limit s i) none exits)
-          (record { exit = tt; steps = omega arith; group = bounds s facts holds known meets }))
+          let none = unhindered sound program sizes i facts s are_sizes holds.is holds.block_long are meets near passes in
+          by_test (EndsOrLeads s) (is_exit i)
+          (λ exits. inl (rw (begins, decided_ends s i (least_cause program sizes.limit s i) none exits) refl))
           (λ runs_on.
           let goes = decided_goes s i (least_cause program sizes.limit s i) none runs_on in
-          let there = moved sound program sizes i facts s are_sizes holds.is holds.block_long are meets near runs_on reason in
-          rw goes (rest (after s i) (next i facts s holds goes begins known there) there.forward))
+          let there = moved sound program sizes i facts s are_sizes holds.is holds.block_long are meets near runs_on passes in
+          inr
+          (record {
+            to = after s i;
+            goes = rw (begins, goes) refl;
+            holds = next i facts s holds goes begins known there;
+            forward = there.forward;
+          }))
 
-      done_at : (at : Option Instruction) (known : Option (Facts D)) → instruction_at program s.slot ≡ at
-          → facts_at operations sizes.block program s.slot ≡ known → is_some at ≡ true → MeetsSome contains known s → Done at
-      done_at (Some i) (Some facts) begins known here meets = done_by i facts begins known meets
-      done_at None known begins e here meets = cc
-      done_at (Some i) None begins known here meets = absurd meets
+      passed_at : (at : Option Instruction) (known : Option (Facts D)) → instruction_at program s.slot ≡ at
+          → facts_at operations sizes.block program s.slot ≡ known → is_some at ≡ true → MeetsSome contains known s → EndsOrLeads s
+      passed_at (Some i) (Some facts) begins known here meets = passed_by i facts begins known meets
+      passed_at None known begins e here meets = cc
+      passed_at (Some i) None begins known here meets = absurd meets
 
-    exits : (bound : ℕ) → Bounds bound → (most fuel n : ℕ) (s : State) → Holds s
-        → count_by is_some (drop s.slot program) ≤ fuel → n + fuel ≤ most
-        → Exits most bound (block_run_of program sizes.limit fuel n s)
+      steps : EndsOrLeads s
+      steps = passed_at (instruction_at program s.slot) (facts_at operations sizes.block program s.slot) refl refl holds.here holds.known
+
+    -- ---- a run
+    abbrev run : ℕ → ℕ → State → BlockRun
+    run fuel n s = block_run_of program sizes.limit fuel n s
+
+    without_fuel : (n : ℕ) (s : State) → run 0 n s ≡ ran OutOfFuel n s
     unfolding block_run_of
-    exits bound bounds most zero n s holds enough within =
-        let some = some_left program s.slot holds.here in absurd (omega (arith, some, enough))
-    exits bound bounds most (suc fuel) n s holds enough within =
-        done_at bound bounds most n s holds (omega (arith, within)) (λ s'. block_run_of program sizes.limit fuel (n + 1) s')
-        (λ s' holds' forward.
-        let less = fewer program s.slot s'.slot holds.here forward in
-        exits bound bounds most fuel (n + 1) s' holds' (omega (arith, less, enough)) (omega (arith, within)))
-        (instruction_at program s.slot) (facts_at operations sizes.block program s.slot) refl refl holds.here holds.known
+    without_fuel n s = refl
 
-    -- a block run from its start on
-    starts : (bound : ℕ) → Bounds bound → is_some (instruction_at program 0) ≡ true → (bytes context scratch : List ℕ)
-        → length bytes ≡ sizes.block → IsState (at_start bytes context scratch)
-        → Exits (instruction_count program) bound
-        (block_run_of program sizes.limit (instruction_count program) 0 (at_start bytes context scratch))
-    starts bound bounds here bytes context scratch long is =
-        let count = instruction_count program in
-        exits bound bounds count count 0 (at_start bytes context scratch)
-        (record {
-          is = is;
-          block_long = long;
-          here = here;
-          known = start_meets bytes context scratch;
-          group = omega arith;
-        })
-        (omega arith) (omega arith)
+    ended : (fuel n : ℕ) (s : State)
+        → step_at program sizes.limit s (instruction_at program s.slot) ≡ Some (Ends (register s 0) s)
+        → run (suc fuel) n s ≡ ran (Exit (register s 0)) (n + 1) s
+    unfolding block_run_of
+    ended fuel n s ends = ap (continued n s (λ t. block_run_of program sizes.limit fuel (n + 1) t)) ends
+
+    led : (fuel n : ℕ) (s to : State) → step_at program sizes.limit s (instruction_at program s.slot) ≡ Some (Goes to)
+        → run (suc fuel) n s ≡ run fuel (n + 1) to
+    unfolding block_run_of
+    led fuel n s to goes = ap (continued n s (λ t. block_run_of program sizes.limit fuel (n + 1) t)) goes
+
+    -- a state that a run comes to by slots that are passed
+    comes : (fuel n : ℕ) (s : State) → Holds s → ((k : ℕ) → k < fuel → IsPassedAt (run k n s).state.slot)
+        → Holds (run fuel n s).state
+    comes zero n s holds passed = rw (without_fuel n s) holds
+    comes (suc fuel) n s holds passed =
+        let P : BlockRun → Type 0 = λ r. IsPassedAt r.state.slot in
+        elim (steps s holds (subst P (without_fuel n s) (passed 0 (omega arith)))) [
+          | inl ends ↦ rw (ended fuel n s ends) holds
+          | inr leads ↦ rw (led fuel n s leads.to leads.goes)
+              (comes fuel (n + 1) leads.to leads.holds
+              (λ k less. subst P (led k n s leads.to leads.goes) (passed (suc k) (omega (arith, less)))))
+        ]
+
+    -- what holds at the start
+    start_holds : is_some (instruction_at program 0) ≡ true → (bytes context scratch : List ℕ) → length bytes ≡ sizes.block
+        → IsState (at_start bytes context scratch) → Holds (at_start bytes context scratch)
+    start_holds here bytes context scratch long is = record {
+      is = is;
+      block_long = long;
+      here = here;
+      known = start_meets bytes context scratch;
+      group = omega arith;
+    }
+
+    -- a bound on the group, wherever a run is
+    abbrev Bounds : ℕ → Type 0
+    Bounds bound = (s : State) → Holds s → length s.group ≤ bound
+
+    -- ---- a run of a program that is accepted
+    module _ (accepted : refusal operations program sizes ≡ None) (bound : ℕ) (bounds : Bounds bound) where
+      exits : (most fuel n : ℕ) (s : State) → Holds s → count_by is_some (drop s.slot program) ≤ fuel → n + fuel ≤ most
+          → Exits most bound (run fuel n s)
+      exits most zero n s holds enough within =
+          let some = some_left program s.slot holds.here in absurd (omega (arith, some, enough))
+      exits most (suc fuel) n s holds enough within =
+          elim (steps s holds (accepted_fails_nowhere operations program sizes accepted s.slot)) [
+            | inl ends ↦ rw (ended fuel n s ends) (record { exit = tt; steps = omega (arith, within); group = bounds s holds })
+            | inr leads ↦
+                let less = fewer program s.slot leads.to.slot holds.here leads.forward in
+                rw (led fuel n s leads.to leads.goes)
+                (exits most fuel (n + 1) leads.to leads.holds (omega (arith, less, enough)) (omega (arith, within)))
+          ]
+
+      -- a block run from its start on
+      starts : is_some (instruction_at program 0) ≡ true → (bytes context scratch : List ℕ) → length bytes ≡ sizes.block
+          → IsState (at_start bytes context scratch)
+          → Exits (instruction_count program) bound (run (instruction_count program) 0 (at_start bytes context scratch))
+      starts here bytes context scratch long is =
+          let count = instruction_count program in
+          exits count count 0 (at_start bytes context scratch) (start_holds here bytes context scratch long is) (omega arith)
+          (omega arith)
 
     -- ---- the greatest bound on the group
     most_at : (n slot : ℕ) (facts : Facts D) → slot < n → facts_at operations sizes.block program slot ≡ Some facts
@@ -201,10 +224,17 @@ module _ {D : Type 0} {IsFact : D → Type 0} {contains : D → ℕ → Type 0} 
           omega (arith, here)
     ]
 
-  -- ---- the theorem
+    group_most : (s : State) (known : Option (Facts D)) → s.slot < length program
+        → facts_at operations sizes.block program s.slot ≡ known → MeetsSome contains known s
+        → length s.group ≤ most_emitted operations program sizes.block
+    group_most s (Some facts) inside known meets =
+        let above = most_at (length program) s.slot facts inside known in omega (arith, above, meets.group)
+    group_most s None inside known meets = absurd meets
+
+  -- ---- the theorems
   pub never_traps : AcceptedSlotsNeverTrap operations
   never_traps program sizes here short are_sizes accepted =
-      starts program short sizes are_sizes accepted sizes.limit (λ s facts holds known meets. holds.group) here
+      starts program short sizes are_sizes accepted sizes.limit (λ s holds. holds.group) here
 
   pub accepted_never_traps : AcceptedNeverTraps operations
   accepted_never_traps program is sizes are_sizes accepted =
@@ -213,11 +243,14 @@ module _ {D : Type 0} {IsFact : D → Type 0} {contains : D → ℕ → Type 0} 
   pub accepted_emits_no_more : AcceptedEmitsNoMore operations
   accepted_emits_no_more program is sizes are_sizes accepted bytes context scratch long starting =
       let short = short_offsets program is in
-      let most = most_emitted operations program sizes.block in
-      let run = starts program short sizes are_sizes accepted most
-      (λ s facts holds known meets.
-      let inside = begins_within program s.slot holds.here in
-      let above = most_at program short sizes are_sizes accepted (length program) s.slot facts inside known in
-      omega (arith, above, meets.group))
+      let run = starts program short sizes are_sizes accepted (most_emitted operations program sizes.block)
+      (λ s holds. group_most program short sizes are_sizes s (facts_at operations sizes.block program s.slot)
+      (begins_inside program s.slot holds.here) refl holds.known)
       (begins_at_instruction program is) bytes context scratch long starting in
       run.group
+
+  pub facts_are_met : FactsAreMet contains operations
+  facts_are_met program is sizes are_sizes bytes context scratch long starting steps passed =
+      let short = short_offsets program is in
+      let start = start_holds program short sizes are_sizes (begins_at_instruction program is) bytes context scratch long starting in
+      (comes program short sizes are_sizes steps 0 (at_start bytes context scratch) start passed).known

@@ -22,7 +22,7 @@ use Rattle.word_domain.specs.Domain.{IsAtOffset}
 use Rattle.word_domain.specs.declared.offsets.Offsets.{Offsets}
 use Rattle.accepted_programs.specs.Cells.{cell_from, cell_of, filled, has_byte, is_stack, no_cells, overwritten}
 use Rattle.accepted_programs.proofs.CellLaws.{if_some, left_known, none_known, set_known, word_kept, word_written}
-use Rattle.accepted_programs.proofs.Meets.{BelongInCells, word_in}
+use Rattle.accepted_programs.specs.Meets.{BelongInCells, word_in}
 use Rattle.accepted_programs.specs.declared.facts.TheConstants.{CELLS}
 
 -- ---- which bytes an access meets
@@ -160,18 +160,18 @@ module _ {D : Type 0} (contains : D → ℕ → Type 0) (stack bytes : List ℕ)
     (near : (offsets : Offsets) → told ≡ Some offsets → is_stack offsets.area ≡ true
     → IsBetween offsets.low offsets.high offset at)
     (cells : List (Option D)) (belong : BelongInCells contains cells stack) where
-  abbrev BelongAfter : List (Option D) → Type 0
-  BelongAfter others = BelongInCells contains others (spliced at bytes stack)
+  abbrev BelongThen : List (Option D) → Type 0
+  BelongThen others = BelongInCells contains others (spliced at bytes stack)
 
-  none_belong : BelongAfter no_cells
+  none_belong : BelongThen no_cells
   none_belong j d e = absurd (none_known CELLS j d e)
 
-  chosen_belong : (test : Bool) (others : List (Option D)) → (test ≡ true → BelongAfter others)
-      → BelongAfter (if test then others else no_cells)
+  chosen_belong : (test : Bool) (others : List (Option D)) → (test ≡ true → BelongThen others)
+      → BelongThen (if test then others else no_cells)
   chosen_belong true others first = first refl
   chosen_belong false others first = none_belong
 
-  overwritten_by : (o : Option Offsets) → told ≡ o → BelongAfter (overwritten o offset (length bytes) cells)
+  overwritten_by : (o : Option Offsets) → told ≡ o → BelongThen (overwritten o offset (length bytes) cells)
   overwritten_by None same = none_belong
   overwritten_by (Some offsets) same =
       chosen_belong (is_stack offsets.area) _
@@ -181,16 +181,16 @@ module _ {D : Type 0} (contains : D → ℕ → Type 0) (stack bytes : List ℕ)
       rw (word_kept stack bytes at j (omega (arith, whole, fits)) apart) (belong j d left.1))
 
   -- a store that fills no cell
-  pub overwritten_belong : BelongAfter (overwritten told offset (length bytes) cells)
+  pub overwritten_belong : BelongThen (overwritten told offset (length bytes) cells)
   overwritten_belong = overwritten_by told refl
 
-  pub none_filled : (cell : Option ℕ) → BelongAfter (filled cell None cells (overwritten told offset (length bytes) cells))
+  pub none_filled : (cell : Option ℕ) → BelongThen (filled cell None cells (overwritten told offset (length bytes) cells))
   none_filled (Some j) = overwritten_belong
   none_filled None = overwritten_belong
 
   module _ (word : ℕ) (small : word < 2 ^ 64) (all : bytes ≡ little_bytes 8 word) where
     -- a word that is stored into a cell, and those of the others
-    set_belongs : (j : ℕ) → at ≡ 8 * j → (d : D) → contains d word → BelongAfter (set cells j (Some d))
+    set_belongs : (j : ℕ) → at ≡ 8 * j → (d : D) → contains d word → BelongThen (set cells j (Some d))
     set_belongs j exact d is k e known =
         let long : length bytes ≡ 8 = ap (λ (l : List ℕ). length l) all ∙ length-bytes_low_first 0 8 word in
         elim (set_known cells j k d e known) [
@@ -212,14 +212,14 @@ module _ {D : Type 0} (contains : D → ℕ → Type 0) (stack bytes : List ℕ)
         omega (arith, ints, between.least, between.most, cell.exact, cell.at)
 
     filled_by : (cell : Option ℕ) (kept : Option D) → cell_of told offset ≡ cell → ((d : D) → kept ≡ Some d → contains d word)
-        → BelongAfter (filled cell kept cells (overwritten told offset (length bytes) cells))
+        → BelongThen (filled cell kept cells (overwritten told offset (length bytes) cells))
     filled_by (Some j) (Some d) same is = set_belongs j (exact_at j (cell_is told offset j same)) d (is d refl)
     filled_by (Some j) None same is = overwritten_belong
     filled_by None kept same is = overwritten_belong
 
     -- a store of a word that may fill a cell
     pub filled_belong : (kept : Option D) → ((d : D) → kept ≡ Some d → contains d word)
-        → BelongAfter (filled (cell_of told offset) kept cells (overwritten told offset (length bytes) cells))
+        → BelongThen (filled (cell_of told offset) kept cells (overwritten told offset (length bytes) cells))
     filled_belong kept is = filled_by (cell_of told offset) kept refl is
 
 -- ---- a store of so many bytes into the stack

@@ -27,48 +27,18 @@ use Rattle.program_interface.specs.declared.area.Area.{Area}
 use Rattle.program_interface.specs.RunSizes.{AreSizes, Sizes}
 use Rattle.word_domain.specs.Domain.{IsSound, Operations}
 use Rattle.program_meaning.proofs.Proved.{areas_are_apart, blocks_are_short}
-use Rattle.accepted_programs.specs.Accepted.{all_reasons, begins_at, fails, greatest_length, leads_nowhere, least_length, loads_outside, reason_of, stores_outside, turns_away}
+use Rattle.accepted_programs.specs.Accepted.{begins_at, fails, greatest_length, leads_nowhere, least_length, loads_outside, stores_outside, turns_away}
 use Rattle.accepted_programs.specs.Facts.{area_of, fact, slot_behind}
 use Rattle.accepted_programs.proofs.KnownFacts.{AreFacts}
-use Rattle.accepted_programs.proofs.Meets.{Meets}
+use Rattle.accepted_programs.specs.Meets.{Meets}
 use Rattle.accepted_programs.proofs.Registers.{word_of}
 use Rattle.accepted_programs.specs.declared.facts.Facts.{Facts}
 use Rattle.accepted_programs.specs.declared.reason.Reason.{Reason}
 use Rattle.accepted_programs.specs.declared.reason.Reason.TheVariants as reason
 
--- ---- tests
-
-module _ {X : Type 0} (test : X → Bool) where
-  -- none of these passes
-  abbrev pub AllFail : List X → Type 0
-  AllFail [] = Unit {0}
-  AllFail (x ∷ xs) = (test x ≡ false) × AllFail xs
-
-  first_fails : (x : X) (xs : List X) (passes : Bool) → test x ≡ passes → find test (x ∷ xs) ≡ None
-      → (test x ≡ false) × (find test xs ≡ None)
-  first_fails x xs true is e = let h : Some x ≡ None = rw is at e in cc
-  first_fails x xs false is e = (is, rw is at e)
-
-  pub all_fail : (xs : List X) → find test xs ≡ None → AllFail xs
-  all_fail [] e = tt
-  all_fail (x ∷ xs) e = let first = first_fails x xs (test x) refl e in (first.0, all_fail xs first.1)
-
-  none_passes : (xs : List X) → ((x : X) → test x ≡ false) → find test xs ≡ None
-  none_passes [] each = refl
-  none_passes (x ∷ xs) each = rw (each x) (none_passes xs each)
-
--- what holds of all reasons holds of each
-pub of_all : (test : Reason → Bool) → AllFail test all_reasons → (r : Reason) → test r ≡ false
-of_all test fail reason.JumpBack = fail.0
-of_all test fail reason.JumpOutside = fail.1.0
-of_all test fail reason.FallsOff = fail.1.1.0
-of_all test fail reason.WriteToFramePointer = fail.1.1.1.0
-of_all test fail reason.LoadOutside = fail.1.1.1.1.0
-of_all test fail reason.StoreOutside = fail.1.1.1.1.1.0
-of_all test fail reason.UnknownHelper = fail.1.1.1.1.1.1.0
-of_all test fail reason.EmitAddress = fail.1.1.1.1.1.1.1.0
-of_all test fail reason.EmitLength = fail.1.1.1.1.1.1.1.1.0
-of_all test fail reason.EmitLimit = fail.1.1.1.1.1.1.1.1.1.0
+none_passes : {X : Type 0} (test : X → Bool) (xs : List X) → ((x : X) → test x ≡ false) → find test xs ≡ None
+none_passes test [] each = refl
+none_passes test (x ∷ xs) each = rw (each x) (none_passes test xs each)
 
 -- ---- where it leads
 
@@ -237,13 +207,8 @@ module _ {D : Type 0} {IsFact : D → Type 0} {contains : D → ℕ → Type 0} 
         (emits_inside _ most refl told bounded.1 (counted limit), emits_well some limit)
 
     module _ (program : List (Option Instruction)) (i : Instruction) (near : FitsSigned w16 (first_slot i).offset)
-        (accepted : reason_of operations program sizes s.slot facts i ≡ None) where
+        (passed : (r : Reason) → fails operations program sizes s.slot facts i r ≡ false) where
       -- each check passes, so no cause holds
-      passed : (r : Reason) → fails operations program sizes s.slot facts i r ≡ false
-      passed r =
-          let test = fails operations program sizes s.slot facts i in
-          of_all test (all_fail test all_reasons accepted) r
-
       free : (c : Cause) → hinders program sizes.limit s i c ≡ false
       free cause.NextOutside = (goes_on program sizes.limit s i (passed reason.JumpOutside) (passed reason.FallsOff)).0
       free cause.NextInsideWide = (goes_on program sizes.limit s i (passed reason.JumpOutside) (passed reason.FallsOff)).1
@@ -257,8 +222,8 @@ module _ {D : Type 0} {IsFact : D → Type 0} {contains : D → ℕ → Type 0} 
   -- no cause hinders an instruction that passes all checks
   pub unhindered : (program : List (Option Instruction)) (sizes : Sizes) (i : Instruction) (facts : Facts D) (s : State)
       → AreSizes sizes → IsState s → length s.memory.block ≡ sizes.block → AreFacts IsFact facts → Meets contains facts s
-      → FitsSigned w16 (first_slot i).offset → reason_of operations program sizes s.slot facts i ≡ None
+      → FitsSigned w16 (first_slot i).offset → ((r : Reason) → fails operations program sizes s.slot facts i r ≡ false)
       → least_cause program sizes.limit s i ≡ None
-  unhindered program sizes i facts s are_sizes is long are meets near accepted =
+  unhindered program sizes i facts s are_sizes is long are meets near passed =
       none_passes (hinders program sizes.limit s i) (cause.NextOutside ∷ cause.NextInsideWide ∷ causes_of_effect)
-      (free sizes facts s are_sizes is long are meets program i near accepted)
+      (free sizes facts s are_sizes is long are meets program i near passed)

@@ -3,14 +3,16 @@ use Rattle.std.specs.Prelude.{ℕ, ◌≡◌, ◌<◌, ◌≤◌, List, length, 
 use Rattle.instruction_set.specs.Program.{IsProgram, instruction_count}
 use Rattle.instruction_set.specs.declared.instruction.Instruction.{Instruction}
 use Rattle.program_meaning.specs.BlockRun.{block_run_of}
-use Rattle.program_meaning.specs.State.{IsState, at_start}
+use Rattle.program_meaning.specs.State.{IsState, State, at_start}
 use Rattle.program_meaning.specs.TrapFree.{NeverTraps}
 use Rattle.program_interface.specs.RunSizes.{AreSizes, Sizes}
 use Rattle.program_interface.specs.declared.TheConstants.{MOST_SLOTS}
 use Rattle.word_domain.specs.Domain.{Operations}
 use Rattle.accepted_programs.specs.Accepted.{refusal}
 use Rattle.accepted_programs.specs.Emitted.{most_emitted}
+use Rattle.accepted_programs.specs.Facts.{facts_at}
 use Rattle.accepted_programs.specs.FirstRefusal.{IsFirstRefusal, IsPassed}
+use Rattle.accepted_programs.specs.Meets.{MeetsSome}
 use Rattle.accepted_programs.specs.declared.reason.Refusal.{Refusal}
 
 -- a program that these operations accept never traps
@@ -41,3 +43,18 @@ RefusalIsFirst operations = (program : List (Option Instruction)) (sizes : Sizes
 abbrev pub AcceptedFailsNowhere : {D : Type 0} → Operations D → Type 0
 AcceptedFailsNowhere operations = (program : List (Option Instruction)) (sizes : Sizes)
     → refusal operations program sizes ≡ None → (slot : ℕ) → IsPassed operations program sizes slot
+
+-- the state that so many steps of a block run lead to from another, or its last where it has fewer
+abbrev pub led_to : List (Option Instruction) → ℕ → ℕ → State → State
+led_to program limit steps start = (block_run_of program limit steps 0 start).state
+
+-- over every block of the length, every context and every scratch, each state of a block run meets what is known at its slot,
+-- where each slot that the run was at before is passed; whether its own is passed doesn't matter
+abbrev pub FactsAreMet : {D : Type 0} → (D → ℕ → Type 0) → Operations D → Type 0
+FactsAreMet contains operations = (program : List (Option Instruction)) → IsProgram program → (sizes : Sizes) → AreSizes sizes
+    → (bytes context scratch : List ℕ) → length bytes ≡ sizes.block → IsState (at_start bytes context scratch) → (steps : ℕ)
+    → ((fewer : ℕ) → fewer < steps
+    → IsPassed operations program sizes (led_to program sizes.limit fewer (at_start bytes context scratch)).slot)
+    → MeetsSome contains
+    (facts_at operations sizes.block program (led_to program sizes.limit steps (at_start bytes context scratch)).slot)
+    (led_to program sizes.limit steps (at_start bytes context scratch))

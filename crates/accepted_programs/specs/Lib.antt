@@ -1,5 +1,6 @@
 pub mod Cells
 pub mod Facts
+pub mod Meets
 pub mod Accepted
 pub mod Emitted
 pub mod FirstRefusal

@@ -1,6 +1,6 @@
 //! Laws of the definitions. Each function does nothing: what it ensures is the law.
 
-ghost use Rattle.accepted_programs.specs.Laws.{AcceptedEmitsNoMore, AcceptedFailsNowhere, AcceptedNeverTraps, RefusalIsFirst, RefusalIsInside};
+ghost use Rattle.accepted_programs.specs.Laws.{AcceptedEmitsNoMore, AcceptedFailsNowhere, AcceptedNeverTraps, FactsAreMet, RefusalIsFirst, RefusalIsInside};
 
 use word_domain::Domain;
 
@@ -30,4 +30,11 @@ pub fn refusal_is_first<D: Domain>()
 /// An instruction of a program that is accepted fails no check, wherever there are facts.
 pub fn accepted_fails_nowhere<D: Domain>()
     ensures { AcceptedFailsNowhere D.operations }
+{}
+
+/// What is known at a slot is true of each block run that comes there by slots of which none is refused: the words of
+/// its registers and of the stack belong to the facts, and its group is within the bound. So it is also where that
+/// slot is refused itself, as the first of a program that is refused.
+pub fn facts_are_met<D: Domain>()
+    ensures { FactsAreMet D.contains D.operations }
 {}

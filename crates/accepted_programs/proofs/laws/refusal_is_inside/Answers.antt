@@ -1,4 +1,4 @@
-use Rattle.accepted_programs.proofs.Refusals.{refusal_inside}
+use Rattle.accepted_programs.proofs.FirstRefusals.{refusal_inside}
 use Rattle.accepted_programs.proofs.laws.refusal_is_inside.Goals as goal
 
 pub returns : goal.returns

@@ -1,11 +1,7 @@
 -- When a state meets what is known of it.
-use Rattle.std.specs.Prelude.{ℕ, Bool, true, false, ◌≡◌, ◌<◌, ◌≤◌, List, [], ◌∷◌, length, drop, get_or, ◌*◌, Option, Some, None}
+use Rattle.std.specs.Prelude.{ℕ, ◌≡◌, ◌≤◌, ◌*◌, List, [], ◌∷◌, length, drop, get_or, Option, Some, None}
 use Rattle.byteorder.specs.Endian.{little_number}
-use Rattle.instruction_set.specs.Instruction.{distance_of}
-use Rattle.instruction_set.specs.declared.instruction.Instruction.{Instruction}
 use Rattle.program_meaning.specs.State.{State}
-use Rattle.word_domain.specs.Domain.{Operations}
-use Rattle.accepted_programs.specs.Facts.{facts_at_target, facts_behind, leads, slot_behind}
 use Rattle.accepted_programs.specs.declared.facts.Facts.{Facts}
 
 -- the little-endian word that a cell's eight bytes are
@@ -23,24 +19,13 @@ module _ {D : Type 0} (contains : D → ℕ → Type 0) where
   abbrev pub BelongInCells : List (Option D) → List ℕ → Type 0
   BelongInCells cells stack = (j : ℕ) (d : D) → get_or cells j None ≡ Some d → contains d (word_in stack j)
 
+  -- the registers and the words of the stack belong to the facts, and the group is within the bound
   pub record Meets (facts : Facts D) (s : State) : Type 0 where
     pub registers : Belong facts.registers s.registers
     pub cells : BelongInCells facts.cells s.memory.stack
     pub group : length s.group ≤ facts.emitted
 
+  -- there are facts, and the state meets them
   abbrev pub MeetsSome : Option (Facts D) → State → Type 0
   MeetsSome None s = ⊥
   MeetsSome (Some facts) s = Meets facts s
-
-  module _ (operations : Operations D) (block : ℕ) (i : Instruction) (facts : Facts D) (s s' : State) where
-    -- the second state is at the end of an edge of the instruction, taken or not, and meets what the edge
-    -- gives
-    abbrev pub IsAlong : Bool → Type 0
-    IsAlong false = (slot_behind s.slot i ≡ s'.slot) × MeetsSome (facts_behind operations block i facts) s'
-    IsAlong true = (leads s.slot (distance_of i) s'.slot ≡ true) × MeetsSome (facts_at_target operations block i facts) s'
-
-    -- a step led forward along an edge
-    pub record Moved : Type 0 where
-      pub taken : Bool
-      pub along : IsAlong taken
-      pub forward : s.slot < s'.slot

@@ -1,0 +1,5 @@
+use Rattle.accepted_programs.proofs.Soundness.{facts_are_met}
+use Rattle.accepted_programs.proofs.laws.facts_are_met.Goals as goal
+
+pub returns : goal.returns
+returns g c = facts_are_met g.met.D.Domain.sound
