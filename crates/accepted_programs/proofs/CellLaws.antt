@@ -6,7 +6,7 @@ use Rattle.byteorder.specs.Endian.{little_bytes, little_number}
 use Rattle.byteorder.specs.Numbers.{length-bytes_low_first, little_from-lt, little_number-reads_back}
 use Rattle.program_meaning.proofs.Proved.{same_number, writes_read_back}
 use Rattle.program_interface.specs.Bytes.{spliced}
-use Rattle.accepted_programs.specs.Cells.{forgotten, has_byte, join_cell, join_cells}
+use Rattle.accepted_programs.specs.Cells.{forgotten, has_byte, join_cell, joined_each}
 use Rattle.accepted_programs.specs.Meets.{word_in}
 
 pub if_some : {X : Type 0} (test : Bool) (o : Option X) (x : X) → (if test then o else None) ≡ Some x
@@ -77,7 +77,7 @@ module _ {D : Type 0} where
   cell_joined join None d x e = cc
 
   pub joined_known : (join : D → D → D) (cs ds : List (Option D)) (k : ℕ) (x : D)
-      → get_or (join_cells join cs ds) k None ≡ Some x → IsJoined join (get_or cs k None) (get_or ds k None) x
+      → get_or (joined_each (join_cell join) cs ds) k None ≡ Some x → IsJoined join (get_or cs k None) (get_or ds k None) x
   joined_known join [] ds k x e = cc
   joined_known join (c ∷ cs) [] k x e = cc
   joined_known join (c ∷ cs) (d ∷ ds) zero x e = cell_joined join c d x e

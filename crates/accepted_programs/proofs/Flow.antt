@@ -10,7 +10,8 @@ use Rattle.program_meaning.specs.State.{IsState, State}
 use Rattle.program_interface.specs.declared.area.Area.TheVariants.{Stack}
 use Rattle.word_domain.specs.Domain.{IsSound, Operations}
 use Rattle.accepted_programs.proofs.CellLaws.{joined_known, word_fits}
-use Rattle.accepted_programs.specs.Facts.{facts_at, facts_at_target, facts_behind, given_below, gives, join_registers, leads, merge, slot_behind}
+use Rattle.accepted_programs.specs.Cells.{joined_each}
+use Rattle.accepted_programs.specs.Facts.{facts_at, facts_at_target, facts_behind, given_below, gives, leads, merge, slot_behind}
 use Rattle.accepted_programs.proofs.KnownFacts.{AreFacts, SomeAreFacts, ahead_given, behind_given, given_facts, known_facts, merge_facts}
 use Rattle.accepted_programs.proofs.Edges.{IsAlong, Moved}
 use Rattle.accepted_programs.specs.Meets.{Belong, MeetsSome, word_in}
@@ -20,7 +21,7 @@ module _ {D : Type 0} {IsFact : D → Type 0} {contains : D → ℕ → Type 0} 
     (sound : IsSound IsFact contains operations) where
   -- ---- a join is met where either part is
   belong_first : (ds es : List D) (ws : List ℕ) → ((r : ℕ) → get_or ws r 0 < 2 ^ 64) → AllByRecursion IsFact ds
-      → AllByRecursion IsFact es → Belong contains ds ws → Belong contains (join_registers operations ds es) ws
+      → AllByRecursion IsFact es → Belong contains ds ws → Belong contains (joined_each operations.join ds es) ws
   belong_first [] es ws words first second h = tt
   belong_first (d ∷ ds) [] ws words first second h = tt
   belong_first (d ∷ ds) (e ∷ es) [] words first second h = absurd h
@@ -30,7 +31,7 @@ module _ {D : Type 0} {IsFact : D → Type 0} {contains : D → ℕ → Type 0} 
   )
 
   belong_second : (ds es : List D) (ws : List ℕ) → ((r : ℕ) → get_or ws r 0 < 2 ^ 64) → AllByRecursion IsFact ds
-      → AllByRecursion IsFact es → Belong contains es ws → Belong contains (join_registers operations ds es) ws
+      → AllByRecursion IsFact es → Belong contains es ws → Belong contains (joined_each operations.join ds es) ws
   belong_second [] es ws words first second h = tt
   belong_second (d ∷ ds) [] ws words first second h = tt
   belong_second (d ∷ ds) (e ∷ es) [] words first second h = absurd h

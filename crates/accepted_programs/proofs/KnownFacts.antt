@@ -19,10 +19,10 @@ use Rattle.program_interface.specs.declared.area.Area.TheVariants.{Context, Bloc
 use Rattle.program_meaning.specs.declared.word.Arithmetic.TheVariants as word
 use Rattle.word_domain.specs.Domain.{GiveFacts, Operations}
 use Rattle.word_domain.specs.declared.offsets.Offsets.{Offsets}
-use Rattle.accepted_programs.specs.Cells.{cell_of, filled, is_stack, known_in, no_cells, overwritten}
+use Rattle.accepted_programs.specs.Cells.{cell_of, filled, is_stack, joined_each, known_in, no_cells, overwritten}
 use Rattle.accepted_programs.proofs.CellLaws.{if_some, joined_known, left_known, none_known, set_known}
 use Rattle.accepted_programs.specs.declared.facts.TheConstants.{CELLS}
-use Rattle.accepted_programs.specs.Facts.{after_store, along, area_of, cell_at, compared_fact, enters_stack, facts_at_start, fact, facts_at, facts_at_target, facts_behind, given_below, gives, is_register, join_registers, kept_fact, leads, loaded_fact, merge, slot_behind, source_fact, with_both, with_fact}
+use Rattle.accepted_programs.specs.Facts.{after_store, along, area_of, cell_at, compared_fact, enters_stack, facts_at_start, fact, facts_at, facts_at_target, facts_behind, given_below, gives, is_register, kept_fact, leads, loaded_fact, merge, slot_behind, source_fact, with_both, with_fact}
 use Rattle.accepted_programs.specs.declared.facts.Facts.{Facts}
 
 -- ---- the words of an instruction
@@ -244,7 +244,7 @@ module _ {D : Type 0} {IsFact : D → Type 0} {operations : Operations D} (give 
 
   -- ---- joins
   join_facts_are : (ds es : List D) → AllByRecursion IsFact ds → AllByRecursion IsFact es
-      → AllByRecursion IsFact (join_registers operations ds es)
+      → AllByRecursion IsFact (joined_each operations.join ds es)
   join_facts_are [] es first second = tt
   join_facts_are (d ∷ ds) [] first second = tt
   join_facts_are (d ∷ ds) (e ∷ es) first second =

@@ -1,12 +1,12 @@
 -- What is known of the stack: 64 cells, of which the j-th stands for the stack's bytes 8j to 8j + 7. A cell is a fact
 -- about the little-endian word that they are, or nothing (profile).
-use Rattle.std.specs.Prelude.{ℕ, ℤ, pos, negsuc, suc, Bool, true, false, ◌+◌, ◌*◌, ◌/◌, ◌%◌, ◌+ℤ◌, ◌-ℤ◌, ◌==◌, ◌&&◌, nat_lt, int_le, List, [], ◌∷◌, replicate, set, get_or, Option, Some, None, if◌then◌else◌}
+use Rattle.std.specs.Prelude.{ℕ, ℤ, pos, negsuc, suc, Bool, true, false, ◌+◌, ◌-◌, ◌*◌, ◌/◌, ◌%◌, ◌+ℤ◌, ◌-ℤ◌, ◌==◌, ◌&&◌, nat_lt, int_le, List, [], ◌∷◌, replicate, set, get_or, Option, Some, None, if◌then◌else◌}
 use Rattle.std.specs.Ordering.{int_eq}
 use Rattle.program_interface.specs.declared.area.Area.{Area}
 use Rattle.program_interface.specs.declared.area.Area.TheVariants.{Stack}
 use Rattle.program_interface.specs.declared.area.TheConstants.{STACK_BYTES}
 use Rattle.word_domain.specs.declared.offsets.Offsets.{Offsets}
-use Rattle.accepted_programs.specs.declared.facts.TheConstants.{CELLS}
+use Rattle.accepted_programs.specs.declared.facts.TheConstants.{CELL_BYTES, CELLS}
 
 -- is the area the stack?
 abbrev pub is_stack : Area → Bool
@@ -15,7 +15,7 @@ is_stack _ = false
 
 -- the cell that the eight bytes from this distance on are
 abbrev pub cell_from : ℤ → Option ℕ
-cell_from (pos k) = if k % 8 == 0 && nat_lt k STACK_BYTES then Some (k / 8) else None
+cell_from (pos k) = if k % CELL_BYTES == 0 && nat_lt k STACK_BYTES then Some (k / CELL_BYTES) else None
 cell_from (negsuc n) = None
 
 -- the cell that the eight bytes at an offset are, where the address is known to be one alone, of the stack
@@ -26,7 +26,7 @@ cell_of None offset = None
 
 -- does a cell have a byte from one distance to another?
 abbrev pub has_byte : ℕ → ℤ → ℤ → Bool
-has_byte j first last = int_le first (pos (8 * j + 7)) && int_le (pos (8 * j)) last
+has_byte j first last = int_le first (pos (CELL_BYTES * j + (CELL_BYTES - 1))) && int_le (pos (CELL_BYTES * j)) last
 
 module _ {D : Type 0} where
   -- nothing is known of the stack
@@ -57,12 +57,12 @@ module _ {D : Type 0} where
   filled (Some j) (Some d) cells others = set cells j (Some d)
   filled _ _ cells others = others
 
-  -- cell by cell: nothing if either is, else the join
+  -- what is known in a cell on both of two ways: nothing if either is, else the join
   abbrev pub join_cell : (D → D → D) → Option D → Option D → Option D
   join_cell join (Some d) (Some e) = Some (join d e)
   join_cell join _ _ = None
 
-  -- two rows of cells, joined cell by cell
-  abbrev pub join_cells : (D → D → D) → List (Option D) → List (Option D) → List (Option D)
-  join_cells join (c ∷ cs) (d ∷ ds) = join_cell join c d ∷ join_cells join cs ds
-  join_cells join _ _ = []
+-- two rows, of registers or of cells, joined one by one
+abbrev pub joined_each : {A : Type 0} → (A → A → A) → List A → List A → List A
+joined_each join (x ∷ xs) (y ∷ ys) = join x y ∷ joined_each join xs ys
+joined_each join _ _ = []

@@ -19,7 +19,7 @@ use Rattle.program_interface.specs.declared.area.TheConstants.{STACK_BYTES}
 use Rattle.program_interface.specs.declared.registers.TheConstants.{CLEARED_REGISTERS}
 use Rattle.program_interface.specs.declared.area.Area.{Area}
 use Rattle.word_domain.specs.Domain.{Operations}
-use Rattle.accepted_programs.specs.Cells.{cell_of, filled, is_stack, join_cells, known_in, no_cells, overwritten}
+use Rattle.accepted_programs.specs.Cells.{cell_of, filled, is_stack, join_cell, joined_each, known_in, no_cells, overwritten}
 use Rattle.accepted_programs.specs.declared.facts.Facts.{Facts}
 
 -- the slot behind an instruction
@@ -154,16 +154,11 @@ module _ {D : Type 0} (operations : Operations D) where
 
   -- ---- joins
 
-  -- the facts about two rows of registers, joined one by one
-  abbrev pub join_registers : List D → List D → List D
-  join_registers (d ∷ ds) (e ∷ es) = operations.join d e ∷ join_registers ds es
-  join_registers _ _ = []
-
   -- what is known where two ways come together
   abbrev pub join_facts : Facts D → Facts D → Facts D
   join_facts a b = record {
-    registers = join_registers a.registers b.registers;
-    cells = join_cells operations.join a.cells b.cells;
+    registers = joined_each operations.join a.registers b.registers;
+    cells = joined_each (join_cell operations.join) a.cells b.cells;
     emitted = max a.emitted b.emitted;
   }
 

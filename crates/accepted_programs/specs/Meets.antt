@@ -3,10 +3,11 @@ use Rattle.std.specs.Prelude.{ℕ, ◌≡◌, ◌≤◌, ◌*◌, List, [], ◌�
 use Rattle.byteorder.specs.Endian.{little_number}
 use Rattle.program_meaning.specs.State.{State}
 use Rattle.accepted_programs.specs.declared.facts.Facts.{Facts}
+use Rattle.accepted_programs.specs.declared.facts.TheConstants.{CELL_BYTES}
 
--- the little-endian word that a cell's eight bytes are
+-- the little-endian word that a cell's bytes are
 abbrev pub word_in : List ℕ → ℕ → ℕ
-word_in stack j = little_number 8 (drop (8 * j) stack)
+word_in stack j = little_number CELL_BYTES (drop (CELL_BYTES * j) stack)
 
 module _ {D : Type 0} (contains : D → ℕ → Type 0) where
   -- each word belongs to the fact at its place

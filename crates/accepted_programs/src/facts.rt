@@ -4,12 +4,15 @@ ghost use Rattle.std.specs.Prelude.{◌≡◌};
 ghost use Rattle.accepted_programs.specs.Facts.{fact, with_fact};
 
 use instruction_set::Register;
-use program_interface::REGISTERS;
+use program_interface::{REGISTERS, STACK_BYTES};
 use std::alloc::AllocError;
 use word_domain::Domain;
 
+/// The bytes of a cell.
+pub const CELL_BYTES: usize = 8;
+
 /// The cells of the stack: words of eight bytes, each of which can be known.
-pub const CELLS: usize = 64;
+pub const CELLS: usize = STACK_BYTES / CELL_BYTES;
 
 /// A fact about each register, R0 to R10, and about words of the stack, and a bound on the bytes that were emitted.
 pub struct Facts<D> {

@@ -6,5 +6,5 @@ mod facts;
 pub mod laws;
 mod reason;
 
-pub use facts::{CELLS, Facts};
+pub use facts::{CELL_BYTES, CELLS, Facts};
 pub use reason::{Reason, Refusal};

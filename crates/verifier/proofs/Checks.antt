@@ -1,10 +1,10 @@
 -- What an instruction does that no reason refuses.
-use Rattle.std.proofs.Common.{ℕ, ℤ, ◌+◌, ◌≡◌, ◌<◌, ◌≤◌, ◌^◌, ◌<ℤ◌, ◌≤ℤ◌, Bool, true, false, List, length, slice_get, Option, Some, None, pos, negsuc, refl, arith, IsSome, IfSome, is_some, not, nat_lt, ◌&&◌, if◌then◌else◌}
+use Rattle.std.proofs.Common.{ℕ, ℤ, ◌+◌, ◌≡◌, ◌<◌, ◌≤◌, ◌^◌, ◌<ℤ◌, ◌≤ℤ◌, Bool, true, false, List, length, Option, Some, None, pos, negsuc, refl, arith, IsSome, IfSome, not, nat_lt, ◌&&◌, if◌then◌else◌}
 use Rattle.std.proofs.Math.Facts.{yes_leb, yes_ltb}
+use Rattle.std.proofs.lemmas.Bool.{not-false}
 use Rattle.std.proofs.lemmas.Bool.Decides.{nat_tests}
-use Rattle.std.proofs.lemmas.Option.{slice_get_within}
 use Rattle.instruction_set.specs.Instruction.{distance_of, is_emit, target}
-use Rattle.instruction_set.specs.Program.{instruction_in}
+use Rattle.instruction_set.proofs.Proved.{begins_inside}
 use Rattle.instruction_set.specs.declared.instruction.Instruction.{Instruction}
 use Rattle.instruction_set.specs.declared.instruction.Instruction.TheVariants.{LoadImmediate, Load, LoadSigned, StoreImmediate, StoreRegister, Arithmetic, Negate, MoveSigned, SwapBytes, Jump, JumpLong, Branch, Call, Exit}
 use Rattle.program_interface.specs.declared.block_size.TheConstants.{LARGEST_BLOCK}
@@ -18,26 +18,13 @@ use Rattle.accepted_programs.specs.declared.facts.Facts.{Facts}
 use Rattle.accepted_programs.specs.declared.reason.Reason.{Reason}
 use Rattle.accepted_programs.specs.declared.reason.Reason.TheVariants.{JumpOutside, FallsOff, UnknownHelper, EmitLimit}
 
--- an instruction begins only inside a program
-inside_by : (program : List (Option Instruction)) (n : ℕ) (begun : Option (Option Instruction)) → slice_get program n ≡ begun
-    → is_some (instruction_in begun) ≡ true → n < length program
-inside_by program n None is e = cc
-inside_by program n (Some begun) is e = slice_get_within program n begun is
-
-inside : (program : List (Option Instruction)) (n : ℕ) → begins_at program (pos n) ≡ true → n < length program
-inside program n e = inside_by program n (slice_get program n) refl e
-
 inside_first : (program : List (Option Instruction)) (z : ℤ) → begins_at program z ≡ true → pos 0 ≤ℤ z
 inside_first program (pos n) e = record { le = yes_leb (omega arith) }
 inside_first program (negsuc n) e = cc
 
 inside_last : (program : List (Option Instruction)) (z : ℤ) → begins_at program z ≡ true → z <ℤ pos (length program)
-inside_last program (pos n) e = record { lt = yes_ltb (inside program n e) }
+inside_last program (pos n) e = record { lt = yes_ltb (begins_inside program n e) }
 inside_last program (negsuc n) e = cc
-
-not_false : (b : Bool) → not b ≡ false → b ≡ true
-not_false true e = refl
-not_false false e = cc
 
 otherwise : (b c : Bool) → b ≡ false → (if b then false else c) ≡ false → c ≡ false
 otherwise true c is e = cc
@@ -45,12 +32,12 @@ otherwise false c is e = e
 
 goes_first : (program : List (Option Instruction)) (slot : ℕ) (distance : Option ℤ) → leads_nowhere program slot distance ≡ false
     → IfSome distance (λ d. pos 0 ≤ℤ target slot d)
-goes_first program slot (Some d) e = inside_first program (target slot d) (not_false _ e)
+goes_first program slot (Some d) e = inside_first program (target slot d) (not-false _ e)
 goes_first program slot None e = tt
 
 goes_last : (program : List (Option Instruction)) (slot : ℕ) (distance : Option ℤ) → leads_nowhere program slot distance ≡ false
     → IfSome distance (λ d. target slot d <ℤ pos (length program))
-goes_last program slot (Some d) e = inside_last program (target slot d) (not_false _ e)
+goes_last program slot (Some d) e = inside_last program (target slot d) (not-false _ e)
 goes_last program slot None e = tt
 
 within_limit : (emit : Bool) (limit most : ℕ) → not emit ≡ false → (emit && nat_lt limit most) ≡ false → limit ≤ LARGEST_BLOCK
@@ -83,8 +70,8 @@ module _ {D : Type 0} (operations : Operations D) where
 
     pub stays_inside : StaysInside (length program) slot i
     stays_inside = record {
-      behind = λ goes_on. inside program (slot_behind slot i)
-          (not_false _ (otherwise (turns_away i) _ goes_on (free FallsOff)));
+      behind = λ goes_on. begins_inside program (slot_behind slot i)
+          (not-false _ (otherwise (turns_away i) _ goes_on (free FallsOff)));
       first = goes_first program slot (distance_of i) (free JumpOutside);
       last = goes_last program slot (distance_of i) (free JumpOutside);
     }

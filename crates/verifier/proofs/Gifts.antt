@@ -1,5 +1,6 @@
 -- What slots hold after facts were given to some.
 use Rattle.std.proofs.Common.{◌≡◌, ◌≢◌, ℕ, ℤ, zero, suc, ◌<◌, ◌==◌, ◌++◌, Bool, true, false, List, [], ◌∷◌, length, get_or, set, Option, Some, None, pos, refl, sym, ap, ◌∙◌, arith, if◌then◌else◌}
+use Rattle.std.proofs.lemmas.Bool.{eqb-false, eqb-true}
 use Rattle.std.proofs.lemmas.Bool.Decides.{nat_tests}
 use Rattle.std.proofs.lemmas.Grind.{get_or-set_at}
 use Rattle.std.proofs.lemmas.List.{get_or-set_other}
@@ -61,12 +62,6 @@ module _ {D : Type 0} (operations : Operations D) where
       ap (λ r. merge operations r (if behind then Some a else None)) (elsewhere refl)
       ∙ sym (merge_none (merge operations o (if behind then Some a else None)))
 
-  same_number : (a b : ℕ) → (a == b) ≡ true → a ≡ b
-  same_number a b e = grind (arith, nat_tests)
-
-  other_number : (a b : ℕ) → (a == b) ≡ false → b ≢ a
-  other_number a b e = grind (arith, nat_tests)
-
   not_behind : (target behind s : ℕ) → behind ≢ target → (target == s) ≡ true → (behind == s) ≡ false
   not_behind target behind s apart e = grind (arith, nat_tests)
 
@@ -78,9 +73,9 @@ module _ {D : Type 0} (operations : Operations D) where
   target_first behind target a b old new row apart within joined given s inside =
       given s inside
       ∙ in_either_order a b (target == s) (behind == s) (held_at old s) (held_at (set old target row) s)
-      (λ e. ap held (get_or-set_at old target s row None (sym (same_number target s e)) within) ∙ joined
-      ∙ ap (λ k. merge operations (held_at old k) (Some b)) (same_number target s e))
-      (λ e. ap held (get_or-set_other old target s row None (other_number target s e)))
+      (λ e. ap held (get_or-set_at old target s row None (sym (eqb-true target s e)) within) ∙ joined
+      ∙ ap (λ k. merge operations (held_at old k) (Some b)) (eqb-true target s e))
+      (λ e. ap held (get_or-set_other old target s row None (λ same. eqb-false target s e (sym same))))
       (λ e. not_behind target behind s apart e)
 
   -- facts joined into the target's row, and then others given behind the compare: y along the taken edge, and then x

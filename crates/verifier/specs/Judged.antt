@@ -13,5 +13,6 @@ module _ {D : Type 0} (operations : Operations D) (program : List (Option Instru
   -- accepted, with the most that is emitted; or refused, with the facts that are known at that slot
   abbrev pub IsJudged : Sizes → Judgement D → Type 0
   IsJudged sizes (Accepted most) = (refusal operations program sizes ≡ None) × (most ≡ most_emitted operations program sizes.block)
-  IsJudged sizes (Refused r facts) =
-      (refusal operations program sizes ≡ Some r) × (facts_at operations sizes.block program r.slot ≡ Some facts.value)
+  IsJudged sizes (Refused refused) =
+      (refusal operations program sizes ≡ Some refused.refusal)
+      × (facts_at operations sizes.block program refused.refusal.slot ≡ Some refused.facts.value)

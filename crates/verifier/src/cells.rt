@@ -1,14 +1,11 @@
 //! What is known of the words of the stack.
 
 ghost use Rattle.std.specs.Prelude.{◌≡◌, ◌<◌, ◌^◌, ◌+ℤ◌, ◌-ℤ◌, ◌≤ℤ◌, ℤ, pos, negsuc};
-ghost use Rattle.accepted_programs.specs.Cells.{cell_from as cell_at_distance, cell_of as cell_of_address, filled, forgotten, has_byte as cell_has_byte, is_stack as is_the_stack, join_cell as cell_join, join_cells, known_in, no_cells, overwritten};
+ghost use Rattle.accepted_programs.specs.Cells.{cell_from as cell_at_distance, cell_of as cell_of_address, filled, forgotten, has_byte as cell_has_byte, is_stack as is_the_stack, join_cell as cell_join, joined_each, known_in, no_cells, overwritten};
 
-use accepted_programs::CELLS;
+use accepted_programs::{CELL_BYTES, CELLS};
 use program_interface::{Area, STACK_BYTES};
 use word_domain::{Domain, Offsets};
-
-/// The bytes of a cell.
-const CELL_BYTES: usize = 8;
 
 #[inline]
 pub(crate) fn is_stack(area: Area) -> bool
@@ -162,9 +159,9 @@ fn join_cell<D: Domain>(one: Option<D>, other: Option<D>) -> Option<D>
 }
 
 /// Joins what other cells are known to have into these.
-#[tactic(auto, using(crate::proofs::Joins::cells_more, crate::proofs::Joins::cells_joined))]
+#[tactic(auto, using(crate::proofs::Joins::joined_more, crate::proofs::Joins::joined_rows))]
 pub(crate) fn join<D: Domain>(cells: &mut [Option<D>; CELLS], others: &[Option<D>; CELLS])
-    ensures { cells.new ≡ join_cells D.operations.join cells.old others.now }
+    ensures { cells.new ≡ joined_each (cell_join D.operations.join) cells.old others.now }
 {
     for j in 0..CELLS {
         let joined = join_cell(cells[j], others[j]);

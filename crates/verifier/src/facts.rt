@@ -1,7 +1,8 @@
 //! What is known where a slot is reached: at the start, and where ways come together.
 
 ghost use Rattle.std.specs.Prelude.{◌≡◌};
-ghost use Rattle.accepted_programs.specs.Facts.{facts_at_start, join_facts, join_registers as registers_joined};
+ghost use Rattle.accepted_programs.specs.Cells.{joined_each};
+ghost use Rattle.accepted_programs.specs.Facts.{facts_at_start, join_facts};
 
 use crate::cells::join as join_cells;
 use accepted_programs::{CELLS, Facts};
@@ -35,7 +36,7 @@ pub(crate) fn at_start<D: Domain>() -> Facts<D>
 /// Joins what is known of other registers into these.
 #[tactic(auto, using(crate::proofs::Joins::joined_more, crate::proofs::Joins::joined_rows))]
 fn join_registers<D: Domain>(registers: &mut [D; REGISTERS], others: &[D; REGISTERS])
-    ensures { registers.new ≡ registers_joined D.operations registers.old others.now }
+    ensures { registers.new ≡ joined_each D.operations.join registers.old others.now }
 {
     for i in 0..REGISTERS {
         let joined = registers[i].join(others[i]);

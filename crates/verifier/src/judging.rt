@@ -8,7 +8,7 @@ ghost use Rattle.verifier.specs.Judged.{IsJudged};
 
 use crate::facts::at_start;
 use crate::rows::{Refused, Row, visit};
-use accepted_programs::{Facts, Refusal};
+use accepted_programs::Facts;
 use instruction_set::Program;
 use program_interface::RunSizes;
 use std::alloc::{AllocError, Global};
@@ -18,14 +18,9 @@ use word_domain::Domain;
 #[derive(Drop)]
 pub enum Judgement<D> {
     /// It is accepted, and emits at most so many bytes for a block, frame lengths counted.
-    Accepted {
-        most_emitted: usize,
-    },
+    Accepted { most_emitted: usize },
     /// It is refused, and these are the facts at the slot of the refusal.
-    Refused {
-        refusal: Refusal,
-        facts: Box<Facts<D>>,
-    },
+    Refused(Refused<D>),
 }
 
 /// The bound on the group, where there are facts.
@@ -85,15 +80,15 @@ fn judge_over<D: Domain>(
     for slot in 0..program.slots() {
         most_emitted = group(&rows[slot]).max(most_emitted);
         if let Some(refused) = visit(alloc, rows, &mut spare, program, sizes, slot)? {
-            let Refused { refusal, facts } = refused;
-            return Ok(Judgement::Refused { refusal, facts });
+            return Ok(Judgement::Refused(refused));
         }
     }
     Ok(Judgement::Accepted { most_emitted })
 }
 
-/// Accepts a program as [`verify`](crate::verify) does, and says how much it emits; or refuses it, and says what is
-/// known at the slot that is refused.
+/// Visits the slots of a program, and gives the facts of the slot that is refused, or the most that is emitted for a block.
+/// [`verify`](crate::verify) calls it and drops these. The facts are true of each block run that comes to the slot by slots of
+/// which none is refused (the law `facts_are_met` of `accepted_programs`).
 ///
 /// # Errors
 ///

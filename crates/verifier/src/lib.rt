@@ -14,5 +14,6 @@ mod verifying;
 
 pub use fault::VerifyFault;
 pub use judging::{Judgement, judge};
+pub use rows::Refused;
 pub use verified::Verified;
 pub use verifying::verify;

@@ -22,8 +22,10 @@ pub(crate) type Row<D> = Option<Box<Facts<D>>>;
 
 /// A slot that is refused, and what is known there.
 #[derive(Drop)]
-pub(crate) struct Refused<D> {
+pub struct Refused<D> {
+    /// The refusal.
     pub refusal: Refusal,
+    /// The facts at its slot.
     pub facts: Box<Facts<D>>,
 }
 

@@ -34,7 +34,7 @@ pub fn verify<D: Domain>(
     let (_block, _limit) = (sizes.block().bytes(), sizes.limit());
     match judge::<D>(alloc, &program, sizes) {
         Err(_) => Err(VerifyFault::Memory),
-        Ok(Judgement::Refused { refusal, .. }) => Err(VerifyFault::Refused(refusal)),
+        Ok(Judgement::Refused(refused)) => Err(VerifyFault::Refused(refused.refusal)),
         Ok(Judgement::Accepted { .. }) => Ok(Verified::new(program, sizes)),
     }
 }
