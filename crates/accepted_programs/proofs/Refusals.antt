@@ -1,11 +1,8 @@
 -- Why and where a program is refused.
 use Rattle.std.proofs.Common.{◌≡◌, ℕ, Bool, true, false, find, List, [], ◌∷◌, Option, Some, None, refl}
 use Rattle.std.specs.Option.{option_map}
-use Rattle.instruction_set.specs.declared.instruction.Instruction.{Instruction}
-use Rattle.program_interface.specs.RunSizes.{Sizes}
 use Rattle.word_domain.specs.Domain.{Operations}
 use Rattle.accepted_programs.specs.Accepted.{all_reasons, fails, reason_of, refused_at}
-use Rattle.accepted_programs.specs.declared.facts.Facts.{Facts}
 use Rattle.accepted_programs.specs.declared.reason.Reason.{Reason}
 use Rattle.accepted_programs.specs.declared.reason.Reason.TheVariants as reason
 use Rattle.accepted_programs.specs.declared.reason.Refusal.{Refusal}
