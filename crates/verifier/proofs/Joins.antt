@@ -22,12 +22,6 @@ module _ {A : Type 0} (join : A → A → A) where
       → set (joined_upto i ds es) i (join (get_or (joined_upto i ds es) i x) (get_or es i y)) ≡ joined_upto (i + 1) ds es
   joined_more i ds es x y within same = rw add-one (joined_suc i ds es x y within same)
 
-  pub joined_long : (i : ℕ) (ds es : List A) → length (joined_upto i ds es) ≡ length ds
-  joined_long zero ds es = refl
-  joined_long (suc i) [] es = refl
-  joined_long (suc i) (d ∷ ds) [] = refl
-  joined_long (suc i) (d ∷ ds) (e ∷ es) = ap suc (joined_long i ds es)
-
   all_joined : (ds es : List A) → length ds ≡ length es → joined_upto (length ds) ds es ≡ joined_each join ds es
   all_joined [] es same = refl
   all_joined (d ∷ ds) [] same = absurd (omega arith)

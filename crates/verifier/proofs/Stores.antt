@@ -44,8 +44,3 @@ module _ {D : Type 0} (first last : ℤ) where
       → forgotten_upto CELLS 0 cells ≡ forgotten first last 0 cells
   forgotten_all cells long =
       subst (λ n. forgotten_upto n 0 cells ≡ forgotten first last 0 cells) long (all_forgotten 0 cells)
-
-  pub forgotten_long : (i j : ℕ) (cells : List (Option D)) → length (forgotten_upto i j cells) ≡ length cells
-  forgotten_long zero j cells = refl
-  forgotten_long (suc i) j [] = refl
-  forgotten_long (suc i) j (cell ∷ cells) = ap suc (forgotten_long i (suc j) cells)
