@@ -10,7 +10,7 @@ use Rattle.device_events.specs.Replies.{Joins, ReplyWithData}
 use Rattle.device_events.proofs.Proved.{prints_in_parts}
 use Rattle.pushdown.specs.Draining.{HasDrained, StopsDraining}
 use Rattle.pushdown.specs.Events.{HasServed, HasStopped}
-use Rattle.pushdown.specs.JoinedEvents.{HasFinished}
+use Rattle.pushdown.specs.JoinedEvents.{HasServedAndDrained}
 use Rattle.pushdown.specs.State.{State, new_state}
 use Rattle.device_events.specs.declared.event.Event.{Event}
 use Rattle.pushdown.proofs.Proved.{served_and_drained}
@@ -46,7 +46,7 @@ stops_in_events events old new took done stopped = InEvents done (record {
 module _ (events : List Event) (old between new : State) (before then after : ℕ × Printed) (served : HasServed intervals events old between (Took before then)) where
   -- a drain, behind events that were all done
   pub finishes : (result : Result (Unit {0}) Stopped) → then.1.refused ≡ before.1.refused → CountsRefusals then.1.refused after.1.refused result
-      → OnOk result (HasDrained between new (Took then after)) → OnOk result (HasFinished intervals events old new (HasPrinted before.1.bytes after.1.bytes))
+      → OnOk result (HasDrained between new (Took then after)) → OnOk result (HasServedAndDrained intervals events old new (HasPrinted before.1.bytes after.1.bytes))
   finishes (Err error) none count drained = tt
   finishes (Ok done) none count drained =
       let finished = served_and_drained intervals Took took_joins events old between new before then after served drained in
@@ -84,12 +84,12 @@ module _ (events : List Event) (old between new : State) (before then after : �
 
 -- a device began with an image; its writer held so much before the lines were printed, and so much it holds now
 pub prints_all : (events : List Event) (image : ZonedNamespace) (old left : State) (held before holds after : Option (List ℕ))
-    → old ≡ new_state image → held ≡ before → holds ≡ after → HasFinished intervals events old left (HasPrinted held holds)
-    → HasFinished intervals events (new_state image) left (HasPrinted before after)
+    → old ≡ new_state image → held ≡ before → holds ≡ after → HasServedAndDrained intervals events old left (HasPrinted held holds)
+    → HasServedAndDrained intervals events (new_state image) left (HasPrinted before after)
 prints_all events image old left held before holds after begins first last finished =
-    subst (λ (s : State). HasFinished intervals events s left (HasPrinted before after)) begins
-    (subst (λ (bytes : Option (List ℕ)). HasFinished intervals events old left (HasPrinted bytes after)) first
-    (subst (λ (bytes : Option (List ℕ)). HasFinished intervals events old left (HasPrinted held bytes)) last finished))
+    subst (λ (s : State). HasServedAndDrained intervals events s left (HasPrinted before after)) begins
+    (subst (λ (bytes : Option (List ℕ)). HasServedAndDrained intervals events old left (HasPrinted bytes after)) first
+    (subst (λ (bytes : Option (List ℕ)). HasServedAndDrained intervals events old left (HasPrinted held bytes)) last finished))
 
 -- the image is saved that a device shows
 module _ (writes : Type 0) (events : List Event) (image shown : ZonedNamespace) (path : List ℕ) (before after : Option (List Made)) (left : State)
@@ -97,7 +97,7 @@ module _ (writes : Type 0) (events : List Event) (image shown : ZonedNamespace) 
   meant : writes → after ≡ then_made before path (text left.namespace)
   meant write = subst (λ (ns : ZonedNamespace). after ≡ then_made before path (text ns)) shows (made write)
 
-  pub saves_all : (printed printed_after : Option (List ℕ)) → HasFinished intervals events (new_state image) left (HasPrinted printed printed_after)
+  pub saves_all : (printed printed_after : Option (List ℕ)) → HasServedAndDrained intervals events (new_state image) left (HasPrinted printed printed_after)
       → SavesAll writes events image path before after printed printed_after
   saves_all printed printed_after finished = record { left = left; finished = finished; made = meant }
 

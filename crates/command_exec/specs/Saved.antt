@@ -8,7 +8,7 @@ use Rattle.interval_domain.specs.Intervals.{intervals}
 use Rattle.device_events.specs.Replies.{ReplyWithData}
 use Rattle.pushdown.specs.Draining.{StopsDraining}
 use Rattle.pushdown.specs.Events.{HasServed, HasStopped}
-use Rattle.pushdown.specs.JoinedEvents.{HasFinished}
+use Rattle.pushdown.specs.JoinedEvents.{HasServedAndDrained}
 use Rattle.pushdown.specs.State.{State, new_state}
 use Rattle.device_events.specs.declared.event.Event.{Event}
 use Rattle.event_text.specs.CommandFile.{events_in, told_of}
@@ -34,7 +34,7 @@ pub data HasBegun (events : List Event) (old new : State) : Type 0 where
 -- anew of the image that is left, where what is written of it is told
 pub record SavesAll (writes : Type 0) (events : List Event) (image : ZonedNamespace) (path : List ℕ) (before after : Option (List Made)) (printed printed_after : Option (List ℕ)) : Type 0 where
   pub left : State
-  pub finished : HasFinished intervals events (new_state image) left (HasPrinted printed printed_after)
+  pub finished : HasServedAndDrained intervals events (new_state image) left (HasPrinted printed printed_after)
   pub made : writes → after ≡ then_made before path (text left.namespace)
 
 -- the file is made anew of the image that the first of these leave, where that is told. How many is not said: standard

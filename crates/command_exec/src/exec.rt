@@ -2,7 +2,7 @@
 
 ghost use Rattle.std.specs.Prelude.{◌≡◌, ◌≢◌, ◌≤◌, ◌<◌, ◌+◌, ◌^◌, length, OnOk, OnErr, IfErr};
 ghost use Rattle.interval_domain.specs.Intervals.{intervals};
-ghost use Rattle.pushdown.specs.JoinedEvents.{HasFinished};
+ghost use Rattle.pushdown.specs.JoinedEvents.{HasServedAndDrained};
 ghost use Rattle.command_files.specs.Arguments.{value_of};
 ghost use Rattle.command_files.specs.Made.{MakesOne};
 ghost use Rattle.command_exec.specs.Saved.{Executes, ExecutesFirst, HasBegun, HasPrinted, SavesAll, SavesFirst};
@@ -149,7 +149,7 @@ fn serve_and_drain<O: Write>(
     requires room { MOST_TRANSFER ≤ length output.old }
     requires counts { lines.old.refusals + 1 < 2 ^ 64 }
     ensures same_writer { lines.new.out.ghost_name ≡ lines.old.out.ghost_name }
-    ensures finished { OnOk result (HasFinished intervals events.now device.old device.new (HasPrinted (O.contents lines.old.out.now) (O.contents lines.new.out.now))) }
+    ensures finished { OnOk result (HasServedAndDrained intervals events.now device.old device.new (HasPrinted (O.contents lines.old.out.now) (O.contents lines.new.out.now))) }
     ensures stopped { OnErr result (HasBegun events.now device.old device.new) }
 {
     device.serve(events, output, lines)?;

@@ -11,7 +11,7 @@ use Rattle.pushdown.specs.Happenings.{place_left, turned}
 use Rattle.pushdown.specs.Outcome.{Ending, Turn}
 use Rattle.pushdown.specs.State.{Place, State, place_at}
 use Rattle.pushdown.proofs.OthersEvents.{turned_is}
-use Rattle.pushdown.proofs.States.{AreTurns, IsFine, PlaceIsFine, place_fine, reached_fine, turn_fine}
+use Rattle.pushdown.proofs.States.{AppendWhole, IsFine, PlaceIsFine, place_fine, reached_fine, turn_fine}
 
 less_left : (place : Place) (later : List Turn) (ending : Option Ending) → turns_left_at (place_left place later ending) ≤ length later
 less_left place later None = omega arith
@@ -37,7 +37,7 @@ module _ {D : Type 0} (operations : Operations D) (never : AcceptedNeverTraps op
   Fine s = IsFine operations never block s
 
   taken_less : (s : State) (run : ℕ) (place : Place) (turns : List Turn) → place_at s run ≡ Some place → place.turns ≡ turns
-      → AreTurns operations never block turns → turns_left (turned s run).state.places + 1 ≤ turns_left s.places
+      → AppendWhole operations never block turns → turns_left (turned s run).state.places + 1 ≤ turns_left s.places
   taken_less s run place [] here first are = absurd are.ends
   taken_less s run place (turn ∷ later) here first are =
       let left = place_left place later turn.ending in

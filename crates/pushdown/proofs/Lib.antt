@@ -13,7 +13,6 @@ mod ExampleReached
 mod ExampleRuns
 mod Examples
 mod FewBlocks
-mod Headline
 mod JoinedEvents
 mod KeptForRuns
 mod Lasting
@@ -23,6 +22,7 @@ mod Outcomes
 mod Pending
 mod Places
 pub mod Proved
+mod Pushdown
 mod Reached
 mod ReadBack
 mod Rests

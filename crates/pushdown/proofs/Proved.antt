@@ -14,9 +14,9 @@ use Rattle.pushdown.proofs.Added as added
 use Rattle.pushdown.proofs.Answered as answered
 use Rattle.pushdown.proofs.AnyOrder as any_order
 use Rattle.pushdown.proofs.Drained as drained
-use Rattle.pushdown.proofs.Headline as headline
 use Rattle.pushdown.proofs.JoinedEvents as joined
 use Rattle.pushdown.proofs.KeptForRuns as kept
+use Rattle.pushdown.proofs.Pushdown as theorem
 use Rattle.pushdown.proofs.Reached as reached
 use Rattle.pushdown.proofs.ReadBack as read_back
 use Rattle.pushdown.proofs.Rests as rests
@@ -107,4 +107,4 @@ module _ {D : Type 0} (operations : Operations D) where
     results_read_back = results.results_read_back operations never
 
     pub pushdown : Pushdown operations
-    pushdown = headline.pushdown operations never
+    pushdown = theorem.pushdown operations never

@@ -65,11 +65,11 @@ module _ (block : ℕ) (before : List (List ℕ)) where
     ending = Some (record { status = SUCCESS; dw0 = frames; dw1 = all; result = Some scratch });
   }
 
-  finished_on : (after : List (List ℕ)) (frames appended : ℕ) (run : BlockRun) (e : End)
+  ended_on : (after : List (List ℕ)) (frames appended : ℕ) (run : BlockRun) (e : End)
       → last_turn_by e block (out (before ++ after) frames appended) run ≡ last_turn_by e block (out (kept ∷ after) frames (appended + sent)) run
-  finished_on after frames appended run (end.Trap slot cause) = refl
-  finished_on after frames appended run end.OutOfFuel = refl
-  finished_on after frames appended run (end.Exit r0) =
+  ended_on after frames appended run (end.Trap slot cause) = refl
+  ended_on after frames appended run end.OutOfFuel = refl
+  ended_on after frames appended run (end.Exit r0) =
       let g = run.state.group ∷ [] in
       let turn = ended (scratch_after run) (frames + run.state.frames) in
       let rest_packed = packed block (kept ∷ (after ++ g)) in
@@ -86,7 +86,7 @@ module _ (block : ℕ) (before : List (List ℕ)) where
   turns_on : (after : List (List ℕ)) (frames appended : ℕ) (block_runs : List BlockRun)
       → turns_after block (out (before ++ after) frames appended) block_runs ≡ turns_after block (out (kept ∷ after) frames (appended + sent)) block_runs
   turns_on after frames appended [] = refl
-  turns_on after frames appended (run ∷ []) = ap (λ (turn : Turn). turn ∷ []) (finished_on after frames appended run run.end)
+  turns_on after frames appended (run ∷ []) = ap (λ (turn : Turn). turn ∷ []) (ended_on after frames appended run run.end)
   turns_on after frames appended (run ∷ next ∷ block_runs) =
       let g = run.state.group ∷ [] in
       let later : Emitted → List Turn = λ emitted. turns_after block emitted (next ∷ block_runs) in

@@ -32,7 +32,7 @@ use Rattle.device_events.specs.declared.event.Event.{Event}
 use Rattle.device_events.specs.declared.event.Event.TheVariants as event
 use Rattle.pushdown.proofs.BlockRuns.{IsDone}
 use Rattle.pushdown.proofs.Changes.{after_event}
-use Rattle.pushdown.proofs.Headline.{pushdown}
+use Rattle.pushdown.proofs.Pushdown.{pushdown}
 use Rattle.pushdown.proofs.KeptForRuns.{left_program}
 use Rattle.pushdown.proofs.Loads.{loading_is}
 use Rattle.pushdown.proofs.Spelled.{decoded_has}

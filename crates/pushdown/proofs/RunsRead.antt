@@ -25,7 +25,7 @@ use Rattle.pushdown.specs.Reached.{IsReached}
 use Rattle.pushdown.specs.State.{State, free_place, holds_at, program_at}
 use Rattle.device_events.specs.declared.event.Event.TheVariants as event
 use Rattle.pushdown.proofs.Emitted.{outcome_unpacks}
-use Rattle.pushdown.proofs.Headline.{pushdown}
+use Rattle.pushdown.proofs.Pushdown.{pushdown}
 use Rattle.pushdown.proofs.Lasting.{events_keep, events_keep_shapes}
 use Rattle.pushdown.proofs.ReadBack.{each_is_read, part_is_read}
 use Rattle.pushdown.proofs.States.{IsFine, events_fine, reached_fine, turn_fine}

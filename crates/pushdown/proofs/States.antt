@@ -105,14 +105,14 @@ module _ {D : Type 0} (operations : Operations D) (never : AcceptedNeverTraps op
   SlotIsFine (Some loaded) = ProgramIsFine loaded
 
   -- turns that append whole blocks, few each, and of which the last ends the run
-  pub record AreTurns (turns : List Turn) : Type 0 where
+  pub record AppendWhole (turns : List Turn) : Type 0 where
     pub whole : AllByRecursion (HasWhole block) turns
     pub few : AllByRecursion HasFew turns
     pub ends : EndsWithLast turns
 
   abbrev pub PlaceIsFine : Option Place → Type 0
   PlaceIsFine None = Unit {0}
-  PlaceIsFine (Some place) = AreTurns place.turns
+  PlaceIsFine (Some place) = AppendWhole place.turns
 
   pub record IsFine (s : State) : Type 0 where
     pub is : IsNamespace s.namespace
@@ -231,7 +231,7 @@ module _ {D : Type 0} (operations : Operations D) (never : AcceptedNeverTraps op
     pub some_run : 1 ≤ command.blocks → 1 ≤ length block_runs
     some_run some = some_runs task source (some_source some)
 
-    pub turns_are : 1 ≤ command.blocks → AreTurns (admitted_place sub s command).turns
+    pub turns_are : 1 ≤ command.blocks → AppendWhole (admitted_place sub s command).turns
     turns_are some = record {
       whole = subst (λ (n : ℕ). AllByRecursion (HasWhole n) (outcome task source)) h.size
           (turns_whole s.namespace.block task nothing_emitted block_runs ready.sizes.fits runs_all_done (no_groups s.namespace.block));
@@ -299,7 +299,7 @@ module _ {D : Type 0} (operations : Operations D) (never : AcceptedNeverTraps op
       all_set SlotIsFine s.slots place.slot (keeping slot ending.result) h.slots
       (kept_fine slot ending.result (all_at SlotIsFine s.slots place.slot None h.slots tt))
 
-  pub left_fine : (place : Place) (turn : Turn) (later : List Turn) (ending : Option Ending) → turn.ending ≡ ending → AreTurns (turn ∷ later)
+  pub left_fine : (place : Place) (turn : Turn) (later : List Turn) (ending : Option Ending) → turn.ending ≡ ending → AppendWhole (turn ∷ later)
       → PlaceIsFine (place_left place later ending)
   left_fine place turn later (Some ending) is are = tt
   left_fine place turn [] None is are = absurd (subst Succeeds is are.ends)
@@ -312,7 +312,7 @@ module _ {D : Type 0} (operations : Operations D) (never : AcceptedNeverTraps op
       → place.turns ≡ turn ∷ later → IsFine (turn_state s run place turn later)
   first_fine s run place turn later h here first =
       let ns = s.namespace in
-      let are = subst AreTurns first (subst PlaceIsFine here (place_fine s run h)) in
+      let are = subst AppendWhole first (subst PlaceIsFine here (place_fine s run h)) in
       record {
         is = turn_sound ns place.destination turn.blocks turn.ending later h.is (subst (λ (n : ℕ). HasWhole n turn) (sym h.size) are.whole.0)
             (now_room s run place turn later h.apart h.rooms here first);
@@ -356,7 +356,7 @@ module _ {D : Type 0} (operations : Operations D) (never : AcceptedNeverTraps op
   appends : (s : State) → IsFine s → (run : ℕ) (place : Place) (turn : Turn) (later : List Turn) → place_at s run ≡ Some place
       → place.turns ≡ turn ∷ later → turn.blocks ≢ [] → IsAppended s.namespace place.destination turn.blocks
   appends s h run place turn later here first some =
-      let are = subst AreTurns first (subst PlaceIsFine here (place_fine s run h)) in
+      let are = subst AppendWhole first (subst PlaceIsFine here (place_fine s run h)) in
       turn_appended s.namespace place.destination turn.blocks turn.ending later h.is (subst (λ (n : ℕ). HasWhole n turn) (sym h.size) are.whole.0)
       are.few.0 (now_room s run place turn later h.apart h.rooms here first) some
 

@@ -30,7 +30,7 @@ module _ {D : Type 0} (operations : Operations D) where
 
   -- events were done, and then turns of the lowest active run of then, until no run was left; `took` says of the
   -- replies to both, in order, that they were taken
-  pub record HasFinished (events : List Event) (old new : State) (took : List ReplyWithData → Type 0) : Type 0 where
+  pub record HasServedAndDrained (events : List Event) (old new : State) (took : List ReplyWithData → Type 0) : Type 0 where
     pub occurrences : List Occurrence
     pub are : AreOccurrencesOf events occurrences
     pub runs : List ℕ
@@ -67,4 +67,4 @@ abbrev pub ServedAndDrained : {D T : Type 0} → Operations D → (T → T → L
 ServedAndDrained {T = T} operations took =
     (events : List Event) (old between new : State) (before then after : T)
     → HasServed operations events old between (took before then) → HasDrained between new (took then after)
-    → HasFinished operations events old new (took before after)
+    → HasServedAndDrained operations events old new (took before after)

@@ -55,8 +55,8 @@ middle_turn block emitted run = record {
 }
 
 -- a run whose last block run ended by EXIT: all blocks are appended, and told with the frames
-abbrev pub finished : ℕ → Emitted → Emitted → List ℕ → Turn
-finished block before emitted scratch = record {
+abbrev pub succeeded : ℕ → Emitted → Emitted → List ℕ → Turn
+succeeded block before emitted scratch = record {
   blocks = behind (released block before.groups) (packed block emitted.groups);
   ending = Some (record {
     status = SUCCESS;
@@ -75,7 +75,7 @@ trapped slot cause = record {
 
 -- the last turn; 9 tells that a block run had no fuel left (profile)
 abbrev pub last_turn_by : End → ℕ → Emitted → BlockRun → Turn
-last_turn_by (end.Exit r0) block emitted run = finished block emitted (with_group emitted run) (scratch_after run)
+last_turn_by (end.Exit r0) block emitted run = succeeded block emitted (with_group emitted run) (scratch_after run)
 last_turn_by (end.Trap slot cause) block emitted run = trapped slot (cause_number cause)
 last_turn_by end.OutOfFuel block emitted run = trapped 0 9
 

@@ -2,6 +2,7 @@ pub mod Arrays
 pub mod Admissions
 pub mod Appends
 pub mod Checked
+pub mod CommandsLeave
 pub mod DeviceTurns
 pub mod Drains
 pub mod Holding
@@ -15,5 +16,4 @@ pub mod Replies
 pub mod Served
 pub mod Starting
 pub mod Staying
-pub mod StepsLeave
 pub mod Turns

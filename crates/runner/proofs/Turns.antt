@@ -25,7 +25,7 @@ use Rattle.pushdown.specs.View.{Active, to_come, turns_of}
 use Rattle.pushdown.proofs.Proved.{blocks_leave_others, rest_ends, rest_goes_on, room_is_open, room_stays}
 use Rattle.runner.specs.DeviceState.{active_of}
 use Rattle.runner.specs.steps.Ran.{HasRun}
-use Rattle.runner.specs.steps.Turning.{FitsOn, TurnGoesOn, HasEnded, HasRoom, next_block, next_run, with_packer, with_scratch}
+use Rattle.runner.specs.steps.Turning.{FitsOn, TurnGoesOn, HasEnded, HasRoom, next_block, next_block_run, with_packer, with_scratch}
 use Rattle.runner.specs.declared.active_run.ActiveRun.{ActiveRun}
 use Rattle.runner.proofs.Appends.{added_both}
 
@@ -75,7 +75,7 @@ module _ (ns : ZonedNamespace) (program : List (Option Instruction)) (limit : �
     task = task_by ns program limit a.command
 
     abbrev run : BlockRun
-    run = next_run ns program limit a
+    run = next_block_run ns program limit a
 
     on_by : (more : List (List ℕ)) → 1 ≤ length more → goes_on run.end ≡ true
         → rest task a.so_far (next_block ns a ∷ more) ≡ next_turn task a.so_far run ∷ rest task (further task a.so_far run) more
@@ -164,7 +164,7 @@ module _ (ns : ZonedNamespace) (z : ℕ) (ending : Option Ending) (turns : List 
 
 module _ (ns : ZonedNamespace) (program : List (Option Instruction)) (limit : ℕ) (a : ActiveRun) (h : FitsOn ns program limit a) where
   abbrev ran : BlockRun
-  ran = next_run ns program limit (active_of a)
+  ran = next_block_run ns program limit (active_of a)
 
   abbrev sent : List (List ℕ)
   sent = given_by_put a.packer ran.state.group

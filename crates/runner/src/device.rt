@@ -178,7 +178,7 @@ impl Device {
     }
 
     /// The number of the run that a turn is given next, where all runs are to end: the lowest.
-    fn next_run(&self) -> Option<u8>
+    fn lowest_run(&self) -> Option<u8>
         ensures lowest { result ≡ lowest_run self.now }
         ensures reached { IsReached intervals self.now }
         ensures few { turns_left self.now.places ≤ 65536 * RUNS }
@@ -200,7 +200,7 @@ impl Device {
         ensures refused { CountsRefusals (O.refused out.old) (O.refused out.new) result }
     {
         let mut done = 0;
-        while let Some(run) = self.next_run() {
+        while let Some(run) = self.lowest_run() {
             done += 1;
             match self.serve_one(&Event::Turn { run }, output, out) {
                 Ok(()) => {}

@@ -12,7 +12,7 @@ ghost use Rattle.runner.specs.DeviceState.{active_of, device_state};
 ghost use Rattle.runner.specs.steps.Ran.{HasRun};
 ghost use Rattle.runner.specs.Ready.{Fits, IsReady};
 ghost use Rattle.pushdown.specs.Reached.{IsReached};
-ghost use Rattle.runner.specs.steps.Turning.{FitsAt, FitsIn, FitsOn, HasRoom, IsTaking, IsTurned, Keeps, PlaceTurned, SlotTurned, Turned, next_block, next_run, with_packer, with_scratch};
+ghost use Rattle.runner.specs.steps.Turning.{FitsAt, FitsIn, FitsOn, HasRoom, IsTaking, IsTurned, Keeps, PlaceTurned, SlotTurned, Turned, next_block, next_block_run, with_packer, with_scratch};
 
 use crate::active_run::ActiveRun;
 use crate::block_run::run_block;
@@ -49,11 +49,11 @@ fn run_next<V: TrapFree + Drop>(
     requires fits { Fits namespace.now active.old }
     requires block { V.block prepared.now ≡ namespace.now.block }
     requires limit { V.limit prepared.now ≤ namespace.now.block }
-    ensures run { HasRun (next_run namespace.now (V.code prepared.now) (V.limit prepared.now) (active_of active.old)) result.r0 result.frames (take result.group_length group.new) active.new.scratch }
+    ensures run { HasRun (next_block_run namespace.now (V.code prepared.now) (V.limit prepared.now) (active_of active.old)) result.r0 result.frames (take result.group_length group.new) active.new.scratch }
     ensures limit { result.group_length ≤ namespace.now.block }
     ensures few { result.frames ≤ LARGEST_BLOCK }
     ensures within { result.group_length ≤ length group.new }
-    ensures same { active.new ≡ with_scratch active.old (scratch_after (next_run namespace.now (V.code prepared.now) (V.limit prepared.now) (active_of active.old))) }
+    ensures same { active.new ≡ with_scratch active.old (scratch_after (next_block_run namespace.now (V.code prepared.now) (V.limit prepared.now) (active_of active.old))) }
 {
     let command = active.command;
     let context = Context {

@@ -33,8 +33,8 @@ abbrev pub next_block : ZonedNamespace → Active → List ℕ
 next_block ns a = get_or (zone_at ns (zone_number ns a.command.lba)).blocks (a.command.lba % ns.size + a.so_far.index) []
 
 -- the block run of its program on that block
-abbrev pub next_run : ZonedNamespace → List (Option Instruction) → ℕ → Active → BlockRun
-next_run ns program limit a = block_run (task_by ns program limit a.command) a.so_far.index a.so_far.scratch (next_block ns a)
+abbrev pub next_block_run : ZonedNamespace → List (Option Instruction) → ℕ → Active → BlockRun
+next_block_run ns program limit a = block_run (task_by ns program limit a.command) a.so_far.index a.so_far.scratch (next_block ns a)
 
 -- a zone that takes so many blocks more
 pub record IsTaking (ns : ZonedNamespace) (z n : ℕ) : Type 0 where

@@ -1,4 +1,4 @@
-use Rattle.pushdown.proofs.Headline.{admitted_starts}
+use Rattle.pushdown.proofs.Pushdown.{admitted_starts}
 use Rattle.pushdown.proofs.laws.admitted_starts.Goals as goal
 
 pub returns : goal.returns

@@ -1,5 +1,5 @@
 use Rattle.accepted_programs.proofs.Proved.{accepted_never_traps}
-use Rattle.pushdown.proofs.Headline.{pushdown}
+use Rattle.pushdown.proofs.Pushdown.{pushdown}
 use Rattle.pushdown.proofs.laws.pushdown.Goals as goal
 
 pub returns : goal.returns

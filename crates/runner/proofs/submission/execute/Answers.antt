@@ -1,5 +1,5 @@
 use Rattle.pushdown.specs.EventReplies.{Submission}
-use Rattle.runner.proofs.StepsLeave.{command_leaves}
+use Rattle.runner.proofs.CommandsLeave.{command_leaves}
 use Rattle.runner.proofs.submission.execute.Goals as goal
 
 pub returns-clause-left : goal.returns-clause-left

@@ -8,8 +8,8 @@ use Rattle.runner.proofs.device.Device.drain.Goals as goal
 pub loop-run-smaller : goal.loop-run-smaller
 loop-run-smaller g c =
     let now = c.loop-run.self in
-    let low = sym c.next_run.ensures.lowest ∙ c.in-Some.is in
-    let less = turn_less now c.in-Some.run' c.next_run.ensures.reached low in
+    let low = sym c.lowest_run.ensures.lowest ∙ c.in-Some.is in
+    let less = turn_less now c.in-Some.run' c.lowest_run.ensures.reached low in
     let left = ap (λ (s : State). turns_left s.places) c.in-Ok.ensures.served.happened.state in
     omega (arith, less, left)
 
@@ -24,20 +24,20 @@ pub loop-run-preserved : goal.loop-run-preserved
 loop-run-preserved g c =
     let out = g.O.Out in
     let inv = c.loop-run.invariant in
-    let low = sym c.next_run.ensures.lowest ∙ c.in-Some.is in
+    let low = sym c.lowest_run.ensures.lowest ∙ c.in-Some.is in
     let one = c.in-Ok.ensures.served in
     record {
       draining = drained_more out.took g.met.O.Out.joins c.args.self.now c.loop-run.self c.serve_one.new.self c.args.out.now c.loop-run.out
-          c.serve_one.new.out c.loop-run.done c.in-Some.run' one.reply inv.draining c.next_run.ensures.reached low one.happened.state
+          c.serve_one.new.out c.loop-run.done c.in-Some.run' one.reply inv.draining c.lowest_run.ensures.reached low one.happened.state
           one.happened.replied one.taken;
       few = inr (few_at_first c.args.self.now c.loop-run.self (out.took c.args.out.now c.loop-run.out) c.loop-run.done (65536 * RUNS) inv.draining inv.few
-          c.next_run.ensures.few);
+          c.lowest_run.ensures.few);
       refused = c.in-Ok.ensures.refused ∙ inv.refused;
     }
 
 pub returns-in-Err-clause-stopped : goal.returns-in-Err-clause-stopped
 returns-in-Err-clause-stopped g c =
-    let low = sym c.next_run.ensures.lowest ∙ c.in-Some.is in
+    let low = sym c.lowest_run.ensures.lowest ∙ c.in-Some.is in
     let one = c.in-Err.ensures.served in
     drained_stops g.O.Out.took g.met.O.Out.joins c.args.self.now c.loop-run.self c.serve_one.new.self c.args.out.now c.loop-run.out c.serve_one.new.out
-    c.loop-run.done c.in-Some.run' one.reply c.loop-run.invariant.draining c.next_run.ensures.reached low one.happened.state one.refused
+    c.loop-run.done c.in-Some.run' one.reply c.loop-run.invariant.draining c.lowest_run.ensures.reached low one.happened.state one.refused

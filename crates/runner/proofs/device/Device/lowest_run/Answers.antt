@@ -4,7 +4,7 @@ use Rattle.pushdown.specs.Draining.{lowest_run, turns_left}
 use Rattle.pushdown.specs.State.{State}
 use Rattle.runner.proofs.Drains.{few_left}
 use Rattle.runner.proofs.Numbers.{lowest_is}
-use Rattle.runner.proofs.device.Device.next_run.Goals as goal
+use Rattle.runner.proofs.device.Device.lowest_run.Goals as goal
 
 pub returns-clause-lowest : goal.returns-clause-lowest
 returns-clause-lowest c =

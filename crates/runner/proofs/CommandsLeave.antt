@@ -65,13 +65,13 @@ source_there : (runs : List (Option ActiveRun)) (k : ℕ) (a : ActiveRun) → ge
     → list_any (names a.source.zone) (map source_held runs) ≡ true
 source_there runs k a at = users_name_zones source_held a.source.zone runs k a at refl
 
--- where a step heeds what the active runs hold
-step_leaves : (ns : ZonedNamespace) (slots : List (Option LoadedProgram)) (runs : List (Option ActiveRun)) (step : NamespaceEvent) → IsReady ns slots runs
-    → holds_of step ≡ held_by runs → IsLeft ns (after step ns) slots runs
-step_leaves ns slots runs step ready heeds =
-    is_left ns (after step ns) slots runs ready (events_keep_shapes step ns)
+-- where an event heeds what the active runs hold
+event_leaves : (ns : ZonedNamespace) (slots : List (Option LoadedProgram)) (runs : List (Option ActiveRun)) (event : NamespaceEvent) → IsReady ns slots runs
+    → holds_of event ≡ held_by runs → IsLeft ns (after event ns) slots runs
+event_leaves ns slots runs event ready heeds =
+    is_left ns (after event ns) slots runs ready (events_keep_shapes event ns)
     (λ k a at.
-    held_sources_keep_blocks step ns a.source.zone
+    held_sources_keep_blocks event ns a.source.zone
     (ap (λ (holds : Holds). is_source holds a.source.zone) heeds ∙ source_there runs k a at))
 
 -- ---- a fault
@@ -82,7 +82,7 @@ pub fault_leaves : (ns new : ZonedNamespace) (slots : List (Option LoadedProgram
 fault_leaves ns new slots runs holds zone fault ready heeds is =
     let s = device_state ns slots runs in
     let left : IsLeft ns new slots runs =
-    subst (λ (later : ZonedNamespace). IsLeft ns later slots runs) (sym is) (step_leaves ns slots runs (Faulted holds zone fault) ready heeds) in (
+    subst (λ (later : ZonedNamespace). IsLeft ns later slots runs) (sym is) (event_leaves ns slots runs (Faulted holds zone fault) ready heeds) in (
       left.ready,
       left.state ∙ ap (with_namespace s) (is ∙ ap (λ (h : Holds). faulted ns h zone fault) (heeds ∙ holds_are ns slots runs ready)),
     )
@@ -99,7 +99,7 @@ command_leaves ns new slots runs holds command input bytes answer ready heeds is
     let s = device_state ns slots runs in
     let later = ap (λ (o : Effect). o.namespace) is in
     let left : IsLeft ns new slots runs =
-    subst (λ (m : ZonedNamespace). IsLeft ns m slots runs) (sym later) (step_leaves ns slots runs (Commanded holds command input) ready heeds) in (
+    subst (λ (m : ZonedNamespace). IsLeft ns m slots runs) (sym later) (event_leaves ns slots runs (Commanded holds command input) ready heeds) in (
       left.ready,
       λ sub.
           ap (λ (h : Holds). commanded sub s (meaning ns h command input)) (sym (heeds ∙ holds_are ns slots runs ready))
