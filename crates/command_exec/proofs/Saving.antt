@@ -45,19 +45,19 @@ stops_in_events events old new took done stopped = InEvents done (record {
 
 module _ (events : List Event) (old between new : State) (before then after : ℕ × Printed) (served : HasServed intervals events old between (Took before then)) where
   -- a drain, behind events that were all done
-  pub finishes : (result : Result (Unit {0}) Stopped) → then.1.refused ≡ before.1.refused → CountsRefusals then.1.refused after.1.refused result
+  pub serves_and_drains : (result : Result (Unit {0}) Stopped) → then.1.refused ≡ before.1.refused → CountsRefusals then.1.refused after.1.refused result
       → OnOk result (HasDrained between new (Took then after)) → OnOk result (HasServedAndDrained intervals events old new (HasPrinted before.1.bytes after.1.bytes))
-  finishes (Err error) none count drained = tt
-  finishes (Ok done) none count drained =
-      let finished = served_and_drained intervals Took took_joins events old between new before then after served drained in
+  serves_and_drains (Err error) none count drained = tt
+  serves_and_drains (Ok done) none count drained =
+      let did = served_and_drained intervals Took took_joins events old between new before then after served drained in
       record {
-        occurrences = finished.occurrences;
-        are = finished.are;
-        runs = finished.runs;
-        drains = finished.drains;
-        state = finished.state;
-        replies = finished.replies.1.texts (count ∙ none);
-        none_left = finished.none_left;
+        occurrences = did.occurrences;
+        are = did.are;
+        runs = did.runs;
+        drains = did.drains;
+        state = did.state;
+        replies = did.replies.1.texts (count ∙ none);
+        none_left = did.none_left;
       }
 
   -- one that stops
@@ -86,10 +86,10 @@ module _ (events : List Event) (old between new : State) (before then after : �
 pub prints_all : (events : List Event) (image : ZonedNamespace) (old left : State) (held before holds after : Option (List ℕ))
     → old ≡ new_state image → held ≡ before → holds ≡ after → HasServedAndDrained intervals events old left (HasPrinted held holds)
     → HasServedAndDrained intervals events (new_state image) left (HasPrinted before after)
-prints_all events image old left held before holds after begins first last finished =
+prints_all events image old left held before holds after begins first last did =
     subst (λ (s : State). HasServedAndDrained intervals events s left (HasPrinted before after)) begins
     (subst (λ (bytes : Option (List ℕ)). HasServedAndDrained intervals events old left (HasPrinted bytes after)) first
-    (subst (λ (bytes : Option (List ℕ)). HasServedAndDrained intervals events old left (HasPrinted held bytes)) last finished))
+    (subst (λ (bytes : Option (List ℕ)). HasServedAndDrained intervals events old left (HasPrinted held bytes)) last did))
 
 -- the image is saved that a device shows
 module _ (writes : Type 0) (events : List Event) (image shown : ZonedNamespace) (path : List ℕ) (before after : Option (List Made)) (left : State)
@@ -99,7 +99,7 @@ module _ (writes : Type 0) (events : List Event) (image shown : ZonedNamespace) 
 
   pub saves_all : (printed printed_after : Option (List ℕ)) → HasServedAndDrained intervals events (new_state image) left (HasPrinted printed printed_after)
       → SavesAll writes events image path before after printed printed_after
-  saves_all printed printed_after finished = record { left = left; finished = finished; made = meant }
+  saves_all printed printed_after did = record { left = left; served_and_drained = did; made = meant }
 
   pub saves_first : (old : State) → old ≡ new_state image → HasBegun events old left → SavesFirst writes events image path before after
   saves_first old begins begun = record {

@@ -34,7 +34,7 @@ pub data HasBegun (events : List Event) (old new : State) : Type 0 where
 -- anew of the image that is left, where what is written of it is told
 pub record SavesAll (writes : Type 0) (events : List Event) (image : ZonedNamespace) (path : List ℕ) (before after : Option (List Made)) (printed printed_after : Option (List ℕ)) : Type 0 where
   pub left : State
-  pub finished : HasServedAndDrained intervals events (new_state image) left (HasPrinted printed printed_after)
+  pub served_and_drained : HasServedAndDrained intervals events (new_state image) left (HasPrinted printed printed_after)
   pub made : writes → after ≡ then_made before path (text left.namespace)
 
 -- the file is made anew of the image that the first of these leave, where that is told. How many is not said: standard

@@ -149,7 +149,7 @@ fn serve_and_drain<O: Write>(
     requires room { MOST_TRANSFER ≤ length output.old }
     requires counts { lines.old.refusals + 1 < 2 ^ 64 }
     ensures same_writer { lines.new.out.ghost_name ≡ lines.old.out.ghost_name }
-    ensures finished { OnOk result (HasServedAndDrained intervals events.now device.old device.new (HasPrinted (O.contents lines.old.out.now) (O.contents lines.new.out.now))) }
+    ensures served_and_drained { OnOk result (HasServedAndDrained intervals events.now device.old device.new (HasPrinted (O.contents lines.old.out.now) (O.contents lines.new.out.now))) }
     ensures stopped { OnErr result (HasBegun events.now device.old device.new) }
 {
     device.serve(events, output, lines)?;

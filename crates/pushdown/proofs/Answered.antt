@@ -15,7 +15,7 @@ use Rattle.zns_commands.specs.Meaning.{meaning}
 use Rattle.zns_commands.specs.Transfer.{transfer_checks}
 use Rattle.zns_commands.proofs.Proved.{refused_commands_change_nothing}
 use Rattle.pushdown.specs.Admission.{Loaded, admission_checks}
-use Rattle.pushdown.specs.EventReplies.{Happening, Submission, completed, plain}
+use Rattle.pushdown.specs.EventReplies.{Happening, Submission, completed, plain, submission_of}
 use Rattle.pushdown.specs.Happenings.{result_by, start_by, submitted, why_not_run}
 use Rattle.pushdown.specs.Laws.{IsAnswered, IsLoaded, OnlyLoadsChangeSlots, RefusedLeavesState}
 use Rattle.pushdown.specs.State.{State, free_place, holds_at, program_at, with_namespace}
@@ -108,8 +108,8 @@ module _ {D : Type 0} (operations : Operations D) (starved : Bool) (sub : Submis
 module _ {D : Type 0} (operations : Operations D) where
   pub refused_leaves_state : RefusedLeavesState operations
   refused_leaves_state s starved queue entry input =
-      replied operations starved (record { queue = queue; entry = entry; input = input.items }) s (decoded entry)
+      replied operations starved (submission_of queue entry input.items) s (decoded entry)
 
   pub only_loads_change_slots : OnlyLoadsChangeSlots operations
   only_loads_change_slots s starved queue entry input =
-      changes_slots operations starved (record { queue = queue; entry = entry; input = input.items }) s (decoded entry) refl
+      changes_slots operations starved (submission_of queue entry input.items) s (decoded entry) refl

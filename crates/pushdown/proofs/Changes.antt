@@ -13,7 +13,7 @@ use Rattle.zns_commands.specs.Left as kept
 use Rattle.zns_commands.specs.Laws.{Commanded, Faulted, IsSpelled, NamespaceEvent, after}
 use Rattle.zns_commands.specs.Transfer.{transfer_checks}
 use Rattle.pushdown.specs.Admission.{Loaded}
-use Rattle.pushdown.specs.EventReplies.{Submission}
+use Rattle.pushdown.specs.EventReplies.{Submission, submission_of}
 use Rattle.pushdown.specs.Happenings.{admitted_place, happens, just_loaded, loading, result_by, start_by, submitted, take_turn, turn_state, turned, turned_at, why_not_run}
 use Rattle.pushdown.specs.Outcome.{Turn}
 use Rattle.pushdown.specs.Events.{CarriesBytes}
@@ -87,7 +87,7 @@ module _ {D : Type 0} (operations : Operations D) (P : State → Type 0) (s : St
 
   pub after_event : (starved : Bool) (e : Event) → HoldsAfter e → P (happens operations s starved e).state
   after_event starved (event.Submit queue entry input) holds =
-      after_entry (event.Submit queue entry input) holds starved (record { queue = queue; entry = entry; input = input.items }) (decoded entry) refl
+      after_entry (event.Submit queue entry input) holds starved (submission_of queue entry input.items) (decoded entry) refl
       (λ has. has)
   after_event starved (event.Turn run) holds = after_turn P s run holds.same (λ place turn later. holds.turn run place turn later refl)
   after_event starved (event.Fault zone state) holds = holds.step (Faulted (holds_at s) zone state) refl (λ has. tt)

@@ -8,7 +8,7 @@ use Rattle.instruction_set.specs.declared.instruction.Instruction.{Instruction}
 use Rattle.program_meaning.specs.BlockRun.{block_run_of}
 use Rattle.word_domain.specs.Domain.{Operations}
 use Rattle.image_store.specs.Namespace.{ZoneBlocks, ZonedNamespace, zone_at}
-use Rattle.pushdown.specs.EventReplies.{Happening, plain}
+use Rattle.pushdown.specs.EventReplies.{Happening, plain, submission_of}
 use Rattle.device_events.specs.Replies.{ReplyWithData}
 use Rattle.pushdown.specs.Draining.{replies_to_turns, state_after_turns}
 use Rattle.pushdown.specs.Happenings.{faulting, submitted}
@@ -44,7 +44,7 @@ blocks_in s z = (zone_at s.namespace z).blocks
 module _ {D : Type 0} (operations : Operations D) where
   -- an entry in queue 1, with the data beside it
   abbrev pub asks : List ℕ → List ℕ → State → Happening
-  asks entry input s = submitted operations false (record { queue = 1; entry = entry; input = input }) s (decoded entry)
+  asks entry input s = submitted operations false (submission_of 1 entry input) s (decoded entry)
 
   -- entries without data, one after another
   abbrev replies_asked : List (List ℕ) → State → List ReplyWithData

@@ -4,7 +4,7 @@ use Rattle.zone_state.specs.declared.state.ZoneState.TheVariants as zone
 use Rattle.nvme_entry.specs.Entry.{decoded}
 use Rattle.program_meaning.specs.BlockRun.{block_run_of}
 use Rattle.word_domain.specs.Domain.{Operations}
-use Rattle.pushdown.specs.EventReplies.{Happening, plain}
+use Rattle.pushdown.specs.EventReplies.{Happening, plain, submission_of}
 use Rattle.device_events.specs.Replies.{ReplyWithData}
 use Rattle.pushdown.specs.Draining.{state_after_turns}
 use Rattle.pushdown.specs.Happenings.{submitted, turned}
@@ -69,7 +69,7 @@ module _ {D : Type 0} (operations : Operations D) where
 
   -- where memory is refused, nothing changes
   abbrev starving : Happening
-  starving = submitted operations true (record { queue = 1; entry = load_entry 7 0 0 16; input = move ++ leave }) no_runs (decoded (load_entry 7 0 0 16))
+  starving = submitted operations true (submission_of 1 (load_entry 7 0 0 16) (move ++ leave)) no_runs (decoded (load_entry 7 0 0 16))
 
   pub memory_is_wanted : starving ≡ record { reply = completes 7 0x8e 0x0f; state = no_runs }
   memory_is_wanted = refl

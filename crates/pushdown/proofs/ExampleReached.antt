@@ -9,6 +9,7 @@ use Rattle.image_store.specs.Geometry.{IsShape, Shape}
 use Rattle.image_store.specs.Namespace.{all_empty}
 use Rattle.program_interface.specs.Bytes.{AreBytes}
 use Rattle.zns_commands.proofs.Proved.{empty_is_namespace}
+use Rattle.pushdown.specs.EventReplies.{submission_of}
 use Rattle.pushdown.specs.Events.{Occurrence, state_after}
 use Rattle.pushdown.specs.Pushdown.{IsAdmitted}
 use Rattle.pushdown.specs.Reached.{IsReached}
@@ -91,5 +92,5 @@ module _ {D : Type 0} (operations : Operations D) (there : Ptr) (alloc : Global)
     leaves = refl;
   }
 
-  pub is_admitted : IsAdmitted state (record { queue = 1; entry = run_entry 4 0 0 8; input = [] }) command 0
+  pub is_admitted : IsAdmitted state (submission_of 1 (run_entry 4 0 0 8) []) command 0
   is_admitted = record { asked = refl; passed = refl; free = refl }

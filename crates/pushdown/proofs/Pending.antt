@@ -9,7 +9,7 @@ use Rattle.nvme_entry.specs.declared.command.RunCommand.{RunCommand}
 use Rattle.word_domain.specs.Domain.{Operations}
 use Rattle.zns_commands.specs.Transfer.{transfer_checks}
 use Rattle.pushdown.specs.Admission.{Loaded}
-use Rattle.pushdown.specs.EventReplies.{Happening, Submission, plain}
+use Rattle.pushdown.specs.EventReplies.{Happening, Submission, plain, submission_of}
 use Rattle.device_events.specs.Replies.{ReplyWithData}
 use Rattle.pushdown.specs.Laws.{PendingIsAdmitted}
 use Rattle.pushdown.specs.Happenings.{result_by, start_by, submitted, why_not_run}
@@ -59,4 +59,4 @@ module _ {D : Type 0} (operations : Operations D) where
 
   pub pending_is_admitted : PendingIsAdmitted operations
   pending_is_admitted s starved queue entry input run is =
-      pends starved (record { queue = queue; entry = entry; input = input.items }) s (decoded entry) run refl is
+      pends starved (submission_of queue entry input.items) s (decoded entry) run refl is

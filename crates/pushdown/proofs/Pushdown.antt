@@ -17,7 +17,7 @@ use Rattle.image_store.specs.Namespace.{ZoneBlocks, ZonedNamespace, IsNamespace,
 use Rattle.image_store.proofs.Proved.{written_is_within, zone_room_is_bounded}
 use Rattle.nvme_entry.proofs.Proved.{demanded, passed}
 use Rattle.pushdown.specs.Admission.{admission_checks, source_blocks, task_of}
-use Rattle.pushdown.specs.EventReplies.{Happening, Submission, plain}
+use Rattle.pushdown.specs.EventReplies.{Happening, Submission, plain, submission_of}
 use Rattle.pushdown.specs.BlockRuns.{block_runs_of, no_scratch}
 use Rattle.pushdown.specs.Events.{Occurrence, state_after}
 use Rattle.pushdown.specs.Laws.{AdmittedStarts, StartsRun}
@@ -41,7 +41,7 @@ use Rattle.pushdown.proofs.States.{IsFine, admitted_room, all_exit, few_source, 
 
 module _ {D : Type 0} (operations : Operations D) (s : State) (queue : ℕ) (entry : List ℕ) (input : Vec ℕ Global) (command : RunCommand) (run : ℕ) where
   abbrev sub : Submission
-  sub = record { queue = queue; entry = entry; input = input.items }
+  sub = submission_of queue entry input.items
 
   abbrev place : Place
   place = admitted_place sub s command
@@ -159,7 +159,7 @@ written_most ns z is =
 module _ {D : Type 0} (operations : Operations D) (never : AcceptedNeverTraps operations) (block : ℕ) (s : State) (fine : IsFine operations never block s)
     (queue : ℕ) (entry : List ℕ) (input : Vec ℕ Global) (starved : Bool) (command : RunCommand) (run : ℕ) (events : List Occurrence) where
   abbrev given : Submission
-  given = record { queue = queue; entry = entry; input = input.items }
+  given = submission_of queue entry input.items
 
   tells_frames_and_blocks : IsAdmitted s given command run → TellsFramesAndBlocks operations s queue entry input starved command run events
   tells_frames_and_blocks admitted =
@@ -187,7 +187,7 @@ module _ {D : Type 0} (operations : Operations D) (never : AcceptedNeverTraps op
 
 pub pushdown : {D : Type 0} (operations : Operations D) → AcceptedNeverTraps operations → Pushdown operations
 pushdown operations never s reached queue entry input starved command run after admitted =
-    let sub : Submission = record { queue = queue; entry = entry; input = input.items } in
+    let sub = submission_of queue entry input.items in
     let fine = reached_fine operations never s reached in
     let block = reached.first.block in
     let task = task_of s.namespace (program_at s command.slot) command in

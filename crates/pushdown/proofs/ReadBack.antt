@@ -22,7 +22,7 @@ use Rattle.zns_commands.specs.Meaning.{meaning}
 use Rattle.zns_commands.specs.Laws.{AreRead}
 use Rattle.zns_commands.specs.Read.{read_refusal}
 use Rattle.zns_commands.proofs.Proved.{BlocksLieAt, KeepsZone, appended_stays, lying_is_read, written_stays}
-use Rattle.pushdown.specs.EventReplies.{Happening, Submission}
+use Rattle.pushdown.specs.EventReplies.{Happening, submission_of}
 use Rattle.pushdown.specs.Events.{Occurrence, state_after}
 use Rattle.pushdown.specs.Happenings.{commanded, happens, submitted}
 use Rattle.pushdown.specs.Pushdown.{blocks_at}
@@ -88,7 +88,7 @@ module _ {D : Type 0} (operations : Operations D) where
   completed : (e : Event) (c : StandardCommand) (input : List ℕ) (s : State) (starved : Bool)
       → Submits e (commands.Standard c) input → IsCompleted e s (meaning s.namespace (holds_at s) c input) (happens operations s starved e)
   completed (event.Submit queue entry bytes) c input s starved is =
-      let sub : Submission = record { queue = queue; entry = entry; input = bytes.items } in
+      let sub = submission_of queue entry bytes.items in
       ap (λ (r : Result Command Status). submitted operations starved sub s r) is.0
       ∙ ap (λ (bytes : List ℕ). commanded sub s (meaning s.namespace (holds_at s) c bytes)) is.1
   completed (event.Turn run) c input s starved is = absurd is

@@ -20,7 +20,7 @@ use Rattle.zns_commands.specs.Transfer.{transfer_checks}
 use Rattle.zone_resources.proofs.Proved.{there}
 use Rattle.pushdown.specs.Admission.{Loaded, admission_checks}
 use Rattle.pushdown.specs.BlockRuns.{Task, last_scratch}
-use Rattle.pushdown.specs.EventReplies.{Submission, completed}
+use Rattle.pushdown.specs.EventReplies.{Submission, completed, submission_of}
 use Rattle.pushdown.specs.Events.{Occurrence, state_after}
 use Rattle.pushdown.specs.Happenings.{happens, just_loaded, keeping, place_left, result_by, slots_left, start_by, submitted, take_turn, turned_at, why_not_run}
 use Rattle.pushdown.specs.Outcome.{Ending, Turn, ending_of}
@@ -115,18 +115,18 @@ module _ {D : Type 0} (operations : Operations D) (slot : ℕ) where
   entry_leaves : (starved : Bool) (queue : ℕ) (entry : List ℕ) (input : Vec ℕ Global) (s : State) (asked : Result Command Status)
       → decoded entry ≡ asked
       → (LoadSucceeds slot (event.Submit queue entry input)
-      (submitted operations starved (record { queue = queue; entry = entry; input = input.items }) s asked).reply → ⊥)
-      → program_at (submitted operations starved (record { queue = queue; entry = entry; input = input.items }) s asked).state slot ≡ program_at s slot
+      (submitted operations starved (submission_of queue entry input.items) s asked).reply → ⊥)
+      → program_at (submitted operations starved (submission_of queue entry input.items) s asked).state slot ≡ program_at s slot
   entry_leaves starved queue entry input s (Err status) is none = refl
   entry_leaves starved queue entry input s (Ok (commands.Standard c)) is none = refl
   entry_leaves starved queue entry input s (Ok (commands.Run command)) is none =
-      let sub : Submission = record { queue = queue; entry = entry; input = input.items } in
+      let sub = submission_of queue entry input.items in
       start_leaves (why_not_run sub s command) (free_place s) sub s command
   entry_leaves starved queue entry input s (Ok (commands.Result of)) is none =
-      let sub : Submission = record { queue = queue; entry = entry; input = input.items } in
+      let sub = submission_of queue entry input.items in
       result_leaves (program_at s of) (first_failed (transfer_checks 0 0 sub.input)) sub s
   entry_leaves starved queue entry input s (Ok (commands.Load load)) is none =
-      let sub : Submission = record { queue = queue; entry = entry; input = input.items } in
+      let sub = submission_of queue entry input.items in
       let load_is = loading_is operations sub s load starved in
       elim load_is.state [
         | inl same ↦ ap (λ (t : State). program_at t slot) same
@@ -183,7 +183,7 @@ module _ {D : Type 0} (operations : Operations D) (s : State) (slot : ℕ) (byte
   given : (e : Event) (starved : Bool) → Submits e (commands.Result slot) []
       → IsCompleted e s (success_effect s.namespace 0 bytes) (happens operations s starved e)
   given (event.Submit queue entry input) starved is =
-      let sub : Submission = record { queue = queue; entry = entry; input = input.items } in
+      let sub = submission_of queue entry input.items in
       ap (λ (r : Result Command Status). submitted operations starved sub s r) is.0
       ∙ ap (λ (xs : List ℕ). result_by (program_at s slot) (first_failed (transfer_checks 0 0 xs)) sub s) is.1
       ∙ ap (λ (of : Option Loaded). result_by of None sub s) has.at
@@ -199,7 +199,7 @@ module _ {D : Type 0} (operations : Operations D) (s : State) (slot : ℕ) (byte
 module _ {D : Type 0} (operations : Operations D) (never : AcceptedNeverTraps operations) (s : State) (reached : IsReached operations s)
     (queue : ℕ) (entry : List ℕ) (input : Vec ℕ Global) (starved : Bool) (command : RunCommand) (run : ℕ) (events later : List Occurrence) where
   abbrev sub : Submission
-  sub = record { queue = queue; entry = entry; input = input.items }
+  sub = submission_of queue entry input.items
 
   abbrev all_runs : List BlockRun
   all_runs = block_runs operations s queue entry input starved command run events

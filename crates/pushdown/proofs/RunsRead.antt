@@ -16,11 +16,11 @@ use Rattle.image_store.specs.Namespace.{shape, IsNamespace}
 use Rattle.image_store.proofs.Proved.{block_most}
 use Rattle.nvme_entry.proofs.Proved.{demanded, passed}
 use Rattle.pushdown.specs.Admission.{admission_checks}
-use Rattle.pushdown.specs.EventReplies.{Submission}
+use Rattle.pushdown.specs.EventReplies.{Submission, submission_of}
 use Rattle.pushdown.specs.Events.{AreEvents, Occurrence, state_after}
 use Rattle.pushdown.specs.Outcome.{Turn, appended_by}
-use Rattle.pushdown.specs.Pushdown.{IsAdmitted, blocks_at}
-use Rattle.pushdown.specs.ReadBack.{AppendedAreRead, AppendedByRunsReadsBack, EmittedAreRead, NoEventClears, ReadsGive, after_turn, before, destination, pointer, turns}
+use Rattle.pushdown.specs.Pushdown.{IsAdmitted, blocks_at, own_turns}
+use Rattle.pushdown.specs.ReadBack.{AppendedAreRead, AppendedByRunsReadsBack, EmittedAreRead, NoEventClears, ReadsGive, after_turn, destination, pointer, turns}
 use Rattle.pushdown.specs.Reached.{IsReached}
 use Rattle.pushdown.specs.State.{State, free_place, holds_at, program_at}
 use Rattle.device_events.specs.declared.event.Event.TheVariants as event
@@ -47,7 +47,7 @@ module _ {D : Type 0} (operations : Operations D) (never : AcceptedNeverTraps op
   block = reached.first.block
 
   abbrev sub : Submission
-  sub = record { queue = queue; entry = entry; input = input.items }
+  sub = submission_of queue entry input.items
 
   abbrev all_turns : List Turn
   all_turns = turns operations s queue entry input starved command run events later
@@ -59,7 +59,7 @@ module _ {D : Type 0} (operations : Operations D) (never : AcceptedNeverTraps op
   start = pointer operations s queue entry input starved command run events later
 
   abbrev so_far : ℕ
-  so_far = before operations s queue entry input starved command run events later
+  so_far = own_turns run events
 
   abbrev asked : Occurrence
   asked = record { event = event.Submit queue entry input; starved = starved }

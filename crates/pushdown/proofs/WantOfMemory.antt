@@ -5,7 +5,7 @@ use Rattle.nvme_entry.specs.Entry.{decoded}
 use Rattle.nvme_entry.specs.declared.command.Command.{Command}
 use Rattle.nvme_entry.specs.declared.command.Command.TheVariants as commands
 use Rattle.word_domain.specs.Domain.{Operations}
-use Rattle.pushdown.specs.EventReplies.{Submission}
+use Rattle.pushdown.specs.EventReplies.{Submission, submission_of}
 use Rattle.pushdown.specs.Happenings.{submitted}
 use Rattle.pushdown.specs.WantOfMemory.{OnlyLoadsWantMemory, is_load}
 use Rattle.pushdown.specs.State.{State}
@@ -22,6 +22,6 @@ module _ {D : Type 0} (operations : Operations D) where
 
   pub only_loads_want_memory : OnlyLoadsWantMemory operations
   only_loads_want_memory s (event.Submit queue entry input) no_load =
-      submitted_same (record { queue = queue; entry = entry; input = input.items }) s (decoded entry) no_load
+      submitted_same (submission_of queue entry input.items) s (decoded entry) no_load
   only_loads_want_memory s (event.Turn run) no_load = refl
   only_loads_want_memory s (event.Fault zone state) no_load = refl

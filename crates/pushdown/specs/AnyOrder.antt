@@ -22,9 +22,8 @@ IsUnshared s slot =
     (j k : ℕ) (p q : Place) → place_at s j ≡ Some p → place_at s k ≡ Some q → p.slot ≡ slot → q.slot ≡ slot → j ≡ k
 
 -- Turns of the one list and of the other leave states with the same namespace, the same runs and the same
--- programs, and give each run the same replies, in order. Of the results that two runs of one slot leave the
--- later one is kept: a slot that no two runs share has the same result too, and where no slot is shared the
--- states are the same.
+-- programs, and give each run the same replies, in order. A slot that no two runs share has the same result too,
+-- and where no slot is shared the states are the same.
 pub record ComeToTheSame (s : State) (first second : List ℕ) : Type 0 where
   pub namespace : (state_after_turns first s).namespace ≡ (state_after_turns second s).namespace
   pub places : (state_after_turns first s).places ≡ (state_after_turns second s).places

@@ -1,4 +1,4 @@
--- Replies to events, and what happens where an entry is answered at once or no run has a number.
+-- Replies to events, and what happens where an entry is answered at once or no run has the number asked for.
 use Rattle.std.specs.Prelude.{ℕ, List, [], length}
 use Rattle.zone_state.specs.declared.status.Status.{Status}
 use Rattle.nvme_entry.specs.Completion.{completion_bytes}
@@ -32,6 +32,10 @@ pub record Submission : Type 0 where
   pub queue : ℕ
   pub entry : List ℕ
   pub input : List ℕ
+
+-- an entry of these bytes, submitted to a queue with this data beside it
+abbrev pub submission_of : ℕ → List ℕ → List ℕ → Submission
+submission_of queue entry input = record { queue = queue; entry = entry; input = input }
 
 -- an entry that is answered at once goes back to its queue with its identifier (NVMe Base 2.0, 3.3.3.2)
 abbrev pub completed : Submission → Status → ℕ → ℕ → List ℕ → State → Happening

@@ -25,7 +25,7 @@ use Rattle.zns_commands.specs.Meaning.{meaning}
 use Rattle.zns_commands.specs.Transfer.{transfer_checks}
 use Rattle.pushdown.specs.Admission.{Loaded, run_refusal, source_blocks, task_of, source_zone, destination_zone}
 use Rattle.device_events.specs.Replies.{ReplyWithData}
-use Rattle.pushdown.specs.EventReplies.{Happening, Submission, plain, completion, completed, refused, idle}
+use Rattle.pushdown.specs.EventReplies.{Happening, Submission, plain, completion, completed, refused, idle, submission_of}
 use Rattle.pushdown.specs.BlockRuns.{no_scratch}
 use Rattle.pushdown.specs.Outcome.{Turn, Ending, outcome}
 use Rattle.pushdown.specs.State.{Place, State, holds_at, program_at, place_at, in_use, free_place, with_namespace, with_slot, with_place}
@@ -200,6 +200,6 @@ module _ {D : Type 0} (operations : Operations D) where
   -- what an event comes to, where memory is refused or not
   abbrev pub happens : State → Bool → Event → Happening
   happens s starved (event.Submit queue entry input) =
-      submitted starved (record { queue = queue; entry = entry; input = input.items }) s (decoded entry)
+      submitted starved (submission_of queue entry input.items) s (decoded entry)
   happens s starved (event.Turn run) = turned s run
   happens s starved (event.Fault zone state) = faulting s zone state

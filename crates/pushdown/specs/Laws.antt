@@ -26,7 +26,7 @@ use Rattle.image_store.specs.Namespace.{ZoneBlocks, ZonedNamespace, zone_at, sha
 use Rattle.zns_commands.specs.Append.{TakesBlocks, append_checks, append_effect}
 use Rattle.zns_commands.specs.Left.{Grows}
 use Rattle.pushdown.specs.Admission.{Loaded, SameProgram, sizes_in, source_blocks, task_of}
-use Rattle.pushdown.specs.EventReplies.{Happening, Submission, completion, plain}
+use Rattle.pushdown.specs.EventReplies.{Happening, Submission, completion, plain, submission_of}
 use Rattle.pushdown.specs.BlockRuns.{Task, block_run, block_runs_of, frames_of, goes_on, groups_of, scratch_after}
 use Rattle.pushdown.specs.Draining.{Drains, turns_left}
 use Rattle.pushdown.specs.Events.{Occurrence}
@@ -113,7 +113,7 @@ abbrev pub RefusedLeavesState : {D : Type 0} → Operations D → Type 0
 RefusedLeavesState operations =
     (s : State) (starved : Bool) (queue : ℕ) (entry : List ℕ) (input : Vec ℕ Global)
     → let h = happens operations s starved (event.Submit queue entry input) in
-    ((run : ℕ) × (h.reply ≡ plain (reply.Pending run))) ⊎ IsAnswered s (record { queue = queue; entry = entry; input = input.items }) h
+    ((run : ℕ) × (h.reply ≡ plain (reply.Pending run))) ⊎ IsAnswered s (submission_of queue entry input.items) h
 
 module _ {D : Type 0} (operations : Operations D) where
   -- a Load succeeds: its slot gets the program that its data is decoded to, which no reason refuses, with no
@@ -132,7 +132,7 @@ OnlyLoadsChangeSlots operations =
     (s : State) (starved : Bool) (queue : ℕ) (entry : List ℕ) (input : Vec ℕ Global)
     → let h = happens operations s starved (event.Submit queue entry input) in
     (h.state.slots ≡ s.slots)
-    ⊎ ((load : LoadCommand) × IsLoaded operations s (record { queue = queue; entry = entry; input = input.items }) load h)
+    ⊎ ((load : LoadCommand) × IsLoaded operations s (submission_of queue entry input.items) load h)
 
 -- ---- admission and turns
 
@@ -148,7 +148,7 @@ pub record StartsRun (s : State) (sub : Submission) (command : RunCommand) (run 
 abbrev pub AdmittedStarts : {D : Type 0} → Operations D → Type 0
 AdmittedStarts operations =
     (s : State) (starved : Bool) (queue : ℕ) (entry : List ℕ) (input : Vec ℕ Global) (command : RunCommand) (run : ℕ)
-    → let sub : Submission = record { queue = queue; entry = entry; input = input.items } in
+    → let sub = submission_of queue entry input.items in
     IsAdmitted s sub command run → StartsRun s sub command run (happens operations s starved (event.Submit queue entry input))
 
 -- and where the reply to an entry is Pending, a Run was admitted
@@ -156,7 +156,7 @@ abbrev pub PendingIsAdmitted : {D : Type 0} → Operations D → Type 0
 PendingIsAdmitted operations =
     (s : State) (starved : Bool) (queue : ℕ) (entry : List ℕ) (input : Vec ℕ Global) (run : ℕ)
     → (happens operations s starved (event.Submit queue entry input)).reply ≡ plain (reply.Pending run)
-    → (command : RunCommand) × IsAdmitted s (record { queue = queue; entry = entry; input = input.items }) command run
+    → (command : RunCommand) × IsAdmitted s (submission_of queue entry input.items) command run
 
 -- an event that is no turn of a run leaves its turns as they were
 abbrev pub ForeignLeavesTurns : {D : Type 0} → Operations D → Type 0

@@ -21,7 +21,7 @@ use Rattle.program_meaning.specs.TrapFree.{IsExit}
 use Rattle.word_domain.specs.Domain.{Operations}
 use Rattle.image_store.specs.Namespace.{ZonedNamespace, zone_at, shape}
 use Rattle.pushdown.specs.Admission.{SameProgram, source_blocks, task_of}
-use Rattle.pushdown.specs.EventReplies.{Happening, Submission}
+use Rattle.pushdown.specs.EventReplies.{Happening, Submission, submission_of}
 use Rattle.pushdown.specs.BlockRuns.{Task, block_runs_of, frames_of, last_scratch}
 use Rattle.pushdown.specs.Events.{Occurrence, state_after}
 use Rattle.pushdown.specs.Happenings.{added, admitted_place, place_left, slots_left, turn_reply, turned, why_not_run}
@@ -89,7 +89,7 @@ module _ {D : Type 0} (operations : Operations D) where
       (events : List Occurrence) where
     -- the entry of the Run, with the data beside it
     abbrev pub submission : Submission
-    submission = record { queue = queue; entry = entry; input = input.items }
+    submission = submission_of queue entry input.items
 
     -- what is fixed at admission: what the run is about, which with the source blocks decides its block runs and its turns
     abbrev pub task : Task
@@ -145,8 +145,8 @@ module _ {D : Type 0} (operations : Operations D) where
     -- 4. After k own turns the first k turns of those fixed at admission are done: their blocks stand in order
     -- directly behind what the destination held at admission, and the others are left. The reply to the next
     -- turn is what is fixed for it, and it leaves the namespace as a Zone Append of its blocks does that meets
-    -- no hold; the last one posts the completion, to the queue and with the identifier of the Run, frees the
-    -- place, and leaves the last scratch bytes as the slot's result.
+    -- no hold (`appends` of `StatesAreSound`); the last one posts the completion, to the queue and with the
+    -- identifier of the Run, frees the place, and leaves the last scratch bytes as the slot's result.
     pub record DoesItsTurns : Type 0 where
       pub left : place_at now run ≡ Some (record place { turns = drop done place.turns })
       pub appended : blocks_at now place.destination ≡ blocks_at s place.destination ++ appended_by (take done place.turns)
@@ -178,5 +178,5 @@ abbrev pub Pushdown : {D : Type 0} → Operations D → Type 0
 Pushdown operations =
     (s : State) → IsReached operations s
     → (queue : ℕ) (entry : List ℕ) (input : Vec ℕ Global) (starved : Bool) (command : RunCommand) (run : ℕ) (after : List Occurrence)
-    → IsAdmitted s (record { queue = queue; entry = entry; input = input.items }) command run
+    → IsAdmitted s (submission_of queue entry input.items) command run
     → IsPushedDown operations s queue entry input starved command run after

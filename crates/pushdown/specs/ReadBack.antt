@@ -20,13 +20,13 @@ use Rattle.zns_commands.specs.Address.{write_pointer, zone_number}
 use Rattle.zns_commands.specs.Effect.{Effect, success_effect}
 use Rattle.zns_commands.specs.Left.{Grows}
 use Rattle.zns_commands.specs.Meaning.{meaning}
-use Rattle.pushdown.specs.EventReplies.{Happening, completion}
+use Rattle.pushdown.specs.EventReplies.{Happening, completion, submission_of}
 use Rattle.pushdown.specs.BlockRuns.{last_scratch}
 use Rattle.pushdown.specs.Events.{AreEvents, Occurrence, state_after}
 use Rattle.pushdown.specs.Laws.{AreEmitted}
 use Rattle.pushdown.specs.Happenings.{commanded, happens}
 use Rattle.pushdown.specs.Outcome.{Turn, appended_by}
-use Rattle.pushdown.specs.Pushdown.{IsAdmitted, block_runs, blocks_at, done, next, place}
+use Rattle.pushdown.specs.Pushdown.{IsAdmitted, block_runs, blocks_at, next, own_turns, place}
 use Rattle.pushdown.specs.Reached.{IsReached}
 use Rattle.pushdown.specs.State.{State, holds_at, place_at, uses}
 use Rattle.device_events.specs.Replies.{ReplyWithData}
@@ -42,7 +42,7 @@ Submits (event.Fault zone state) c input = ⊥
 -- what happens is that the event's entry is completed with this effect
 abbrev pub IsCompleted : Event → State → Effect → Happening → Type 0
 IsCompleted (event.Submit queue entry input) s effect happening =
-    happening ≡ commanded (record { queue = queue; entry = entry; input = input.items }) s effect
+    happening ≡ commanded (submission_of queue entry input.items) s effect
 IsCompleted (event.Turn run) s effect happening = ⊥
 IsCompleted (event.Fault zone state) s effect happening = ⊥
 
@@ -56,7 +56,7 @@ LoadSucceeds slot (event.Fault zone state) reply = ⊥
 
 -- each run of a slot that is active before an event is active after it
 abbrev pub NoRunEnds : ℕ → State → State → Type 0
-NoRunEnds slot s next = (run : ℕ) → uses slot (place_at s run) ≡ true → is_some (place_at next run) ≡ true
+NoRunEnds slot s after = (run : ℕ) → uses slot (place_at s run) ≡ true → is_some (place_at after run) ≡ true
 
 module _ {D : Type 0} (operations : Operations D) where
   -- these bytes are read of so many blocks from an address on
@@ -74,8 +74,8 @@ module _ {D : Type 0} (operations : Operations D) where
   abbrev pub NoEventClears : ℕ → List Occurrence → State → Type 0
   NoEventClears z [] s = Unit {0}
   NoEventClears z (o ∷ os) s =
-      let next = (happens operations s o.starved o.event).state in
-      (is_cleared (zone_at next.namespace z).state ≡ false) × NoEventClears z os next
+      let after = (happens operations s o.starved o.event).state in
+      (is_cleared (zone_at after.namespace z).state ≡ false) × NoEventClears z os after
 
   -- these bytes are the result of a slot, which Result gives
   abbrev pub ResultGives : State → ℕ → List ℕ → Type 0
@@ -101,10 +101,6 @@ module _ {D : Type 0} (operations : Operations D) where
     abbrev pub turns : List Turn
     turns = (place operations s queue entry input starved command run events).turns
 
-    -- how many of them came before that turn
-    abbrev pub before : ℕ
-    before = done operations s queue entry input starved command run events
-
     -- the state after that turn
     abbrev pub after_turn : State
     after_turn = (next operations s queue entry input starved command run events).state
@@ -116,7 +112,7 @@ module _ {D : Type 0} (operations : Operations D) where
     -- each part of what its turns have appended is read, from where the destination's end was at admission
     abbrev pub AppendedAreRead : Type 0
     AppendedAreRead =
-        let appended = appended_by (take (before + 1) turns) in
+        let appended = appended_by (take (own_turns run events + 1) turns) in
         (at blocks : ℕ) → at + blocks ≤ length appended → 1 ≤ blocks → blocks * s.namespace.block ≤ MOST_TRANSFER
         → ReadsGive (state_after operations later after_turn) (pointer + at) blocks (bytes_of (take blocks (drop at appended)))
 
@@ -132,15 +128,15 @@ module _ {D : Type 0} (operations : Operations D) where
     -- until the destination is reset or goes offline
     abbrev pub IsReadBack : Type 0
     IsReadBack =
-        before < length turns → NoEventClears destination later after_turn
-        → AppendedAreRead × (before + 1 ≡ length turns → EmittedAreRead)
+        own_turns run events < length turns → NoEventClears destination later after_turn
+        → AppendedAreRead × (own_turns run events + 1 ≡ length turns → EmittedAreRead)
 
     -- where that turn was the last, the scratch bytes that the last block run left are the result of its slot,
     -- until a run of the slot ends or a Load of it succeeds
     abbrev pub IsResultReadBack : Type 0
     IsResultReadBack =
         let bytes = last_scratch (block_runs operations s queue entry input starved command run events) in
-        before + 1 ≡ length turns → NoEventReplaces command.slot later after_turn
+        own_turns run events + 1 ≡ length turns → NoEventReplaces command.slot later after_turn
         → (length bytes ≡ SCRATCH_BYTES) × ResultGives (state_after operations later after_turn) command.slot bytes
 
 -- no event changes the shape of the namespace
@@ -167,21 +163,21 @@ abbrev pub AppendedBlocksReadBack : {D : Type 0} → Operations D → Type 0
 AppendedBlocksReadBack operations =
     (s : State) → IsNamespace s.namespace
     → (o : Occurrence) (lba blocks : ℕ) (input : List ℕ) (events : List Occurrence) → Submits o.event (commands.Standard (Append lba blocks)) input
-    → let done = meaning s.namespace (holds_at s) (Append lba blocks) input in
+    → let effect = meaning s.namespace (holds_at s) (Append lba blocks) input in
     let happening = happens operations s o.starved o.event in
-    done.status ≡ SUCCESS → NoEventClears operations (zone_number s.namespace lba) events happening.state
-    → IsCompleted o.event s done happening
-    × ReadsGive operations (state_after operations events happening.state) (done.dw0 + done.dw1 * 2 ^ 32) blocks input
+    effect.status ≡ SUCCESS → NoEventClears operations (zone_number s.namespace lba) events happening.state
+    → IsCompleted o.event s effect happening
+    × ReadsGive operations (state_after operations events happening.state) (effect.dw0 + effect.dw1 * 2 ^ 32) blocks input
 
 -- the same of a Write, which is read from its own address
 abbrev pub WrittenBlocksReadBack : {D : Type 0} → Operations D → Type 0
 WrittenBlocksReadBack operations =
     (s : State) → IsNamespace s.namespace
     → (o : Occurrence) (lba blocks : ℕ) (input : List ℕ) (events : List Occurrence) → Submits o.event (commands.Standard (Write lba blocks)) input
-    → let done = meaning s.namespace (holds_at s) (Write lba blocks) input in
+    → let effect = meaning s.namespace (holds_at s) (Write lba blocks) input in
     let happening = happens operations s o.starved o.event in
-    done.status ≡ SUCCESS → NoEventClears operations (zone_number s.namespace lba) events happening.state
-    → IsCompleted o.event s done happening × ReadsGive operations (state_after operations events happening.state) lba blocks input
+    effect.status ≡ SUCCESS → NoEventClears operations (zone_number s.namespace lba) events happening.state
+    → IsCompleted o.event s effect happening × ReadsGive operations (state_after operations events happening.state) lba blocks input
 
 -- the same of what a run appends, in each state that events leave: after each of its turns what it has
 -- appended so far, and after the last one all that its program emitted
@@ -189,7 +185,7 @@ abbrev pub AppendedByRunsReadsBack : {D : Type 0} → Operations D → Type 0
 AppendedByRunsReadsBack operations =
     (s : State) → IsReached operations s
     → (queue : ℕ) (entry : List ℕ) (input : Vec ℕ Global) (starved : Bool) (command : RunCommand) (run : ℕ) (events later : List Occurrence)
-    → IsAdmitted s (record { queue = queue; entry = entry; input = input.items }) command run
+    → IsAdmitted s (submission_of queue entry input.items) command run
     → AreEvents events → AreEvents later
     → IsReadBack operations s queue entry input starved command run events later
 
@@ -198,5 +194,5 @@ abbrev pub ResultsReadBack : {D : Type 0} → Operations D → Type 0
 ResultsReadBack operations =
     (s : State) → IsReached operations s
     → (queue : ℕ) (entry : List ℕ) (input : Vec ℕ Global) (starved : Bool) (command : RunCommand) (run : ℕ) (events later : List Occurrence)
-    → IsAdmitted s (record { queue = queue; entry = entry; input = input.items }) command run
+    → IsAdmitted s (submission_of queue entry input.items) command run
     → IsResultReadBack operations s queue entry input starved command run events later

@@ -1,12 +1,12 @@
 -- What a device keeps of its runs, seen as the places of a state.
-use Rattle.std.specs.Prelude.{ℕ, ◌≡◌, ◌≤◌, ◌+◌, ◌-◌, ◌%◌, List, length, get_or, map, Option, Some, None}
+use Rattle.std.specs.Prelude.{ℕ, ◌≡◌, ◌≤◌, ◌+◌, ◌-◌, List, length, get_or, map, Option, Some, None}
 use Rattle.nvme_entry.specs.Entry.{identifier_of}
 use Rattle.nvme_entry.specs.declared.command.RunCommand.{RunCommand}
 use Rattle.instruction_set.specs.declared.instruction.Instruction.{Instruction}
 use Rattle.image_store.specs.Namespace.{ZonedNamespace, zone_at}
-use Rattle.zns_commands.specs.Address.{zone_number}
+use Rattle.zns_commands.specs.Address.{zone_offset}
 use Rattle.zns_commands.specs.Left.{Grows}
-use Rattle.pushdown.specs.Admission.{Loaded, SameProgram, limit_in, program_in, task_by, written_from}
+use Rattle.pushdown.specs.Admission.{Loaded, SameProgram, destination_zone, limit_in, program_in, source_zone, task_by, written_from}
 use Rattle.pushdown.specs.EventReplies.{Submission}
 use Rattle.pushdown.specs.Happenings.{admitted_place}
 use Rattle.pushdown.specs.Outcome.{Progress, Turn, at_admission, rest}
@@ -22,7 +22,7 @@ pub record Active : Type 0 where
 -- the source blocks still to come, of the namespace as it is now
 abbrev pub to_come : ZonedNamespace → Active → List (List ℕ)
 to_come ns a =
-    written_from ns (zone_number ns a.command.lba) (a.command.lba % ns.size + a.so_far.index) (a.command.blocks - a.so_far.index)
+    written_from ns (source_zone ns a.command) (zone_offset ns a.command.lba + a.so_far.index) (a.command.blocks - a.so_far.index)
 
 -- the turns that are left of a run of this program
 abbrev pub turns_of : ZonedNamespace → List (Option Instruction) → ℕ → Active → List Turn
@@ -34,8 +34,8 @@ place_of ns slots a = record {
   queue = a.queue;
   cid = a.cid;
   slot = a.command.slot;
-  source = zone_number ns a.command.lba;
-  destination = zone_number ns a.command.destination;
+  source = source_zone ns a.command;
+  destination = destination_zone ns a.command;
   turns = turns_of ns (program_in (get_or slots a.command.slot None)) (limit_in (get_or slots a.command.slot None)) a;
 }
 
@@ -61,8 +61,8 @@ SeenAtAdmission = (sub : Submission) (s : State) (command : RunCommand) → plac
 pub record KeepsSource (ns later : ZonedNamespace) (a : Active) : Type 0 where
   pub size : later.size ≡ ns.size
   pub block : later.block ≡ ns.block
-  pub grows : Grows (zone_at ns (zone_number ns a.command.lba)).blocks (zone_at later (zone_number ns a.command.lba)).blocks
-  pub written : a.command.lba % ns.size + a.so_far.index + (a.command.blocks - a.so_far.index) ≤ length (zone_at ns (zone_number ns a.command.lba)).blocks
+  pub grows : Grows (zone_at ns (source_zone ns a.command)).blocks (zone_at later (source_zone ns a.command)).blocks
+  pub written : zone_offset ns a.command.lba + a.so_far.index + (a.command.blocks - a.so_far.index) ≤ length (zone_at ns (source_zone ns a.command)).blocks
 
 -- what is seen of a run stays, whatever is written behind its source, and whatever result its slot is given
 abbrev pub SeenStays : Type 0

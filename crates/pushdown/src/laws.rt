@@ -158,7 +158,7 @@ pub fn drained_by_turns<D: Domain>()
     ensures { DrainedByTurns D.operations }
 {}
 
-/// There is one list of turns that drains a device.
+/// No two lists of turns drain one state.
 pub fn drained_in_one_way()
     ensures { DrainedInOneWay }
 {}

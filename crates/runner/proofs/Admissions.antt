@@ -16,7 +16,7 @@ use Rattle.pushdown.specs.Admission.{Loaded, address_checks, destination_checks,
 use Rattle.pushdown.specs.EventReplies.{Submission}
 use Rattle.pushdown.specs.Happenings.{why_not_run}
 use Rattle.pushdown.specs.State.{program_at}
-use Rattle.runner.specs.steps.Admitting.{ArePlaces}
+use Rattle.runner.specs.steps.Admitting.{AreZonesOf}
 use Rattle.runner.specs.DeviceState.{loaded_slot, device_state}
 use Rattle.runner.specs.steps.ActiveRuns.{held_by}
 use Rattle.runner.specs.Ready.{IsReady}
@@ -31,11 +31,11 @@ passes first rest none = rw none refl
 
 -- where no check before those of the destination fails, they decide
 last_decides : (ns : ZonedNamespace) (holds : Holds) (place_free : Bool) (slot : Option Loaded) (command : RunCommand) (input : List ℕ)
-    (source : ZoneBlock) (destination blocks : ℕ) → (length input == 0) ≡ true → is_some slot ≡ true → ArePlaces ns command source destination
+    (source : ZoneBlock) (destination blocks : ℕ) → (length input == 0) ≡ true → is_some slot ≡ true → AreZonesOf ns command source destination
     → first_failed (address_checks ns command) ≡ None → place_free ≡ true → first_failed (source_checks ns source command.blocks) ≡ None
     → blocks ≡ need command.blocks (sizes_in ns slot)
     → first_failed (destination_checks ns holds destination blocks) ≡ run_refusal ns holds place_free slot command input
-last_decides ns holds place_free slot command input source destination blocks no_input loaded places addresses free sources enough =
+last_decides ns holds place_free slot command input source destination blocks no_input loaded zones addresses free sources enough =
     let to = first_failed (destination_checks ns holds (destination_zone ns command) (need command.blocks (sizes_in ns slot))) in
     let from = first_failed (source_checks ns (zone_block_in ns command.lba) command.blocks) in
     let parts : run_refusal ns holds place_free slot command input
@@ -47,8 +47,8 @@ last_decides ns holds place_free slot command input source destination blocks no
     ++ destination_checks ns holds (destination_zone ns command) (need command.blocks (sizes_in ns slot)))
     ∙ ap (λ (rest : Option Status). or_else (first_failed (address_checks ns command)) (or_else (demand place_free NO_RUN_FREE) rest))
     (joined (source_checks ns (zone_block_in ns command.lba) command.blocks) (destination_checks ns holds (destination_zone ns command) (need command.blocks (sizes_in ns slot))))) in
-    let from_none : from ≡ None = ap (λ (p : ZoneBlock). first_failed (source_checks ns p command.blocks)) (sym places.reads.is) ∙ sources in
-    ap (λ (z : ℕ). first_failed (destination_checks ns holds z blocks)) (ap (λ (b : ZoneBlock). b.zone) places.appends.is)
+    let from_none : from ≡ None = ap (λ (p : ZoneBlock). first_failed (source_checks ns p command.blocks)) (sym zones.reads.is) ∙ sources in
+    ap (λ (z : ℕ). first_failed (destination_checks ns holds z blocks)) (ap (λ (b : ZoneBlock). b.zone) zones.appends.is)
     ∙ ap (λ (n : ℕ). first_failed (destination_checks ns holds (destination_zone ns command) n)) enough
     ∙ sym (parts
     ∙ ap (λ (b : Bool). or_else (demand b INVALID_FIELD_IN_COMMAND) (or_else (demand (is_some slot) NO_SUCH_PROGRAM)
@@ -73,15 +73,15 @@ module _ (ns : ZonedNamespace) (slots : List (Option LoadedProgram)) (runs : Lis
   -- the same, by what a device tests before
   pub destination_decides : (command : RunCommand) (input : List ℕ) (p : LoadedProgram) (source : ZoneBlock) (destination run blocks : ℕ) (holds : Holds)
       → IsReady ns slots runs → true ≡ (length input == 0) → get_or slots command.slot None ≡ Some p
-      → ArePlaces ns command source destination → None ≡ first_failed (address_checks ns command)
+      → AreZonesOf ns command source destination → None ≡ first_failed (address_checks ns command)
       → Some run ≡ position is_none runs → None ≡ first_failed (source_checks ns source command.blocks)
       → holds ≡ held_by runs → blocks ≡ need command.blocks (sizes_of p.prepared)
       → first_failed (destination_checks ns holds destination blocks)
       ≡ run_refusal ns (held_by runs) (is_some (position is_none runs)) (loaded_slot (get_or slots command.slot None)) command input
-  destination_decides command input p source destination run blocks holds ready no_input at places addresses free sources held enough =
+  destination_decides command input p source destination run blocks holds ready no_input at zones addresses free sources held enough =
       ap (λ (h : Holds). first_failed (destination_checks ns h destination blocks)) held
       ∙ last_decides ns (held_by runs) (is_some (position is_none runs)) (loaded_slot (get_or slots command.slot None)) command input source destination blocks
-      (sym no_input) (ap (λ (o : Option LoadedProgram). is_some (loaded_slot o)) at) places (sym addresses) (ap is_some (sym free)) (sym sources)
+      (sym no_input) (ap (λ (o : Option LoadedProgram). is_some (loaded_slot o)) at) zones (sym addresses) (ap is_some (sym free)) (sym sources)
       (enough ∙ ap (need command.blocks) (granted command.slot p ready at))
 
   pub why_is : (sub : Submission) (command : RunCommand) → IsReady ns slots runs

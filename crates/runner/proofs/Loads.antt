@@ -17,7 +17,7 @@ use Rattle.zns_commands.specs.Answer.{refused_answer, success_answer}
 use Rattle.zns_commands.specs.declared.answer.Answer.{Answer}
 use Rattle.nvme_entry.proofs.Proved.{demanded, passed}
 use Rattle.pushdown.specs.Admission.{Loaded, task_of}
-use Rattle.pushdown.specs.EventReplies.{Submission, completed}
+use Rattle.pushdown.specs.EventReplies.{completed, submission_of}
 use Rattle.pushdown.specs.BlockRuns.{no_scratch}
 use Rattle.pushdown.specs.Happenings.{judged, just_loaded, load_checks, load_unless, read_program, sizes_for}
 use Rattle.pushdown.specs.Outcome.{rest}
@@ -91,7 +91,7 @@ module _ (ns : ZonedNamespace) (slots : List (Option LoadedProgram)) (runs : Lis
   loads blank = record {
     starved = false;
     happening = λ queue entry.
-        let sub : Submission = record { queue = queue; entry = entry; input = input } in
+        let sub = submission_of queue entry input in
         ap (λ (why : Option Status). load_unless intervals why false sub s load) loadable.checks
         ∙ ap (read_program intervals sub s load) loadable.accepted.spelled
         ∙ ap (judged sub s load (program_of new.prepared)) loadable.accepted.accepted
@@ -126,7 +126,7 @@ pub refuses_checked : (load : LoadCommand) (input : List ℕ) (s : State) (statu
 refuses_checked load input s status why = record {
   starved = false;
   happening = λ queue entry.
-      ap (λ (o : Option Status). load_unless intervals o false (record { queue = queue; entry = entry; input = input }) s load) (sym why);
+      ap (λ (o : Option Status). load_unless intervals o false (submission_of queue entry input) s load) (sym why);
 }
 
 pub refuses_read : (load : LoadCommand) (input : List ℕ) (s : State) (sizes : Sizes) (answer : Answer) → None ≡ first_failed (load_checks s load input)
@@ -134,6 +134,6 @@ pub refuses_read : (load : LoadCommand) (input : List ℕ) (s : State) (sizes : 
 refuses_read load input s sizes answer why same refused = record {
   starved = refused.starved;
   happening = λ queue entry.
-      ap (λ (o : Option Status). load_unless intervals o refused.starved (record { queue = queue; entry = entry; input = input }) s load) (sym why)
+      ap (λ (o : Option Status). load_unless intervals o refused.starved (submission_of queue entry input) s load) (sym why)
       ∙ refused.happening queue entry s load (sym same);
 }

@@ -4,7 +4,7 @@ use Rattle.std.specs.Prelude.{Vec}
 use Rattle.std.specs.declared.alloc.Global.{Global}
 use Rattle.nvme_entry.specs.Entry.{decoded}
 use Rattle.interval_domain.specs.Intervals.{intervals}
-use Rattle.pushdown.specs.EventReplies.{Happening, Submission}
+use Rattle.pushdown.specs.EventReplies.{Happening, Submission, submission_of}
 use Rattle.device_events.specs.Replies.{ReplyWithData}
 use Rattle.pushdown.specs.Events.{CarriesBytes, HasHappened, Occurrence}
 use Rattle.pushdown.specs.Happenings.{happens, submitted}
@@ -26,19 +26,18 @@ reached_by e old new reply reached has happened =
     let o : Occurrence = record { event = e; starved = happened.starved } in reached_more old new o reached has happened.state
 
 -- the entry of an event, as it was submitted
-as_told : (sub : Submission) (queue : ℕ) (entry input : List ℕ) → sub.queue ≡ queue → sub.entry ≡ entry → sub.input ≡ input
-    → sub ≡ record { queue = queue; entry = entry; input = input }
-as_told sub queue entry input same_queue same_entry same_input =
-    let made : ℕ → List ℕ → List ℕ → Submission = λ q e p. record { queue = q; entry = e; input = p } in
-    ap (λ (q : ℕ). made q sub.entry sub.input) same_queue
-    ∙ ap (λ (e : List ℕ). made queue e sub.input) same_entry
-    ∙ ap (made queue entry) same_input
+as_submitted : (sub : Submission) (queue : ℕ) (entry input : List ℕ) → sub.queue ≡ queue → sub.entry ≡ entry → sub.input ≡ input
+    → sub ≡ submission_of queue entry input
+as_submitted sub queue entry input same_queue same_entry same_input =
+    ap (λ (q : ℕ). submission_of q sub.entry sub.input) same_queue
+    ∙ ap (λ (e : List ℕ). submission_of queue e sub.input) same_entry
+    ∙ ap (submission_of queue entry) same_input
 
 pub submission_happened : (queue : ℕ) (entry : List ℕ) (input : Vec ℕ Global) (sub : Submission) (old new : State) (reply : ReplyWithData)
     → sub.queue ≡ queue → sub.entry ≡ entry → sub.input ≡ input.items
     → HasSubmitted sub (decoded sub.entry) old new reply → HasHappened intervals (event.Submit queue entry input) old new reply
 submission_happened queue entry input sub old new reply same_queue same_entry same_input h =
-    let told = as_told sub queue entry input.items same_queue same_entry same_input in
+    let told = as_submitted sub queue entry input.items same_queue same_entry same_input in
     let happening : happens intervals old h.starved (event.Submit queue entry input) ≡ record { reply = reply; state = new } =
     ap (λ (x : Submission). submitted intervals h.starved x old (decoded x.entry)) (sym told) ∙ h.happening in
     record {

@@ -8,7 +8,7 @@ use Rattle.nvme_entry.specs.declared.command.RunCommand.{RunCommand}
 use Rattle.image_store.specs.Namespace.{ZonedNamespace}
 use Rattle.image_store.specs.declared.geometry.ZoneBlock.{ZoneBlock}
 use Rattle.pushdown.specs.Admission.{run_refusal}
-use Rattle.pushdown.specs.EventReplies.{Submission, plain}
+use Rattle.pushdown.specs.EventReplies.{plain, submission_of}
 use Rattle.pushdown.specs.Happenings.{start_by}
 use Rattle.pushdown.specs.Outcome.{at_admission}
 use Rattle.pushdown.specs.State.{Place, State, free_place, with_place}
@@ -42,7 +42,7 @@ module _ (ns : ZonedNamespace) (slots : List (Option LoadedProgram)) (runs : Lis
       (device_state ns slots (set runs admitted.run (Some (new_active queue cid command admitted.source admitted.destination block)))) admitted.run
   starts command queue cid block admitted input ready free passes entry named =
       let s = device_state ns slots runs in
-      let sub : Submission = record { queue = queue; entry = entry; input = input } in
+      let sub = submission_of queue entry input in
       let a = new_active queue cid command admitted.source admitted.destination block in
       let begins : active_of a ≡ begun sub command =
       ap (λ (n : ℕ). record { queue = queue; cid = n; command = command; so_far = at_admission }) (sym named) in
@@ -57,7 +57,7 @@ module _ (ns : ZonedNamespace) (slots : List (Option LoadedProgram)) (runs : Lis
       → Refuses command input (device_state ns slots runs) status
   refuses command input status ready fails queue entry =
       let s = device_state ns slots runs in
-      let sub : Submission = record { queue = queue; entry = entry; input = input } in
+      let sub = submission_of queue entry input in
       ap (λ (why : Option Status). start_by why (free_place s) sub s command) (why_is ns slots runs sub command ready ∙ sym fails)
 
   loaded_there : (o : Option LoadedProgram) → is_some o ≡ true → (p : LoadedProgram) × (o ≡ Some p)
@@ -74,14 +74,14 @@ module _ (ns : ZonedNamespace) (slots : List (Option LoadedProgram)) (runs : Lis
         loaded = at.1;
         accepted = ready.programs command.slot at.0 at.1;
         fits = record {
-          source = is.places.reads.is;
-          destination = ap (λ (b : ZoneBlock). b.zone) is.places.appends.is;
-          other = is.places.other;
+          source = is.zones.reads.is;
+          destination = ap (λ (b : ZoneBlock). b.zone) is.zones.appends.is;
+          other = is.zones.other;
           left = is.some;
           most = is.most;
           written = is.written;
           small = is.small;
-          address = is.places.reads.small;
+          address = is.zones.reads.small;
           packer = same;
           frames = omega arith;
           appended = omega arith;

@@ -4,11 +4,16 @@ use Rattle.program_interface.specs.declared.block_size.TheConstants.{LARGEST_BLO
 use Rattle.interval_domain.specs.Intervals.{intervals}
 use Rattle.verifier.specs.Verified.{sizes_of}
 use Rattle.image_store.specs.Namespace.{ZonedNamespace, zone_at}
+use Rattle.image_store.specs.declared.geometry.ZoneBlock.{ZoneBlock}
 use Rattle.zns_commands.specs.Address.{zone_number, zone_block_in}
 use Rattle.pushdown.specs.Reached.{IsReached}
 use Rattle.runner.specs.DeviceState.{device_state}
 use Rattle.runner.specs.declared.active_run.ActiveRun.{ActiveRun}
 use Rattle.runner.specs.declared.loaded_program.LoadedProgram.{LoadedProgram}
+
+-- so many blocks from this one on are written
+abbrev pub AreWritten : ZonedNamespace → ZoneBlock → ℕ → Type 0
+AreWritten ns first blocks = first.offset + blocks ≤ length (zone_at ns first.zone).blocks
 
 -- what holds of each active run, whatever its program
 pub record Fits (ns : ZonedNamespace) (a : ActiveRun) : Type 0 where
@@ -17,7 +22,7 @@ pub record Fits (ns : ZonedNamespace) (a : ActiveRun) : Type 0 where
   pub other : a.source.zone ≢ a.destination
   pub left : a.index < a.command.blocks
   pub most : a.command.blocks ≤ 65536
-  pub written : a.source.offset + a.command.blocks ≤ length (zone_at ns a.source.zone).blocks
+  pub written : AreWritten ns a.source a.command.blocks
   pub small : a.source.offset + a.command.blocks < 2 ^ 32
   pub address : a.command.lba < 2 ^ 36
   pub packer : a.packer.block ≡ ns.block

@@ -3,11 +3,11 @@
 ghost use Rattle.std.specs.Prelude.{◌≡◌, ◌<◌, ◌+◌, ◌^◌, length, get_or, position, is_some, is_none, None, Option, IfOk, IfErr, OnOk, OnErr};
 ghost use Rattle.zone_state.specs.Checks.{first_failed};
 ghost use Rattle.pushdown.specs.Admission.{address_checks, destination_checks, run_refusal, source_checks};
-ghost use Rattle.runner.specs.steps.Admitting.{ArePlaces, AreWritten, IsAdmission};
+ghost use Rattle.runner.specs.steps.Admitting.{AreZonesOf, IsAdmission};
 ghost use Rattle.runner.specs.steps.Answered.{Refuses, Starts};
 ghost use Rattle.runner.specs.DeviceState.{loaded_slot, device_state};
 ghost use Rattle.runner.specs.steps.ActiveRuns.{held_by};
-ghost use Rattle.runner.specs.Ready.{IsReady};
+ghost use Rattle.runner.specs.Ready.{AreWritten, IsReady};
 ghost use Rattle.zns_commands.specs.Resources.{why_not};
 
 use crate::active_run::ActiveRun;
@@ -98,7 +98,7 @@ fn source_and_destination(
     command: &RunCommand,
 ) -> Result<(ZoneBlock, u32), Status>
     ensures why { why_not result ≡ first_failed (address_checks namespace.now command.now) }
-    ensures places { IfOk result (λ found. ArePlaces namespace.now command.now found.0 found.1) }
+    ensures zones { IfOk result (λ found. AreZonesOf namespace.now command.now found.0 found.1) }
 {
     let source = first_block(namespace.image(), command.lba, command.blocks)?;
     let destination = lowest(namespace.image(), command.destination)?;

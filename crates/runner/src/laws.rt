@@ -1,6 +1,6 @@
 //! Laws of a device, which judges programs by intervals, in the states that events leave from an image on.
-//! Each function does nothing: what it ensures is the law. What `pushdown` states of every sound domain is
-//! ensured here of intervals; its laws of any state and of lists of events hold of a device as they stand.
+//! Each function does nothing: what it ensures is the law. They are those laws of `pushdown` that a device's
+//! user asks for, of intervals; the others hold of a device too, by the trait `Domain`.
 
 ghost use Rattle.interval_domain.specs.Intervals.{intervals};
 ghost use Rattle.pushdown.specs.AnyOrder.{TurnsInAnyOrder};

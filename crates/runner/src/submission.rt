@@ -6,7 +6,7 @@ ghost use Rattle.nvme_entry.specs.Entry.{decoded, identifier_of};
 ghost use Rattle.nvme_entry.specs.declared.command.Command.TheVariants as commands;
 ghost use Rattle.device_events.specs.Replies.{data_length};
 ghost use Rattle.pushdown.specs.EventReplies.{plain};
-ghost use Rattle.runner.specs.steps.Answered.{HasExecuted, HasSubmitted, complete_reply, told_by};
+ghost use Rattle.runner.specs.steps.Answered.{HasExecuted, HasSubmitted, as_submission, complete_reply};
 ghost use Rattle.runner.specs.DeviceState.{device_state};
 ghost use Rattle.runner.specs.Ready.{IsReady};
 
@@ -65,7 +65,7 @@ pub fn submit(
 ) -> Reply
     requires ready { IsReady namespace.old slots.old runs.old }
     requires room { MOST_TRANSFER ≤ length output.old }
-    ensures submitted { HasSubmitted (told_by submission.now) (decoded submission.now.entry.now) (device_state namespace.old slots.old runs.old) (device_state namespace.new slots.new runs.new) (record { reply = result; bytes = take (data_length result) output.new }) }
+    ensures submitted { HasSubmitted (as_submission submission.now) (decoded submission.now.entry.now) (device_state namespace.old slots.old runs.old) (device_state namespace.new slots.new runs.new) (record { reply = result; bytes = take (data_length result) output.new }) }
     ensures rest { drop (data_length result) output.new ≡ drop (data_length result) output.old }
     ensures within { data_length result ≤ length output.new }
     ensures ready { IsReady namespace.new slots.new runs.new }
@@ -88,7 +88,7 @@ fn perform(
 ) -> Reply
     requires ready { IsReady namespace.old slots.old runs.old }
     requires room { MOST_TRANSFER ≤ length output.old }
-    ensures submitted { HasSubmitted (told_by submission.now) (Ok command) (device_state namespace.old slots.old runs.old) (device_state namespace.new slots.new runs.new) (record { reply = result; bytes = take (data_length result) output.new }) }
+    ensures submitted { HasSubmitted (as_submission submission.now) (Ok command) (device_state namespace.old slots.old runs.old) (device_state namespace.new slots.new runs.new) (record { reply = result; bytes = take (data_length result) output.new }) }
     ensures rest { drop (data_length result) output.new ≡ drop (data_length result) output.old }
     ensures within { data_length result ≤ length output.new }
     ensures ready { IsReady namespace.new slots.new runs.new }
@@ -131,7 +131,7 @@ fn run(
     submission: &Submission<'_>,
 ) -> Reply
     requires ready { IsReady namespace.now slots.now runs.old }
-    ensures submitted { HasSubmitted (told_by submission.now) (Ok (commands.Run command.now)) (device_state namespace.now slots.now runs.old) (device_state namespace.now slots.now runs.new) (plain result) }
+    ensures submitted { HasSubmitted (as_submission submission.now) (Ok (commands.Run command.now)) (device_state namespace.now slots.now runs.old) (device_state namespace.now slots.now runs.new) (plain result) }
     ensures no_data { data_length result ≡ 0 }
     ensures ready { IsReady namespace.now slots.now runs.new }
 {

@@ -1,22 +1,19 @@
 -- What the checks of a run have found.
-use Rattle.std.specs.Prelude.{ℕ, ◌≡◌, ◌≢◌, ◌<◌, ◌≤◌, ◌+◌, ◌^◌, List, length, position, is_none, is_some, get_or, true, Option, Some, None}
+use Rattle.std.specs.Prelude.{ℕ, ◌≡◌, ◌≢◌, ◌<◌, ◌≤◌, ◌+◌, ◌^◌, List, position, is_none, is_some, get_or, true, Option, Some, None}
 use Rattle.nvme_entry.specs.declared.command.RunCommand.{RunCommand}
-use Rattle.image_store.specs.Namespace.{ZonedNamespace, zone_at}
+use Rattle.image_store.specs.Namespace.{ZonedNamespace}
 use Rattle.image_store.specs.declared.geometry.ZoneBlock.{ZoneBlock}
 use Rattle.zns_commands.specs.Address.{IsZoneBlock}
+use Rattle.runner.specs.Ready.{AreWritten}
 use Rattle.runner.specs.declared.active_run.ActiveRun.{ActiveRun}
 use Rattle.runner.specs.declared.admission.Admitted.{Admitted}
 use Rattle.runner.specs.declared.loaded_program.LoadedProgram.{LoadedProgram}
 
--- where a Run reads and appends
-pub record ArePlaces (ns : ZonedNamespace) (command : RunCommand) (source : ZoneBlock) (destination : ℕ) : Type 0 where
+-- the zones of a Run: where it reads, and where it appends
+pub record AreZonesOf (ns : ZonedNamespace) (command : RunCommand) (source : ZoneBlock) (destination : ℕ) : Type 0 where
   pub reads : IsZoneBlock ns command.lba source
   pub appends : IsZoneBlock ns command.destination (record { zone = destination; offset = 0 })
   pub other : source.zone ≢ destination
-
--- the blocks are written
-abbrev pub AreWritten : ZonedNamespace → ZoneBlock → ℕ → Type 0
-AreWritten ns first blocks = first.offset + blocks ≤ length (zone_at ns first.zone).blocks
 
 -- what an admitted run is given, of its command
 pub record IsAdmission (ns : ZonedNamespace) (slots : List (Option LoadedProgram)) (runs : List (Option ActiveRun)) (command : RunCommand) (admitted : Admitted)
@@ -25,6 +22,6 @@ pub record IsAdmission (ns : ZonedNamespace) (slots : List (Option LoadedProgram
   pub loaded : is_some (get_or slots command.slot None) ≡ true
   pub some : 1 ≤ command.blocks
   pub most : command.blocks ≤ 65536
-  pub places : ArePlaces ns command admitted.source admitted.destination
+  pub zones : AreZonesOf ns command admitted.source admitted.destination
   pub written : AreWritten ns admitted.source command.blocks
   pub small : admitted.source.offset + command.blocks < 2 ^ 32

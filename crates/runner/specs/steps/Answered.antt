@@ -10,7 +10,7 @@ use Rattle.interval_domain.specs.Intervals.{intervals}
 use Rattle.image_store.specs.Namespace.{ZonedNamespace}
 use Rattle.zns_commands.specs.Meaning.{meaning}
 use Rattle.zns_commands.specs.declared.answer.Answer.{Answer}
-use Rattle.pushdown.specs.EventReplies.{Happening, Submission, completed, completion_reply, plain, refused}
+use Rattle.pushdown.specs.EventReplies.{Happening, Submission, completed, completion_reply, plain, refused, submission_of}
 use Rattle.device_events.specs.Replies.{ReplyWithData}
 use Rattle.pushdown.specs.Happenings.{commanded, giving_result, loading, starting, submitted}
 use Rattle.pushdown.specs.State.{State, holds_at}
@@ -23,8 +23,8 @@ use Rattle.runner.specs.declared.loaded_program.LoadedProgram.{LoadedProgram}
 use Rattle.runner.specs.declared.submission.Submission.{Submission as GivenSubmission}
 
 -- an entry as the code has it, with the data beside it
-abbrev pub told_by : GivenSubmission → Submission
-told_by s = record { queue = s.queue; entry = s.entry.now; input = s.input.now }
+abbrev pub as_submission : GivenSubmission → Submission
+as_submission s = submission_of s.queue s.entry.now s.input.now
 
 -- an answer, with the bytes whose first ones are its data, as the completion of an entry
 abbrev pub answered : Submission → Answer → List ℕ → State → Happening
@@ -40,7 +40,7 @@ pub record HasExecuted (asked : StandardCommand) (input : List ℕ) (ns later : 
     (runs : List (Option ActiveRun)) (answer : Answer) (bytes : List ℕ) : Type 0 where
   pub ready : IsReady later slots runs
   pub happening : (queue : ℕ) (entry : List ℕ)
-      → let sub : Submission = record { queue = queue; entry = entry; input = input } in
+      → let sub = submission_of queue entry input in
       let s = device_state ns slots runs in
       commanded sub s (meaning ns (holds_at s) asked input) ≡ answered sub answer bytes (device_state later slots runs)
 
@@ -49,28 +49,28 @@ pub record HasExecuted (asked : StandardCommand) (input : List ℕ) (ns later : 
 pub record HasLoaded (load : LoadCommand) (input : List ℕ) (old new : State) (answer : Answer) : Type 0 where
   pub starved : Bool
   pub happening : (queue : ℕ) (entry : List ℕ)
-      → let sub : Submission = record { queue = queue; entry = entry; input = input } in
+      → let sub = submission_of queue entry input in
       loading intervals starved sub old load ≡ answered sub answer [] new
 
 -- a Result with this data beside it was answered so, and changes nothing
 abbrev pub GivesResult : ℕ → List ℕ → State → Answer → List ℕ → Type 0
 GivesResult slot input s answer bytes =
     (queue : ℕ) (entry : List ℕ)
-    → let sub : Submission = record { queue = queue; entry = entry; input = input } in
+    → let sub = submission_of queue entry input in
     giving_result sub s slot ≡ answered sub answer bytes s
 
 -- a Run was admitted with a number
 abbrev pub Starts : RunCommand → ℕ → ℕ → List ℕ → State → State → ℕ → Type 0
 Starts command queue cid input old new run =
     (entry : List ℕ) → identifier_of entry ≡ cid
-    → let sub : Submission = record { queue = queue; entry = entry; input = input } in
+    → let sub = submission_of queue entry input in
     starting sub old command ≡ record { reply = plain (reply.Pending run); state = new }
 
 -- no run is started, for this reason
 abbrev pub Refuses : RunCommand → List ℕ → State → Status → Type 0
 Refuses command input s status =
     (queue : ℕ) (entry : List ℕ)
-    → let sub : Submission = record { queue = queue; entry = entry; input = input } in
+    → let sub = submission_of queue entry input in
     starting sub s command ≡ refused sub status s
 
 -- an entry that asks for this led from one state to the other, with this reply

@@ -9,7 +9,7 @@ use Rattle.program_interface.specs.RunSizes.{Sizes}
 use Rattle.interval_domain.specs.Intervals.{intervals}
 use Rattle.accepted_programs.specs.Accepted.{refusal}
 use Rattle.zns_commands.specs.declared.answer.Answer.{Answer}
-use Rattle.pushdown.specs.EventReplies.{Submission}
+use Rattle.pushdown.specs.EventReplies.{submission_of}
 use Rattle.pushdown.specs.Happenings.{load_checks, load_unless, sizes_for}
 use Rattle.pushdown.specs.State.{State}
 use Rattle.runner.specs.steps.Answered.{answered}
@@ -30,7 +30,7 @@ pub record IsAccepted (bytes : List ℕ) (sizes : Sizes) (program : List (Option
 pub record IsNotAccepted (bytes : List ℕ) (sizes : Sizes) (answer : Answer) : Type 0 where
   pub starved : Bool
   pub happening : (queue : ℕ) (entry : List ℕ) (s : State) (load : LoadCommand) → sizes_for s load ≡ sizes
-      → let sub : Submission = record { queue = queue; entry = entry; input = bytes } in
+      → let sub = submission_of queue entry bytes in
       load_unless intervals None starved sub s load ≡ answered sub answer [] s
   pub no_data : answer.length ≡ 0
 

@@ -1,14 +1,14 @@
 -- What a turn does to a run as a device keeps it.
-use Rattle.std.specs.Prelude.{ℕ, ◌≡◌, ◌+◌, ◌%◌, ◌≤◌, true, List, [], ◌∷◌, length, get_or, set, Option, Some, None}
+use Rattle.std.specs.Prelude.{ℕ, ◌≡◌, ◌+◌, ◌≤◌, true, List, [], ◌∷◌, length, get_or, set, Option, Some, None}
 use Rattle.zone_state.specs.State.{is_open}
 use Rattle.instruction_set.specs.declared.instruction.Instruction.{Instruction}
 use Rattle.program_meaning.specs.BlockRun.{BlockRun}
 use Rattle.emit_append.specs.Packer.{PackerState}
 use Rattle.verifier.specs.Verified.{program_of, sizes_of}
 use Rattle.image_store.specs.Namespace.{ZonedNamespace, zone_at}
-use Rattle.zns_commands.specs.Address.{zone_number}
+use Rattle.zns_commands.specs.Address.{zone_offset}
 use Rattle.zns_commands.specs.declared.answer.Answer.{Answer}
-use Rattle.pushdown.specs.Admission.{task_by}
+use Rattle.pushdown.specs.Admission.{source_zone, task_by}
 use Rattle.pushdown.specs.BlockRuns.{block_run}
 use Rattle.pushdown.specs.Laws.{RoomIn}
 use Rattle.pushdown.specs.Happenings.{added, turned}
@@ -30,7 +30,7 @@ with_packer a packer more = record a { packer = packer; appended = a.appended + 
 
 -- the block that a run reads next
 abbrev pub next_block : ZonedNamespace → Active → List ℕ
-next_block ns a = get_or (zone_at ns (zone_number ns a.command.lba)).blocks (a.command.lba % ns.size + a.so_far.index) []
+next_block ns a = get_or (zone_at ns (source_zone ns a.command)).blocks (zone_offset ns a.command.lba + a.so_far.index) []
 
 -- the block run of its program on that block
 abbrev pub next_block_run : ZonedNamespace → List (Option Instruction) → ℕ → Active → BlockRun

@@ -10,7 +10,7 @@ returns-in-Ok-clause-saved g c =
     c.serve_and_drain-done.new.device c.in_ok-save.ensures.saved c.image-2.ensures.value _ _
     (prints_all c.args.events.now c.args.image c.new-device.result c.serve_and_drain-done.new.device
     (contents c.in_ok-lines.lines.out.now) _ (contents c.serve_and_drain-done.new.lines.out.now) _ c.new-device.ensures
-    (ap contents c.in_ok-lines.ensures.same_writer.1) (ap contents (sym c.into_writer-out.ensures.value ∙ search rules)) c.in-Ok.ensures.finished)
+    (ap contents c.in_ok-lines.ensures.same_writer.1) (ap contents (sym c.into_writer-out.ensures.value ∙ search rules)) c.in-Ok.ensures.served_and_drained)
 
 pub returns-clause-stopped : goal.returns-clause-stopped
 returns-clause-stopped g c = λ _.

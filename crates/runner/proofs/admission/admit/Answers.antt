@@ -15,7 +15,7 @@ returns-in_err-check_destination-clause-why c =
     let sizes = rw c.verified.ensures at c.sizes.ensures in
     let enough = c.blocks_needed-blocks.ensures ∙ ap (need c.get.result) sizes ∙ ap (λ (n : ℕ). need n (sizes_of c.in-Some.loaded.prepared)) c.get.ensures.value in
     let decides = destination_decides c.args.namespace.now c.args.slots.now c.args.runs.now command c.args.input.now c.in-Some.loaded c.in_ok-source.source
-    c.in_ok-source.destination c.in-Some-free_place.run' c.blocks_needed-blocks.result c.holds.result c.requires (sym (ap (λ (n : ℕ). n == 0) c.in_ok-check_transfer.ensures.whole)) at c.in_ok-source.ensures.places
+    c.in_ok-source.destination c.in-Some-free_place.run' c.blocks_needed-blocks.result c.holds.result c.requires (sym (ap (λ (n : ℕ). n == 0) c.in_ok-check_transfer.ensures.whole)) at c.in_ok-source.ensures.zones
     c.in_ok-source.ensures.why c.in-Some-free_place.ensures c.in_ok-check_source.ensures.why c.holds.ensures enough in
     let p = err_from_is_err_and c.from_residual-in_err-check_destination.result c.from_residual-in_err-check_destination.ensures.1 in
     rw (p.1, p.2) (c.in_err-check_destination.ensures ∙ decides)
@@ -28,7 +28,7 @@ returns-clause-why c =
     let sizes = rw c.verified.ensures at c.sizes.ensures in
     let enough = c.blocks_needed-blocks.ensures ∙ ap (need c.get.result) sizes ∙ ap (λ (n : ℕ). need n (sizes_of c.in-Some.loaded.prepared)) c.get.ensures.value in
     let decides = destination_decides c.args.namespace.now c.args.slots.now c.args.runs.now command c.args.input.now c.in-Some.loaded c.in_ok-source.source
-    c.in_ok-source.destination c.in-Some-free_place.run' c.blocks_needed-blocks.result c.holds.result c.requires (sym (ap (λ (n : ℕ). n == 0) c.in_ok-check_transfer.ensures.whole)) at c.in_ok-source.ensures.places
+    c.in_ok-source.destination c.in-Some-free_place.run' c.blocks_needed-blocks.result c.holds.result c.requires (sym (ap (λ (n : ℕ). n == 0) c.in_ok-check_transfer.ensures.whole)) at c.in_ok-source.ensures.zones
     c.in_ok-source.ensures.why c.in-Some-free_place.ensures c.in_ok-check_source.ensures.why c.holds.ensures enough in
     c.in_ok-check_destination.ensures ∙ decides
 
@@ -42,7 +42,7 @@ returns-clause-admission c =
       loaded = ap is_some at;
       some = omega arith;
       most = omega arith;
-      places = c.in_ok-source.ensures.places;
+      zones = c.in_ok-source.ensures.zones;
       written = c.in_ok-check_source.ensures.written;
       small = c.in_ok-check_source.ensures.small;
     }

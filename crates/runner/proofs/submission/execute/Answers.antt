@@ -1,4 +1,4 @@
-use Rattle.pushdown.specs.EventReplies.{Submission}
+use Rattle.pushdown.specs.EventReplies.{submission_of}
 use Rattle.runner.proofs.CommandsLeave.{command_leaves}
 use Rattle.runner.proofs.submission.execute.Goals as goal
 
@@ -9,6 +9,5 @@ returns-clause-left c slots ready =
     ready c.holds.ensures c.execute.ensures.meaning in
     record {
       ready = left.0;
-      happening = λ queue entry.
-          let sub : Submission = record { queue = queue; entry = entry; input = a.input.now } in left.1 sub;
+      happening = λ queue entry. left.1 (submission_of queue entry a.input.now);
     }

@@ -1,8 +1,9 @@
 use Rattle.std.proofs.Common.{false, Ok, ap, ◌∙◌}
 use Rattle.nvme_entry.specs.declared.command.Command.{Command}
 use Rattle.interval_domain.specs.Intervals.{intervals}
-use Rattle.pushdown.specs.EventReplies.{Happening, Submission}
+use Rattle.pushdown.specs.EventReplies.{Happening}
 use Rattle.pushdown.specs.Happenings.{submitted}
+use Rattle.runner.specs.steps.Answered.{as_submission}
 use Rattle.runner.specs.DeviceState.{device_state}
 use Rattle.runner.proofs.Replies.{replied, replied_alone}
 use Rattle.runner.proofs.submission.perform.Goals as goal
@@ -11,7 +12,7 @@ pub returns-in-Standard-clause-submitted : goal.returns-in-Standard-clause-submi
 returns-in-Standard-clause-submitted c =
     let a = c.args in
     let told = a.submission.now in
-    let sub : Submission = record { queue = told.queue; entry = told.entry.now; input = told.input.now } in
+    let sub = as_submission told in
     let old = device_state a.namespace.now a.slots.now a.runs.now in
     let asking : Command → Happening = λ x. submitted intervals false sub old (Ok x) in
     replied sub (Ok a.command) old (device_state c.execute.new.namespace a.slots.now a.runs.now) false c.execute.result c.reply_with.result c.execute.new.output
@@ -22,7 +23,7 @@ pub returns-in-Load-clause-submitted : goal.returns-in-Load-clause-submitted
 returns-in-Load-clause-submitted c =
     let a = c.args in
     let told = a.submission.now in
-    let sub : Submission = record { queue = told.queue; entry = told.entry.now; input = told.input.now } in
+    let sub = as_submission told in
     let old = device_state a.namespace.now a.slots.now a.runs.now in
     let loaded = c.load.ensures.loaded in
     let asking : Command → Happening = λ x. submitted intervals loaded.starved sub old (Ok x) in
@@ -34,7 +35,7 @@ pub returns-in-Result-clause-submitted : goal.returns-in-Result-clause-submitted
 returns-in-Result-clause-submitted c =
     let a = c.args in
     let told = a.submission.now in
-    let sub : Submission = record { queue = told.queue; entry = told.entry.now; input = told.input.now } in
+    let sub = as_submission told in
     let old = device_state a.namespace.now a.slots.now a.runs.now in
     let asking : Command → Happening = λ x. submitted intervals false sub old (Ok x) in
     replied sub (Ok a.command) old old false c.give_result.result c.reply_with-in-Result.result c.give_result.new.output

@@ -1,7 +1,7 @@
 use Rattle.std.proofs.Common.{false, List, Option, Ok, ap}
 use Rattle.nvme_entry.specs.declared.command.Command.TheVariants as commands
-use Rattle.pushdown.specs.EventReplies.{Submission}
 use Rattle.pushdown.specs.State.{State}
+use Rattle.runner.specs.steps.Answered.{as_submission}
 use Rattle.runner.specs.DeviceState.{device_state}
 use Rattle.runner.specs.declared.active_run.ActiveRun.{ActiveRun}
 use Rattle.runner.proofs.Replies.{replied_refusal}
@@ -11,7 +11,7 @@ pub returns-in-Err-clause-submitted : goal.returns-in-Err-clause-submitted
 returns-in-Err-clause-submitted c =
     let a = c.args in
     let told = a.submission.now in
-    let sub : Submission = record { queue = told.queue; entry = told.entry.now; input = told.input.now } in
+    let sub = as_submission told in
     let seen : List (Option ActiveRun) → State = λ runs. device_state a.namespace.now a.slots.now runs in
     replied_refusal sub (Ok (commands.Run a.command.now)) (seen a.runs.now) (seen c.start.new.runs) false c.refused.result c.reply_with.result c.in-Err.status
     (c.in-Err.ensures.err told.queue told.entry.now) c.reply_with.ensures c.refused.ensures (ap seen c.in-Err.ensures.kept)

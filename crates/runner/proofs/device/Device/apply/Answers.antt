@@ -1,12 +1,12 @@
 use Rattle.std.proofs.Common.{false, take, subst, sym, ◌∙◌}
 use Rattle.program_interface.specs.Bytes.{AreBytes}
 use Rattle.interval_domain.specs.Intervals.{intervals}
-use Rattle.pushdown.specs.EventReplies.{Submission}
 use Rattle.device_events.specs.Replies.{ReplyWithData, data_length}
 use Rattle.pushdown.specs.Events.{CarriesBytes, HasHappened}
 use Rattle.pushdown.specs.State.{State}
 use Rattle.device_events.specs.declared.event.Event.{Event}
 use Rattle.device_events.specs.declared.event.Event.TheVariants as event
+use Rattle.runner.specs.steps.Answered.{as_submission}
 use Rattle.runner.specs.DeviceState.{device_state}
 use Rattle.runner.proofs.Occurrences.{reached_by, reached_more, submission_happened}
 use Rattle.runner.proofs.device.Device.apply.Goals as goal
@@ -18,7 +18,7 @@ invariant_of-self c =
     let made = c.new-submission in
     let old = device_state d.namespace d.slots d.runs in
     let new = device_state c.submit.new.namespace c.submit.new.slots c.submit.new.runs in
-    let sub : Submission = record { queue = made.result.queue; entry = made.result.entry.now; input = made.result.input.now } in
+    let sub = as_submission made.result in
     let reply : ReplyWithData = record { reply = c.submit.result; bytes = take (data_length c.submit.result) c.submit.new.output } in
     let happened = submission_happened e.queue e.entry e.input sub old new reply made.ensures.queue made.ensures.entry
     (made.ensures.input ∙ c.as_slice.ensures.value) c.submit.ensures.submitted in
@@ -44,7 +44,7 @@ returns-in-Submit-clause-happened c =
     let made = c.new-submission in
     let old = device_state d.namespace d.slots d.runs in
     let new = device_state c.submit.new.namespace c.submit.new.slots c.submit.new.runs in
-    let sub : Submission = record { queue = made.result.queue; entry = made.result.entry.now; input = made.result.input.now } in
+    let sub = as_submission made.result in
     let reply : ReplyWithData = record { reply = c.submit.result; bytes = take (data_length c.submit.result) c.submit.new.output } in
     let happened = submission_happened e.queue e.entry e.input sub old new reply made.ensures.queue made.ensures.entry
     (made.ensures.input ∙ c.as_slice.ensures.value) c.submit.ensures.submitted in
