@@ -16,9 +16,10 @@ use crate::places::{free_place, holds};
 use emit_append::blocks_needed;
 use image_store::ZoneBlock;
 use nvme_entry::{BlockCount, PROGRAM_SLOTS, RunCommand, Status};
-use zns_commands::{Holds, Namespace, check_transfer, first_block, lowest};
+use zns_commands::{
+    Holds, Namespace, check_readable, check_transfer, check_within_zone, first_block, lowest,
+};
 use zone_resources::RUNS;
-use zone_state::ZoneState;
 
 /// What a run that is admitted is given: its number, where its first source block is, and the number of
 /// the zone that it appends to.
@@ -115,14 +116,10 @@ fn check_source(namespace: &Namespace, first: ZoneBlock, blocks: BlockCount) -> 
     ensures written { OnOk result (AreWritten namespace.now first blocks) }
     ensures small { OnOk result (first.offset + blocks < 2 ^ 32) }
 {
-    let end = u64::from(first.offset) + u64::from(blocks.get());
-    if end > u64::from(namespace.geometry().size()) {
-        return Err(Status::ZONE_BOUNDARY_ERROR);
-    }
+    check_within_zone(namespace.image(), first, blocks)?;
+    check_readable(namespace.image(), first.zone)?;
     let zone = namespace.zone(first.zone);
-    if zone.state() == ZoneState::Offline {
-        return Err(Status::ZONE_IS_OFFLINE);
-    }
+    let end = u64::from(first.offset) + u64::from(blocks.get());
     if end > u64::from(zone.written()) {
         return Err(Status::SOURCE_NOT_WRITTEN);
     }

@@ -2,7 +2,8 @@
 
 ghost use Rattle.std.specs.Prelude.{◌≡◌, IfOk};
 ghost use Rattle.zone_state.specs.Checks.{first_failed, unless_failed};
-ghost use Rattle.zns_commands.specs.Address.{lowest_checks, range_check, range_checks, zone_number, zone_block_in, IsZoneBlock};
+ghost use Rattle.zns_commands.specs.Address.{boundary_check, lowest_checks, range_check, range_checks, zone_number, zone_block_in, IsZoneBlock};
+ghost use Rattle.zns_commands.specs.Resources.{why_not};
 
 use image_store::{Image, ZoneBlock};
 use nvme_entry::{BlockCount, Status};
@@ -45,18 +46,34 @@ pub fn first_block(image: &Image, lba: u64, blocks: BlockCount) -> Result<ZoneBl
     Ok(block)
 }
 
-/// The same of a range that lies in one zone.
+/// Tests that so many blocks, from this one of a zone on, lie in that zone.
 ///
 /// # Errors
 ///
-/// Those of [`first_block`], and [`Status::ZONE_BOUNDARY_ERROR`] where the range goes on into another zone.
+/// [`Status::ZONE_BOUNDARY_ERROR`] where they go on into another zone.
+pub fn check_within_zone(
+    image: &Image,
+    first: ZoneBlock,
+    blocks: BlockCount,
+) -> Result<(), Status>
+    ensures { why_not result ≡ boundary_check image.now first blocks }
+{
+    if u64::from(first.offset) + u64::from(blocks.get()) > u64::from(image.geometry().size()) {
+        return Err(Status::ZONE_BOUNDARY_ERROR);
+    }
+    Ok(())
+}
+
+/// The first of a range of blocks that lies in one zone, as a block of that zone.
+///
+/// # Errors
+///
+/// Those of [`first_block`] and of [`check_within_zone`].
 pub fn range(image: &Image, lba: u64, blocks: BlockCount) -> Result<ZoneBlock, Status>
     ensures value { result ≡ unless_failed (first_failed (range_checks image.now lba blocks)) (zone_block_in image.now lba) }
     ensures block { IfOk result (IsZoneBlock image.now lba) }
 {
     let block = first_block(image, lba, blocks)?;
-    if u64::from(block.offset) + u64::from(blocks.get()) > u64::from(image.geometry().size()) {
-        return Err(Status::ZONE_BOUNDARY_ERROR);
-    }
+    check_within_zone(image, block, blocks)?;
     Ok(block)
 }

@@ -14,11 +14,12 @@ mod send;
 mod transfer;
 mod write;
 
-pub use address::{first_block, lowest};
+pub use address::{check_within_zone, first_block, lowest};
 pub use answer::Answer;
 pub use image_store::{Geometry, Image};
 pub use namespace::Namespace;
 pub use nvme_entry::{BlockCount, DwordCount, MOST_TRANSFER, StandardCommand, Status, ZoneFilter};
+pub use read::check_readable;
 pub use transfer::check_transfer;
 pub use zone_resources::{Holds, Limits};
 pub use zone_state::{FaultRefused, FaultState};

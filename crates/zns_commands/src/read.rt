@@ -9,7 +9,8 @@ ghost use Rattle.zone_state.specs.Checks.{first_failed, unless_failed};
 ghost use Rattle.zns_commands.specs.Address.{zone_block_in};
 ghost use Rattle.zns_commands.specs.Effect.{effect_of_answer};
 ghost use Rattle.zns_commands.specs.Meaning.{meaning};
-ghost use Rattle.zns_commands.specs.Read.{read_checks, blocks_read};
+ghost use Rattle.zns_commands.specs.Read.{read_checks, read_refusal, blocks_read};
+ghost use Rattle.zns_commands.specs.Resources.{why_not};
 
 use crate::address::range;
 use crate::answer::Answer;
@@ -17,6 +18,21 @@ use crate::transfer::{bytes_of_blocks, check_transfer};
 use image_store::{Image, ZoneBlock};
 use nvme_entry::{BlockCount, MOST_TRANSFER, Status, put_front};
 use zone_state::ZoneState;
+
+/// Tests that the blocks of a zone can be read.
+///
+/// # Errors
+///
+/// [`Status::ZONE_IS_OFFLINE`] where the zone is Offline.
+pub fn check_readable(image: &Image, zone: u32) -> Result<(), Status>
+    requires { zone < length image.now.zones }
+    ensures { why_not result ≡ read_refusal (zone_at image.now zone).state }
+{
+    if image.zone(zone).state() == ZoneState::Offline {
+        return Err(Status::ZONE_IS_OFFLINE);
+    }
+    Ok(())
+}
 
 /// The checks of a read: where it begins.
 fn check_read(
@@ -32,9 +48,7 @@ fn check_read(
     let bytes = bytes_of_blocks(image, blocks);
     check_transfer(bytes, 0, input)?;
     let block = range(image, lba, blocks)?;
-    if image.zone(block.zone).state() == ZoneState::Offline {
-        return Err(Status::ZONE_IS_OFFLINE);
-    }
+    check_readable(image, block.zone)?;
     Ok(block)
 }
 
