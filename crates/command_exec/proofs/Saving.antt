@@ -16,7 +16,7 @@ use Rattle.device_events.specs.declared.event.Event.{Event}
 use Rattle.pushdown.proofs.Proved.{served_and_drained}
 use Rattle.runner.specs.declared.device.Stopped.{Stopped}
 use Rattle.event_text.specs.CommandFile.{events_in, told_of}
-use Rattle.event_text.specs.Lines.{line_of}
+use Rattle.event_text.specs.Lines.{reply_line}
 use Rattle.command_files.specs.Made.{Made, then_made}
 use Rattle.command_exec.specs.Saved.{AreInFiles, Executes, ExecutesFirst, HasBegun, HasPrinted, InEvents, InTurns, SavesAll, SavesFirst, Untold}
 
@@ -26,10 +26,10 @@ on_err (Err error) holds = holds
 
 -- what `Lines` took: its writer stays the same
 abbrev pub Took : ℕ × Printed → ℕ × Printed → List ReplyWithData → Type 0
-Took a b replies = (b.0 ≡ a.0) × Prints line_of a.1 b.1 replies
+Took a b replies = (b.0 ≡ a.0) × Prints reply_line a.1 b.1 replies
 
 took_joins : Joins Took
-took_joins a b c first later early late = (late.0 ∙ early.0, prints_in_parts line_of a.1 b.1 c.1 first later early.1 late.1)
+took_joins a b c first later early late = (late.0 ∙ early.0, prints_in_parts reply_line a.1 b.1 c.1 first later early.1 late.1)
 
 -- events, of which one was refused
 pub stops_in_events : (events : List Event) (old new : State) (took : List ReplyWithData → Type 0) (done : ℕ)

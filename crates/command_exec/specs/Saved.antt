@@ -12,12 +12,12 @@ use Rattle.pushdown.specs.JoinedEvents.{HasServedAndDrained}
 use Rattle.pushdown.specs.State.{State, new_state}
 use Rattle.device_events.specs.declared.event.Event.{Event}
 use Rattle.event_text.specs.CommandFile.{events_in, told_of}
-use Rattle.event_text.specs.Lines.{line_of}
+use Rattle.event_text.specs.Lines.{reply_line}
 use Rattle.command_files.specs.Made.{Made, then_made}
 
 -- the lines of these replies were printed, in order, and nothing else, where the output tells what it holds
 abbrev pub HasPrinted : Option (List ℕ) → Option (List ℕ) → List ReplyWithData → Type 0
-HasPrinted before after replies = Appends before after (flat_map line_of replies)
+HasPrinted before after replies = Appends before after (flat_map reply_line replies)
 
 -- nothing is said of what was printed
 abbrev pub Untold : List ReplyWithData → Type 0

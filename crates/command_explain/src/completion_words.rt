@@ -53,7 +53,7 @@ fn print_unnamed<O: Write>(completion: &Completion, data: &[u8], out: &mut O) ->
     let dw1 = completion.dw1;
     write!(out, "done; dwords 0 and 1: {dw0}, {dw1}")?;
     if dw0 != 0 || dw1 != 0 {
-        let lba = first_block(completion);
+        let lba = appended_lba(completion);
         let records = Counted(u64::from(dw0), "record");
         let blocks = Counted(u64::from(dw1), "block");
         write!(
@@ -82,7 +82,7 @@ fn print_of_command<O: Write>(
     }
     match command {
         Command::Standard(StandardCommand::Append { .. }) => {
-            let lba = first_block(completion);
+            let lba = appended_lba(completion);
             writeln!(out, "the first is at LBA {lba}")
         }
         Command::Standard(StandardCommand::Receive { .. }) => print_report(data, out),
@@ -116,7 +116,7 @@ fn print_refusal<O: Write>(completion: &Completion, out: &mut O) -> io::Result<(
     writeln!(out)
 }
 
-/// The logical block address that Dwords 0 and 1 spell (ZNS 1.1, 3.4.1).
-fn first_block(completion: &Completion) -> u64 {
+/// The logical block address that Dwords 0 and 1 of an append spell (ZNS 1.1, 3.4.1).
+fn appended_lba(completion: &Completion) -> u64 {
     u64::from(completion.dw0) + (u64::from(completion.dw1) << 32)
 }

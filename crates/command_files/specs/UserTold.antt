@@ -45,7 +45,7 @@ IsUnwritten path (CannotWrite told reason) = told ≡ path
 IsUnwritten path NoMemory = Unit {0}
 IsUnwritten path _ = ⊥
 
--- the word of an option that is no number from the least to the most
+-- the failure tells this option, its word, and the least and the most
 abbrev pub IsNotInRange : ArgMatches → Bor (List ℕ) → ℕ → ℕ → Failure → Type 0
 IsNotInRange matches option least most (NotInRange told word low high) =
     (told ≡ option) × (word.now ≡ value_of matches option.now) × (low ≡ least) × (high ≡ most)

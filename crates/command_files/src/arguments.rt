@@ -100,7 +100,7 @@ pub fn required<'a>(matches: &ArgMatches<'a>, id: &str) -> &'a str
 /// # Errors
 ///
 /// [`Failure::NotInRange`] where the word spells no such number.
-pub fn number_in<'a>(
+pub fn number_in_range<'a>(
     matches: &ArgMatches<'a>,
     option: &'a str,
     least: u64,
@@ -127,10 +127,10 @@ pub fn number<'a>(matches: &ArgMatches<'a>, option: &'a str) -> Result<u32, Fail
     ensures value { IfOk result (λ number. number_of matches.now option.now ≡ Some number) }
     ensures unspelled { IfErr result (SpellsNone matches.now option.entry 0 4294967295) }
 {
-    Ok(number_in(matches, option, 0, u64::from(u32::MAX))? as u32)
+    Ok(number_in_range(matches, option, 0, u64::from(u32::MAX))? as u32)
 }
 
-/// The failure of an option whose word is no number from `least` to `most`.
+/// The failure that tells this option, its word, and the least and the most.
 pub fn not_in_range<'a>(
     matches: &ArgMatches<'a>,
     option: &'a str,

@@ -9,7 +9,7 @@ use Rattle.command_failure.specs.declared.failure.Failure.{Failure}
 use Rattle.command_failure.specs.declared.failure.Failure.TheVariants.{NoMemory, CannotRead, CannotWrite, AssemblyRefused}
 use Rattle.command_files.specs.Made.{Made}
 use Rattle.command_files.specs.UserTold.{IsUnread, IsUnwritten}
-use Rattle.command_programs.specs.Made.{MakesProgram}
+use Rattle.command_programs.specs.MakesProgram.{MakesProgram}
 use Rattle.command_programs.specs.UserTold.{AsmFails}
 use Rattle.command_programs.specs.steps.Told.{IsToldOfAssembly, MakesNone}
 

@@ -1,3 +1,3 @@
-pub mod Made
+pub mod MakesProgram
 pub mod UserTold
 pub mod steps

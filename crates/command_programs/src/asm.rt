@@ -4,13 +4,13 @@ ghost use Rattle.std.specs.Prelude.{◌≡◌, IfErr, IfSome, OnOk, OnErr};
 ghost use Rattle.ebpf_asm.specs.Assembly.{assembled};
 ghost use Rattle.command_files.specs.Arguments.{value_of};
 ghost use Rattle.command_files.specs.Made.{MakesOne};
-ghost use Rattle.command_programs.specs.Made.{MakesProgram};
+ghost use Rattle.command_programs.specs.MakesProgram.{MakesProgram};
 ghost use Rattle.command_programs.specs.UserTold.{AsmFails};
 ghost use Rattle.command_programs.specs.steps.Told.{IsToldOfAssembly, MakesNone};
 
 use clap::{Arg, ArgMatches, Command};
 use command_failure::Failure;
-use command_files::arguments::{and_argument, required};
+use command_files::arguments::{PROGRAM, and_argument, required};
 use command_files::{Files, read, write};
 use ebpf_asm::{AssembleFault, AssemblyRefusal, assemble};
 use std::alloc::{AllocError, Global};
@@ -20,10 +20,8 @@ pub const NAME: &str = "asm";
 
 const TEXT: &str = "TEXT";
 
-const PROGRAM: &str = "PROGRAM";
-
 const LONG_ABOUT: &str = "\
-Assembles text to a program, a file of eBPF instructions (RFC 9669).
+Assembles text to a program, a file of eBPF instructions (RFC 9669, 3).
 
 A line has an optional label, as `next:`, and an optional instruction: a mnemonic, and operands \
 between commas. `;` begins a comment. Of text that is not so, `assembly refused LINE REASON` tells the \

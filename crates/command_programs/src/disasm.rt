@@ -20,7 +20,7 @@ const LONG_ABOUT: &str = "\
 Prints a program as assembly text, an instruction on each line, which `asm` assembles to the same \
 bytes. With --slots each line begins with the instruction's slot, as refusals and `trace` name it.
 
-A program is a file of eBPF instructions (RFC 9669), 8 bytes a slot, from 1 to 4096 slots. Of one \
+A program is a file of eBPF instructions (RFC 9669, 3), 8 bytes a slot, from 1 to 4096 slots. Of one \
 that is not so, `program refused SLOT REASON` tells the first fault.";
 
 const EXAMPLE: &str = "\

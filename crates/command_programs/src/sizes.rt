@@ -6,7 +6,7 @@ ghost use Rattle.command_programs.specs.steps.Sizes.{AreAskedFor, IsLimit, IsOve
 
 use clap::ArgMatches;
 use command_failure::Failure;
-use command_files::arguments::{EMIT, not_in_range, number_in};
+use command_files::arguments::{EMIT, not_in_range, number_in_range};
 use program_interface::{BlockSize, RunSizes};
 
 /// Blocks of this size, for each of which at most as many bytes may be emitted as `--emit` says, or all of a block's where
@@ -33,7 +33,7 @@ fn limit<'a>(matches: &ArgMatches<'a>, most: u32) -> Result<u32, Failure<'a>>
     ensures told { IfErr result (IsOverBlock matches.now most) }
 {
     match matches.get_str(EMIT) {
-        Some(_) => Ok(number_in(matches, EMIT, 0, u64::from(most))? as u32),
+        Some(_) => Ok(number_in_range(matches, EMIT, 0, u64::from(most))? as u32),
         None => Ok(most),
     }
 }

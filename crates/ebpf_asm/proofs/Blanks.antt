@@ -6,7 +6,7 @@ use Rattle.std.proofs.lemmas.List.Folds.{list_all-append}
 use Rattle.std.proofs.lemmas.List.Sums.{list_all-from_AllPass}
 use Rattle.text_lines.specs.Cut.{is_blank_byte, trimmed, uncommented, without_end_blanks, without_first_blanks}
 use Rattle.text_lines.specs.Laws.{AreBlanks}
-use Rattle.text_lines.proofs.Proved.{ascii_behind, back_goes, blank_is_ascii, blank_is_code, front_goes}
+use Rattle.text_lines.proofs.Proved.{ascii_behind, back_goes, blank_is_ascii, blank_is_code, front_goes, uncommented-comment, uncommented-cons}
 use Rattle.ebpf_asm.specs.declared.fault.FaultKind.TheVariants.{NotAscii}
 use Rattle.ebpf_asm.specs.Laws.{BlanksDontCount, CommentsDontCount}
 use Rattle.ebpf_asm.specs.Line.{Line, line_in, line_of}
@@ -21,24 +21,6 @@ ascii_before : (xs ys : List ℕ) → list_all is_ascii xs ≡ true → list_all
 ascii_before xs ys e = list_all-append is_ascii xs ys ∙ ap (λ (b : Bool). b && list_all is_ascii ys) e
 
 -- ---- comments
-
-abbrev code_length : List ℕ → ℕ
-code_length xs = position_or_len (λ (b : ℕ). b == 59) xs
-
-take_one : (n b : ℕ) (xs : List ℕ) → take (1 + n) (b ∷ xs) ≡ b ∷ take n xs
-take_one n b xs = ap (λ (k : ℕ). take k (b ∷ xs)) (let e : 1 + n ≡ suc n = omega arith in e)
-
-uncommented-cons : (b : ℕ) (xs : List ℕ) (test : Bool) → (b == 59) ≡ test → uncommented (b ∷ xs) ≡ cond test [] (b ∷ uncommented xs)
-uncommented-cons b xs true e = ap (λ (t : Bool). take (cond (not t) (1 + code_length xs) 0) (b ∷ xs)) e
-uncommented-cons b xs false e = ap (λ (t : Bool). take (cond (not t) (1 + code_length xs) 0) (b ∷ xs)) e ∙ take_one (code_length xs) b xs
-
-uncommented-comment : (line rest : List ℕ) → uncommented (line ++ 59 ∷ rest) ≡ uncommented line
-uncommented-comment [] rest = refl
-uncommented-comment (b ∷ line) rest = by (b == 59) refl (uncommented-comment line rest)
-  where
-    by : (test : Bool) → (b == 59) ≡ test → uncommented (line ++ 59 ∷ rest) ≡ uncommented line → uncommented ((b ∷ line) ++ 59 ∷ rest) ≡ uncommented (b ∷ line)
-    by true e later = uncommented-cons b (line ++ 59 ∷ rest) true e ∙ sym (uncommented-cons b line true e)
-    by false e later = uncommented-cons b (line ++ 59 ∷ rest) false e ∙ ap (λ (xs : List ℕ). b ∷ xs) later ∙ sym (uncommented-cons b line false e)
 
 abbrev refused : Line
 refused = record { label = None; instruction = Err NotAscii; target = None }

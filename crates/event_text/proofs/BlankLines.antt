@@ -9,7 +9,7 @@ use Rattle.std.proofs.lemmas.List.{get_or_append_left}
 use Rattle.std.proofs.lemmas.List.Elements.{All-append, All-cons, All-from_recursion, All-head, All-nil, All-tail, All-take, All-weaker}
 use Rattle.std.proofs.lemmas.List.Sums.{list_all-from_AllPass, position_or_len_is}
 use Rattle.text_lines.specs.Cut.{is_blank_byte, uncommented}
-use Rattle.text_lines.proofs.Proved.{ascii_behind, blank_is_ascii, blank_is_code}
+use Rattle.text_lines.proofs.Proved.{ascii_behind, blank_is_ascii, blank_is_code, uncommented-comment}
 use Rattle.event_text.specs.CommandFile.{line_told, words_told}
 use Rattle.event_text.specs.Laws.{BlanksDontCount, CommentsDontCount, IsComment}
 use Rattle.event_text.specs.Words.{words_of}
@@ -19,24 +19,13 @@ use Rattle.event_text.proofs.WordLemmas.{words_of-blank}
 
 -- ---- comments
 
--- what stands before a `;` that no other is before
-uncommented-cut : (line rest : List ℕ) → All (λ b. (b == 59) ≡ false) line → uncommented (line ++ 59 ∷ rest) ≡ line
-uncommented-cut line rest h =
-    let all = line ++ 59 ∷ rest in
-    let inside : length line < length all = omega (arith, length-append line (59 ∷ rest)) in
-    let at : position_or_len (λ (b : ℕ). b == 59) all ≡ length line = position_or_len_is (λ (b : ℕ). b == 59) all (length line) 0 (omega arith)
-    (λ k lt. ap (λ (b : ℕ). b == 59) (get_or_append_left line (59 ∷ rest) 0 k lt) ∙ h k 0 lt)
-    (λ lt. ap (λ (b : ℕ). b == 59) (get_or-append_seam line 59 rest 0)) in
-    ap (λ (n : ℕ). take n all) at ∙ take-append_seam line (59 ∷ rest)
-
 pub comments_dont_count : CommentsDontCount
-comments_dont_count line [] plain is = ap line_told (append-nil line)
-comments_dont_count line (first ∷ rest) plain is =
-    let none = All-weaker (λ b. not (b == 59) ≡ true) (λ b. (b == 59) ≡ false) (λ b e. not-true (b == 59) e) line plain in
+comments_dont_count line [] is = ap line_told (append-nil line)
+comments_dont_count line (first ∷ rest) is =
     let comment : list_all is_ascii (59 ∷ rest) ≡ true = list_all-from_AllPass is_ascii rest is.1 in
     ap (λ (b : ℕ). line_told (line ++ b ∷ rest)) is.0
     ∙ ap (λ (b : Bool). cond b (words_told (words_of (uncommented (line ++ 59 ∷ rest)))) None) (ascii_behind line (59 ∷ rest) comment)
-    ∙ ap (λ (text : List ℕ). cond (list_all is_ascii line) (words_told (words_of text)) None) (uncommented-cut line rest none ∙ sym (uncommented-same line none))
+    ∙ ap (λ (text : List ℕ). cond (list_all is_ascii line) (words_told (words_of text)) None) (uncommented-comment line rest)
 
 -- ---- blanks
 
@@ -57,8 +46,7 @@ blanks_tell blanks h =
     ∙ ap words_told (words_of-blanks blanks h)
 
 both_tell : (blanks comment : List ℕ) → AllPass is_blank_byte blanks → IsComment comment → line_told (blanks ++ comment) ≡ Some None
-both_tell blanks comment h is =
-    comments_dont_count blanks comment (All-weaker (λ b. is_blank_byte b ≡ true) (λ b. not (b == 59) ≡ true) (λ b e. ap not (blank_is_code b e)) blanks h) is ∙ blanks_tell blanks h
+both_tell blanks comment h is = comments_dont_count blanks comment is ∙ blanks_tell blanks h
 
 -- ---- without a last byte
 

@@ -57,7 +57,7 @@ BlanksDontCount =
 -- a comment behind a line changes nothing that the line tells
 abbrev pub CommentsDontCount : Type 0
 CommentsDontCount =
-    (line comment : List ℕ) → AllPass (λ byte. not (byte == 59)) line → IsComment comment → line_told (line ++ comment) ≡ line_told line
+    (line comment : List ℕ) → IsComment comment → line_told (line ++ comment) ≡ line_told line
 
 -- the line of a turn of a run
 abbrev pub turn_text : ℕ → List ℕ

@@ -23,5 +23,5 @@ abbrev pub line_text : Reply → List ℕ → List ℕ
 line_text reply bytes = reply_text reply bytes ++ 10 ∷ []
 
 -- the line of a reply and its data
-abbrev pub line_of : ReplyWithData → List ℕ
-line_of given = line_text given.reply given.bytes
+abbrev pub reply_line : ReplyWithData → List ℕ
+reply_line given = line_text given.reply given.bytes

@@ -7,7 +7,7 @@ ghost use Rattle.hex.specs.Hex.{encode_lower};
 ghost use Rattle.device_events.specs.Printed.{Prints};
 ghost use Rattle.device_events.specs.Refusals.{CountsRefusals};
 ghost use Rattle.device_events.proofs.Proved.{prints_in_parts, prints_none};
-ghost use Rattle.event_text.specs.Lines.{data_text, line_of, line_text, reply_text};
+ghost use Rattle.event_text.specs.Lines.{data_text, reply_line, line_text, reply_text};
 
 use device_events::{NotTaken, Out, Reply};
 use nvme_entry::MOST_TRANSFER;
@@ -59,13 +59,13 @@ impl<'a, W: Write> Lines<'a, W> {
 
 impl<W: Write> Out for Lines<'_, W> {
     ghost took = { λ old new replies. (new.out.ghost_name ≡ old.out.ghost_name)
-        × Prints line_of (record { refused = old.refusals; bytes = W.contents old.out.now }) (record { refused = new.refusals; bytes = W.contents new.out.now }) replies };
+        × Prints reply_line (record { refused = old.refusals; bytes = W.contents old.out.now }) (record { refused = new.refusals; bytes = W.contents new.out.now }) replies };
 
     ghost refused = { λ lines. lines.refusals };
 
-    ghost takes_none = { λ lines. (refl, prints_none line_of _) };
+    ghost takes_none = { λ lines. (refl, prints_none reply_line _) };
 
-    ghost joins = { λ _ _ _ first later early late. (late.0 ∙ early.0, prints_in_parts line_of _ _ _ first later early.1 late.1) };
+    ghost joins = { λ _ _ _ first later early late. (late.0 ∙ early.0, prints_in_parts reply_line _ _ _ first later early.1 late.1) };
 
     fn take(&mut self, reply: Reply, bytes: &[u8]) -> Result<(), NotTaken>
         requires { self.old.refusals + 1 < 2 ^ 64 }

@@ -1,4 +1,5 @@
 mod Blanks
+mod Comments
 mod Excerpts
 mod LineLemmas
 mod NumberLemmas

@@ -1,4 +1,4 @@
--- What the user is told of files that are no images.
+-- The failure that a fault of loading an image becomes.
 use Rattle.std.specs.Prelude.{ℕ, List}
 use Rattle.std.specs.Borrow.{Bor}
 use Rattle.image_store.specs.declared.fault.LoadFault.{LoadFault}

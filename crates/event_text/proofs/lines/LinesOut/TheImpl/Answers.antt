@@ -3,23 +3,23 @@ use Rattle.std.specs.Io.KnownBytes.{Appends}
 use Rattle.device_events.specs.Printed.{Printed, Prints}
 use Rattle.device_events.specs.Refusals.{CountsRefusals}
 use Rattle.device_events.specs.Replies.{ReplyWithData}
-use Rattle.event_text.specs.Lines.{line_of}
+use Rattle.event_text.specs.Lines.{reply_line}
 use Rattle.event_text.proofs.lines.LinesOut.TheImpl.Goals as goal
 
 -- one writer, to which a line was printed, or one that failed
 module _ {T E : Type 0} (writer after : ℕ) (same : after ≡ writer) (old new : Printed) where
-  line_taken : (result : Result T E) (given : ReplyWithData) → OnOk result (Appends old.bytes new.bytes (line_of given))
-      → CountsRefusals old.refused new.refused result → OnOk result ((after ≡ writer) × Prints line_of old new (given ∷ []))
+  line_taken : (result : Result T E) (given : ReplyWithData) → OnOk result (Appends old.bytes new.bytes (reply_line given))
+      → CountsRefusals old.refused new.refused result → OnOk result ((after ≡ writer) × Prints reply_line old new (given ∷ []))
   line_taken (Err error) given printed count = tt
   line_taken (Ok value) given printed count = (
     same,
     record {
       no_fewer = omega (arith, count);
-      texts = λ _. subst (Appends old.bytes new.bytes) (sym (append-nil (line_of given))) printed;
+      texts = λ _. subst (Appends old.bytes new.bytes) (sym (append-nil (reply_line given))) printed;
     },
   )
 
-  line_refused : (result : Result T E) → CountsRefusals old.refused new.refused result → OnErr result ((after ≡ writer) × Prints line_of old new [])
+  line_refused : (result : Result T E) → CountsRefusals old.refused new.refused result → OnErr result ((after ≡ writer) × Prints reply_line old new [])
   line_refused (Ok value) count = tt
   line_refused (Err error) count = (same, record { no_fewer = omega (arith, count); texts = λ none. absurd (omega (arith, count, none)) })
 
