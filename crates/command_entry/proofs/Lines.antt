@@ -6,20 +6,17 @@ use Rattle.nvme_entry.specs.Entry.{decoded, identifier_of}
 use Rattle.nvme_entry.specs.declared.command.Command.{Command}
 use Rattle.event_text.specs.CommandFile.{Submitted}
 use Rattle.event_text.specs.Submission.{Tells}
-use Rattle.command_entry.specs.Printed.{PrintsEntry}
-use Rattle.command_entry.specs.steps.PrintsCommand.{PrintsCommand}
-use Rattle.command_entry.specs.declared.printing.Target.{Target}
+use Rattle.command_entry.specs.Printed.{PrintsCommand, PrintsEntry}
 
-pub entry_printed : {E : Type 0} (r : Result (Unit {0}) E) (before after : Option (List ℕ)) (target : Target) (command : Command) (input line entry text : List ℕ)
-    → OnOk r (Appends before after text) → text ≡ line ++ 10 ∷ [] → Tells line (Submitted target.queue entry input) → decoded entry ≡ Ok command → identifier_of entry ≡ target.cid
-    → OnOk r (PrintsCommand before after target command input)
-entry_printed (Ok done) before after target command input line entry text appended is told asked identifier =
+pub entry_printed : {E : Type 0} (r : Result (Unit {0}) E) (before after : Option (List ℕ)) (queue cid : ℕ) (command : Command) (input line entry text : List ℕ)
+    → OnOk r (Appends before after text) → text ≡ line ++ 10 ∷ [] → Tells line (Submitted queue entry input) → decoded entry ≡ Ok command → identifier_of entry ≡ cid
+    → OnOk r (PrintsCommand before after queue cid command input)
+entry_printed (Ok done) before after queue cid command input line entry text appended is told asked identifier =
     record { line = line; entry = entry; printed = subst (λ (bytes : List ℕ). Appends before after bytes) is appended; told = told; asked = asked; identifier = identifier }
-entry_printed (Err failure) before after target command input line entry text appended is told asked identifier = tt
+entry_printed (Err failure) before after queue cid command input line entry text appended is told asked identifier = tt
 
 -- what is printed for a command is the line of an entry
-pub is_entry : {E : Type 0} (r : Result (Unit {0}) E) (before after : Option (List ℕ)) (target : Target) (command : Command) (input : List ℕ)
-    → OnOk r (PrintsCommand before after target command input) → OnOk r (PrintsEntry before after)
-is_entry (Ok done) before after target command input prints =
-    record { line = prints.line; queue = target.queue; entry = prints.entry; input = input; command = command; printed = prints.printed; told = prints.told; asked = prints.asked }
-is_entry (Err failure) before after target command input prints = tt
+pub is_entry : {E : Type 0} (r : Result (Unit {0}) E) (before after : Option (List ℕ)) (queue cid : ℕ) (command : Command) (input : List ℕ)
+    → OnOk r (PrintsCommand before after queue cid command input) → OnOk r (PrintsEntry before after)
+is_entry (Ok done) before after queue cid command input prints = record { queue = queue; cid = cid; command = command; input = input; prints = prints }
+is_entry (Err failure) before after queue cid command input prints = tt

@@ -4,7 +4,7 @@ ghost use Rattle.std.specs.Prelude.{◌≡◌, OnOk};
 ghost use Rattle.command_entry.specs.Printed.{PrintsEntry};
 
 use crate::asked::Asked;
-use crate::printing::{Target, print};
+use crate::printing::{Identifiers, print};
 use crate::{programs, transfers, zones};
 use clap::{ArgMatches, Command};
 use command_failure::Failure;
@@ -88,9 +88,15 @@ fn submit<'a, F: Files, O: Write>(
     ensures printed { OnOk result (PrintsEntry (O.contents out.old) (O.contents out.new)) }
     ensures made { F.made files.new ≡ F.made files.old }
 {
-    let target = Target::of_words(matches)?;
+    let identifiers = Identifiers::of_words(matches)?;
     let asked = words_asked(alloc, line, name, matches, files)?;
-    print(alloc, target, asked.command, asked.data.as_slice(), out)
+    print(
+        alloc,
+        identifiers,
+        asked.command,
+        asked.data.as_slice(),
+        out,
+    )
 }
 
 /// What the words of the kind of entry that has this name ask for.

@@ -1,12 +1,29 @@
 //! Numbers that the words of an entry give.
 
-use clap::ArgMatches;
+use clap::{Arg, ArgMatches};
 use command_failure::Failure;
-use command_files::arguments::{not_in_range, number_in_range};
+use command_files::arguments::{not_in_range, number_in_range, option};
 use nvme_entry::{BlockCount, DwordCount, MOST_BLOCKS, MOST_DWORDS, PROGRAM_SLOTS, ProgramSlot};
+use std::alloc::Global;
+
+/// The option that [`lba_option`] describes.
+pub(crate) const LBA: &str = "lba";
+
+/// The option that [`blocks_option`] describes.
+pub(crate) const BLOCKS: &str = "blocks";
 
 /// The greatest number of a slot for a program.
 const LAST_SLOT: u64 = PROGRAM_SLOTS as u64 - 1;
+
+/// The option that gives a logical block address.
+pub(crate) fn lba_option<'a>(alloc: Global, help: &'a str) -> Arg<'a> {
+    option(alloc, LBA, "LBA").help(help)
+}
+
+/// The option that gives a number of blocks, which is required.
+pub(crate) fn blocks_option<'a>(alloc: Global, help: &'a str) -> Arg<'a> {
+    option(alloc, BLOCKS, "N").required(true).help(help)
+}
 
 /// A logical block address.
 pub(crate) fn address<'a>(matches: &ArgMatches<'a>, option: &'a str) -> Result<u64, Failure<'a>> {

@@ -3,7 +3,7 @@
 ghost use Rattle.std.specs.Prelude.{◌≡◌, ◌≤◌, OnOk};
 ghost use Rattle.std.specs.Io.KnownBytes.{Appends};
 ghost use Rattle.nvme_entry.specs.Encoding.{program_length};
-ghost use Rattle.command_entry.specs.steps.PrintsCommand.{PrintsCommand};
+ghost use Rattle.command_entry.specs.Printed.{PrintsCommand};
 
 use crate::numbers::identifier;
 use clap::{ArgMatches, Command};
@@ -18,27 +18,27 @@ const QUEUE: &str = "queue";
 
 const CID: &str = "cid";
 
-/// Where an entry goes, and what its completion is known by.
+/// What a completion repeats of its submission.
 #[derive(Clone, Copy)]
-pub(crate) struct Target {
+pub(crate) struct Identifiers {
     /// The submission queue.
     pub(crate) queue: u16,
     /// The command identifier.
     pub(crate) cid: u16,
 }
 
-impl Target {
-    /// The one that the words name, or queue 1 and identifier 1.
-    pub(crate) fn of_words<'a>(matches: &ArgMatches<'a>) -> Result<Target, Failure<'a>> {
-        Ok(Target {
+impl Identifiers {
+    /// Those that the words name; a queue or an identifier that they don't name is 1.
+    pub(crate) fn of_words<'a>(matches: &ArgMatches<'a>) -> Result<Identifiers, Failure<'a>> {
+        Ok(Identifiers {
             queue: identifier(matches, QUEUE)?,
             cid: identifier(matches, CID)?,
         })
     }
 }
 
-/// A command that takes the words of a [`Target`] too.
-pub(crate) fn and_target<'a>(
+/// A command that takes the words of [`Identifiers`] too.
+pub(crate) fn and_identifiers<'a>(
     alloc: Global,
     command: Result<Command<'a>, AllocError>,
 ) -> Result<Command<'a>, AllocError> {
@@ -55,16 +55,16 @@ pub(crate) fn and_target<'a>(
 /// Prints the line of a command file that submits the entry of a command, with data beside it.
 pub(crate) fn print<'a, O: Write>(
     alloc: Global,
-    target: Target,
+    identifiers: Identifiers,
     command: nvme_entry::Command,
     input: &[u8],
     out: &mut O,
 ) -> Result<(), Failure<'a>>
     requires { program_length command ≤ MOST_TRANSFER }
-    ensures { OnOk result (PrintsCommand (O.contents out.old) (O.contents out.new) target command input.now) }
+    ensures { OnOk result (PrintsCommand (O.contents out.old) (O.contents out.new) identifiers.queue identifiers.cid command input.now) }
 {
-    let entry = Entry::encode(command, target.cid);
-    let line = submission_line(alloc, target.queue, &entry, input)?;
+    let entry = Entry::encode(command, identifiers.cid);
+    let line = submission_line(alloc, identifiers.queue, &entry, input)?;
     print_line(line.as_slice(), out)
 }
 

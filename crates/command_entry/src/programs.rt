@@ -4,8 +4,8 @@ ghost use Rattle.std.specs.Prelude.{◌≡◌};
 
 use crate::asked::Asked;
 use crate::data_file::read_data;
-use crate::numbers::{address, blocks, slot};
-use crate::printing::and_target;
+use crate::numbers::{BLOCKS, address, blocks, blocks_option, slot};
+use crate::printing::and_identifiers;
 use clap::{Arg, ArgAction, ArgMatches, Command};
 use command_failure::Failure;
 use command_files::Files;
@@ -28,8 +28,6 @@ const PROGRAM_OPTION: &str = "program";
 
 const FROM: &str = "from";
 
-const BLOCKS: &str = "blocks";
-
 const TO: &str = "to";
 
 const ARGUMENT: &str = "argument";
@@ -46,7 +44,7 @@ pub(crate) fn load_command<'a>(alloc: Global) -> Result<Command<'a>, AllocError>
     let command = and_argument(Ok(command), slot_option(alloc));
     let command = and_argument(command, program);
     let command = and_argument(command, emit_option(alloc));
-    and_target(alloc, command)
+    and_identifiers(alloc, command)
 }
 
 /// How `run` stands on the command line.
@@ -54,9 +52,7 @@ pub(crate) fn run_command<'a>(alloc: Global) -> Result<Command<'a>, AllocError> 
     let from = option(alloc, FROM, "LBA").required(true).help(
         "The logical block address of the first block that the program runs on",
     );
-    let blocks = option(alloc, BLOCKS, "N")
-        .required(true)
-        .help("The number of these blocks, from 1 to 65536");
+    let blocks = blocks_option(alloc, "The number of these blocks, from 1 to 65536");
     let to = option(alloc, TO, "LBA").required(true).help(
         "The lowest logical block address of the zone that is appended to",
     );
@@ -73,7 +69,7 @@ pub(crate) fn run_command<'a>(alloc: Global) -> Result<Command<'a>, AllocError> 
     let command = and_argument(command, blocks);
     let command = and_argument(command, to);
     let command = and_argument(command, argument);
-    and_target(alloc, command)
+    and_identifiers(alloc, command)
 }
 
 /// How `result` stands on the command line.
@@ -82,7 +78,7 @@ pub(crate) fn result_command<'a>(alloc: Global) -> Result<Command<'a>, AllocErro
         .about("Gives the scratch bytes that the last run of a slot's program left")
         .after_help("Example:\n\n  zscli entry result --slot 0");
     let command = and_argument(Ok(command), slot_option(alloc));
-    and_target(alloc, command)
+    and_identifiers(alloc, command)
 }
 
 fn slot_option<'a>(alloc: Global) -> Arg<'a> {

@@ -4,9 +4,9 @@ ghost use Rattle.std.specs.Prelude.{◌≡◌};
 
 use crate::asked::Asked;
 use crate::data_file::{read_data, whole_blocks};
-use crate::numbers::{address, blocks};
-use crate::printing::and_target;
-use clap::{Arg, ArgMatches, Command};
+use crate::numbers::{BLOCKS, LBA, address, blocks, blocks_option, lba_option};
+use crate::printing::and_identifiers;
+use clap::{ArgMatches, Command};
 use command_failure::Failure;
 use command_files::Files;
 use command_files::arguments::{
@@ -21,11 +21,7 @@ pub(crate) const WRITE: &str = "write";
 
 pub(crate) const READ: &str = "read";
 
-const LBA: &str = "lba";
-
 const DATA: &str = "data";
-
-const BLOCKS: &str = "blocks";
 
 /// How `append` stands on the command line.
 pub(crate) fn append_command<'a>(alloc: Global) -> Result<Command<'a>, AllocError> {
@@ -56,13 +52,11 @@ pub(crate) fn read_command<'a>(alloc: Global) -> Result<Command<'a>, AllocError>
     let command = Command::new(alloc, READ)
         .about("Reads blocks of a zone")
         .after_help("Example:\n\n  zscli entry read --lba 0 --blocks 2");
-    let lba = lba_option(alloc, "The logical block address of the first block");
-    let blocks = option(alloc, BLOCKS, "N")
-        .required(true)
-        .help("The number of blocks, from 1 to 65536");
+    let lba = lba_option(alloc, "The logical block address of the first block").required(true);
+    let blocks = blocks_option(alloc, "The number of blocks, from 1 to 65536");
     let command = and_argument(Ok(command), lba);
     let command = and_argument(command, blocks);
-    and_target(alloc, command)
+    and_identifiers(alloc, command)
 }
 
 /// A command that takes an address and a file of blocks too.
@@ -75,14 +69,11 @@ fn and_data<'a>(
         .required(true)
         .help("The file: whole blocks, at most 131072 bytes");
     let block = block_option(alloc).required(false).default_value("512");
-    let command = and_argument(Ok(command), lba_option(alloc, address));
+    let lba = lba_option(alloc, address).required(true);
+    let command = and_argument(Ok(command), lba);
     let command = and_argument(command, data);
     let command = and_argument(command, block);
-    and_target(alloc, command)
-}
-
-fn lba_option<'a>(alloc: Global, help: &'a str) -> Arg<'a> {
-    option(alloc, LBA, "LBA").required(true).help(help)
+    and_identifiers(alloc, command)
 }
 
 /// What the words of an `append` ask for.

@@ -1,8 +1,8 @@
 //! Entries for zones: `open`, `close`, `finish`, `reset`, `offline` and `report`.
 
 use crate::asked::Asked;
-use crate::numbers::{address, dwords};
-use crate::printing::and_target;
+use crate::numbers::{LBA, address, dwords, lba_option};
+use crate::printing::and_identifiers;
 use clap::{Arg, ArgAction, ArgGroup, ArgMatches, Command};
 use command_failure::Failure;
 use command_files::arguments::{and_argument, and_command, option, required};
@@ -11,8 +11,6 @@ use std::alloc::{AllocError, Global};
 use zone_state::{Action, ZoneState};
 
 pub(crate) const REPORT: &str = "report";
-
-const LBA: &str = "lba";
 
 const ALL: &str = "all";
 
@@ -98,7 +96,7 @@ fn and_action<'a>(
     about: &'a str,
     example: &'a str,
 ) -> Result<Command<'a>, AllocError> {
-    let lba = option(alloc, LBA, "LBA").help("The lowest logical block address of the zone");
+    let lba = lba_option(alloc, "The lowest logical block address of the zone");
     let all = Arg::new(alloc, ALL)
         .long(ALL)
         .action(ArgAction::SetTrue)
@@ -106,7 +104,7 @@ fn and_action<'a>(
     let action = Command::new(alloc, name).about(about).after_help(example);
     let action = and_argument(Ok(action), lba);
     let action = and_argument(action, all);
-    and_command(command, and_target(alloc, and_zones(alloc, action)))
+    and_command(command, and_identifiers(alloc, and_zones(alloc, action)))
 }
 
 /// A command that takes either a zone or all of them.
@@ -120,9 +118,7 @@ fn and_zones<'a>(
 
 /// How `report` stands on the command line.
 pub(crate) fn report_command<'a>(alloc: Global) -> Result<Command<'a>, AllocError> {
-    let lba = option(alloc, LBA, "LBA")
-        .required(true)
-        .help("A logical block address of the first zone");
+    let lba = lba_option(alloc, "A logical block address of the first zone").required(true);
     let state = option(alloc, STATE, "STATE")
         .default_value(EVERY)
         .value_parser(STATES)
@@ -141,7 +137,7 @@ pub(crate) fn report_command<'a>(alloc: Global) -> Result<Command<'a>, AllocErro
     let command = and_argument(command, state);
     let command = and_argument(command, partial);
     let command = and_argument(command, dwords);
-    and_target(alloc, command)
+    and_identifiers(alloc, command)
 }
 
 /// The action with this word.
