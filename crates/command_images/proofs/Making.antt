@@ -1,19 +1,24 @@
 -- What is known of the images that commands make.
-use Rattle.std.proofs.Common.{◌≡◌, ℕ, List, Option, Some, None, Result, Ok, Err, OnOk, IfErr, IsErrAnd, IfSome, ap, sym, subst, ◌∙◌}
+use Rattle.std.proofs.Common.{◌≡◌, ℕ, List, Option, Some, None, Result, Ok, Err, OnOk, IfErr, IsErrAnd, IfSome, ap, refl, sym, subst, ◌∙◌}
 use Rattle.std.specs.Borrow.{Bor}
+use Rattle.std.specs.List.{Contains}
 use Rattle.clap.specs.declared.parser.matches.ArgMatches.{ArgMatches}
 use Rattle.image_store.specs.Geometry.{Shape, shape_checks, tested}
+use Rattle.image_store.specs.Loading.{LoadFails}
 use Rattle.image_store.specs.Namespace.{ZonedNamespace, all_empty}
 use Rattle.image_store.specs.Reading.{namespace_in}
 use Rattle.image_store.specs.Text.{text}
+use Rattle.image_store.specs.declared.fault.LoadFault.{LoadFault}
+use Rattle.image_store.specs.declared.fault.LoadFault.TheVariants.{Stream, Memory}
 use Rattle.image_store.specs.declared.geometry.GeometryRefusal.{GeometryRefusal}
 use Rattle.zone_state.specs.Checks.{first_failed, unless_failed}
 use Rattle.command_failure.specs.declared.failure.Failure.{Failure}
-use Rattle.command_failure.specs.declared.failure.Failure.TheVariants.{CannotWrite, NoMemory, NotInRange}
+use Rattle.command_failure.specs.declared.failure.Failure.TheVariants.{CannotRead, CannotWrite, NoMemory, NotInRange}
 use Rattle.command_files.specs.Made.{Made, then_made}
-use Rattle.command_files.specs.UserTold.{IsUnwritten, SpellsNone}
+use Rattle.command_files.specs.UserTold.{IsUnread, IsUnwritten, SpellsNone}
 use Rattle.command_images.specs.Images.{IsAskedFor, MakesEmpty, MakesAnew}
-use Rattle.command_images.specs.UserTold.{RefusesImage, RefusesShape}
+use Rattle.command_images.specs.UserTold.{FormatFails, LoadingFails, RefusesShape, UpgradeFails, shape_options}
+use Rattle.command_images.specs.steps.Told.{told_of_image}
 
 passed : (failed : Option GeometryRefusal) (s g : Shape) → Ok g ≡ unless_failed failed s → s ≡ g
 passed None s g is = cc
@@ -29,15 +34,15 @@ asked_and_passed matches s g asked is =
     subst (λ (shape : Shape). IsAskedFor matches shape × (tested shape ≡ Ok g)) (same_shape s g is) (asked, sym is)
 
 -- of an image that has nothing written, a file was made
-pub makes_empty : {T E : Type 0} (tells : Type 0) (result : Result T E) (image : ZonedNamespace) (shape : Shape) (matches : ArgMatches) (path wanted : List ℕ) (before after : Option (List Made))
+pub makes_empty : {T E : Type 0} (writes : Type 0) (result : Result T E) (image : ZonedNamespace) (shape : Shape) (matches : ArgMatches) (path wanted : List ℕ) (before after : Option (List Made))
     → IsAskedFor matches shape → tested shape ≡ Ok shape → image ≡ all_empty shape → path ≡ wanted
-    → OnOk result (tells → after ≡ then_made before path (text image)) → OnOk result (tells → MakesEmpty matches wanted before after)
-makes_empty tells (Err error) image shape matches path wanted before after asked passes empty same saved = tt
-makes_empty tells (Ok done) image shape matches path wanted before after asked passes empty same saved = λ told. record {
+    → OnOk result (writes → after ≡ then_made before path (text image)) → OnOk result (MakesEmpty writes matches wanted before after)
+makes_empty writes (Err error) image shape matches path wanted before after asked passes empty same saved = tt
+makes_empty writes (Ok done) image shape matches path wanted before after asked passes empty same saved = record {
   shape = shape;
   asked = asked;
   passes = passes;
-  made = saved told ∙ ap (λ (p : List ℕ). then_made before p (text image)) same ∙ ap (λ (ns : ZonedNamespace). then_made before wanted (text ns)) empty;
+  made = λ write. saved write ∙ ap (λ (p : List ℕ). then_made before p (text image)) same ∙ ap (λ (ns : ZonedNamespace). then_made before wanted (text ns)) empty;
 }
 
 -- an image was loaded of the files of before, and its file was made
@@ -45,12 +50,12 @@ pub makes_anew : {T E : Type 0} (reads writes : Type 0) (result : Result T E) (c
     (before loaded after : Option (List Made)) → path ≡ wanted → loaded ≡ before
     → (reads → IfSome (contents path) (λ bytes. namespace_in bytes ≡ Ok image))
     → OnOk result (writes → after ≡ then_made loaded path (text image))
-    → OnOk result (writes → MakesAnew reads (contents wanted) wanted before after)
+    → OnOk result (MakesAnew reads writes (contents wanted) wanted before after)
 makes_anew reads writes (Err error) contents image path wanted before loaded after same kept held saved = tt
-makes_anew reads writes (Ok done) contents image path wanted before loaded after same kept held saved = λ write. record {
+makes_anew reads writes (Ok done) contents image path wanted before loaded after same kept held saved = record {
   namespace = image;
   held = λ read. subst (λ (p : List ℕ). IfSome (contents p) (λ bytes. namespace_in bytes ≡ Ok image)) same (held read);
-  made = saved write ∙ ap (λ (made : Option (List Made)). then_made made path (text image)) kept ∙ ap (λ (p : List ℕ). then_made before p (text image)) same;
+  made = λ write. saved write ∙ ap (λ (made : Option (List Made)). then_made made path (text image)) kept ∙ ap (λ (p : List ℕ). then_made before p (text image)) same;
 }
 
 -- what holds of a call's failure holds where that is passed on
@@ -58,27 +63,59 @@ pub passed_on : {T : Type 0} (P : Failure → Type 0) (failure : Failure) (r : R
 passed_on P failure (Ok done) passed is = absurd passed
 passed_on P failure (Err other) passed is = subst P (sym passed) is
 
--- a word that spells no number, and an image that can't be written, are no refused shape
-pub spells_none : (matches : ArgMatches) (option : Bor (List ℕ)) (least most : ℕ) (failure : Failure) → SpellsNone matches option least most failure → RefusesShape matches failure
-spells_none matches option least most (NotInRange told word low high) is = tt
-spells_none matches option least most _ is = absurd is.0
+-- the word of an option of a shape spells no number
+pub spells_none : (matches : ArgMatches) (option : Bor (List ℕ)) (failure : Failure) → Contains shape_options option.now → SpellsNone matches option 0 4294967295 failure → RefusesShape matches failure
+spells_none matches option (NotInRange told word least most) asked is =
+    subst (λ (o : Bor (List ℕ)). Contains shape_options o.now × SpellsNone matches o 0 4294967295 (NotInRange told word least most)) (sym is.0.0) (asked, is)
+spells_none matches option _ asked is = absurd is.0
 
-unwritten_shape : (matches : ArgMatches) (path : Bor (List ℕ)) (failure : Failure) → IsUnwritten path failure → RefusesShape matches failure
-unwritten_shape matches path (CannotWrite told cause) is = tt
-unwritten_shape matches path NoMemory is = tt
-unwritten_shape matches path _ is = absurd is
+-- there is no shape
+pub format_of_shape : (matches : ArgMatches) (path : List ℕ) (failure : Failure) → RefusesShape matches failure → FormatFails matches path failure
+format_of_shape matches path (CannotWrite told cause) is = absurd is
+format_of_shape matches path NoMemory is = absurd is
+format_of_shape matches path _ is = is
 
-pub shape_of_writing : {T : Type 0} (matches : ArgMatches) (path : Bor (List ℕ)) (result : Result T Failure) → IfErr result (IsUnwritten path) → IfErr result (RefusesShape matches)
-shape_of_writing matches path (Ok done) is = tt
-shape_of_writing matches path (Err failure) is = unwritten_shape matches path failure is
+-- the image can't be written
+module _ (path : Bor (List ℕ)) (named : List ℕ) (is_named : path.now ≡ named) where
+  same_name : (told : Bor (List ℕ)) → told ≡ path → told.now ≡ named
+  same_name told is = ap (λ (b : Bor (List ℕ)). b.now) is ∙ is_named
 
--- nor is that a refused image
-unwritten_image : (path : Bor (List ℕ)) (known : Option (List ℕ)) (failure : Failure) → IsUnwritten path failure → IfSome known (RefusesImage failure)
-unwritten_image path None failure is = tt
-unwritten_image path (Some bytes) (CannotWrite told cause) is = tt
-unwritten_image path (Some bytes) NoMemory is = tt
-unwritten_image path (Some bytes) _ is = absurd is
+  unwritten_format : (matches : ArgMatches) (failure : Failure) → IsUnwritten path failure → FormatFails matches named failure
+  unwritten_format matches (CannotWrite told cause) is = same_name told is
+  unwritten_format matches NoMemory is = tt
+  unwritten_format matches _ is = absurd is
 
-pub image_of_writing : {T : Type 0} (path : Bor (List ℕ)) (known : Option (List ℕ)) (result : Result T Failure) → IfErr result (IsUnwritten path) → IfErr result (λ failure. IfSome known (RefusesImage failure))
-image_of_writing path known (Ok done) is = tt
-image_of_writing path known (Err failure) is = unwritten_image path known failure is
+  pub format_of_writing : {T : Type 0} (matches : ArgMatches) (result : Result T Failure) → IfErr result (IsUnwritten path) → IfErr result (FormatFails matches named)
+  format_of_writing matches (Ok done) is = tt
+  format_of_writing matches (Err failure) is = unwritten_format matches failure is
+
+  unwritten_upgrade : (reads : Type 0) (known : Option (List ℕ)) (failure : Failure) → IsUnwritten path failure → UpgradeFails reads known named failure
+  unwritten_upgrade reads known (CannotWrite told cause) is = same_name told is
+  unwritten_upgrade reads known NoMemory is = tt
+  unwritten_upgrade reads known _ is = absurd is
+
+  pub upgrade_of_writing : {T : Type 0} (reads : Type 0) (known : Option (List ℕ)) (result : Result T Failure) → IfErr result (IsUnwritten path) → IfErr result (UpgradeFails reads known named)
+  upgrade_of_writing reads known (Ok done) is = tt
+  upgrade_of_writing reads known (Err failure) is = unwritten_upgrade reads known failure is
+
+-- the image can't be read
+pub unread : (reads : Type 0) (known : Option (List ℕ)) (path : Bor (List ℕ)) (failure : Failure) → IsUnread path failure → LoadingFails reads known path.now failure
+unread reads known path (CannotRead told cause) is = ap (λ (b : Bor (List ℕ)). b.now) is
+unread reads known path NoMemory is = tt
+unread reads known path _ is = absurd is
+
+-- its bytes have a fault
+at_fault : (known : Option (List ℕ)) (rest : List ℕ) (fault : LoadFault) → IfSome known (λ bytes. rest ≡ bytes) → namespace_in rest ≡ Err fault → IfSome known (λ bytes. namespace_in bytes ≡ Err fault)
+at_fault None rest fault is found = tt
+at_fault (Some bytes) rest fault is found = ap namespace_in (sym is) ∙ found
+
+pub told : (reads wanted : Type 0) (known : Option (List ℕ)) (path : Bor (List ℕ)) (rest : List ℕ) (fault : LoadFault) → (reads → IfSome known (λ bytes. rest ≡ bytes))
+    → (reads → LoadFails wanted fault (namespace_in rest)) → LoadingFails reads known path.now (told_of_image path fault)
+told reads wanted known path rest Stream bytes fails = refl
+told reads wanted known path rest Memory bytes fails = tt
+told reads wanted known path rest fault bytes fails = (refl, λ read. at_fault known rest fault (bytes read) (fails read))
+
+-- it isn't loaded
+pub upgrade_of_loading : (reads : Type 0) (known : Option (List ℕ)) (path : List ℕ) (failure : Failure) → LoadingFails reads known path failure → UpgradeFails reads known path failure
+upgrade_of_loading reads known path (CannotWrite told cause) is = absurd is
+upgrade_of_loading reads known path _ is = is

@@ -18,15 +18,16 @@ pub record IsAskedFor (matches : ArgMatches) (s : Shape) : Type 0 where
   pub active_limit : number_of matches (codes "active") ≡ Some s.limits.active_limit
 
 -- the file is made anew of a namespace of the shape that is asked for, which passes the tests, and of which nothing is
--- written
-pub record MakesEmpty (matches : ArgMatches) (path : List ℕ) (before after : Option (List Made)) : Type 0 where
+-- written, where what is written of it is told
+pub record MakesEmpty (writes : Type 0) (matches : ArgMatches) (path : List ℕ) (before after : Option (List Made)) : Type 0 where
   pub shape : Shape
   pub asked : IsAskedFor matches shape
   pub passes : tested shape ≡ Ok shape
-  pub made : after ≡ then_made before path (text (all_empty shape))
+  pub made : writes → after ≡ then_made before path (text (all_empty shape))
 
--- the file is made anew of a namespace: where its bytes and what is read of it are told, of the one that they stand for
-pub record MakesAnew (reads : Type 0) (bytes : Option (List ℕ)) (path : List ℕ) (before after : Option (List Made)) : Type 0 where
+-- the file is made anew of a namespace, where what is written of it is told: where its bytes and what is read of it are
+-- told, of the one that they stand for
+pub record MakesAnew (reads writes : Type 0) (bytes : Option (List ℕ)) (path : List ℕ) (before after : Option (List Made)) : Type 0 where
   pub namespace : ZonedNamespace
   pub held : reads → IfSome bytes (λ bytes. namespace_in bytes ≡ Ok namespace)
-  pub made : after ≡ then_made before path (text namespace)
+  pub made : writes → after ≡ then_made before path (text namespace)

@@ -1,12 +1,18 @@
--- What the user is told of numbers that are no geometry, and of files that are no images (profile).
-use Rattle.std.specs.Prelude.{ℕ, ◌≡◌, List, Err}
+-- What the user is told of an image that isn't made or loaded (profile).
+use Rattle.std.specs.Prelude.{ℕ, ◌≡◌, List, [], ◌∷◌, codes, Option, IfSome, Err}
+use Rattle.std.specs.List.{Contains}
 use Rattle.clap.specs.declared.parser.matches.ArgMatches.{ArgMatches}
 use Rattle.image_store.specs.Geometry.{Shape, tested}
 use Rattle.image_store.specs.Reading.{namespace_in}
 use Rattle.image_store.specs.declared.geometry.GeometryRefusal.{GeometryRefusal}
 use Rattle.command_failure.specs.declared.failure.Failure.{Failure}
-use Rattle.command_failure.specs.declared.failure.Failure.TheVariants.{GeometryRefused, ImageRefused}
+use Rattle.command_failure.specs.declared.failure.Failure.TheVariants.{NotInRange, CannotRead, CannotWrite, NoMemory, GeometryRefused, ImageRefused}
+use Rattle.command_files.specs.UserTold.{SpellsNone}
 use Rattle.command_images.specs.Images.{IsAskedFor}
+
+-- the options that give the numbers of a shape
+abbrev pub shape_options : List (List ℕ)
+shape_options = codes "block" ∷ codes "zones" ∷ codes "size" ∷ codes "capacity" ∷ codes "open" ∷ codes "active" ∷ []
 
 -- of the shape that the options ask for, the first test that it fails is told, with its numbers
 pub record FailsTest (matches : ArgMatches) (refusal : GeometryRefusal) : Type 0 where
@@ -14,12 +20,29 @@ pub record FailsTest (matches : ArgMatches) (refusal : GeometryRefusal) : Type 0
   pub asked : IsAskedFor matches shape
   pub fails : tested shape ≡ Err refusal
 
--- numbers are refused for this
+-- why there is no shape: the word of one of these options spells no number of 32 bits, or the shape fails a test, and
+-- nothing else
 abbrev pub RefusesShape : ArgMatches → Failure → Type 0
+RefusesShape matches (NotInRange option word least most) =
+    Contains shape_options option.now × SpellsNone matches option 0 4294967295 (NotInRange option word least most)
 RefusesShape matches (GeometryRefused refusal) = FailsTest matches refusal
-RefusesShape matches failure = Unit {0}
+RefusesShape matches _ = ⊥
 
--- an image is refused for the first fault of the bytes
-abbrev pub RefusesImage : Failure → List ℕ → Type 0
-RefusesImage (ImageRefused path fault) bytes = namespace_in bytes ≡ Err fault
-RefusesImage failure bytes = Unit {0}
+-- why `format` makes no image: that, a file that can't be written, or want of memory, and nothing else
+abbrev pub FormatFails : ArgMatches → List ℕ → Failure → Type 0
+FormatFails matches path (CannotWrite told cause) = told.now ≡ path
+FormatFails matches path NoMemory = Unit {0}
+FormatFails matches path failure = RefusesShape matches failure
+
+-- why an image isn't loaded: the first fault of the file's bytes, where these and what is read of them are told, a file
+-- that can't be read, or want of memory, and nothing else
+abbrev pub LoadingFails : Type 0 → Option (List ℕ) → List ℕ → Failure → Type 0
+LoadingFails reads bytes path (ImageRefused told fault) = (told.now ≡ path) × (reads → IfSome bytes (λ bytes. namespace_in bytes ≡ Err fault))
+LoadingFails reads bytes path (CannotRead told cause) = told.now ≡ path
+LoadingFails reads bytes path NoMemory = Unit {0}
+LoadingFails reads bytes path _ = ⊥
+
+-- why `upgrade` makes none: that, or a file that can't be written, and nothing else
+abbrev pub UpgradeFails : Type 0 → Option (List ℕ) → List ℕ → Failure → Type 0
+UpgradeFails reads bytes path (CannotWrite told cause) = told.now ≡ path
+UpgradeFails reads bytes path failure = LoadingFails reads bytes path failure

@@ -1,11 +1,11 @@
 //! The command `format`: a new image.
 
-ghost use Rattle.std.specs.Prelude.{◌≡◌, codes, IfErr, IfOk, OnOk, OnErr};
+ghost use Rattle.std.specs.Prelude.{◌≡◌, IfErr, IfOk, OnOk, OnErr};
 ghost use Rattle.command_files.specs.Arguments.{value_of};
 ghost use Rattle.command_files.specs.Made.{MakesOne};
 ghost use Rattle.image_store.specs.Geometry.{tested};
 ghost use Rattle.command_images.specs.Images.{IsAskedFor, MakesEmpty};
-ghost use Rattle.command_images.specs.UserTold.{RefusesShape};
+ghost use Rattle.command_images.specs.UserTold.{FormatFails, RefusesShape};
 
 use crate::image_file::{self, IMAGE};
 use clap::{Arg, ArgMatches, Command};
@@ -92,9 +92,9 @@ pub fn format<'a, F: Files>(
     matches: &ArgMatches<'a>,
     files: &mut F,
 ) -> Result<(), Failure<'a>>
-    ensures empty { OnOk result (F.Writer.tells → MakesEmpty matches.now (value_of matches.now (codes "IMAGE")) (F.made files.old) (F.made files.new)) }
-    ensures refused { IfErr result (RefusesShape matches.now) }
-    ensures made { OnOk result (MakesOne (value_of matches.now (codes "IMAGE")) (F.made files.old) (F.made files.new)) }
+    ensures empty { OnOk result (MakesEmpty F.Writer.tells matches.now (value_of matches.now IMAGE.now) (F.made files.old) (F.made files.new)) }
+    ensures failed { IfErr result (FormatFails matches.now (value_of matches.now IMAGE.now)) }
+    ensures made { OnOk result (MakesOne (value_of matches.now IMAGE.now) (F.made files.old) (F.made files.new)) }
     ensures kept { OnErr result (F.made files.new ≡ F.made files.old) }
 {
     let geometry = geometry(matches)?;
@@ -102,7 +102,7 @@ pub fn format<'a, F: Files>(
     image_file::save(&image, required(matches, IMAGE), files)
 }
 
-/// The geometry that the options spell.
+/// The geometry that the options spell, or what the user is told of these numbers.
 fn geometry<'a>(matches: &ArgMatches<'a>) -> Result<Geometry, Failure<'a>>
     ensures asked { IfOk result (λ shape. IsAskedFor matches.now shape) }
     ensures passes { IfOk result (λ shape. tested shape ≡ Ok shape) }

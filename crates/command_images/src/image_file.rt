@@ -5,7 +5,7 @@ ghost use Rattle.image_store.specs.Reading.{namespace_in};
 ghost use Rattle.image_store.specs.Text.{text};
 ghost use Rattle.command_files.specs.Made.{MakesOne, then_made};
 ghost use Rattle.command_files.specs.UserTold.{IsUnwritten};
-ghost use Rattle.command_images.specs.UserTold.{RefusesImage};
+ghost use Rattle.command_images.specs.UserTold.{LoadingFails};
 ghost use Rattle.command_images.specs.steps.Told.{told_of_image};
 
 use command_failure::{Failure, FileCause};
@@ -25,7 +25,7 @@ pub fn load<'a, F: Files>(alloc: Global, path: &'a str, files: &mut F) -> Result
     ensures made { F.made files.new ≡ F.made files.old }
     ensures contents { F.contents files.new ≡ F.contents files.old }
     ensures image { F.Reader.tells → IfOk result (λ image. IfSome (F.contents files.old path.now) (λ bytes. namespace_in bytes ≡ Ok image)) }
-    ensures refused { F.Reader.tells → IfErr result (λ failure. IfSome (F.contents files.old path.now) (RefusesImage failure)) }
+    ensures failed { IfErr result (LoadingFails F.Reader.tells (F.contents files.old path.now) path.now) }
     ensures not_printing { result ≢ Err Failure.CannotPrint }
 {
     let mut file = match files.open(path) {

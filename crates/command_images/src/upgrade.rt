@@ -1,10 +1,10 @@
 //! The command `upgrade`: an image in the last version.
 
-ghost use Rattle.std.specs.Prelude.{◌≡◌, codes, IfErr, IfSome, OnOk, OnErr};
+ghost use Rattle.std.specs.Prelude.{◌≡◌, IfErr, OnOk, OnErr};
 ghost use Rattle.command_files.specs.Arguments.{value_of};
 ghost use Rattle.command_files.specs.Made.{MakesOne};
 ghost use Rattle.command_images.specs.Images.{MakesAnew};
-ghost use Rattle.command_images.specs.UserTold.{RefusesImage};
+ghost use Rattle.command_images.specs.UserTold.{UpgradeFails};
 
 use crate::image_file::{self, IMAGE};
 use clap::{Arg, ArgMatches, Command};
@@ -56,9 +56,9 @@ pub fn upgrade<'a, F: Files>(
     matches: &ArgMatches<'a>,
     files: &mut F,
 ) -> Result<(), Failure<'a>>
-    ensures same { OnOk result (F.Writer.tells → MakesAnew F.Reader.tells (F.contents files.old (value_of matches.now (codes "IMAGE"))) (value_of matches.now (codes "IMAGE")) (F.made files.old) (F.made files.new)) }
-    ensures refused { F.Reader.tells → IfErr result (λ failure. IfSome (F.contents files.old (value_of matches.now (codes "IMAGE"))) (RefusesImage failure)) }
-    ensures made { OnOk result (MakesOne (value_of matches.now (codes "IMAGE")) (F.made files.old) (F.made files.new)) }
+    ensures same { OnOk result (MakesAnew F.Reader.tells F.Writer.tells (F.contents files.old (value_of matches.now IMAGE.now)) (value_of matches.now IMAGE.now) (F.made files.old) (F.made files.new)) }
+    ensures failed { IfErr result (UpgradeFails F.Reader.tells (F.contents files.old (value_of matches.now IMAGE.now)) (value_of matches.now IMAGE.now)) }
+    ensures made { OnOk result (MakesOne (value_of matches.now IMAGE.now) (F.made files.old) (F.made files.new)) }
     ensures kept { OnErr result (F.made files.new ≡ F.made files.old) }
 {
     let path = required(matches, IMAGE);

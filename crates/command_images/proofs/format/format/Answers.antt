@@ -1,4 +1,5 @@
-use Rattle.command_images.proofs.Making.{makes_empty, shape_of_writing}
+use Rattle.command_images.specs.UserTold.{FormatFails}
+use Rattle.command_images.proofs.Making.{format_of_shape, format_of_writing, makes_empty, passed_on}
 use Rattle.command_images.proofs.format.format.Goals as goal
 
 pub returns-clause-empty : goal.returns-clause-empty
@@ -7,5 +8,9 @@ returns-clause-empty g c =
     c.in_ok-geometry.ensures.passes c.in_ok-image.ensures c.required.ensures
     c.save.ensures.saved
 
-pub returns-clause-refused : goal.returns-clause-refused
-returns-clause-refused g c = shape_of_writing c.args.matches.now c.required.result c.save.result c.save.ensures.unwritten
+pub returns-in_err-geometry-clause-failed : goal.returns-in_err-geometry-clause-failed
+returns-in_err-geometry-clause-failed g c =
+    passed_on (FormatFails c.args.matches.now _) _ c.from_residual.result c.from_residual.ensures.1 (format_of_shape c.args.matches.now _ _ c.in_err-geometry.ensures.refused)
+
+pub returns-clause-failed : goal.returns-clause-failed
+returns-clause-failed g c = format_of_writing c.required.result _ c.required.ensures c.args.matches.now c.save.result c.save.ensures.unwritten
