@@ -58,6 +58,7 @@ pub fn save<'a, F: Files>(image: &Image, path: &'a str, files: &mut F) -> Result
     ensures saved { OnOk result (F.Writer.tells → F.made files.new ≡ then_made (F.made files.old) path.now (text image.now)) }
     ensures made { OnOk result (MakesOne path.now (F.made files.old) (F.made files.new)) }
     ensures kept { OnErr result (F.made files.new ≡ F.made files.old) }
+    ensures contents { OnErr result (F.contents files.new ≡ F.contents files.old) }
     ensures unwritten { IfErr result (IsUnwritten path.entry) }
     ensures not_printing { result ≢ Err Failure.CannotPrint }
 {

@@ -60,6 +60,7 @@ pub fn upgrade<'a, F: Files>(
     ensures failed { IfErr result (UpgradeFails F.Reader.tells (F.contents files.old (value_of matches.now IMAGE.now)) (value_of matches.now IMAGE.now)) }
     ensures made { OnOk result (MakesOne (value_of matches.now IMAGE.now) (F.made files.old) (F.made files.new)) }
     ensures kept { OnErr result (F.made files.new ≡ F.made files.old) }
+    ensures contents { OnErr result (F.contents files.new ≡ F.contents files.old) }
 {
     let path = required(matches, IMAGE);
     let image = image_file::load(alloc, path, files)?;

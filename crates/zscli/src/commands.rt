@@ -17,7 +17,7 @@ use std::alloc::{AllocError, Global};
 use std::io::Write;
 
 /// Reads the words of a command line, the program's name first, and does the command that they name. At
-/// most one file is made, and none where this fails, but that `exec` saves an image where `out` fails.
+/// most one file is made, and none where this fails for another reason than `out`, where `exec` saves an image.
 ///
 /// # Errors
 ///
