@@ -25,8 +25,8 @@ pub record MakesEmpty (writes : Type 0) (matches : ArgMatches) (path : List ℕ)
   pub passes : tested shape ≡ Ok shape
   pub made : writes → after ≡ then_made before path (text (all_empty shape))
 
--- the file is made anew of a namespace, where what is written of it is told: where its bytes and what is read of it are
--- told, of the one that they stand for
+-- the file is made anew of a namespace, where what is written of it is told: of the one that its bytes stand for, where
+-- these and what is read of them are told
 pub record MakesAnew (reads writes : Type 0) (bytes : Option (List ℕ)) (path : List ℕ) (before after : Option (List Made)) : Type 0 where
   pub namespace : ZonedNamespace
   pub held : reads → IfSome bytes (λ bytes. namespace_in bytes ≡ Ok namespace)
