@@ -109,11 +109,16 @@ at_fault : (known : Option (List ℕ)) (rest : List ℕ) (fault : LoadFault) →
 at_fault None rest fault is found = tt
 at_fault (Some bytes) rest fault is found = ap namespace_in (sym is) ∙ found
 
-pub told : (reads wanted : Type 0) (known : Option (List ℕ)) (path : Bor (List ℕ)) (rest : List ℕ) (fault : LoadFault) → (reads → IfSome known (λ bytes. rest ≡ bytes))
+loading_of_fault : (reads wanted : Type 0) (known : Option (List ℕ)) (path : Bor (List ℕ)) (rest : List ℕ) (fault : LoadFault) → (reads → IfSome known (λ bytes. rest ≡ bytes))
     → (reads → LoadFails wanted fault (namespace_in rest)) → LoadingFails reads known path.now (told_of_image path fault)
-told reads wanted known path rest Stream bytes fails = refl
-told reads wanted known path rest Memory bytes fails = tt
-told reads wanted known path rest fault bytes fails = (refl, λ read. at_fault known rest fault (bytes read) (fails read))
+loading_of_fault reads wanted known path rest Stream bytes fails = refl
+loading_of_fault reads wanted known path rest Memory bytes fails = tt
+loading_of_fault reads wanted known path rest fault bytes fails = (refl, λ read. at_fault known rest fault (bytes read) (fails read))
+
+pub fault_told : (reads wanted : Type 0) (known : Option (List ℕ)) (path : Bor (List ℕ)) (rest : List ℕ) (fault : LoadFault) (failure : Failure) → failure ≡ told_of_image path fault
+    → (reads → IfSome known (λ bytes. rest ≡ bytes)) → (reads → LoadFails wanted fault (namespace_in rest)) → LoadingFails reads known path.now failure
+fault_told reads wanted known path rest fault failure is bytes fails =
+    subst (λ (f : Failure). LoadingFails reads known path.now f) (sym is) (loading_of_fault reads wanted known path rest fault bytes fails)
 
 -- it isn't loaded
 pub upgrade_of_loading : (reads : Type 0) (known : Option (List ℕ)) (path : List ℕ) (failure : Failure) → LoadingFails reads known path failure → UpgradeFails reads known path failure
