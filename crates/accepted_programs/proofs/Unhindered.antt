@@ -15,7 +15,7 @@ use Rattle.instruction_set.specs.declared.operation.SignedSize.TheVariants as si
 use Rattle.instruction_set.specs.declared.operation.Size.{Size}
 use Rattle.instruction_set.specs.declared.operation.Size.TheVariants.{Byte, HalfWord, Word, DoubleWord}
 use Rattle.program_meaning.specs.Cause as machine
-use Rattle.program_meaning.specs.Cause.{causes_of_effect, emits_badly, emits_outside, hinders, is_inside_wide, is_not_writable, is_nowhere, is_outside, is_unwritable, least_cause, next_slot, slot_in}
+use Rattle.program_meaning.specs.Cause.{causes_of_effect, emits_badly, emits_outside, hinders, is_inside_wide, is_not_writable, is_nowhere, is_outside, is_unwritable, least_cause, slot_in}
 use Rattle.program_meaning.specs.Effect.{address_from, operand, register}
 use Rattle.program_meaning.specs.Memory.{lies_in, area_offset_of}
 use Rattle.program_interface.specs.Area.{address_of, length_of}

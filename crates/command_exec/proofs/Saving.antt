@@ -18,7 +18,7 @@ use Rattle.runner.specs.declared.device.Stopped.{Stopped}
 use Rattle.event_text.specs.CommandFile.{events_in, told_of}
 use Rattle.event_text.specs.Lines.{reply_line}
 use Rattle.command_files.specs.Made.{Made, then_made}
-use Rattle.command_exec.specs.Saved.{AreInFiles, Executes, ExecutesFirst, HasBegun, HasPrinted, InEvents, InTurns, SavesAll, SavesFirst, Untold}
+use Rattle.command_exec.specs.Saved.{AreInFiles, Executes, ExecutesFirst, HasBegun, HasPrinted, InEvents, InTurns, SavesAll, SavesFirst}
 
 pub on_err : {T E fact : Type 0} (result : Result T E) → fact → OnErr result fact
 on_err (Ok value) holds = tt

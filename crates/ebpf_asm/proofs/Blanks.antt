@@ -1,7 +1,7 @@
 -- Blanks around a line, and a comment behind it, change nothing.
-use Rattle.std.proofs.Common.{◌≡◌, ℕ, ◌+◌, ◌==◌, suc, not, Bool, true, false, ◌&&◌, cond, List, [], ◌∷◌, ◌++◌, take, None, Err, refl, sym, ap, ◌∙◌, arith}
+use Rattle.std.proofs.Common.{◌≡◌, ℕ, ◌+◌, ◌==◌, Bool, true, false, ◌&&◌, cond, List, [], ◌∷◌, ◌++◌, None, Err, refl, sym, ap, ◌∙◌}
 use Rattle.std.specs.Char.{is_ascii}
-use Rattle.std.specs.List.{list_all, position_or_len}
+use Rattle.std.specs.List.{list_all}
 use Rattle.std.proofs.lemmas.List.Folds.{list_all-append}
 use Rattle.std.proofs.lemmas.List.Sums.{list_all-from_AllPass}
 use Rattle.text_lines.specs.Cut.{is_blank_byte, trimmed, uncommented, without_end_blanks, without_first_blanks}

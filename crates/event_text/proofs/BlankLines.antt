@@ -1,13 +1,11 @@
 -- Blanks and comments tell nothing.
-use Rattle.std.proofs.Common.{◌≡◌, ℕ, ◌-◌, ◌+◌, ◌<◌, ◌==◌, suc, zero, not, Bool, true, false, cond, List, [], ◌∷◌, ◌++◌, length, take, get_or, Some, None, refl, sym, ap, ◌∙◌, append-nil, arith, length-append, inl, inr}
-use Rattle.std.specs.List.{All, AllPass, list_all, position_or_len}
+use Rattle.std.proofs.Common.{◌≡◌, ℕ, ◌-◌, ◌+◌, ◌==◌, suc, zero, not, Bool, true, false, cond, List, [], ◌∷◌, ◌++◌, length, take, get_or, Some, None, refl, ap, ◌∙◌, append-nil, arith, inl, inr}
+use Rattle.std.specs.List.{AllPass, list_all}
 use Rattle.std.specs.Char.{is_ascii}
-use Rattle.std.proofs.Math.Seq.{take-append_seam, take-append-le, take-append-add, get_or-append_seam}
-use Rattle.std.proofs.lemmas.Bool.{not-true}
+use Rattle.std.proofs.Math.Seq.{take-append-le, take-append-add}
 use Rattle.std.proofs.lemmas.Bool.Decides.{leb_tells, nat_tests}
-use Rattle.std.proofs.lemmas.List.{get_or_append_left}
 use Rattle.std.proofs.lemmas.List.Elements.{All-append, All-cons, All-from_recursion, All-head, All-nil, All-tail, All-take, All-weaker}
-use Rattle.std.proofs.lemmas.List.Sums.{list_all-from_AllPass, position_or_len_is}
+use Rattle.std.proofs.lemmas.List.Sums.{list_all-from_AllPass}
 use Rattle.text_lines.specs.Cut.{is_blank_byte, uncommented}
 use Rattle.text_lines.proofs.Proved.{ascii_behind, blank_is_ascii, blank_is_code, uncommented-comment}
 use Rattle.event_text.specs.CommandFile.{line_told, words_told}

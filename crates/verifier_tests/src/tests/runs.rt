@@ -8,6 +8,7 @@ use program_meaning::End;
 use std::alloc::Global;
 use std::process::Abort;
 use std::test::Fail;
+use test_inputs::numbers::Numbers;
 use test_inputs::programs::{
     ADDING_THREE, BOUNDED, GROWING, INDEXED, INDEXED_TWO, MATCHING, RETURNING, TWO_FRAMES, Text,
 };
