@@ -19,7 +19,7 @@ use interval_domain::Intervals;
 use program_interface::RunSizes;
 use std::alloc::{AllocError, Global};
 use std::io::{self, Write};
-use verifier::{Judgement, Refused, judge};
+use verifier::{Judgement, judge};
 
 /// The command's name.
 pub const NAME: &str = "verify";
@@ -98,7 +98,7 @@ pub fn verify<'a, F: Files, O: Write>(
             let explained = matches.get_flag(EXPLAIN).then_some(most_emitted);
             printed(print_accepted(instructions, explained, out))
         }
-        Judgement::Refused(Refused { refusal, facts }) => {
+        Judgement::Refused(verifier::Refused { refusal, facts }) => {
             printed(print_refused(refusal, out))?;
             if matches.get_flag(EXPLAIN) {
                 explain_refused(alloc, &program, sizes, refusal, &*facts, out)?;
