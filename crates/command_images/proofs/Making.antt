@@ -1,24 +1,20 @@
 -- What is known of the images that commands make.
-use Rattle.std.proofs.Common.{◌≡◌, ℕ, List, Option, Some, None, Result, Ok, Err, OnOk, IfErr, IsErrAnd, IfSome, ap, refl, sym, subst, ◌∙◌}
+use Rattle.std.proofs.Common.{◌≡◌, ℕ, List, Option, Some, None, Result, Ok, Err, OnOk, IfErr, IsErrAnd, IfSome, ap, sym, subst, ◌∙◌}
 use Rattle.std.specs.Borrow.{Bor}
 use Rattle.std.specs.List.{Contains}
 use Rattle.clap.specs.declared.parser.matches.ArgMatches.{ArgMatches}
 use Rattle.image_store.specs.Geometry.{Shape, shape_checks, tested}
-use Rattle.image_store.specs.Loading.{LoadFails}
 use Rattle.image_store.specs.Namespace.{ZonedNamespace, all_empty}
 use Rattle.image_store.specs.Reading.{namespace_in}
 use Rattle.image_store.specs.Text.{text}
-use Rattle.image_store.specs.declared.fault.LoadFault.{LoadFault}
-use Rattle.image_store.specs.declared.fault.LoadFault.TheVariants.{Stream, Memory}
 use Rattle.image_store.specs.declared.geometry.GeometryRefusal.{GeometryRefusal}
 use Rattle.zone_state.specs.Checks.{first_failed, unless_failed}
 use Rattle.command_failure.specs.declared.failure.Failure.{Failure}
-use Rattle.command_failure.specs.declared.failure.Failure.TheVariants.{CannotRead, CannotWrite, NoMemory, NotInRange}
+use Rattle.command_failure.specs.declared.failure.Failure.TheVariants.{CannotWrite, NoMemory, NotInRange}
 use Rattle.command_files.specs.Made.{Made, then_made}
-use Rattle.command_files.specs.UserTold.{IsUnread, IsUnwritten, SpellsNone}
+use Rattle.command_files.specs.UserTold.{IsUnwritten, SpellsNone}
 use Rattle.command_images.specs.Images.{IsAskedFor, MakesEmpty, MakesAnew}
 use Rattle.command_images.specs.UserTold.{FormatFails, LoadingFails, RefusesShape, UpgradeFails, shape_options}
-use Rattle.command_images.specs.steps.Told.{told_of_image}
 
 passed : (failed : Option GeometryRefusal) (s g : Shape) → Ok g ≡ unless_failed failed s → s ≡ g
 passed None s g is = cc
@@ -97,28 +93,6 @@ module _ (path : Bor (List ℕ)) (named : List ℕ) (is_named : path.now ≡ nam
   pub upgrade_of_writing : {T : Type 0} (reads : Type 0) (known : Option (List ℕ)) (result : Result T Failure) → IfErr result (IsUnwritten path) → IfErr result (UpgradeFails reads known named)
   upgrade_of_writing reads known (Ok done) is = tt
   upgrade_of_writing reads known (Err failure) is = unwritten_upgrade reads known failure is
-
--- the image can't be read
-pub unread : (reads : Type 0) (known : Option (List ℕ)) (path : Bor (List ℕ)) (failure : Failure) → IsUnread path failure → LoadingFails reads known path.now failure
-unread reads known path (CannotRead told cause) is = ap (λ (b : Bor (List ℕ)). b.now) is
-unread reads known path NoMemory is = tt
-unread reads known path _ is = absurd is
-
--- its bytes have a fault
-at_fault : (known : Option (List ℕ)) (rest : List ℕ) (fault : LoadFault) → IfSome known (λ bytes. rest ≡ bytes) → namespace_in rest ≡ Err fault → IfSome known (λ bytes. namespace_in bytes ≡ Err fault)
-at_fault None rest fault is found = tt
-at_fault (Some bytes) rest fault is found = ap namespace_in (sym is) ∙ found
-
-loading_of_fault : (reads wanted : Type 0) (known : Option (List ℕ)) (path : Bor (List ℕ)) (rest : List ℕ) (fault : LoadFault) → (reads → IfSome known (λ bytes. rest ≡ bytes))
-    → (reads → LoadFails wanted fault (namespace_in rest)) → LoadingFails reads known path.now (told_of_image path fault)
-loading_of_fault reads wanted known path rest Stream bytes fails = refl
-loading_of_fault reads wanted known path rest Memory bytes fails = tt
-loading_of_fault reads wanted known path rest fault bytes fails = (refl, λ read. at_fault known rest fault (bytes read) (fails read))
-
-pub fault_told : (reads wanted : Type 0) (known : Option (List ℕ)) (path : Bor (List ℕ)) (rest : List ℕ) (fault : LoadFault) (failure : Failure) → failure ≡ told_of_image path fault
-    → (reads → IfSome known (λ bytes. rest ≡ bytes)) → (reads → LoadFails wanted fault (namespace_in rest)) → LoadingFails reads known path.now failure
-fault_told reads wanted known path rest fault failure is bytes fails =
-    subst (λ (f : Failure). LoadingFails reads known path.now f) (sym is) (loading_of_fault reads wanted known path rest fault bytes fails)
 
 -- it isn't loaded
 pub upgrade_of_loading : (reads : Type 0) (known : Option (List ℕ)) (path : List ℕ) (failure : Failure) → LoadingFails reads known path failure → UpgradeFails reads known path failure
