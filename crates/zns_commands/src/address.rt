@@ -51,11 +51,7 @@ pub fn first_block(image: &Image, lba: u64, blocks: BlockCount) -> Result<ZoneBl
 /// # Errors
 ///
 /// [`Status::ZONE_BOUNDARY_ERROR`] where they go on into another zone.
-pub fn check_within_zone(
-    image: &Image,
-    first: ZoneBlock,
-    blocks: BlockCount,
-) -> Result<(), Status>
+pub fn check_within_zone(image: &Image, first: ZoneBlock, blocks: BlockCount) -> Result<(), Status>
     ensures { why_not result ≡ boundary_check image.now first blocks }
 {
     if u64::from(first.offset) + u64::from(blocks.get()) > u64::from(image.geometry().size()) {
