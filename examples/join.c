@@ -1,4 +1,4 @@
-/* A dictionary: emits the rows whose key is one of 16 at the block's end. A search halves the dictionary without a branch:
+/* A dictionary: emits the records whose key is one of 16 at the block's end. A search halves the dictionary without a branch:
    a difference below 0 has all bits above its low 16.
 
    Record:   32 bytes, 8 at the block's start: a key (u16) at byte 2

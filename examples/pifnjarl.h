@@ -18,7 +18,7 @@ struct context {
     u8 zero[8];
 };
 
-/* Helper 1: adds a frame with these bytes, at least one, to the block's output. */
+/* Helper 1: adds a frame with these bytes, at least one, to what is emitted for the block. */
 static long (*const emit)(const void *address, u64 length) = (void *)1;
 
 /* Emits a field of a record, or another object, whole:

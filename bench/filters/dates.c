@@ -1,4 +1,4 @@
-/* Emits rows whose date, as days, is in the argument's month of 30 days, with a discount worked out. */
+/* Emits records whose date, as days, is in the argument's month of 30 days, with a discount worked out. */
 #include "pifnjarl.h"
 
 long dates(const struct context *context, const u8 *block, u8 *scratch)

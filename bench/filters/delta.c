@@ -1,4 +1,4 @@
-/* Emits the differences of 16 samples of 4 bytes, as 2 bytes each where they all fit. */
+/* Emits the 16 differences of 17 samples of 4 bytes, as 2 bytes each where they all fit. */
 #include "pifnjarl.h"
 
 long delta(const struct context *context, const u8 *block, u8 *scratch)

@@ -1,7 +1,7 @@
-/* Fields of the row that the block names: emits those whose bit the argument has, and leaves their number and the sum of
+/* Fields of the record that the block names: emits those whose bit the argument has, and leaves their number and the sum of
    all four in scratch.
 
-   Record:   64 bytes, 8 in a block: fields of 8 bytes at bytes 8, 16, 24 and 32; the row's number (its low 3 bits) is the
+   Record:   64 bytes, 8 in a block: fields of 8 bytes at bytes 8, 16, 24 and 32; the record's number (its low 3 bits) is the
              block's byte 0
    Block:    512 bytes
    Emit:     40, four records of 8 bytes
