@@ -38,14 +38,26 @@ fn check_refused(rt: &impl Abort, cases: &[([u8; 64], Status)]) {
 fn entries_name_commands_of_blocks(rt: HostRuntime) {
     let blocks = BlockCount::from_zero_based(0);
     let append = StandardCommand::Append { lba: 8, blocks };
-    check_decoded(&rt, &[(0, 0x0001_007D), (1, 1), (10, 8)], Command::Standard(append));
+    check_decoded(
+        &rt,
+        &[(0, 0x0001_007D), (1, 1), (10, 8)],
+        Command::Standard(append),
+    );
     let lba = 0x0000_0002_0000_0008;
     let read = StandardCommand::Read { lba, blocks };
-    check_decoded(&rt, &[(0, 0x0002_0002), (1, 1), (10, 8), (11, 2)], Command::Standard(read));
+    check_decoded(
+        &rt,
+        &[(0, 0x0002_0002), (1, 1), (10, 8), (11, 2)],
+        Command::Standard(read),
+    );
     let blocks = BlockCount::from_zero_based(0xFFFF);
     assert_eq!(rt; blocks.get(), 65536);
     let longest = StandardCommand::Read { lba: 0, blocks };
-    check_decoded(&rt, &[(0, 0x02), (1, 1), (12, 0xFFFF_FFFF)], Command::Standard(longest));
+    check_decoded(
+        &rt,
+        &[(0, 0x02), (1, 1), (12, 0xFFFF_FFFF)],
+        Command::Standard(longest),
+    );
 }
 
 #[test]

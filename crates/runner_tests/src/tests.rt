@@ -129,9 +129,9 @@ const DRAINED: &[Case] = &[
 ];
 
 /// What happens in these steps.
-fn events_of<'a>(alloc: Global, steps: impl Iterator<Item = &'a Step>) -> Result<Vec<Event>, Fail> {
+fn events_of(alloc: Global, steps: &[Case]) -> Result<Vec<Event>, Fail> {
     let mut events = Vec::new(alloc);
-    for step in steps {
+    for (step, _) in steps {
         events.push(step.event(alloc)?)?;
     }
     Ok(events)
@@ -156,8 +156,7 @@ fn replies_are_handed_out_with_their_data(rt: HostRuntime) -> Result<(), Fail> {
     let mut room = room(&rt, alloc);
     let data = room.as_mut_slice();
     let mut served = Kept::new(alloc, usize::MAX);
-    let events = events_of(alloc, SERVED.iter().map(|(step, _)| step))?;
-    device.serve(&events, data, &mut served)?;
+    device.serve(&events_of(alloc, SERVED)?, data, &mut served)?;
     check_kept(&rt, alloc, &served, SERVED)?;
     let mut drained = Kept::new(alloc, usize::MAX);
     device.drain(data, &mut drained)?;

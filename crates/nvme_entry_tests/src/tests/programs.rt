@@ -24,13 +24,21 @@ fn entries_name_runs(rt: HostRuntime) -> Result<(), Fail> {
         argument: 0,
         destination: 8,
     };
-    check_decoded(&rt, &[(0, 0x0007_00C0), (1, 1), (12, 2), (14, 8)], Command::Run(short));
+    check_decoded(
+        &rt,
+        &[(0, 0x0007_00C0), (1, 1), (12, 2), (14, 8)],
+        Command::Run(short),
+    );
     let long = RunCommand {
         blocks: BlockCount::from_zero_based(51),
         destination: 64,
         ..short
     };
-    check_decoded(&rt, &[(0, 0x0001_00C0), (1, 1), (12, 51), (14, 64)], Command::Run(long));
+    check_decoded(
+        &rt,
+        &[(0, 0x0001_00C0), (1, 1), (12, 51), (14, 64)],
+        Command::Run(long),
+    );
     Ok(())
 }
 
@@ -64,7 +72,13 @@ fn entries_name_loads_and_results(rt: HostRuntime) -> Result<(), Fail> {
     for (number, limit, bytes) in loads {
         let slot = ProgramSlot::new(number).ok_or("a slot")?;
         let load = Command::Load(LoadCommand { slot, limit, bytes });
-        let dwords = [(0, 0x0008_00C1), (1, 1), (10, number), (11, limit), (12, bytes)];
+        let dwords = [
+            (0, 0x0008_00C1),
+            (1, 1),
+            (10, number),
+            (11, limit),
+            (12, bytes),
+        ];
         check_decoded(&rt, &dwords, load);
         let dwords = [(0, 0x0009_00C2), (1, 1), (10, number)];
         check_decoded(&rt, &dwords, Command::Result(slot));

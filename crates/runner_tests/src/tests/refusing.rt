@@ -4,7 +4,7 @@ ghost use Rattle.std.specs.Prelude.{◌≡◌, ◌+◌, ◌<◌, ◌≤◌, ◌^
 
 use super::scenes::{EIGHT_ZONES, Zones, device_of, saved};
 use super::steps::Step;
-use super::{Kept, events_of, room};
+use super::{Kept, room};
 use runner::{Device, Event, Out, Reply};
 use std::alloc::Global;
 use std::process::Abort;
@@ -38,6 +38,15 @@ const STEPS: &[Step] = &[
     Step::Load(8, 0, 10, EMITTING),
     Step::Turns(1, 1),
 ];
+
+/// What happens in them.
+fn events(alloc: Global) -> Result<Vec<Event>, Fail> {
+    let mut events = Vec::new(alloc);
+    for step in STEPS {
+        events.push(step.event(alloc)?)?;
+    }
+    Ok(events)
+}
 
 /// Does events and then the turns that are left. An `Err` tells how many of both were done where a reply was refused.
 fn serve_and_drain<O: Out>(
@@ -107,7 +116,7 @@ fn check_refused(
 #[test]
 fn each_reply_is_refused_in_turn(rt: HostRuntime) -> Result<(), Fail> {
     let alloc = rt.alloc();
-    let events = events_of(alloc, STEPS.iter())?;
+    let events = events(alloc)?;
     let whole = all_taken(&rt, alloc, &events)?;
     assert_eq!(rt; whole.out.replies.len(), 14);
     for taken in 0..14 {

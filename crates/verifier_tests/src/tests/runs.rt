@@ -41,7 +41,7 @@ const SCENES: &[(Text, u32, u32, &[u8])] = &[
 fn scatter(block: &mut [u8], first: u8, seed: u64) {
     let mut numbers = Numbers::behind(seed);
     for byte in block.iter_mut() {
-        *byte = (numbers.draw() >> 24) as u8;
+        *byte = numbers.draw().to_be_bytes()[4];
     }
     if !block.is_empty() {
         block[0] = first;
