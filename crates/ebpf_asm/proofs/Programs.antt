@@ -90,12 +90,12 @@ some_slot instruction instructions = by_wide (is_wide instruction)
     by_wide true = omega arith
     by_wide false = omega arith
 
-program : (instructions : List Instruction) (bytes : List ℕ) → AllByRecursion Fits instructions → bytes ≡ flat_map spelling instructions → length (slots_of instructions) ≤ 4096
-    → (bytes ≡ []) ⊎ ((slots : List (Option Instruction)) × IsProgram slots × (bytes ≡ program_bytes slots))
-program [] bytes fits spelled most = inl spelled
-program (instruction ∷ instructions) bytes fits spelled most = inr (
+program : (instructions : List Instruction) (bytes : List ℕ) (slots : ℕ) → AllByRecursion Fits instructions → bytes ≡ flat_map spelling instructions → length (slots_of instructions) ≡ slots → slots ≤ 4096
+    → ((bytes ≡ []) × (slots ≡ 0)) ⊎ ((slots : List (Option Instruction)) × IsProgram slots × (bytes ≡ program_bytes slots))
+program [] bytes slots fits spelled counted most = inl (spelled, sym counted)
+program (instruction ∷ instructions) bytes slots fits spelled counted most = inr (
   slots_of (instruction ∷ instructions),
-  record { instructions = instruction ∷ instructions; layout = refl; fits = fits; some = some_slot instruction instructions; most = most },
+  record { instructions = instruction ∷ instructions; layout = refl; fits = fits; some = some_slot instruction instructions; most = omega (arith, counted, most) },
   spelled ∙ sym (ap (flat_map spelling) (instructions_of-slots_of (instruction ∷ instructions))),
 )
 
@@ -104,4 +104,4 @@ assembled_is_program text bytes e =
     let all = lines_of text in
     let done = no_fault (first_fault [] all) (bytes_from (label_map all) 1 0 all) bytes e in
     let made = spells (label_map all) 1 0 all bytes (lines_fit (lines text)) done.1 in
-    program made.instructions bytes made.fits made.spelled (omega (arith, made.counted, room [] all (omega arith) done.0))
+    program made.instructions bytes (slot_count all) made.fits made.spelled made.counted (room [] all (omega arith) done.0)

@@ -11,7 +11,7 @@ use Rattle.text_lines.specs.Laws.{AreBlanks}
 use Rattle.ebpf_asm.specs.declared.fault.Fault.{Fault}
 use Rattle.ebpf_asm.specs.declared.mnemonic.Mnemonic.{Mnemonic}
 use Rattle.ebpf_asm.specs.Assembled.{AreInOrder}
-use Rattle.ebpf_asm.specs.Assembly.{assembled, lines_of}
+use Rattle.ebpf_asm.specs.Assembly.{assembled, lines_of, slot_count}
 use Rattle.ebpf_asm.specs.Line.{line_of}
 use Rattle.ebpf_asm.specs.LowestFault.{IsLowestFault}
 use Rattle.ebpf_asm.specs.Mnemonic.{mnemonic_text, mnemonic_named}
@@ -46,7 +46,7 @@ ListingsAssemble = (slots : List (Option Instruction)) → IsProgram slots → a
 abbrev pub AssembledIsProgram : Type 0
 AssembledIsProgram =
     (text bytes : List ℕ) → assembled text ≡ Ok bytes
-    → (bytes ≡ []) ⊎ ((slots : List (Option Instruction)) × IsProgram slots × (bytes ≡ program_bytes slots))
+    → ((bytes ≡ []) × (slot_count (lines_of text) ≡ 0)) ⊎ ((slots : List (Option Instruction)) × IsProgram slots × (bytes ≡ program_bytes slots))
 
 -- the bytes of a text are the spellings of its lines' instructions in their order, and a jump to a label leads to the instruction behind that label
 abbrev pub LinesAreInOrder : Type 0
