@@ -78,7 +78,7 @@ extension_suffix Bits8To64 = codes "8"
 extension_suffix Bits16To64 = codes "16"
 extension_suffix Bits32To64 = codes "32"
 
--- the name of a byte swap (RFC 9669, 4.2)
+-- the name of a byte swap (profile)
 abbrev pub swap_name : Swap → List ℕ
 swap_name ToLittle = codes "le"
 swap_name ToBig = codes "be"
