@@ -94,7 +94,7 @@ memory_of text = do
   inside ← inside_brackets text
   read_both (register_of (before_first is_sign_byte inside)) (offset_of (drop (position_or_len is_sign_byte inside) inside))
 
--- a letter or `_`, then letters, digits or `_`
+-- can a label have this byte: a letter, a digit, or `_`?
 abbrev pub is_label_byte : ℕ → Bool
 is_label_byte byte = is_ascii_alphanumeric byte || byte == 95
 
