@@ -9,7 +9,7 @@ use Rattle.std.proofs.lemmas.List.Sums.{list_all-from_AllPass}
 use Rattle.text_lines.specs.Cut.{is_blank_byte, uncommented}
 use Rattle.text_lines.proofs.Proved.{ascii_behind, blank_is_ascii, blank_is_code, uncommented-comment}
 use Rattle.event_text.specs.CommandFile.{line_told, words_told}
-use Rattle.event_text.specs.Laws.{BlanksDontCount, CommentsDontCount, IsComment}
+use Rattle.event_text.specs.Laws.{BlankLinesMakeNoEvent, CommentsDontCount, IsComment}
 use Rattle.event_text.specs.Words.{words_of}
 use Rattle.event_text.proofs.PlainLines.{uncommented-same}
 use Rattle.event_text.proofs.SingleLines.{told_alone}
@@ -75,8 +75,8 @@ comment_in_line : (comment : List ℕ) → IsComment comment → AllPass (λ b. 
 comment_in_line [] is = All-nil (λ b. not (b == 10) ≡ true)
 comment_in_line (first ∷ rest) is = All-cons (λ b. not (b == 10) ≡ true) first rest (ap (λ (b : ℕ). not (b == 10)) is.0) is.2
 
-pub blanks_dont_count : BlanksDontCount
-blanks_dont_count blanks comment end are is =
+pub blank_lines_make_no_event : BlankLinesMakeNoEvent
+blank_lines_make_no_event blanks comment end are is =
     let h = All-from_recursion (λ b. is_blank_byte b ≡ true) blanks are in
     let line = blanks ++ comment in
     let whole : AllPass (λ b. not (b == 10)) line =

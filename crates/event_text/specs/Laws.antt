@@ -49,8 +49,8 @@ IsComment [] = Unit {0}
 IsComment (first ∷ rest) = (first ≡ 59) × AllPass is_ascii rest × AllPass (λ byte. not (byte == 10)) rest
 
 -- a line of blanks and a comment, of which either may be missing, makes no event
-abbrev pub BlanksDontCount : Type 0
-BlanksDontCount =
+abbrev pub BlankLinesMakeNoEvent : Type 0
+BlankLinesMakeNoEvent =
     (blanks comment : List ℕ) (end : LineEnd) → AreBlanks blanks → IsComment comment
     → events_in (blanks ++ comment ++ end_text end) ≡ Ok []
 

@@ -1,6 +1,6 @@
 //! Laws of the events of a command file, and of the lines of replies. Each function does nothing: what it ensures is the law.
 
-ghost use Rattle.event_text.specs.Laws.{BlanksDontCount, CommentsDontCount, EventsAreByLine, FaultsReadBack, LinesTellReplies, SubmissionsReadBack, TurnsReadBack};
+ghost use Rattle.event_text.specs.Laws.{BlankLinesMakeNoEvent, CommentsDontCount, EventsAreByLine, FaultsReadBack, LinesTellReplies, SubmissionsReadBack, TurnsReadBack};
 
 /// The events of two files joined at a line's end are those of both, and the lowest line that is refused is
 /// that of the first, or else that of the second.
@@ -9,8 +9,8 @@ pub fn events_are_by_line()
 {}
 
 /// A line of blanks and a comment, of which either may be missing, makes no event.
-pub fn blanks_dont_count()
-    ensures { BlanksDontCount }
+pub fn blank_lines_make_no_event()
+    ensures { BlankLinesMakeNoEvent }
 {}
 
 /// A comment behind a line changes nothing of what the line tells.
