@@ -19,6 +19,7 @@ use Rattle.ebpf_asm.specs.declared.fault.FaultKind.TheVariants.{Operand}
 use Rattle.program_interface.specs.Readings.{◌>>=◌}
 use Rattle.ebpf_asm.specs.Fault.{read_both}
 use Rattle.ebpf_asm.specs.Operand.{register_of, immediate_of, source_of, signed_of, short_of, long_of, offset_of, memory_of, distance_of, label_of, is_label_name, is_sign_byte, inside_brackets}
+use Rattle.ebpf_asm.specs.Laws.{LongDistancesReadBack, ShortDistancesReadBack}
 use Rattle.ebpf_asm.specs.Listing.{register_text, signed_text, source_text, memory_text}
 use Rattle.ebpf_asm.proofs.Round.{register_again, magnitude_again, immediate_again}
 
@@ -77,6 +78,12 @@ unfolding distance_of
 distance_again in_field z small fits =
     ap (λ b. cond b (signed_of (signed_text z) >>= in_field) (cond (is_label_name (signed_text z)) (Ok (pos 0)) (Err Operand))) (ap (λ t. is_sign_byte (get_or t 0 0)) (signed_text-parts z) ∙ sign_is_sign z)
     ∙ ap (λ r. r >>= in_field) (signed_again z small) ∙ fits
+
+pub short_distance_again : ShortDistancesReadBack
+short_distance_again z fits = distance_again short_of z (omega (arith, fits.sfits)) (short_again z fits)
+
+pub long_distance_again : LongDistancesReadBack
+long_distance_again z fits = distance_again long_of z (omega (arith, fits.sfits)) (long_again z fits)
 
 pub offset_again : (z : ℤ) → FitsSigned w16 z → offset_of (signed_text z) ≡ Ok z
 unfolding offset_of

@@ -15,8 +15,8 @@ use Rattle.ebpf_asm.specs.Assembly.{assembled, lines_of, slot_count}
 use Rattle.ebpf_asm.specs.Line.{line_of}
 use Rattle.ebpf_asm.specs.LowestFault.{IsLowestFault}
 use Rattle.ebpf_asm.specs.Mnemonic.{mnemonic_text, mnemonic_named}
-use Rattle.ebpf_asm.specs.Operand.{register_of, immediate_of, wide_of, memory_of}
-use Rattle.ebpf_asm.specs.Listing.{register_text, wide_text, memory_text, listing}
+use Rattle.ebpf_asm.specs.Operand.{register_of, immediate_of, wide_of, memory_of, distance_of, short_of, long_of}
+use Rattle.ebpf_asm.specs.Listing.{register_text, signed_text, wide_text, memory_text, listing}
 
 -- the text of each mnemonic is that mnemonic's and no other's
 abbrev pub MnemonicsReadBack : Type 0
@@ -37,6 +37,14 @@ WideValuesReadBack = (value : ℕ) → value < 2 ^ 64 → wide_of (wide_text val
 -- each memory operand is read as it is listed
 abbrev pub MemoryOperandsReadBack : Type 0
 MemoryOperandsReadBack = (base : ℕ) (offset : ℤ) → base < 11 → FitsSigned w16 offset → memory_of (memory_text base offset) ≡ Ok (base, offset)
+
+-- each distance of 16 bits is read as it is listed
+abbrev pub ShortDistancesReadBack : Type 0
+ShortDistancesReadBack = (distance : ℤ) → FitsSigned w16 distance → distance_of short_of (signed_text distance) ≡ Ok distance
+
+-- and each of 32 bits
+abbrev pub LongDistancesReadBack : Type 0
+LongDistancesReadBack = (distance : ℤ) → FitsSigned w32 distance → distance_of long_of (signed_text distance) ≡ Ok distance
 
 -- the listing of a program assembles to its bytes
 abbrev pub ListingsAssemble : Type 0

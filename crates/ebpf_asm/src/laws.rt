@@ -1,6 +1,6 @@
 //! Laws of assembly text. Each function does nothing: what it ensures is the law.
 
-ghost use Rattle.ebpf_asm.specs.Laws.{MnemonicsReadBack, RegistersReadBack, ImmediatesReadBack, WideValuesReadBack, MemoryOperandsReadBack, ListingsAssemble, AssembledIsProgram, LinesAreInOrder, FaultIsLowest, BlanksDontCount, CommentsDontCount};
+ghost use Rattle.ebpf_asm.specs.Laws.{MnemonicsReadBack, RegistersReadBack, ImmediatesReadBack, WideValuesReadBack, MemoryOperandsReadBack, ShortDistancesReadBack, LongDistancesReadBack, ListingsAssemble, AssembledIsProgram, LinesAreInOrder, FaultIsLowest, BlanksDontCount, CommentsDontCount};
 
 /// What a text assembles to is nothing, where it has no instructions, or the bytes of a program.
 pub fn assembled_is_program()
@@ -45,6 +45,12 @@ pub fn wide_values_read_back()
 /// Each memory operand is read as it is listed.
 pub fn memory_operands_read_back()
     ensures { MemoryOperandsReadBack }
+{}
+
+/// Each distance is read as it is listed, one of 16 bits and one of 32.
+pub fn distances_read_back()
+    ensures short { ShortDistancesReadBack }
+    ensures long { LongDistancesReadBack }
 {}
 
 /// Blanks around a line, and a comment behind it, change nothing of what the line has.
