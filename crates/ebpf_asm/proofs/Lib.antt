@@ -9,6 +9,7 @@ pub mod RoundLines
 pub mod RoundProgram
 pub mod Listings
 pub mod SlotListings
+pub mod SlotFronts
 pub mod Fitting
 pub mod Programs
 pub mod LowestFaults

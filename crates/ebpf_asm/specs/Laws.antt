@@ -1,11 +1,11 @@
 -- Laws of assembly text.
-use Rattle.std.specs.Prelude.{◌≡◌, ◌<◌, ◌^◌, ℕ, ℤ, FitsSigned, List, [], ◌∷◌, ◌++◌, Option, Some, Ok, Err, ◌⊎◌}
+use Rattle.std.specs.Prelude.{◌≡◌, ◌<◌, ◌≤◌, ◌+◌, ◌^◌, ℕ, ℤ, FitsSigned, List, [], ◌∷◌, ◌++◌, Option, Some, Ok, Err, ◌⊎◌}
 use Rattle.std.specs.Char.{is_ascii}
-use Rattle.std.specs.List.{AllPass}
+use Rattle.std.specs.List.{AllByRecursion, AllPass, flat_map}
 use Rattle.std.specs.Int.{w16, w32}
 use Rattle.std.specs.Fmt.{signed_decimal}
 use Rattle.instruction_set.specs.declared.instruction.Instruction.{Instruction}
-use Rattle.instruction_set.specs.Program.{IsProgram}
+use Rattle.instruction_set.specs.Program.{IsProgram, instruction_at}
 use Rattle.instruction_set.specs.Spelling.{program_bytes}
 use Rattle.text_lines.specs.Laws.{AreBlanks}
 use Rattle.ebpf_asm.specs.declared.fault.Fault.{Fault}
@@ -16,7 +16,7 @@ use Rattle.ebpf_asm.specs.Line.{line_of}
 use Rattle.ebpf_asm.specs.LowestFault.{IsLowestFault}
 use Rattle.ebpf_asm.specs.Mnemonic.{mnemonic_text, mnemonic_named}
 use Rattle.ebpf_asm.specs.Operand.{register_of, immediate_of, wide_of, memory_of, distance_of, short_of, long_of}
-use Rattle.ebpf_asm.specs.Listing.{register_text, signed_text, wide_text, memory_text, listing}
+use Rattle.ebpf_asm.specs.Listing.{register_text, signed_text, wide_text, memory_text, line_text, listing, listing_with_slots, slot_text}
 
 -- the text of each mnemonic is that mnemonic's and no other's
 abbrev pub MnemonicsReadBack : Type 0
@@ -49,6 +49,24 @@ LongDistancesReadBack = (distance : ℤ) → FitsSigned w32 distance → distanc
 -- the listing of a program assembles to its bytes
 abbrev pub ListingsAssemble : Type 0
 ListingsAssemble = (slots : List (Option Instruction)) → IsProgram slots → assembled (listing slots) ≡ Ok (program_bytes slots)
+
+-- the slots of lines rise, and none is below this one
+abbrev pub SlotsRise : ℕ → List (ℕ × Instruction) → Type 0
+SlotsRise least [] = Unit {0}
+SlotsRise least (line ∷ rest) = (least ≤ line.0) × SlotsRise (line.0 + 1) rest
+
+-- the lines of a program's instructions: each stands behind the slot where its instruction begins, and without these slots in front
+-- they are the listing
+pub record HasSlotsInFront (slots : List (Option Instruction)) : Type 0 where
+  pub lines : List (ℕ × Instruction)
+  pub begin : AllByRecursion (λ line. instruction_at slots line.0 ≡ Some line.1) lines
+  pub rise : SlotsRise 0 lines
+  pub with_slots : listing_with_slots slots ≡ flat_map (λ line. slot_text line.0 ++ line_text line.1) lines
+  pub without : listing slots ≡ flat_map (λ line. line_text line.1) lines
+
+-- in the listing with slots each instruction's line stands behind its slot, and without these it is the listing
+abbrev pub SlotsStandInFront : Type 0
+SlotsStandInFront = (slots : List (Option Instruction)) → HasSlotsInFront slots
 
 -- what a text assembles to is nothing, where it has no instructions, or the bytes of a program
 abbrev pub AssembledIsProgram : Type 0

@@ -1,6 +1,6 @@
 //! Laws of assembly text. Each function does nothing: what it ensures is the law.
 
-ghost use Rattle.ebpf_asm.specs.Laws.{MnemonicsReadBack, RegistersReadBack, ImmediatesReadBack, WideValuesReadBack, MemoryOperandsReadBack, ShortDistancesReadBack, LongDistancesReadBack, ListingsAssemble, AssembledIsProgram, LinesAreInOrder, FaultIsLowest, BlanksDontCount, CommentsDontCount};
+ghost use Rattle.ebpf_asm.specs.Laws.{MnemonicsReadBack, RegistersReadBack, ImmediatesReadBack, WideValuesReadBack, MemoryOperandsReadBack, ShortDistancesReadBack, LongDistancesReadBack, ListingsAssemble, SlotsStandInFront, AssembledIsProgram, LinesAreInOrder, FaultIsLowest, BlanksDontCount, CommentsDontCount};
 
 /// What a text assembles to is nothing, where it has no instructions, or the bytes of a program.
 pub fn assembled_is_program()
@@ -20,6 +20,11 @@ pub fn fault_is_lowest()
 /// The listing of a program assembles to its bytes.
 pub fn listings_assemble()
     ensures { ListingsAssemble }
+{}
+
+/// In the listing with slots each instruction's line stands behind its slot; without these it is the listing.
+pub fn slots_stand_in_front()
+    ensures { SlotsStandInFront }
 {}
 
 /// The text of each mnemonic is that mnemonic's and no other's.
