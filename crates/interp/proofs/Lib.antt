@@ -1,7 +1,7 @@
 mod AreaOffsets
+mod FirstBytes
 mod Running
 mod Statements
 mod Stepping
 mod Verified
-mod Words
 pub mod Proved
