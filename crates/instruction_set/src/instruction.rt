@@ -219,8 +219,8 @@ impl Instruction {
         slot as i64 + 1 + i64::from(distance)
     }
 
-    /// An instruction's immediate as a word: sign-extended to 64 bits, also where the instruction is
-    /// unsigned (RFC 9669, 4.1).
+    /// An instruction's immediate as a word: sign-extended to 64 bits, also for unsigned arithmetic
+    /// (RFC 9669, 4.1) and for unsigned compares (profile).
     #[inline(always)]
     pub fn immediate_word(immediate: i32) -> u64
         ensures { result ≡ immediate_word immediate }
