@@ -20,7 +20,7 @@ pub trait TrapFree {
     fn program(&self) -> &Program
         ensures { result.now ≡ code self.now };
 
-    /// The most bytes that its group has after a run.
+    /// The most bytes that its group has after a block run.
     fn limit(&self) -> usize
         ensures value { result ≡ limit self.now }
         ensures small { result < 2 ^ 16 };
