@@ -272,7 +272,7 @@ pub(crate) fn slot_at(bytes: &[u8], slot: usize) -> Option<Fields>
 }
 
 /// What begins at a slot: nothing at a wide instruction's second.
-fn entry_at(bytes: &[u8], slot: usize, second: bool) -> Result<Option<Instruction>, FaultKind>
+fn begun_at(bytes: &[u8], slot: usize, second: bool) -> Result<Option<Instruction>, FaultKind>
     requires inside { slot < length bytes.now / 8 }
     requires most { length bytes.now / 8 ≤ MOST_SLOTS }
     ensures { result ≡ begun second (fields_at (drop (8 * slot) bytes.now)) (slice_get (slots_at (length bytes.now / 8) bytes.now) (slot + 1)) }
@@ -301,7 +301,7 @@ fn decode_slots(alloc: Global, bytes: &[u8]) -> Result<Vec<Option<Instruction>>,
     let mut slots = Vec::with_capacity(alloc, count)?;
     let mut second = false;
     for slot in 0..count {
-        match entry_at(bytes, slot, second) {
+        match begun_at(bytes, slot, second) {
             Ok(begun) => {
                 second = begins_wide(&begun);
                 slots.extend_from_slice(&[begun])?;
