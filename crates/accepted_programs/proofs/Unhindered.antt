@@ -15,7 +15,7 @@ use Rattle.instruction_set.specs.declared.operation.SignedSize.TheVariants as si
 use Rattle.instruction_set.specs.declared.operation.Size.{Size}
 use Rattle.instruction_set.specs.declared.operation.Size.TheVariants.{Byte, HalfWord, Word, DoubleWord}
 use Rattle.program_meaning.specs.Cause as machine
-use Rattle.program_meaning.specs.Cause.{causes_of_effect, emits_badly, emits_outside, hinders, is_inside_wide, is_not_writable, is_nowhere, is_outside, is_unwritable, least_cause, slot_in}
+use Rattle.program_meaning.specs.Cause.{causes_of_effect, emits_badly, emits_outside, hinders, is_inside_wide, is_nowhere, is_outside, is_unwritable, is_unwritable_at, least_cause, slot_in}
 use Rattle.program_meaning.specs.Effect.{address_from, operand, register}
 use Rattle.program_meaning.specs.Memory.{lies_in, area_offset_of}
 use Rattle.program_interface.specs.Area.{address_of, length_of}
@@ -129,7 +129,7 @@ module _ {D : Type 0} {IsFact : D → Type 0} {contains : D → ℕ → Type 0} 
 
     writable : (o : Option Area) (r : ℕ) (offset : ℤ) (size : ℕ) → FitsSigned w16 offset → size < 2 ^ 64
         → area_of operations block facts r offset size ≡ o → is_unwritable o ≡ false
-        → is_not_writable (area_offset_of (length s.memory.block) (address_from s.registers r offset) size) ≡ false
+        → is_unwritable_at (area_offset_of (length s.memory.block) (address_from s.registers r offset) size) ≡ false
     writable None r offset size near counted told some = cc
     writable (Some area) r offset size near counted told some =
         let inside = lies area r offset size near counted told in

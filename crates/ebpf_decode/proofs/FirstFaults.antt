@@ -13,7 +13,7 @@ use Rattle.instruction_set.specs.Program.{is_wide}
 use Rattle.instruction_set.specs.Spelling.{Fits, slots_spelled}
 use Rattle.program_interface.specs.Bytes.{AreBytes}
 use Rattle.program_interface.specs.Readings.{unless_fault}
-use Rattle.ebpf_decode.specs.FirstFault.{Begins, FindsFirst, IsFirstFault, IsOfSlot, IsTold, NoneFinds}
+use Rattle.ebpf_decode.specs.FirstFault.{Begins, FailsFirst, IsFirstFault, IsOfSlot, IsTold, NoneFails}
 use Rattle.ebpf_decode.specs.Laws.{FaultIsFirst}
 use Rattle.ebpf_decode.specs.Opcodes.{opcode_named}
 use Rattle.ebpf_decode.specs.Reading.{at_first_slot, checks, instruction_with, length_checks, length_fault, read, read_named, read_slots, slots_at, then_read}
@@ -30,7 +30,7 @@ first_found tests = option_map (λ (test : Bool × FaultKind). test.1) (find (λ
 
 found-at : (b : Bool) (test : Bool × FaultKind) (tests : List (Bool × FaultKind)) (kind : FaultKind) → test.0 ≡ b
     → option_map (λ (t : Bool × FaultKind). t.1) (cond b (Some test) (find (λ (t : Bool × FaultKind). t.0) tests)) ≡ Some kind
-    → (first_found tests ≡ Some kind → FindsFirst kind tests) → FindsFirst kind (test ∷ tests)
+    → (first_found tests ≡ Some kind → FailsFirst kind tests) → FailsFirst kind (test ∷ tests)
 found-at true test tests kind is e later =
     let same : test.1 ≡ kind = cc in
     let whole : test ≡ (true, kind) = rw (← is, ← same) refl in
@@ -39,19 +39,19 @@ found-at false test tests kind is e later =
     let first = later e in
     record { before = test ∷ first.before; after = first.after; are = ap (λ ts. test ∷ ts) first.are; pass = (is, first.pass) }
 
-finds-first : (tests : List (Bool × FaultKind)) (kind : FaultKind) → first_found tests ≡ Some kind → FindsFirst kind tests
-finds-first [] kind e = absurd cc
-finds-first (test ∷ tests) kind e = found-at test.0 test tests kind refl e (finds-first tests kind)
+fails-first : (tests : List (Bool × FaultKind)) (kind : FaultKind) → first_found tests ≡ Some kind → FailsFirst kind tests
+fails-first [] kind e = absurd cc
+fails-first (test ∷ tests) kind e = found-at test.0 test tests kind refl e (fails-first tests kind)
 
 passes-at : (b : Bool) (test : Bool × FaultKind) (tests : List (Bool × FaultKind)) → test.0 ≡ b
     → option_map (λ (t : Bool × FaultKind). t.1) (cond b (Some test) (find (λ (t : Bool × FaultKind). t.0) tests)) ≡ None
-    → (first_found tests ≡ None → NoneFinds tests) → NoneFinds (test ∷ tests)
+    → (first_found tests ≡ None → NoneFails tests) → NoneFails (test ∷ tests)
 passes-at true test tests is e later = absurd cc
 passes-at false test tests is e later = (is, later e)
 
-none-finds : (tests : List (Bool × FaultKind)) → first_found tests ≡ None → NoneFinds tests
-none-finds [] e = tt
-none-finds (test ∷ tests) e = passes-at test.0 test tests refl e (none-finds tests)
+none-fails : (tests : List (Bool × FaultKind)) → first_found tests ≡ None → NoneFails tests
+none-fails [] e = tt
+none-fails (test ∷ tests) e = passes-at test.0 test tests refl e (none-fails tests)
 
 -- ---- what is told of a slot
 
@@ -62,10 +62,10 @@ err-same : (a b : FaultKind) → fails_by a ≡ fails_by b → a ≡ b
 err-same a b e = cc
 
 with-value : (tests : List (Bool × FaultKind)) (found : Option Instruction) (kind : FaultKind) (fault : Option FaultKind) → first_found tests ≡ fault
-    → unless_fault fault (ok_or found kinds.Value) ≡ Err kind → FindsFirst kind (tests ++ (is_none found, kinds.Value) ∷ [])
+    → unless_fault fault (ok_or found kinds.Value) ≡ Err kind → FailsFirst kind (tests ++ (is_none found, kinds.Value) ∷ [])
 with-value tests found kind (Some told) is e =
     let same : told ≡ kind = err-same told kind e in
-    let first = finds-first tests kind (is ∙ ap (λ k. Some k) same) in
+    let first = fails-first tests kind (is ∙ ap (λ k. Some k) same) in
     record {
       before = first.before;
       after = first.after ++ (is_none found, kinds.Value) ∷ [];
@@ -75,7 +75,7 @@ with-value tests found kind (Some told) is e =
 with-value tests (Some i) kind None is e = absurd cc
 with-value tests None kind None is e =
     let same : kinds.Value ≡ kind = err-same kinds.Value kind e in
-    record { before = tests; after = []; are = ap (λ k. tests ++ (true, k) ∷ []) same; pass = none-finds tests is }
+    record { before = tests; after = []; are = ap (λ k. tests ++ (true, k) ∷ []) same; pass = none-fails tests is }
 
 told : (named : Option Opcode) (f : Fields) (next : Option Fields) (kind : FaultKind) → read_named named f next ≡ Err kind → IsTold kind named f next
 told None f next kind e = sym (err-same kinds.Opcode kind e)
@@ -201,10 +201,10 @@ by-length : (bytes : List ℕ) (fault : Fault) (found : Option FaultKind) → Ar
 by-length bytes fault (Some kind) fits is e =
     inl (record {
       slot = same_slot 0 kind fault e;
-      told = finds-first (length_checks (length bytes)) fault.kind (is ∙ ap (λ k. Some k) (same_kind 0 kind fault e));
+      told = fails-first (length_checks (length bytes)) fault.kind (is ∙ ap (λ k. Some k) (same_kind 0 kind fault e));
     })
 by-length bytes fault None fits is e =
-    inr (none-finds (length_checks (length bytes)) is, of-slot (slots_at (length bytes / 8) bytes) fault (slots-fields (length bytes / 8) bytes fits) e)
+    inr (none-fails (length_checks (length bytes)) is, of-slot (slots_at (length bytes / 8) bytes) fault (slots-fields (length bytes / 8) bytes fits) e)
 
 pub fault_is_first : FaultIsFirst
 fault_is_first bytes fault fits e = by-length bytes fault (length_fault (length bytes)) fits refl e

@@ -12,16 +12,16 @@ use Rattle.instruction_set.specs.Spelling.{Fits, first_slot, second_slot, slots_
 use Rattle.ebpf_decode.specs.Opcodes.{opcode_named}
 use Rattle.ebpf_decode.specs.Reading.{checks, instruction_with, length_checks, slots_at}
 
--- none of these checks finds its fault
-abbrev pub NoneFinds : List (Bool × FaultKind) → Type 0
-NoneFinds checks = AllByRecursion (λ check. check.0 ≡ false) checks
+-- none of these checks fails
+abbrev pub NoneFails : List (Bool × FaultKind) → Type 0
+NoneFails checks = AllByRecursion (λ check. check.0 ≡ false) checks
 
--- the check of this kind finds its fault, and none before it does
-pub record FindsFirst (kind : FaultKind) (checks : List (Bool × FaultKind)) : Type 0 where
+-- the check of this kind fails, and none before it does
+pub record FailsFirst (kind : FaultKind) (checks : List (Bool × FaultKind)) : Type 0 where
   pub before : List (Bool × FaultKind)
   pub after : List (Bool × FaultKind)
   pub are : checks ≡ before ++ (true, kind) ∷ after
-  pub pass : NoneFinds before
+  pub pass : NoneFails before
 
 -- the checks of a slot whose opcode is known: those of its fields, and at last of their values
 abbrev pub slot_checks : Opcode → Fields → Option Fields → List (Bool × FaultKind)
@@ -30,7 +30,7 @@ slot_checks opcode f next = checks opcode f next ++ (is_none (instruction_with o
 -- the kind that is told of a slot, by what its opcode names
 abbrev pub IsTold : FaultKind → Option Opcode → Fields → Option Fields → Type 0
 IsTold kind None f next = kind ≡ kinds.Opcode
-IsTold kind (Some opcode) f next = FindsFirst kind (slot_checks opcode f next)
+IsTold kind (Some opcode) f next = FailsFirst kind (slot_checks opcode f next)
 
 -- an instruction that begins at a slot: it is spelled by the slot, and by the next one where it is wide
 pub record Begins (f : Fields) (next : Option Fields) (i : Instruction) : Type 0 where
@@ -41,7 +41,7 @@ pub record Begins (f : Fields) (next : Option Fields) (i : Instruction) : Type 0
 -- a fault of the length is told at slot 0
 pub record IsOfLength (bytes : List ℕ) (fault : Fault) : Type 0 where
   pub slot : fault.slot ≡ 0
-  pub told : FindsFirst fault.kind (length_checks (length bytes))
+  pub told : FailsFirst fault.kind (length_checks (length bytes))
 
 -- a fault of one of these slots
 pub record IsOfSlot (slots : List Fields) (fault : Fault) : Type 0 where
@@ -58,7 +58,7 @@ pub record IsOfSlot (slots : List Fields) (fault : Fault) : Type 0 where
 
 -- a fault of a slot, of bytes whose length has none
 abbrev pub IsBehindLength : List ℕ → Fault → Type 0
-IsBehindLength bytes fault = NoneFinds (length_checks (length bytes)) × IsOfSlot (slots_at (length bytes / 8) bytes) fault
+IsBehindLength bytes fault = NoneFails (length_checks (length bytes)) × IsOfSlot (slots_at (length bytes / 8) bytes) fault
 
 -- the first fault of some bytes: that of their length, or else that of the lowest slot where no instruction begins
 abbrev pub IsFirstFault : List ℕ → Fault → Type 0
