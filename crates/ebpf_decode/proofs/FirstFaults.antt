@@ -16,7 +16,7 @@ use Rattle.program_interface.specs.Readings.{unless_fault}
 use Rattle.ebpf_decode.specs.FirstFault.{Begins, FailsFirst, IsFirstFault, IsOfSlot, IsTold, NoneFails}
 use Rattle.ebpf_decode.specs.Laws.{FaultIsFirst}
 use Rattle.ebpf_decode.specs.Opcodes.{opcode_named}
-use Rattle.ebpf_decode.specs.Reading.{at_first_slot, checks, instruction_with, length_checks, length_fault, read, read_named, read_slots, slots_at, then_read}
+use Rattle.ebpf_decode.specs.Reading.{at_first_slot, checks, first_failed, instruction_with, length_checks, length_fault, read, read_named, read_slots, slots_at, then_read}
 use Rattle.ebpf_decode.proofs.SpelledAreRead.{read-again}
 use Rattle.ebpf_decode.proofs.Bytes.{slots-fields}
 use Rattle.ebpf_decode.proofs.FaultSlots.{fault_behind, same_slot, told_at}
@@ -25,31 +25,28 @@ use Rattle.ebpf_decode.proofs.ReadAreSpelled.{AreFields, AreFieldsIn, IsTaken, r
 
 -- ---- the first of some checks
 
-abbrev first_found : List (Bool × FaultKind) → Option FaultKind
-first_found tests = option_map (λ (test : Bool × FaultKind). test.1) (find (λ (test : Bool × FaultKind). test.0) tests)
-
-found-at : (b : Bool) (test : Bool × FaultKind) (tests : List (Bool × FaultKind)) (kind : FaultKind) → test.0 ≡ b
+failed-at : (b : Bool) (test : Bool × FaultKind) (tests : List (Bool × FaultKind)) (kind : FaultKind) → test.0 ≡ b
     → option_map (λ (t : Bool × FaultKind). t.1) (cond b (Some test) (find (λ (t : Bool × FaultKind). t.0) tests)) ≡ Some kind
-    → (first_found tests ≡ Some kind → FailsFirst kind tests) → FailsFirst kind (test ∷ tests)
-found-at true test tests kind is e later =
+    → (first_failed tests ≡ Some kind → FailsFirst kind tests) → FailsFirst kind (test ∷ tests)
+failed-at true test tests kind is e later =
     let same : test.1 ≡ kind = cc in
     let whole : test ≡ (true, kind) = rw (← is, ← same) refl in
     record { before = []; after = tests; are = ap (λ t. t ∷ tests) whole; pass = tt }
-found-at false test tests kind is e later =
+failed-at false test tests kind is e later =
     let first = later e in
     record { before = test ∷ first.before; after = first.after; are = ap (λ ts. test ∷ ts) first.are; pass = (is, first.pass) }
 
-fails-first : (tests : List (Bool × FaultKind)) (kind : FaultKind) → first_found tests ≡ Some kind → FailsFirst kind tests
+fails-first : (tests : List (Bool × FaultKind)) (kind : FaultKind) → first_failed tests ≡ Some kind → FailsFirst kind tests
 fails-first [] kind e = absurd cc
-fails-first (test ∷ tests) kind e = found-at test.0 test tests kind refl e (fails-first tests kind)
+fails-first (test ∷ tests) kind e = failed-at test.0 test tests kind refl e (fails-first tests kind)
 
 passes-at : (b : Bool) (test : Bool × FaultKind) (tests : List (Bool × FaultKind)) → test.0 ≡ b
     → option_map (λ (t : Bool × FaultKind). t.1) (cond b (Some test) (find (λ (t : Bool × FaultKind). t.0) tests)) ≡ None
-    → (first_found tests ≡ None → NoneFails tests) → NoneFails (test ∷ tests)
+    → (first_failed tests ≡ None → NoneFails tests) → NoneFails (test ∷ tests)
 passes-at true test tests is e later = absurd cc
 passes-at false test tests is e later = (is, later e)
 
-none-fails : (tests : List (Bool × FaultKind)) → first_found tests ≡ None → NoneFails tests
+none-fails : (tests : List (Bool × FaultKind)) → first_failed tests ≡ None → NoneFails tests
 none-fails [] e = tt
 none-fails (test ∷ tests) e = passes-at test.0 test tests refl e (none-fails tests)
 
@@ -61,7 +58,7 @@ fails_by kind = Err kind
 err-same : (a b : FaultKind) → fails_by a ≡ fails_by b → a ≡ b
 err-same a b e = cc
 
-with-value : (tests : List (Bool × FaultKind)) (found : Option Instruction) (kind : FaultKind) (fault : Option FaultKind) → first_found tests ≡ fault
+with-value : (tests : List (Bool × FaultKind)) (found : Option Instruction) (kind : FaultKind) (fault : Option FaultKind) → first_failed tests ≡ fault
     → unless_fault fault (ok_or found kinds.Value) ≡ Err kind → FailsFirst kind (tests ++ (is_none found, kinds.Value) ∷ [])
 with-value tests found kind (Some told) is e =
     let same : told ≡ kind = err-same told kind e in
@@ -79,7 +76,7 @@ with-value tests None kind None is e =
 
 told : (named : Option Opcode) (f : Fields) (next : Option Fields) (kind : FaultKind) → read_named named f next ≡ Err kind → IsTold kind named f next
 told None f next kind e = sym (err-same kinds.Opcode kind e)
-told (Some opcode) f next kind e = with-value (checks opcode f next) (instruction_with opcode f next) kind (first_found (checks opcode f next)) refl e
+told (Some opcode) f next kind e = with-value (checks opcode f next) (instruction_with opcode f next) kind (first_failed (checks opcode f next)) refl e
 
 begins-none : (f : Fields) (next : Option Fields) (kind : FaultKind) (i : Instruction) → read f next ≡ Err kind → Begins f next i → ⊥
 begins-none f next kind i failed begins =

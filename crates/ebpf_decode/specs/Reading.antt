@@ -73,6 +73,10 @@ abbrev pub has_more : Option Fields → Bool
 has_more None = false
 has_more (Some f) = not (f.opcode == 0) || not (f.dst == 0) || not (f.src == 0) || not (int_eq f.offset (pos 0))
 
+-- the fault of the first of these checks that fails
+abbrev pub first_failed : List (Bool × FaultKind) → Option FaultKind
+first_failed checks = option_map (λ check. check.1) (find (λ check. check.0) checks)
+
 -- the checks of an instruction whose opcode is known, in order; each is true where it fails
 abbrev pub checks : Opcode → Fields → Option Fields → List (Bool × FaultKind)
 checks opcode f next =
@@ -82,9 +86,9 @@ checks opcode f next =
     ∷ (has_unused (uses opcode) f || (is_load_immediate opcode && has_more next), kinds.UnusedField)
     ∷ []
 
--- the fault of the first of these checks that fails
+-- the first fault of an instruction whose opcode is known
 abbrev pub first_fault : Opcode → Fields → Option Fields → Option FaultKind
-first_fault opcode f next = option_map (λ check. check.1) (find (λ check. check.0) (checks opcode f next))
+first_fault opcode f next = first_failed (checks opcode f next)
 
 -- ---- an instruction without these faults
 
@@ -173,9 +177,9 @@ abbrev pub length_checks : ℕ → List (Bool × FaultKind)
 length_checks len =
     (not (len % 8 == 0), kinds.Length) ∷ (len == 0, kinds.Empty) ∷ (nat_lt MOST_SLOTS (len / 8), kinds.TooLong) ∷ []
 
--- what is wrong with a number of bytes: the first of these checks that fails
+-- what is wrong with a number of bytes
 abbrev pub length_fault : ℕ → Option FaultKind
-length_fault len = option_map (λ check. check.1) (find (λ check. check.0) (length_checks len))
+length_fault len = first_failed (length_checks len)
 
 -- a fault at slot 0, where those of the length are told
 abbrev pub at_first_slot : FaultKind → Fault
