@@ -6,12 +6,10 @@ use Rattle.std.proofs.lemmas.Int.{ints, of_z-to_z, to_z-of_z}
 use Rattle.std.proofs.lemmas.List.{get_or-drop}
 use Rattle.byteorder.specs.Endian.{little_bytes, little_number}
 use Rattle.instruction_set.specs.declared.fields.Fields.{Fields}
+use Rattle.program_interface.specs.Bytes.{AreBytes}
 use Rattle.ebpf_decode.specs.Reading.{fields_at, slots_at}
 use Rattle.instruction_set.specs.Spelling.{slot_bytes}
 use Rattle.ebpf_decode.proofs.ReadAreSpelled.{AreFields, below-32}
-
-abbrev pub IsBytes : List ℕ → Type 0
-IsBytes bytes = (i : ℕ) → get_or bytes i 0 < 256
 
 two-bytes : (n a b : ℕ) → a < 256 → b < 256 → n ≡ a + 256 * b → little_bytes 2 n ≡ a ∷ b ∷ []
 two-bytes n a b ha hb is =
@@ -33,11 +31,11 @@ fits-16 n h = omega (arith, ints)
 pub fits-32 : (n : ℕ) → n < 2 ^ 32 → FitsSigned w32 (cast_signed w32 n)
 fits-32 n h = omega (arith, ints)
 
-IsBytes-drop : (a b c d e f g h : ℕ) (bytes : List ℕ) → IsBytes (a ∷ b ∷ c ∷ d ∷ e ∷ f ∷ g ∷ h ∷ bytes) → IsBytes bytes
-IsBytes-drop a b c d e f g h bytes fits i = fits (suc (suc (suc (suc (suc (suc (suc (suc i))))))))
+AreBytes-drop : (a b c d e f g h : ℕ) (bytes : List ℕ) → AreBytes (a ∷ b ∷ c ∷ d ∷ e ∷ f ∷ g ∷ h ∷ bytes) → AreBytes bytes
+AreBytes-drop a b c d e f g h bytes fits i = fits (suc (suc (suc (suc (suc (suc (suc (suc i))))))))
 
 -- the slots of bytes are spelled by them
-pub slots-bytes : (count : ℕ) (bytes : List ℕ) → IsBytes bytes → length bytes ≡ 8 * count → flat_map slot_bytes (slots_at count bytes) ≡ bytes
+pub slots-bytes : (count : ℕ) (bytes : List ℕ) → AreBytes bytes → length bytes ≡ 8 * count → flat_map slot_bytes (slots_at count bytes) ≡ bytes
 slots-bytes zero [] fits h = refl
 slots-bytes zero (b ∷ bytes) fits h = absurd (omega arith)
 slots-bytes (suc count) (a ∷ b ∷ c ∷ d ∷ e ∷ f ∷ g ∷ h ∷ bytes) fits len =
@@ -53,11 +51,11 @@ slots-bytes (suc count) (a ∷ b ∷ c ∷ d ∷ e ∷ f ∷ g ∷ h ∷ bytes) 
     ∙ ap (λ xs. a ∷ b ∷ (xs ++ little_bytes 4 (cast_unsigned w32 (cast_signed w32 n)))) offset
     ∙ ap (λ xs. a ∷ b ∷ c ∷ d ∷ xs) immediate in
     ap (λ xs. xs ++ flat_map slot_bytes (slots_at count bytes)) slot
-    ∙ ap (λ xs. a ∷ b ∷ c ∷ d ∷ e ∷ f ∷ g ∷ h ∷ xs) (slots-bytes count bytes (IsBytes-drop a b c d e f g h bytes fits) (omega arith))
+    ∙ ap (λ xs. a ∷ b ∷ c ∷ d ∷ e ∷ f ∷ g ∷ h ∷ xs) (slots-bytes count bytes (AreBytes-drop a b c d e f g h bytes fits) (omega arith))
 slots-bytes (suc count) bytes fits len = absurd (omega arith)
 
 -- numbers below 256 make fields
-pub slots-fields : (count : ℕ) (bytes : List ℕ) → IsBytes bytes → AllByRecursion AreFields (slots_at count bytes)
+pub slots-fields : (count : ℕ) (bytes : List ℕ) → AreBytes bytes → AllByRecursion AreFields (slots_at count bytes)
 slots-fields zero bytes fits = tt
 slots-fields (suc count) bytes fits =
     let two : (i : ℕ) → get_or (drop 2 bytes) i 0 < 256 = λ i. rw get_or-drop (fits (2 + i)) in

@@ -16,7 +16,8 @@ use Rattle.program_interface.specs.Readings.{unless_fault}
 use Rattle.std.proofs.lemmas.Bool.{eq-eqb, eqb-false, eqb-true, le-ltb, ltb-false, ne_eqb, not-false, not_from_true}
 use Rattle.std.proofs.lemmas.List.Concat.{flat_map-append}
 use Rattle.ebpf_decode.proofs.SpelledAreRead.{read-again}
-use Rattle.ebpf_decode.proofs.Bytes.{FitSlot, IsBytes, fits-32, length-slots_bytes, slots-again, slots-bytes, slots-fields}
+use Rattle.program_interface.specs.Bytes.{AreBytes}
+use Rattle.ebpf_decode.proofs.Bytes.{FitSlot, fits-32, length-slots_bytes, slots-again, slots-bytes, slots-fields}
 use Rattle.ebpf_decode.proofs.Slots.{length-slots}
 use Rattle.ebpf_decode.proofs.ReadAreSpelled.{AreFields, AreFieldsIn, IsTaken, read-takes}
 
@@ -127,7 +128,7 @@ few_slots bytes length_is =
     ltb-false _ _ (three (not (eqb (length bytes % 8) 0)) (eqb (length bytes) 0) (ltb MOST_SLOTS (length bytes / 8)) _ _ _ length_is).2
 
 -- slots that are read from bytes are a program, spelled by the bytes
-pub program-read : (bytes : List ℕ) (slots : List (Option Instruction)) → IsBytes bytes → length_fault (length bytes) ≡ None
+pub program-read : (bytes : List ℕ) (slots : List (Option Instruction)) → AreBytes bytes → length_fault (length bytes) ≡ None
     → read_slots false 0 (slots_at (length bytes / 8) bytes) ≡ Ok slots → IsProgram slots × (bytes ≡ program_bytes slots)
 program-read bytes slots fits length_is e =
     let count = length bytes / 8 in
@@ -216,7 +217,7 @@ no-length-fault (Some kind) read slots e = absurd cc
 no-length-fault None read slots e = (refl, e)
 
 -- what decodes is a program, spelled by the bytes
-pub decoded-program : (bytes : List ℕ) (slots : List (Option Instruction)) → IsBytes bytes → decoded_program bytes ≡ Ok slots → IsProgram slots × (bytes ≡ program_bytes slots)
+pub decoded-program : (bytes : List ℕ) (slots : List (Option Instruction)) → AreBytes bytes → decoded_program bytes ≡ Ok slots → IsProgram slots × (bytes ≡ program_bytes slots)
 decoded-program bytes slots fits e =
     let ok = no-length-fault (length_fault (length bytes)) (read_slots false 0 (slots_at (length bytes / 8) bytes)) slots e in
     program-read bytes slots fits ok.0 ok.1
