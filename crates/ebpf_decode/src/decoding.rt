@@ -1,8 +1,7 @@
 //! Programs out of bytes.
 
-ghost use Rattle.std.specs.Prelude.{◌≡◌, ◌<◌, ◌≤◌, ◌+◌, ◌*◌, ◌/◌, ◌^◌, drop, length, slice_get, false, None, IfOk};
+ghost use Rattle.std.specs.Prelude.{◌≡◌, ◌<◌, ◌≤◌, ◌+◌, ◌*◌, ◌/◌, ◌^◌, drop, length, slice_get, false, None};
 ghost use Rattle.std.specs.Int.{w32, cast_unsigned};
-ghost use Rattle.instruction_set.specs.Spelling.{program_bytes};
 ghost use Rattle.program_interface.specs.Gives.{Gives};
 ghost use Rattle.ebpf_decode.specs.Reading.{begins_wide, decoded_program, begun, fault_in, fields_at, first_fault, has_more, has_no_register, has_unused, immediate_of, instruction_with, is_left_out, jump, length_fault, load_or_store, read, read_slots, slots_at, source_of, signed_move};
 
@@ -333,8 +332,6 @@ fn length_fault(len: usize) -> Option<FaultKind>
 ///
 /// The fault of the length, at slot 0; or else that of the lowest slot where no instruction begins. Or want of memory.
 pub fn decode(alloc: Global, bytes: &[u8]) -> Result<Program, DecodeFault>
-    // What is decoded is spelled by the bytes.
-    ensures found { IfOk result (λ program. bytes.now ≡ program_bytes program) }
     // Which program or fault it is.
     ensures exact { Gives fault_in (λ program. program) result (decoded_program bytes.now) }
 {
