@@ -5,13 +5,13 @@ ghost use Rattle.accepted_programs.specs.Laws.{AcceptedEmitsNoMore, AcceptedFail
 use word_domain::Domain;
 
 /// A program that is accepted over any domain never traps: over every block of the length that it was
-/// accepted for, every context and every scratch, a run of it ends by EXIT, after at most as many
-/// steps as it has instructions, with a group within the limit.
+/// accepted for, every context and every scratch, a block run of it ends by EXIT, after at most as
+/// many steps as it has instructions, with a group within the limit.
 pub fn accepted_never_traps<D: Domain>()
     ensures { AcceptedNeverTraps D.operations }
 {}
 
-/// A run of a program that is accepted emits no more for a block than its group is known to have at some slot.
+/// A block run of a program that is accepted emits no more than its group is known to have at some slot.
 pub fn accepted_emits_no_more<D: Domain>()
     ensures { AcceptedEmitsNoMore D.operations }
 {}
