@@ -7,9 +7,10 @@ use Rattle.program_meaning.specs.BlockRun.{BlockRun}
 use Rattle.program_meaning.specs.declared.end.End.{End}
 use Rattle.program_meaning.specs.declared.end.End.TheVariants as end
 use Rattle.program_interface.specs.Bytes.{padded}
-use Rattle.emit_append.specs.Packing.{all_but_last, beginning, behind, block_fillings, laid_out, packed, pending_of, released}
+use Rattle.emit_append.specs.Packing.{all_but_last, beginning, behind, block_fillings, laid_out, packed, released}
 use Rattle.emit_append.proofs.Proved.{packing_goes_on}
 use Rattle.pushdown.specs.Outcome.{Emitted, Turn, last_turn_by, middle_turn, turns_after, with_group}
+use Rattle.pushdown.proofs.Outcomes.{later_groups}
 
 -- ---- groups come to no more blocks than there are of them
 
@@ -48,30 +49,26 @@ few_more first more whole is few =
     subst (λ (blocks : List (List ℕ)). length blocks ≤ 2) (sym rest) few
 
 module _ (block : ℕ) where
-  -- what is pending, and a block run's group
-  abbrev both : Emitted → BlockRun → List (List ℕ)
-  both emitted run = pending_of block emitted.groups ∷ run.state.group ∷ []
+  later_packed : (emitted : Emitted) (run : BlockRun) → length (packed block (later_groups block emitted run)) ≤ 2
+  later_packed emitted run = few_packed block (later_groups block emitted run)
 
-  both_packed : (emitted : Emitted) (run : BlockRun) → length (packed block (both emitted run)) ≤ 2
-  both_packed emitted run = few_packed block (both emitted run)
-
-  both_released : (emitted : Emitted) (run : BlockRun) → length (released block (both emitted run)) ≤ 2
-  both_released emitted run =
-      let few = but_last_few (packed block (both emitted run)) in
-      let most = both_packed emitted run in
+  later_released : (emitted : Emitted) (run : BlockRun) → length (released block (later_groups block emitted run)) ≤ 2
+  later_released emitted run =
+      let few = but_last_few (packed block (later_groups block emitted run)) in
+      let most = later_packed emitted run in
       omega (arith, few, most)
 
   last_few : (e : End) (emitted : Emitted) (run : BlockRun) → HasFew (last_turn_by e block emitted run)
   last_few (end.Exit r0) emitted run =
-      few_more (released block emitted.groups) (packed block (both emitted run)) (packed block (with_group emitted run).groups)
-      (packing_goes_on block emitted.groups (run.state.group ∷ [])).blocks (both_packed emitted run)
+      few_more (released block emitted.groups) (packed block (later_groups block emitted run)) (packed block (with_group emitted run).groups)
+      (packing_goes_on block emitted.groups (run.state.group ∷ [])).blocks (later_packed emitted run)
   last_few (end.Trap slot cause) emitted run = omega arith
   last_few end.OutOfFuel emitted run = omega arith
 
   middle_few : (emitted : Emitted) (run : BlockRun) → HasFew (middle_turn block emitted run)
   middle_few emitted run =
-      few_more (released block emitted.groups) (released block (both emitted run)) (released block (with_group emitted run).groups)
-      (packing_goes_on block emitted.groups (run.state.group ∷ [])).released_blocks (both_released emitted run)
+      few_more (released block emitted.groups) (released block (later_groups block emitted run)) (released block (with_group emitted run).groups)
+      (packing_goes_on block emitted.groups (run.state.group ∷ [])).released_blocks (later_released emitted run)
 
   pub turns_few : (emitted : Emitted) (block_runs : List BlockRun) → AllByRecursion HasFew (turns_after block emitted block_runs)
   turns_few emitted [] = tt

@@ -102,7 +102,8 @@ whole_again : (first rest whole : List (List ℕ)) → whole ≡ first ++ rest �
 whole_again first rest whole is = ap (λ xs. first ++ behind first xs) is ∙ in_whole first rest ∙ sym is
 
 module _ (block : ℕ) where
-  abbrev later_groups : Emitted → BlockRun → List (List ℕ)
+  -- what is pending, and a block run's group
+  abbrev pub later_groups : Emitted → BlockRun → List (List ℕ)
   later_groups emitted run = pending_of block emitted.groups ∷ run.state.group ∷ []
 
   released_more : (emitted : Emitted) (run : BlockRun)
