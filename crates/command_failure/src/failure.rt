@@ -134,7 +134,7 @@ impl<'a> Failure<'a> {
 
 /// How a command line ended.
 #[derive(Drop)]
-pub struct Ending {
+pub struct Conclusion {
     /// The exit status: 0 where all was done, 1 where a file failed or memory was wanting, 2 for a wrong
     /// command line, 3 for input that is refused.
     pub status: u8,
@@ -143,17 +143,17 @@ pub struct Ending {
 }
 
 /// Ends a command line: tells the user why the work wasn't done, where it wasn't.
-pub fn conclude<E: Write>(outcome: Result<(), Failure<'_>>, err: &mut E) -> Ending
+pub fn conclude<E: Write>(outcome: Result<(), Failure<'_>>, err: &mut E) -> Conclusion
     ensures status { result.status ≡ exit_status outcome.entry }
     ensures told { OnOk result.told (IsConcluded outcome.entry (E.contents err.old) (E.contents err.new)) }
     ensures quiet { OnOk outcome.entry (err.new ≡ err.old) }
 {
     match outcome {
-        Ok(()) => Ending {
+        Ok(()) => Conclusion {
             status: 0,
             told: Ok(()),
         },
-        Err(failure) => Ending {
+        Err(failure) => Conclusion {
             status: failure.status(),
             told: failure.print(err),
         },

@@ -7,5 +7,5 @@ mod file_cause;
 mod lines;
 
 pub use data_fault::DataFault;
-pub use failure::{Ending, Failure, conclude, printed};
+pub use failure::{Conclusion, Failure, conclude, printed};
 pub use file_cause::FileCause;
