@@ -9,7 +9,7 @@ ghost use Rattle.zns_commands.specs.Laws.{AddedBlocksAreAppended, AddedBlocksKee
 /// A namespace stays one, whatever commands that entries can spell, and whatever faults, come: its open and
 /// active zones are within the limits, each zone's state fits its written blocks, and each block is whole. One of
 /// which nothing is written is one.
-pub fn commands_keep_namespaces_sound()
+pub fn events_keep_namespaces_sound()
     ensures kept { EventsKeepNamespaces }
     ensures start { EmptyIsNamespace }
 {}

@@ -1,5 +1,5 @@
 use Rattle.zns_commands.proofs.SoundEvents.{events_keep_namespaces, empty_is_namespace}
-use Rattle.zns_commands.proofs.laws.commands_keep_namespaces_sound.Goals as goal
+use Rattle.zns_commands.proofs.laws.events_keep_namespaces_sound.Goals as goal
 
 pub returns-clause-kept : goal.returns-clause-kept
 returns-clause-kept c = events_keep_namespaces
