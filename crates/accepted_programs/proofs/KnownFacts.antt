@@ -1,5 +1,5 @@
 -- What is known at a slot is made of facts.
-use Rattle.std.proofs.Common.{ℕ, zero, suc, ◌≡◌, ◌<◌, ◌%◌, ℤ, ◌^◌, ◌++◌, Bool, true, false, List, [], ◌∷◌, drop, get_or, replicate, set, Option, Some, None, IfSome, inl, inr, refl, arith, lit<, subst}
+use Rattle.std.proofs.Common.{ℕ, zero, suc, ◌≡◌, ◌<◌, ◌%◌, ℤ, ◌^◌, Bool, true, false, List, [], ◌∷◌, drop, get_or, replicate, Option, Some, None, IfSome, inl, inr, refl, arith, lit<, subst}
 use Rattle.std.proofs.Math.Nat.{mod-lt}
 use Rattle.std.specs.List.{AllByRecursion}
 use Rattle.std.specs.Prelude.{◌==◌, ◌&&◌, nat_le, unwrap_or, if◌then◌else◌}
@@ -20,6 +20,7 @@ use Rattle.program_meaning.specs.declared.word.Arithmetic.TheVariants as word
 use Rattle.word_domain.specs.Domain.{GiveFacts, Operations}
 use Rattle.word_domain.specs.declared.offsets.Offsets.{Offsets}
 use Rattle.accepted_programs.specs.Cells.{cell_of, filled, is_stack, joined_each, known_in, no_cells, overwritten}
+use Rattle.accepted_programs.proofs.AllOf.{all_append, all_at, all_drop, all_same, all_set}
 use Rattle.accepted_programs.proofs.CellLaws.{if_some, joined_known, left_known, none_known, set_known}
 use Rattle.accepted_programs.specs.declared.facts.TheConstants.{CELLS}
 use Rattle.accepted_programs.specs.Facts.{after_store, along, area_of, cell_at, compared_fact, enters_stack, facts_at_start, fact, facts_at, facts_at_target, facts_behind, given_below, gives, is_register, kept_fact, leads, loaded_fact, merge, slot_behind, source_fact, with_both, with_fact}
@@ -46,27 +47,6 @@ module _ {D : Type 0} (IsFact : D → Type 0) where
   abbrev pub SomeAreFacts : Option (Facts D) → Type 0
   SomeAreFacts None = Unit {0}
   SomeAreFacts (Some facts) = AreFacts facts
-
-  -- ---- rows
-  all_get : (ds : List D) (r : ℕ) (d : D) → IsFact d → AllByRecursion IsFact ds → IsFact (get_or ds r d)
-  all_get [] r d is all = is
-  all_get (e ∷ es) zero d is all = all.0
-  all_get (e ∷ es) (suc r) d is all = all_get es r d is all.1
-
-  all_set : (ds : List D) (r : ℕ) (d : D) → IsFact d → AllByRecursion IsFact ds → AllByRecursion IsFact (set ds r d)
-  all_set [] r d is all = tt
-  all_set (e ∷ es) zero d is all = (is, all.1)
-  all_set (e ∷ es) (suc r) d is all = (all.0, all_set es r d is all.1)
-
-  all_drop : (n : ℕ) (ds : List D) → AllByRecursion IsFact ds → AllByRecursion IsFact (drop n ds)
-  all_drop zero ds all = all
-  all_drop (suc n) [] all = tt
-  all_drop (suc n) (d ∷ ds) all = all_drop n ds all.1
-
-  all_replicate : (n : ℕ) (d : D) (ds : List D) → IsFact d → AllByRecursion IsFact ds
-      → AllByRecursion IsFact (replicate n d ++ ds)
-  all_replicate zero d ds is all = all
-  all_replicate (suc n) d ds is all = (is, all_replicate n d ds is all)
 
   -- ---- cells
   pub no_cell_facts : AreCellFacts no_cells
@@ -114,7 +94,7 @@ module _ {D : Type 0} (IsFact : D → Type 0) where
 
 module _ {D : Type 0} {IsFact : D → Type 0} {operations : Operations D} (give : GiveFacts IsFact operations) where
   pub fact_is : (facts : Facts D) (r : ℕ) → AreFacts IsFact facts → IsFact (fact operations facts r)
-  fact_is facts r are = all_get IsFact facts.registers r operations.any give.any are.registers
+  fact_is facts r are = all_at IsFact facts.registers r operations.any are.registers give.any
 
   pub source_is : (facts : Facts D) (source : Source) → AreFacts IsFact facts → IsFact (source_fact operations facts source)
   source_is facts (Register r) are = fact_is facts r are
@@ -129,7 +109,7 @@ module _ {D : Type 0} {IsFact : D → Type 0} {operations : Operations D} (give 
   -- ---- edges
   with_facts : (facts : Facts D) (r : ℕ) (d : D) → AreFacts IsFact facts → IsFact d
       → AreFacts IsFact (with_fact operations facts r d)
-  with_facts facts r d are is = record { registers = all_set IsFact facts.registers r d is are.registers; cells = are.cells }
+  with_facts facts r d are is = record { registers = all_set IsFact facts.registers r d are.registers is; cells = are.cells }
 
   both_facts : (facts : Facts D) (dst : ℕ) (source : Source) (both : Option (D × D)) → AreFacts IsFact facts
       → IfSome both (λ facts. IsFact facts.0 × IsFact facts.1) → SomeAreFacts IsFact (with_both operations facts dst source both)
@@ -207,7 +187,8 @@ module _ {D : Type 0} {IsFact : D → Type 0} {operations : Operations D} (give 
         along_facts facts false width relation dst source are
     behind_facts (Call helper) facts are = record {
       registers =
-          all_replicate IsFact 6 (operations.constant 0) (drop 6 facts.registers) (give.constant 0 (lit< tt))
+          all_append IsFact (replicate 6 (operations.constant 0)) (drop 6 facts.registers)
+          (all_same IsFact 6 (operations.constant 0) (give.constant 0 (lit< tt)))
           (all_drop IsFact 6 facts.registers are.registers);
       cells = are.cells;
     }

@@ -1,3 +1,4 @@
+mod AllOf
 mod CellLaws
 mod Edges
 mod FirstRefusals

@@ -42,7 +42,7 @@ fn main(rt: HostRuntime) -> io::Result<()> {
             let Some(completion) = Completion::decode(&run.completion) else {
                 return Err(io::Error::other("no completion"));
             };
-            println!(rt; "{} frames in {} blocks", completion.dw0, completion.dw1)?;
+            println!(rt; "{} records in {} blocks", completion.dw0, completion.dw1)?;
             Ok(())
         }
     }

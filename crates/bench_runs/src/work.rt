@@ -116,9 +116,9 @@ fn start(
     let lowest = u64::from(device.image().geometry().size());
     must(device, &reset(lowest, Vec::new(alloc)), data)?;
     must(device, &open(lowest, Vec::new(alloc)), data)?;
-    let order = run(0, blocks, lowest, Vec::new(alloc))?;
+    let event = run(0, blocks, lowest, Vec::new(alloc))?;
     let begin = Instant::now(rt)?;
-    let reply = device.apply(&order, data);
+    let reply = device.apply(&event, data);
     let spent = begin.elapsed(rt)?.as_nanos();
     succeeded(&reply)?;
     Ok(spent)
@@ -213,12 +213,12 @@ pub fn admission(
 /// Runs that are refused, over so many blocks from `unwritten` on, or from one of the 7 blocks behind it, none of which is
 /// written, to the zone whose lowest block is `to`.
 fn refused_runs(alloc: Global, unwritten: u64, blocks: u16, to: u64) -> io::Result<Vec<Event>> {
-    let mut orders = Vec::with_capacity(alloc, REFUSALS)?;
+    let mut events = Vec::with_capacity(alloc, REFUSALS)?;
     for number in 0..REFUSALS as u64 {
         let lba = unwritten.saturating_add(number % 8);
-        orders.push(run(lba, blocks, to, Vec::new(alloc))?)?;
+        events.push(run(lba, blocks, to, Vec::new(alloc))?)?;
     }
-    Ok(orders)
+    Ok(events)
 }
 
 /// The nanoseconds of refusing a Run, whose blocks from one of a few on aren't written.
@@ -238,11 +238,11 @@ pub fn refusal(
     ensures { MOST_TRANSFER ≤ length data.new }
 {
     let lowest = u64::from(device.image().geometry().size());
-    let orders = refused_runs(alloc, unwritten, blocks, lowest)?;
+    let events = refused_runs(alloc, unwritten, blocks, lowest)?;
     let begin = Instant::now(rt)?;
     let mut admitted = false;
-    for order in &orders {
-        admitted |= is_done(&device.apply(order, data));
+    for event in &events {
+        admitted |= is_done(&device.apply(event, data));
     }
     let spent = begin.elapsed(rt)?.as_nanos();
     if admitted {

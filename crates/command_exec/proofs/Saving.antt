@@ -17,12 +17,17 @@ use Rattle.pushdown.proofs.Proved.{served_and_drained}
 use Rattle.runner.specs.declared.device.Stopped.{Stopped}
 use Rattle.event_text.specs.CommandFile.{events_in, told_of}
 use Rattle.event_text.specs.Lines.{reply_line}
+use Rattle.event_text.specs.declared.lines.Lines.{Lines}
 use Rattle.command_files.specs.Made.{Made, then_made}
 use Rattle.command_exec.specs.Saved.{AreInFiles, Executes, ExecutesFirst, HasBegun, HasPrinted, InEvents, InTurns, SavesAll, SavesFirst}
 
 pub on_err : {T E fact : Type 0} (result : Result T E) → fact → OnErr result fact
 on_err (Ok value) holds = tt
 on_err (Err error) holds = holds
+
+-- the name of the writer of `Lines`, and what was printed to it
+abbrev pub printed_by : {W : Type 0} → (W → Option (List ℕ)) → Lines W → ℕ × Printed
+printed_by contents lines = (lines.out.ghost_name, record { refused = lines.refusals; bytes = contents lines.out.now })
 
 -- what `Lines` took: its writer stays the same
 abbrev pub Took : ℕ × Printed → ℕ × Printed → List ReplyWithData → Type 0

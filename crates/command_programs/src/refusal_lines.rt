@@ -13,7 +13,7 @@ use word_domain::{Domain, Offsets};
 
 /// An instruction that is refused, of a program of so many slots, and what is known at its slot.
 #[derive(Clone, Copy)]
-pub(crate) struct Refused<'p> {
+pub(crate) struct RefusedInstruction<'p> {
     pub(crate) slots: usize,
     pub(crate) slot: usize,
     pub(crate) instruction: &'p Instruction,
@@ -22,7 +22,7 @@ pub(crate) struct Refused<'p> {
     ghost within: { slot < MOST_SLOTS },
 }
 
-impl Refused<'_> {
+impl RefusedInstruction<'_> {
     /// Prints the reason, and a line for each register that the instruction reads.
     pub(crate) fn print<O: Write>(&self, reason: Reason, out: &mut O) -> io::Result<()> {
         write!(out, "{reason}: ")?;

@@ -3,7 +3,7 @@
 ghost use Rattle.std.specs.Prelude.{◌≡◌};
 
 use crate::program::program_in_file;
-use crate::refusal_lines::Refused;
+use crate::refusal_lines::RefusedInstruction;
 use crate::sizes::run_sizes;
 use accepted_programs::{Facts, Refusal};
 use clap::{Arg, ArgAction, ArgMatches, Command};
@@ -19,7 +19,7 @@ use interval_domain::Intervals;
 use program_interface::RunSizes;
 use std::alloc::{AllocError, Global};
 use std::io::{self, Write};
-use verifier::{Judgement, judge};
+use verifier::{Judgement, Refused, judge};
 
 /// The command's name.
 pub const NAME: &str = "verify";
@@ -98,7 +98,7 @@ pub fn verify<'a, F: Files, O: Write>(
             let explained = matches.get_flag(EXPLAIN).then_some(most_emitted);
             printed(print_accepted(instructions, explained, out))
         }
-        Judgement::Refused(verifier::Refused { refusal, facts }) => {
+        Judgement::Refused(Refused { refusal, facts }) => {
             printed(print_refused(refusal, out))?;
             if matches.get_flag(EXPLAIN) {
                 explain_refused(alloc, &program, sizes, refusal, &*facts, out)?;
@@ -137,7 +137,7 @@ fn explain_refused<'a, O: Write>(
         return Ok(());
     };
     let text = instruction_text(alloc, instruction)?;
-    let refused = Refused {
+    let refused = RefusedInstruction {
         slots: program.slots(),
         slot,
         instruction,

@@ -4,7 +4,6 @@ use Rattle.std.specs.Ordering.{int_eq}
 use Rattle.std.specs.Int.{w16, w32, cast_signed, cast_unsigned}
 use Rattle.std.specs.Option.{option_or}
 use Rattle.std.specs.Result.{result_map_both}
-use Rattle.byteorder.specs.Endian.{little_number}
 use Rattle.ebpf_decode.specs.declared.fault.DecodeFault.{DecodeFault}
 use Rattle.ebpf_decode.specs.declared.fault.DecodeFault.TheVariants as errors
 use Rattle.ebpf_decode.specs.declared.fault.Fault.{Fault}
@@ -27,6 +26,7 @@ use Rattle.ebpf_decode.specs.Opcodes.{opcode_named, uses}
 use Rattle.instruction_set.specs.Program.{is_wide}
 use Rattle.program_interface.specs.declared.TheConstants.{MOST_SLOTS}
 use Rattle.program_interface.specs.declared.registers.TheConstants.{REGISTERS}
+use Rattle.program_interface.specs.Bytes.{field}
 use Rattle.program_interface.specs.Readings.{unless_fault}
 
 -- the fields of the slot at the front of bytes (RFC 9669, 3.1)
@@ -35,8 +35,8 @@ fields_at bytes = record {
   opcode = slice_index bytes 0;
   dst = slice_index bytes 1 % 16;
   src = slice_index bytes 1 / 16;
-  offset = cast_signed w16 (little_number 2 (drop 2 bytes));
-  immediate = cast_signed w32 (little_number 4 (drop 4 bytes));
+  offset = cast_signed w16 (field bytes 2 2);
+  immediate = cast_signed w32 (field bytes 4 4);
 }
 
 -- the fields of the first slots of bytes

@@ -3,10 +3,11 @@ use Rattle.std.proofs.Common.{◌≡◌, ℕ, ◌+◌, ◌/◌, ◌≤◌, ◌<�
 use Rattle.std.proofs.lemmas.List.{append-nil, nil_from_length}
 use Rattle.std.proofs.Math.Nat.{div-eq_of_lt}
 use Rattle.program_interface.specs.Gives.{Gives}
+use Rattle.program_interface.specs.Readings.{◌>>=◌}
 use Rattle.emit_append.specs.declared.fault.UnpackFault.{UnpackFault}
 use Rattle.emit_append.specs.declared.fault.UnpackFault.TheVariants.{At, Memory}
-use Rattle.emit_append.specs.Unpacking.{Reading, and_then, output_block_at, output_blocks_at, byte_told, then_read}
-use Rattle.emit_append.proofs.FramesRead.{and_then-err, more_blocks, no_more_blocks, part_of_block}
+use Rattle.emit_append.specs.Unpacking.{Reading, output_block_at, output_blocks_at, byte_told, then_read}
+use Rattle.emit_append.proofs.FramesRead.{read-err, more_blocks, no_more_blocks, part_of_block}
 
 -- no more records come after these
 pub gives_records : (answer : Result Unit UnpackFault) (records : List (List ℕ)) (reading : Reading) → Gives byte_told (λ _. []) answer reading → Gives byte_told (λ _. records) answer (then_read records reading)
@@ -16,15 +17,15 @@ gives_records (Err Memory) records reading is = tt
 
 -- a block's fault is that of the blocks
 pub fails_on : (fault : UnpackFault) (records : List (List ℕ)) (first rest : Reading) → IfSome (byte_told fault) (λ place. then_read records first ≡ Err place) →
-    IfSome (byte_told fault) (λ place. then_read records (and_then first rest) ≡ Err place)
-fails_on (At place) records first rest is = and_then-err records first rest place is
+    IfSome (byte_told fault) (λ place. then_read records (first >>= λ more. then_read more rest) ≡ Err place)
+fails_on (At place) records first rest is = read-err records first rest place is
 fails_on Memory records first rest is = tt
 
 -- blocks from a place on, after some records, where their reading is all
 module _ (block at : ℕ) (records : List (List ℕ)) (all : Reading) (rest : List ℕ) (some : 0 < block)
     (read : then_read records (output_blocks_at (length rest / block) block at rest) ≡ all) where
   pub goes_on_with : (front back : List ℕ) → block ≤ length rest → front ≡ take block rest → back ≡ drop block rest →
-      all ≡ then_read records (and_then (output_block_at at front) (output_blocks_at (length back / block) block (at + block) back))
+      all ≡ then_read records (output_block_at at front >>= λ more. then_read more (output_blocks_at (length back / block) block (at + block) back))
   goes_on_with front back long first last = rw (first, last) (sym read ∙ ap (then_read records) (more_blocks block at rest some long))
 
   pub is_part : length rest < block → 0 < length rest → all ≡ Err at

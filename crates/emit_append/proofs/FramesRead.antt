@@ -4,7 +4,8 @@ use Rattle.std.proofs.Math.Nat.{add-div_right}
 use Rattle.std.proofs.lemmas.Bool.{cases_lt}
 use Rattle.std.proofs.lemmas.Bool.Decides.{nat_tests}
 use Rattle.std.proofs.lemmas.List.{drop-take, length-take-le, take-take}
-use Rattle.emit_append.specs.Unpacking.{Reading, after_frame, and_then, output_block_at, output_blocks_at, frame_length, frame_record, frames_at, then_read, zeros_at}
+use Rattle.program_interface.specs.Readings.{◌>>=◌}
+use Rattle.emit_append.specs.Unpacking.{Reading, after_frame, output_block_at, output_blocks_at, frame_length, frame_record, frames_at, then_read, zeros_at}
 
 pub then_read-none : (reading : Reading) → then_read [] reading ≡ reading
 then_read-none (Ok records) = refl
@@ -90,7 +91,7 @@ frame_is n rest frame bytes long is behind =
     behind ∙ rw (count, cut) (take-take n n (drop 2 rest) (omega arith))
 
 pub more_blocks : (block at : ℕ) (rest : List ℕ) → 0 < block → block ≤ length rest →
-    output_blocks_at (length rest / block) block at rest ≡ and_then (output_block_at at (take block rest)) (output_blocks_at (length (drop block rest) / block) block (at + block) (drop block rest))
+    output_blocks_at (length rest / block) block at rest ≡ (output_block_at at (take block rest) >>= λ records. then_read records (output_blocks_at (length (drop block rest) / block) block (at + block) (drop block rest)))
 unfolding output_blocks_at
 more_blocks block at rest some long =
     let whole : length rest ≡ length (drop block rest) + block = omega (arith, length-drop block rest) in
@@ -107,10 +108,10 @@ part_of_block block at [] some = absurd (omega arith)
 part_of_block block at (x ∷ xs) some = refl
 
 -- a block's reading, and the blocks' after it
-pub and_then-ok : (records new : List (List ℕ)) (first rest : Reading) → then_read records first ≡ Ok new → then_read new rest ≡ then_read records (and_then first rest)
-and_then-ok records new (Ok more) rest is = let same : new ≡ records ++ more = cc in rw same (then_read-append records more rest)
-and_then-ok records new (Err at) rest is = cc
+pub read-on : (records new : List (List ℕ)) (first rest : Reading) → then_read records first ≡ Ok new → then_read new rest ≡ then_read records (first >>= λ more. then_read more rest)
+read-on records new (Ok more) rest is = let same : new ≡ records ++ more = cc in rw same (then_read-append records more rest)
+read-on records new (Err at) rest is = cc
 
-pub and_then-err : (records : List (List ℕ)) (first rest : Reading) (place : ℕ) → then_read records first ≡ Err place → then_read records (and_then first rest) ≡ Err place
-and_then-err records (Ok more) rest place is = cc
-and_then-err records (Err at) rest place is = is
+pub read-err : (records : List (List ℕ)) (first rest : Reading) (place : ℕ) → then_read records first ≡ Err place → then_read records (first >>= λ more. then_read more rest) ≡ Err place
+read-err records (Ok more) rest place is = cc
+read-err records (Err at) rest place is = is

@@ -9,7 +9,8 @@ use Rattle.std.proofs.lemmas.List.{append-nil, drop-take, length-take, length-ta
 use Rattle.program_interface.specs.Frame.{frames}
 use Rattle.program_interface.specs.Bytes.{padded}
 use Rattle.emit_append.proofs.ByteLists.{AllBytes, by_recursion}
-use Rattle.emit_append.specs.Unpacking.{AreFrames, CanBegin, Reading, RefusedIsLowest, and_then, frames_at, output_block_at, output_blocks_at, then_read}
+use Rattle.program_interface.specs.Readings.{◌>>=◌}
+use Rattle.emit_append.specs.Unpacking.{AreFrames, CanBegin, Reading, RefusedIsLowest, frames_at, output_block_at, output_blocks_at, then_read}
 use Rattle.emit_append.proofs.UnpackedFrames.{IsFrames, bytes_from, bytes_up_to, frames-read, only-frames}
 use Rattle.emit_append.proofs.ReadBack.{length-blocks}
 use Rattle.emit_append.proofs.RefusedBlocks.{IsRefused, agree_before, agree_behind, behind_err, cut_off, cut_twice, is_refused, length_cut_off, zeros_of}
@@ -62,7 +63,7 @@ module _ (count block place : ℕ) (bytes : List ℕ) (at : ℕ) (positive : 0 <
       let refused : output_block_at place (take block other) ≡ Err at =
       ap (λ n. frames_at n place (take block other)) (other_size ∙ sym size)
       ∙ d.there (take block other) upto far (other_size ∙ sym size) first in
-      ap (λ reading. and_then reading (output_blocks_at others block (place + block) (drop block other))) refused
+      ap (λ reading. reading >>= λ records. then_read records (output_blocks_at others block (place + block) (drop block other))) refused
 
   refused_here : output_block_at place (take block bytes) ≡ Err at → IsRefusedAmong (suc count) block place bytes at
   refused_here is =
@@ -105,7 +106,7 @@ module _ (count block place : ℕ) (bytes : List ℕ) (at : ℕ) (positive : 0 <
       ∙ agree_behind block (upto - block) upto (take (suc count * block) other) (take (suc count * block) bytes) (omega (arith, far)) same
       ∙ ap (take (upto - block)) (ap (λ n. drop block (take n bytes)) all ∙ drop-take block (count * block) bytes) in
       let refused = next (drop block other) others (upto - block) (omega (arith, whole, blocks, left)) (omega (arith, some, left)) (omega (arith, far)) behind in
-      ap (λ reading. and_then reading (output_blocks_at others block (place + block) (drop block other))) (ap (output_block_at place) first ∙ read)
+      ap (λ reading. reading >>= λ records. then_read records (output_blocks_at others block (place + block) (drop block other))) (ap (output_block_at place) first ∙ read)
       ∙ ap (then_read front) refused
 
   refused_later : (front : List (List ℕ)) → output_block_at place (take block bytes) ≡ Ok front →
@@ -133,7 +134,7 @@ module _ (count block place : ℕ) (bytes : List ℕ) (at : ℕ) (positive : 0 <
         ];
       }
 
-  by_block : (first : Reading) → output_block_at place (take block bytes) ≡ first → and_then first (output_blocks_at count block (place + block) (drop block bytes)) ≡ Err at →
+  by_block : (first : Reading) → output_block_at place (take block bytes) ≡ first → (first >>= λ records. then_read records (output_blocks_at count block (place + block) (drop block bytes))) ≡ Err at →
       (output_blocks_at count block (place + block) (drop block bytes) ≡ Err at → IsRefusedAmong count block (place + block) (drop block bytes) at) →
       IsRefusedAmong (suc count) block place bytes at
   by_block (Ok front) read is next = refused_later front read (next (behind_err front _ at is))

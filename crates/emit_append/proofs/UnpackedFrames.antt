@@ -7,10 +7,11 @@ use Rattle.std.proofs.lemmas.Bool.Decides.{eqb_tells}
 use Rattle.std.proofs.lemmas.List.{drop-drop, length-take-le}
 use Rattle.byteorder.specs.Endian.{little_bytes, little_number}
 use Rattle.program_interface.specs.Frame.{frame, frames}
+use Rattle.program_interface.specs.Readings.{◌>>=◌}
 use Rattle.emit_append.specs.PackedLaw.{FitBlock}
 use Rattle.program_interface.specs.Bytes.{padded}
 use Rattle.emit_append.proofs.ByteLists.{AllBytes, by_recursion}
-use Rattle.emit_append.specs.Unpacking.{AreFrames, Reading, UnpackedIsFrames, after_frame, and_then, frame_length, frame_record, frames_at, output_blocks_at, then_read, unpacked, zeros_at}
+use Rattle.emit_append.specs.Unpacking.{AreFrames, Reading, UnpackedIsFrames, after_frame, frame_length, frame_record, frames_at, output_blocks_at, then_read, unpacked, zeros_at}
 use Rattle.emit_append.proofs.FramesRead.{step-frame, step-short, step-zeros}
 use Rattle.emit_append.proofs.ReadBack.{all_bounded, blocks-read, front_two, length-blocks}
 
@@ -128,7 +129,7 @@ block-behind block bytes front more long first others =
           ∙ ap (λ whole. whole ++ concat (map (padded block) (map frames others.parts))) (first.is ∙ ap (λ n. padded n (frames front)) size);
     }
 
-after-block : (block : ℕ) (bytes : List ℕ) (records : List (List ℕ)) (first others : Reading) → block ≤ length bytes → and_then first others ≡ Ok records →
+after-block : (block : ℕ) (bytes : List ℕ) (records : List (List ℕ)) (first others : Reading) → block ≤ length bytes → (first >>= λ front. then_read front others) ≡ Ok records →
     ((front : List (List ℕ)) → first ≡ Ok front → IsFrames (take block bytes) front) →
     ((more : List (List ℕ)) → others ≡ Ok more → AreFrames block more (drop block bytes)) → AreFrames block records bytes
 after-block block bytes records (Ok front) (Ok more) long is here behind =

@@ -4,6 +4,7 @@ use Rattle.std.specs.List.{AllByRecursion, concat, flat_map}
 use Rattle.std.specs.declared.alloc.Global.{Global}
 use Rattle.byteorder.specs.Endian.{little_number}
 use Rattle.program_interface.specs.Frame.{frames}
+use Rattle.program_interface.specs.Readings.{◌>>=◌}
 use Rattle.emit_append.specs.declared.fault.UnpackFault.{UnpackFault}
 use Rattle.emit_append.specs.declared.fault.UnpackFault.TheVariants.{At, Memory}
 use Rattle.program_interface.specs.Bytes.{AreBytes, padded}
@@ -16,8 +17,7 @@ Reading = Result (List (List ℕ)) ℕ
 
 -- these records, and those that are read after them
 abbrev pub then_read : List (List ℕ) → Reading → Reading
-then_read records (Ok more) = Ok (records ++ more)
-then_read records (Err at) = Err at
+then_read records reading = reading >>= λ more. Ok (records ++ more)
 
 -- The bytes after the last frame hold no record, and have to be zeros.
 abbrev pub zeros_at : ℕ → List ℕ → Reading
@@ -48,16 +48,12 @@ frames_at (suc steps) at rest =
 abbrev pub output_block_at : ℕ → List ℕ → Reading
 output_block_at at block = frames_at (length block) at block
 
--- what is read in one block, and then in what follows it
-abbrev pub and_then : Reading → Reading → Reading
-and_then (Ok records) rest = then_read records rest
-and_then (Err at) rest = Err at
-
 -- so many blocks from byte `at` on, after which nothing may follow
 unfoldable pub output_blocks_at : ℕ → ℕ → ℕ → List ℕ → Reading
 output_blocks_at zero block at [] = Ok []
 output_blocks_at zero block at (byte ∷ rest) = Err at
-output_blocks_at (suc count) block at bytes = and_then (output_block_at at (take block bytes)) (output_blocks_at count block (at + block) (drop block bytes))
+output_blocks_at (suc count) block at bytes =
+    output_block_at at (take block bytes) >>= λ records. then_read records (output_blocks_at count block (at + block) (drop block bytes))
 
 -- the records of the blocks that these bytes are
 abbrev pub unpacked : ℕ → List ℕ → Reading

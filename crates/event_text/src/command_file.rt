@@ -15,7 +15,7 @@ ghost use Rattle.event_text.specs.Words.{words_of};
 ghost use Rattle.event_text.specs.declared.command_file.EventFault.TheVariants.{Refused};
 ghost use Rattle.event_text.specs.declared.command_file.ParseFault.TheVariants.{Memory};
 ghost use Rattle.event_text.specs.CommandFile.{told_of, below, submission_of, turn_of, fault_of, state_named, event_named as named_event, line_told, events_in, RefusesFile};
-ghost use Rattle.event_text.specs.steps.ReadLines.{entry_reason, data_reason, GivesEvent, GivesLine};
+ghost use Rattle.event_text.specs.steps.ReadLines.{entry_fault as fault_of_entry, data_fault as fault_of_data, GivesEvent, GivesLine};
 
 use crate::fault::LineFault;
 use crate::words::Words;
@@ -115,8 +115,8 @@ fn submit(alloc: Global, words: Words<'_>) -> Result<Event, EventFault>
     let line = words.shown();
     let (queue, entry, input) = words.two_or_three().ok_or(LineFault::SubmitWords(line))?;
     let queue = queue_number(queue).ok_or(LineFault::Queue(Excerpt::of(queue)))?;
-    let entry = <[u8; 64]>::from_hex(entry).map_err(|error| entry_error(error, entry.len()))?;
-    let input = hex::decode(alloc, input).map_err(|error| data_error(error, input.len()))?;
+    let entry = <[u8; 64]>::from_hex(entry).map_err(|error| entry_fault(error, entry.len()))?;
+    let input = hex::decode(alloc, input).map_err(|error| data_fault(error, input.len()))?;
     Ok(Event::Submit {
         queue,
         entry,
@@ -132,8 +132,8 @@ pub(crate) fn queue_number(word: &[u8]) -> Option<u16>
 }
 
 /// Why an entry of so many characters spells no 64 bytes.
-fn entry_error(error: FromHexError, characters: usize) -> EventFault
-    ensures { result ≡ entry_reason characters error }
+fn entry_fault(error: FromHexError, characters: usize) -> EventFault
+    ensures { result ≡ fault_of_entry characters error }
 {
     match error {
         FromHexError::OutOfMemory => EventFault::Memory,
@@ -147,8 +147,8 @@ fn entry_error(error: FromHexError, characters: usize) -> EventFault
 }
 
 /// Why data of so many characters spells no bytes.
-fn data_error(error: FromHexError, characters: usize) -> EventFault
-    ensures { result ≡ data_reason characters error }
+fn data_fault(error: FromHexError, characters: usize) -> EventFault
+    ensures { result ≡ fault_of_data characters error }
 {
     match error {
         FromHexError::OutOfMemory => EventFault::Memory,

@@ -12,6 +12,7 @@ use Rattle.zone_state.specs.State.{state_of}
 use Rattle.zone_state.specs.Zone.{CountedZone, fits_state}
 use Rattle.zone_resources.specs.declared.admission.Limits.{Limits as ResourceLimits}
 use Rattle.zone_resources.specs.Counts.{open_count, active_count}
+use Rattle.program_interface.specs.Bytes.{field}
 use Rattle.image_store.specs.declared.fault.LoadFault.{LoadFault}
 use Rattle.image_store.specs.declared.fault.LoadFault.TheVariants.{Truncated, Magic, ZoneRow, Total, Limits, Trailing}
 use Rattle.image_store.specs.declared.fault.ZoneRowFault.{ZoneRowFault}
@@ -24,7 +25,7 @@ use Rattle.image_store.specs.Geometry.{Shape}
 use Rattle.image_store.specs.Laws.{FaultsAreByPrefix, fault_end}
 use Rattle.image_store.specs.Namespace.{ZonedNamespace, namespace_with}
 use Rattle.program_interface.specs.Readings.{◌>>=◌}
-use Rattle.image_store.specs.Reading.{are_zeros, number_at, bytes_in, rows_end, shape_in, version_in, header_of, header_told, header_in, zone_told, zone_in, zones_in, total_kept, limits_kept, blocks_in, end_in, namespace_in}
+use Rattle.image_store.specs.Reading.{are_zeros, bytes_in, rows_end, shape_in, version_in, header_of, header_told, header_in, zone_told, zone_in, zones_in, total_kept, limits_kept, blocks_in, end_in, namespace_in}
 use Rattle.image_store.specs.Text.{written_blocks}
 use Rattle.image_store.specs.Version.{numbers_of_version}
 use Rattle.image_store.proofs.Faults.{header_of_fault, is_this, kept_fault}
@@ -80,7 +81,7 @@ padding_bad false zone code told written capacity fault e = is_bad zone Reserved
 
 zone_bad : (zone capacity : ℕ) (bytes : List ℕ) (fault : LoadFault) → zone_in zone capacity bytes ≡ Err fault → IsBad zone fault
 zone_bad zone capacity bytes fault e =
-    padding_bad (are_zeros (take 3 (drop 1 bytes))) zone (get_or bytes 0 0) (state_of (get_or bytes 0 0)) (number_at bytes 4) capacity fault e
+    padding_bad (are_zeros (take 3 (drop 1 bytes))) zone (get_or bytes 0 0) (state_of (get_or bytes 0 0)) (field bytes 4 4) capacity fault e
 
 -- a row that tells no zone is found by the rows up to it
 record IsFoundAt (zone capacity n : ℕ) (xs : List ℕ) (fault : LoadFault) : Type 0 where

@@ -7,6 +7,7 @@ use Rattle.zone_state.specs.State.{state_of}
 use Rattle.zone_state.specs.Zone.{CountedZone, fits_state}
 use Rattle.zone_resources.specs.declared.admission.Limits.{Limits}
 use Rattle.zone_resources.specs.Counts.{open_count, active_count}
+use Rattle.program_interface.specs.Bytes.{field}
 use Rattle.image_store.specs.declared.fault.LoadFault.{LoadFault}
 use Rattle.image_store.specs.declared.fault.LoadFault.TheVariants.{Magic, Header as BadHeader, ZoneRow, Total, Limits as PastLimits, Stream, Memory}
 use Rattle.image_store.specs.declared.fault.ZoneRowFault.{ZoneRowFault}
@@ -21,7 +22,7 @@ use Rattle.image_store.specs.Geometry.{Shape, shape_checks}
 use Rattle.image_store.specs.Loading.{LoadFails, CountsFault, CountsLoad}
 use Rattle.image_store.specs.steps.LoadStages.{IsNoStream, NoStreamFails}
 use Rattle.program_interface.specs.Readings.{◌>>=◌}
-use Rattle.image_store.specs.Reading.{are_zeros, number_at, numbers_fault, numbers_in, numbers_tested, shape_told, version_in, version_kept, zeros_kept, total_told, header_of, header_told, zone_told, zone_in, total_kept, limits_kept}
+use Rattle.image_store.specs.Reading.{are_zeros, numbers_fault, numbers_in, numbers_tested, shape_told, version_in, version_kept, zeros_kept, total_told, header_of, header_told, zone_told, zone_in, total_kept, limits_kept}
 use Rattle.image_store.specs.Text.{written_blocks}
 use Rattle.image_store.specs.Version.{has_block, numbers_of_version}
 use Rattle.image_store.proofs.ReadingCalls.{bind_err}
@@ -104,7 +105,7 @@ padding_fault false zone code told written capacity fault e = subst IsOfText (is
 
 pub zone_text_fault : (zone capacity : ℕ) (bytes : List ℕ) (fault : LoadFault) → zone_in zone capacity bytes ≡ Err fault → IsOfText fault
 zone_text_fault zone capacity bytes fault e =
-    padding_fault (are_zeros (take 3 (drop 1 bytes))) zone (get_or bytes 0 0) (state_of (get_or bytes 0 0)) (number_at bytes 4) capacity fault e
+    padding_fault (are_zeros (take 3 (drop 1 bytes))) zone (get_or bytes 0 0) (state_of (get_or bytes 0 0)) (field bytes 4 4) capacity fault e
 
 pub total_text_fault : (total : Option ℕ) (zs : List CountedZone) (fault : LoadFault) → total_kept total zs ≡ Err fault → IsOfText fault
 total_text_fault None zs fault e = absurd cc

@@ -5,6 +5,7 @@ use Rattle.std.proofs.lemmas.List.{length-replicate}
 use Rattle.zone_state.specs.declared.state.ZoneState.{ZoneState}
 use Rattle.zone_state.specs.State.{state_of}
 use Rattle.zone_state.specs.Zone.{CountedZone, IsZone, fits_state}
+use Rattle.program_interface.specs.Bytes.{field}
 use Rattle.image_store.specs.declared.fault.LoadFault.{LoadFault}
 use Rattle.image_store.specs.declared.fault.LoadFault.TheVariants as fault
 use Rattle.image_store.specs.declared.fault.ZoneRowFault.TheVariants as row_fault
@@ -15,7 +16,7 @@ use Rattle.image_store.specs.Loading.{LoadFails, LoadGives}
 use Rattle.image_store.specs.steps.LoadStages.{NoStreamFails, AreZones}
 use Rattle.image_store.specs.Namespace.{ZoneBlocks, ZonedNamespace, namespace_with}
 use Rattle.program_interface.specs.Readings.{◌>>=◌}
-use Rattle.image_store.specs.Reading.{are_zeros, number_at, bytes_in, header_told, header_in, zone_told, zone_in, zones_in, zone_rows_in, total_kept, limits_kept, blocks_in, end_in, namespace_in}
+use Rattle.image_store.specs.Reading.{are_zeros, bytes_in, header_told, header_in, zone_told, zone_in, zones_in, zone_rows_in, total_kept, limits_kept, blocks_in, end_in, namespace_in}
 use Rattle.image_store.proofs.ReadingCalls.{bind_ok, ok_is, chosen, passed, fails_then}
 use Rattle.image_store.proofs.Faults.{no_stream, fails_text, header_text_fault}
 use Rattle.image_store.proofs.FilledBuffers.{Split}
@@ -47,8 +48,8 @@ with_fits zone code (Some state) written capacity z some e =
 zone_fits : (zone capacity : ℕ) (bytes : List ℕ) (z : CountedZone) → 1 ≤ capacity → zone_in zone capacity bytes ≡ Ok z → (z.capacity ≡ capacity) × IsZone z.state z.written capacity
 zone_fits zone capacity bytes z some e =
     let code = get_or bytes 0 0 in
-    with_fits zone code (state_of code) (number_at bytes 4) capacity z some
-    (passed (are_zeros (take 3 (drop 1 bytes))) (zone_told zone code (state_of code) (number_at bytes 4) capacity) z (fault.ZoneRow zone row_fault.Reserved) e).1
+    with_fits zone code (state_of code) (field bytes 4 4) capacity z some
+    (passed (are_zeros (take 3 (drop 1 bytes))) (zone_told zone code (state_of code) (field bytes 4 4) capacity) z (fault.ZoneRow zone row_fault.Reserved) e).1
 
 -- the zones of rows, as many as were wanted
 pub record HaveFit (capacity n : ℕ) (zs : List CountedZone) : Type 0 where

@@ -4,6 +4,7 @@ use Rattle.std.proofs.lemmas.List.{drop-drop, drop-take, take-take}
 use Rattle.zone_state.specs.declared.state.ZoneState.{ZoneState}
 use Rattle.zone_state.specs.State.{state_of}
 use Rattle.zone_state.specs.Zone.{CountedZone, fits_state}
+use Rattle.program_interface.specs.Bytes.{field}
 use Rattle.image_store.specs.declared.fault.LoadFault.{LoadFault}
 use Rattle.image_store.specs.declared.fault.LoadFault.TheVariants.{ZoneRow}
 use Rattle.image_store.specs.declared.fault.ZoneRowFault.{ZoneRowFault}
@@ -11,7 +12,7 @@ use Rattle.image_store.specs.declared.fault.ZoneRowFault.TheVariants.{Reserved, 
 use Rattle.program_interface.specs.Readings.{◌>>=◌}
 use Rattle.image_store.specs.FirstFault.{IsRowFault, TellsZone, row_at}
 use Rattle.image_store.specs.ImageInMemory.{no_counted_zone}
-use Rattle.image_store.specs.Reading.{are_zeros, number_at, zone_told, zone_in, zones_in}
+use Rattle.image_store.specs.Reading.{are_zeros, zone_told, zone_in, zones_in}
 use Rattle.image_store.proofs.FaultPlaces.{bind_fails}
 use Rattle.image_store.proofs.Faults.{is_this}
 use Rattle.image_store.proofs.ReadingCalls.{bind_ok, chosen, ok_is}
@@ -26,18 +27,18 @@ pub record IsBadRow (zone capacity : ℕ) (row : List ℕ) (fault : LoadFault) :
   pub wrong : IsRowFault capacity row why
 
 state_wrong : (zone capacity : ℕ) (row : List ℕ) (told : Option ZoneState) (fault : LoadFault) → are_zeros (take 3 (drop 1 row)) ≡ true → state_of (get_or row 0 0) ≡ told
-    → zone_told zone (get_or row 0 0) told (number_at row 4) capacity ≡ Err fault → IsBadRow zone capacity row fault
+    → zone_told zone (get_or row 0 0) told (field row 4 4) capacity ≡ Err fault → IsBadRow zone capacity row fault
 state_wrong zone capacity row None fault zeros is e =
     let code = get_or row 0 0 in
     record { why = State code; is = sym (is_this {X = CountedZone} (ZoneRow zone (State code)) fault e); wrong = (zeros, refl, is) }
 state_wrong zone capacity row (Some state) fault zeros is e =
-    let written = number_at row 4 in
+    let written = field row 4 4 in
     let made : CountedZone = record { state = state; written = written; capacity = capacity } in
     let p = wrong (fits_state state written capacity) made (ZoneRow zone (Blocks state written capacity)) fault e in
     record { why = Blocks state written capacity; is = sym p.1; wrong = (zeros, is, refl, refl, p.0) }
 
 row_wrong_if : (zone capacity : ℕ) (row : List ℕ) (test : Bool) (fault : LoadFault) → are_zeros (take 3 (drop 1 row)) ≡ test
-    → cond test (zone_told zone (get_or row 0 0) (state_of (get_or row 0 0)) (number_at row 4) capacity) (Err (ZoneRow zone Reserved)) ≡ Err fault → IsBadRow zone capacity row fault
+    → cond test (zone_told zone (get_or row 0 0) (state_of (get_or row 0 0)) (field row 4 4) capacity) (Err (ZoneRow zone Reserved)) ≡ Err fault → IsBadRow zone capacity row fault
 row_wrong_if zone capacity row true fault zeros e = state_wrong zone capacity row (state_of (get_or row 0 0)) fault zeros refl e
 row_wrong_if zone capacity row false fault zeros e = record { why = Reserved; is = sym (is_this {X = CountedZone} (ZoneRow zone Reserved) fault e); wrong = zeros }
 
@@ -45,16 +46,16 @@ row_wrong : (zone capacity : ℕ) (row : List ℕ) (fault : LoadFault) → zone_
 row_wrong zone capacity row fault e = row_wrong_if zone capacity row (are_zeros (take 3 (drop 1 row))) fault refl e
 
 state_right : (zone capacity : ℕ) (row : List ℕ) (told : Option ZoneState) (z : CountedZone) → are_zeros (take 3 (drop 1 row)) ≡ true → state_of (get_or row 0 0) ≡ told
-    → zone_told zone (get_or row 0 0) told (number_at row 4) capacity ≡ Ok z → TellsZone capacity row z
+    → zone_told zone (get_or row 0 0) told (field row 4 4) capacity ≡ Ok z → TellsZone capacity row z
 state_right zone capacity row None z zeros is e = absurd cc
 state_right zone capacity row (Some state) z zeros is e =
-    let written = number_at row 4 in
+    let written = field row 4 4 in
     let made : CountedZone = record { state = state; written = written; capacity = capacity } in
     let p = chosen (fits_state state written capacity) made z (ZoneRow zone (Blocks state written capacity)) e in
     subst (TellsZone capacity row) p.1 (record { zeros = zeros; state = is; written = refl; most = refl; fits = p.0 })
 
 row_right_if : (zone capacity : ℕ) (row : List ℕ) (test : Bool) (z : CountedZone) → are_zeros (take 3 (drop 1 row)) ≡ test
-    → cond test (zone_told zone (get_or row 0 0) (state_of (get_or row 0 0)) (number_at row 4) capacity) (Err (ZoneRow zone Reserved)) ≡ Ok z → TellsZone capacity row z
+    → cond test (zone_told zone (get_or row 0 0) (state_of (get_or row 0 0)) (field row 4 4) capacity) (Err (ZoneRow zone Reserved)) ≡ Ok z → TellsZone capacity row z
 row_right_if zone capacity row true z zeros e = state_right zone capacity row (state_of (get_or row 0 0)) z zeros refl e
 row_right_if zone capacity row false z zeros e = absurd cc
 

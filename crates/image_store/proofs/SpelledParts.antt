@@ -8,8 +8,8 @@ use Rattle.std.specs.Str.{bytes_eq}
 use Rattle.byteorder.specs.Endian.{little_bytes, little_number}
 use Rattle.image_store.specs.declared.version.Version.{Version}
 use Rattle.image_store.specs.declared.version.Version.TheVariants.{One, Two}
-use Rattle.program_interface.specs.Bytes.{AreBytes}
-use Rattle.image_store.specs.Reading.{are_zeros, number_at, shape_told, total_told}
+use Rattle.program_interface.specs.Bytes.{AreBytes, field}
+use Rattle.image_store.specs.Reading.{are_zeros, shape_told, total_told}
 use Rattle.image_store.specs.Text.{four_bytes, header_end, header}
 use Rattle.image_store.specs.Version.{numbers_of_version}
 use Rattle.image_store.proofs.ByteParts.{bytes_from, front_fit}
@@ -26,9 +26,9 @@ four_bytes_spelled (a ∷ b ∷ c ∷ d ∷ xs) h fit =
     ap (λ (front : List ℕ). front ++ xs) (le_bytes_4 (a ∷ b ∷ c ∷ d ∷ []) (little_number 4 (a ∷ b ∷ c ∷ d ∷ xs)) refl (front_fit (a ∷ b ∷ c ∷ d ∷ []) xs fit) (omega arith))
 
 -- the number at a place, and what follows
-pub number_spelled : (xs : List ℕ) (at : ℕ) → at + 4 ≤ length xs → AreBytes xs → four_bytes (number_at xs at) ++ drop (at + 4) xs ≡ drop at xs
+pub number_spelled : (xs : List ℕ) (at : ℕ) → at + 4 ≤ length xs → AreBytes xs → four_bytes (field xs at 4) ++ drop (at + 4) xs ≡ drop at xs
 number_spelled xs at h fit =
-    ap (λ (rest : List ℕ). four_bytes (number_at xs at) ++ rest) (sym (drop-drop 4 at xs))
+    ap (λ (rest : List ℕ). four_bytes (field xs at 4) ++ rest) (sym (drop-drop 4 at xs))
     ∙ four_bytes_spelled (drop at xs) (omega (arith, length-drop at xs)) (bytes_from at xs fit)
 
 pub zeros_spelled : (xs : List ℕ) → are_zeros xs ≡ true → replicate (length xs) 0 ≡ xs
@@ -82,12 +82,12 @@ pub header_spelled : (version : Version) (xs : List ℕ) → length xs ≡ 64 �
     → header version (shape_told xs) (total_or_none (total_told version xs)) ≡ xs
 header_spelled version xs size fit magic zeros =
     let front = (numbers_of_version version).magic in
-    let n1 = number_at xs 8 in
-    let n2 = number_at xs 12 in
-    let n3 = number_at xs 16 in
-    let n4 = number_at xs 20 in
-    let n5 = number_at xs 24 in
-    let n6 = number_at xs 28 in
+    let n1 = field xs 8 4 in
+    let n2 = field xs 12 4 in
+    let n3 = field xs 16 4 in
+    let n4 = field xs 20 4 in
+    let n5 = field xs 24 4 in
+    let n6 = field xs 28 4 in
     ap (λ (rest : List ℕ). front ++ (four_bytes n1 ++ (four_bytes n2 ++ (four_bytes n3 ++ (four_bytes n4 ++ (four_bytes n5 ++ (four_bytes n6 ++ rest))))))) (end_spelled version xs size fit zeros)
     ∙ (ap (λ (rest : List ℕ). front ++ (four_bytes n1 ++ (four_bytes n2 ++ (four_bytes n3 ++ (four_bytes n4 ++ (four_bytes n5 ++ rest)))))) (number_spelled xs 28 (omega arith) fit)
     ∙ (ap (λ (rest : List ℕ). front ++ (four_bytes n1 ++ (four_bytes n2 ++ (four_bytes n3 ++ (four_bytes n4 ++ rest))))) (number_spelled xs 24 (omega arith) fit)

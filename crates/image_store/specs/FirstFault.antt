@@ -5,6 +5,7 @@ use Rattle.zone_state.specs.State.{state_of}
 use Rattle.zone_state.specs.Zone.{CountedZone, fits_state}
 use Rattle.zone_resources.specs.Admission.{IsWithin}
 use Rattle.zone_resources.specs.Counts.{open_count, active_count}
+use Rattle.program_interface.specs.Bytes.{field}
 use Rattle.image_store.specs.declared.fault.LoadFault.{LoadFault}
 use Rattle.image_store.specs.declared.fault.LoadFault.TheVariants as faults
 use Rattle.image_store.specs.declared.fault.HeaderFault.{HeaderFault}
@@ -14,7 +15,7 @@ use Rattle.image_store.specs.declared.fault.ZoneRowFault.TheVariants as row_faul
 use Rattle.image_store.specs.declared.version.Version.{Version}
 use Rattle.image_store.specs.Geometry.{Shape, IsShape, shape_checks}
 use Rattle.image_store.specs.ImageInMemory.{no_counted_zone}
-use Rattle.image_store.specs.Reading.{are_zeros, namespace_in, number_at, rows_end, shape_in, total_told}
+use Rattle.image_store.specs.Reading.{are_zeros, namespace_in, rows_end, shape_in, total_told}
 use Rattle.image_store.specs.Text.{written_blocks}
 use Rattle.image_store.specs.Version.{HasText, has_block, numbers_of_version}
 
@@ -52,7 +53,7 @@ row_at bytes zone = take 8 (drop (64 + zone * 8) bytes)
 pub record TellsZone (capacity : ℕ) (row : List ℕ) (z : CountedZone) : Type 0 where
   pub zeros : are_zeros (take 3 (drop 1 row)) ≡ true
   pub state : state_of (get_or row 0 0) ≡ Some z.state
-  pub written : number_at row 4 ≡ z.written
+  pub written : field row 4 4 ≡ z.written
   pub most : capacity ≡ z.capacity
   pub fits : fits_state z.state z.written z.capacity ≡ true
 
@@ -66,7 +67,7 @@ IsRowFault capacity row (row_faults.State code) =
 -- a state has, but a zone of it can't have so many written blocks
 IsRowFault capacity row (row_faults.Blocks state written most) =
     (are_zeros (take 3 (drop 1 row)) ≡ true) × (state_of (get_or row 0 0) ≡ Some state)
-    × (number_at row 4 ≡ written) × (capacity ≡ most) × (fits_state state written most ≡ false)
+    × (field row 4 4 ≡ written) × (capacity ≡ most) × (fits_state state written most ≡ false)
 
 -- a text whose header has no fault, with all its rows, of which the first tell these zones
 pub record TellsZones (version : Version) (bytes : List ℕ) (zones : List CountedZone) : Type 0 where

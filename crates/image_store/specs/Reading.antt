@@ -3,13 +3,13 @@
 use Rattle.std.specs.Prelude.{ℕ, zero, suc, Bool, ◌+◌, ◌*◌, ◌==◌, ◌&&◌, nat_le, List, [], ◌∷◌, length, get_or, take, drop, Option, Some, None, Result, Ok, Err, if◌then◌else◌}
 use Rattle.std.specs.List.{find, list_all, starts_with}
 use Rattle.std.specs.Option.{ok_or}
-use Rattle.byteorder.specs.Endian.{little_number}
 use Rattle.program_interface.specs.Readings.{◌>>=◌}
 use Rattle.zone_state.specs.declared.state.ZoneState.{ZoneState}
 use Rattle.zone_state.specs.State.{state_of}
 use Rattle.zone_state.specs.Zone.{CountedZone, fits_state}
 use Rattle.zone_resources.specs.declared.admission.Limits.{Limits}
 use Rattle.zone_resources.specs.Counts.{open_count, active_count}
+use Rattle.program_interface.specs.Bytes.{field}
 use Rattle.image_store.specs.declared.fault.LoadFault.{LoadFault}
 use Rattle.image_store.specs.declared.fault.LoadFault.TheVariants as fault
 use Rattle.image_store.specs.declared.fault.ZoneRowFault.TheVariants as row_fault
@@ -33,15 +33,11 @@ bytes_in n bytes = if nat_le n (length bytes) then Ok (take n bytes, drop n byte
 abbrev pub are_zeros : List ℕ → Bool
 are_zeros bytes = list_all (λ byte. byte == 0) bytes
 
--- the 32 bits at a place
-abbrev pub number_at : List ℕ → ℕ → ℕ
-number_at bytes at = little_number 4 (drop at bytes)
-
 -- the numbers of a header, as a shape
 abbrev pub shape_told : List ℕ → Shape
 shape_told bytes =
-    shape_of (number_at bytes 8) (number_at bytes 12) (number_at bytes 16) (number_at bytes 20)
-    (record { open_limit = number_at bytes 24; active_limit = number_at bytes 28 })
+    shape_of (field bytes 8 4) (field bytes 12 4) (field bytes 16 4) (field bytes 20 4)
+    (record { open_limit = field bytes 24 4; active_limit = field bytes 28 4 })
 
 -- the shape that the header of a text tells
 abbrev pub shape_in : List ℕ → Shape
@@ -89,7 +85,7 @@ zeros_kept version bytes =
 -- how many blocks are written in all, if the version tells it
 abbrev pub total_told : Version → List ℕ → Option ℕ
 total_told One bytes = None
-total_told Two bytes = Some (little_number 8 (drop 32 bytes))
+total_told Two bytes = Some (field bytes 32 8)
 
 -- what 64 bytes of a version tell
 abbrev pub header_of : List ℕ → Version → Result Header LoadFault
@@ -123,7 +119,7 @@ zone_told zone code (Some state) written capacity = zone_with zone state written
 abbrev pub zone_in : ℕ → ℕ → List ℕ → Result CountedZone LoadFault
 zone_in zone capacity bytes =
     if are_zeros (take 3 (drop 1 bytes))
-    then zone_told zone (get_or bytes 0 0) (state_of (get_or bytes 0 0)) (number_at bytes 4) capacity
+    then zone_told zone (get_or bytes 0 0) (state_of (get_or bytes 0 0)) (field bytes 4 4) capacity
     else Err (fault.ZoneRow zone row_fault.Reserved)
 
 -- what the bytes of so many zones tell, from the one with this number on

@@ -1,7 +1,8 @@
 //! The first part of an image: its version, the shape of its namespace, and how much is written.
 
 ghost use Rattle.std.specs.Prelude.{◌≡◌, ◌+◌, ◌≤◌, length};
-ghost use Rattle.image_store.specs.Reading.{header_of, header_told, number_at, numbers_in, shape_told, total_told, version_kept, zeros_kept};
+ghost use Rattle.program_interface.specs.Bytes.{field};
+ghost use Rattle.image_store.specs.Reading.{header_of, header_told, numbers_in, shape_told, total_told, version_kept, zeros_kept};
 ghost use Rattle.image_store.specs.Text.{header};
 
 use crate::bytes::are_zeros;
@@ -134,7 +135,7 @@ fn total(version: Version, bytes: &[u8]) -> Option<u64>
 /// The number that begins at a byte.
 fn number(bytes: &[u8], at: usize) -> u32
     requires { at + 4 ≤ length bytes.now }
-    ensures { result ≡ number_at bytes.now at }
+    ensures { result ≡ field bytes.now at 4 }
 {
     LittleEndian::read_u32(&bytes[at..])
 }

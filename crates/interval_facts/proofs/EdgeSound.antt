@@ -1,5 +1,6 @@
 -- Words that belong to two facts, and between which a relation holds, belong to what its edge keeps.
 use Rattle.std.proofs.Common.{ℕ, ℤ, ◌≡◌, ◌≢◌, ◌+◌, ◌-◌, ◌^◌, ◌<◌, ◌≤◌, Bool, true, false, not, min, max, Option, Some, None, inl, inr, refl, subst, arith}
+use Rattle.std.proofs.Math.Nat.{mod-eq_of_lt}
 use Rattle.std.proofs.lemmas.Bool.{cond_both, ltb-true, ltb-false, leb-true, leb-false, eqb-true, eqb-false, and_parts, or_cases, or_parts, not-true, not-false}
 use Rattle.std.specs.Prelude.{◌==◌, ◌&&◌, ◌||◌}
 use Rattle.instruction_set.specs.declared.operation.Relation.{Relation}
@@ -7,7 +8,6 @@ use Rattle.instruction_set.specs.declared.operation.Relation.TheVariants.{Equal,
 use Rattle.instruction_set.specs.declared.operation.Width.{Width}
 use Rattle.instruction_set.specs.declared.operation.Width.TheVariants.{Bits32, Bits64}
 use Rattle.program_meaning.specs.Word.{is_taken, low_bits, relates, signed}
-use Rattle.interval_facts.proofs.Numbers.{mod_below_is}
 use Rattle.word_domain.specs.Domain.{BelongAfter}
 use Rattle.interval_facts.specs.Edge.{agrees, as_facts, at_most, different, edge_of, equal, exchanged, fits, is_empty, less, narrowed, refine_of, refine_words, without}
 use Rattle.interval_facts.specs.Fact.{ContainsWord, IsWithin, is_single, range}
@@ -95,7 +95,7 @@ as_facts_law None x y fx fy kept = kept
 as_facts_law (Some both) x y fx fy kept = ((kept.0, fx), (kept.1, fy))
 
 low_is : (width : Width) (b : Bounds) (x : ℕ) → IsWithin b x → fits width b ≡ true → low_bits width x ≡ x
-low_is Bits32 b x within small = let e = ltb-true b.high (2 ^ 32) small in mod_below_is (x) (2 ^ 32) (omega arith)
+low_is Bits32 b x within small = let e = ltb-true b.high (2 ^ 32) small in mod-eq_of_lt {x} {2 ^ 32} (omega arith)
 low_is Bits64 b x within small = refl
 
 agreed : (taken answer : Bool) → answer ≡ taken → agrees taken answer ≡ true

@@ -3,10 +3,7 @@ use Rattle.std.proofs.Common.{ℕ, ◌≡◌, ◌+◌, ◌-◌, ◌*◌, ◌/◌
 use Rattle.std.proofs.Math.Nat.{div-mul-le_self, mod-eq-sub-mod, mod-eq_of_lt, mul-le-mul_left}
 use Rattle.std.proofs.lemmas.Nat.{le-div}
 
--- a number that does not wrap, and one that wraps once
-pub mod_below_is : (n m : ℕ) → n < m → n % m ≡ n
-mod_below_is n m below = mod-eq_of_lt below
-
+-- a number that wraps once
 pub wraps_once : (m n : ℕ) → m ≤ n → n < m + m → n % m ≡ n - m
 wraps_once m n from below = mod-eq-sub-mod from ∙ mod-eq_of_lt (omega arith)
 

@@ -1,6 +1,6 @@
 -- What an operation makes of numbers within bounds is within the bounds that its rule gives.
 use Rattle.std.proofs.Common.{ℕ, pos, ◌≡◌, ◌+◌, ◌-◌, ◌*◌, ◌/◌, ◌%◌, ◌^◌, ◌<◌, ◌≤◌, min, Bool, true, false, cond, sym, subst, arith}
-use Rattle.std.proofs.Math.Nat.{div-le_self, mod-le}
+use Rattle.std.proofs.Math.Nat.{div-le_self, mod-eq_of_lt, mod-le}
 use Rattle.std.proofs.lemmas.Bool.{cond_both, ltb-true, leb-true, eqb-true, eqb-false, and_parts}
 use Rattle.std.proofs.lemmas.Nat.{and_le_l, and_le_r, mod_below, mul-le, pow_pos, shr_le}
 use Rattle.std.specs.Prelude.{◌==◌, ◌&&◌, nat_lt, nat_le, bit_and, bit_or, bit_xor}
@@ -13,7 +13,7 @@ use Rattle.instruction_set.specs.declared.operation.Width.{Width}
 use Rattle.instruction_set.specs.declared.operation.Width.TheVariants.{Bits32, Bits64}
 use Rattle.program_meaning.specs.Word.{bits, count, result_of, signed}
 use Rattle.program_meaning.proofs.Proved.{operations_keep_width}
-use Rattle.interval_facts.proofs.Numbers.{mod_below_is, quotient_grows, wraps_once}
+use Rattle.interval_facts.proofs.Numbers.{quotient_grows, wraps_once}
 use Rattle.interval_facts.specs.Fact.{IsWithin, is_single, range, single}
 use Rattle.interval_facts.specs.Range.{number_count, half, top, sum, difference, product, quotient, remainder, if_positive, conjunction, shifted_left, shifted_left_by, shifted_right, shifted_right_by, combined}
 use Rattle.word_domain.specs.declared.bounds.Bounds.{Bounds}
@@ -35,7 +35,7 @@ sum_law w d s x y hd hs fx fy =
     either (nat_lt (d.high + s.high) (number_count w)) _ _ ((x + y) % number_count w)
     (λ fits.
     let below = ltb-true (d.high + s.high) (number_count w) fits in
-    rw (mod_below_is (x + y) (number_count w) (omega arith)) (omega arith, omega arith))
+    rw (mod-eq_of_lt {x + y} {number_count w} (omega arith)) (omega arith, omega arith))
     (λ _. either (nat_le (number_count w) (d.low + s.low)) _ _ ((x + y) % number_count w)
     (λ wraps.
     let above = leb-true (number_count w) (d.low + s.low) wraps in
@@ -52,7 +52,7 @@ difference_law w d s x y hd hs fx fy =
     (λ _. either (nat_lt d.high s.low) _ _ ((x + (number_count w - y)) % number_count w)
     (λ wraps.
     let above = ltb-true d.high s.low wraps in
-    rw (mod_below_is (x + (number_count w - y)) (number_count w) (omega arith)) (omega arith, omega arith))
+    rw (mod-eq_of_lt {x + (number_count w - y)} {number_count w} (omega arith)) (omega arith, omega arith))
     (λ _. wrapped_law w (x + (number_count w - y))))
 
 product_law : (w : Width) (d s : Bounds) (x y : ℕ) → IsWithin d x → IsWithin s y
@@ -63,7 +63,7 @@ product_law w d s x y hd hs =
     let below = ltb-true (d.high * s.high) (number_count w) fits in
     let most = mul-le x y d.high s.high hd.1 hs.1 in
     let least = mul-le d.low s.low x y hd.0 hs.0 in
-    rw (mod_below_is (x * y) (number_count w) (omega (arith, most))) (least, most))
+    rw (mod-eq_of_lt {x * y} {number_count w} (omega (arith, most))) (least, most))
     (λ _. wrapped_law w (x * y))
 
 divided_below : (x y : ℕ) → (cond (y == 0) 0 (x / y)) ≤ x
@@ -99,7 +99,7 @@ remainder_law d s x y hd hs =
     let less = ltb-true d.high s.low (and_parts (nat_le 1 s.low) (nat_lt d.high s.low) smaller).1 in
     cond_both (y == 0) x (x % y) (λ r. IsWithin d r)
     (λ _. hd)
-    (λ _. rw (mod_below_is (x) (y) (omega arith)) hd))
+    (λ _. rw (mod-eq_of_lt {x} {y} (omega arith)) hd))
     (λ _. either (nat_le 1 s.low) _ _ (cond (y == 0) x (x % y))
     (λ some.
     let least = leb-true 1 s.low some in
@@ -157,7 +157,7 @@ shifted_left_by_law w c d x hd =
     let below = ltb-true (d.high * 2 ^ c) (number_count w) fits in
     let most = mul-le x (2 ^ c) d.high (2 ^ c) hd.1 (omega arith) in
     let least = mul-le d.low (2 ^ c) x (2 ^ c) hd.0 (omega arith) in
-    rw (mod_below_is (x * 2 ^ c) (number_count w) (omega (arith, most))) (least, most))
+    rw (mod-eq_of_lt {x * 2 ^ c} {number_count w} (omega (arith, most))) (least, most))
     (λ _. wrapped_law w (x * 2 ^ c))
 
 shifted_left_law : (w : Width) (d s : Bounds) (x y : ℕ) → IsWithin d x → IsWithin s y

@@ -8,7 +8,8 @@ use Rattle.zone_state.specs.declared.status.TheConstants.Status.{INVALID_FIELD_I
 use Rattle.nvme_entry.specs.steps.EntryFields.{HasFields}
 use Rattle.zone_state.specs.Transition.{action_of}
 use Rattle.nvme_entry.specs.Entry.{asked_blocks, decoded, dwords_of, starting_lba}
-use Rattle.nvme_entry.specs.Fields.{dword, field}
+use Rattle.program_interface.specs.Bytes.{field}
+use Rattle.nvme_entry.specs.Dwords.{dword}
 use Rattle.nvme_entry.specs.Filter.{filter_of}
 use Rattle.nvme_entry.specs.ProgramSlot.{program_slot_of}
 use Rattle.nvme_entry.specs.declared.command.Command.{Command}

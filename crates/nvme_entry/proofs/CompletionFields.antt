@@ -8,7 +8,7 @@ use Rattle.zone_state.specs.declared.status.StatusType.TheVariants.{Generic, Com
 use Rattle.zone_state.specs.Status.{type_number, type_of}
 use Rattle.nvme_entry.specs.declared.completion.Completion.{Completion}
 use Rattle.nvme_entry.specs.Completion.{completion_bytes, status_dword}
-use Rattle.nvme_entry.specs.Fields.{dword}
+use Rattle.nvme_entry.specs.Dwords.{dword}
 use Rattle.nvme_entry.specs.CompletionFields.{CompletionsTell, AreCompletionFields, completion_in}
 
 three_bits : (kind : StatusType) → type_number kind < 2 ^ 3

@@ -11,7 +11,8 @@ use Rattle.program_interface.specs.Readings.{unless_fault}
 use Rattle.zone_state.specs.Checks.{demand, first_failed}
 use Rattle.nvme_entry.specs.Entry.{asked, asked_blocks, command_of, decoded_by, dwords_of, fuse_of, namespace_identifier, opcode_of, starting_lba}
 use Rattle.nvme_entry.specs.EntryLaws.{AsksFor, FieldsAreSpelled, SpelledEntriesAreDecoded, Spells}
-use Rattle.nvme_entry.specs.Fields.{dword, field}
+use Rattle.program_interface.specs.Bytes.{field}
+use Rattle.nvme_entry.specs.Dwords.{dword}
 use Rattle.nvme_entry.specs.Filter.{filter_of}
 use Rattle.nvme_entry.specs.ProgramSlot.{program_slot_of}
 use Rattle.nvme_entry.specs.declared.command.Command.{Command}

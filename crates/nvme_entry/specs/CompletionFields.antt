@@ -4,7 +4,7 @@ use Rattle.std.specs.Option.{option_map}
 use Rattle.zone_state.specs.Status.{type_of}
 use Rattle.zone_state.specs.declared.status.StatusType.{StatusType}
 use Rattle.nvme_entry.specs.Completion.{completion_bytes}
-use Rattle.nvme_entry.specs.Fields.{dword}
+use Rattle.nvme_entry.specs.Dwords.{dword}
 use Rattle.nvme_entry.specs.declared.completion.Completion.{Completion}
 
 -- the completion with the fields that bytes tell, where they tell a known status code type: in Dword 2 the queue

@@ -1,4 +1,4 @@
-pub mod Fields
+pub mod Dwords
 pub mod Filter
 pub mod ProgramSlot
 pub mod Entry

@@ -1,7 +1,8 @@
 //! Dwords of entries.
 
 ghost use Rattle.std.specs.Prelude.{◌≡◌, ◌≤◌, ◌+◌, ◌*◌, length};
-ghost use Rattle.nvme_entry.specs.Fields.{dword, field};
+ghost use Rattle.program_interface.specs.Bytes.{field};
+ghost use Rattle.nvme_entry.specs.Dwords.{dword};
 
 use byteorder::{ByteOrder, LittleEndian};
 

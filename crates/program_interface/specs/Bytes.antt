@@ -1,9 +1,14 @@
 -- Numbers that are bytes, and lists of them.
 use Rattle.std.specs.Prelude.{ℕ, zero, suc, ◌<◌, ◌+◌, ◌-◌, List, [], ◌∷◌, ◌++◌, length, take, drop, replicate, slice_index}
+use Rattle.byteorder.specs.Endian.{little_number}
 
 -- each of these numbers is below 256
 abbrev pub AreBytes : List ℕ → Type 0
 AreBytes bytes = (k : ℕ) → slice_index bytes k < 256
+
+-- the number that so many bytes from one on spell, the lowest first
+abbrev pub field : List ℕ → ℕ → ℕ → ℕ
+field bytes at count = little_number count (drop at bytes)
 
 -- bytes with others put in their place from one on
 abbrev pub spliced : ℕ → List ℕ → List ℕ → List ℕ

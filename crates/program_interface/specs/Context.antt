@@ -1,7 +1,8 @@
 -- The bytes of the context (profile).
 use Rattle.std.specs.Prelude.{ℕ, ◌≡◌, ◌<◌, ◌^◌, List, [], ◌∷◌, ◌++◌, length, drop, replicate}
 use Rattle.std.specs.List.{flat_map}
-use Rattle.byteorder.specs.Endian.{little_bytes, little_number}
+use Rattle.byteorder.specs.Endian.{little_bytes}
+use Rattle.program_interface.specs.Bytes.{field}
 use Rattle.program_interface.specs.declared.area.TheConstants.{CONTEXT_BYTES}
 use Rattle.program_interface.specs.declared.context.Context.{Context}
 
@@ -26,11 +27,11 @@ pub record AreFields (c : Context) : Type 0 where
 -- 16 to 19, the run's argument in bytes 20 to 23, and zeros behind them
 pub record TellContext (bytes : List ℕ) (c : Context) : Type 0 where
   pub size : length bytes ≡ CONTEXT_BYTES
-  pub lba : little_number 8 bytes ≡ c.lba
-  pub index : little_number 4 (drop 8 bytes) ≡ c.index
-  pub count : little_number 4 (drop 12 bytes) ≡ c.count
-  pub block : little_number 4 (drop 16 bytes) ≡ c.block
-  pub argument : little_number 4 (drop 20 bytes) ≡ c.argument
+  pub lba : field bytes 0 8 ≡ c.lba
+  pub index : field bytes 8 4 ≡ c.index
+  pub count : field bytes 12 4 ≡ c.count
+  pub block : field bytes 16 4 ≡ c.block
+  pub argument : field bytes 20 4 ≡ c.argument
   pub zeros : drop 24 bytes ≡ replicate 8 0
 
 -- a program reads in its context what the device put into it

@@ -1,9 +1,9 @@
 pub mod BlockSize
 pub mod RunSizes
 pub mod Area
+pub mod Bytes
 pub mod Context
 pub mod Registers
 pub mod Frame
-pub mod Bytes
 pub mod Readings
 pub mod Gives

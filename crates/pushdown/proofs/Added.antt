@@ -16,7 +16,8 @@ use Rattle.zns_commands.specs.Left.{Grows}
 use Rattle.zns_commands.proofs.Proved.{grows_by_none, replaced_grows}
 use Rattle.pushdown.specs.Laws.{BlocksLeaveOthers}
 use Rattle.pushdown.specs.Happenings.{added}
-use Rattle.pushdown.proofs.Bytes.{AreBlocks, all_append}
+use Rattle.accepted_programs.proofs.Proved.{all_append}
+use Rattle.pushdown.proofs.Bytes.{AreBlocks}
 
 -- a zone that isn't Offline is one of the namespace
 pub inside : (zones : List ZoneBlocks) (z : ℕ) → (get_or zones z no_zone).state ≢ Offline → z < length zones

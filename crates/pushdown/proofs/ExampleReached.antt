@@ -15,7 +15,7 @@ use Rattle.pushdown.specs.Pushdown.{IsAdmitted}
 use Rattle.pushdown.specs.Reached.{IsReached}
 use Rattle.pushdown.specs.State.{State, new_state}
 use Rattle.device_events.specs.declared.event.Event.TheVariants as event
-use Rattle.pushdown.proofs.Bytes.{all_append, all_same}
+use Rattle.accepted_programs.proofs.Proved.{all_append, all_same}
 use Rattle.pushdown.proofs.ExampleLoads.{leave, load_entry, move}
 use Rattle.pushdown.proofs.Examples.{block_of, entry_of, run_entry}
 

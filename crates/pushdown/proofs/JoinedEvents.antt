@@ -9,7 +9,7 @@ use Rattle.pushdown.specs.Happenings.{happens, turned}
 use Rattle.pushdown.specs.JoinedEvents.{DrainedByTurns, DrainedInOneWay, EventsInParts, EventsJoin, OneReplyEach, ServedAndDrained, ServedInParts, turn_events}
 use Rattle.pushdown.specs.State.{State}
 use Rattle.device_events.specs.declared.event.Event.{Event}
-use Rattle.pushdown.proofs.Bytes.{all_append}
+use Rattle.accepted_programs.proofs.Proved.{all_append}
 
 pub events_join : EventsJoin
 events_join first later are more = all_append (λ (o : Occurrence). CarriesBytes o.event) first later are more

@@ -19,12 +19,12 @@ use Rattle.device_events.specs.declared.reply.Reply.{Reply}
 use Rattle.device_events.specs.declared.reply.Reply.TheVariants as reply
 use Rattle.pushdown.proofs.Loads.{is_pending, loading_is}
 
-abbrev number_in : Reply → ℕ
-number_in (reply.Pending run) = run
-number_in (reply.Complete queue entry length) = 0
-number_in reply.Idle = 0
-number_in reply.FaultTaken = 0
-number_in reply.FaultRefused = 0
+abbrev run_in : Reply → ℕ
+run_in (reply.Pending run) = run
+run_in (reply.Complete queue entry length) = 0
+run_in reply.Idle = 0
+run_in reply.FaultTaken = 0
+run_in reply.FaultRefused = 0
 
 other_reply : (t : ReplyWithData) (run : ℕ) → is_pending t.reply ≡ false → t ≡ plain (reply.Pending run) → ⊥
 other_reply t run other is =
@@ -42,7 +42,7 @@ start_pends : (why : Option Status) (free : Option ℕ) (sub : Submission) (s : 
     → IsPending run (start_by why free sub s command) → (why ≡ None) × (free ≡ Some run)
 start_pends (Some status) free sub s command run is = absurd (other_reply _ run refl is)
 start_pends None None sub s command run is = absurd (other_reply _ run refl is)
-start_pends None (Some first) sub s command run is = let same : first ≡ run = ap (λ (x : ReplyWithData). number_in x.reply) is in (refl, ap Some same)
+start_pends None (Some first) sub s command run is = let same : first ≡ run = ap (λ (x : ReplyWithData). run_in x.reply) is in (refl, ap Some same)
 
 module _ {D : Type 0} (operations : Operations D) where
   pends : (starved : Bool) (sub : Submission) (s : State) (asked : Result Command Status) (run : ℕ) → decoded sub.entry ≡ asked

@@ -3,13 +3,12 @@ use Rattle.std.proofs.Common.{◌≡◌, ℕ, zero, suc, ◌+◌, ◌≤◌, Lis
 use Rattle.std.specs.Prelude.{All}
 use Rattle.zone_resources.specs.declared.holds.Holds.{Holds}
 use Rattle.nvme_entry.specs.Entry.{decoded}
-use Rattle.nvme_entry.specs.Fields.{field}
 use Rattle.nvme_entry.specs.declared.command.Command.{Command}
 use Rattle.nvme_entry.specs.declared.command.Command.TheVariants as commands
 use Rattle.nvme_entry.specs.declared.command.StandardCommand.{StandardCommand}
 use Rattle.nvme_entry.specs.declared.command.StandardCommand.TheVariants.{Write, Read, Send, Receive, Append}
 use Rattle.nvme_entry.proofs.Proved.{fields_are_spelled}
-use Rattle.program_interface.specs.Bytes.{AreBytes}
+use Rattle.program_interface.specs.Bytes.{AreBytes, field}
 use Rattle.zns_commands.specs.Laws.{Commanded, IsSpelled, NamespaceEvent}
 
 abbrev pub HasBlocks : Command → Type 0

@@ -49,7 +49,8 @@ use Rattle.pushdown.specs.State.{Place, State, free_place, holds_at, new_state, 
 use Rattle.device_events.specs.declared.event.Event.{Event}
 use Rattle.pushdown.proofs.Added.{added_block}
 use Rattle.pushdown.proofs.BlockRuns.{IsDone, IsReady, few_runs, runs_done, some_runs}
-use Rattle.pushdown.proofs.Bytes.{AreBlocks, IsBlock, all_at, all_drop, all_from, all_same, all_set, all_take, blocks_by_place}
+use Rattle.accepted_programs.proofs.Proved.{all_at, all_drop, all_from, all_same, all_set, all_take}
+use Rattle.pushdown.proofs.Bytes.{AreBlocks, IsBlock, blocks_by_place}
 use Rattle.pushdown.proofs.Changes.{after_event, after_turn}
 use Rattle.pushdown.proofs.FewBlocks.{HasFew, turns_few}
 use Rattle.pushdown.proofs.OthersEvents.{free_within}

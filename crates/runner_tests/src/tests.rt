@@ -32,12 +32,20 @@ fn room(rt: &impl Abort, alloc: Global) -> Vec<u8>
     vec![in alloc; 0; MOST_TRANSFER].expect(rt, "memory")
 }
 
+const SOURCE_APPENDED: Case = (Step::Append(1, 0, "07*1024"), Done(1));
+
+const DESTINATION_OPENED: Case = (Step::Send(2, 8, Action::Open), Done(2));
+
+const PROGRAM_LOADED: Case = (Step::Load(3, 0, 10, EMITTING), Done(3));
+
+const RUN_ADMITTED: Case = (Step::Run(4, 0, 2, 8), Pending(0));
+
 /// A run of two blocks up to its last turn.
 const UP_TO_ITS_LAST_TURN: &[Case] = &[
-    (Step::Append(1, 0, "07*1024"), Done(1)),
-    (Step::Send(2, 8, Action::Open), Done(2)),
-    (Step::Load(3, 0, 10, EMITTING), Done(3)),
-    (Step::Run(4, 0, 2, 8), Pending(0)),
+    SOURCE_APPENDED,
+    DESTINATION_OPENED,
+    PROGRAM_LOADED,
+    RUN_ADMITTED,
     (Step::Turns(0, 1), Pending(0)),
 ];
 
@@ -115,10 +123,10 @@ impl Out for Kept {
 
 /// Events of a run, and what is replied to each.
 const SERVED: &[Case] = &[
-    (Step::Append(1, 0, "07*1024"), Done(1)),
-    (Step::Send(2, 8, Action::Open), Done(2)),
-    (Step::Load(3, 0, 10, EMITTING), Done(3)),
-    (Step::Run(4, 0, 2, 8), Pending(0)),
+    SOURCE_APPENDED,
+    DESTINATION_OPENED,
+    PROGRAM_LOADED,
+    RUN_ADMITTED,
     (Step::Read(5, 1, 1, "07*512"), Done(5)),
 ];
 

@@ -1,5 +1,5 @@
--- Lists of facts that are made from the front.
-use Rattle.std.proofs.Common.{◌≡◌, ℕ, zero, suc, ◌+◌, ◌<◌, ◌++◌, List, [], ◌∷◌, length, get_or, set, drop, replicate, refl, ap, arith, add-one, subst}
+-- Lists of facts that are joined from the front.
+use Rattle.std.proofs.Common.{◌≡◌, ℕ, zero, suc, ◌+◌, ◌<◌, List, [], ◌∷◌, length, get_or, set, refl, ap, arith, add-one, subst}
 use Rattle.accepted_programs.specs.Cells.{joined_each}
 
 module _ {A : Type 0} (join : A → A → A) where
@@ -31,15 +31,3 @@ module _ {A : Type 0} (join : A → A → A) where
   pub joined_rows : (n : ℕ) (ds es : List A) → length ds ≡ n → length es ≡ n → joined_upto n ds es ≡ joined_each join ds es
   joined_rows n ds es long same =
       subst (λ n. joined_upto n ds es ≡ joined_each join ds es) long (all_joined ds es (omega arith))
-
-module _ {D : Type 0} (d : D) where
-  filled_suc : (i : ℕ) (ds : List D) → i < length ds
-      → set (replicate i d ++ drop i ds) i d ≡ replicate (suc i) d ++ drop (suc i) ds
-  filled_suc i [] within = absurd (omega arith)
-  filled_suc zero (x ∷ xs) within = refl
-  filled_suc (suc i) (x ∷ xs) within = ap (λ l. d ∷ l) (filled_suc i xs (omega arith))
-
-  -- the first i + 1 replaced
-  pub filled_more : (i : ℕ) (ds : List D) → i < length ds
-      → set (replicate i d ++ drop i ds) i d ≡ replicate (i + 1) d ++ drop (i + 1) ds
-  filled_more i ds within = rw add-one (filled_suc i ds within)

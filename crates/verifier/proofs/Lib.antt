@@ -1,4 +1,5 @@
 pub mod Joins
+pub mod Fills
 pub mod Stores
 pub mod Gifts
 pub mod Checks

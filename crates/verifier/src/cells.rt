@@ -75,7 +75,7 @@ fn forget<D: Domain>(cells: &mut [Option<D>; CELLS], first: i128, last: i128)
 }
 
 /// Forgets all cells.
-#[tactic(auto, using(crate::proofs::Joins::filled_more))]
+#[tactic(auto, using(crate::proofs::Fills::filled_more))]
 fn forget_all<D: Domain>(cells: &mut [Option<D>; CELLS])
     ensures { cells.new ≡ no_cells }
 {

@@ -78,7 +78,7 @@ pub fn set_both<D: Domain>(facts: &mut Facts<D>, dst: Register, source: &Source,
 }
 
 /// Changes the facts to those after emit.
-#[tactic(auto, using(crate::proofs::Joins::filled_more))]
+#[tactic(auto, using(crate::proofs::Fills::filled_more))]
 fn emit<D: Domain>(facts: &mut Facts<D>)
     requires { facts.old.emitted + 2 + greatest_length D.operations facts.old < 2 ^ 64 }
     ensures { facts.new ≡ after_emit D.operations facts.old }

@@ -17,10 +17,10 @@ mod arithmetic;
 mod domains;
 mod emits;
 mod ends;
+mod jumps;
 mod kept;
 mod rows;
 mod runs;
-mod slots;
 mod ways;
 
 fn program(alloc: Global, text: &str) -> Result<Program, Fail> {

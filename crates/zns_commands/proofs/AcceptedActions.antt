@@ -13,7 +13,7 @@ use Rattle.image_store.specs.Namespace.{ZonedNamespace, zone_at, IsNamespace}
 use Rattle.zns_commands.specs.Address.{zone_number, block_total}
 use Rattle.zns_commands.specs.Resources.{room_for, why_not, closing_of}
 use Rattle.zns_commands.specs.steps.Accepted.{CanGiveWay}
-use Rattle.zns_commands.specs.Send.{room_of, led_to, zone_checks}
+use Rattle.zns_commands.specs.Send.{room_of, led_by, zone_checks}
 use Rattle.zns_commands.specs.steps.Accepted.{CanMove}
 use Rattle.zns_commands.specs.declared.send.ZonePlan.{ZonePlan}
 use Rattle.zns_commands.specs.steps.Plans.{zone_plan}
@@ -28,7 +28,7 @@ pub zone_checked : (address lowest : Option Status) (refused : Bool) (moves : Re
     → Ok zone ≡ unless_failed (first_failed (address ∷ lowest ∷ [])) z → refused ≡ false → Ok to ≡ moves → Ok closing ≡ room
     → Ok (let plan : ZonePlan = record { zone = zone; to = to; closing = closing } in plan)
     ≡ unless_failed (first_failed (address ∷ lowest ∷ demand (not refused) ZONE_HELD ∷ why_not moves ∷ why_not room ∷ []))
-    (let plan : ZonePlan = record { zone = z; to = led_to moves from; closing = closing_of room } in plan)
+    (let plan : ZonePlan = record { zone = z; to = led_by moves from; closing = closing_of room } in plan)
 zone_checked None None false (Ok s) (Ok gives) from z zone to closing is free moves room = cc
 zone_checked (Some status) lowest refused leads gives from z zone to closing is free moves room = cc
 zone_checked None (Some status) refused leads gives from z zone to closing is free moves room = cc

@@ -23,12 +23,11 @@ use Rattle.zns_commands.specs.Left.{Grows, HeldSourcesKeepBlocks}
 use Rattle.zns_commands.specs.Laws.{Commanded, Faulted}
 use Rattle.zns_commands.specs.Meaning.{checks_of, effect_of}
 use Rattle.zns_commands.specs.Resources.{why_not, closed}
-use Rattle.zns_commands.specs.Send.{send_checks, send_effect, takes, swept}
+use Rattle.zns_commands.specs.Send.{send_checks, send_effect, takes, swept, led_to}
 use Rattle.zns_commands.specs.steps.Plans.{write_plan, zone_plan}
 use Rattle.zns_commands.proofs.HeldZones.{not_taken, not_refused, not_held}
 use Rattle.zns_commands.proofs.KeptBlocks.{grows_by_none, grows_on, replaced_grows, closed_grows, written_grows}
 use Rattle.zns_commands.proofs.Meanings.{after_command}
-use Rattle.zns_commands.proofs.MovedZones.{after_action}
 use Rattle.nvme_entry.proofs.Proved.{passed}
 use Rattle.zns_commands.proofs.Untouched.{effect_left}
 
@@ -39,7 +38,7 @@ arrived_keeps Offline zone e = cc
 arrived_keeps to zone e = grows_by_none zone.blocks
 
 -- an action that forgets nothing clears no zone that it can be taken on
-leads_to : (a : Action) (from : ZoneState) → forgets a ≡ false → why_not (transition a from) ≡ None → is_cleared (after_action a from) ≡ false
+leads_to : (a : Action) (from : ZoneState) → forgets a ≡ false → why_not (transition a from) ≡ None → is_cleared (led_to a from) ≡ false
 leads_to action.Reset from e can = cc
 leads_to action.Offline from e can = cc
 leads_to action.Close Empty e can = cc
@@ -47,7 +46,7 @@ leads_to a Offline e can = cc
 leads_to a from e can = refl
 
 -- nor one that Select All takes
-taken_leads : (a : Action) (from : ZoneState) → forgets a ≡ false → takes a from ≡ true → is_cleared (after_action a from) ≡ false
+taken_leads : (a : Action) (from : ZoneState) → forgets a ≡ false → takes a from ≡ true → is_cleared (led_to a from) ≡ false
 taken_leads action.Reset from e is = cc
 taken_leads action.Offline from e is = cc
 taken_leads a Empty e is = cc
@@ -55,9 +54,9 @@ taken_leads a Offline e is = cc
 taken_leads a from e is = refl
 
 swept_one : (a : Action) (zone : ZoneBlocks) (taken : Bool) → forgets a ≡ false → takes a zone.state ≡ taken
-    → Grows zone.blocks (cond taken (arrived (after_action a zone.state) zone) zone).blocks
+    → Grows zone.blocks (cond taken (arrived (led_to a zone.state) zone) zone).blocks
 swept_one a zone false e is = grows_by_none zone.blocks
-swept_one a zone true e is = arrived_keeps (after_action a zone.state) zone (taken_leads a zone.state e is)
+swept_one a zone true e is = arrived_keeps (led_to a zone.state) zone (taken_leads a zone.state e is)
 
 swept_keeps : (a : Action) (zones : List ZoneBlocks) (z : ℕ) → forgets a ≡ false
     → Grows (get_or zones z no_zone).blocks (get_or (map (swept a) zones) z no_zone).blocks

@@ -28,7 +28,6 @@ use Rattle.zns_commands.specs.Write.{write_checks, write_effect}
 use Rattle.zns_commands.specs.Left.{Grows}
 use Rattle.zns_commands.specs.Laws.{NamespaceEvent, Commanded, Faulted, NoneClears, after, after_events}
 use Rattle.zns_commands.specs.steps.Plans.{write_plan, written_by, zone_plan}
-use Rattle.zns_commands.proofs.MovedZones.{after_action}
 
 -- a list of blocks grows by none,
 pub grows_by_none : (blocks : List (List ℕ)) → Grows blocks blocks
@@ -102,7 +101,7 @@ swept_grows : (a : Action) (zones : List ZoneBlocks) (z : ℕ)
     → is_cleared (get_or (map (swept a) zones) z no_zone).state ≡ false
     → Grows (get_or zones z no_zone).blocks (get_or (map (swept a) zones) z no_zone).blocks
 swept_grows a [] z stays = grows_by_none (get_or [] z no_zone).blocks
-swept_grows a (x ∷ xs) zero stays = taken_grows (takes a x.state) (after_action a x.state) x stays
+swept_grows a (x ∷ xs) zero stays = taken_grows (takes a x.state) (led_to a x.state) x stays
 swept_grows a (x ∷ xs) (suc z) stays = swept_grows a xs z stays
 
 send_grows : (ns : ZonedNamespace) (holds : Holds) (lba : ℕ) (a : Action) (select_all : Bool) (z : ℕ)

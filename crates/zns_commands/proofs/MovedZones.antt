@@ -3,7 +3,6 @@ use Rattle.std.proofs.Common.{◌≡◌, ℕ, ◌<◌, Bool, true, false, cond, 
 use Rattle.std.specs.Prelude.{nat_lt, ◌&&◌, not}
 use Rattle.std.proofs.lemmas.Bool.{ltb-true, le-leb}
 use Rattle.std.proofs.lemmas.Bool.Decides.{nat_tests}
-use Rattle.zone_state.specs.Transition.{transition}
 use Rattle.zone_state.specs.Zone.{IsZone, kept, state_of_fault, fault_refusal}
 use Rattle.zone_state.specs.declared.action.Action.{Action}
 use Rattle.zone_state.specs.declared.action.Action.TheVariants as action
@@ -30,11 +29,7 @@ arrived_fits b c Empty zone fits is = record { state = is; whole = λ i h. absur
 arrived_fits b c Offline zone fits is = record { state = is; whole = λ i h. absurd (omega arith); bytes = λ i. no_bytes }
 arrived_fits b c to zone fits is = record { state = is; whole = fits.whole; bytes = fits.bytes }
 
--- the state to which an action leads, or the same one
-abbrev pub after_action : Action → ZoneState → ZoneState
-after_action a s = led_to (transition a s) s
-
-pub action_fits : (a : Action) (s : ZoneState) (w c : ℕ) → IsZone s w c → IsZone (after_action a s) (kept (after_action a s) w) c
+pub action_fits : (a : Action) (s : ZoneState) (w c : ℕ) → IsZone s w c → IsZone (led_to a s) (kept (led_to a s) w) c
 action_fits action.Close ImplicitlyOpened w c h = (h.0, grind (arith, nat_tests, h.1))
 action_fits action.Finish Empty w c h = (h.0, grind (arith, nat_tests, h.1))
 action_fits action.Finish ImplicitlyOpened w c h = (h.0, grind (arith, nat_tests, h.1))
@@ -52,16 +47,16 @@ action_fits a Offline w c h = (h.0, refl)
 action_fits a s w c h = h
 
 action_zone_fits : (ns : ZonedNamespace) (z : ℕ) (a : Action) → IsNamespace ns → z < length ns.zones
-    → FitsIn ns.block ns.capacity (arrived (after_action a (zone_at ns z).state) (zone_at ns z))
+    → FitsIn ns.block ns.capacity (arrived (led_to a (zone_at ns z).state) (zone_at ns z))
 action_zone_fits ns z a sound inside =
     let zone = zone_at ns z in
-    arrived_fits ns.block ns.capacity (after_action a zone.state) zone (zone_fits ns z sound inside)
+    arrived_fits ns.block ns.capacity (led_to a zone.state) zone (zone_fits ns z sound inside)
     (action_fits a zone.state (length zone.blocks) ns.capacity (sound.fits z inside))
 
 holds_same : (s : ZoneState) → HoldsNoMore s s
 holds_same s = record { opened = omega arith; active = omega arith }
 
-open_takes_none : (s : ZoneState) → wanted_of s ≡ None → HoldsNoMore (after_action action.Open s) s
+open_takes_none : (s : ZoneState) → wanted_of s ≡ None → HoldsNoMore (led_to action.Open s) s
 open_takes_none Empty none = cc
 open_takes_none Closed none = cc
 open_takes_none ImplicitlyOpened none = record { opened = omega arith; active = omega arith }
@@ -72,7 +67,7 @@ abbrev takes_resources : Action → Bool
 takes_resources action.Open = true
 takes_resources _ = false
 
-takes_none : (a : Action) (s : ZoneState) → takes_resources a ≡ false → HoldsNoMore (after_action a s) s
+takes_none : (a : Action) (s : ZoneState) → takes_resources a ≡ false → HoldsNoMore (led_to a s) s
 takes_none action.Open s none = cc
 takes_none action.Close Empty none = record { opened = omega arith; active = omega arith }
 takes_none action.Finish Empty none = record { opened = omega arith; active = omega arith }
@@ -81,19 +76,19 @@ takes_none action.Offline Empty none = record { opened = omega arith; active = o
 takes_none a s none = record { opened = omega arith; active = omega arith }
 
 no_room_sound : (ns : ZonedNamespace) (holds : Holds) (z : ℕ) (a : Action) (gives : Option ℕ) → IsNamespace ns → z < length ns.zones
-    → takes_resources a ≡ false → room_by ns holds None ≡ Ok gives → IsNamespace (with_state (closed ns gives) z (after_action a (zone_at ns z).state))
+    → takes_resources a ≡ false → room_by ns holds None ≡ Ok gives → IsNamespace (with_state (closed ns gives) z (led_to a (zone_at ns z).state))
 no_room_sound ns holds z a gives sound inside none room =
     let zone = zone_at ns z in
     let same : None ≡ gives = cc in
-    subst (λ (g : Option ℕ). IsNamespace (with_state (closed ns g) z (after_action a zone.state))) same
-    (one_sound ns z (arrived (after_action a zone.state) zone) sound inside (action_zone_fits ns z a sound inside)
+    subst (λ (g : Option ℕ). IsNamespace (with_state (closed ns g) z (led_to a zone.state))) same
+    (one_sound ns z (arrived (led_to a zone.state) zone) sound inside (action_zone_fits ns z a sound inside)
     (takes_none a zone.state none))
 
 pub moved_sound : (ns : ZonedNamespace) (holds : Holds) (z : ℕ) (a : Action) (gives : Option ℕ) → IsNamespace ns → z < length ns.zones
-    → room_of ns holds a (zone_at ns z).state ≡ Ok gives → IsNamespace (with_state (closed ns gives) z (after_action a (zone_at ns z).state))
+    → room_of ns holds a (zone_at ns z).state ≡ Ok gives → IsNamespace (with_state (closed ns gives) z (led_to a (zone_at ns z).state))
 moved_sound ns holds z action.Open gives sound inside room =
     let zone = zone_at ns z in
-    let to = after_action action.Open zone.state in
+    let to = led_to action.Open zone.state in
     let has = has_room ns holds z gives sound inside room in
     subst IsNamespace (sym (moved_is ns z gives to has.give.other))
     (room_sound ns z gives (arrived to zone) sound has (action_zone_fits ns z action.Open sound inside)

@@ -24,7 +24,7 @@ use Rattle.zns_commands.specs.Effect.{Effect, concluded, success_effect}
 use Rattle.zns_commands.specs.Laws.{Commanded}
 use Rattle.zns_commands.specs.Resources.{closed, closing_of, room_for, why_not}
 use Rattle.zns_commands.specs.SelectAll.{EachHasRoom, NoneIsHeld, SelectAllIsEachAlone, SelectAllIsRefusedByHoldsAndLimits, TakenZonesMove, sent_to_all, sent_to_one}
-use Rattle.zns_commands.specs.Send.{all_effect, all_fit, gives_way_to, held_among, led_to, room_of, swept, taken_among, takes}
+use Rattle.zns_commands.specs.Send.{all_effect, all_fit, gives_way_to, held_among, led_by, led_to, room_of, swept, taken_among, takes}
 use Rattle.nvme_entry.specs.declared.command.StandardCommand.TheVariants.{Send}
 use Rattle.zns_commands.proofs.HeldZones.{held_from, not_taken_from}
 use Rattle.zns_commands.proofs.SweptZones.{opened_count}
@@ -78,7 +78,7 @@ room_is_free ns holds action.Offline z inside is fit = refl
 passes : (ns : ZonedNamespace) (z : ℕ) (refused : Bool) (moves : Result ZoneState Status) (room : Result (Option ℕ) Status) (from to : ZoneState)
     → refused ≡ false → moves ≡ Ok to → room ≡ Ok None
     → concluded (first_failed (demand (not refused) ZONE_HELD ∷ why_not moves ∷ why_not room ∷ [])) ns
-    (success_effect (with_state (closed ns (closing_of room)) z (led_to moves from)) 0 [])
+    (success_effect (with_state (closed ns (closing_of room)) z (led_by moves from)) 0 [])
     ≡ success_effect (with_state ns z to) 0 []
 passes ns z refused moves room from to free leads none = rw (free, leads, none) refl
 
@@ -88,7 +88,7 @@ by_number ns holds a k start lowest =
     let from = (zone_at ns k).state in
     concluded (first_failed (demand start LBA_OUT_OF_RANGE ∷ demand lowest INVALID_FIELD_IN_COMMAND
     ∷ demand (not (refuses holds a k)) ZONE_HELD ∷ why_not (transition a from) ∷ why_not (room_of ns holds a from) ∷ [])) ns
-    (success_effect (with_state (closed ns (gives_way_to ns holds a from)) k (led_to (transition a from) from)) 0 [])
+    (success_effect (with_state (closed ns (gives_way_to ns holds a from)) k (led_to a from)) 0 [])
 
 -- a zone's own address names it
 named : (ns : ZonedNamespace) (holds : Holds) (a : Action) (z : ℕ) → IsNamespace ns → z < length ns.zones
@@ -143,7 +143,7 @@ held_where taken false none is =
     let not_taken : taken ≡ false = none refl in absurd cc
 
 moved_by : (taken : Bool) (moves : Result ZoneState Status) (zone : ZoneBlocks) (to : ZoneState) → taken ≡ true → moves ≡ Ok to
-    → cond taken (arrived (led_to moves zone.state) zone) zone ≡ arrived to zone
+    → cond taken (arrived (led_by moves zone.state) zone) zone ≡ arrived to zone
 moved_by taken moves zone to is leads = rw (is, leads) refl
 
 module _ (ns : ZonedNamespace) (holds : Holds) (a : Action) (z : ℕ) where

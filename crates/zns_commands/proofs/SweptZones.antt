@@ -13,21 +13,21 @@ use Rattle.zone_state.specs.declared.state.ZoneState.TheVariants.{Empty, Implici
 use Rattle.zone_resources.specs.Admission.{IsWithin}
 use Rattle.zone_resources.specs.Counts.{open_count, one_if}
 use Rattle.image_store.specs.Namespace.{ZoneBlocks, ZonedNamespace, no_zone, zone_at, counted, counted_zones, IsNamespace, IsWithinLimits, arrived}
-use Rattle.zns_commands.specs.Send.{all_effect, all_fit, takes, taken_among, swept}
+use Rattle.zns_commands.specs.Send.{all_effect, all_fit, led_to, takes, taken_among, swept}
 use Rattle.zns_commands.proofs.FittingZones.{FitsIn, zone_fits, namespace_of_zones}
 use Rattle.zns_commands.proofs.Sweeps.{mapped, mapped-all, swept_below}
-use Rattle.zns_commands.proofs.MovedZones.{arrived_fits, after_action, action_fits}
+use Rattle.zns_commands.proofs.MovedZones.{arrived_fits, action_fits}
 
 -- the state of a zone that Select All has gone over
 abbrev after_sweep : Action → ZoneState → ZoneState
-after_sweep a s = cond (takes a s) (after_action a s) s
+after_sweep a s = cond (takes a s) (led_to a s) s
 
 swept_by : (taken : Bool) (to : ZoneState) (zone : ZoneBlocks) → (cond taken (arrived to zone) zone).state ≡ cond taken to zone.state
 swept_by true to zone = refl
 swept_by false to zone = refl
 
 swept_state : (a : Action) (zone : ZoneBlocks) → (swept a zone).state ≡ after_sweep a zone.state
-swept_state a zone = swept_by (takes a zone.state) (after_action a zone.state) zone
+swept_state a zone = swept_by (takes a zone.state) (led_to a zone.state) zone
 
 swept_fits_by : (b c : ℕ) (taken : Bool) (to : ZoneState) (zone : ZoneBlocks)
     → FitsIn b c zone → IsZone to (kept to (length zone.blocks)) c → FitsIn b c (cond taken (arrived to zone) zone)
@@ -36,7 +36,7 @@ swept_fits_by b c false to zone fits is = fits
 
 swept_fits : (b c : ℕ) (a : Action) (zone : ZoneBlocks) → FitsIn b c zone → FitsIn b c (swept a zone)
 swept_fits b c a zone fits =
-    swept_fits_by b c (takes a zone.state) (after_action a zone.state) zone fits
+    swept_fits_by b c (takes a zone.state) (led_to a zone.state) zone fits
     (action_fits a zone.state (length zone.blocks) c fits.state)
 
 -- does Select All open a zone of this state?

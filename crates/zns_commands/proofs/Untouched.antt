@@ -33,7 +33,7 @@ swept_left : (a : Action) (zones : List ZoneBlocks) (z : ℕ) → takes a (get_o
     → get_or (map (swept a) zones) z no_zone ≡ get_or zones z no_zone
 swept_left a [] z other = refl
 swept_left a (x ∷ xs) zero other =
-    not_moved (takes a x.state) (arrived (led_to (transition a x.state) x.state) x) x other
+    not_moved (takes a x.state) (arrived (led_to a x.state) x) x other
 swept_left a (x ∷ xs) (suc z) other = swept_left a xs z other
 
 module _ (ns : ZonedNamespace) (d : ℕ) where

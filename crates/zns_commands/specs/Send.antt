@@ -34,10 +34,14 @@ zone_checks ns holds lba action =
     ∷ why_not (room_of ns holds action (zone_at ns z).state)
     ∷ []
 
--- the state that an action leads to
-abbrev pub led_to : Result ZoneState Status → ZoneState → ZoneState
-led_to (Ok to) from = to
-led_to (Err status) from = from
+-- the state that a transition leads to, or the same one where it is refused
+abbrev pub led_by : Result ZoneState Status → ZoneState → ZoneState
+led_by (Ok to) from = to
+led_by (Err status) from = from
+
+-- the state that the action leads to
+abbrev pub led_to : Action → ZoneState → ZoneState
+led_to action from = led_by (transition action from) from
 
 -- the zone that gives way to one of this state that the action opens, if one does
 abbrev pub gives_way_to : ZonedNamespace → Holds → Action → ZoneState → Option ℕ
@@ -48,7 +52,7 @@ abbrev pub zone_effect : ZonedNamespace → Holds → ℕ → Action → ZonedNa
 zone_effect ns holds lba action =
     let z = zone_number ns lba in
     let from = (zone_at ns z).state in
-    with_state (closed ns (gives_way_to ns holds action from)) z (led_to (transition action from) from)
+    with_state (closed ns (gives_way_to ns holds action from)) z (led_to action from)
 
 -- does Select All take a zone of this state? (ZNS 1.1, 3.4.3)
 abbrev pub takes : Action → ZoneState → Bool
@@ -83,17 +87,11 @@ all_checks ns holds action =
 
 -- a zone, once Select All has gone over it
 abbrev pub swept : Action → ZoneBlocks → ZoneBlocks
-swept action zone = if takes action zone.state then arrived (led_to (transition action zone.state) zone.state) zone else zone
+swept action zone = if takes action zone.state then arrived (led_to action zone.state) zone else zone
 
 -- the namespace once each zone that Select All takes has moved
 abbrev pub all_effect : ZonedNamespace → Action → ZonedNamespace
-all_effect ns action = record {
-  block = ns.block;
-  size = ns.size;
-  capacity = ns.capacity;
-  limits = ns.limits;
-  zones = map (swept action) ns.zones;
-}
+all_effect ns action = record ns { zones = map (swept action) ns.zones }
 
 -- the checks, in order: the data, and those of all zones or of the one that is named
 abbrev pub send_checks : ZonedNamespace → Holds → ℕ → Action → Bool → List ℕ → List (Option Status)

@@ -3,8 +3,7 @@
 mod command_lines;
 mod entries;
 mod event_lines;
-mod explained;
-mod explaining;
+mod explain;
 mod help;
 mod images;
 mod programs;
@@ -14,3 +13,4 @@ mod scenes;
 mod stage;
 mod stopping;
 mod submissions;
+mod verify_explained;

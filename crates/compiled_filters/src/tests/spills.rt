@@ -89,7 +89,7 @@ fn check_scene(
     let mut scratch = [0; SCRATCH_BYTES];
     put(alloc, &mut scratch, scene.before)?;
     let mut other_scratch = scratch;
-    let context = context_of(scene)?;
+    let context = context_of(scene, prepared.verified().sizes().block());
     let expected = expected(alloc, scene, &scratch)?;
     let left = over_superinstructions(rt, prepared, &block, &context, &mut scratch);
     assert_eq!(rt; left, expected, "{name} over superinstructions");
@@ -107,10 +107,7 @@ fn count_up(block: &mut [u8; BLOCK]) {
     }
 }
 
-fn context_of(scene: &Scene) -> Result<[u8; CONTEXT_BYTES], Fail> {
-    let Some(block) = BlockSize::new(512) else {
-        return Err(Fail::from("no block size"));
-    };
+fn context_of(scene: &Scene, block: BlockSize) -> [u8; CONTEXT_BYTES] {
     let context = Context {
         lba: LBA,
         index: scene.index,
@@ -118,7 +115,7 @@ fn context_of(scene: &Scene) -> Result<[u8; CONTEXT_BYTES], Fail> {
         block,
         argument: scene.argument,
     };
-    Ok(context.encode())
+    context.encode()
 }
 
 /// What a run has to leave, of these bytes of scratch.

@@ -4,26 +4,26 @@ use Rattle.hex.specs.declared.error.FromHexError.{FromHexError}
 use Rattle.hex.specs.declared.error.FromHexError.TheVariants as digits
 use Rattle.device_events.specs.declared.event.Event.{Event}
 use Rattle.event_text.specs.declared.command_file.EventFault.{EventFault}
-use Rattle.event_text.specs.declared.command_file.EventFault.TheVariants as reasons
+use Rattle.event_text.specs.declared.command_file.EventFault.TheVariants as event_fault
 use Rattle.event_text.specs.declared.fault.LineFault.TheVariants as fault
 use Rattle.event_text.specs.CommandFile.{ToldEvent, told_of}
 
 -- why an entry of so many characters that spells no 64 bytes refuses its line
-abbrev pub entry_reason : ℕ → FromHexError → EventFault
-entry_reason characters digits.OutOfMemory = reasons.Memory
-entry_reason characters (digits.InvalidHexCharacter character before) = reasons.Refused (fault.EntryDigit character before)
-entry_reason characters _ = reasons.Refused (fault.EntryLength characters)
+abbrev pub entry_fault : ℕ → FromHexError → EventFault
+entry_fault characters digits.OutOfMemory = event_fault.Memory
+entry_fault characters (digits.InvalidHexCharacter character before) = event_fault.Refused (fault.EntryDigit character before)
+entry_fault characters _ = event_fault.Refused (fault.EntryLength characters)
 
 -- why data of so many characters that spells no bytes refuses its line
-abbrev pub data_reason : ℕ → FromHexError → EventFault
-data_reason characters digits.OutOfMemory = reasons.Memory
-data_reason characters (digits.InvalidHexCharacter character before) = reasons.Refused (fault.DataDigit character before)
-data_reason characters _ = reasons.Refused (fault.DataLength characters)
+abbrev pub data_fault : ℕ → FromHexError → EventFault
+data_fault characters digits.OutOfMemory = event_fault.Memory
+data_fault characters (digits.InvalidHexCharacter character before) = event_fault.Refused (fault.DataDigit character before)
+data_fault characters _ = event_fault.Refused (fault.DataLength characters)
 
 -- words or a line that are refused have no meaning, or memory ran out
 abbrev pub IsRefused : {X : Type 0} → EventFault → Option X → Type 0
-IsRefused (reasons.Refused fault) meant = meant ≡ None
-IsRefused reasons.Memory meant = Unit {0}
+IsRefused (event_fault.Refused fault) meant = meant ≡ None
+IsRefused event_fault.Memory meant = Unit {0}
 
 -- the event is given that the words tell, or they are refused
 abbrev pub GivesEvent : Result Event EventFault → Option ToldEvent → Type 0

@@ -1,7 +1,8 @@
 -- The fields that an entry is given.
 use Rattle.std.specs.Prelude.{◌≡◌, ℕ, ◌+◌, ◌*◌, ◌/◌, ◌%◌, ◌^◌, List, slice_index}
 use Rattle.nvme_entry.specs.Entry.{asked, decoded, identifier_of}
-use Rattle.nvme_entry.specs.Fields.{dword, field}
+use Rattle.program_interface.specs.Bytes.{field}
+use Rattle.nvme_entry.specs.Dwords.{dword}
 use Rattle.nvme_entry.specs.declared.command.Opcode.{Opcode}
 use Rattle.nvme_entry.specs.declared.encoding.CommandDwords.{CommandDwords}
 

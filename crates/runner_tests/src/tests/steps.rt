@@ -29,7 +29,7 @@ pub(super) const A_BLOCK: Bytes = "a5*512";
 /// The queue that entries come from.
 const QUEUE: u16 = 3;
 
-/// Something that happens. The first number of an entry is its command identifier, and blocks are counted from 1.
+/// Something that happens. The first number of an entry is its command identifier, and numbers of blocks aren't zero-based.
 #[derive(Clone, Copy)]
 pub(super) enum Step {
     /// So many turns of a run, with the same reply each.

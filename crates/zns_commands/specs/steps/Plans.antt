@@ -1,6 +1,5 @@
 -- The plans that the code makes of a write and of an action on one zone, before it carries them out.
 use Rattle.std.specs.Prelude.{ℕ, List}
-use Rattle.zone_state.specs.Transition.{transition}
 use Rattle.zone_state.specs.declared.action.Action.{Action}
 use Rattle.zone_resources.specs.declared.holds.Holds.{Holds}
 use Rattle.image_store.specs.Namespace.{ZonedNamespace, zone_at, appended}
@@ -23,4 +22,4 @@ abbrev pub zone_plan : ZonedNamespace → Holds → ℕ → Action → ZonePlan
 zone_plan ns holds lba action =
     let z = zone_number ns lba in
     let from = (zone_at ns z).state in
-    record { zone = z; to = led_to (transition action from) from; closing = gives_way_to ns holds action from }
+    record { zone = z; to = led_to action from; closing = gives_way_to ns holds action from }

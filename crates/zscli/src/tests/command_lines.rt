@@ -7,12 +7,6 @@ const ENDS: &[Act] = &[
     Act::Start(b"turn 0"),
     Act::Prints(EXEC, "idle\n"),
     Act::Fails(
-        "zscli exec image missing",
-        1,
-        "",
-        "cannot read missing: no such file or folder\n",
-    ),
-    Act::Fails(
         "zscli exec gone missing",
         1,
         "",

@@ -296,7 +296,7 @@ fn words_for_states_name_their_filters(rt: HostRuntime) -> Result<(), Fail> {
         let line = format!(in alloc; "zscli entry report --lba 0 --state {word}")?;
         let at = At {
             scene: word,
-            line: line.as_str(),
+            what: line.as_str(),
         };
         let dwords = [(0, 0x0001_007a), (12, 1023), (13, *filter)];
         stage.check_submission(&rt, &at, 1, &dwords, "")?;

@@ -114,7 +114,7 @@ fn numbers_of_help(rt: HostRuntime) -> Result<(), Fail> {
 fn help_has_the_words_of_each_cause(rt: HostRuntime) -> Result<(), Fail> {
     let at = At {
         scene: "causes",
-        line: "zscli trace --help",
+        what: "zscli trace --help",
     };
     let mut stage = Stage::new(rt.alloc());
     for cause in CAUSES {
@@ -130,7 +130,7 @@ fn help_has_the_words_of_each_cause(rt: HostRuntime) -> Result<(), Fail> {
 fn help_has_the_words_of_each_reason(rt: HostRuntime) -> Result<(), Fail> {
     let at = At {
         scene: "reasons",
-        line: "zscli verify --help",
+        what: "zscli verify --help",
     };
     let mut stage = Stage::new(rt.alloc());
     for reason in REASONS {

@@ -119,21 +119,22 @@ const LEFT: &[Act] = &[
 /// The zone is lost whose line isn't printed, and no later one.
 const SAVED: &[Act] = &[
     Act::Start(LOSING_THREE),
-    Act::Stops(EXEC, 0, 1, "cannot write to standard output\n"),
-    Act::Prints(
-        "zscli zones image",
+    Act::Saves(
+        EMPTY_IMAGE,
+        0,
+        1,
         "0 offline 0\n1 empty 0\n2 empty 0\n3 empty 0\n",
     ),
-    Act::Start(LOSING_THREE),
-    Act::Stops(EXEC, 1, 1, "cannot write to standard output\n"),
-    Act::Prints(
-        "zscli zones image",
+    Act::Saves(
+        EMPTY_IMAGE,
+        1,
+        1,
         "0 offline 0\n1 offline 0\n2 empty 0\n3 empty 0\n",
     ),
-    Act::Start(LOSING_THREE),
-    Act::Stops(EXEC, 2, 1, "cannot write to standard output\n"),
-    Act::Prints(
-        "zscli zones image",
+    Act::Saves(
+        EMPTY_IMAGE,
+        2,
+        1,
         "0 offline 0\n1 offline 0\n2 offline 0\n3 empty 0\n",
     ),
 ];

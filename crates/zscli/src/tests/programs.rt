@@ -18,16 +18,6 @@ mov r0, 0
 exit
 ";
 
-const LISTING_BYTES: &[u8] = b"\
-ldxb r6, [r2+0]
-jne r6, 7, +3
-mov r1, r2
-mov r2, 8
-call 1
-mov r0, 0
-exit
-";
-
 /// An output block with one frame.
 const FRAMED: Parts = &[(b"\x03\0abc", 1), (b"\0", 507)];
 
@@ -109,12 +99,13 @@ const VERIFIED: &[Act] = &[
 const ASSEMBLED: &[Act] = &[
     Act::Start(b"jeq r1, 0, nowhere\nmov r11, 1\n"),
     Act::Fails("zscli asm events made", 3, "", "assembly refused 2 2\n"),
-    Act::Start(LISTING_BYTES),
-    Act::Prints("zscli asm events made", ""),
+    Act::Start(MATCHING),
+    Act::AddsTo("listing", "zscli disasm events"),
+    Act::Prints("zscli asm listing made", ""),
     Act::Has("made", &[(MATCHING, 1)]),
     Act::Room(55),
     Act::Fails(
-        "zscli asm events made",
+        "zscli asm listing made",
         1,
         "",
         "cannot write made: no room is left\n",

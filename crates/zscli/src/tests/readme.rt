@@ -1,10 +1,11 @@
 //! The example of the README, word for word: its commands, and what they print.
 
 use super::scenes::{Act, EMPTY_ZONE, MAGIC, Scene, play};
+use super::stage::Parts;
 use std::test::Fail;
 
 /// Four orders, each at the start of a block of 512 bytes: a name, a region in 4 bytes, and a text.
-const ORDERS: &[(&[u8], usize)] = &[
+const ORDERS: Parts = &[
     (b"order 01\x03\0\0\02 lamps", 1),
     (b" ", 493),
     (b"order 02\x01\0\0\01 desk", 1),
@@ -25,7 +26,7 @@ const NUMBERS: &[u8] = b"\
 \0\x02\0\0\x04\0\0\0\x40\0\0\0\x40\0\0\0\x03\0\0\0\x03\0\0\0\
 \0\0\0\0\0\0\0\0\0\0\0\0\0\0\0\0\0\0\0\0\0\0\0\0\0\0\0\0\0\0\0\0";
 
-const REPLIES: &[(&[u8], usize)] = &[
+const REPLIES: Parts = &[
     (
         b"\
 cpl 1 00000000000000000000010001000000
@@ -50,7 +51,7 @@ cpl 1 00000000000000000000010005000000 40006f7264657220303103000000",
 ];
 
 /// The block that was read: `tail -n 1 replies | cut -d ' ' -f 4 | xxd -r -p`.
-const EMITTED: &[(&[u8], usize)] = &[
+const EMITTED: Parts = &[
     (b"@\0order 01\x03\0\0\02 lamps", 1),
     (b" ", 45),
     (b"@\0order 03\x03\0\0\040 nails", 1),

@@ -62,6 +62,9 @@ pub(super) enum Act {
     Refuses(&'static str, &'static str),
     /// A command line whose standard output takes so many writes ends with this status and standard error.
     Stops(&'static str, usize, u8, &'static str),
+    /// `exec` on this image and `events`, whose standard output takes so many writes, ends with this status, and `zones`
+    /// then prints this.
+    Saves(Parts, usize, u8, &'static str),
     /// A command line tells its usage, and ends with this status.
     Tells(&'static str, u8),
     /// What a command line prints, on either stream, has this text in it.
@@ -109,34 +112,60 @@ fn perform(rt: &impl Abort, stage: &mut Stage, scene: &str, act: Act) -> Result<
 /// Runs the command line of an act that has one, and compares.
 fn judge(rt: &impl Abort, stage: &mut Stage, scene: &str, act: Act) -> Result<(), Fail> {
     match act {
-        Act::Prints(line, out) => stage.check(rt, &At { scene, line }, 0, out, "")?,
+        Act::Prints(line, out) => stage.check(rt, &At { scene, what: line }, 0, out, "")?,
         Act::Submits(line, queue, dwords, data) => {
-            stage.check_submission(rt, &At { scene, line }, queue, dwords, data)?;
+            stage.check_submission(rt, &At { scene, what: line }, queue, dwords, data)?;
         }
-        Act::Adds(line) => stage.add_printed(rt, &At { scene, line }, "events")?,
-        Act::AddsTo(file, line) => stage.add_printed(rt, &At { scene, line }, file)?,
+        Act::Adds(line) => stage.add_printed(rt, &At { scene, what: line }, "events")?,
+        Act::AddsTo(file, line) => stage.add_printed(rt, &At { scene, what: line }, file)?,
         Act::Fails(line, status, out, err) => {
-            stage.check(rt, &At { scene, line }, status, out, err)?;
+            stage.check(rt, &At { scene, what: line }, status, out, err)?;
         }
-        Act::Refuses(line, err) => stage.check_refusal(rt, &At { scene, line }, err)?,
+        Act::Refuses(line, err) => stage.check_refusal(rt, &At { scene, what: line }, err)?,
         Act::Stops(line, writes, status, err) => {
             stage.run(line, writes)?;
-            stage.check_end(rt, &At { scene, line }, status, err);
+            stage.check_end(rt, &At { scene, what: line }, status, err);
+        }
+        Act::Saves(image, writes, status, zones) => {
+            check_saved(rt, stage, scene, image, writes, status, zones)?;
         }
         Act::Tells(line, status) => {
             stage.run(line, usize::MAX)?;
-            stage.check_usage(rt, &At { scene, line }, status);
+            stage.check_usage(rt, &At { scene, what: line }, status);
         }
-        Act::Says(line, text) => stage.check_said(rt, &At { scene, line }, text)?,
-        Act::Has(line, parts) => stage.check_file(rt, &At { scene, line }, parts)?,
-        Act::HasNo(line) => assert!(rt; stage.files.bytes(line).is_none(), "{scene}: {line}"),
+        Act::Says(line, text) => stage.check_said(rt, &At { scene, what: line }, text)?,
+        Act::Has(file, parts) => stage.check_file(rt, &At { scene, what: file }, parts)?,
+        Act::HasNo(file) => assert!(rt; stage.files.bytes(file).is_none(), "{scene}: {file}"),
         Act::Verify(text, emit, answer) => {
             stage.files.put("events", text.as_bytes())?;
-            let line = "zscli asm events made";
-            stage.check(rt, &At { scene: text, line }, 0, "", "")?;
+            let what = "zscli asm events made";
+            stage.check(rt, &At { scene: text, what }, 0, "", "")?;
             stage.check_program(rt, text, "made", emit, answer)?;
         }
         _ => {}
     }
+    Ok(())
+}
+
+/// Runs `exec` on an image where standard output takes so many writes, and compares how it ends, and the zones then.
+fn check_saved(
+    rt: &impl Abort,
+    stage: &mut Stage,
+    scene: &str,
+    image: Parts,
+    writes: usize,
+    status: u8,
+    zones: &str,
+) -> Result<(), Fail> {
+    let err = if status == 0 {
+        ""
+    } else {
+        "cannot write to standard output\n"
+    };
+    stage.put("image", image)?;
+    stage.run(EXEC, writes)?;
+    stage.check_end(rt, &At { scene, what: EXEC }, status, err);
+    let what = "zscli zones image";
+    stage.check(rt, &At { scene, what }, 0, zones, "")?;
     Ok(())
 }

@@ -35,11 +35,11 @@ impl Write for Printed {
     }
 }
 
-/// Where something was compared: a scene, and a command line of it, a program or a file.
+/// Where something was compared: a scene, and what was looked at there: a command line or a file.
 #[derive(Clone, Copy, Debug)]
 pub(super) struct At<'a> {
     pub(super) scene: &'a str,
-    pub(super) line: &'a str,
+    pub(super) what: &'a str,
 }
 
 /// Files, and how the last command line ended that ran on them.
@@ -96,7 +96,7 @@ impl Stage {
         out: &str,
         err: &str,
     ) -> Result<(), AllocError> {
-        self.run(at.line, usize::MAX)?;
+        self.run(at.what, usize::MAX)?;
         self.check_end(rt, at, status, err);
         assert_printed(rt, at, self.out.bytes.as_slice(), out);
         Ok(())
@@ -109,7 +109,7 @@ impl Stage {
         at: &At,
         file: &str,
     ) -> Result<(), AllocError> {
-        self.run(at.line, usize::MAX)?;
+        self.run(at.what, usize::MAX)?;
         self.check_end(rt, at, 0, "");
         self.files.add(file, self.out.bytes.as_slice())
     }
@@ -150,7 +150,7 @@ impl Stage {
         at: &At,
         err: &str,
     ) -> Result<(), AllocError> {
-        self.run(at.line, usize::MAX)?;
+        self.run(at.what, usize::MAX)?;
         assert_printed(rt, at, self.err.as_slice(), err);
         assert_printed(rt, at, self.out.bytes.as_slice(), "");
         assert_eq!(rt; self.status, 3, "{at:?}");
@@ -175,7 +175,7 @@ impl Stage {
         at: &At,
         text: &str,
     ) -> Result<(), AllocError> {
-        self.run(at.line, usize::MAX)?;
+        self.run(at.what, usize::MAX)?;
         let (out, err) = (self.out.bytes.as_slice(), self.err.as_slice());
         assert!(rt;
             has_text(out, text) || has_text(err, text),
@@ -207,7 +207,7 @@ impl Stage {
         assert_eq!(rt; end, Some(b'\n'), "{program}");
         let at = At {
             scene: program,
-            line: "zscli verify",
+            what: "zscli verify",
         };
         assert_printed(rt, &at, self.out.bytes.as_slice(), answer);
         Ok(())
@@ -222,7 +222,7 @@ impl Stage {
     ) -> Result<(), AllocError> {
         let bytes = joined(self.alloc, parts)?;
         assert!(rt;
-            self.files.bytes(at.line) == Some(bytes.as_slice()),
+            self.files.bytes(at.what) == Some(bytes.as_slice()),
             "{at:?}"
         );
         Ok(())

@@ -1,6 +1,6 @@
 //! Where standard output fails in the turns after the last event.
 
-use super::scenes::{Act, EMPTY_ZONE, EXEC, MAGIC, SHAPE, Scene, play};
+use super::scenes::{Act, EMPTY_ZONE, MAGIC, SHAPE, Scene, play};
 use super::stage::Parts;
 use std::test::Fail;
 
@@ -30,40 +30,40 @@ const STOPPED: &[Act] = &[
     Act::Prints("zscli asm text copying", ""),
     Act::Adds("zscli entry load --slot 0 --program copying --emit 512 --cid 1"),
     Act::Adds("zscli entry run --slot 0 --from 0 --blocks 3 --to 8 --cid 2"),
-    Act::Put("image", THREE_BLOCKS),
-    Act::Stops(EXEC, 0, 1, "cannot write to standard output\n"),
-    Act::Prints(
-        "zscli zones image",
+    Act::Saves(
+        THREE_BLOCKS,
+        0,
+        1,
         "0 closed 3\n1 explicit 0\n2 empty 0\n3 empty 0\n",
     ),
-    Act::Put("image", THREE_BLOCKS),
-    Act::Stops(EXEC, 1, 1, "cannot write to standard output\n"),
-    Act::Prints(
-        "zscli zones image",
+    Act::Saves(
+        THREE_BLOCKS,
+        1,
+        1,
         "0 closed 3\n1 explicit 0\n2 empty 0\n3 empty 0\n",
     ),
-    Act::Put("image", THREE_BLOCKS),
-    Act::Stops(EXEC, 2, 1, "cannot write to standard output\n"),
-    Act::Prints(
-        "zscli zones image",
+    Act::Saves(
+        THREE_BLOCKS,
+        2,
+        1,
         "0 closed 3\n1 explicit 0\n2 empty 0\n3 empty 0\n",
     ),
-    Act::Put("image", THREE_BLOCKS),
-    Act::Stops(EXEC, 3, 1, "cannot write to standard output\n"),
-    Act::Prints(
-        "zscli zones image",
+    Act::Saves(
+        THREE_BLOCKS,
+        3,
+        1,
         "0 closed 3\n1 explicit 1\n2 empty 0\n3 empty 0\n",
     ),
-    Act::Put("image", THREE_BLOCKS),
-    Act::Stops(EXEC, 4, 1, "cannot write to standard output\n"),
-    Act::Prints(
-        "zscli zones image",
+    Act::Saves(
+        THREE_BLOCKS,
+        4,
+        1,
         "0 closed 3\n1 explicit 3\n2 empty 0\n3 empty 0\n",
     ),
-    Act::Put("image", THREE_BLOCKS),
-    Act::Stops(EXEC, 5, 0, ""),
-    Act::Prints(
-        "zscli zones image",
+    Act::Saves(
+        THREE_BLOCKS,
+        5,
+        0,
         "0 closed 3\n1 explicit 3\n2 empty 0\n3 empty 0\n",
     ),
 ];

@@ -1,6 +1,4 @@
-use Rattle.std.proofs.Common.{ℕ}
-use Rattle.device_events.specs.Printed.{Printed}
-use Rattle.command_exec.proofs.Saving.{on_err, same_writer, serves_and_drains, stops_in_events, stops_in_turns}
+use Rattle.command_exec.proofs.Saving.{on_err, printed_by, same_writer, serves_and_drains, stops_in_events, stops_in_turns}
 use Rattle.command_exec.proofs.exec.serve_and_drain.Goals as goal
 
 pub returns-in_err-serve-clause-same_writer : goal.returns-in_err-serve-clause-same_writer
@@ -13,33 +11,21 @@ returns-in_err-serve-clause-stopped g c =
 
 pub returns-clause-same_writer : goal.returns-clause-same_writer
 returns-clause-same_writer g c =
-    let old = c.args.lines.now in
-    let between = c.serve.new.out in
-    let new = c.drain.new.out in
-    let before : ℕ × Printed = (old.out.ghost_name, record { refused = old.refusals; bytes = g.O.Write.contents old.out.now }) in
-    let then : ℕ × Printed = (between.out.ghost_name, record { refused = between.refusals; bytes = g.O.Write.contents between.out.now }) in
-    let after : ℕ × Printed = (new.out.ghost_name, record { refused = new.refusals; bytes = g.O.Write.contents new.out.now }) in
-    same_writer c.args.events.now c.args.device.now c.serve.new.self c.drain.new.self before then after
+    let printed = printed_by g.O.Write.contents in
+    same_writer c.args.events.now c.args.device.now c.serve.new.self c.drain.new.self
+    (printed c.args.lines.now) (printed c.serve.new.out) (printed c.drain.new.out)
     c.in_ok-serve.ensures.served c.drain.result c.drain.ensures.drained c.drain.ensures.stopped
 
 pub returns-clause-served_and_drained : goal.returns-clause-served_and_drained
 returns-clause-served_and_drained g c =
-    let old = c.args.lines.now in
-    let between = c.serve.new.out in
-    let new = c.drain.new.out in
-    let before : ℕ × Printed = (old.out.ghost_name, record { refused = old.refusals; bytes = g.O.Write.contents old.out.now }) in
-    let then : ℕ × Printed = (between.out.ghost_name, record { refused = between.refusals; bytes = g.O.Write.contents between.out.now }) in
-    let after : ℕ × Printed = (new.out.ghost_name, record { refused = new.refusals; bytes = g.O.Write.contents new.out.now }) in
-    serves_and_drains c.args.events.now c.args.device.now c.serve.new.self c.drain.new.self before then after
+    let printed = printed_by g.O.Write.contents in
+    serves_and_drains c.args.events.now c.args.device.now c.serve.new.self c.drain.new.self
+    (printed c.args.lines.now) (printed c.serve.new.out) (printed c.drain.new.out)
     c.in_ok-serve.ensures.served c.drain.result c.in_ok-serve.ensures.refused c.drain.ensures.refused c.drain.ensures.drained
 
 pub returns-clause-stopped : goal.returns-clause-stopped
 returns-clause-stopped g c =
-    let old = c.args.lines.now in
-    let between = c.serve.new.out in
-    let new = c.drain.new.out in
-    let before : ℕ × Printed = (old.out.ghost_name, record { refused = old.refusals; bytes = g.O.Write.contents old.out.now }) in
-    let then : ℕ × Printed = (between.out.ghost_name, record { refused = between.refusals; bytes = g.O.Write.contents between.out.now }) in
-    let after : ℕ × Printed = (new.out.ghost_name, record { refused = new.refusals; bytes = g.O.Write.contents new.out.now }) in
-    stops_in_turns c.args.events.now c.args.device.now c.serve.new.self c.drain.new.self before then after
+    let printed = printed_by g.O.Write.contents in
+    stops_in_turns c.args.events.now c.args.device.now c.serve.new.self c.drain.new.self
+    (printed c.args.lines.now) (printed c.serve.new.out) (printed c.drain.new.out)
     c.in_ok-serve.ensures.served c.drain.result c.drain.ensures.stopped

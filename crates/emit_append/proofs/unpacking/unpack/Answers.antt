@@ -3,7 +3,7 @@ use Rattle.std.proofs.lemmas.Bool.Decides.{nat_tests}
 use Rattle.std.proofs.lemmas.Result.{err_from_is_err_and}
 use Rattle.emit_append.specs.Unpacking.{output_block_at, unpacked, record_bytes}
 use Rattle.emit_append.proofs.Answered.{fails_on, goes_on_with, is_end, is_part}
-use Rattle.emit_append.proofs.FramesRead.{and_then-ok}
+use Rattle.emit_append.proofs.FramesRead.{read-on}
 use Rattle.emit_append.proofs.unpacking.unpack.Goals as goal
 
 pub returns-in_err-read_block : goal.returns-in_err-read_block
@@ -21,7 +21,7 @@ loop-rest-preserved c =
     let all = goes_on_with c.bytes-size.result at (record_bytes l.records.items) _ l.rest.now (omega arith) l.invariant.read _ _ (omega arith) c.split_at.ensures.front c.split_at.ensures.back in
     let next : length c.args.bytes.now - length c.split_at.result.1.now ≡ at + c.bytes-size.result = omega (arith, c.split_at.ensures.back_len) in
     record {
-      read = rw (next, all) (and_then-ok (record_bytes l.records.items) _ (output_block_at at c.split_at.result.0.now) _ c.in_ok-read_block.ensures);
+      read = rw (next, all) (read-on (record_bytes l.records.items) _ (output_block_at at c.split_at.result.0.now) _ c.in_ok-read_block.ensures);
       within = omega (arith, c.split_at.ensures.back_len);
     }
 
