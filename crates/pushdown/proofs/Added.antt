@@ -7,6 +7,7 @@ use Rattle.zone_state.specs.State.{is_open}
 use Rattle.zone_state.specs.Zone.{written_state}
 use Rattle.zone_state.specs.declared.state.ZoneState.{ZoneState}
 use Rattle.zone_state.specs.declared.state.ZoneState.TheVariants.{Full, Offline}
+use Rattle.accepted_programs.proofs.Proved.{all_append}
 use Rattle.emit_append.proofs.Proved.{AllBytes, by_place, by_recursion}
 use Rattle.program_interface.specs.Bytes.{AreBytes}
 use Rattle.image_store.specs.Blocks.{as_blocks, block_count, blocks_of, bytes_of}
@@ -16,7 +17,6 @@ use Rattle.zns_commands.specs.Left.{Grows}
 use Rattle.zns_commands.proofs.Proved.{grows_by_none, replaced_grows}
 use Rattle.pushdown.specs.Laws.{BlocksLeaveOthers}
 use Rattle.pushdown.specs.Happenings.{added}
-use Rattle.accepted_programs.proofs.Proved.{all_append}
 use Rattle.pushdown.proofs.Bytes.{AreBlocks}
 
 -- a zone that isn't Offline is one of the namespace

@@ -4,6 +4,7 @@ use Rattle.std.proofs.Common.{ℕ, ◌<◌, ◌^◌, false, List, [], ◌∷◌,
 use Rattle.std.specs.declared.alloc.Global.{Global}
 use Rattle.nvme_entry.specs.declared.command.RunCommand.{RunCommand}
 use Rattle.word_domain.specs.Domain.{Operations}
+use Rattle.accepted_programs.proofs.Proved.{all_append, all_same}
 use Rattle.emit_append.proofs.Proved.{AllBytes, by_place}
 use Rattle.image_store.specs.Geometry.{IsShape, Shape}
 use Rattle.image_store.specs.Namespace.{all_empty}
@@ -15,7 +16,6 @@ use Rattle.pushdown.specs.Pushdown.{IsAdmitted}
 use Rattle.pushdown.specs.Reached.{IsReached}
 use Rattle.pushdown.specs.State.{State, new_state}
 use Rattle.device_events.specs.declared.event.Event.TheVariants as event
-use Rattle.accepted_programs.proofs.Proved.{all_append, all_same}
 use Rattle.pushdown.proofs.ExampleLoads.{leave, load_entry, move}
 use Rattle.pushdown.proofs.Examples.{block_of, entry_of, run_entry}
 

@@ -2,6 +2,7 @@
 use Rattle.std.proofs.Common.{suc, ◌≡◌, ℕ, List, [], ◌∷◌, ◌++◌, map, None, refl, ap, sym, subst, ◌∙◌}
 use Rattle.std.proofs.lemmas.List.{map-append}
 use Rattle.word_domain.specs.Domain.{Operations}
+use Rattle.accepted_programs.proofs.Proved.{all_append}
 use Rattle.device_events.specs.Replies.{Joins, ReplyWithData}
 use Rattle.pushdown.specs.Draining.{AreLowest, Drains, lowest_run, replies_to_turns, state_after_turns}
 use Rattle.pushdown.specs.Events.{CarriesBytes, Occurrence, replies_to, state_after}
@@ -9,7 +10,6 @@ use Rattle.pushdown.specs.Happenings.{happens, turned}
 use Rattle.pushdown.specs.JoinedEvents.{DrainedByTurns, DrainedInOneWay, EventsInParts, EventsJoin, OneReplyEach, ServedAndDrained, ServedInParts, turn_events}
 use Rattle.pushdown.specs.State.{State}
 use Rattle.device_events.specs.declared.event.Event.{Event}
-use Rattle.accepted_programs.proofs.Proved.{all_append}
 
 pub events_join : EventsJoin
 events_join first later are more = all_append (λ (o : Occurrence). CarriesBytes o.event) first later are more

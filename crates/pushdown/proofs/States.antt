@@ -25,6 +25,7 @@ use Rattle.word_domain.specs.Domain.{Operations}
 use Rattle.accepted_programs.specs.Accepted.{refusal}
 use Rattle.accepted_programs.specs.Laws.{AcceptedNeverTraps}
 use Rattle.accepted_programs.specs.declared.reason.Refusal.{Refusal}
+use Rattle.accepted_programs.proofs.Proved.{all_at, all_drop, all_from, all_same, all_set, all_take}
 use Rattle.emit_append.specs.Need.{need}
 use Rattle.emit_append.specs.PackedLaw.{FitBlock}
 use Rattle.emit_append.proofs.Proved.{need_grows, need_is_enough}
@@ -49,7 +50,6 @@ use Rattle.pushdown.specs.State.{Place, State, free_place, holds_at, new_state, 
 use Rattle.device_events.specs.declared.event.Event.{Event}
 use Rattle.pushdown.proofs.Added.{added_block}
 use Rattle.pushdown.proofs.BlockRuns.{IsDone, IsReady, few_runs, runs_done, some_runs}
-use Rattle.accepted_programs.proofs.Proved.{all_at, all_drop, all_from, all_same, all_set, all_take}
 use Rattle.pushdown.proofs.Bytes.{AreBlocks, IsBlock, blocks_by_place}
 use Rattle.pushdown.proofs.Changes.{after_event, after_turn}
 use Rattle.pushdown.proofs.FewBlocks.{HasFew, turns_few}
