@@ -25,12 +25,7 @@ impl Asked {
     }
 
     /// A command that has no data.
-    pub(crate) fn alone(alloc: Global, command: Command) -> Asked
-        requires { program_length command ≤ MOST_TRANSFER }
-    {
-        Asked {
-            command,
-            data: Vec::new(alloc),
-        }
+    pub(crate) fn alone(alloc: Global, command: StandardCommand) -> Asked {
+        Asked::standard(command, Vec::new(alloc))
     }
 }

@@ -117,12 +117,17 @@ pub(crate) fn run<'a>(alloc: Global, matches: &ArgMatches<'a>) -> Result<Asked, 
         argument: number(matches, ARGUMENT)?,
         destination: address(matches, TO)?,
     };
-    let command = nvme_entry::Command::Run(run);
-    Ok(Asked::alone(alloc, command))
+    Ok(Asked {
+        command: nvme_entry::Command::Run(run),
+        data: Vec::new(alloc),
+    })
 }
 
 /// What the words of a `result` ask for.
 pub(crate) fn result_of<'a>(alloc: Global, matches: &ArgMatches<'a>) -> Result<Asked, Failure<'a>> {
-    let command = nvme_entry::Command::Result(slot(matches, SLOT)?);
-    Ok(Asked::alone(alloc, command))
+    let slot = slot(matches, SLOT)?;
+    Ok(Asked {
+        command: nvme_entry::Command::Result(slot),
+        data: Vec::new(alloc),
+    })
 }

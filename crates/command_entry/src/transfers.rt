@@ -102,7 +102,7 @@ pub(crate) fn write<'a, F: Files>(
 pub(crate) fn read<'a>(alloc: Global, matches: &ArgMatches<'a>) -> Result<Asked, Failure<'a>> {
     let lba = address(matches, LBA)?;
     let blocks = blocks(matches, BLOCKS)?;
-    let command = nvme_entry::Command::Standard(StandardCommand::Read { lba, blocks });
+    let command = StandardCommand::Read { lba, blocks };
     Ok(Asked::alone(alloc, command))
 }
 

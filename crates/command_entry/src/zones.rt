@@ -162,7 +162,7 @@ pub(crate) fn send<'a>(
         action,
         select_all,
     };
-    Ok(Asked::alone(alloc, nvme_entry::Command::Standard(command)))
+    Ok(Asked::alone(alloc, command))
 }
 
 /// What the words of a `report` ask for.
@@ -174,7 +174,7 @@ pub(crate) fn report<'a>(alloc: Global, matches: &ArgMatches<'a>) -> Result<Aske
         filter: filter(required(matches, STATE)).unwrap_or(ZoneFilter::All),
         partial: matches.get_flag(PARTIAL),
     };
-    Ok(Asked::alone(alloc, nvme_entry::Command::Standard(command)))
+    Ok(Asked::alone(alloc, command))
 }
 
 /// The filter with this name, one of [`STATES`].
