@@ -7,7 +7,6 @@ use Rattle.program_meaning.specs.BlockRun.{BlockRun}
 use Rattle.program_meaning.specs.TrapFree.{IsExit}
 use Rattle.program_meaning.specs.declared.end.End.{End}
 use Rattle.program_meaning.specs.declared.end.End.TheVariants as end
-use Rattle.accepted_programs.proofs.Proved.{all_append, all_drop}
 use Rattle.emit_append.specs.OutputBlocks.{AreAllBytes}
 use Rattle.emit_append.specs.PackedLaw.{FitBlock}
 use Rattle.emit_append.specs.Packing.{packed, pending_of, released}
@@ -17,6 +16,7 @@ use Rattle.pushdown.specs.Laws.{OutcomeIsPacked}
 use Rattle.pushdown.specs.Outcome.{Ending, Emitted, Turn, appended_by, behind, ending_of, last_turn_by, middle_turn, nothing_emitted, turns_after, with_group}
 use Rattle.pushdown.specs.Pushdown.{EndsWithLast, Succeeds, success_of}
 use Rattle.pushdown.proofs.BlockRuns.{IsDone}
+use Rattle.accepted_programs.proofs.Proved.{all_append, all_drop}
 use Rattle.pushdown.proofs.Bytes.{AreBlocks, IsBlock, both_blocks}
 use Rattle.pushdown.proofs.Rests.{one_each}
 

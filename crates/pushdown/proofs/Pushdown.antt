@@ -13,7 +13,6 @@ use Rattle.instruction_set.specs.Program.{instruction_count}
 use Rattle.program_meaning.specs.BlockRun.{BlockRun}
 use Rattle.word_domain.specs.Domain.{Operations}
 use Rattle.accepted_programs.specs.Laws.{AcceptedNeverTraps}
-use Rattle.accepted_programs.proofs.Proved.{all_from}
 use Rattle.image_store.specs.Namespace.{ZoneBlocks, ZonedNamespace, IsNamespace, no_zone, shape, zone_at}
 use Rattle.image_store.proofs.Proved.{written_is_within, zone_room_is_bounded}
 use Rattle.nvme_entry.proofs.Proved.{demanded, passed}
@@ -30,6 +29,7 @@ use Rattle.device_events.specs.declared.event.Event.TheVariants as event
 use Rattle.device_events.specs.declared.reply.Reply.TheVariants as reply
 use Rattle.pushdown.proofs.Added.{added_leaves, added_shape, open_on}
 use Rattle.pushdown.proofs.BlockRuns.{IsDone, few_frames, few_runs}
+use Rattle.accepted_programs.proofs.Proved.{all_from}
 use Rattle.pushdown.proofs.TurnsDone.{Next, Ready, Stands, next_is, stand}
 use Rattle.pushdown.proofs.OthersEvents.{free_within}
 use Rattle.pushdown.proofs.Outcomes.{outcome_is_packed}
