@@ -1,6 +1,6 @@
 #!/bin/sh
-# Times a turn of a run, through the device, of a filter of 11 instructions over blocks of 4096 bytes: beside a
-# Read of such a block through the device, and beside DPDK's interpreter (Debian's
+# Times a turn of a run, through the device, of a filter that takes 11 steps where a block doesn't match, over
+# blocks of 4096 bytes: beside a Read of such a block through the device, and beside DPDK's interpreter (Debian's
 # libdpdk-dev) on the same filter and blocks alone, over 4096 blocks, which come from memory, and over
 # 64, which stay in a cache. Then the rate of Appends beside plain copies of the same bytes, the
 # time to admit and to refuse runs of one and of 4096 blocks, on a large image and on a small one, and `exec` of a
