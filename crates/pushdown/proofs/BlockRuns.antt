@@ -1,5 +1,6 @@
 -- Block runs of a program that never traps.
 use Rattle.std.proofs.Common.{◌≡◌, ℕ, ◌+◌, ◌*◌, ◌^◌, ◌<◌, ◌≤◌, Bool, true, false, cond, List, [], ◌∷◌, ◌++◌, length, replicate, refl, ap, arith, lit<, length-append}
+use Rattle.std.proofs.lemmas.Bool.{cond_both}
 use Rattle.std.proofs.lemmas.List.{length-replicate}
 use Rattle.std.proofs.Math.Nat.{suc-mul}
 use Rattle.std.specs.List.{AllByRecursion, flat_map}
@@ -80,29 +81,20 @@ module _ (task : Task) (ready : IsReady task) where
       let done = one_done index scratch bytes is whole.0 in
       (done, all_done blocks (index + 1) (scratch_after (block_run task index scratch bytes)) done.scratch whole.1)
 
-  until_by : (on : Bool) (block_runs : List BlockRun) → AllByRecursion (IsDone task) block_runs → AllByRecursion (IsDone task) (cond on block_runs [])
-  until_by true block_runs h = h
-  until_by false block_runs h = tt
-
   until : (block_runs : List BlockRun) → AllByRecursion (IsDone task) block_runs → AllByRecursion (IsDone task) (until_ended block_runs)
   until [] h = tt
-  until (run ∷ block_runs) h = (h.0, until_by (goes_on run.end) (until_ended block_runs) (until block_runs h.1))
+  until (run ∷ block_runs) h = (h.0, cond_both (goes_on run.end) (until_ended block_runs) [] (AllByRecursion (IsDone task)) (λ _. until block_runs h.1) (λ _. tt))
 
   pub runs_done : (blocks : List (List ℕ)) → AreBlocks task.sizes.block blocks → AllByRecursion (IsDone task) (block_runs_of task blocks)
   runs_done blocks whole = until (block_runs_from task 0 no_scratch blocks) (all_done blocks 0 no_scratch no_scratch_is whole)
 
 -- ---- how many block runs
 
-fewer_by : (on : Bool) (block_runs : List BlockRun) → length (cond on block_runs []) ≤ length block_runs
-fewer_by true block_runs = omega arith
-fewer_by false block_runs = omega arith
-
 fewer : (block_runs : List BlockRun) → length (until_ended block_runs) ≤ length block_runs
 fewer [] = omega arith
 fewer (run ∷ block_runs) =
-    let tail = fewer_by (goes_on run.end) (until_ended block_runs) in
-    let less = fewer block_runs in
-    omega (arith, tail, less)
+    let tail = cond_both (goes_on run.end) (until_ended block_runs) [] (λ kept. length kept ≤ length block_runs) (λ _. fewer block_runs) (λ _. omega arith) in
+    omega (arith, tail)
 
 one_each : (task : Task) (index : ℕ) (scratch : List ℕ) (blocks : List (List ℕ)) → length (block_runs_from task index scratch blocks) ≤ length blocks
 one_each task index scratch [] = omega arith

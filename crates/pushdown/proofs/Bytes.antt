@@ -43,8 +43,3 @@ pub whole_at : (block : ℕ) (blocks : List (List ℕ)) → AreBlocks block bloc
 whole_at block [] h i less = absurd (omega (arith, less))
 whole_at block (b ∷ bs) h zero less = h.0.whole
 whole_at block (b ∷ bs) h (suc i) less = whole_at block bs h.1 i (omega (arith, less))
-
-pub bytes_at : (block : ℕ) (blocks : List (List ℕ)) → AreBlocks block blocks → (i : ℕ) → AreBytes (get_or blocks i [])
-bytes_at block [] h i = λ k. lit< tt
-bytes_at block (b ∷ bs) h zero = h.0.are
-bytes_at block (b ∷ bs) h (suc i) = bytes_at block bs h.1 i

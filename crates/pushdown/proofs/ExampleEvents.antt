@@ -12,6 +12,7 @@ use Rattle.pushdown.specs.EventReplies.{Happening, plain, submission_of}
 use Rattle.device_events.specs.Replies.{ReplyWithData}
 use Rattle.pushdown.specs.Draining.{replies_to_turns, state_after_turns}
 use Rattle.pushdown.specs.Happenings.{faulting, submitted}
+use Rattle.pushdown.specs.Pushdown.{blocks_at}
 use Rattle.pushdown.specs.State.{State, new_state}
 use Rattle.device_events.specs.declared.reply.Reply.TheVariants.{Complete, FaultRefused, Idle, Pending}
 use Rattle.pushdown.proofs.Examples.{block_of, entry_of, four_zones, frame, passes, run_entry, sevens, slots_with, twelve_zones, two_zones}
@@ -37,9 +38,6 @@ device ns program limit = record (new_state ns) { slots = slots_with program lim
 
 abbrev state_in : State → ℕ → ZoneState
 state_in s z = (zone_at s.namespace z).state
-
-abbrev blocks_in : State → ℕ → List (List ℕ)
-blocks_in s z = (zone_at s.namespace z).blocks
 
 module _ {D : Type 0} (operations : Operations D) where
   -- an entry in queue 1, with the data beside it
@@ -104,11 +102,11 @@ module _ {D : Type 0} (operations : Operations D) where
   unfolding block_run_of
   same_blocks = refl
 
-  pub first_appends : blocks_in (state_after_turns (0 ∷ 1 ∷ 0 ∷ 1 ∷ []) two_runs) 1 ≡ block_of 7 ∷ block_of 7 ∷ two_frames ∷ []
+  pub first_appends : blocks_at (state_after_turns (0 ∷ 1 ∷ 0 ∷ 1 ∷ []) two_runs) 1 ≡ block_of 7 ∷ block_of 7 ∷ two_frames ∷ []
   unfolding block_run_of
   first_appends = refl
 
-  pub second_appends : blocks_in (state_after_turns (0 ∷ 1 ∷ 0 ∷ 1 ∷ []) two_runs) 2 ≡ two_frames ∷ []
+  pub second_appends : blocks_at (state_after_turns (0 ∷ 1 ∷ 0 ∷ 1 ∷ []) two_runs) 2 ≡ two_frames ∷ []
   unfolding block_run_of
   second_appends = refl
 

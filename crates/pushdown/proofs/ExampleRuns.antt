@@ -1,12 +1,12 @@
 -- What the turns of runs do, by computing the definitions.
-use Rattle.std.proofs.Common.{◌≡◌, ℕ, List, [], ◌∷◌, ◌++◌, map, replicate, Option, Some, None, refl}
+use Rattle.std.proofs.Common.{◌≡◌, ℕ, List, [], ◌∷◌, ◌++◌, map, replicate, Option, Some, refl}
 use Rattle.std.specs.List.{concat}
-use Rattle.zone_state.specs.declared.status.TheConstants.Status.{PROGRAM_TRAPPED, SUCCESS}
+use Rattle.zone_state.specs.declared.status.TheConstants.Status.{SUCCESS}
 use Rattle.instruction_set.specs.declared.instruction.Instruction.{Instruction}
 use Rattle.emit_append.specs.Need.{need}
 use Rattle.program_meaning.specs.BlockRun.{BlockRun, block_run_of}
 use Rattle.pushdown.specs.BlockRuns.{Task, block_runs_of, no_scratch}
-use Rattle.pushdown.specs.Outcome.{Turn, outcome}
+use Rattle.pushdown.specs.Outcome.{Turn, outcome, trapped}
 use Rattle.pushdown.specs.Pushdown.{no_turn}
 use Rattle.pushdown.proofs.Examples.{block_of, frame, loops, passes, sevens, sums, tells, traps, twice}
 
@@ -89,14 +89,11 @@ module _ where
 
 -- a run whose program can't go on: the block that was filled stands, the pending one is dropped
 module _ where
-  abbrev stopped : ℕ → ℕ → Turn
-  stopped slot cause = record { blocks = []; ending = Some (record { status = PROGRAM_TRAPPED; dw0 = slot; dw1 = cause; result = None }) }
-
   pub traps_turns : outcome (task_of traps 512 3) (block_of 1 ∷ block_of 1 ∷ block_of 9 ∷ [])
-      ≡ no_turn ∷ record { blocks = (0xfe ∷ 0x01 ∷ 1 ∷ replicate 509 0) ∷ []; ending = None } ∷ stopped 7 4 ∷ []
+      ≡ no_turn ∷ record { blocks = (0xfe ∷ 0x01 ∷ 1 ∷ replicate 509 0) ∷ []; ending = None } ∷ trapped 7 4 ∷ []
   unfolding block_run_of
   traps_turns = refl
 
-  pub loops_turns : outcome (task_of loops 0 1) (block_of 0 ∷ []) ≡ stopped 0 9 ∷ []
+  pub loops_turns : outcome (task_of loops 0 1) (block_of 0 ∷ []) ≡ trapped 0 9 ∷ []
   unfolding block_run_of
   loops_turns = refl

@@ -10,6 +10,7 @@ use Rattle.zone_resources.specs.declared.holds.TheConstants.{RUNS}
 use Rattle.nvme_entry.specs.declared.command.RunCommand.{RunCommand}
 use Rattle.word_domain.specs.Domain.{Operations}
 use Rattle.image_store.specs.Namespace.{ZonedNamespace}
+use Rattle.accepted_programs.proofs.Proved.{none_known}
 use Rattle.nvme_entry.proofs.Proved.{passed, demanded}
 use Rattle.zone_resources.proofs.Proved.{there, users_name_zones}
 use Rattle.pushdown.specs.Admission.{admission_checks, destination_zone}
@@ -25,19 +26,11 @@ pub record AreApart (places : List (Option Place)) : Type 0 where
   pub apart : (j k : ℕ) (p q : Place) → get_or places j None ≡ Some p → get_or places k None ≡ Some q
       → p.destination ≡ q.destination → j ≡ k
 
-abbrev no_place : Option Place
-no_place = None
-
-none_placed : (n j : ℕ) → get_or (replicate n no_place) j no_place ≡ no_place
-none_placed zero j = refl
-none_placed (suc n) zero = refl
-none_placed (suc n) (suc j) = none_placed n j
-
 pub new_none : (ns : ZonedNamespace) (j : ℕ) (p : Place) → place_at (new_state ns) j ≡ Some p → ⊥
-new_none ns j p at = let none = none_placed RUNS j in cc
+new_none ns j p at = none_known RUNS j p at
 
 pub new_apart : (ns : ZonedNamespace) → AreApart (new_state ns).places
-new_apart ns = record { apart = λ j k p q at_j at_k same. let none = none_placed RUNS j in cc }
+new_apart ns = record { apart = λ j k p q at_j at_k same. absurd (none_known RUNS j p at_j) }
 
 -- ---- the zone that an active run appends to is held
 

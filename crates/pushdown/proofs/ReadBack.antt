@@ -15,7 +15,7 @@ use Rattle.nvme_entry.specs.declared.command.TheConstants.{MOST_TRANSFER}
 use Rattle.word_domain.specs.Domain.{Operations}
 use Rattle.image_store.specs.Blocks.{bytes_of}
 use Rattle.image_store.specs.Namespace.{ZoneBlocks, ZonedNamespace, no_zone, zone_at, IsNamespace}
-use Rattle.image_store.proofs.Proved.{written_is_within}
+use Rattle.image_store.proofs.Proved.{blocks_lie_in_zones, written_is_within}
 use Rattle.zns_commands.specs.Address.{zone_number}
 use Rattle.zns_commands.specs.Effect.{Effect}
 use Rattle.zns_commands.specs.Meaning.{meaning}
@@ -34,12 +34,6 @@ use Rattle.pushdown.proofs.Lasting.{events_keep}
 use Rattle.pushdown.proofs.Spelled.{HasBlocks, decoded_has}
 
 -- ---- written blocks of a namespace
-
--- a zone that has blocks is one of the namespace
-inside : (zones : List ZoneBlocks) (z : ℕ) → 1 ≤ length (get_or zones z no_zone).blocks → z < length zones
-inside [] z some = absurd (omega (arith, some))
-inside (x ∷ xs) zero some = omega arith
-inside (x ∷ xs) (suc z) some = let less = inside xs z some in omega (arith, less)
 
 record HasSome (state : ZoneState) (written capacity : ℕ) : Type 0 where
   readable : read_refusal state ≡ None
@@ -63,7 +57,7 @@ pub blocks_read : (ns : ZonedNamespace) (z : ℕ) (front more behind : List (Lis
     → AreRead ns (z * ns.size + length front) (length more) (bytes_of more)
 blocks_read ns z front more behind is there some transfer =
     let all = ap length there ∙ three front more behind in
-    let within = inside ns.zones z (omega (arith, all, some)) in
+    let within = blocks_lie_in_zones ns.zones z 0 (omega (arith, all, some)) in
     let has = has_some (zone_at ns z).state (length (zone_at ns z).blocks) ns.capacity (is.fits z within) (omega (arith, all, some)) in
     let lie : BlocksLieAt ns z (length front) (length more) (bytes_of more) = record {
       front = front;

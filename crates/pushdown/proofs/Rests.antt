@@ -95,7 +95,6 @@ module _ (block : ℕ) (before : List (List ℕ)) where
       (ap (λ gs. later (out gs (frames + run.state.frames) appended)) (append_assoc before after g)
       ∙ turns_on (after ++ g) (frames + run.state.frames) appended (next ∷ block_runs))
 
--- one group alone releases nothing
 -- a block run after which the run goes on, before others
 goes : (task : Task) (so_far : Progress) (run next : BlockRun) (block_runs : List BlockRun)
     → turns_after task.sizes.block (emitted_by so_far) (run ∷ next ∷ block_runs)

@@ -1,4 +1,4 @@
-//! The filters of `examples/`, as clang makes them: each runs on a device over records that are made beside the answer.
+//! The filters of `examples/`, as clang makes them: each runs on a device over records that are made beside what it has to leave.
 
 mod events;
 mod fields;

@@ -1,10 +1,10 @@
-//! The filters of `examples/spills`, as clang makes them: each is accepted, and over a block or more it gives the answer that
-//! stands beside the block, over its superinstructions and with every check. The answers were worked out by hand, from the C
-//! and the block alone.
+//! The filters of `examples/spills`, as clang makes them: each is accepted, and over a block or more it leaves what
+//! stands beside the block, over its superinstructions and with every check. What it has to leave was worked out by hand, from
+//! the C and the block alone.
 //!
 //! Each filter has a word on the stack that has to be known when it is loaded again, behind an emit or where branches meet:
 //! of an address of any bytes its first use is refused. Which slots load these words stands beside the filter, as `zscli
-//! disasm --slots` numbers them. `make check` in `examples/` compares the digits with what clang makes.
+//! disasm --slots` numbers them.
 
 mod addresses;
 mod branches;
