@@ -102,7 +102,7 @@ pub fn exec<'a, F: Files, O: Write>(
     let file = read(commands, files)?;
     match event_text::parse(alloc, file.as_slice()) {
         Ok(events) => run(alloc, image, events.as_slice(), path, files, out),
-        Err(error) => Err(Failure::of_commands(commands, error)),
+        Err(fault) => Err(Failure::of_commands(commands, fault)),
     }
 }
 

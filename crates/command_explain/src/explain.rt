@@ -75,7 +75,7 @@ pub fn explain<'a, F: Files, O: Write>(
 {
     let path = required(matches, FILE);
     let file = read(path, files)?;
-    let printed_replies = replies(alloc, file.as_slice()).map_err(|error| no_replies(path, error))?;
+    let printed_replies = replies(alloc, file.as_slice()).map_err(|fault| no_replies(path, fault))?;
     let mut waiting = match matches.get_str(COMMANDS) {
         Some(path) => Some(submissions(alloc, path, files)?),
         None => None,
@@ -92,15 +92,15 @@ fn submissions<'a, F: Files>(
     ensures { F.made files.new ≡ F.made files.old }
 {
     let file = read(path, files)?;
-    let events = parse(alloc, file.as_slice()).map_err(|error| Failure::of_commands(path, error))?;
+    let events = parse(alloc, file.as_slice()).map_err(|fault| Failure::of_commands(path, fault))?;
     Ok(Waiting::new(alloc, events.as_slice())?)
 }
 
 /// What the user is told of a file with this name, with a line that `exec` doesn't print.
-fn no_replies<'a>(path: &'a str, error: RepliesFault) -> Failure<'a>
-    ensures { result ≡ told_of_replies path.entry error }
+fn no_replies<'a>(path: &'a str, fault: RepliesFault) -> Failure<'a>
+    ensures { result ≡ told_of_replies path.entry fault }
 {
-    match error {
+    match fault {
         RepliesFault::Line(line) => Failure::ReplyRefused { path, line },
         RepliesFault::Memory => Failure::NoMemory,
     }

@@ -94,11 +94,11 @@ impl<'a> Failure<'a> {
     }
 
     /// That of a file with this name that is no command file.
-    pub fn of_commands(path: &'a str, error: ParseFault) -> Failure<'a>
-        ensures told { result ≡ told_of_commands path.entry error }
+    pub fn of_commands(path: &'a str, fault: ParseFault) -> Failure<'a>
+        ensures told { result ≡ told_of_commands path.entry fault }
         ensures not_printing { result ≢ Failure.CannotPrint }
     {
-        match error {
+        match fault {
             ParseFault::Line { number, fault } => Failure::LineRefused {
                 path,
                 line: number,
@@ -143,12 +143,12 @@ pub struct Conclusion {
 }
 
 /// Ends a command line: tells the user why the work wasn't done, where it wasn't.
-pub fn conclude<E: Write>(outcome: Result<(), Failure<'_>>, err: &mut E) -> Conclusion
-    ensures status { result.status ≡ exit_status outcome.entry }
-    ensures told { OnOk result.told (IsConcluded outcome.entry (E.contents err.old) (E.contents err.new)) }
-    ensures quiet { OnOk outcome.entry (err.new ≡ err.old) }
+pub fn conclude<E: Write>(done: Result<(), Failure<'_>>, err: &mut E) -> Conclusion
+    ensures status { result.status ≡ exit_status done.entry }
+    ensures told { OnOk result.told (IsConcluded done.entry (E.contents err.old) (E.contents err.new)) }
+    ensures quiet { OnOk done.entry (err.new ≡ err.old) }
 {
-    match outcome {
+    match done {
         Ok(()) => Conclusion {
             status: 0,
             told: Ok(()),

@@ -6,7 +6,7 @@ use Rattle.std.specs.declared.io.ErrorKind.TheVariants as system
 use Rattle.clap.specs.declared.parser.matches.ArgMatches.{ArgMatches}
 use Rattle.command_failure.specs.declared.failure.Failure.{Failure}
 use Rattle.command_failure.specs.declared.failure.Failure.TheVariants.{CannotRead, CannotWrite, NotInRange, NoMemory}
-use Rattle.command_failure.specs.declared.file_cause.FileCause.TheVariants as cause
+use Rattle.command_failure.specs.declared.file_cause.FileCause.TheVariants as file_cause
 use Rattle.command_files.specs.Arguments.{number_of, value_of}
 use Rattle.command_files.specs.declared.files.FileFault.{FileFault}
 use Rattle.command_files.specs.declared.files.FileFault.TheVariants as file
@@ -14,34 +14,34 @@ use Rattle.command_files.specs.declared.files.FileFault.TheVariants as file
 -- a file that the system refuses
 abbrev pub told_of_file : ErrorKind → FileFault
 told_of_file system.OutOfMemory = file.Memory
-told_of_file system.NotFound = file.Failed cause.NotFound
-told_of_file system.PermissionDenied = file.Failed cause.PermissionDenied
-told_of_file system.NotADirectory = file.Failed cause.NotADirectory
-told_of_file system.IsADirectory = file.Failed cause.IsADirectory
-told_of_file system.ReadOnlyFilesystem = file.Failed cause.ReadOnly
-told_of_file system.StorageFull = file.Failed cause.NoRoom
-told_of_file system.QuotaExceeded = file.Failed cause.NoRoom
-told_of_file _ = file.Failed cause.Other
+told_of_file system.NotFound = file.Failed file_cause.NotFound
+told_of_file system.PermissionDenied = file.Failed file_cause.PermissionDenied
+told_of_file system.NotADirectory = file.Failed file_cause.NotADirectory
+told_of_file system.IsADirectory = file.Failed file_cause.IsADirectory
+told_of_file system.ReadOnlyFilesystem = file.Failed file_cause.ReadOnly
+told_of_file system.StorageFull = file.Failed file_cause.NoRoom
+told_of_file system.QuotaExceeded = file.Failed file_cause.NoRoom
+told_of_file _ = file.Failed file_cause.Other
 
 -- a file with this name that can't be read
 abbrev pub told_unread : Bor (List ℕ) → FileFault → Failure
-told_unread path (file.Failed reason) = CannotRead path reason
+told_unread path (file.Failed cause) = CannotRead path cause
 told_unread path file.Memory = NoMemory
 
 -- a file with this name that can't be written
 abbrev pub told_unwritten : Bor (List ℕ) → FileFault → Failure
-told_unwritten path (file.Failed reason) = CannotWrite path reason
+told_unwritten path (file.Failed cause) = CannotWrite path cause
 told_unwritten path file.Memory = NoMemory
 
 -- a file with this name can't be read, or there is no memory for it
 abbrev pub IsUnread : Bor (List ℕ) → Failure → Type 0
-IsUnread path (CannotRead told reason) = told ≡ path
+IsUnread path (CannotRead told cause) = told ≡ path
 IsUnread path NoMemory = Unit {0}
 IsUnread path _ = ⊥
 
 -- it can't be written, or there is no memory for that
 abbrev pub IsUnwritten : Bor (List ℕ) → Failure → Type 0
-IsUnwritten path (CannotWrite told reason) = told ≡ path
+IsUnwritten path (CannotWrite told cause) = told ≡ path
 IsUnwritten path NoMemory = Unit {0}
 IsUnwritten path _ = ⊥
 

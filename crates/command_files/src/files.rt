@@ -101,7 +101,7 @@ pub trait Files {
 }
 
 impl From<io::Error> for FileFault {
-    ghost from_gives = { λ error reason. reason ≡ told_of_file (error_kind error) };
+    ghost from_gives = { λ error fault. fault ≡ told_of_file (error_kind error) };
 
     fn from(error: io::Error) -> FileFault {
         match error.kind() {
@@ -120,7 +120,7 @@ impl From<io::Error> for FileFault {
 }
 
 impl From<AllocError> for FileFault {
-    ghost from_gives = { λ _ reason. reason ≡ Memory };
+    ghost from_gives = { λ _ fault. fault ≡ Memory };
 
     fn from(_error: AllocError) -> FileFault {
         FileFault::Memory

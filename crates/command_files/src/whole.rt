@@ -23,7 +23,7 @@ pub fn read<'a, F: Files>(path: &'a str, files: &mut F) -> Result<Vec<u8>, Failu
 {
     match files.read(path) {
         Ok(bytes) => Ok(bytes),
-        Err(error) => Err(cannot_read(path, error)),
+        Err(fault) => Err(cannot_read(path, fault)),
     }
 }
 
@@ -39,7 +39,7 @@ pub fn write<'a, F: Files>(path: &'a str, bytes: &[u8], files: &mut F) -> Result
 {
     match files.write(path, bytes) {
         Ok(()) => Ok(()),
-        Err(error) => Err(cannot_write(path, error)),
+        Err(fault) => Err(cannot_write(path, fault)),
     }
 }
 
@@ -71,24 +71,24 @@ pub fn size_as_block<'a>(path: &'a str, bytes: usize) -> Result<BlockSize, Failu
 }
 
 /// The failure of reading a file.
-pub fn cannot_read<'a>(path: &'a str, error: FileFault) -> Failure<'a>
-    ensures told { result ≡ told_unread path.entry error }
+pub fn cannot_read<'a>(path: &'a str, fault: FileFault) -> Failure<'a>
+    ensures told { result ≡ told_unread path.entry fault }
     ensures unread { IsUnread path.entry result }
     ensures not_printing { result ≢ Failure.CannotPrint }
 {
-    match error {
+    match fault {
         FileFault::Failed(cause) => Failure::CannotRead(path, cause),
         FileFault::Memory => Failure::NoMemory,
     }
 }
 
 /// The failure of writing a file.
-pub fn cannot_write<'a>(path: &'a str, error: FileFault) -> Failure<'a>
-    ensures told { result ≡ told_unwritten path.entry error }
+pub fn cannot_write<'a>(path: &'a str, fault: FileFault) -> Failure<'a>
+    ensures told { result ≡ told_unwritten path.entry fault }
     ensures unwritten { IsUnwritten path.entry result }
     ensures not_printing { result ≢ Failure.CannotPrint }
 {
-    match error {
+    match fault {
         FileFault::Failed(cause) => Failure::CannotWrite(path, cause),
         FileFault::Memory => Failure::NoMemory,
     }

@@ -30,7 +30,7 @@ pub fn load<'a, F: Files>(alloc: Global, path: &'a str, files: &mut F) -> Result
 {
     let mut file = match files.open(path) {
         Ok(file) => file,
-        Err(error) => return Err(cannot_read(path, error)),
+        Err(fault) => return Err(cannot_read(path, fault)),
     };
     match Image::load(alloc, &mut file) {
         Ok(image) => Ok(image),
@@ -64,7 +64,7 @@ pub fn save<'a, F: Files>(image: &Image, path: &'a str, files: &mut F) -> Result
 {
     let mut file = match files.begin(path) {
         Ok(file) => file,
-        Err(error) => return Err(cannot_write(path, error)),
+        Err(fault) => return Err(cannot_write(path, fault)),
     };
     if image.save(&mut file).is_err() {
         files.discard(file);
@@ -72,6 +72,6 @@ pub fn save<'a, F: Files>(image: &Image, path: &'a str, files: &mut F) -> Result
     }
     match files.finish(path, file) {
         Ok(()) => Ok(()),
-        Err(error) => Err(cannot_write(path, error)),
+        Err(fault) => Err(cannot_write(path, fault)),
     }
 }

@@ -99,15 +99,15 @@ fn make<'a, F: Files>(
 {
     match assemble(alloc, text) {
         Ok(program) => write(path, program.as_slice(), files),
-        Err(error) => Err(refused(source, text, error)),
+        Err(fault) => Err(refused(source, text, fault)),
     }
 }
 
 /// What the user is told of a file of this text that can't be assembled.
-fn refused<'a>(path: &'a str, text: &[u8], error: AssembleFault) -> Failure<'a>
-    ensures { IsToldOfAssembly path.entry error result }
+fn refused<'a>(path: &'a str, text: &[u8], fault: AssembleFault) -> Failure<'a>
+    ensures { IsToldOfAssembly path.entry fault result }
 {
-    match error {
+    match fault {
         AssembleFault::Fault(fault) => Failure::AssemblyRefused {
             path,
             refusal: AssemblyRefusal::of(fault, text),

@@ -29,7 +29,7 @@ fn read<F: Files, W: Write>(files: &mut F, path: &str, out: &mut W) -> io::Resul
             let text = str::from_utf8(bytes.as_slice()).unwrap_or("no text");
             writeln!(out, "read {path}: {text:?}")
         }
-        Err(error) => failed("read", path, error, out),
+        Err(fault) => failed("read", path, fault, out),
     }
 }
 
@@ -40,7 +40,7 @@ fn open<F: Files, W: Write>(files: &mut F, path: &str, out: &mut W) -> io::Resul
             piece(&mut file, out)?;
             piece(&mut file, out)
         }
-        Err(error) => failed("open", path, error, out),
+        Err(fault) => failed("open", path, fault, out),
     }
 }
 
@@ -63,7 +63,7 @@ fn piece<S: Source, W: Write>(file: &mut S, out: &mut W) -> io::Result<()> {
 fn write<F: Files, W: Write>(files: &mut F, path: &str, text: &str, out: &mut W) -> io::Result<()> {
     match files.write(path, text.as_bytes()) {
         Ok(()) => read(files, path, out),
-        Err(error) => failed("write", path, error, out),
+        Err(fault) => failed("write", path, fault, out),
     }
 }
 
@@ -74,10 +74,10 @@ fn finish<F: Files, W: Write>(files: &mut F, path: &str, out: &mut W) -> io::Res
             read(files, path, out)?;
             match files.finish(path, file) {
                 Ok(()) => read(files, path, out),
-                Err(error) => failed("finish", path, error, out),
+                Err(fault) => failed("finish", path, fault, out),
             }
         }
-        Err(error) => failed("begin", path, error, out),
+        Err(fault) => failed("begin", path, fault, out),
     }
 }
 
@@ -89,7 +89,7 @@ fn discard<F: Files, W: Write>(files: &mut F, path: &str, out: &mut W) -> io::Re
             read(files, path, out)?;
             read(files, "made.unfinished", out)
         }
-        Err(error) => failed("begin", path, error, out),
+        Err(fault) => failed("begin", path, fault, out),
     }
 }
 
@@ -106,7 +106,7 @@ fn begun<F: Files>(files: &mut F, path: &str) -> Result<F::Writer, FileFault> {
     }
 }
 
-/// What an error is told as.
-fn failed<W: Write>(call: &str, path: &str, error: FileFault, out: &mut W) -> io::Result<()> {
-    writeln!(out, "{call} {path}: {error:?}")
+/// What a fault is told as.
+fn failed<W: Write>(call: &str, path: &str, fault: FileFault, out: &mut W) -> io::Result<()> {
+    writeln!(out, "{call} {path}: {fault:?}")
 }

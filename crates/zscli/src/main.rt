@@ -19,9 +19,9 @@ fn main(rt: HostRuntime) -> ExitCode {
         Err(failure) => return ExitCode::from(conclude(Err(failure), &mut err).status),
     };
     let mut out = io::writer(&rt);
-    let outcome = command(rt.alloc(), words.as_slice(), &mut Disk::new(&rt), &mut out);
+    let done = command(rt.alloc(), words.as_slice(), &mut Disk::new(&rt), &mut out);
     // Where standard error fails, nobody can be told.
-    ExitCode::from(conclude(outcome, &mut err).status)
+    ExitCode::from(conclude(done, &mut err).status)
 }
 
 /// The words of the command line, the program's name first.

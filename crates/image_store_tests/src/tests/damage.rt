@@ -11,9 +11,9 @@ const FRONT: usize = 96;
 
 /// How many of the changed texts of a version load, as 0, and how many have the fault of a number, counted by the
 /// tables of docs/formats.md.
-type Outcomes = [(u8, usize); 8];
+type FaultCounts = [(u8, usize); 8];
 
-const VERSION_1: Outcomes = [
+const VERSION_1: FaultCounts = [
     (0, 29),
     (10, 9),
     (11, 64),
@@ -24,7 +24,7 @@ const VERSION_1: Outcomes = [
     (18, 0),
 ];
 
-const VERSION_2: Outcomes = [
+const VERSION_2: FaultCounts = [
     (0, 29),
     (10, 4),
     (11, 64),
@@ -60,7 +60,7 @@ fn are_alike(first: &[u8], second: &[u8]) -> bool {
 }
 
 /// The number of a text's fault, or 0 where it loads and is saved as it was, in the last version.
-fn outcome(alloc: Global, text: &[u8]) -> Result<u8, Fail> {
+fn fault_number(alloc: Global, text: &[u8]) -> Result<u8, Fail> {
     let mut source = text;
     let image = match Image::load(alloc, &mut source) {
         Ok(image) => image,
@@ -83,11 +83,11 @@ fn flip(text: &mut [u8], bit: usize) {
 }
 
 /// What comes of a text with each bit of its header and zone rows changed in turn.
-fn outcomes(alloc: Global, text: &mut [u8]) -> Result<Vec<u8>, Fail> {
+fn fault_numbers(alloc: Global, text: &mut [u8]) -> Result<Vec<u8>, Fail> {
     let mut numbers = Vec::new(alloc);
     for bit in 0..8 * FRONT {
         flip(text, bit);
-        numbers.push(outcome(alloc, text)?)?;
+        numbers.push(fault_number(alloc, text)?)?;
         flip(text, bit);
     }
     Ok(numbers)
@@ -98,10 +98,10 @@ fn compare(
     rt: &impl Abort,
     alloc: Global,
     text: &mut [u8],
-    expected: &Outcomes,
+    expected: &FaultCounts,
 ) -> Result<(), Fail> {
-    assert_eq!(rt; outcome(alloc, text)?, 0);
-    let numbers = outcomes(alloc, text)?;
+    assert_eq!(rt; fault_number(alloc, text)?, 0);
+    let numbers = fault_numbers(alloc, text)?;
     for (number, count) in expected {
         let found = numbers.iter().filter(|seen| *seen == number).count();
         assert_eq!(rt; found, *count, "number {number}");

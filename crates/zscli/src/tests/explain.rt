@@ -56,7 +56,7 @@ records in 2 blocks)
 queue 1, command 8: done; dwords 0 and 1: 0, 0; 1024 bytes of data
 ";
 
-/// The entries of `examples/pushdown.cmd`, on whose data no words depend.
+/// Entries of `examples/pushdown.cmd`, on whose data no words depend.
 const PUSHED_DOWN: &[Act] = &[
     Act::Put("record", &[(b"\0", 512)]),
     Act::Put("records", &[(b"\0", 6656)]),

@@ -82,8 +82,8 @@ impl Stage {
         self.out.bytes.clear();
         self.out.writes = writes;
         self.err.clear();
-        let outcome = command(self.alloc, words.as_slice(), &mut self.files, &mut self.out);
-        self.status = conclude(outcome, &mut self.err).status;
+        let done = command(self.alloc, words.as_slice(), &mut self.files, &mut self.out);
+        self.status = conclude(done, &mut self.err).status;
         Ok(())
     }
 
