@@ -1,5 +1,6 @@
 -- What was done, and what was done where a reply is refused.
-use Rattle.std.proofs.Common.{◌≡◌, ℕ, List, map, Option, Some, None, Result, Ok, Err, OnOk, OnErr, IfErr, IfSome, ◌∙◌, ap, sym, subst}
+use Rattle.std.proofs.Common.{◌≡◌, ℕ, List, map, Option, Result, Ok, Err, OnOk, OnErr, IfErr, IfSome, ◌∙◌, ap, sym, subst}
+use Rattle.std.proofs.lemmas.Option.{IfSome_then}
 use Rattle.image_store.specs.Namespace.{ZonedNamespace}
 use Rattle.image_store.specs.Reading.{namespace_in}
 use Rattle.image_store.specs.Text.{text}
@@ -113,12 +114,6 @@ module _ (writes : Type 0) (events : List Event) (image shown : ZonedNamespace) 
     made = meant;
   }
 
--- the events of a file whose bytes are known
-tells_events : (known : Option (List ℕ)) (file : List ℕ) (events : List Event)
-    → IfSome known (λ bytes. file ≡ bytes) → events_in file ≡ Ok (map told_of events) → IfSome known (λ bytes. events_in bytes ≡ Ok (map told_of events))
-tells_events None file events is tells = tt
-tells_events (Some bytes) file events is tells = ap events_in (sym is) ∙ tells
-
 -- an image was loaded, and then a command file was read, of the files that the command line names; the contents of files
 -- stayed the same, and no file was made
 module _ (reads writes : Type 0) (contents then : List ℕ → Option (List ℕ)) (path named commands named_commands file slice : List ℕ) (image : ZonedNamespace) (events : List Event)
@@ -127,9 +122,10 @@ module _ (reads writes : Type 0) (contents then : List ℕ → Option (List ℕ)
   in_both : (reads → IfSome (contents path) (λ bytes. namespace_in bytes ≡ Ok image)) → AreInFiles reads contents named named_commands image events
   in_both image_is = record {
     image_is = λ read. subst (λ (p : List ℕ). IfSome (contents p) (λ bytes. namespace_in bytes ≡ Ok image)) is_named (image_is read);
-    events_are = tells_events (contents named_commands) file events
+    events_are = IfSome_then (contents named_commands)
         (subst (λ (c : List ℕ). IfSome (contents c) (λ bytes. file ≡ bytes)) are_named
-        (subst (λ (c : List ℕ → Option (List ℕ)). IfSome (c commands) (λ bytes. file ≡ bytes)) same file_is)) (ap events_in (sym slice_is) ∙ events_are);
+        (subst (λ (c : List ℕ → Option (List ℕ)). IfSome (c commands) (λ bytes. file ≡ bytes)) same file_is))
+        (λ bytes is. ap events_in (sym (slice_is ∙ is)) ∙ events_are);
   }
 
   -- what `run` does of them is what the command does of the files

@@ -1,14 +1,8 @@
 -- What a stream grows by, where the words of a fault stand in the text.
-use Rattle.std.proofs.Common.{◌≡◌, ℕ, List, [], ◌∷◌, ◌++◌, Option, Some, None, Result, Ok, Err, OnOk, IfSome, append_assoc, ap, subst, ◌∙◌}
+use Rattle.std.proofs.Common.{◌≡◌, ℕ, List, [], ◌∷◌, ◌++◌, Option, Some, None, Result, Ok, Err, OnOk, IfSome, subst}
 use Rattle.std.specs.Io.KnownBytes.{Appends}
+use Rattle.std.proofs.KnownBytes.{Appends-trans}
 use Rattle.command_failure.specs.Lines.{GrowsAround}
-
--- one text, and then another
-pub both : (old between new : Option (List ℕ)) (first then : List ℕ) → Appends old between first → Appends between new then → Appends old new (first ++ then)
-both None between new first then begins goes_on = tt
-both (Some xs) None new first then begins goes_on = elim begins [ ]
-both (Some xs) (Some ys) None first then begins goes_on = elim goes_on [ ]
-both (Some xs) (Some ys) (Some zs) first then begins goes_on = goes_on ∙ ap (λ (t : List ℕ). t ++ then) begins ∙ append_assoc xs first then
 
 -- a line, and then another that may be known
 pub two_lines : {T E : Type 0} (result : Result T E) (old between new behind : Option (List ℕ)) (first : List ℕ) (whole : List ℕ → List ℕ)
@@ -17,7 +11,7 @@ pub two_lines : {T E : Type 0} (result : Result T E) (old between new behind : O
 two_lines (Err error) old between new behind first whole is begins goes_on = tt
 two_lines (Ok done) old between new None first whole is begins goes_on = tt
 two_lines (Ok done) old between new (Some text) first whole is begins goes_on =
-    subst (λ (t : List ℕ). Appends old new t) (is text) (both old between new first (text ++ 10 ∷ []) begins goes_on)
+    subst (λ (t : List ℕ). Appends old new t) (is text) (Appends-trans old between new first (text ++ 10 ∷ []) begins goes_on)
 
 -- a text that has the words between two others
 pub around : {T E : Type 0} (result : Result T E) (front words behind text : List ℕ) (old new : Option (List ℕ))
