@@ -13,6 +13,7 @@ use Rattle.command_failure.specs.declared.failure.Failure.{Failure}
 use Rattle.command_failure.specs.declared.failure.Failure.TheVariants.{CannotWrite, NoMemory, NotInRange}
 use Rattle.command_files.specs.Made.{Made, then_made}
 use Rattle.command_files.specs.UserTold.{IsUnwritten, SpellsNone}
+use Rattle.command_files.proofs.Proved.{unwritten_holds}
 use Rattle.command_images.specs.Images.{IsAskedFor, MakesEmpty, MakesAnew}
 use Rattle.command_images.specs.UserTold.{FormatFails, LoadingFails, RefusesShape, UpgradeFails, shape_options}
 
@@ -76,23 +77,11 @@ module _ (path : Bor (List ℕ)) (named : List ℕ) (is_named : path.now ≡ nam
   same_name : (told : Bor (List ℕ)) → told ≡ path → told.now ≡ named
   same_name told is = ap (λ (b : Bor (List ℕ)). b.now) is ∙ is_named
 
-  unwritten_format : (matches : ArgMatches) (failure : Failure) → IsUnwritten path failure → FormatFails matches named failure
-  unwritten_format matches (CannotWrite told cause) is = same_name told is
-  unwritten_format matches NoMemory is = tt
-  unwritten_format matches _ is = absurd is
+  pub format_of_writing : (matches : ArgMatches) (failure : Failure) → IsUnwritten path failure → FormatFails matches named failure
+  format_of_writing matches = unwritten_holds path (FormatFails matches named) (λ told cause is. same_name told is) tt
 
-  pub format_of_writing : {T : Type 0} (matches : ArgMatches) (result : Result T Failure) → IfErr result (IsUnwritten path) → IfErr result (FormatFails matches named)
-  format_of_writing matches (Ok done) is = tt
-  format_of_writing matches (Err failure) is = unwritten_format matches failure is
-
-  unwritten_upgrade : (reads : Type 0) (known : Option (List ℕ)) (failure : Failure) → IsUnwritten path failure → UpgradeFails reads known named failure
-  unwritten_upgrade reads known (CannotWrite told cause) is = same_name told is
-  unwritten_upgrade reads known NoMemory is = tt
-  unwritten_upgrade reads known _ is = absurd is
-
-  pub upgrade_of_writing : {T : Type 0} (reads : Type 0) (known : Option (List ℕ)) (result : Result T Failure) → IfErr result (IsUnwritten path) → IfErr result (UpgradeFails reads known named)
-  upgrade_of_writing reads known (Ok done) is = tt
-  upgrade_of_writing reads known (Err failure) is = unwritten_upgrade reads known failure is
+  pub upgrade_of_writing : (reads : Type 0) (known : Option (List ℕ)) (failure : Failure) → IsUnwritten path failure → UpgradeFails reads known named failure
+  upgrade_of_writing reads known = unwritten_holds path (UpgradeFails reads known named) (λ told cause is. same_name told is) tt
 
 -- it isn't loaded
 pub upgrade_of_loading : (reads : Type 0) (known : Option (List ℕ)) (path : List ℕ) (failure : Failure) → LoadingFails reads known path failure → UpgradeFails reads known path failure

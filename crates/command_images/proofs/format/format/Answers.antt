@@ -1,3 +1,4 @@
+use Rattle.std.proofs.lemmas.Result.{IfErr-weaker}
 use Rattle.command_images.specs.UserTold.{FormatFails}
 use Rattle.command_images.proofs.Making.{format_of_shape, format_of_writing, makes_empty, passed_on}
 use Rattle.command_images.proofs.format.format.Goals as goal
@@ -13,4 +14,5 @@ returns-in_err-geometry-clause-failed g c =
     passed_on (FormatFails c.args.matches.now _) _ c.from_residual.result c.from_residual.ensures.1 (format_of_shape c.args.matches.now _ _ c.in_err-geometry.ensures.refused)
 
 pub returns-clause-failed : goal.returns-clause-failed
-returns-clause-failed g c = format_of_writing c.required.result _ c.required.ensures c.args.matches.now c.save.result c.save.ensures.unwritten
+returns-clause-failed g c =
+    IfErr-weaker c.save.result _ _ (format_of_writing c.required.result _ c.required.ensures c.args.matches.now) c.save.ensures.unwritten

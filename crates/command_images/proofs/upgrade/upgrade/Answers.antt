@@ -1,5 +1,5 @@
 use Rattle.std.proofs.Common.{List, ℕ, subst}
-use Rattle.std.proofs.lemmas.Result.{err_from_is_err_and}
+use Rattle.std.proofs.lemmas.Result.{err_from_is_err_and, IfErr-weaker}
 use Rattle.command_images.specs.UserTold.{UpgradeFails}
 use Rattle.command_images.proofs.Making.{makes_anew, upgrade_of_loading, upgrade_of_writing}
 use Rattle.command_images.proofs.upgrade.upgrade.Goals as goal
@@ -17,4 +17,4 @@ returns-in_err-image-clause-failed g c =
 
 pub returns-clause-failed : goal.returns-clause-failed
 returns-clause-failed g c =
-    upgrade_of_writing c.required-path.result _ c.required-path.ensures g.F.Reader.Source.tells _ c.save.result c.save.ensures.unwritten
+    IfErr-weaker c.save.result _ _ (upgrade_of_writing c.required-path.result _ c.required-path.ensures g.F.Reader.Source.tells _) c.save.ensures.unwritten

@@ -1,8 +1,8 @@
 use Rattle.std.proofs.Common.{rules}
 use Rattle.std.specs.Prelude.{codes}
-use Rattle.std.proofs.lemmas.Result.{err_from_is_err_and}
+use Rattle.std.proofs.lemmas.Result.{err_from_is_err_and, IfErr-weaker}
 use Rattle.command_files.specs.Arguments.{value_of}
-use Rattle.command_programs.proofs.Assembling.{fails_made, fails_unread, makes_program}
+use Rattle.command_programs.proofs.Assembling.{fails_none, fails_unread, makes_program}
 use Rattle.command_programs.proofs.asm.asm.Goals as goal
 
 pub returns-clause-program : goal.returns-clause-program
@@ -19,5 +19,6 @@ returns-in_err-text-clause-failed g c =
 
 pub returns-clause-failed : goal.returns-clause-failed
 returns-clause-failed g c =
-    fails_made (g.F.Files.contents c.args.files.now) c.required-source.result c.required.result _ _ c.required-source.ensures c.required.ensures
-    c.in_ok-text.text.items c.as_slice.result.now c.as_slice.ensures.value c.in_ok-text.ensures.bytes c.make.result c.make.ensures.failed
+    IfErr-weaker c.make.result _ _
+    (fails_none (g.F.Files.contents c.args.files.now) c.required-source.result c.required.result _ _ c.required-source.ensures c.required.ensures
+    c.in_ok-text.text.items c.as_slice.result.now c.as_slice.ensures.value c.in_ok-text.ensures.bytes) c.make.ensures.failed

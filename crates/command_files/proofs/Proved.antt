@@ -1,0 +1,14 @@
+-- What the proofs of other crates cite of this one: the failure of a file that can't be written.
+use Rattle.std.proofs.Common.{◌≡◌, ℕ, List}
+use Rattle.std.specs.Borrow.{Bor}
+use Rattle.command_failure.specs.declared.failure.Failure.{Failure}
+use Rattle.command_failure.specs.declared.failure.Failure.TheVariants.{CannotWrite, NoMemory}
+use Rattle.command_failure.specs.declared.file_cause.FileCause.{FileCause}
+use Rattle.command_files.specs.UserTold.{IsUnwritten}
+
+-- it has what that of this file has for any cause, and what want of memory has
+pub unwritten_holds : (path : Bor (List ℕ)) (P : Failure → Type 0) → ((told : Bor (List ℕ)) (cause : FileCause) → told ≡ path → P (CannotWrite told cause)) → P NoMemory
+    → (failure : Failure) → IsUnwritten path failure → P failure
+unwritten_holds path P refused none (CannotWrite told cause) is = refused told cause is
+unwritten_holds path P refused none NoMemory is = none
+unwritten_holds path P refused none _ is = absurd is
