@@ -1,7 +1,6 @@
 pub mod Arrays
 pub mod Admissions
 pub mod Appends
-pub mod Checked
 pub mod CommandsLeave
 pub mod DeviceTurns
 pub mod Drains
