@@ -9,8 +9,8 @@ use Rattle.zone_resources.specs.Holds.{is_destination, names}
 use Rattle.zone_resources.specs.declared.holds.TheConstants.{RUNS}
 use Rattle.nvme_entry.specs.declared.command.RunCommand.{RunCommand}
 use Rattle.word_domain.specs.Domain.{Operations}
-use Rattle.image_store.specs.Namespace.{ZonedNamespace}
 use Rattle.accepted_programs.proofs.Proved.{none_known}
+use Rattle.image_store.specs.Namespace.{ZonedNamespace}
 use Rattle.nvme_entry.proofs.Proved.{passed, demanded}
 use Rattle.zone_resources.proofs.Proved.{there, users_name_zones}
 use Rattle.pushdown.specs.Admission.{admission_checks, destination_zone}
