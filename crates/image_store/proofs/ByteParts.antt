@@ -2,8 +2,7 @@
 use Rattle.std.proofs.Common.{ℕ, ◌+◌, ◌*◌, ◌<◌, zero, suc, List, [], ◌∷◌, ◌++◌, length, get_or, take, drop, sym, subst, arith}
 use Rattle.std.proofs.lemmas.List.{take-append-drop, get_or-drop}
 use Rattle.zone_state.specs.Zone.{CountedZone}
-use Rattle.program_interface.specs.Bytes.{AreBytes, spliced}
-use Rattle.image_store.specs.Blocks.{blocks_of}
+use Rattle.program_interface.specs.Bytes.{AreBytes, pieces, spliced}
 use Rattle.image_store.specs.ImageInMemory.{zones_of}
 use Rattle.image_store.specs.Namespace.{no_zone}
 
@@ -32,7 +31,7 @@ spliced_fit at new xs brought fit =
     both_fit (take at xs) (new ++ drop (at + length new) xs) (bytes_to at xs fit)
     (both_fit new (drop (at + length new) xs) brought (bytes_from (at + length new) xs fit))
 
-pub blocks_fit : (b n : ℕ) (xs : List ℕ) → AreBytes xs → (i : ℕ) → AreBytes (get_or (blocks_of b n xs) i [])
+pub blocks_fit : (b n : ℕ) (xs : List ℕ) → AreBytes xs → (i : ℕ) → AreBytes (get_or (pieces b n xs) i [])
 blocks_fit b zero xs fit i = λ k. omega arith
 blocks_fit b (suc n) xs fit zero = bytes_to b xs fit
 blocks_fit b (suc n) xs fit (suc i) = blocks_fit b n (drop b xs) (bytes_from b xs fit) i

@@ -21,7 +21,7 @@ use Rattle.image_store.specs.Reading.{are_zeros, numbers_fault, numbers_in, numb
 use Rattle.image_store.specs.Version.{HasText, has_block, numbers_of_version}
 use Rattle.image_store.proofs.FaultPlaces.{bind_fails, unknown}
 use Rattle.image_store.proofs.Faults.{is_this}
-use Rattle.image_store.proofs.HeaderParts.{begins, header_parts, passed, version_begins, version_has}
+use Rattle.image_store.proofs.HeaderParts.{begins, header_parts, numbers_passed, version_begins, version_has}
 use Rattle.image_store.proofs.ReadingCalls.{ok_is}
 
 -- a test that fails
@@ -79,7 +79,7 @@ module _ (bytes : List ℕ) (version : Version) (begun : Begins version bytes) w
       let made : Shape → Header = λ s. record { geometry = s; total = total_told version header } in
       let zeros : Shape → Result Header LoadFault = λ s. zeros_kept version header >>= λ z. Ok (made s) in
       bind_fails (IsFirstFault bytes) (numbers_in s) (λ t. version_kept version t >>= λ k. zeros t) fault e (λ first. numbers_wrong (first_failed (shape_checks s)) first refl) (λ t told later.
-      let pass = passed s t told in
+      let pass = numbers_passed s t told in
       let known = pass.known in
       let later_s : (version_kept version s >>= λ k. zeros s) ≡ Err fault = subst (λ (t : Shape). (version_kept version t >>= λ k. zeros t) ≡ Err fault) (sym pass.same) later in
       bind_fails (IsFirstFault bytes) (version_kept version s) (λ k. zeros s) fault later_s

@@ -9,8 +9,7 @@ use Rattle.zone_resources.specs.Admission.{IsWithin}
 use Rattle.zone_resources.specs.Counts.{open_count, active_count}
 use Rattle.zone_resources.specs.declared.admission.Limits.{Limits}
 use Rattle.image_store.specs.declared.fault.LoadFault.TheVariants as fault
-use Rattle.program_interface.specs.Bytes.{AreBytes}
-use Rattle.image_store.specs.Blocks.{blocks_of}
+use Rattle.program_interface.specs.Bytes.{AreBytes, pieces}
 use Rattle.image_store.specs.ImageInMemory.{no_counted_zone, zone_seen}
 use Rattle.image_store.specs.Geometry.{Shape, IsShape}
 use Rattle.image_store.specs.Laws.{LoadedTextsAreNamespaces}
@@ -45,7 +44,7 @@ first_bytes b zone zones bytes more zero i = bytes i
 first_bytes b zone zones bytes more (suc z) i = more.bytes z i
 
 -- blocks that are cut from enough bytes
-cut_whole : (b n : ℕ) (xs : List ℕ) → length xs ≡ n * b → (i : ℕ) → i < length (blocks_of b n xs) → length (get_or (blocks_of b n xs) i []) ≡ b
+cut_whole : (b n : ℕ) (xs : List ℕ) → length xs ≡ n * b → (i : ℕ) → i < length (pieces b n xs) → length (get_or (pieces b n xs) i []) ≡ b
 cut_whole b n xs size i h =
     let there : i < n = omega (arith, length-blocks b n xs) in
     let below : suc i ≤ n = omega arith in

@@ -4,16 +4,16 @@ use Rattle.std.proofs.lemmas.Option.{same_Some}
 use Rattle.std.proofs.lemmas.Bool.{eqb-true}
 use Rattle.std.proofs.lemmas.List.{append-nil, drop_all, length-map, length-take-le, nil_from_length, take_all, take-append-drop}
 use Rattle.std.proofs.Math.Nat.{suc-mul}
-use Rattle.std.specs.List.{find}
+use Rattle.std.specs.List.{concat, find}
 use Rattle.std.specs.Prelude.{◌==◌}
 use Rattle.zone_state.specs.declared.state.ZoneState.{ZoneState}
-use Rattle.zone_state.specs.State.{code_of, state_of, states}
+use Rattle.zone_state.specs.State.{code_of, state_of}
+use Rattle.zone_state.specs.declared.state.TheConstants.ZoneState.{ALL}
 use Rattle.zone_state.specs.Zone.{CountedZone, fits_state}
 use Rattle.byteorder.specs.Endian.{little_number}
 use Rattle.image_store.specs.declared.fault.LoadFault.TheVariants as fault
 use Rattle.image_store.specs.declared.fault.ZoneRowFault.TheVariants as row_fault
-use Rattle.program_interface.specs.Bytes.{AreBytes}
-use Rattle.image_store.specs.Blocks.{blocks_of, bytes_of}
+use Rattle.program_interface.specs.Bytes.{AreBytes, pieces}
 use Rattle.image_store.specs.ImageInMemory.{no_counted_zone, zone_seen}
 use Rattle.image_store.specs.declared.header.Header.{Header}
 use Rattle.image_store.specs.declared.version.Version.{Version}
@@ -104,7 +104,7 @@ row_only zone capacity (a ∷ p ∷ q ∷ r ∷ xs) z size fit e =
     let spelled : four_bytes (little_number 4 xs) ≡ xs =
     sym (append-nil (four_bytes (little_number 4 xs))) ∙ (ap (λ (rest : List ℕ). four_bytes (little_number 4 xs) ++ rest) (sym none)
     ∙ four_bytes_spelled xs (omega arith) (rest_fit (a ∷ p ∷ q ∷ r ∷ []) xs fit)) in (
-      ap (λ (code : ℕ). code ∷ 0 ∷ 0 ∷ 0 ∷ four_bytes z.written) (found states a z.state told.0)
+      ap (λ (code : ℕ). code ∷ 0 ∷ 0 ∷ 0 ∷ four_bytes z.written) (found ALL a z.state told.0)
           ∙ (ap (λ (n : ℕ). a ∷ 0 ∷ 0 ∷ 0 ∷ four_bytes n) told.1
           ∙ (ap (λ (rest : List ℕ). a ∷ 0 ∷ 0 ∷ 0 ∷ rest) spelled
           ∙ ap (λ (front : List ℕ). a ∷ (front ++ xs)) zeros)),
@@ -155,10 +155,10 @@ blocks_only b capacity (z ∷ zs) xs got same e =
     let a = bind_ok (bytes_in (z.written * b) xs) (λ front. blocks_in b zs front.1 >>= λ rest. Ok (zone_seen b z front.0 ∷ rest.0, rest.1)) got e in
     let c = bind_ok (blocks_in b zs a.0.1) (λ rest. Ok (zone_seen b z a.0.0 ∷ rest.0, rest.1)) got a.2 in
     let size = bytes_size (z.written * b) xs a.0 a.1 in
-    let front : bytes_of (blocks_of b z.written a.0.0) ≡ a.0.0 = bytes-blocks b z.written a.0.0 ∙ take_all (z.written * b) a.0.0 (omega arith) in
+    let front : concat (pieces b z.written a.0.0) ≡ a.0.0 = bytes-blocks b z.written a.0.0 ∙ take_all (z.written * b) a.0.0 (omega arith) in
     let rest = blocks_only b capacity zs a.0.1 c.0 (λ k h. same (suc k) (omega arith)) c.1 in
     subst (AreWritten capacity (z ∷ zs) xs) (ok_is (zone_seen b z a.0.0 ∷ c.0.0, c.0.1) got c.2) (record {
-      spelled = append_assoc (bytes_of (blocks_of b z.written a.0.0)) (blocks_text c.0.0) c.0.1
+      spelled = append_assoc (concat (pieces b z.written a.0.0)) (blocks_text c.0.0) c.0.1
           ∙ (ap (λ (first : List ℕ). first ++ (blocks_text c.0.0 ++ c.0.1)) front
           ∙ (ap (λ (more : List ℕ). a.0.0 ++ more) rest.spelled ∙ bytes_parts (z.written * b) xs a.0 a.1));
       counted = ap (λ (first : CountedZone). first ∷ map (counted capacity) c.0.0) (counted_seen b capacity z a.0.0 (same 0 (omega arith))) ∙ ap (λ (more : List CountedZone). z ∷ more) rest.counted;

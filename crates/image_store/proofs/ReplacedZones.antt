@@ -7,14 +7,15 @@ use Rattle.zone_state.specs.declared.state.ZoneState.{ZoneState}
 use Rattle.zone_state.specs.declared.state.ZoneState.TheVariants.{Empty, ImplicitlyOpened, ExplicitlyOpened, Closed, ReadOnly, Full, Offline}
 use Rattle.zone_state.specs.State.{is_cleared}
 use Rattle.zone_state.specs.Zone.{CountedZone, IsZone, kept, write_check, after_write, written_state}
-use Rattle.image_store.specs.Blocks.{block_count, blocks_of}
+use Rattle.zone_state.proofs.Proved.{is_allowed}
+use Rattle.image_store.specs.Blocks.{block_count}
 use Rattle.image_store.specs.ImageInMemory.{zone_seen, no_counted_zone, namespace_of, IsFlat}
-use Rattle.program_interface.specs.Bytes.{spliced}
+use Rattle.program_interface.specs.Bytes.{pieces, spliced}
 use Rattle.image_store.specs.Geometry.{Shape}
 use Rattle.image_store.specs.Namespace.{ZoneBlocks, ZonedNamespace, zone_at, with_zone, arrived, with_state}
 use Rattle.image_store.proofs.BlocksOfBytes.{length-blocks, length-spliced}
 use Rattle.image_store.proofs.ZonesInMemory.{zone-at, zones-set}
-use Rattle.image_store.proofs.ImageFields.{allowed_fits, write_fits}
+use Rattle.image_store.proofs.ImageFields.{write_fits}
 
 pub zone_set : (s : Shape) (zs : List CountedZone) (xs : List ℕ) (z : ℕ) (r : CountedZone)
     → namespace_of s (set zs z r) xs ≡ with_zone (namespace_of s zs xs) z (zone_seen s.block r (drop (z * (s.capacity * s.block)) xs))
@@ -24,7 +25,7 @@ zone_set s zs xs z r =
 
 -- the blocks of a counted zone that keeps all or none
 kept_seen : (cleared : Bool) (block written : ℕ) (bytes : List ℕ)
-    → blocks_of block (if cleared then 0 else written) bytes ≡ (if cleared then [] else blocks_of block written bytes)
+    → pieces block (if cleared then 0 else written) bytes ≡ (if cleared then [] else pieces block written bytes)
 kept_seen true block written bytes = refl
 kept_seen false block written bytes = refl
 
@@ -53,7 +54,7 @@ written_zone Offline written capacity false some fits other = let apart = eqb-fa
 
 pub after_write_zone : (z : CountedZone) (n : ℕ) → 1 ≤ n → write_check z z.written n ≡ Ok tt → IsZone (after_write z n).state (after_write z n).written z.capacity
 after_write_zone z n some allowed =
-    written_zone z.state (z.written + n) z.capacity (nat_eq (z.written + n) z.capacity) (omega arith) (allowed_fits z z.written n allowed) refl
+    written_zone z.state (z.written + n) z.capacity (nat_eq (z.written + n) z.capacity) (omega arith) (is_allowed z z.written n allowed).has_room refl
 
 each_set : (P : CountedZone → Type 0) (zs : List CountedZone) (z : ℕ) (r : CountedZone)
     → ((y : ℕ) → y < length zs → P (get_or zs y no_counted_zone)) → P r → (y : ℕ) → y < length (set zs z r) → P (get_or (set zs z r) y no_counted_zone)

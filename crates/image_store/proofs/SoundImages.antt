@@ -4,7 +4,7 @@ use Rattle.std.proofs.lemmas.List.{drop-drop}
 use Rattle.std.proofs.Math.Nat.{suc-mul, mul-le-mul_right}
 use Rattle.zone_state.specs.Zone.{CountedZone, IsZone}
 use Rattle.zone_resources.specs.declared.counts.Counts.{Counts}
-use Rattle.image_store.specs.Blocks.{blocks_of}
+use Rattle.program_interface.specs.Bytes.{pieces}
 use Rattle.image_store.specs.ImageInMemory.{no_counted_zone, namespace_of, IsFlat, IsImage}
 use Rattle.image_store.specs.Geometry.{Shape, IsShape}
 use Rattle.image_store.specs.Namespace.{ZoneBlocks, ZonedNamespace, no_zone, zone_at, IsNamespace}
@@ -14,7 +14,7 @@ use Rattle.image_store.proofs.BlocksOfBytes.{length-blocks}
 use Rattle.image_store.proofs.ZonesInMemory.{length-zones, zone-at}
 use Rattle.image_store.proofs.ImageFields.{room_end, within, shape_seen}
 
-pub block-at : (b n i : ℕ) (xs : List ℕ) → i < n → get_or (blocks_of b n xs) i [] ≡ take b (drop (i * b) xs)
+pub block-at : (b n i : ℕ) (xs : List ℕ) → i < n → get_or (pieces b n xs) i [] ≡ take b (drop (i * b) xs)
 block-at b zero i xs h = absurd (omega arith)
 block-at b (suc n) zero xs h = let start : zero * b ≡ 0 = omega arith in ap (λ (m : ℕ). take b (drop m xs)) (sym start)
 block-at b (suc n) (suc i) xs h =

@@ -1,9 +1,9 @@
 -- The text of what an image's fields stand for.
 use Rattle.std.proofs.Common.{◌≡◌, ℕ, ◌+◌, ◌*◌, ◌<◌, List, ◌++◌, length, get_or, take, drop, refl, ap, sym, ◌∙◌, arith}
+use Rattle.std.specs.List.{concat}
 use Rattle.std.proofs.lemmas.List.{take_all, at_drop_more, get_or_default}
 use Rattle.zone_state.specs.Zone.{CountedZone}
 use Rattle.image_store.specs.declared.version.Version.TheVariants.{Two}
-use Rattle.image_store.specs.Blocks.{bytes_of}
 use Rattle.image_store.specs.ImageInMemory.{namespace_of, zones_of, no_counted_zone, IsFlat}
 use Rattle.image_store.specs.Geometry.{Shape}
 use Rattle.image_store.specs.Namespace.{ZoneBlocks, no_zone, zone_at, shape}
@@ -25,7 +25,7 @@ text_seen s zs xs flat =
 
 -- the blocks of one zone, as a call gave them, and those of the zones behind it
 pub blocks_step : (s : Shape) (zs : List CountedZone) (xs : List ℕ) (i w : ℕ) (z : CountedZone) (piece : List ℕ) → i < length zs → z ≡ get_or zs i z → w ≡ z.written
-    → piece ≡ bytes_of (take w (drop 0 (zone_at (namespace_of s zs xs) i).blocks))
+    → piece ≡ concat (take w (drop 0 (zone_at (namespace_of s zs xs) i).blocks))
     → blocks_text (drop i (zones_of s.block s.capacity zs xs)) ≡ piece ++ blocks_text (drop (i + 1) (zones_of s.block s.capacity zs xs))
 blocks_step s zs xs i w z piece inside read same given =
     let zones = zones_of s.block s.capacity zs xs in
@@ -36,6 +36,6 @@ blocks_step s zs xs i w z piece inside read same given =
     let seen = ap (λ (zone : ZoneBlocks). length zone.blocks) (zone-at s.block s.capacity zs xs i inside)
     ∙ length-blocks s.block (get_or zs i no_counted_zone).written (drop (i * (s.capacity * s.block)) xs) in
     let whole : take w blocks ≡ blocks = take_all w blocks (omega arith) in
-    let all : bytes_of blocks ≡ piece = ap bytes_of (sym whole) ∙ sym given in
+    let all : concat blocks ≡ piece = ap concat (sym whole) ∙ sym given in
     at_drop_more blocks_text zones i no_zone there
     ∙ ap (λ (front : List ℕ). front ++ blocks_text (drop (i + 1) zones)) all

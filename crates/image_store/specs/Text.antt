@@ -1,12 +1,11 @@
 -- The texts of an image, one of each version (profile).
 use Rattle.std.specs.Prelude.{ℕ, List, [], ◌∷◌, ◌++◌, replicate}
-use Rattle.std.specs.List.{flat_map, sum_by}
+use Rattle.std.specs.List.{concat, flat_map, sum_by}
 use Rattle.byteorder.specs.Endian.{little_bytes}
 use Rattle.zone_state.specs.State.{code_of}
 use Rattle.zone_state.specs.Zone.{CountedZone}
 use Rattle.image_store.specs.declared.version.Version.{Version}
 use Rattle.image_store.specs.declared.version.Version.TheVariants.{One, Two}
-use Rattle.image_store.specs.Blocks.{bytes_of}
 use Rattle.image_store.specs.Geometry.{Shape}
 use Rattle.image_store.specs.Namespace.{ZoneBlocks, ZonedNamespace, counted_zones, shape}
 use Rattle.image_store.specs.Version.{numbers_of_version}
@@ -42,7 +41,7 @@ zone_rows zones = flat_map zone_row zones
 
 -- the written blocks of zones, one zone's behind another's
 abbrev pub blocks_text : List ZoneBlocks → List ℕ
-blocks_text zones = flat_map (λ zone. bytes_of zone.blocks) zones
+blocks_text zones = flat_map (λ zone. concat zone.blocks) zones
 
 -- the header, the row of each zone, and the written blocks of each zone
 abbrev pub text_of : Version → ZonedNamespace → List ℕ

@@ -1,5 +1,4 @@
 mod Agreeing
-mod Checked
 mod Commands
 mod Encodings
 mod Descriptors

@@ -1,2 +1,3 @@
 mod FirstChecks
+mod AllowedWrites
 pub mod Proved
