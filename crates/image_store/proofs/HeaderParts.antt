@@ -34,7 +34,7 @@ either test version false false first second e = absurd cc
 pub version_begins : (bytes : List ℕ) (version : Version) → version_in bytes ≡ Some version → begins bytes version ≡ true
 version_begins bytes version e = either (begins bytes) version (begins bytes One) (begins bytes Two) refl refl e
 
-some_version : (told : Option Version) (version : Version) → ok_or told fault.Magic ≡ Ok version → told ≡ Some version
+pub some_version : (told : Option Version) (version : Version) → ok_or told fault.Magic ≡ Ok version → told ≡ Some version
 some_version None version e = absurd cc
 some_version (Some found) version e = ap (λ (v : Version). Some v) (ok_is found version e)
 

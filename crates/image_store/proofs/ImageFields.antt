@@ -13,7 +13,7 @@ use Rattle.image_store.specs.ImageInMemory.{zones_of, zone_seen, no_counted_zone
 use Rattle.image_store.specs.steps.EmptyZone.{empty_counted_zone}
 use Rattle.program_interface.specs.Bytes.{pieces, spliced}
 use Rattle.image_store.specs.Geometry.{Shape}
-use Rattle.image_store.specs.Namespace.{ZoneBlocks, ZonedNamespace, zone_at, counted, grown, appended, all_empty, shape}
+use Rattle.image_store.specs.Namespace.{ZoneBlocks, ZonedNamespace, zone_at, counted, grown, appended, namespace_with, all_empty, shape}
 use Rattle.image_store.proofs.BlocksOfBytes.{length-blocks, bytes-middle}
 use Rattle.image_store.proofs.ZonesInMemory.{HasRoom, length-zones, zone-at, zones-append, write_end}
 
@@ -85,7 +85,7 @@ append_seen s zs xs z new flat inside whole allowed =
     let zones = zones-append s.block s.capacity zs xs z n (after_write r n) new inside long (λ y in_list. within s zs xs y flat in_list) (has_room s zs xs z new flat inside whole allowed) refl in
     let seen = ap (λ (zone : ZoneBlocks). grown s.capacity zone (as_blocks s.block new)) (zone-at s.block s.capacity zs xs z inside)
     ∙ grown_seen s.block s.capacity r (drop (z * (s.capacity * s.block)) xs) new (flat.capacities z inside) in
-    ap (λ (all : List ZoneBlocks). let ns : ZonedNamespace = record { block = s.block; size = s.size; capacity = s.capacity; limits = s.limits; zones = all } in ns)
+    ap (namespace_with s)
     (zones ∙ ap (set (zones_of s.block s.capacity zs xs) z) (sym seen))
 
 -- a zone of the namespace is one of the image's
@@ -113,7 +113,7 @@ empty_zones b c (suc n) r xs none =
 pub empty_seen : (s : Shape) (xs : List ℕ) → namespace_of s (replicate s.zones (empty_counted_zone s.capacity)) xs ≡ all_empty s
 empty_seen s xs =
     let r = empty_counted_zone s.capacity in
-    ap (λ (all : List ZoneBlocks). let ns : ZonedNamespace = record { block = s.block; size = s.size; capacity = s.capacity; limits = s.limits; zones = all } in ns)
+    ap (namespace_with s)
     (empty_zones s.block s.capacity s.zones r xs refl)
 
 -- the zones without their blocks are the counted zones

@@ -15,7 +15,9 @@ use Rattle.image_store.proofs.ImageFields.{within_capacity}
 use Rattle.image_store.proofs.LoadedNamespaces as loaded
 use Rattle.image_store.proofs.BlocksOfBytes.{bytes-blocks, length-blocks}
 use Rattle.image_store.proofs.SoundImages.{block-at, zone_with_blocks}
+pub use Rattle.image_store.proofs.SoundImages.{block_whole}
 use Rattle.image_store.proofs.ReplacedZones.{after_write_zone}
+pub use Rattle.image_store.proofs.ReplacedZones.{each_set}
 use Rattle.image_store.proofs.Shapes as shapes
 
 pub saved_texts_load : SavedTextsLoad

@@ -1,16 +1,14 @@
 -- A text of a namespace is read as that namespace.
-use Rattle.std.proofs.Common.{◌≡◌, ℕ, ◌+◌, ◌*◌, ◌^◌, ◌<◌, ◌≤◌, zero, suc, Bool, true, cond, nat_eq, List, [], ◌∷◌, ◌++◌, length, get_or, map, drop, Some, Result, Ok, Err, refl, ap, sym, subst, ◌∙◌, append_assoc, arith, length-append}
+use Rattle.std.proofs.Common.{◌≡◌, ℕ, ◌+◌, ◌*◌, ◌^◌, ◌<◌, ◌≤◌, zero, suc, Bool, cond, List, [], ◌∷◌, ◌++◌, length, get_or, map, drop, Result, Ok, Err, refl, ap, sym, subst, ◌∙◌, append_assoc, arith, length-append}
 use Rattle.std.specs.List.{concat}
-use Rattle.std.proofs.lemmas.Bool.{le-leb}
+use Rattle.std.proofs.lemmas.Bool.{eq-eqb, le-leb}
 use Rattle.std.proofs.lemmas.List.{append-nil, take_at, drop_at, length-map}
-use Rattle.std.proofs.lemmas.Bool.Decides.{nat_tests}
 use Rattle.std.proofs.lemmas.List.Elements.{All-from_get_or}
 use Rattle.std.proofs.lemmas.List.Sums.{sum_by-le}
 use Rattle.std.proofs.Math.Nat.{mul-le-mul, suc-mul}
-use Rattle.zone_state.specs.declared.state.ZoneState.{ZoneState}
-use Rattle.zone_state.specs.declared.state.ZoneState.TheVariants.{Empty, ImplicitlyOpened, ExplicitlyOpened, Closed, ReadOnly, Full, Offline}
 use Rattle.zone_state.specs.State.{code_of, state_of}
 use Rattle.zone_state.specs.Zone.{CountedZone, IsZone}
+use Rattle.zone_state.proofs.Proved.{codes_are_distinct}
 use Rattle.zone_resources.specs.Admission.{IsWithin}
 use Rattle.zone_resources.specs.Counts.{open_count, active_count}
 use Rattle.zone_resources.specs.declared.admission.Limits.{Limits}
@@ -34,15 +32,6 @@ use Rattle.image_store.proofs.Headers.{word_again, header_read, header_seen, tot
 use Rattle.image_store.proofs.ImageFields.{within_capacity}
 use Rattle.image_store.proofs.LoadStages.{after_limits, past_header, past_rows, past_total, past_limits, past_blocks, past_end}
 
-code_again : (state : ZoneState) → state_of (code_of state) ≡ Some state
-code_again Empty = refl
-code_again ImplicitlyOpened = refl
-code_again ExplicitlyOpened = refl
-code_again Closed = refl
-code_again ReadOnly = refl
-code_again Full = refl
-code_again Offline = refl
-
 -- rows that can be spelled
 pub record CanSpell (capacity : ℕ) (z : CountedZone) : Type 0 where
   pub same : z.capacity ≡ capacity
@@ -55,7 +44,7 @@ row_again zone capacity z can =
     let small = can.small in
     let number = word_again z.written [] (omega arith) in
     ap (λ (n : ℕ). zone_told zone (code_of z.state) (state_of (code_of z.state)) n capacity) number
-    ∙ (ap (λ state. zone_told zone (code_of z.state) state z.written capacity) (code_again z.state)
+    ∙ (ap (λ state. zone_told zone (code_of z.state) state z.written capacity) (codes_are_distinct.there z.state)
     ∙ (ap (λ (test : Bool). let r : Result CountedZone LoadFault = cond test (Ok (record { state = z.state; written = z.written; capacity = capacity })) (Err (fault.ZoneRow zone (row_fault.Blocks z.state z.written capacity))) in r) can.fits.1
     ∙ ap (λ (n : ℕ). let same : CountedZone = record { state = z.state; written = z.written; capacity = n } in let r : Result CountedZone LoadFault = Ok same in r) (sym can.same)))
 
@@ -128,15 +117,12 @@ total_small ns sound =
     let product : length (counted_zones ns) * ns.capacity ≤ MOST_ZONES * MOST_ZONE_BLOCKS = mul-le-mul zones capacity in
     omega arith
 
-same_number : (n : ℕ) → nat_eq n n ≡ true
-same_number n = grind (arith, nat_tests)
-
 -- the number of written blocks that the header tells is that of the rows
 pub total_read : (version : Version) (zs : List CountedZone) → total_kept (total_in version (written_blocks zs)) zs ≡ Ok tt
 total_read One zs = refl
 total_read Two zs =
     let total = written_blocks zs in
-    ap (λ (test : Bool). let r : Result (Unit {0}) LoadFault = cond test (Ok tt) (Err (fault.Total total total)) in r) (same_number total)
+    ap (λ (test : Bool). let r : Result (Unit {0}) LoadFault = cond test (Ok tt) (Err (fault.Total total total)) in r) (eq-eqb total total refl)
 
 -- what the header of a namespace tells
 abbrev pub told_of : Version → ZonedNamespace → Header

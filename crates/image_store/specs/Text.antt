@@ -10,10 +10,6 @@ use Rattle.image_store.specs.Geometry.{Shape}
 use Rattle.image_store.specs.Namespace.{ZoneBlocks, ZonedNamespace, counted_zones, shape}
 use Rattle.image_store.specs.Version.{numbers_of_version}
 
--- 32 bits, the lowest byte first
-abbrev pub four_bytes : ℕ → List ℕ
-four_bytes n = little_bytes 4 n
-
 -- the numbers of a shape, in their order
 abbrev pub numbers_of : Shape → List ℕ
 numbers_of s = s.block ∷ s.zones ∷ s.size ∷ s.capacity ∷ s.limits.open_limit ∷ s.limits.active_limit ∷ []
@@ -23,9 +19,9 @@ abbrev pub header_end : Version → ℕ → List ℕ
 header_end One total = replicate 32 0
 header_end Two total = little_bytes 8 total ++ replicate 24 0
 
--- 64 bytes: the magic, the numbers, and the end
+-- 64 bytes: the magic, the numbers in 32 bits each, the lowest byte first, and the end
 abbrev pub header : Version → Shape → ℕ → List ℕ
-header version s total = (numbers_of_version version).magic ++ (flat_map four_bytes (numbers_of s) ++ header_end version total)
+header version s total = (numbers_of_version version).magic ++ (flat_map (little_bytes 4) (numbers_of s) ++ header_end version total)
 
 -- how many blocks of zones are written
 abbrev pub written_blocks : List CountedZone → ℕ
@@ -33,7 +29,7 @@ written_blocks zones = sum_by (λ zone. zone.written) zones
 
 -- 8 bytes: the state's code, zeros, and how many blocks are written
 abbrev pub zone_row : CountedZone → List ℕ
-zone_row z = code_of z.state ∷ 0 ∷ 0 ∷ 0 ∷ four_bytes z.written
+zone_row z = code_of z.state ∷ 0 ∷ 0 ∷ 0 ∷ little_bytes 4 z.written
 
 -- the rows of zones
 abbrev pub zone_rows : List CountedZone → List ℕ

@@ -1,3 +1,4 @@
 mod FirstChecks
 mod AllowedWrites
+mod Codes
 pub mod Proved
