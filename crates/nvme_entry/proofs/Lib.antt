@@ -8,4 +8,5 @@ mod Spelled
 mod Unused
 mod CompletionFields
 mod Writes
+mod WrittenAgain
 pub mod Proved
