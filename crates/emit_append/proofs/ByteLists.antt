@@ -4,8 +4,11 @@ use Rattle.std.specs.List.{AllByRecursion}
 use Rattle.program_interface.specs.Bytes.{AreBytes}
 use Rattle.emit_append.specs.OutputBlocks.{AreAllBytes}
 
+abbrev pub FitsByte : ℕ → Type 0
+FitsByte number = number < 2 ^ 8
+
 abbrev pub AllBytes : List ℕ → Type 0
-AllBytes bytes = AllByRecursion (λ byte. byte < 2 ^ 8) bytes
+AllBytes bytes = AllByRecursion FitsByte bytes
 
 pub by_place : (bytes : List ℕ) → AllBytes bytes → AreBytes bytes
 by_place [] all k = lit< tt

@@ -6,7 +6,7 @@ use Rattle.std.specs.List.{AllByRecursion}
 use Rattle.emit_append.specs.GoingOn.{PackingGoesOn}
 use Rattle.program_interface.specs.Bytes.{padded}
 use Rattle.emit_append.specs.Packing.{Layout, behind, beginning, laid_out, block_fillings, packed, released, pending_of, all_but_last, last_or_empty}
-use Rattle.emit_append.proofs.Layouts.{laid-behind, laid-beginning, laid-empty}
+use Rattle.emit_append.proofs.Layouts.{filled-first, laid-behind, laid-beginning, laid-empty}
 
 -- the blocks begun, with more groups after them
 abbrev extended : ℕ → List (List ℕ) → List (List ℕ) → List (List ℕ)
@@ -62,10 +62,6 @@ later-hold block room (g ∷ gs) =
     (λ large. rw (laid-beginning block room g gs large) (omega (arith, length-append g (laid_out block (block - length g) gs).begun), later-hold block (block - length g) gs))
     (λ small. rw (laid-behind block room g gs small) (later-hold block (room - length g) gs))
     (cases_lt room (length g))
-
--- one block more goes on as a first group
-filled-first : (block : ℕ) (x : List ℕ) (after : List (List ℕ)) → 0 < length x → block_fillings block (x ∷ after) ≡ (beginning x (laid_out block (block - length x) after)).later
-filled-first block x after some = ap (λ l. l.later) (laid-beginning block 0 x after some)
 
 extended-is : (block : ℕ) (blocks after : List (List ℕ)) → HoldBytes blocks → extended block blocks after ≡ all_but_last blocks ++ block_fillings block (last_or_empty blocks ∷ after)
 extended-is block [] after hold = ap (λ l. l.later) (sym (laid-empty block 0 after))

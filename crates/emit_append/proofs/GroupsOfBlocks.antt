@@ -141,12 +141,13 @@ pub packed_as_described : PackedAsDescribed
 packed_as_described block groups blocks fit =
     (packed_is block groups blocks, λ is. rw is (are_packed block groups (divided block 0 (with_bytes groups) (with_bytes-fit block groups fit))))
 
-joined_fit : (block : ℕ) (parts : List (List (List ℕ))) → AllByRecursion (λ part. length (concat part) ≤ block) parts → FitBlock block (map concat parts)
-joined_fit block [] fits = tt
-joined_fit block (part ∷ parts) fits = (fits.0, joined_fit block parts fits.1)
+-- what parts come to fits into blocks where each of it does
+pub parts_fit : {X : Type 0} (block : ℕ) (f : X → List ℕ) (parts : List X) → AllByRecursion (λ part. length (f part) ≤ block) parts → FitBlock block (map f parts)
+parts_fit block f [] fits = tt
+parts_fit block f (part ∷ parts) fits = (fits.0, parts_fit block f parts fits.1)
 
 -- what groups fill of each block fits into it
 pub filled_fits : (block : ℕ) (groups : List (List ℕ)) → FitBlock block groups → FitBlock block (block_fillings block groups)
 filled_fits block groups fit =
     let d = divided block 0 groups fit in
-    subst (λ (l : Layout). FitBlock block l.later) (sym d.is) (joined_fit block d.parts d.fits)
+    subst (λ (l : Layout). FitBlock block l.later) (sym d.is) (parts_fit block concat d.parts d.fits)

@@ -1,35 +1,19 @@
 -- The byte that a reading refuses is the lowest one.
-use Rattle.std.proofs.Common.{◌≡◌, ℕ, zero, suc, ◌+◌, ◌-◌, ◌*◌, ◌/◌, ◌^◌, ◌≤◌, ◌<◌, List, [], ◌∷◌, ◌++◌, length, map, take, drop, Ok, Err, refl, ap, sym, ◌∙◌, arith, length-append, length-drop, append_assoc, inl, inr, subst, ⊎_elim}
+use Rattle.std.proofs.Common.{◌≡◌, ℕ, zero, suc, ◌+◌, ◌-◌, ◌*◌, ◌/◌, ◌^◌, ◌≤◌, ◌<◌, List, [], ◌∷◌, ◌++◌, length, take, drop, Ok, Err, refl, ap, sym, ◌∙◌, arith, length-append, length-drop, append_assoc, inl, inr, subst, ⊎_elim}
 use Rattle.std.specs.Prelude.{◌⊎◌}
-use Rattle.std.specs.List.{concat}
 use Rattle.std.proofs.Math.Nat.{div-add-mod', mul-div_cancel, suc-mul}
 use Rattle.std.proofs.Math.Seq.{take-add}
 use Rattle.std.proofs.lemmas.Bool.{cases_lt}
 use Rattle.std.proofs.lemmas.List.{append-nil, drop-take, length-take, length-take-le, take-append-le, take-take, take_all, take_at}
-use Rattle.program_interface.specs.Frame.{frames}
-use Rattle.program_interface.specs.Bytes.{padded}
+use Rattle.program_interface.proofs.Proved.{agree_before, agree_behind}
 use Rattle.emit_append.proofs.ByteLists.{AllBytes, by_recursion}
 use Rattle.program_interface.specs.Readings.{◌>>=◌}
 use Rattle.emit_append.specs.Unpacking.{AreFrames, CanBegin, Reading, RefusedIsLowest, frames_at, output_block_at, output_blocks_at, then_read}
-use Rattle.emit_append.proofs.UnpackedFrames.{IsFrames, bytes_from, bytes_up_to, frames-read, only-frames}
+use Rattle.emit_append.proofs.UnpackedFrames.{block_before, bytes_from, bytes_up_to, frames-read, no_blocks, only-frames}
 use Rattle.emit_append.proofs.ReadBack.{length-blocks}
-use Rattle.emit_append.proofs.RefusedBlocks.{IsRefused, agree_before, agree_behind, behind_err, cut_off, cut_twice, is_refused, length_cut_off, zeros_of}
+use Rattle.emit_append.proofs.RefusedBlocks.{IsRefused, behind_err, cut_off, cut_twice, is_refused, length_cut_off, zeros_of}
 
 -- ---- blocks
-
-block_before : (block : ℕ) (bytes behind : List ℕ) (front more : List (List ℕ)) → length bytes ≡ block → IsFrames bytes front → AreFrames block more behind → AreFrames block (front ++ more) (bytes ++ behind)
-block_before block bytes behind front more size first others = record {
-  parts = front ∷ others.parts;
-  in_order = ap (λ records. front ++ records) others.in_order;
-  some = (first.some, others.some);
-  fits = (omega (arith, size, first.fits), others.fits);
-  rest_is_zeros =
-      ap (λ rest. bytes ++ rest) others.rest_is_zeros
-      ∙ ap (λ whole. whole ++ concat (map (padded block) (map frames others.parts))) (first.is ∙ ap (λ n. padded n (frames front)) size);
-}
-
-no_blocks : (block : ℕ) → AreFrames block [] []
-no_blocks block = record { parts = []; in_order = refl; some = tt; fits = tt; rest_is_zeros = refl }
 
 -- The place that blocks are refused at. Other blocks with the same bytes up to the next place are refused there too, as far as they
 -- stand in these blocks; or no block is left.

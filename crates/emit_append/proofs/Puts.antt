@@ -5,11 +5,11 @@ use Rattle.program_interface.specs.Bytes.{padded}
 use Rattle.emit_append.specs.Packing.{block_fillings, packed, released, pending_of, all_but_last, last_or_empty}
 use Rattle.emit_append.specs.Packer.{LendingIsFinishing, LendingIsPutting, PuttingIsPacking, after_put, after_puts, given_by_puts, new_packer}
 use Rattle.emit_append.proofs.Continuing.{packing_goes_on}
-use Rattle.emit_append.proofs.Layouts.{filled-begins, filled-empty, laid-beginning, laid-behind}
+use Rattle.emit_append.proofs.Layouts.{filled-empty, filled-first, laid-beginning, laid-behind}
 
 -- bytes alone fill one block, or none
 filled-one : (block x : ℕ) (xs : List ℕ) → block_fillings block ((x ∷ xs) ∷ []) ≡ (x ∷ xs) ∷ []
-filled-one block x xs = filled-begins block x xs [] ∙ simp append-nil
+filled-one block x xs = filled-first block (x ∷ xs) [] (omega arith) ∙ simp append-nil
 
 pub released-one : (block : ℕ) (group : List ℕ) → released block (group ∷ []) ≡ []
 released-one block [] = refl
@@ -45,7 +45,7 @@ putting_is_packing block groups =
 -- a group that has room behind what is pending fills one block with it
 filled-room : (block x : ℕ) (xs group : List ℕ) → length (x ∷ xs) + length group ≤ block → block_fillings block ((x ∷ xs) ∷ group ∷ []) ≡ ((x ∷ xs) ++ group) ∷ []
 filled-room block x xs group room =
-    filled-begins block x xs (group ∷ [])
+    filled-first block (x ∷ xs) (group ∷ []) (omega arith)
     ∙ ap (λ rest. ((x ∷ xs) ++ rest.begun) ∷ rest.later) (laid-behind block (block - length (x ∷ xs)) group [] (omega (arith, room)))
     ∙ simp append-nil
 
@@ -53,7 +53,7 @@ filled-room block x xs group room =
 filled-full : (block x : ℕ) (xs group : List ℕ) → length (x ∷ xs) ≤ block → block < length (x ∷ xs) + length group →
     block_fillings block ((x ∷ xs) ∷ group ∷ []) ≡ (x ∷ xs) ∷ group ∷ []
 filled-full block x xs group fits full =
-    filled-begins block x xs (group ∷ [])
+    filled-first block (x ∷ xs) (group ∷ []) (omega arith)
     ∙ ap (λ rest. ((x ∷ xs) ++ rest.begun) ∷ rest.later) (laid-beginning block (block - length (x ∷ xs)) group [] (omega (arith, fits, full)))
     ∙ simp append-nil
 

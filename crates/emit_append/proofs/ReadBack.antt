@@ -11,15 +11,19 @@ use Rattle.byteorder.specs.Numbers.{little_number-reads_back}
 use Rattle.program_interface.specs.Frame.{frame, frames}
 use Rattle.emit_append.specs.PackedLaw.{FitBlock}
 use Rattle.program_interface.specs.Bytes.{padded}
+use Rattle.program_interface.proofs.Proved.{all_append}
 use Rattle.emit_append.specs.Packing.{Layout, behind, beginning, laid_out, packed}
 use Rattle.emit_append.specs.Unpacking.{PackedFramesReadBack, output_block_at, output_blocks_at, frame_length, then_read, unpacked, zeros_at}
 use Rattle.emit_append.proofs.Layouts.{laid-behind, laid-beginning}
 use Rattle.emit_append.proofs.Padding.{length-padded}
 use Rattle.emit_append.proofs.FramesRead.{block-frame, block-zeros}
 
--- records that frames can hold
+-- a record that a frame can hold
+abbrev IsRecord : List ℕ → Type 0
+IsRecord bytes = (0 < length bytes) × (length bytes < 2 ^ 16)
+
 abbrev pub AreRecords : List (List ℕ) → Type 0
-AreRecords records = AllByRecursion (λ bytes. (0 < length bytes) × (length bytes < 2 ^ 16)) records
+AreRecords records = AllByRecursion IsRecord records
 
 pub front_two : (low high : ℕ) (rest : List ℕ) → frame_length (low ∷ high ∷ rest) ≡ little_number 2 (low ∷ high ∷ rest)
 front_two low high rest = search (rules, nat_tests)
@@ -67,10 +71,6 @@ record Grouped (block room : ℕ) (groups : List (List (List ℕ))) (layout : La
   front_records : AreRecords front
   records : AllByRecursion AreRecords parts
 
-records-append : (xs ys : List (List ℕ)) → AreRecords xs → AreRecords ys → AreRecords (xs ++ ys)
-records-append [] ys first second = second
-records-append (x ∷ xs) ys first second = (first.0, records-append xs ys first.1 second)
-
 grouped-behind : (block room : ℕ) (group : List (List ℕ)) (groups : List (List (List ℕ))) (rest : Layout) → AreRecords group → length (frames group) ≤ room →
     Grouped block (room - length (frames group)) groups rest → Grouped block room (group ∷ groups) (behind (frames group) rest)
 grouped-behind block room group groups rest are fits d =
@@ -82,7 +82,7 @@ grouped-behind block room group groups rest are fits d =
       is = ap (behind (frames group)) d.is ∙ ap (λ bytes. record { begun = bytes; later = map frames d.parts }) (sym joined);
       in_room = omega (arith, ap length joined, length-append (frames group) (frames d.front), d.in_room);
       fits = d.fits;
-      front_records = records-append group d.front are d.front_records;
+      front_records = all_append IsRecord group d.front are d.front_records;
       records = d.records;
     }
 
@@ -98,7 +98,7 @@ grouped-beginning block room group groups rest are fits d =
       in_room = omega arith;
       fits = (omega (arith, ap length joined, length-append (frames group) (frames d.front), d.in_room), d.fits);
       front_records = tt;
-      records = (records-append group d.front are d.front_records, d.records);
+      records = (all_append IsRecord group d.front are d.front_records, d.records);
     }
 
 grouped : (block room : ℕ) (groups : List (List (List ℕ))) → AllByRecursion AreRecords groups → FitBlock block (map frames groups) →

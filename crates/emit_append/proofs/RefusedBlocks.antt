@@ -4,13 +4,14 @@ use Rattle.std.specs.Prelude.{◌==◌, false}
 use Rattle.std.proofs.Math.Seq.{take-append-add}
 use Rattle.std.proofs.lemmas.Bool.{cases_lt}
 use Rattle.std.proofs.lemmas.Bool.Decides.{eqb_tells}
-use Rattle.std.proofs.lemmas.List.{drop-take, length-take-le, take-take}
+use Rattle.std.proofs.lemmas.List.{length-replicate, length-take-le, replicate-append-replicate}
 use Rattle.byteorder.specs.Endian.{little_number}
-use Rattle.program_interface.specs.Frame.{frame, frames}
+use Rattle.program_interface.specs.Frame.{frame}
+use Rattle.program_interface.proofs.Proved.{agree_before, agree_behind}
 use Rattle.emit_append.proofs.ByteLists.{AllBytes}
 use Rattle.emit_append.specs.Unpacking.{Reading, after_frame, frame_length, frame_record, frames_at, then_read, zeros_at}
 use Rattle.emit_append.proofs.FramesRead.{step-frame, step-short, step-zeros}
-use Rattle.emit_append.proofs.UnpackedFrames.{IsFrames, bytes_from, framed, record_length}
+use Rattle.emit_append.proofs.UnpackedFrames.{IsFrames, bytes_from, frame_before, framed, no_frames, record_length}
 use Rattle.emit_append.proofs.ReadBack.{front_two}
 
 -- ---- lists
@@ -22,50 +23,8 @@ cut_twice (suc n) zero xs = refl
 cut_twice (suc n) (suc m) [] = refl
 cut_twice (suc n) (suc m) (x ∷ xs) = ap (λ rest. x ∷ rest) (cut_twice n m xs)
 
--- what agrees up to a place agrees up to one before it
-pub agree_before : (n m : ℕ) (xs ys : List ℕ) → n ≤ m → take m xs ≡ take m ys → take n xs ≡ take n ys
-agree_before n m xs ys less same = sym (take-take n m xs less) ∙ ap (take n) same ∙ take-take n m ys less
-
--- and from a place up to the same one
-pub agree_behind : (n m all : ℕ) (xs ys : List ℕ) → n + m ≡ all → take all xs ≡ take all ys → take m (drop n xs) ≡ take m (drop n ys)
-agree_behind n m all xs ys sum same =
-    let here : take (n + m) xs ≡ take (n + m) ys = ap (λ k. take k xs) sum ∙ same ∙ ap (λ k. take k ys) (sym sum) in
-    sym (drop-take n m xs) ∙ ap (drop n) here ∙ drop-take n m ys
-
 abbrev pub zeros_of : ℕ → List ℕ
 zeros_of count = replicate count 0
-
-length_zeros : (n : ℕ) → length (zeros_of n) ≡ n
-length_zeros zero = refl
-length_zeros (suc n) = ap suc (length_zeros n)
-
-zeros_behind : (n m all : ℕ) → n + m ≡ all → zeros_of n ++ zeros_of m ≡ zeros_of all
-zeros_behind zero m all sum = let same : m ≡ all = omega (arith, sum) in ap zeros_of same
-zeros_behind (suc n) m zero sum = absurd (omega (arith, sum))
-zeros_behind (suc n) m (suc all) sum = ap (λ rest. 0 ∷ rest) (zeros_behind n m all (omega (arith, sum)))
-
--- ---- frames and zeros
-
--- zeros are a block with no frame
-no_frames : (count : ℕ) (rest : List ℕ) → rest ≡ replicate count 0 → IsFrames rest []
-no_frames count rest is =
-    let size : length rest ≡ count = ap length is ∙ length_zeros count in
-    let left : count ≡ length rest - 0 = omega (arith, size) in
-    record { some = tt; fits = omega arith; is = is ∙ ap zeros_of left }
-
-frame_before : (bytes after : List ℕ) (more : List (List ℕ)) → 0 < length bytes → IsFrames after more → IsFrames (frame bytes ++ after) (bytes ∷ more)
-frame_before bytes after more some d =
-    let whole : length (frame bytes ++ after) ≡ 2 + length bytes + length after = omega (arith, length-append bytes after) in
-    let front : length (frame bytes ++ frames more) ≡ 2 + length bytes + length (frames more) = omega (arith, length-append bytes (frames more)) in
-    let count : length after - length (frames more) ≡ length (frame bytes ++ after) - length (frame bytes ++ frames more) = omega (arith, whole, front) in
-    record {
-      some = (some, d.some);
-      fits = omega (arith, whole, front, d.fits);
-      is =
-          ap (λ rest. frame bytes ++ rest) d.is
-          ∙ sym (append_assoc (frame bytes) (frames more) (replicate (length after - length (frames more)) 0))
-          ∙ ap (λ c. (frame bytes ++ frames more) ++ replicate c 0) count;
-    }
 
 -- the first bytes of a block, and zeros in place of the others
 abbrev pub cut_off : ℕ → List ℕ → List ℕ
@@ -73,7 +32,7 @@ cut_off offset rest = take offset rest ++ replicate (length rest - offset) 0
 
 pub length_cut_off : (offset : ℕ) (rest : List ℕ) → offset ≤ length rest → length (cut_off offset rest) ≡ length rest
 length_cut_off offset rest inside =
-    omega (arith, inside, length-append (take offset rest) (replicate (length rest - offset) 0), length-take-le offset rest inside, length_zeros (length rest - offset))
+    omega (arith, inside, length-append (take offset rest) (replicate (length rest - offset) 0), length-take-le offset rest inside, length-replicate {A = ℕ} (length rest - offset) 0)
 
 -- behind a frame
 cut_off_behind : (rest : List ℕ) (offset : ℕ) → AllBytes rest → 2 + frame_length rest ≤ length rest →
@@ -176,8 +135,9 @@ behind_err records (Err place) at is = is
 refused_byte : (steps place : ℕ) (rest : List ℕ) (at : ℕ) → frame_length rest ≡ 0 → zeros_at place rest ≡ Err at → IsRefused (suc steps) place rest at
 refused_byte steps place rest at none is =
     let d = is_byte place rest at is in
+    let size : d.offset + (length rest - d.offset) ≡ length rest = omega (arith, d.inside) in
     let all : cut_off d.offset rest ≡ replicate (length rest) 0 =
-    ap (λ front. front ++ replicate (length rest - d.offset) 0) d.zeros ∙ zeros_behind d.offset (length rest - d.offset) (length rest) (omega (arith, d.inside)) in
+    ap (λ front. front ++ replicate (length rest - d.offset) 0) d.zeros ∙ replicate-append-replicate d.offset (length rest - d.offset) 0 ∙ ap zeros_of size in
     record {
       offset = d.offset;
       is = d.is;

@@ -1,18 +1,18 @@
 -- What reads as records is blocks of their frames and zeros, and such blocks read so.
-use Rattle.std.proofs.Common.{◌≡◌, ℕ, zero, suc, ◌+◌, ◌-◌, ◌*◌, ◌/◌, ◌%◌, ◌^◌, ◌≤◌, ◌<◌, List, [], ◌∷◌, ◌++◌, length, map, take, drop, replicate, Ok, Err, refl, ap, sym, ◌∙◌, arith, length-append, length-drop, append_assoc, take-append-drop, inl, inr, ⊎_elim}
+use Rattle.std.proofs.Common.{◌≡◌, ℕ, zero, suc, ◌+◌, ◌-◌, ◌*◌, ◌/◌, ◌%◌, ◌^◌, ◌≤◌, ◌<◌, List, [], ◌∷◌, ◌++◌, length, map, take, drop, replicate, Ok, Err, refl, ap, sym, subst, ◌∙◌, arith, length-append, length-drop, append_assoc, take-append-drop, inl, inr, ⊎_elim}
 use Rattle.std.specs.List.{AllByRecursion, concat}
 use Rattle.std.proofs.Math.Nat.{div-add-mod', mul-div_cancel, suc-mul}
 use Rattle.std.proofs.lemmas.Bool.{cases_lt}
 use Rattle.std.proofs.lemmas.Bool.Decides.{eqb_tells}
-use Rattle.std.proofs.lemmas.List.{drop-drop, length-take-le}
+use Rattle.std.proofs.lemmas.List.{drop-drop, length-replicate, length-take-le}
 use Rattle.byteorder.specs.Endian.{little_bytes, little_number}
 use Rattle.program_interface.specs.Frame.{frame, frames}
 use Rattle.program_interface.specs.Readings.{◌>>=◌}
-use Rattle.emit_append.specs.PackedLaw.{FitBlock}
 use Rattle.program_interface.specs.Bytes.{padded}
 use Rattle.emit_append.proofs.ByteLists.{AllBytes, by_recursion}
 use Rattle.emit_append.specs.Unpacking.{AreFrames, Reading, UnpackedIsFrames, after_frame, frame_length, frame_record, frames_at, output_blocks_at, then_read, unpacked, zeros_at}
 use Rattle.emit_append.proofs.FramesRead.{step-frame, step-short, step-zeros}
+use Rattle.emit_append.proofs.GroupsOfBlocks.{parts_fit}
 use Rattle.emit_append.proofs.ReadBack.{all_bounded, blocks-read, front_two, length-blocks}
 
 pub bytes_up_to : (n : ℕ) (xs : List ℕ) → AllBytes xs → AllBytes (take n xs)
@@ -31,6 +31,42 @@ pub record IsFrames (rest : List ℕ) (records : List (List ℕ)) : Type 0 where
   pub fits : length (frames records) ≤ length rest
   pub is : rest ≡ padded (length rest) (frames records)
 
+-- zeros are a block with no frame
+pub no_frames : (count : ℕ) (rest : List ℕ) → rest ≡ replicate count 0 → IsFrames rest []
+no_frames count rest is =
+    let size : length rest ≡ count = ap length is ∙ length-replicate count 0 in
+    let left : count ≡ length rest - 0 = omega (arith, size) in
+    record { some = tt; fits = omega arith; is = is ∙ ap (λ n. replicate n 0) left }
+
+pub frame_before : (bytes after : List ℕ) (more : List (List ℕ)) → 0 < length bytes → IsFrames after more → IsFrames (frame bytes ++ after) (bytes ∷ more)
+frame_before bytes after more some d =
+    let whole : length (frame bytes ++ after) ≡ 2 + length bytes + length after = omega (arith, length-append bytes after) in
+    let front : length (frame bytes ++ frames more) ≡ 2 + length bytes + length (frames more) = omega (arith, length-append bytes (frames more)) in
+    let count : length after - length (frames more) ≡ length (frame bytes ++ after) - length (frame bytes ++ frames more) = omega (arith, whole, front) in
+    record {
+      some = (some, d.some);
+      fits = omega (arith, whole, front, d.fits);
+      is =
+          ap (λ rest. frame bytes ++ rest) d.is
+          ∙ sym (append_assoc (frame bytes) (frames more) (replicate (length after - length (frames more)) 0))
+          ∙ ap (λ c. (frame bytes ++ frames more) ++ replicate c 0) count;
+    }
+
+-- a block of frames, and the blocks behind it
+pub block_before : (block : ℕ) (bytes behind : List ℕ) (front more : List (List ℕ)) → length bytes ≡ block → IsFrames bytes front → AreFrames block more behind → AreFrames block (front ++ more) (bytes ++ behind)
+block_before block bytes behind front more size first others = record {
+  parts = front ∷ others.parts;
+  in_order = ap (λ records. front ++ records) others.in_order;
+  some = (first.some, others.some);
+  fits = (omega (arith, size, first.fits), others.fits);
+  rest_is_zeros =
+      ap (λ rest. bytes ++ rest) others.rest_is_zeros
+      ∙ ap (λ whole. whole ++ concat (map (padded block) (map frames others.parts))) (first.is ∙ ap (λ n. padded n (frames front)) size);
+}
+
+pub no_blocks : (block : ℕ) → AreFrames block [] []
+no_blocks block = record { parts = []; in_order = refl; some = tt; fits = tt; rest_is_zeros = refl }
+
 -- zeros alone are read to the end
 zeros-only : (at : ℕ) (rest : List ℕ) (records : List (List ℕ)) → zeros_at at rest ≡ Ok records → (records ≡ []) × (rest ≡ replicate (length rest) 0)
 zeros-only at [] records is = (cc, refl)
@@ -44,8 +80,7 @@ zeros-only at (byte ∷ rest) records is = elim (eqb_tells byte 0) [
 only-zeros : (at : ℕ) (rest : List ℕ) (records : List (List ℕ)) → zeros_at at rest ≡ Ok records → IsFrames rest records
 only-zeros at rest records is =
     let only = zeros-only at rest records is in
-    let all : length rest ≡ length rest - 0 = omega arith in
-    rw only.0 (record { some = tt; fits = omega arith; is = only.1 ∙ ap (λ n. replicate n 0) all })
+    rw only.0 (no_frames (length rest) rest only.1)
 
 -- the two bytes in front of a frame spell its length
 two_bytes : (low high : ℕ) (rest : List ℕ) → low < 2 ^ 8 → high < 2 ^ 8 → little_bytes 2 (little_number 2 (low ∷ high ∷ rest)) ≡ low ∷ high ∷ []
@@ -71,30 +106,12 @@ framed (low ∷ high ∷ more) are long =
     ∙ ap (λ bytes. low ∷ high ∷ (take n more ++ bytes)) (sym left)
     ∙ ap (λ bytes. (bytes ++ take n more) ++ after_frame rest) (sym front)
 
-frame-behind : (rest : List ℕ) (more : List (List ℕ)) → AllBytes rest → 0 < frame_length rest → 2 + frame_length rest ≤ length rest →
-    IsFrames (after_frame rest) more → IsFrames rest (frame_record rest ∷ more)
-frame-behind rest more are some long d =
-    let n = frame_length rest in
-    let size = record_length rest long in
-    let front = frame (frame_record rest) in
-    let whole : length (front ++ frames more) ≡ 2 + n + length (frames more) = omega (arith, size, length-append front (frames more), length-append (frame_record rest) (frames more)) in
-    let left : length (after_frame rest) ≡ length rest - (2 + n) = length-drop (2 + n) rest in
-    let count : length (after_frame rest) - length (frames more) ≡ length rest - length (front ++ frames more) = omega (arith, whole, left) in
-    record {
-      some = (omega (arith, some, size), d.some);
-      fits = omega (arith, whole, left, long, d.fits);
-      is =
-          framed rest are long
-          ∙ ap (λ bytes. front ++ bytes) d.is
-          ∙ sym (append_assoc front (frames more) (replicate (length (after_frame rest) - length (frames more)) 0))
-          ∙ ap (λ c. (front ++ frames more) ++ replicate c 0) count;
-    }
-
 after-frame : (rest : List ℕ) (records : List (List ℕ)) (reading : Reading) → AllBytes rest → 0 < frame_length rest → 2 + frame_length rest ≤ length rest →
     then_read (frame_record rest ∷ []) reading ≡ Ok records → ((more : List (List ℕ)) → reading ≡ Ok more → IsFrames (after_frame rest) more) → IsFrames rest records
 after-frame rest records (Ok more) are some long is behind =
     let all : records ≡ frame_record rest ∷ more = cc in
-    rw all (frame-behind rest more are some long (behind more refl))
+    let front : 0 < length (frame_record rest) = omega (arith, record_length rest long, some) in
+    rw all (subst (λ bytes. IsFrames bytes (frame_record rest ∷ more)) (sym (framed rest are long)) (frame_before (frame_record rest) (after_frame rest) more front (behind more refl)))
 after-frame rest records (Err at) are some long is behind = absurd cc
 
 pub only-frames : (steps at : ℕ) (rest : List ℕ) (records : List (List ℕ)) → length rest ≤ steps → AllBytes rest → frames_at steps at rest ≡ Ok records → IsFrames rest records
@@ -114,27 +131,14 @@ only-frames (suc steps) at rest records few are is =
     (λ none. only-zeros at rest records (sym (step-zeros steps at rest (omega arith)) ∙ is))
     (cases_lt 0 (frame_length rest))
 
--- a block of frames, and the blocks behind it
-block-behind : (block : ℕ) (bytes : List ℕ) (front more : List (List ℕ)) → block ≤ length bytes → IsFrames (take block bytes) front → AreFrames block more (drop block bytes) → AreFrames block (front ++ more) bytes
-block-behind block bytes front more long first others =
-    let size = length-take-le block bytes long in
-    record {
-      parts = front ∷ others.parts;
-      in_order = ap (λ records. front ++ records) others.in_order;
-      some = (first.some, others.some);
-      fits = (omega (arith, size, first.fits), others.fits);
-      rest_is_zeros =
-          sym (take-append-drop block bytes)
-          ∙ ap (λ rest. take block bytes ++ rest) others.rest_is_zeros
-          ∙ ap (λ whole. whole ++ concat (map (padded block) (map frames others.parts))) (first.is ∙ ap (λ n. padded n (frames front)) size);
-    }
-
 after-block : (block : ℕ) (bytes : List ℕ) (records : List (List ℕ)) (first others : Reading) → block ≤ length bytes → (first >>= λ front. then_read front others) ≡ Ok records →
     ((front : List (List ℕ)) → first ≡ Ok front → IsFrames (take block bytes) front) →
     ((more : List (List ℕ)) → others ≡ Ok more → AreFrames block more (drop block bytes)) → AreFrames block records bytes
 after-block block bytes records (Ok front) (Ok more) long is here behind =
     let all : records ≡ front ++ more = cc in
-    rw all (block-behind block bytes front more long (here front refl) (behind more refl))
+    let size = length-take-le block bytes long in
+    let blocks = block_before block (take block bytes) (drop block bytes) front more size (here front refl) (behind more refl) in
+    rw all (subst (AreFrames block (front ++ more)) (take-append-drop block bytes) blocks)
 after-block block bytes records (Ok front) (Err at) long is here behind = absurd cc
 after-block block bytes records (Err at) others long is here behind = absurd cc
 
@@ -142,7 +146,7 @@ only-blocks : (count block at : ℕ) (bytes : List ℕ) (records : List (List �
 unfolding output_blocks_at
 only-blocks zero block at [] records long are is =
     let none : records ≡ [] = cc in
-    rw none (record { parts = []; in_order = refl; some = tt; fits = tt; rest_is_zeros = refl })
+    rw none (no_blocks block)
 only-blocks zero block at (x ∷ xs) records long are is = absurd cc
 only-blocks (suc count) block at bytes records long are is =
     let blocks = suc-mul count block in
@@ -150,16 +154,12 @@ only-blocks (suc count) block at bytes records long are is =
     (λ front. only-frames (length (take block bytes)) at (take block bytes) front (omega arith) (bytes_up_to block bytes are))
     (λ more. only-blocks count block (at + block) (drop block bytes) more (omega (arith, long, blocks, length-drop block bytes)) (bytes_from block bytes are))
 
-parts_fit : (block : ℕ) (parts : List (List (List ℕ))) → AllByRecursion (λ part. length (frames part) ≤ block) parts → FitBlock block (map frames parts)
-parts_fit block [] fits = tt
-parts_fit block (part ∷ parts) fits = (fits.0, parts_fit block parts fits.1)
-
 -- blocks of frames and zeros read as the records
 pub frames-read : (block : ℕ) (bytes : List ℕ) (records : List (List ℕ)) → 0 < block → block < 2 ^ 16 → AreFrames block records bytes → unpacked block bytes ≡ Ok records
 frames-read block bytes records positive small d =
     let blocks = concat (map (padded block) (map frames d.parts)) in
     let count : length blocks / block ≡ length d.parts = ap (λ n. n / block) (length-blocks block d.parts d.fits) ∙ mul-div_cancel (length d.parts) positive in
-    let are = all_bounded block d.parts small d.some (parts_fit block d.parts d.fits) in
+    let are = all_bounded block d.parts small d.some (parts_fit block frames d.parts d.fits) in
     ap (unpacked block) d.rest_is_zeros ∙ ap (λ n. output_blocks_at n block 0 blocks) count ∙ blocks-read block 0 d.parts are d.fits ∙ ap Ok d.in_order
 
 pub unpacked_is_frames : UnpackedIsFrames

@@ -1,12 +1,13 @@
 -- Output blocks are whole, and hold bytes.
-use Rattle.std.proofs.Common.{◌≡◌, ℕ, zero, suc, ◌-◌, ◌≤◌, List, [], ◌∷◌, ◌++◌, length, map, replicate, arith, lit<, ⊎_elim}
+use Rattle.std.proofs.Common.{◌≡◌, ℕ, zero, suc, ◌-◌, ◌≤◌, List, [], ◌∷◌, length, map, replicate, arith, lit<, ⊎_elim}
 use Rattle.std.specs.List.{AllByRecursion}
 use Rattle.std.proofs.lemmas.Bool.{cases_lt}
 use Rattle.program_interface.specs.Bytes.{AreBytes, padded}
+use Rattle.program_interface.proofs.Proved.{all_append}
 use Rattle.emit_append.specs.OutputBlocks.{AreWhole, OutputBlocksAreBytes, OutputBlocksAreWhole}
 use Rattle.emit_append.specs.PackedLaw.{FitBlock}
 use Rattle.emit_append.specs.Packing.{all_but_last, block_fillings, laid_out, last_or_empty}
-use Rattle.emit_append.proofs.ByteLists.{AllBytes, by_place, lists_by_place, lists_by_recursion}
+use Rattle.emit_append.proofs.ByteLists.{AllBytes, FitsByte, by_place, lists_by_place, lists_by_recursion}
 use Rattle.emit_append.proofs.Layouts.{laid-behind, laid-beginning}
 use Rattle.emit_append.proofs.Padding.{length-padded}
 use Rattle.emit_append.proofs.GroupsOfBlocks.{filled_fits}
@@ -37,10 +38,6 @@ output_blocks_are_whole block groups fit =
       pending = of_last (λ bytes. length bytes ≤ block) (block_fillings block groups) (omega arith) fits;
     }
 
-bytes-append : (xs ys : List ℕ) → AllBytes xs → AllBytes ys → AllBytes (xs ++ ys)
-bytes-append [] ys first second = second
-bytes-append (x ∷ xs) ys first second = (first.0, bytes-append xs ys first.1 second)
-
 zeros-bytes : (count : ℕ) → AllBytes (replicate count 0)
 zeros-bytes zero = tt
 zeros-bytes (suc count) = (lit< tt, zeros-bytes count)
@@ -48,7 +45,7 @@ zeros-bytes (suc count) = (lit< tt, zeros-bytes count)
 padded-bytes : (block : ℕ) (blocks : List (List ℕ)) → AllByRecursion AllBytes blocks → AllByRecursion AllBytes (map (padded block) blocks)
 padded-bytes block [] are = tt
 padded-bytes block (bytes ∷ blocks) are =
-    (bytes-append bytes (replicate (block - length bytes) 0) are.0 (zeros-bytes (block - length bytes)), padded-bytes block blocks are.1)
+    (all_append FitsByte bytes (replicate (block - length bytes) 0) are.0 (zeros-bytes (block - length bytes)), padded-bytes block blocks are.1)
 
 -- a layout's bytes are those of its groups
 laid-bytes : (block room : ℕ) (groups : List (List ℕ)) → AllByRecursion AllBytes groups → AllBytes (laid_out block room groups).begun × AllByRecursion AllBytes (laid_out block room groups).later
@@ -57,10 +54,10 @@ laid-bytes block room (g ∷ gs) are =
     ⊎_elim
     (λ large.
     let rest = laid-bytes block (block - length g) gs are.1 in
-    rw (laid-beginning block room g gs large) (tt, (bytes-append g _ are.0 rest.0, rest.1)))
+    rw (laid-beginning block room g gs large) (tt, (all_append FitsByte g _ are.0 rest.0, rest.1)))
     (λ small.
     let rest = laid-bytes block (room - length g) gs are.1 in
-    rw (laid-behind block room g gs small) (bytes-append g _ are.0 rest.0, rest.1))
+    rw (laid-behind block room g gs small) (all_append FitsByte g _ are.0 rest.0, rest.1))
     (cases_lt room (length g))
 
 pub output_blocks_are_bytes : OutputBlocksAreBytes

@@ -21,7 +21,7 @@ pub record ReachNeed (sizes : Sizes) (count : ℕ) (groups : List (List ℕ)) : 
   pub within : AllByRecursion (λ group. length group ≤ sizes.limit) groups
   pub blocks : length (packed sizes.block groups) ≡ need count sizes
 
--- Some groups need as many: no fewer blocks are enough.
+-- Some groups within the limit, which is at most a block, need as many: no fewer blocks are enough.
 abbrev pub NeedIsMet : Type 0
 NeedIsMet = (sizes : Sizes) (count : ℕ) → sizes.limit ≤ sizes.block → (groups : List (List ℕ)) × ReachNeed sizes count groups
 

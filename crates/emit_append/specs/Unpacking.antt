@@ -68,7 +68,8 @@ abbrev pub byte_told : UnpackFault → Option ℕ
 byte_told (At byte) = Some byte
 byte_told Memory = None
 
--- What is packed of groups of frames, each of which fits into a block, reads back as the records of all of them, in order.
+-- What is packed of groups of frames, none of a record without bytes, reads back as the records of all of them, in order,
+-- where each group fits into a block.
 abbrev pub PackedFramesReadBack : Type 0
 PackedFramesReadBack =
     (block : ℕ) (groups : List (List (List ℕ))) → 0 < block → block < 2 ^ 16 →

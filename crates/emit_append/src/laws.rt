@@ -54,7 +54,7 @@ pub fn need_is_enough()
     ensures { NeedIsEnough }
 {}
 
-/// Some groups within the limit come to as many blocks as `blocks_needed` tells.
+/// Some groups within the limit, which is at most a block, come to as many blocks as `blocks_needed` tells.
 pub fn need_is_met()
     ensures { NeedIsMet }
 {}
@@ -64,8 +64,8 @@ pub fn need_grows()
     ensures { NeedGrows }
 {}
 
-/// What is packed of groups of frames, each of which fits into a block, reads back as the records of all of
-/// them, in order.
+/// What is packed of groups of frames, none of a record without bytes, reads back as the records of all of them, in order,
+/// where each group fits into a block.
 pub fn packed_frames_read_back()
     ensures { PackedFramesReadBack }
 {}

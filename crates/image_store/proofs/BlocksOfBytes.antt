@@ -1,33 +1,33 @@
 -- Bytes cut into blocks, and blocks joined.
 use Rattle.std.proofs.Common.{◌≡◌, ℕ, ◌+◌, ◌-◌, ◌*◌, ◌≤◌, zero, suc, List, ◌∷◌, ◌++◌, length, take, drop, refl, ap, sym, ◌∙◌, arith, length-take, length-drop, length-append}
+use Rattle.std.specs.List.{concat}
 use Rattle.std.proofs.lemmas.List.{take-take, drop-take, drop-drop, take_at, drop_at, take-append-le, drop-append-le}
 use Rattle.std.proofs.Math.Seq.{take-add}
 use Rattle.std.proofs.Math.Nat.{suc-mul}
-use Rattle.image_store.specs.Blocks.{blocks_of, bytes_of}
-use Rattle.program_interface.specs.Bytes.{spliced}
+use Rattle.program_interface.specs.Bytes.{pieces, spliced}
 
-pub length-blocks : (b n : ℕ) (xs : List ℕ) → length (blocks_of b n xs) ≡ n
+pub length-blocks : (b n : ℕ) (xs : List ℕ) → length (pieces b n xs) ≡ n
 length-blocks b zero xs = refl
 length-blocks b (suc n) xs = ap suc (length-blocks b n (drop b xs))
 
 -- blocks come from the front alone
-pub blocks-take : (b n k : ℕ) (xs : List ℕ) → n * b ≤ k → blocks_of b n (take k xs) ≡ blocks_of b n xs
+pub blocks-take : (b n k : ℕ) (xs : List ℕ) → n * b ≤ k → pieces b n (take k xs) ≡ pieces b n xs
 blocks-take b zero k xs h = refl
 blocks-take b (suc n) k xs h =
     let low : b ≤ k = omega (arith, suc-mul n b) in
     let rest : n * b ≤ k - b = omega (arith, suc-mul n b) in
     let parts : k ≡ b + (k - b) = omega arith in
     let later : drop b (take k xs) ≡ take (k - b) (drop b xs) = ap (λ (m : ℕ). drop b (take m xs)) parts ∙ drop-take b (k - b) xs in
-    ap (λ (x : List ℕ). x ∷ blocks_of b n (drop b (take k xs))) (take-take b k xs low)
-    ∙ ap (λ (ys : List ℕ). take b xs ∷ blocks_of b n ys) later
+    ap (λ (x : List ℕ). x ∷ pieces b n (drop b (take k xs))) (take-take b k xs low)
+    ∙ ap (λ (ys : List ℕ). take b xs ∷ pieces b n ys) later
     ∙ ap (λ (yss : List (List ℕ)). take b xs ∷ yss) (blocks-take b n (k - b) (drop b xs) rest)
 
 -- lists that begin alike begin with the same blocks
-pub blocks-same : (b n k : ℕ) (xs ys : List ℕ) → n * b ≤ k → take k xs ≡ take k ys → blocks_of b n xs ≡ blocks_of b n ys
-blocks-same b n k xs ys h e = sym (blocks-take b n k xs h) ∙ (ap (blocks_of b n) e ∙ blocks-take b n k ys h)
+pub blocks-same : (b n k : ℕ) (xs ys : List ℕ) → n * b ≤ k → take k xs ≡ take k ys → pieces b n xs ≡ pieces b n ys
+blocks-same b n k xs ys h e = sym (blocks-take b n k xs h) ∙ (ap (pieces b n) e ∙ blocks-take b n k ys h)
 
 -- more blocks are those that lie behind
-pub blocks-add : (b n m : ℕ) (xs : List ℕ) → blocks_of b (n + m) xs ≡ blocks_of b n xs ++ blocks_of b m (drop (n * b) xs)
+pub blocks-add : (b n m : ℕ) (xs : List ℕ) → pieces b (n + m) xs ≡ pieces b n xs ++ pieces b m (drop (n * b) xs)
 blocks-add b zero m xs =
     let start : zero * b ≡ 0 = omega arith in
     let count : zero + m ≡ m = omega arith in
@@ -35,33 +35,33 @@ blocks-add b zero m xs =
 blocks-add b (suc n) m xs =
     let count : suc n + m ≡ suc (n + m) = omega arith in
     let place : b + n * b ≡ suc n * b = omega (arith, suc-mul n b) in
-    ap (λ (k : ℕ). blocks_of b k xs) count
+    ap (λ (k : ℕ). pieces b k xs) count
     ∙ (ap (λ (yss : List (List ℕ)). take b xs ∷ yss) (blocks-add b n m (drop b xs))
-    ∙ ap (λ (ys : List ℕ). take b xs ∷ (blocks_of b n (drop b xs) ++ blocks_of b m ys)) (drop-drop (n * b) b xs ∙ ap (λ (k : ℕ). drop k xs) place))
+    ∙ ap (λ (ys : List ℕ). take b xs ∷ (pieces b n (drop b xs) ++ pieces b m ys)) (drop-drop (n * b) b xs ∙ ap (λ (k : ℕ). drop k xs) place))
 
 -- the bytes of blocks are those that they were cut from
-pub bytes-blocks : (b n : ℕ) (xs : List ℕ) → bytes_of (blocks_of b n xs) ≡ take (n * b) xs
+pub bytes-blocks : (b n : ℕ) (xs : List ℕ) → concat (pieces b n xs) ≡ take (n * b) xs
 bytes-blocks b zero xs = let none : zero * b ≡ 0 = omega arith in rw none refl
 bytes-blocks b (suc n) xs =
     let place : b + n * b ≡ suc n * b = omega (arith, suc-mul n b) in
     ap (λ (ys : List ℕ). take b xs ++ ys) (bytes-blocks b n (drop b xs))
     ∙ (sym (take-add b (n * b) xs) ∙ ap (λ (k : ℕ). take k xs) place)
 
-pub drop-blocks : (b i n : ℕ) (xs : List ℕ) → drop i (blocks_of b (i + n) xs) ≡ blocks_of b n (drop (i * b) xs)
+pub drop-blocks : (b i n : ℕ) (xs : List ℕ) → drop i (pieces b (i + n) xs) ≡ pieces b n (drop (i * b) xs)
 drop-blocks b i n xs =
-    ap (drop i) (blocks-add b i n xs) ∙ drop_at (blocks_of b i xs) (blocks_of b n (drop (i * b) xs)) i (length-blocks b i xs)
+    ap (drop i) (blocks-add b i n xs) ∙ drop_at (pieces b i xs) (pieces b n (drop (i * b) xs)) i (length-blocks b i xs)
 
-pub take-blocks : (b n m : ℕ) (xs : List ℕ) → take n (blocks_of b (n + m) xs) ≡ blocks_of b n xs
+pub take-blocks : (b n m : ℕ) (xs : List ℕ) → take n (pieces b (n + m) xs) ≡ pieces b n xs
 take-blocks b n m xs =
-    ap (take n) (blocks-add b n m xs) ∙ take_at (blocks_of b n xs) (blocks_of b m (drop (n * b) xs)) n (length-blocks b n xs)
+    ap (take n) (blocks-add b n m xs) ∙ take_at (pieces b n xs) (pieces b m (drop (n * b) xs)) n (length-blocks b n xs)
 
 -- the bytes of some blocks of the middle
-pub bytes-middle : (b i n w : ℕ) (xs : List ℕ) → i + n ≤ w → bytes_of (take n (drop i (blocks_of b w xs))) ≡ take (n * b) (drop (i * b) xs)
+pub bytes-middle : (b i n w : ℕ) (xs : List ℕ) → i + n ≤ w → concat (take n (drop i (pieces b w xs))) ≡ take (n * b) (drop (i * b) xs)
 bytes-middle b i n w xs h =
     let rest : w ≡ i + (n + (w - i - n)) = omega arith in
-    ap (λ (k : ℕ). bytes_of (take n (drop i (blocks_of b k xs)))) rest
-    ∙ (ap (λ (yss : List (List ℕ)). bytes_of (take n yss)) (drop-blocks b i (n + (w - i - n)) xs)
-    ∙ (ap bytes_of (take-blocks b n (w - i - n) (drop (i * b) xs)) ∙ bytes-blocks b n (drop (i * b) xs)))
+    ap (λ (k : ℕ). concat (take n (drop i (pieces b k xs)))) rest
+    ∙ (ap (λ (yss : List (List ℕ)). concat (take n yss)) (drop-blocks b i (n + (w - i - n)) xs)
+    ∙ (ap concat (take-blocks b n (w - i - n) (drop (i * b) xs)) ∙ bytes-blocks b n (drop (i * b) xs)))
 
 pub length-spliced : (at : ℕ) (new xs : List ℕ) → at + length new ≤ length xs → length (spliced at new xs) ≡ length xs
 length-spliced at new xs h =

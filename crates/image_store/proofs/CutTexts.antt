@@ -1,5 +1,6 @@
 -- What is read of a text of which the end is missing, or behind which there is more.
 use Rattle.std.proofs.Common.{◌≡◌, ◌≢◌, ℕ, ◌+◌, ◌-◌, ◌*◌, ◌<◌, ◌≤◌, suc, Bool, cond, List, [], ◌∷◌, ◌++◌, length, get_or, map, take, Result, Ok, Err, refl, ap, ◌∙◌, append_assoc, arith, length-append, inl, inr}
+use Rattle.std.specs.List.{concat}
 use Rattle.std.proofs.lemmas.Bool.Decides.{leb_tells}
 use Rattle.std.proofs.lemmas.List.{length-map, length-take-le}
 use Rattle.std.proofs.Math.Dec.{eqb-suc-zero}
@@ -7,7 +8,6 @@ use Rattle.std.proofs.Math.Seq.{take-append-add}
 use Rattle.zone_state.specs.Zone.{CountedZone}
 use Rattle.image_store.specs.declared.fault.LoadFault.{LoadFault}
 use Rattle.image_store.specs.declared.fault.LoadFault.TheVariants as fault
-use Rattle.image_store.specs.Blocks.{bytes_of}
 use Rattle.image_store.specs.ImageInMemory.{zone_seen}
 use Rattle.image_store.specs.declared.header.Header.{Header}
 use Rattle.image_store.specs.declared.version.Version.{Version}
@@ -65,7 +65,7 @@ blocks_cut : (b c : ℕ) (zones : List ZoneBlocks) (n : ℕ) → ((z i : ℕ) �
     → n < length (blocks_text zones) → blocks_in b (map (counted c) zones) (take n (blocks_text zones)) ≡ Err fault.Truncated
 blocks_cut b c [] n whole h = absurd (omega arith)
 blocks_cut b c (zone ∷ zones) n whole h =
-    let front = bytes_of zone.blocks in
+    let front = concat zone.blocks in
     let rest = blocks_text zones in
     let size = length-bytes b zone.blocks (whole 0) in
     let read : Result Split LoadFault → Result (List ZoneBlocks × List ℕ) LoadFault =

@@ -1,22 +1,21 @@
 -- A fault is found by the bytes of the text up to where it stands.
-use Rattle.std.proofs.Common.{◌≡◌, ◌≢◌, ℕ, ◌+◌, ◌*◌, ◌<◌, ◌≤◌, ◌==◌, zero, suc, Bool, true, false, cond, List, [], ◌∷◌, length, take, drop, get_or, Option, Some, None, Result, Ok, Err, refl, ap, sym, subst, ◌∙◌, arith, inl, inr, le_refl}
+use Rattle.std.proofs.Common.{◌≡◌, ◌≢◌, ℕ, ◌+◌, ◌*◌, ◌<◌, ◌≤◌, ◌==◌, zero, suc, Bool, cond, List, [], ◌∷◌, length, take, drop, Option, Some, None, Result, Ok, Err, refl, ap, sym, subst, ◌∙◌, arith, inl, inr, le_refl}
 use Rattle.std.specs.Cmp.Lexicographic.{pointwise}
 use Rattle.std.specs.List.{find}
 use Rattle.std.specs.Option.{ok_or}
 use Rattle.std.specs.Prelude.{◌&&◌, nat_le}
-use Rattle.std.proofs.lemmas.Bool.{le-leb}
+use Rattle.std.proofs.lemmas.Bool.{leb-false, leb-true, le-leb}
 use Rattle.std.proofs.lemmas.Bool.Decides.{leb_tells}
 use Rattle.std.proofs.lemmas.List.{length-drop, take-take}
-use Rattle.zone_state.specs.declared.state.ZoneState.{ZoneState}
-use Rattle.zone_state.specs.State.{state_of}
-use Rattle.zone_state.specs.Zone.{CountedZone, fits_state}
+use Rattle.std.proofs.lemmas.List.Sums.{sum_by-cons}
+use Rattle.std.proofs.Math.Nat.{add-mul}
+use Rattle.program_interface.proofs.Proved.{agree_before, agree_behind}
+use Rattle.zone_state.specs.Zone.{CountedZone}
 use Rattle.zone_resources.specs.declared.admission.Limits.{Limits as ResourceLimits}
 use Rattle.zone_resources.specs.Counts.{open_count, active_count}
-use Rattle.program_interface.specs.Bytes.{field}
 use Rattle.image_store.specs.declared.fault.LoadFault.{LoadFault}
 use Rattle.image_store.specs.declared.fault.LoadFault.TheVariants.{Truncated, Magic, ZoneRow, Total, Limits, Trailing}
 use Rattle.image_store.specs.declared.fault.ZoneRowFault.{ZoneRowFault}
-use Rattle.image_store.specs.declared.fault.ZoneRowFault.TheVariants.{Reserved, State, Blocks}
 use Rattle.image_store.specs.declared.header.Header.{Header}
 use Rattle.image_store.specs.declared.version.Version.{Version}
 use Rattle.image_store.specs.declared.version.Version.TheVariants.{One, Two}
@@ -25,63 +24,17 @@ use Rattle.image_store.specs.Geometry.{Shape}
 use Rattle.image_store.specs.Laws.{FaultsAreByPrefix, fault_end}
 use Rattle.image_store.specs.Namespace.{ZonedNamespace, namespace_with}
 use Rattle.program_interface.specs.Readings.{◌>>=◌}
-use Rattle.image_store.specs.Reading.{are_zeros, bytes_in, rows_end, shape_in, version_in, header_of, header_told, header_in, zone_told, zone_in, zones_in, total_kept, limits_kept, blocks_in, end_in, namespace_in}
+use Rattle.image_store.specs.Reading.{bytes_in, rows_end, shape_in, version_in, header_of, header_told, header_in, zone_in, zones_in, total_kept, limits_kept, blocks_in, end_in, namespace_in}
 use Rattle.image_store.specs.Text.{written_blocks}
 use Rattle.image_store.specs.Version.{numbers_of_version}
-use Rattle.image_store.proofs.Faults.{header_of_fault, is_this, kept_fault}
+use Rattle.image_store.proofs.Faults.{header_of_fault, kept_fault}
 use Rattle.image_store.proofs.FilledBuffers.{Split, bytes_short}
 use Rattle.image_store.proofs.HeaderParts.{header_parts}
 use Rattle.image_store.proofs.LoadStages.{after_blocks, after_header, after_limits, after_rows, after_total}
-
--- what fails has failed in the first part, or in the next behind what the first gave
-pub bind_fails : {X Y : Type 0} (P : LoadFault → Type 0) (read : Result X LoadFault) (next : X → Result Y LoadFault) (fault : LoadFault) → (read >>= next) ≡ Err fault
-    → ((first : LoadFault) → read ≡ Err first → P first) → ((x : X) → read ≡ Ok x → next x ≡ Err fault → P fault) → P fault
-bind_fails P (Ok x) next fault e first later = later x refl e
-bind_fails {Y = Y} P (Err found) next fault e first later = subst P (is_this {X = Y} found fault e) (first found refl)
-
--- ---- bytes that are the same in front
-
-front_of : (m n : ℕ) (xs ys : List ℕ) → m ≤ n → take n ys ≡ take n xs → take m ys ≡ take m xs
-front_of m n xs ys less same = sym (take-take m n ys less) ∙ ap (take m) same ∙ take-take m n xs less
-
-take-drop : (k n : ℕ) (xs : List ℕ) → take n (drop k xs) ≡ drop k (take (k + n) xs)
-take-drop zero n xs = ap (λ (m : ℕ). take m xs) (let e : n ≡ 0 + n = omega arith in e)
-take-drop (suc k) zero [] = ap (λ (m : ℕ). drop (suc k) (take m [])) (let e : suc k ≡ suc k + 0 = omega arith in e)
-take-drop (suc k) (suc n) [] = ap (λ (m : ℕ). drop (suc k) (take m [])) (let e : suc (k + suc n) ≡ suc k + suc n = omega arith in e)
-take-drop (suc k) n (x ∷ xs) =
-    take-drop k n xs ∙ ap (λ (m : ℕ). drop (suc k) (take m (x ∷ xs))) (let e : suc (k + n) ≡ suc k + n = omega arith in e)
-
--- and behind that
-rest_of : (k n m : ℕ) (xs ys : List ℕ) → m ≡ k + n → take m ys ≡ take m xs → take n (drop k ys) ≡ take n (drop k xs)
-rest_of k n m xs ys e same =
-    let parts : take (k + n) ys ≡ take (k + n) xs = subst (λ (i : ℕ). take i ys ≡ take i xs) e same in
-    take-drop k n ys ∙ ap (drop k) parts ∙ sym (take-drop k n xs)
+use Rattle.image_store.proofs.ReadingCalls.{bind_fails, chosen, is_this, wrong}
+use Rattle.image_store.proofs.ToldRows.{row_wrong}
 
 -- ---- the rows
-
-abbrev IsBad : ℕ → LoadFault → Type 0
-IsBad zone fault = (why : ZoneRowFault) × (fault ≡ ZoneRow zone why)
-
-is_bad : (zone : ℕ) (why : ZoneRowFault) (fault : LoadFault) → (let r : Result CountedZone LoadFault = Err (ZoneRow zone why) in r) ≡ Err fault → IsBad zone fault
-is_bad zone why fault e = (why, sym (is_this {X = CountedZone} (ZoneRow zone why) fault e))
-
-blocks_bad : (test : Bool) (zone : ℕ) (why : ZoneRowFault) (z : CountedZone) (fault : LoadFault) → cond test (Ok z) (Err (ZoneRow zone why)) ≡ Err fault → IsBad zone fault
-blocks_bad true zone why z fault e = absurd cc
-blocks_bad false zone why z fault e = is_bad zone why fault e
-
-state_bad : (zone code : ℕ) (told : Option ZoneState) (written capacity : ℕ) (fault : LoadFault) → zone_told zone code told written capacity ≡ Err fault → IsBad zone fault
-state_bad zone code None written capacity fault e = is_bad zone (State code) fault e
-state_bad zone code (Some state) written capacity fault e =
-    blocks_bad (fits_state state written capacity) zone (Blocks state written capacity) (record { state = state; written = written; capacity = capacity }) fault e
-
-padding_bad : (test : Bool) (zone code : ℕ) (told : Option ZoneState) (written capacity : ℕ) (fault : LoadFault)
-    → cond test (zone_told zone code told written capacity) (Err (ZoneRow zone Reserved)) ≡ Err fault → IsBad zone fault
-padding_bad true zone code told written capacity fault e = state_bad zone code told written capacity fault e
-padding_bad false zone code told written capacity fault e = is_bad zone Reserved fault e
-
-zone_bad : (zone capacity : ℕ) (bytes : List ℕ) (fault : LoadFault) → zone_in zone capacity bytes ≡ Err fault → IsBad zone fault
-zone_bad zone capacity bytes fault e =
-    padding_bad (are_zeros (take 3 (drop 1 bytes))) zone (get_or bytes 0 0) (state_of (get_or bytes 0 0)) (field bytes 4 4) capacity fault e
 
 -- a row that tells no zone is found by the rows up to it
 record IsFoundAt (zone capacity n : ℕ) (xs : List ℕ) (fault : LoadFault) : Type 0 where
@@ -93,12 +46,12 @@ record IsFoundAt (zone capacity n : ℕ) (xs : List ℕ) (fault : LoadFault) : T
 
 first_found : (zone capacity n : ℕ) (xs : List ℕ) (fault : LoadFault) → zone_in zone capacity (take 8 xs) ≡ Err fault → IsFoundAt zone capacity (suc n) xs fault
 first_found zone capacity n xs fault e =
-    let bad = zone_bad zone capacity (take 8 xs) fault e in
+    let bad = row_wrong zone capacity (take 8 xs) fault e in
     record {
       before = 0;
       inside = omega arith;
-      why = bad.0;
-      is = bad.1 ∙ ap (λ (k : ℕ). ZoneRow k bad.0) (let same : zone ≡ zone + 0 = omega arith in same);
+      why = bad.why;
+      is = bad.is ∙ ap (λ (k : ℕ). ZoneRow k bad.why) (let same : zone ≡ zone + 0 = omega arith in same);
       same = λ ys same. ap (λ (r : Result CountedZone LoadFault). r >>= λ z. zones_in (zone + 1) capacity n (drop 8 ys) >>= λ zs. Ok (z ∷ zs)) (ap (zone_in zone capacity) same ∙ e);
     }
 
@@ -111,8 +64,8 @@ later_found zone capacity n xs z fault first found =
       why = found.why;
       is = found.is ∙ ap (λ (i : ℕ). ZoneRow i found.why) (let same : zone + 1 + k ≡ zone + (k + 1) = omega arith in same);
       same = λ ys same.
-          let front : take 8 ys ≡ take 8 xs = front_of 8 ((k + 1 + 1) * 8) xs ys (omega arith) same in
-          let rest : take ((k + 1) * 8) (drop 8 ys) ≡ take ((k + 1) * 8) (drop 8 xs) = rest_of 8 ((k + 1) * 8) ((k + 1 + 1) * 8) xs ys (omega arith) same in
+          let front : take 8 ys ≡ take 8 xs = agree_before 8 ((k + 1 + 1) * 8) ys xs (omega arith) same in
+          let rest : take ((k + 1) * 8) (drop 8 ys) ≡ take ((k + 1) * 8) (drop 8 xs) = agree_behind 8 ((k + 1) * 8) ((k + 1 + 1) * 8) ys xs (omega arith) same in
           ap (λ (r : Result CountedZone LoadFault). r >>= λ z. zones_in (zone + 1) capacity n (drop 8 ys) >>= λ zs. Ok (z ∷ zs)) (ap (zone_in zone capacity) front ∙ first)
           ∙ ap (λ (r : Result (List CountedZone) LoadFault). r >>= λ zs. Ok (z ∷ zs)) (found.same (drop 8 ys) rest);
     }
@@ -132,34 +85,36 @@ zones_found zone capacity (suc n) xs fault e =
 abbrev IsOfEnd : LoadFault → Type 0
 IsOfEnd fault = fault ≢ Truncated → fault ≢ Trailing → ⊥
 
-pub short_if : (test : Bool) (got : Split) (fault : LoadFault) → cond test (Ok got) (Err Truncated) ≡ Err fault → fault ≡ Truncated
-short_if true got fault e = absurd cc
-short_if false got fault e = sym (is_this {X = Split} Truncated fault e)
-
-pub bytes_end : (n : ℕ) (bytes : List ℕ) (fault : LoadFault) → bytes_in n bytes ≡ Err fault → fault ≡ Truncated
-bytes_end n bytes fault e = short_if (nat_le n (length bytes)) (take n bytes, drop n bytes) fault e
-
-blocks_end : (block : ℕ) (zs : List CountedZone) (bytes : List ℕ) (fault : LoadFault) → blocks_in block zs bytes ≡ Err fault → fault ≡ Truncated
-blocks_end block [] bytes fault e = absurd cc
-blocks_end block (z ∷ zs) bytes fault e =
-    bind_fails (λ f. f ≡ Truncated) (bytes_in (z.written * block) bytes) (λ front. blocks_in block zs front.1 >>= λ rest. Ok (zone_seen block z front.0 ∷ rest.0, rest.1)) fault e
-    (bytes_end (z.written * block) bytes)
+-- blocks that aren't all there
+pub blocks_short : (block : ℕ) (zs : List CountedZone) (bytes : List ℕ) (fault : LoadFault) → blocks_in block zs bytes ≡ Err fault → (Truncated ≡ fault) × (length bytes < written_blocks zs * block)
+blocks_short block [] bytes fault e = absurd cc
+blocks_short block (z ∷ zs) bytes fault e =
+    let n = z.written * block in
+    let sum : written_blocks (z ∷ zs) * block ≡ n + written_blocks zs * block = ap (λ (count : ℕ). count * block) (sum_by-cons (λ (zone : CountedZone). zone.written) z zs) ∙ add-mul z.written (written_blocks zs) block in
+    bind_fails (λ f. (Truncated ≡ f) × (length bytes < written_blocks (z ∷ zs) * block)) (bytes_in n bytes) (λ front. blocks_in block zs front.1 >>= λ rest. Ok (zone_seen block z front.0 ∷ rest.0, rest.1)) fault e
+    (λ first short.
+    let p = wrong (nat_le n (length bytes)) (take n bytes, drop n bytes) Truncated first short in
+    let few = leb-false n (length bytes) p.0 in
+    (p.1, omega (arith, sum, few)))
     (λ front there later.
-    bind_fails (λ f. f ≡ Truncated) (blocks_in block zs front.1) (λ rest. Ok (zone_seen block z front.0 ∷ rest.0, rest.1)) fault later
-    (blocks_end block zs front.1) (λ rest all none. absurd cc))
-
-trailing_if : (test : Bool) (fault : LoadFault) → (let r : Result Unit LoadFault = cond test (Ok tt) (Err Trailing) in r) ≡ Err fault → fault ≡ Trailing
-trailing_if true fault e = absurd cc
-trailing_if false fault e = sym (is_this {X = Unit} Trailing fault e)
+    let p = chosen (nat_le n (length bytes)) (take n bytes, drop n bytes) front Truncated there in
+    let whole = leb-true n (length bytes) p.0 in
+    let rest : drop n bytes ≡ front.1 = ap (λ (f : Split). f.1) p.1 in
+    bind_fails (λ f. (Truncated ≡ f) × (length bytes < written_blocks (z ∷ zs) * block)) (blocks_in block zs front.1) (λ rest. Ok (zone_seen block z front.0 ∷ rest.0, rest.1)) fault later
+    (λ first short.
+    let q = blocks_short block zs front.1 first short in
+    let size : length (drop n bytes) ≡ length front.1 = ap length rest in
+    (q.0, omega (arith, sum, whole, q.1, size, length-drop n bytes)))
+    (λ all none last. absurd cc))
 
 -- what is behind the rows is refused by its end alone
 limits_end : (s : Shape) (zs : List CountedZone) (bytes : List ℕ) (fault : LoadFault) → after_limits s zs bytes ≡ Err fault → IsOfEnd fault
 limits_end s zs bytes fault e =
     bind_fails IsOfEnd (blocks_in s.block zs bytes) (λ blocks. after_blocks s blocks.0 blocks.1) fault e
-    (λ first short whole alone. whole (blocks_end s.block zs bytes first short))
+    (λ first short whole alone. whole (sym (blocks_short s.block zs bytes first short).0))
     (λ blocks all later.
     bind_fails IsOfEnd (end_in blocks.1) (λ end. Ok (namespace_with s blocks.0)) fault later
-    (λ first more whole alone. alone (trailing_if (length blocks.1 == 0) first more))
+    (λ first more whole alone. alone (sym (wrong (length blocks.1 == 0) tt Trailing first more).1))
     (λ end last none. absurd cc))
 
 -- ---- the header
@@ -214,7 +169,7 @@ module _ (bytes other : List ℕ) (there : 64 ≤ length bytes) (longer : length
   IsBehind fault = 64 ≤ fault_end bytes fault
 
   header_same : (fault : LoadFault) → IsBehind fault → take (fault_end bytes fault) other ≡ take (fault_end bytes fault) bytes → take 64 other ≡ take 64 bytes
-  header_same fault behind same = front_of 64 (fault_end bytes fault) bytes other behind same
+  header_same fault behind same = agree_before 64 (fault_end bytes fault) other bytes behind same
 
   header_is_of : (fault : LoadFault) → header_told (take 64 bytes) ≡ Err fault → IsOf bytes other fault
   header_is_of fault e =
@@ -260,7 +215,7 @@ limits_of_rows bytes limits zs fault e =
 
 module _ (bytes other : List ℕ) (there : 64 ≤ length bytes) (longer : length bytes ≤ length other) (h : Header) (told : header_told (take 64 bytes) ≡ Ok h) where
   told_other : (n : ℕ) → 64 ≤ n → take n other ≡ take n bytes → namespace_in other ≡ after_header h (drop 64 other)
-  told_other n behind same = header_passes other h (omega arith) (ap header_told (front_of 64 n bytes other behind same) ∙ told)
+  told_other n behind same = header_passes other h (omega arith) (ap header_told (agree_before 64 n other bytes behind same) ∙ told)
 
   rest_there : h.geometry.zones * 8 ≤ length (drop 64 bytes) → h.geometry.zones * 8 ≤ length (drop 64 other)
   rest_there inside = omega (arith, length-drop 64 bytes, length-drop 64 other)
@@ -273,7 +228,7 @@ module _ (bytes other : List ℕ) (there : 64 ≤ length bytes) (longer : length
       let m = (k + 1) * 8 in
       let end : fault_end bytes fault ≡ 64 + m = ap (fault_end bytes) found.is ∙ ap (λ (i : ℕ). 64 + (i + 1) * 8) (let e : 0 + k ≡ k = omega arith in e) in
       let front : take (64 + m) other ≡ take (64 + m) bytes = subst (λ (i : ℕ). take i other ≡ take i bytes) end same in
-      let rest : take m (drop 64 other) ≡ take m (drop 64 bytes) = rest_of 64 m (64 + m) bytes other refl front in
+      let rest : take m (drop 64 other) ≡ take m (drop 64 bytes) = agree_behind 64 m (64 + m) other bytes refl front in
       let less : m ≤ n = omega (arith, found.inside) in
       let cut : take m (take n (drop 64 other)) ≡ take m (take n (drop 64 bytes)) = take-take m n (drop 64 other) less ∙ rest ∙ sym (take-take m n (drop 64 bytes) less) in
       told_other (64 + m) (omega arith) front
@@ -287,7 +242,7 @@ module _ (bytes other : List ℕ) (there : 64 ≤ length bytes) (longer : length
       let n = h.geometry.zones * 8 in
       let zones : (shape_in bytes).zones ≡ h.geometry.zones = ap (λ (s : Shape). s.zones) (header_parts (take 64 bytes) h told).same in
       let front : take (64 + n) other ≡ take (64 + n) bytes = subst (λ (i : ℕ). take i other ≡ take i bytes) (end ∙ ap (λ (i : ℕ). 64 + i * 8) zones) same in
-      let rest : take n (drop 64 other) ≡ take n (drop 64 bytes) = rest_of 64 n (64 + n) bytes other refl front in
+      let rest : take n (drop 64 other) ≡ take n (drop 64 bytes) = agree_behind 64 n (64 + n) other bytes refl front in
       told_other (64 + n) (omega arith) front
       ∙ whole_rows h (drop 64 other) (rest_there inside)
       ∙ ap (λ (r : Result (List CountedZone) LoadFault). r >>= λ zs. after_rows h zs (drop n (drop 64 other))) (ap (zones_in 0 h.geometry.capacity h.geometry.zones) rest ∙ read)

@@ -1,17 +1,12 @@
 -- Which faults a text has: none of a stream, and no want of memory.
-use Rattle.std.proofs.Common.{◌≡◌, ℕ, Bool, true, false, cond, List, [], ◌∷◌, take, drop, get_or, Option, Some, None, Result, Ok, Err, subst}
+use Rattle.std.proofs.Common.{◌≡◌, ℕ, Bool, true, false, cond, List, [], ◌∷◌, drop, Option, Some, None, Result, Ok, Err, sym, subst}
 use Rattle.std.specs.Option.{ok_or}
 use Rattle.std.specs.Prelude.{◌==◌, ◌&&◌, nat_le}
-use Rattle.zone_state.specs.declared.state.ZoneState.{ZoneState}
-use Rattle.zone_state.specs.State.{state_of}
-use Rattle.zone_state.specs.Zone.{CountedZone, fits_state}
+use Rattle.zone_state.specs.Zone.{CountedZone}
 use Rattle.zone_resources.specs.declared.admission.Limits.{Limits}
 use Rattle.zone_resources.specs.Counts.{open_count, active_count}
-use Rattle.program_interface.specs.Bytes.{field}
 use Rattle.image_store.specs.declared.fault.LoadFault.{LoadFault}
-use Rattle.image_store.specs.declared.fault.LoadFault.TheVariants.{Magic, Header as BadHeader, ZoneRow, Total, Limits as PastLimits, Stream, Memory}
-use Rattle.image_store.specs.declared.fault.ZoneRowFault.{ZoneRowFault}
-use Rattle.image_store.specs.declared.fault.ZoneRowFault.TheVariants.{Reserved, State, Blocks}
+use Rattle.image_store.specs.declared.fault.LoadFault.TheVariants.{Magic, Header as BadHeader, Total, Limits as PastLimits, Stream, Memory}
 use Rattle.image_store.specs.declared.fault.HeaderFault.{HeaderFault}
 use Rattle.image_store.specs.declared.fault.HeaderFault.TheVariants.{Numbers, VersionBlock, VersionZones, Reserved as ReservedHeader}
 use Rattle.image_store.specs.declared.geometry.GeometryRefusal.{GeometryRefusal}
@@ -22,10 +17,11 @@ use Rattle.image_store.specs.Geometry.{Shape, shape_checks}
 use Rattle.image_store.specs.Loading.{LoadFails, CountsFault, CountsLoad}
 use Rattle.image_store.specs.steps.LoadStages.{IsNoStream, NoStreamFails}
 use Rattle.program_interface.specs.Readings.{◌>>=◌}
-use Rattle.image_store.specs.Reading.{are_zeros, numbers_fault, numbers_in, numbers_tested, shape_told, version_in, version_kept, zeros_kept, total_told, header_of, header_told, zone_told, zone_in, total_kept, limits_kept}
+use Rattle.image_store.specs.Reading.{are_zeros, numbers_fault, numbers_in, numbers_tested, shape_told, version_in, version_kept, zeros_kept, total_told, header_of, header_told, zone_in, total_kept, limits_kept}
 use Rattle.image_store.specs.Text.{written_blocks}
 use Rattle.image_store.specs.Version.{has_block, numbers_of_version}
-use Rattle.image_store.proofs.ReadingCalls.{bind_err}
+use Rattle.image_store.proofs.ReadingCalls.{bind_fails, is_this, wrong}
+use Rattle.image_store.proofs.ToldRows.{row_wrong}
 
 abbrev pub IsOfText : LoadFault → Type 0
 IsOfText Stream = ⊥
@@ -50,13 +46,9 @@ pub counts_last : {X : Type 0} (before after : ℕ) (result : Result X LoadFault
 counts_last before after (Ok x) h e = e
 counts_last before after (Err fault) h e = counts_no_stream before after fault h e
 
-pub is_this : {X : Type 0} (x fault : LoadFault) → (let r : Result X LoadFault = Err x in r) ≡ Err fault → x ≡ fault
-is_this x fault e = cc
-
 -- what holds of the fault that a test fails with
 pub kept_fault : (P : LoadFault → Type 0) (test : Bool) (first fault : LoadFault) → P first → (let r : Result (Unit {0}) LoadFault = cond test (Ok tt) (Err first) in r) ≡ Err fault → P fault
-kept_fault P true first fault h e = absurd cc
-kept_fault P false first fault h e = subst P (is_this {X = Unit {0}} first fault e) h
+kept_fault P test first fault h e = subst P (wrong test tt first fault e).1 h
 
 magic_fault : (version : Option Version) (fault : LoadFault) → ok_or version Magic ≡ Err fault → IsOfText fault
 magic_fault None fault e = subst IsOfText (is_this {X = Version} Magic fault e) tt
@@ -79,33 +71,18 @@ module _ (P : LoadFault → Type 0) (of_header : (why : HeaderFault) → P (BadH
       let made : Shape → Header = λ s. record { geometry = s; total = total_told version bytes } in
       let zeros : Shape → Result Header LoadFault = λ s. zeros_kept version bytes >>= λ z. Ok (made s) in
       let kept : Shape → Result Header LoadFault = λ s. version_kept version s >>= λ k. zeros s in
-      bind_err P (numbers_in (shape_told bytes)) kept fault e (numbers_text_fault (first_failed (shape_checks (shape_told bytes))) (shape_told bytes)) (λ s e2.
-      bind_err P (version_kept version s) (λ k. zeros s) fault e2
-      (version_text_fault (has_block version s.block) (nat_le s.zones (numbers_of_version version).most_zones) (VersionBlock version s.block) (VersionZones version s.zones)) (λ k e3.
-      bind_err P (zeros_kept version bytes) (λ z. Ok (made s)) fault e3
-      (λ first. kept_fault P (are_zeros (drop (numbers_of_version version).zeros_from bytes)) (BadHeader (ReservedHeader version)) first (of_header (ReservedHeader version))) (λ z e4. absurd cc)))
+      bind_fails P (numbers_in (shape_told bytes)) kept fault e (numbers_text_fault (first_failed (shape_checks (shape_told bytes))) (shape_told bytes)) (λ s told e2.
+      bind_fails P (version_kept version s) (λ k. zeros s) fault e2
+      (version_text_fault (has_block version s.block) (nat_le s.zones (numbers_of_version version).most_zones) (VersionBlock version s.block) (VersionZones version s.zones)) (λ k has e3.
+      bind_fails P (zeros_kept version bytes) (λ z. Ok (made s)) fault e3
+      (λ first. kept_fault P (are_zeros (drop (numbers_of_version version).zeros_from bytes)) (BadHeader (ReservedHeader version)) first (of_header (ReservedHeader version))) (λ z none e4. absurd cc)))
 
 pub header_text_fault : (bytes : List ℕ) (fault : LoadFault) → header_told bytes ≡ Err fault → IsOfText fault
 header_text_fault bytes fault e =
-    bind_err IsOfText (ok_or (version_in bytes) Magic) (header_of bytes) fault e (magic_fault (version_in bytes)) (λ version. header_of_fault IsOfText (λ why. tt) bytes version fault)
-
-allowed_fault : (test : Bool) (zone : ℕ) (first : ZoneRowFault) (z : CountedZone) (fault : LoadFault) → cond test (Ok z) (Err (ZoneRow zone first)) ≡ Err fault → IsOfText fault
-allowed_fault true zone first z fault e = absurd cc
-allowed_fault false zone first z fault e = subst IsOfText (is_this {X = CountedZone} (ZoneRow zone first) fault e) tt
-
-told_fault : (zone code : ℕ) (told : Option ZoneState) (written capacity : ℕ) (fault : LoadFault) → zone_told zone code told written capacity ≡ Err fault → IsOfText fault
-told_fault zone code None written capacity fault e = subst IsOfText (is_this {X = CountedZone} (ZoneRow zone (State code)) fault e) tt
-told_fault zone code (Some state) written capacity fault e =
-    allowed_fault (fits_state state written capacity) zone (Blocks state written capacity) (record { state = state; written = written; capacity = capacity }) fault e
-
-padding_fault : (test : Bool) (zone code : ℕ) (told : Option ZoneState) (written capacity : ℕ) (fault : LoadFault)
-    → cond test (zone_told zone code told written capacity) (Err (ZoneRow zone Reserved)) ≡ Err fault → IsOfText fault
-padding_fault true zone code told written capacity fault e = told_fault zone code told written capacity fault e
-padding_fault false zone code told written capacity fault e = subst IsOfText (is_this {X = CountedZone} (ZoneRow zone Reserved) fault e) tt
+    bind_fails IsOfText (ok_or (version_in bytes) Magic) (header_of bytes) fault e (magic_fault (version_in bytes)) (λ version told. header_of_fault IsOfText (λ why. tt) bytes version fault)
 
 pub zone_text_fault : (zone capacity : ℕ) (bytes : List ℕ) (fault : LoadFault) → zone_in zone capacity bytes ≡ Err fault → IsOfText fault
-zone_text_fault zone capacity bytes fault e =
-    padding_fault (are_zeros (take 3 (drop 1 bytes))) zone (get_or bytes 0 0) (state_of (get_or bytes 0 0)) (field bytes 4 4) capacity fault e
+zone_text_fault zone capacity bytes fault e = let bad = row_wrong zone capacity bytes fault e in subst IsOfText (sym bad.is) tt
 
 pub total_text_fault : (total : Option ℕ) (zs : List CountedZone) (fault : LoadFault) → total_kept total zs ≡ Err fault → IsOfText fault
 total_text_fault None zs fault e = absurd cc

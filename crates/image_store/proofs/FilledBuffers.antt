@@ -1,5 +1,5 @@
 -- Bytes that are read until there are enough.
-use Rattle.std.proofs.Common.{◌≡◌, ℕ, ◌+◌, ◌≤◌, ◌<◌, Bool, true, false, cond, nat_le, List, ◌++◌, length, take, drop, Result, Ok, Err, refl, ap, sym, ◌∙◌, append_assoc, arith, length-append}
+use Rattle.std.proofs.Common.{◌≡◌, ℕ, ◌+◌, ◌≤◌, ◌<◌, Bool, cond, nat_le, List, ◌++◌, length, take, drop, Result, Ok, Err, ap, sym, ◌∙◌, append_assoc, arith, length-append}
 use Rattle.std.proofs.lemmas.Bool.{le-leb, lt-leb, leb-true}
 use Rattle.std.proofs.lemmas.List.{take_at, drop_at, length-take-le, take-append-drop, take-append-le}
 use Rattle.std.proofs.Math.Seq.{take-add}
@@ -8,13 +8,10 @@ use Rattle.image_store.specs.declared.fault.LoadFault.{LoadFault}
 use Rattle.image_store.specs.declared.fault.LoadFault.TheVariants.{Truncated}
 use Rattle.image_store.specs.Streams.{IsRead}
 use Rattle.image_store.specs.Reading.{bytes_in}
+use Rattle.image_store.proofs.ReadingCalls.{chosen}
 
 abbrev pub Split : Type 0
 Split = List ℕ × List ℕ
-
-chosen : (test : Bool) (x y : Split) → cond test (Ok x) (Err Truncated) ≡ Ok y → (test ≡ true) × (x ≡ y)
-chosen true x y e = (refl, cc)
-chosen false x y e = absurd cc
 
 -- bytes in front are those that are read
 pub bytes_whole : (n : ℕ) (xs ys : List ℕ) → length xs ≡ n → bytes_in n (xs ++ ys) ≡ Ok (xs, ys)
@@ -32,14 +29,14 @@ bytes_short n xs short =
 -- as many bytes are read as were wanted
 pub bytes_size : (n : ℕ) (xs : List ℕ) (got : Split) → bytes_in n xs ≡ Ok got → length got.0 ≡ n
 bytes_size n xs got e =
-    let parts = chosen (nat_le n (length xs)) (take n xs, drop n xs) got e in
+    let parts = chosen (nat_le n (length xs)) (take n xs, drop n xs) got Truncated e in
     let there = leb-true n (length xs) parts.0 in
     ap (λ (s : Split). length s.0) (sym parts.1) ∙ length-take-le n xs there
 
 -- what is read stands in front of the rest
 pub bytes_parts : (n : ℕ) (xs : List ℕ) (got : Split) → bytes_in n xs ≡ Ok got → got.0 ++ got.1 ≡ xs
 bytes_parts n xs got e =
-    let parts = chosen (nat_le n (length xs)) (take n xs, drop n xs) got e in
+    let parts = chosen (nat_le n (length xs)) (take n xs, drop n xs) got Truncated e in
     ap (λ (s : Split). s.0 ++ s.1) (sym parts.1) ∙ take-append-drop n xs
 
 -- what a read puts behind the bytes that were read before

@@ -2,7 +2,7 @@
 use Rattle.std.proofs.Common.{◌≡◌, ◌≢◌, ℕ, ◌+◌, ◌*◌, ◌<◌, ◌≤◌, ◌==◌, zero, suc, nat_le, true, false, List, [], ◌∷◌, length, take, drop, get_or, Option, Some, None, Ok, Err, refl, ap, sym, subst, ◌∙◌, arith, inl, inr, length-drop}
 use Rattle.std.specs.Prelude.{◌&&◌, IfSome}
 use Rattle.std.proofs.Math.Nat.{add-mul}
-use Rattle.std.proofs.lemmas.Bool.{and_parts, eqb-false, eqb-true, leb-false, leb-true, le-leb}
+use Rattle.std.proofs.lemmas.Bool.{eqb-false, eqb-true, leb-true, le-leb}
 use Rattle.std.proofs.lemmas.Bool.Decides.{leb_tells}
 use Rattle.std.proofs.lemmas.List.Sums.{sum_by-cons}
 use Rattle.zone_state.specs.Zone.{CountedZone}
@@ -19,39 +19,18 @@ use Rattle.image_store.specs.ImageInMemory.{no_counted_zone, zone_seen}
 use Rattle.image_store.specs.Namespace.{ZoneBlocks, ZonedNamespace, namespace_with}
 use Rattle.image_store.specs.Reading.{rows_end, shape_in, total_told, bytes_in, header_told, zones_in, total_kept, limits_kept, blocks_in, end_in}
 use Rattle.image_store.specs.Text.{written_blocks}
-use Rattle.image_store.proofs.FaultPlaces.{bind_fails, short_rows, short_text, whole_rows, whole_text}
-use Rattle.image_store.proofs.Faults.{is_this}
+use Rattle.image_store.proofs.FaultPlaces.{blocks_short, short_rows, short_text, whole_rows, whole_text}
 use Rattle.image_store.proofs.FilledBuffers.{Split}
+use Rattle.image_store.proofs.LoadedNamespaces.{kept_within}
 use Rattle.image_store.proofs.LoadStages.{after_blocks, after_header, after_limits, after_rows, after_total}
-use Rattle.image_store.proofs.ReadingCalls.{bind_ok, chosen, ok_is}
-use Rattle.image_store.proofs.HeaderFaults.{IsRead, header_first, header_is_read, wrong}
-use Rattle.image_store.proofs.RowFaults.{Tell, are_told, first_bad, row_of_text}
+use Rattle.image_store.proofs.ReadingCalls.{bind_fails, bind_ok, chosen, is_this, ok_is, wrong}
+use Rattle.image_store.proofs.HeaderFaults.{IsRead, header_first, header_is_read}
+use Rattle.image_store.proofs.RowFaults.{first_bad, row_of_text}
+use Rattle.image_store.proofs.ToldRows.{Tell, are_told}
 
 -- ---- blocks
 
--- blocks that aren't all there
-blocks_short : (block : ℕ) (zs : List CountedZone) (bytes : List ℕ) (fault : LoadFault) → blocks_in block zs bytes ≡ Err fault → (Truncated ≡ fault) × (length bytes < written_blocks zs * block)
-blocks_short block [] bytes fault e = absurd cc
-blocks_short block (z ∷ zs) bytes fault e =
-    let n = z.written * block in
-    let sum : written_blocks (z ∷ zs) * block ≡ n + written_blocks zs * block = ap (λ (count : ℕ). count * block) (sum_by-cons (λ (zone : CountedZone). zone.written) z zs) ∙ add-mul z.written (written_blocks zs) block in
-    bind_fails (λ f. (Truncated ≡ f) × (length bytes < written_blocks (z ∷ zs) * block)) (bytes_in n bytes) (λ front. blocks_in block zs front.1 >>= λ rest. Ok (zone_seen block z front.0 ∷ rest.0, rest.1)) fault e
-    (λ first short.
-    let p = wrong (nat_le n (length bytes)) (take n bytes, drop n bytes) Truncated first short in
-    let few = leb-false n (length bytes) p.0 in
-    (p.1, omega (arith, sum, few)))
-    (λ front there later.
-    let p = chosen (nat_le n (length bytes)) (take n bytes, drop n bytes) front Truncated there in
-    let whole = leb-true n (length bytes) p.0 in
-    let rest : drop n bytes ≡ front.1 = ap (λ (f : Split). f.1) p.1 in
-    bind_fails (λ f. (Truncated ≡ f) × (length bytes < written_blocks (z ∷ zs) * block)) (blocks_in block zs front.1) (λ rest. Ok (zone_seen block z front.0 ∷ rest.0, rest.1)) fault later
-    (λ first short.
-    let q = blocks_short block zs front.1 first short in
-    let size : length (drop n bytes) ≡ length front.1 = ap length rest in
-    (q.0, omega (arith, sum, whole, q.1, size, length-drop n bytes)))
-    (λ all none last. absurd cc))
-
--- and blocks that are
+-- blocks that are all there
 blocks_there : (block : ℕ) (zs : List CountedZone) (bytes : List ℕ) (got : List ZoneBlocks × List ℕ) → blocks_in block zs bytes ≡ Ok got → length bytes ≡ written_blocks zs * block + length got.1
 blocks_there block [] bytes got e = let same : length bytes ≡ length got.1 = ap (λ (g : List ZoneBlocks × List ℕ). length g.1) (ok_is ([], bytes) got e) in omega (arith, same)
 blocks_there block (z ∷ zs) bytes got e =
@@ -67,12 +46,6 @@ blocks_there block (z ∷ zs) bytes got e =
     omega (arith, sum, whole, later, size, end, length-drop n bytes)
 
 -- ---- behind the header
-
-within : (limits : ResourceLimits) (zs : List CountedZone) (done : Unit {0}) → limits_kept limits zs ≡ Ok done → IsWithin zs limits
-within limits zs done e =
-    let p = chosen (nat_le (open_count zs) limits.open_limit && nat_le (active_count zs) limits.active_limit) tt done (Limits (open_count zs) (active_count zs) limits) e in
-    let both = and_parts (nat_le (open_count zs) limits.open_limit) (nat_le (active_count zs) limits.active_limit) p.0 in
-    record { opened = leb-true (open_count zs) limits.open_limit both.0; active = leb-true (active_count zs) limits.active_limit both.1 }
 
 not_within : (limits : ResourceLimits) (zs : List CountedZone) → (nat_le (open_count zs) limits.open_limit && nat_le (active_count zs) limits.active_limit) ≡ false → IsWithin zs limits → ⊥
 not_within limits zs e fit =
@@ -179,7 +152,7 @@ module _ (bytes : List ℕ) (h : Header) (there : 64 ≤ length bytes) (read : I
       bind_fails (IsFirstFault bytes) (limits_kept given.limits zs) (λ kept. after_limits given zs behind) fault later
       (λ first bad. limits_first zs first all total bad)
       (λ done fit last.
-      let limits : IsWithin zs (shape_in bytes).limits = subst (λ (s : Shape). IsWithin zs s.limits) (sym read.same) (within given.limits zs done fit) in
+      let limits : IsWithin zs (shape_in bytes).limits = subst (λ (s : Shape). IsWithin zs s.limits) (sym read.same) (kept_within given.limits zs done fit) in
       blocks_first zs fault inside (record { tells = all; total = total; limits = limits }) last))
 
   rest_first : (fault : LoadFault) → after_header h (drop 64 bytes) ≡ Err fault → IsFirstFault bytes fault

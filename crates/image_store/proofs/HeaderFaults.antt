@@ -19,15 +19,9 @@ use Rattle.image_store.specs.FirstFault.{Begins, HasHeader, IsFirstFault}
 use Rattle.image_store.specs.Geometry.{Shape, IsShape, shape_checks}
 use Rattle.image_store.specs.Reading.{are_zeros, numbers_fault, numbers_in, numbers_tested, shape_in, version_in, version_kept, zeros_kept, total_told, header_of, header_told}
 use Rattle.image_store.specs.Version.{HasText, has_block, numbers_of_version}
-use Rattle.image_store.proofs.FaultPlaces.{bind_fails, unknown}
-use Rattle.image_store.proofs.Faults.{is_this}
-use Rattle.image_store.proofs.HeaderParts.{begins, header_parts, passed, version_begins, version_has}
-use Rattle.image_store.proofs.ReadingCalls.{ok_is}
-
--- a test that fails
-pub wrong : {X : Type 0} (test : Bool) (x : X) (first fault : LoadFault) → cond test (Ok x) (Err first) ≡ Err fault → (test ≡ false) × (first ≡ fault)
-wrong true x first fault e = absurd cc
-wrong {X} false x first fault e = (refl, is_this {X = X} first fault e)
+use Rattle.image_store.proofs.FaultPlaces.{unknown}
+use Rattle.image_store.proofs.HeaderParts.{begins, header_parts, numbers_passed, some_version, version_begins, version_has}
+use Rattle.image_store.proofs.ReadingCalls.{bind_fails, is_this, wrong}
 
 -- ---- the magic
 
@@ -79,7 +73,7 @@ module _ (bytes : List ℕ) (version : Version) (begun : Begins version bytes) w
       let made : Shape → Header = λ s. record { geometry = s; total = total_told version header } in
       let zeros : Shape → Result Header LoadFault = λ s. zeros_kept version header >>= λ z. Ok (made s) in
       bind_fails (IsFirstFault bytes) (numbers_in s) (λ t. version_kept version t >>= λ k. zeros t) fault e (λ first. numbers_wrong (first_failed (shape_checks s)) first refl) (λ t told later.
-      let pass = passed s t told in
+      let pass = numbers_passed s t told in
       let known = pass.known in
       let later_s : (version_kept version s >>= λ k. zeros s) ≡ Err fault = subst (λ (t : Shape). (version_kept version t >>= λ k. zeros t) ≡ Err fault) (sym pass.same) later in
       bind_fails (IsFirstFault bytes) (version_kept version s) (λ k. zeros s) fault later_s
@@ -93,16 +87,12 @@ module _ (bytes : List ℕ) (version : Version) (begun : Begins version bytes) w
 begun_by : (bytes : List ℕ) (version : Version) → 64 ≤ length bytes → begins (take 64 bytes) version ≡ true → Begins version bytes
 begun_by bytes version there e = record { whole = there; magic = magic_of version bytes e }
 
-known_version : (told : Option Version) (version : Version) → ok_or told Magic ≡ Ok version → told ≡ Some version
-known_version None version e = absurd cc
-known_version (Some found) version e = ap (λ (v : Version). Some v) (ok_is found version e)
-
 pub header_first : (bytes : List ℕ) (fault : LoadFault) → 64 ≤ length bytes → header_told (take 64 bytes) ≡ Err fault → IsFirstFault bytes fault
 header_first bytes fault there e =
     bind_fails (IsFirstFault bytes) (ok_or (version_in (take 64 bytes)) Magic) (header_of (take 64 bytes)) fault e
     (λ first none. let p = unknown (version_in (take 64 bytes)) first none in subst (IsFirstFault bytes) p.1 (there, no_magic bytes p.0))
     (λ version told later.
-    header_wrong bytes version (begun_by bytes version there (version_begins (take 64 bytes) version (known_version (version_in (take 64 bytes)) version told))) fault later)
+    header_wrong bytes version (begun_by bytes version there (version_begins (take 64 bytes) version (some_version (version_in (take 64 bytes)) version told))) fault later)
 
 -- a header that is read
 pub record IsRead (bytes : List ℕ) (h : Header) : Type 0 where

@@ -1,5 +1,5 @@
 -- What each header that is read has passed.
-use Rattle.std.proofs.Common.{◌≡◌, ℕ, Bool, true, false, cond, List, [], ◌∷◌, drop, Option, Some, None, Result, Ok, refl, ap, subst}
+use Rattle.std.proofs.Common.{◌≡◌, ℕ, Bool, true, false, cond, List, drop, Option, Some, None, Result, Ok, refl, ap, subst}
 use Rattle.std.proofs.lemmas.Bool.{leb-true}
 use Rattle.std.specs.List.{starts_with}
 use Rattle.std.specs.Option.{ok_or}
@@ -11,13 +11,14 @@ use Rattle.image_store.specs.declared.geometry.GeometryRefusal.{GeometryRefusal}
 use Rattle.image_store.specs.declared.header.Header.{Header}
 use Rattle.image_store.specs.declared.version.Version.{Version}
 use Rattle.image_store.specs.declared.version.Version.TheVariants.{One, Two}
-use Rattle.zone_state.specs.Checks.{demand, first_failed, unless_failed}
+use Rattle.zone_state.specs.Checks.{first_failed, unless_failed}
+use Rattle.zone_state.proofs.Proved.{demanded, none_failed, passed}
 use Rattle.image_store.specs.Geometry.{Shape, IsShape, shape_checks}
 use Rattle.program_interface.specs.Readings.{◌>>=◌}
 use Rattle.image_store.specs.Reading.{are_zeros, numbers_in, numbers_tested, shape_told, version_in, version_checks, version_kept, zeros_kept, total_told, header_of, header_told}
 use Rattle.image_store.specs.Version.{HasText, has_block, numbers_of_version}
 use Rattle.image_store.proofs.ReadingCalls.{bind_ok, ok_is, chosen}
-use Rattle.image_store.proofs.Shapes.{both, none_fails, shape_is}
+use Rattle.image_store.proofs.Shapes.{shape_is}
 
 -- do bytes begin with a version's magic?
 abbrev pub begins : List ℕ → Version → Bool
@@ -33,7 +34,7 @@ either test version false false first second e = absurd cc
 pub version_begins : (bytes : List ℕ) (version : Version) → version_in bytes ≡ Some version → begins bytes version ≡ true
 version_begins bytes version e = either (begins bytes) version (begins bytes One) (begins bytes Two) refl refl e
 
-some_version : (told : Option Version) (version : Version) → ok_or told fault.Magic ≡ Ok version → told ≡ Some version
+pub some_version : (told : Option Version) (version : Version) → ok_or told fault.Magic ≡ Ok version → told ≡ Some version
 some_version None version e = absurd cc
 some_version (Some found) version e = ap (λ (v : Version). Some v) (ok_is found version e)
 
@@ -46,17 +47,20 @@ passed_by : (told s : Shape) (check : Option GeometryRefusal) → numbers_tested
 passed_by told s None e = (refl, ok_is told s e)
 passed_by told s (Some first) e = absurd cc
 
-pub passed : (told s : Shape) → numbers_in told ≡ Ok s → ArePassed told s
-passed told s e =
+pub numbers_passed : (told s : Shape) → numbers_in told ≡ Ok s → ArePassed told s
+numbers_passed told s e =
     let p = passed_by told s (first_failed (shape_checks told)) e in
     record { same = p.1; known = shape_is told told (ap (λ (check : Option GeometryRefusal). unless_failed check told) p.0) }
 
 pub version_has : (version : Version) (s : Shape) (done : Unit {0}) → version_kept version s ≡ Ok done → HasText version s
 version_has version s done e =
-    let zones : Option LoadFault = first_failed (demand (nat_le s.zones (numbers_of_version version).most_zones) (fault.Header (header_fault.VersionZones version s.zones)) ∷ []) in
-    let a = both (has_block version s.block) (fault.Header (header_fault.VersionBlock version s.block)) zones (none_fails (first_failed (version_checks version s)) tt done e) in
-    let b = both (nat_le s.zones (numbers_of_version version).most_zones) (fault.Header (header_fault.VersionZones version s.zones)) None a.1 in
-    record { block = a.0; zones = leb-true s.zones (numbers_of_version version).most_zones b.0 }
+    let checks = version_checks version s in
+    let none = none_failed (first_failed checks) tt done e in
+    let most = (numbers_of_version version).most_zones in
+    record {
+      block = demanded (has_block version s.block) (fault.Header (header_fault.VersionBlock version s.block)) (passed checks 0 none);
+      zones = leb-true s.zones most (demanded (nat_le s.zones most) (fault.Header (header_fault.VersionZones version s.zones)) (passed checks 1 none));
+    }
 
 -- the version, and what holds of the shape
 pub record IsHeader (bytes : List ℕ) (header : Header) : Type 0 where
@@ -77,7 +81,7 @@ header_parts bytes header e =
     let s = bind_ok (numbers_in (shape_told bytes)) (λ s. version_kept version s >>= λ k. zeros s) header v.2 in
     let k = bind_ok (version_kept version s.0) (λ k. zeros s.0) header s.2 in
     let z = bind_ok (zeros_kept version bytes) (λ z. Ok (made s.0)) header k.2 in
-    let pass = passed (shape_told bytes) s.0 s.1 in
+    let pass = numbers_passed (shape_told bytes) s.0 s.1 in
     subst (IsHeader bytes) (ok_is (made s.0) header z.2) (record {
       version = version;
       begins = version_begins bytes version (some_version (version_in bytes) version v.1);

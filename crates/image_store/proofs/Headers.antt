@@ -3,7 +3,7 @@ use Rattle.std.proofs.Common.{◌≡◌, ℕ, ◌^◌, ◌<◌, List, ◌∷◌,
 use Rattle.std.proofs.lemmas.Bool.{le-leb}
 use Rattle.std.specs.List.{flat_map}
 use Rattle.std.specs.Prelude.{codes}
-use Rattle.byteorder.specs.Endian.{little_number}
+use Rattle.byteorder.specs.Endian.{little_bytes, little_number}
 use Rattle.byteorder.specs.Numbers.{little_number-reads_back}
 use Rattle.image_store.specs.declared.fault.LoadFault.{LoadFault}
 use Rattle.image_store.specs.declared.header.Header.{Header}
@@ -12,12 +12,12 @@ use Rattle.image_store.specs.declared.version.Version.TheVariants.{One, Two}
 use Rattle.image_store.specs.Geometry.{Shape, IsShape, shape_of}
 use Rattle.program_interface.specs.Readings.{◌>>=◌}
 use Rattle.image_store.specs.Reading.{numbers_in, numbers_tested, shape_told, version_kept, zeros_kept, total_told, header_of, header_told, header_in}
-use Rattle.image_store.specs.Text.{four_bytes, numbers_of, header_end, header}
+use Rattle.image_store.specs.Text.{numbers_of, header_end, header}
 use Rattle.image_store.specs.Version.{HasText, numbers_of_version}
 use Rattle.image_store.proofs.FilledBuffers.{Split, bytes_whole}
 use Rattle.image_store.proofs.Shapes.{block_most, shape_passes}
 
-pub word_again : (n : ℕ) (rest : List ℕ) → n < 2 ^ 32 → little_number 4 (four_bytes n ++ rest) ≡ n
+pub word_again : (n : ℕ) (rest : List ℕ) → n < 2 ^ 32 → little_number 4 (little_bytes 4 n ++ rest) ≡ n
 word_again n rest h = little_number-reads_back 4 n rest (omega arith)
 
 abbrev shape_with : ℕ → ℕ → ℕ → ℕ → ℕ → ℕ → Shape
@@ -25,7 +25,7 @@ shape_with block zones size capacity opened active = shape_of block zones size c
 
 -- 64 bytes of a version with this digit
 abbrev with_digit : ℕ → Shape → List ℕ → List ℕ
-with_digit digit s last = codes "ZNSIMG0" ++ (digit ∷ (flat_map four_bytes (numbers_of s) ++ last))
+with_digit digit s last = codes "ZNSIMG0" ++ (digit ∷ (flat_map (little_bytes 4) (numbers_of s) ++ last))
 
 numbers_again : (digit : ℕ) (s : Shape) (last : List ℕ) → IsShape s → shape_told (with_digit digit s last) ≡ s
 numbers_again digit s last known =

@@ -1,17 +1,19 @@
 -- An image's fields and the namespace that they stand for.
 use Rattle.std.proofs.Common.{◌≡◌, ℕ, ◌+◌, ◌*◌, ◌<◌, ◌≤◌, zero, suc, List, [], ◌∷◌, ◌++◌, length, get_or, set, map, replicate, take, drop, refl, ap, sym, subst, ◌∙◌, arith, Ok}
+use Rattle.std.specs.List.{concat}
 use Rattle.std.proofs.lemmas.List.{drop-drop}
 use Rattle.std.proofs.lemmas.Bool.Decides.{nat_tests}
 use Rattle.std.proofs.Math.Nat.{suc-mul, add-mul, mul-le-mul_right}
 use Rattle.zone_state.specs.declared.state.ZoneState.{ZoneState}
 use Rattle.zone_state.specs.declared.state.ZoneState.TheVariants.{Empty, ImplicitlyOpened, ExplicitlyOpened, Closed, ReadOnly, Full, Offline}
-use Rattle.zone_state.specs.Zone.{CountedZone, IsZone, write_check, write_check_in, after_write}
-use Rattle.image_store.specs.Blocks.{blocks_of, as_blocks, block_count, bytes_of}
+use Rattle.zone_state.specs.Zone.{CountedZone, IsZone, write_check, after_write}
+use Rattle.zone_state.proofs.Proved.{is_allowed}
+use Rattle.image_store.specs.Blocks.{as_blocks, block_count}
 use Rattle.image_store.specs.ImageInMemory.{zones_of, zone_seen, no_counted_zone, namespace_of, IsFlat}
 use Rattle.image_store.specs.steps.EmptyZone.{empty_counted_zone}
-use Rattle.program_interface.specs.Bytes.{spliced}
+use Rattle.program_interface.specs.Bytes.{pieces, spliced}
 use Rattle.image_store.specs.Geometry.{Shape}
-use Rattle.image_store.specs.Namespace.{ZoneBlocks, ZonedNamespace, zone_at, counted, grown, appended, all_empty, shape}
+use Rattle.image_store.specs.Namespace.{ZoneBlocks, ZonedNamespace, zone_at, counted, grown, appended, namespace_with, all_empty, shape}
 use Rattle.image_store.proofs.BlocksOfBytes.{length-blocks, bytes-middle}
 use Rattle.image_store.proofs.ZonesInMemory.{HasRoom, length-zones, zone-at, zones-append, write_end}
 
@@ -27,19 +29,6 @@ within_capacity Offline written capacity h = grind (arith, nat_tests)
 
 pub within : (s : Shape) (zs : List CountedZone) (xs : List ℕ) (z : ℕ) → IsFlat s zs xs → z < length zs → (get_or zs z no_counted_zone).written ≤ s.capacity
 within s zs xs z flat inside = within_capacity (get_or zs z no_counted_zone).state (get_or zs z no_counted_zone).written s.capacity (flat.fits z inside)
-
-room_in : (state : ZoneState) (z : CountedZone) (at n : ℕ) → write_check_in state z at n ≡ Ok tt → z.written + n ≤ z.capacity
-room_in Empty z at n h = grind (arith, nat_tests)
-room_in ImplicitlyOpened z at n h = grind (arith, nat_tests)
-room_in ExplicitlyOpened z at n h = grind (arith, nat_tests)
-room_in Closed z at n h = grind (arith, nat_tests)
-room_in ReadOnly z at n h = cc
-room_in Full z at n h = cc
-room_in Offline z at n h = cc
-
--- a write that is allowed fits
-pub allowed_fits : (z : CountedZone) (at n : ℕ) → write_check z at n ≡ Ok tt → z.written + n ≤ z.capacity
-allowed_fits z at n h = room_in z.state z at n h
 
 -- a zone as it is seen is counted as it was
 pub counted_seen : (b c : ℕ) (r : CountedZone) (xs : List ℕ) → r.capacity ≡ c → counted c (zone_seen b r xs) ≡ r
@@ -58,7 +47,7 @@ pub has_room : (s : Shape) (zs : List CountedZone) (xs : List ℕ) (z : ℕ) (ne
     → HasRoom s.block s.capacity (get_or zs z no_counted_zone).written (block_count s.block new) new
 has_room s zs xs z new flat inside whole allowed = record {
   size = whole;
-  room = let fits = allowed_fits (get_or zs z no_counted_zone) (get_or zs z no_counted_zone).written (block_count s.block new) allowed in
+  room = let fits = (is_allowed (get_or zs z no_counted_zone) (get_or zs z no_counted_zone).written (block_count s.block new) allowed).has_room in
       let same = flat.capacities z inside in omega arith;
 }
 
@@ -79,10 +68,10 @@ write_fits s zs xs z new flat inside whole allowed =
     let reach = write_end s.block s.capacity (get_or zs z no_counted_zone).written (block_count s.block new) new (has_room s zs xs z new flat inside whole allowed) in
     omega arith
 
-grown_seen : (b c : ℕ) (r : CountedZone) (xs new : List ℕ) → r.capacity ≡ c → grown c (zone_seen b r xs) (as_blocks b new) ≡ record { state = (after_write r (block_count b new)).state; blocks = blocks_of b r.written xs ++ as_blocks b new }
+grown_seen : (b c : ℕ) (r : CountedZone) (xs new : List ℕ) → r.capacity ≡ c → grown c (zone_seen b r xs) (as_blocks b new) ≡ record { state = (after_write r (block_count b new)).state; blocks = pieces b r.written xs ++ as_blocks b new }
 grown_seen b c r xs new same =
-    ap (λ (z : CountedZone). let seen : ZoneBlocks = record { state = (after_write z (length (as_blocks b new))).state; blocks = blocks_of b r.written xs ++ as_blocks b new } in seen) (counted_seen b c r xs same)
-    ∙ ap (λ (n : ℕ). let seen : ZoneBlocks = record { state = (after_write r n).state; blocks = blocks_of b r.written xs ++ as_blocks b new } in seen) (length-blocks b (block_count b new) new)
+    ap (λ (z : CountedZone). let seen : ZoneBlocks = record { state = (after_write z (length (as_blocks b new))).state; blocks = pieces b r.written xs ++ as_blocks b new } in seen) (counted_seen b c r xs same)
+    ∙ ap (λ (n : ℕ). let seen : ZoneBlocks = record { state = (after_write r n).state; blocks = pieces b r.written xs ++ as_blocks b new } in seen) (length-blocks b (block_count b new) new)
 
 -- writing into the room and counting the blocks appends them to the zone
 pub append_seen : (s : Shape) (zs : List CountedZone) (xs : List ℕ) (z : ℕ) (new : List ℕ) → IsFlat s zs xs → z < length zs
@@ -96,7 +85,7 @@ append_seen s zs xs z new flat inside whole allowed =
     let zones = zones-append s.block s.capacity zs xs z n (after_write r n) new inside long (λ y in_list. within s zs xs y flat in_list) (has_room s zs xs z new flat inside whole allowed) refl in
     let seen = ap (λ (zone : ZoneBlocks). grown s.capacity zone (as_blocks s.block new)) (zone-at s.block s.capacity zs xs z inside)
     ∙ grown_seen s.block s.capacity r (drop (z * (s.capacity * s.block)) xs) new (flat.capacities z inside) in
-    ap (λ (all : List ZoneBlocks). let ns : ZonedNamespace = record { block = s.block; size = s.size; capacity = s.capacity; limits = s.limits; zones = all } in ns)
+    ap (namespace_with s)
     (zones ∙ ap (set (zones_of s.block s.capacity zs xs) z) (sym seen))
 
 -- a zone of the namespace is one of the image's
@@ -117,14 +106,14 @@ allowed_seen s zs xs z new ns seen flat inside h =
 empty_zones : (b c n : ℕ) (r : CountedZone) (xs : List ℕ) → r.written ≡ 0 → zones_of b c (replicate n r) xs ≡ replicate n (record { state = r.state; blocks = [] })
 empty_zones b c zero r xs none = refl
 empty_zones b c (suc n) r xs none =
-    ap (λ (k : ℕ). let seen : ZoneBlocks = record { state = r.state; blocks = blocks_of b k xs } in seen ∷ zones_of b c (replicate n r) (drop (c * b) xs)) none
+    ap (λ (k : ℕ). let seen : ZoneBlocks = record { state = r.state; blocks = pieces b k xs } in seen ∷ zones_of b c (replicate n r) (drop (c * b) xs)) none
     ∙ ap (λ (rest : List ZoneBlocks). let seen : ZoneBlocks = record { state = r.state; blocks = [] } in seen ∷ rest) (empty_zones b c n r (drop (c * b) xs) none)
 
 -- zones of which nothing is written, over any bytes
 pub empty_seen : (s : Shape) (xs : List ℕ) → namespace_of s (replicate s.zones (empty_counted_zone s.capacity)) xs ≡ all_empty s
 empty_seen s xs =
     let r = empty_counted_zone s.capacity in
-    ap (λ (all : List ZoneBlocks). let ns : ZonedNamespace = record { block = s.block; size = s.size; capacity = s.capacity; limits = s.limits; zones = all } in ns)
+    ap (namespace_with s)
     (empty_zones s.block s.capacity s.zones r xs refl)
 
 -- the zones without their blocks are the counted zones
@@ -145,11 +134,11 @@ part_fits s zs xs z first count flat inside written =
     omega (arith, add-mul first count s.block)
 
 pub part_seen : (s : Shape) (zs : List CountedZone) (xs : List ℕ) (z first count : ℕ) → z < length zs → first + count ≤ (get_or zs z no_counted_zone).written
-    → take (count * s.block) (drop (z * (s.capacity * s.block) + first * s.block) xs) ≡ bytes_of (take count (drop first (zone_at (namespace_of s zs xs) z).blocks))
+    → take (count * s.block) (drop (z * (s.capacity * s.block) + first * s.block) xs) ≡ concat (take count (drop first (zone_at (namespace_of s zs xs) z).blocks))
 part_seen s zs xs z first count inside written =
     ap (take (count * s.block)) (sym (drop-drop (first * s.block) (z * (s.capacity * s.block)) xs))
     ∙ (sym (bytes-middle s.block first count (get_or zs z no_counted_zone).written (drop (z * (s.capacity * s.block)) xs) written)
-    ∙ ap (λ (zone : ZoneBlocks). bytes_of (take count (drop first zone.blocks))) (sym (zone-at s.block s.capacity zs xs z inside)))
+    ∙ ap (λ (zone : ZoneBlocks). concat (take count (drop first zone.blocks))) (sym (zone-at s.block s.capacity zs xs z inside)))
 
 -- the same of the blocks that the namespace's zone has
 pub written_seen : (s : Shape) (zs : List CountedZone) (xs : List ℕ) (z most : ℕ) (ns : ZonedNamespace) → namespace_of s zs xs ≡ ns → z < length zs → most ≤ length (zone_at ns z).blocks → most ≤ (get_or zs z no_counted_zone).written

@@ -8,6 +8,7 @@ mod SoundImages
 mod Sinks
 mod Texts
 mod ReadingCalls
+mod ToldRows
 mod FilledBuffers
 mod ZoneRowsRead
 mod BlocksRead

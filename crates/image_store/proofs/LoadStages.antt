@@ -1,25 +1,22 @@
 -- One stage of a load after another.
-use Rattle.std.proofs.Common.{◌≡◌, ℕ, ◌+◌, ◌*◌, ◌^◌, ◌<◌, ◌≤◌, zero, suc, List, [], ◌∷◌, length, get_or, replicate, take, drop, Option, Some, None, Result, Ok, Err, refl, ap, sym, subst, arith}
+use Rattle.std.proofs.Common.{◌≡◌, ℕ, ◌*◌, ◌^◌, ◌<◌, ◌≤◌, List, length, get_or, replicate, Result, Ok, Err, refl, ap, sym, subst, arith}
 use Rattle.std.specs.Prelude.{IfOk, IsOk}
 use Rattle.std.proofs.lemmas.List.{length-replicate}
-use Rattle.zone_state.specs.declared.state.ZoneState.{ZoneState}
-use Rattle.zone_state.specs.State.{state_of}
-use Rattle.zone_state.specs.Zone.{CountedZone, IsZone, fits_state}
-use Rattle.program_interface.specs.Bytes.{field}
+use Rattle.zone_state.specs.Zone.{CountedZone, IsZone}
 use Rattle.image_store.specs.declared.fault.LoadFault.{LoadFault}
-use Rattle.image_store.specs.declared.fault.LoadFault.TheVariants as fault
-use Rattle.image_store.specs.declared.fault.ZoneRowFault.TheVariants as row_fault
 use Rattle.image_store.specs.declared.header.Header.{Header}
+use Rattle.image_store.specs.FirstFault.{TellsZone}
 use Rattle.image_store.specs.ImageInMemory.{no_counted_zone}
 use Rattle.image_store.specs.Geometry.{Shape, IsShape}
 use Rattle.image_store.specs.Loading.{LoadFails, LoadGives}
 use Rattle.image_store.specs.steps.LoadStages.{NoStreamFails, AreZones}
 use Rattle.image_store.specs.Namespace.{ZoneBlocks, ZonedNamespace, namespace_with}
 use Rattle.program_interface.specs.Readings.{◌>>=◌}
-use Rattle.image_store.specs.Reading.{are_zeros, bytes_in, header_told, header_in, zone_told, zone_in, zones_in, zone_rows_in, total_kept, limits_kept, blocks_in, end_in, namespace_in}
-use Rattle.image_store.proofs.ReadingCalls.{bind_ok, ok_is, chosen, passed, fails_then}
+use Rattle.image_store.specs.Reading.{bytes_in, header_told, header_in, zones_in, zone_rows_in, total_kept, limits_kept, blocks_in, end_in, namespace_in}
+use Rattle.image_store.proofs.ReadingCalls.{fails_then}
 use Rattle.image_store.proofs.Faults.{no_stream, fails_text, header_text_fault}
 use Rattle.image_store.proofs.FilledBuffers.{Split}
+use Rattle.image_store.proofs.ToldRows.{are_told, part}
 
 told : (result : Result Header LoadFault) (front rest : List ℕ) → result ≡ header_told front → LoadGives {Y = Header × List ℕ} ⊥ (λ (h : Header). (h, rest)) result (header_told front >>= λ h. Ok (h, rest))
 told (Ok h) front rest e = ap (λ (r : Result Header LoadFault). r >>= λ x. let all : Result (Header × List ℕ) LoadFault = Ok (x, rest) in all) (sym e)
@@ -37,39 +34,18 @@ pub header_no_stream : (result : Result Header LoadFault) (front : List ℕ) →
 header_no_stream (Ok h) front e = tt
 header_no_stream (Err first) front e = no_stream first (header_text_fault front first (sym e))
 
-with_fits : (zone code : ℕ) (told : Option ZoneState) (written capacity : ℕ) (z : CountedZone) → 1 ≤ capacity → zone_told zone code told written capacity ≡ Ok z
-    → (z.capacity ≡ capacity) × IsZone z.state z.written capacity
-with_fits zone code None written capacity z some e = absurd cc
-with_fits zone code (Some state) written capacity z some e =
-    let made : CountedZone = record { state = state; written = written; capacity = capacity } in
-    let p = chosen (fits_state state written capacity) made z (fault.ZoneRow zone (row_fault.Blocks state written capacity)) e in
-    (sym (ap (λ (x : CountedZone). x.capacity) p.1), subst (λ (x : CountedZone). IsZone x.state x.written capacity) p.1 (some, p.0))
-
-zone_fits : (zone capacity : ℕ) (bytes : List ℕ) (z : CountedZone) → 1 ≤ capacity → zone_in zone capacity bytes ≡ Ok z → (z.capacity ≡ capacity) × IsZone z.state z.written capacity
-zone_fits zone capacity bytes z some e =
-    let code = get_or bytes 0 0 in
-    with_fits zone code (state_of code) (field bytes 4 4) capacity z some
-    (passed (are_zeros (take 3 (drop 1 bytes))) (zone_told zone code (state_of code) (field bytes 4 4) capacity) z (fault.ZoneRow zone row_fault.Reserved) e).1
+row_fits : (capacity : ℕ) (row : List ℕ) (z : CountedZone) → 1 ≤ capacity → TellsZone capacity row z → (z.capacity ≡ capacity) × IsZone z.state z.written capacity
+row_fits capacity row z some tells = (sym tells.most, subst (IsZone z.state z.written) (sym tells.most) (subst (λ (c : ℕ). 1 ≤ c) tells.most some, tells.fits))
 
 -- the zones of rows, as many as were wanted
 pub record HaveFit (capacity n : ℕ) (zs : List CountedZone) : Type 0 where
   pub count : length zs ≡ n
   pub each : (k : ℕ) → k < length zs → ((get_or zs k no_counted_zone).capacity ≡ capacity) × IsZone (get_or zs k no_counted_zone).state (get_or zs k no_counted_zone).written capacity
 
-fit_more : (capacity : ℕ) (z : CountedZone) (zs : List CountedZone) → (z.capacity ≡ capacity) × IsZone z.state z.written capacity
-    → ((k : ℕ) → k < length zs → ((get_or zs k no_counted_zone).capacity ≡ capacity) × IsZone (get_or zs k no_counted_zone).state (get_or zs k no_counted_zone).written capacity)
-    → (k : ℕ) → k < suc (length zs) → ((get_or (z ∷ zs) k no_counted_zone).capacity ≡ capacity) × IsZone (get_or (z ∷ zs) k no_counted_zone).state (get_or (z ∷ zs) k no_counted_zone).written capacity
-fit_more capacity z zs first more zero h = first
-fit_more capacity z zs first more (suc k) h = more k (omega arith)
-
 pub zones_fit : (zone capacity n : ℕ) (bytes : List ℕ) (zs : List CountedZone) → 1 ≤ capacity → zones_in zone capacity n bytes ≡ Ok zs → HaveFit capacity n zs
-zones_fit zone capacity zero bytes zs some e = subst (HaveFit capacity 0) (ok_is [] zs e) (record { count = refl; each = λ k h. absurd (omega arith) })
-zones_fit zone capacity (suc n) bytes zs some e =
-    let a = bind_ok (zone_in zone capacity (take 8 bytes)) (λ z. zones_in (zone + 1) capacity n (drop 8 bytes) >>= λ more. Ok (z ∷ more)) zs e in
-    let b = bind_ok (zones_in (zone + 1) capacity n (drop 8 bytes)) (λ more. Ok (a.0 ∷ more)) zs a.2 in
-    let first = zone_fits zone capacity (take 8 bytes) a.0 some a.1 in
-    let more = zones_fit (zone + 1) capacity n (drop 8 bytes) b.0 some b.1 in
-    subst (HaveFit capacity (suc n)) (ok_is (a.0 ∷ b.0) zs b.2) (record { count = ap suc more.count; each = fit_more capacity a.0 b.0 first more.each })
+zones_fit zone capacity n bytes zs some e =
+    let told = are_told zone capacity n bytes zs e in
+    record { count = told.count; each = λ k h. row_fits capacity (part bytes k) (get_or zs k no_counted_zone) some (told.each k h) }
 
 pub rows_fit : {X : Type 0} (view : X → List CountedZone) (s : Shape) (result : Result X LoadFault) (bytes : List ℕ) → IsShape s
     → LoadGives (Unit {0}) view result (zones_in 0 s.capacity s.zones bytes) → IfOk result (λ x. AreZones s (view x))

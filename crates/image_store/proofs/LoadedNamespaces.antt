@@ -1,16 +1,14 @@
 -- What is read as a namespace is one that an image can have.
-use Rattle.std.proofs.Common.{◌≡◌, ℕ, ◌*◌, ◌<◌, ◌≤◌, zero, suc, List, [], ◌∷◌, length, get_or, map, drop, Ok, ap, sym, subst, ◌∙◌, arith, length-take, length-drop}
+use Rattle.std.proofs.Common.{◌≡◌, ℕ, ◌*◌, ◌<◌, zero, suc, List, [], ◌∷◌, length, get_or, map, Ok, ap, sym, subst, ◌∙◌, arith}
 use Rattle.std.proofs.lemmas.Bool.{leb-true, and_parts}
 use Rattle.std.proofs.lemmas.List.{length-map}
-use Rattle.std.proofs.Math.Nat.{mul-le-mul_right, suc-mul}
 use Rattle.std.specs.Prelude.{nat_le, ◌&&◌}
 use Rattle.zone_state.specs.Zone.{CountedZone, IsZone}
 use Rattle.zone_resources.specs.Admission.{IsWithin}
 use Rattle.zone_resources.specs.Counts.{open_count, active_count}
 use Rattle.zone_resources.specs.declared.admission.Limits.{Limits}
 use Rattle.image_store.specs.declared.fault.LoadFault.TheVariants as fault
-use Rattle.program_interface.specs.Bytes.{AreBytes}
-use Rattle.image_store.specs.Blocks.{blocks_of}
+use Rattle.program_interface.specs.Bytes.{AreBytes, pieces}
 use Rattle.image_store.specs.ImageInMemory.{no_counted_zone, zone_seen}
 use Rattle.image_store.specs.Geometry.{Shape, IsShape}
 use Rattle.image_store.specs.Laws.{LoadedTextsAreNamespaces}
@@ -19,12 +17,13 @@ use Rattle.program_interface.specs.Readings.{◌>>=◌}
 use Rattle.image_store.specs.Reading.{bytes_in, zone_rows_in, zones_in, limits_kept, blocks_in}
 use Rattle.image_store.proofs.TextsReadBack.{at-counted}
 use Rattle.image_store.proofs.ReadingCalls.{bind_ok, ok_is, chosen}
-use Rattle.image_store.proofs.ByteParts.{front_fit, rest_fit, blocks_fit}
+use Rattle.program_interface.proofs.Proved.{front_fit, rest_fit}
+use Rattle.image_store.proofs.ByteParts.{blocks_fit}
 use Rattle.image_store.proofs.FilledBuffers.{bytes_parts, bytes_size}
 use Rattle.image_store.proofs.LoadStages.{zones_fit}
 use Rattle.image_store.proofs.OnlyTextsLoad.{text_parts}
 use Rattle.image_store.proofs.BlocksOfBytes.{length-blocks}
-use Rattle.image_store.proofs.SoundImages.{block-at}
+use Rattle.image_store.proofs.SoundImages.{block_whole}
 
 -- zones of whole blocks
 record AreWhole (block : ℕ) (zones : List ZoneBlocks) : Type 0 where
@@ -44,14 +43,6 @@ first_bytes : (b : ℕ) (zone : ZoneBlocks) (zones : List ZoneBlocks)
 first_bytes b zone zones bytes more zero i = bytes i
 first_bytes b zone zones bytes more (suc z) i = more.bytes z i
 
--- blocks that are cut from enough bytes
-cut_whole : (b n : ℕ) (xs : List ℕ) → length xs ≡ n * b → (i : ℕ) → i < length (blocks_of b n xs) → length (get_or (blocks_of b n xs) i []) ≡ b
-cut_whole b n xs size i h =
-    let there : i < n = omega (arith, length-blocks b n xs) in
-    let below : suc i ≤ n = omega arith in
-    let product : suc i * b ≤ n * b = mul-le-mul_right b below in
-    ap length (block-at b n i xs there) ∙ omega (arith, suc-mul i b, length-take b (drop (i * b) xs), length-drop (i * b) xs)
-
 blocks_whole : (b : ℕ) (zs : List CountedZone) (xs : List ℕ) (got : List ZoneBlocks × List ℕ) → AreBytes xs → blocks_in b zs xs ≡ Ok got → AreWhole b got.0
 blocks_whole b [] xs got fit e =
     subst (λ (x : List ZoneBlocks × List ℕ). AreWhole b x.0) (ok_is ([], xs) got e)
@@ -64,11 +55,11 @@ blocks_whole b (z ∷ zs) xs got fit e =
     let more = blocks_whole b zs a.0.1 c.0 (rest_fit a.0.0 a.0.1 all) c.1 in
     let first = zone_seen b z a.0.0 in
     subst (λ (x : List ZoneBlocks × List ℕ). AreWhole b x.0) (ok_is (first ∷ c.0.0, c.0.1) got c.2) (record {
-      whole = first_whole b first c.0.0 (cut_whole b z.written a.0.0 size) more;
+      whole = first_whole b first c.0.0 (λ i (h : i < length (pieces b z.written a.0.0)). block_whole b z.written i a.0.0 (omega (arith, length-blocks b z.written a.0.0)) (omega arith)) more;
       bytes = first_bytes b first c.0.0 (blocks_fit b z.written a.0.0 (front_fit a.0.0 a.0.1 all)) more;
     })
 
-kept_within : (limits : Limits) (zs : List CountedZone) (done : Unit {0}) → limits_kept limits zs ≡ Ok done → IsWithin zs limits
+pub kept_within : (limits : Limits) (zs : List CountedZone) (done : Unit {0}) → limits_kept limits zs ≡ Ok done → IsWithin zs limits
 kept_within limits zs done e =
     let test = (chosen (nat_le (open_count zs) limits.open_limit && nat_le (active_count zs) limits.active_limit) tt done (fault.Limits (open_count zs) (active_count zs) limits) e).0 in
     let p = and_parts (nat_le (open_count zs) limits.open_limit) (nat_le (active_count zs) limits.active_limit) test in

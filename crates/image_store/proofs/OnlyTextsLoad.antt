@@ -1,19 +1,17 @@
 -- What is read as a namespace is a text of that namespace.
-use Rattle.std.proofs.Common.{◌≡◌, ℕ, ◌+◌, ◌*◌, ◌<◌, ◌≤◌, zero, suc, Bool, true, false, cond, List, [], ◌∷◌, ◌++◌, length, get_or, map, take, drop, Option, Some, None, Ok, refl, ap, sym, subst, ◌∙◌, append_assoc, arith, length-drop}
-use Rattle.std.proofs.lemmas.Option.{same_Some}
+use Rattle.std.proofs.Common.{◌≡◌, ℕ, ◌+◌, ◌*◌, ◌<◌, ◌≤◌, zero, suc, List, [], ◌∷◌, ◌++◌, length, get_or, map, take, drop, Option, Ok, refl, ap, sym, subst, ◌∙◌, append_assoc, arith, length-drop}
 use Rattle.std.proofs.lemmas.Bool.{eqb-true}
 use Rattle.std.proofs.lemmas.List.{append-nil, drop_all, length-map, length-take-le, nil_from_length, take_all, take-append-drop}
 use Rattle.std.proofs.Math.Nat.{suc-mul}
-use Rattle.std.specs.List.{find}
-use Rattle.std.specs.Prelude.{◌==◌}
+use Rattle.std.specs.List.{concat}
+use Rattle.std.specs.Prelude.{◌==◌, IfSome}
 use Rattle.zone_state.specs.declared.state.ZoneState.{ZoneState}
-use Rattle.zone_state.specs.State.{code_of, state_of, states}
-use Rattle.zone_state.specs.Zone.{CountedZone, fits_state}
-use Rattle.byteorder.specs.Endian.{little_number}
+use Rattle.zone_state.specs.State.{code_of}
+use Rattle.zone_state.specs.Zone.{CountedZone}
+use Rattle.zone_state.proofs.Proved.{codes_are_distinct}
+use Rattle.byteorder.specs.Endian.{little_bytes, little_number}
 use Rattle.image_store.specs.declared.fault.LoadFault.TheVariants as fault
-use Rattle.image_store.specs.declared.fault.ZoneRowFault.TheVariants as row_fault
-use Rattle.program_interface.specs.Bytes.{AreBytes}
-use Rattle.image_store.specs.Blocks.{blocks_of, bytes_of}
+use Rattle.program_interface.specs.Bytes.{AreBytes, pieces}
 use Rattle.image_store.specs.ImageInMemory.{no_counted_zone, zone_seen}
 use Rattle.image_store.specs.declared.header.Header.{Header}
 use Rattle.image_store.specs.declared.version.Version.{Version}
@@ -21,11 +19,11 @@ use Rattle.image_store.specs.declared.version.Version.TheVariants.{One, Two}
 use Rattle.image_store.specs.Geometry.{Shape, IsShape}
 use Rattle.image_store.specs.Namespace.{ZoneBlocks, ZonedNamespace, counted, shape, namespace_with}
 use Rattle.program_interface.specs.Readings.{◌>>=◌}
-use Rattle.image_store.specs.Reading.{are_zeros, total_told, header_told, header_in, total_kept, zone_told, zone_in, zones_in, zone_rows_in, limits_kept, blocks_in, end_in, namespace_in, bytes_in}
-use Rattle.image_store.specs.Text.{four_bytes, header, written_blocks, zone_row, zone_rows, blocks_text, text_of}
+use Rattle.image_store.specs.Reading.{total_told, header_told, header_in, total_kept, zone_in, zones_in, zone_rows_in, limits_kept, blocks_in, end_in, namespace_in, bytes_in}
+use Rattle.image_store.specs.Text.{header, written_blocks, zone_row, zone_rows, blocks_text, text_of}
 use Rattle.image_store.specs.Version.{HasText}
-use Rattle.image_store.proofs.ReadingCalls.{bind_ok, ok_is, chosen, passed}
-use Rattle.image_store.proofs.ByteParts.{front_fit, rest_fit}
+use Rattle.image_store.proofs.ReadingCalls.{bind_ok, ok_is, chosen}
+use Rattle.program_interface.proofs.Proved.{front_fit, rest_fit}
 use Rattle.image_store.proofs.FilledBuffers.{bytes_parts, bytes_size}
 use Rattle.image_store.proofs.HeaderParts.{header_parts}
 use Rattle.image_store.proofs.Headers.{total_in}
@@ -33,6 +31,7 @@ use Rattle.image_store.proofs.ImageFields.{counted_seen}
 use Rattle.image_store.proofs.LoadStages.{after_header, after_rows, after_total, after_limits, after_blocks}
 use Rattle.image_store.proofs.BlocksOfBytes.{bytes-blocks}
 use Rattle.image_store.proofs.SpelledParts.{four_bytes_spelled, zeros_spelled, header_spelled, total_or_none}
+use Rattle.image_store.proofs.ToldRows.{row_right}
 
 -- a header that is read stands in front
 pub record IsHeaded (bytes : List ℕ) (told : Header) (rest : List ℕ) : Type 0 where
@@ -74,21 +73,6 @@ header_counted One s total zs done e = refl
 header_counted Two s total zs done e =
     ap (header Two s) (eqb-true total (written_blocks zs) (chosen (total == written_blocks zs) tt done (fault.Total total (written_blocks zs)) e).0)
 
--- a state that is found has the code
-found : (xs : List ZoneState) (n : ℕ) (s : ZoneState) → find (λ x. code_of x == n) xs ≡ Some s → code_of s ≡ n
-found [] n s e = absurd cc
-found (x ∷ xs) n s e =
-    let P : Bool → Type 0 = λ test. (code_of x == n) ≡ test → cond test (Some x) (find (λ y. code_of y == n) xs) ≡ Some s → code_of s ≡ n in
-    elim (code_of x == n) as P [ true ↦ λ here same. ap code_of (sym (same_Some x s same)) ∙ eqb-true (code_of x) n here | false ↦ λ here later. found xs n s later ] refl e
-
-zone_told_only : (zone code : ℕ) (told : Option ZoneState) (written capacity : ℕ) (z : CountedZone) → zone_told zone code told written capacity ≡ Ok z
-    → (told ≡ Some z.state) × (z.written ≡ written) × (z.capacity ≡ capacity)
-zone_told_only zone code None written capacity z e = absurd cc
-zone_told_only zone code (Some state) written capacity z e =
-    let made : CountedZone = record { state = state; written = written; capacity = capacity } in
-    let same = (chosen (fits_state state written capacity) made z (fault.ZoneRow zone (row_fault.Blocks state written capacity)) e).1 in
-    (ap (λ (x : CountedZone). Some x.state) same, sym (ap (λ (x : CountedZone). x.written) same), sym (ap (λ (x : CountedZone). x.capacity) same))
-
 -- a row that is read is spelled so
 row_only : (zone capacity : ℕ) (xs : List ℕ) (z : CountedZone) → length xs ≡ 8 → AreBytes xs → zone_in zone capacity xs ≡ Ok z → (zone_row z ≡ xs) × (z.capacity ≡ capacity)
 row_only zone capacity [] z size fit e = absurd (omega arith)
@@ -97,18 +81,18 @@ row_only zone capacity (a ∷ p ∷ []) z size fit e = absurd (omega arith)
 row_only zone capacity (a ∷ p ∷ q ∷ []) z size fit e = absurd (omega arith)
 row_only zone capacity (a ∷ p ∷ q ∷ r ∷ xs) z size fit e =
     let few : length xs ≡ 4 = omega arith in
-    let tests = passed (are_zeros (p ∷ q ∷ r ∷ [])) (zone_told zone a (state_of a) (little_number 4 xs) capacity) z (fault.ZoneRow zone row_fault.Reserved) e in
-    let told = zone_told_only zone a (state_of a) (little_number 4 xs) capacity z tests.1 in
-    let zeros = zeros_spelled (p ∷ q ∷ r ∷ []) tests.0 in
+    let told = row_right zone capacity (a ∷ p ∷ q ∷ r ∷ xs) z e in
+    let code = subst (λ (state : Option ZoneState). IfSome state (λ s. code_of s ≡ a)) told.state (codes_are_distinct.back a) in
+    let zeros = zeros_spelled (p ∷ q ∷ r ∷ []) told.zeros in
     let none : drop 4 xs ≡ [] = drop_all 4 xs (omega arith) in
-    let spelled : four_bytes (little_number 4 xs) ≡ xs =
-    sym (append-nil (four_bytes (little_number 4 xs))) ∙ (ap (λ (rest : List ℕ). four_bytes (little_number 4 xs) ++ rest) (sym none)
+    let spelled : little_bytes 4 (little_number 4 xs) ≡ xs =
+    sym (append-nil (little_bytes 4 (little_number 4 xs))) ∙ (ap (λ (rest : List ℕ). little_bytes 4 (little_number 4 xs) ++ rest) (sym none)
     ∙ four_bytes_spelled xs (omega arith) (rest_fit (a ∷ p ∷ q ∷ r ∷ []) xs fit)) in (
-      ap (λ (code : ℕ). code ∷ 0 ∷ 0 ∷ 0 ∷ four_bytes z.written) (found states a z.state told.0)
-          ∙ (ap (λ (n : ℕ). a ∷ 0 ∷ 0 ∷ 0 ∷ four_bytes n) told.1
+      ap (λ (first : ℕ). first ∷ 0 ∷ 0 ∷ 0 ∷ little_bytes 4 z.written) code
+          ∙ (ap (λ (n : ℕ). a ∷ 0 ∷ 0 ∷ 0 ∷ little_bytes 4 n) (sym told.written)
           ∙ (ap (λ (rest : List ℕ). a ∷ 0 ∷ 0 ∷ 0 ∷ rest) spelled
           ∙ ap (λ (front : List ℕ). a ∷ (front ++ xs)) zeros)),
-      told.2,
+      sym told.most,
     )
 
 -- rows that are read are spelled so, and there are as many as were wanted
@@ -155,10 +139,10 @@ blocks_only b capacity (z ∷ zs) xs got same e =
     let a = bind_ok (bytes_in (z.written * b) xs) (λ front. blocks_in b zs front.1 >>= λ rest. Ok (zone_seen b z front.0 ∷ rest.0, rest.1)) got e in
     let c = bind_ok (blocks_in b zs a.0.1) (λ rest. Ok (zone_seen b z a.0.0 ∷ rest.0, rest.1)) got a.2 in
     let size = bytes_size (z.written * b) xs a.0 a.1 in
-    let front : bytes_of (blocks_of b z.written a.0.0) ≡ a.0.0 = bytes-blocks b z.written a.0.0 ∙ take_all (z.written * b) a.0.0 (omega arith) in
+    let front : concat (pieces b z.written a.0.0) ≡ a.0.0 = bytes-blocks b z.written a.0.0 ∙ take_all (z.written * b) a.0.0 (omega arith) in
     let rest = blocks_only b capacity zs a.0.1 c.0 (λ k h. same (suc k) (omega arith)) c.1 in
     subst (AreWritten capacity (z ∷ zs) xs) (ok_is (zone_seen b z a.0.0 ∷ c.0.0, c.0.1) got c.2) (record {
-      spelled = append_assoc (bytes_of (blocks_of b z.written a.0.0)) (blocks_text c.0.0) c.0.1
+      spelled = append_assoc (concat (pieces b z.written a.0.0)) (blocks_text c.0.0) c.0.1
           ∙ (ap (λ (first : List ℕ). first ++ (blocks_text c.0.0 ++ c.0.1)) front
           ∙ (ap (λ (more : List ℕ). a.0.0 ++ more) rest.spelled ∙ bytes_parts (z.written * b) xs a.0 a.1));
       counted = ap (λ (first : CountedZone). first ∷ map (counted capacity) c.0.0) (counted_seen b capacity z a.0.0 (same 0 (omega arith))) ∙ ap (λ (more : List CountedZone). z ∷ more) rest.counted;

@@ -31,17 +31,21 @@ bind_ok (Err first) next y e = absurd cc
 pub ok_is : {X : Type 0} (x y : X) → (let r : Result X LoadFault = Ok x in r) ≡ Ok y → x ≡ y
 ok_is x y e = cc
 
--- what fails has failed in the first part or in the next
-pub bind_err : {X Y : Type 0} (P : LoadFault → Type 0) (read : Result X LoadFault) (next : X → Result Y LoadFault) (fault : LoadFault) → (read >>= next) ≡ Err fault
-    → ((first : LoadFault) → read ≡ Err first → P first) → ((x : X) → next x ≡ Err fault → P fault) → P fault
-bind_err P (Ok x) next fault e first later = later x e
-bind_err {Y = Y} P (Err found) next fault e first later = let same : (let r : Result Y LoadFault = Err found in r) ≡ Err fault = e in let is : found ≡ fault = cc in subst P is (first found refl)
+pub is_this : {X : Type 0} (x fault : LoadFault) → (let r : Result X LoadFault = Err x in r) ≡ Err fault → x ≡ fault
+is_this x fault e = cc
+
+-- what fails has failed in the first part, or in the next behind what the first gave
+pub bind_fails : {X Y : Type 0} (P : LoadFault → Type 0) (read : Result X LoadFault) (next : X → Result Y LoadFault) (fault : LoadFault) → (read >>= next) ≡ Err fault
+    → ((first : LoadFault) → read ≡ Err first → P first) → ((x : X) → read ≡ Ok x → next x ≡ Err fault → P fault) → P fault
+bind_fails P (Ok x) next fault e first later = later x refl e
+bind_fails {Y = Y} P (Err found) next fault e first later = subst P (is_this {X = Y} found fault e) (first found refl)
 
 -- what is only where a test holds
 pub chosen : {X : Type 0} (test : Bool) (x y : X) (first : LoadFault) → cond test (Ok x) (Err first) ≡ Ok y → (test ≡ true) × (x ≡ y)
 chosen true x y first e = (refl, cc)
 chosen false x y first e = absurd cc
 
-pub passed : {X : Type 0} (test : Bool) (r : Result X LoadFault) (y : X) (first : LoadFault) → cond test r (Err first) ≡ Ok y → (test ≡ true) × (r ≡ Ok y)
-passed true r y first e = (refl, e)
-passed false r y first e = absurd cc
+-- and what comes of it where the test doesn't hold
+pub wrong : {X : Type 0} (test : Bool) (x : X) (first fault : LoadFault) → cond test (Ok x) (Err first) ≡ Err fault → (test ≡ false) × (first ≡ fault)
+wrong true x first fault e = absurd cc
+wrong {X} false x first fault e = (refl, is_this {X = X} first fault e)

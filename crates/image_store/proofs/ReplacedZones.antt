@@ -7,24 +7,24 @@ use Rattle.zone_state.specs.declared.state.ZoneState.{ZoneState}
 use Rattle.zone_state.specs.declared.state.ZoneState.TheVariants.{Empty, ImplicitlyOpened, ExplicitlyOpened, Closed, ReadOnly, Full, Offline}
 use Rattle.zone_state.specs.State.{is_cleared}
 use Rattle.zone_state.specs.Zone.{CountedZone, IsZone, kept, write_check, after_write, written_state}
-use Rattle.image_store.specs.Blocks.{block_count, blocks_of}
+use Rattle.zone_state.proofs.Proved.{is_allowed}
+use Rattle.image_store.specs.Blocks.{block_count}
 use Rattle.image_store.specs.ImageInMemory.{zone_seen, no_counted_zone, namespace_of, IsFlat}
-use Rattle.program_interface.specs.Bytes.{spliced}
+use Rattle.program_interface.specs.Bytes.{pieces, spliced}
 use Rattle.image_store.specs.Geometry.{Shape}
-use Rattle.image_store.specs.Namespace.{ZoneBlocks, ZonedNamespace, zone_at, with_zone, arrived, with_state}
+use Rattle.image_store.specs.Namespace.{ZoneBlocks, ZonedNamespace, zone_at, with_zone, arrived, with_state, namespace_with}
 use Rattle.image_store.proofs.BlocksOfBytes.{length-blocks, length-spliced}
 use Rattle.image_store.proofs.ZonesInMemory.{zone-at, zones-set}
-use Rattle.image_store.proofs.ImageFields.{allowed_fits, write_fits}
+use Rattle.image_store.proofs.ImageFields.{write_fits}
 
 pub zone_set : (s : Shape) (zs : List CountedZone) (xs : List ℕ) (z : ℕ) (r : CountedZone)
     → namespace_of s (set zs z r) xs ≡ with_zone (namespace_of s zs xs) z (zone_seen s.block r (drop (z * (s.capacity * s.block)) xs))
 zone_set s zs xs z r =
-    ap (λ (all : List ZoneBlocks). let ns : ZonedNamespace = record { block = s.block; size = s.size; capacity = s.capacity; limits = s.limits; zones = all } in ns)
-    (zones-set s.block s.capacity zs xs z r)
+    ap (namespace_with s) (zones-set s.block s.capacity zs xs z r)
 
 -- the blocks of a counted zone that keeps all or none
 kept_seen : (cleared : Bool) (block written : ℕ) (bytes : List ℕ)
-    → blocks_of block (if cleared then 0 else written) bytes ≡ (if cleared then [] else blocks_of block written bytes)
+    → pieces block (if cleared then 0 else written) bytes ≡ (if cleared then [] else pieces block written bytes)
 kept_seen true block written bytes = refl
 kept_seen false block written bytes = refl
 
@@ -53,15 +53,16 @@ written_zone Offline written capacity false some fits other = let apart = eqb-fa
 
 pub after_write_zone : (z : CountedZone) (n : ℕ) → 1 ≤ n → write_check z z.written n ≡ Ok tt → IsZone (after_write z n).state (after_write z n).written z.capacity
 after_write_zone z n some allowed =
-    written_zone z.state (z.written + n) z.capacity (nat_eq (z.written + n) z.capacity) (omega arith) (allowed_fits z z.written n allowed) refl
+    written_zone z.state (z.written + n) z.capacity (nat_eq (z.written + n) z.capacity) (omega arith) (is_allowed z z.written n allowed).has_room refl
 
-each_set : (P : CountedZone → Type 0) (zs : List CountedZone) (z : ℕ) (r : CountedZone)
-    → ((y : ℕ) → y < length zs → P (get_or zs y no_counted_zone)) → P r → (y : ℕ) → y < length (set zs z r) → P (get_or (set zs z r) y no_counted_zone)
-each_set P [] z r all here y h = absurd (omega arith)
-each_set P (x ∷ zs) zero r all here zero h = here
-each_set P (x ∷ zs) zero r all here (suc y) h = all (suc y) h
-each_set P (x ∷ zs) (suc z) r all here zero h = all 0 (omega arith)
-each_set P (x ∷ zs) (suc z) r all here (suc y) h = each_set P zs z r (λ k in_list. all (suc k) (omega arith)) here y (omega arith)
+-- what holds of each of a list holds of each where one that it holds of is put in a place
+pub each_set : {X : Type 0} (none : X) (P : X → Type 0) (xs : List X) (z : ℕ) (x : X)
+    → ((y : ℕ) → y < length xs → P (get_or xs y none)) → P x → (y : ℕ) → y < length (set xs z x) → P (get_or (set xs z x) y none)
+each_set none P [] z new all here y h = absurd (omega arith)
+each_set none P (x ∷ xs) zero new all here zero h = here
+each_set none P (x ∷ xs) zero new all here (suc y) h = all (suc y) h
+each_set none P (x ∷ xs) (suc z) new all here zero h = all 0 (omega arith)
+each_set none P (x ∷ xs) (suc z) new all here (suc y) h = each_set none P xs z new (λ k in_list. all (suc k) (omega arith)) here y (omega arith)
 
 -- an allowed counted zone in one place, over bytes of the same number
 pub flat_set : (s : Shape) (zs : List CountedZone) (xs ys : List ℕ) (z : ℕ) (r : CountedZone)
@@ -70,8 +71,8 @@ flat_set s zs xs ys z r flat size same fits = record {
   shape = flat.shape;
   count = length-set zs z r ∙ flat.count;
   room = size ∙ flat.room;
-  capacities = each_set (λ (x : CountedZone). x.capacity ≡ s.capacity) zs z r flat.capacities same;
-  fits = each_set (λ (x : CountedZone). IsZone x.state x.written s.capacity) zs z r flat.fits fits;
+  capacities = each_set no_counted_zone (λ (x : CountedZone). x.capacity ≡ s.capacity) zs z r flat.capacities same;
+  fits = each_set no_counted_zone (λ (x : CountedZone). IsZone x.state x.written s.capacity) zs z r flat.fits fits;
 }
 
 -- a write that is allowed leaves an allowed counted zone

@@ -1,5 +1,5 @@
 -- The tests of a geometry, and what holds of each that is accepted.
-use Rattle.std.proofs.Common.{◌≡◌, ℕ, ◌*◌, ◌≤◌, Bool, true, false, [], ◌∷◌, Option, Some, None, Ok, refl, arith, lit≤}
+use Rattle.std.proofs.Common.{◌≡◌, ℕ, ◌*◌, ◌≤◌, true, Ok, refl, arith, lit≤}
 use Rattle.std.proofs.lemmas.Bool.{le-leb, leb-true, and_parts}
 use Rattle.std.proofs.lemmas.Bool.Decides.{nat_tests}
 use Rattle.std.proofs.Math.Nat.{mul_assoc, mul-le-mul_right}
@@ -8,7 +8,8 @@ use Rattle.program_interface.specs.BlockSize.{is_block_size, IsBlockSize}
 use Rattle.program_interface.specs.declared.block_size.TheConstants.{LARGEST_BLOCK}
 use Rattle.image_store.specs.declared.geometry.GeometryRefusal.TheVariants.{BlockSize, ZoneCount, ZoneSize, ZoneCapacity, ResourceLimits, TooLarge}
 use Rattle.image_store.specs.declared.geometry.TheConstants.{MOST_BYTES, MOST_ZONES, MOST_ZONE_BLOCKS}
-use Rattle.zone_state.specs.Checks.{demand, or_else, first_failed, unless_failed}
+use Rattle.zone_state.specs.Checks.{first_failed}
+use Rattle.zone_state.proofs.Proved.{demanded, none_failed, passed}
 use Rattle.image_store.specs.declared.version.Version.TheVariants.{One, Two}
 use Rattle.image_store.specs.Laws.{VersionsAreKnown}
 use Rattle.image_store.specs.Version.{has_block}
@@ -45,50 +46,33 @@ shape_passes s known =
     let room : s.zones * s.capacity * s.block ≤ MOST_BYTES = let e = mul_assoc s.zones s.capacity s.block in let most = known.room in omega arith in
     rw (known.block_size, zones, size, capacity, limits, le-leb (s.zones * s.capacity * s.block) MOST_BYTES room) refl
 
--- a check that passes, and those behind it
-pub both : {F : Type 0} (test : Bool) (first : F) (rest : Option F) → or_else (demand test first) rest ≡ None → (test ≡ true) × (rest ≡ None)
-both true first rest e = (refl, e)
-both false first rest e = absurd cc
-
-pub none_fails : {X F : Type 0} (check : Option F) (x y : X) → unless_failed check x ≡ Ok y → check ≡ None
-none_fails None x y e = refl
-none_fails (Some first) x y e = absurd cc
-
 in_range : (n most : ℕ) → is_counted n most ≡ true → (1 ≤ n) × (n ≤ most)
 in_range n most e = let p = and_parts (nat_le 1 n) (nat_le n most) e in (leb-true 1 n p.0, leb-true n most p.1)
 
 pub shape_is : (s t : Shape) → tested s ≡ Ok t → IsShape s
 shape_is s t e =
-    let room = nat_le (s.zones * s.capacity * s.block) MOST_BYTES in
-    let last = demand room (TooLarge s.zones s.capacity s.block) ∷ [] in
-    let limits = demand (are_limits s.limits s.zones) (ResourceLimits s.limits.open_limit s.limits.active_limit s.zones) ∷ last in
-    let capacity = demand (is_counted s.capacity s.size) (ZoneCapacity s.capacity s.size) ∷ limits in
-    let size = demand (is_counted s.size MOST_ZONE_BLOCKS) (ZoneSize s.size) ∷ capacity in
-    let zones = demand (is_counted s.zones MOST_ZONES) (ZoneCount s.zones) ∷ size in
-    let a = both (is_block_size s.block) (BlockSize s.block) (first_failed zones) (none_fails (first_failed (shape_checks s)) s t e) in
-    let b = both (is_counted s.zones MOST_ZONES) (ZoneCount s.zones) (first_failed size) a.1 in
-    let c = both (is_counted s.size MOST_ZONE_BLOCKS) (ZoneSize s.size) (first_failed capacity) b.1 in
-    let d = both (is_counted s.capacity s.size) (ZoneCapacity s.capacity s.size) (first_failed limits) c.1 in
-    let f = both (are_limits s.limits s.zones) (ResourceLimits s.limits.open_limit s.limits.active_limit s.zones) (first_failed last) d.1 in
-    let g = both room (TooLarge s.zones s.capacity s.block) None f.1 in
-    let many = in_range s.zones MOST_ZONES b.0 in
-    let long = in_range s.size MOST_ZONE_BLOCKS c.0 in
-    let some = in_range s.capacity s.size d.0 in
-    let both_limits = and_parts (is_counted s.limits.open_limit s.limits.active_limit) (nat_le s.limits.active_limit s.zones) f.0 in
-    let opened = in_range s.limits.open_limit s.limits.active_limit both_limits.0 in
-    let all : s.zones * (s.capacity * s.block) ≤ MOST_BYTES = let most = leb-true (s.zones * s.capacity * s.block) MOST_BYTES g.0 in omega (arith, mul_assoc s.zones s.capacity s.block) in
+    let checks = shape_checks s in
+    let none = none_failed (first_failed checks) s t e in
+    let zones = in_range s.zones MOST_ZONES (demanded (is_counted s.zones MOST_ZONES) (ZoneCount s.zones) (passed checks 1 none)) in
+    let size = in_range s.size MOST_ZONE_BLOCKS (demanded (is_counted s.size MOST_ZONE_BLOCKS) (ZoneSize s.size) (passed checks 2 none)) in
+    let capacity = in_range s.capacity s.size (demanded (is_counted s.capacity s.size) (ZoneCapacity s.capacity s.size) (passed checks 3 none)) in
+    let limits = and_parts (is_counted s.limits.open_limit s.limits.active_limit) (nat_le s.limits.active_limit s.zones)
+    (demanded (are_limits s.limits s.zones) (ResourceLimits s.limits.open_limit s.limits.active_limit s.zones) (passed checks 4 none)) in
+    let opened = in_range s.limits.open_limit s.limits.active_limit limits.0 in
+    let most = leb-true (s.zones * s.capacity * s.block) MOST_BYTES
+    (demanded (nat_le (s.zones * s.capacity * s.block) MOST_BYTES) (TooLarge s.zones s.capacity s.block) (passed checks 5 none)) in
     record {
-      block_size = a.0;
-      zones_some = many.0;
-      zones_most = many.1;
-      size_some = long.0;
-      size_most = long.1;
-      capacity_some = some.0;
-      capacity_most = some.1;
+      block_size = demanded (is_block_size s.block) (BlockSize s.block) (passed checks 0 none);
+      zones_some = zones.0;
+      zones_most = zones.1;
+      size_some = size.0;
+      size_most = size.1;
+      capacity_some = capacity.0;
+      capacity_most = capacity.1;
       open_some = opened.0;
       open_most = opened.1;
-      active_most = leb-true s.limits.active_limit s.zones both_limits.1;
-      room = all;
+      active_most = leb-true s.limits.active_limit s.zones limits.1;
+      room = omega (arith, mul_assoc s.zones s.capacity s.block);
     }
 
 old_block : (bytes : ℕ) → has_block One bytes ≡ true → IsBlockSize bytes

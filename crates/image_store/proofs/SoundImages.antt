@@ -4,7 +4,7 @@ use Rattle.std.proofs.lemmas.List.{drop-drop}
 use Rattle.std.proofs.Math.Nat.{suc-mul, mul-le-mul_right}
 use Rattle.zone_state.specs.Zone.{CountedZone, IsZone}
 use Rattle.zone_resources.specs.declared.counts.Counts.{Counts}
-use Rattle.image_store.specs.Blocks.{blocks_of}
+use Rattle.program_interface.specs.Bytes.{pieces}
 use Rattle.image_store.specs.ImageInMemory.{no_counted_zone, namespace_of, IsFlat, IsImage}
 use Rattle.image_store.specs.Geometry.{Shape, IsShape}
 use Rattle.image_store.specs.Namespace.{ZoneBlocks, ZonedNamespace, no_zone, zone_at, IsNamespace}
@@ -14,12 +14,20 @@ use Rattle.image_store.proofs.BlocksOfBytes.{length-blocks}
 use Rattle.image_store.proofs.ZonesInMemory.{length-zones, zone-at}
 use Rattle.image_store.proofs.ImageFields.{room_end, within, shape_seen}
 
-pub block-at : (b n i : ℕ) (xs : List ℕ) → i < n → get_or (blocks_of b n xs) i [] ≡ take b (drop (i * b) xs)
+-- a block is the part of the bytes at its place,
+pub block-at : (b n i : ℕ) (xs : List ℕ) → i < n → get_or (pieces b n xs) i [] ≡ take b (drop (i * b) xs)
 block-at b zero i xs h = absurd (omega arith)
 block-at b (suc n) zero xs h = let start : zero * b ≡ 0 = omega arith in ap (λ (m : ℕ). take b (drop m xs)) (sym start)
 block-at b (suc n) (suc i) xs h =
     block-at b n i (drop b xs) (omega arith)
     ∙ ap (take b) (drop-drop (i * b) b xs ∙ ap (λ (m : ℕ). drop m xs) (omega (arith, suc-mul i b)))
+
+-- and is whole, where there are bytes for all of them
+pub block_whole : (b n i : ℕ) (xs : List ℕ) → i < n → n * b ≤ length xs → length (get_or (pieces b n xs) i []) ≡ b
+block_whole b n i xs h long =
+    let below : suc i ≤ n = omega arith in
+    let product : suc i * b ≤ n * b = mul-le-mul_right b below in
+    ap length (block-at b n i xs h) ∙ omega (arith, suc-mul i b, length-take b (drop (i * b) xs), length-drop (i * b) xs)
 
 -- a zone with blocks is one of the zones
 pub zone_with_blocks : (zones : List ZoneBlocks) (z i : ℕ) → i < length (get_or zones z no_zone).blocks → z < length zones
@@ -27,17 +35,15 @@ zone_with_blocks [] z i h = absurd (omega arith)
 zone_with_blocks (zone ∷ zones) zero i h = omega arith
 zone_with_blocks (zone ∷ zones) (suc z) i h = let rest = zone_with_blocks zones z i h in omega arith
 
-block_whole : (s : Shape) (zs : List CountedZone) (xs : List ℕ) (z i : ℕ) → IsFlat s zs xs → z < length zs → i < (get_or zs z no_counted_zone).written
+zone_block_whole : (s : Shape) (zs : List CountedZone) (xs : List ℕ) (z i : ℕ) → IsFlat s zs xs → z < length zs → i < (get_or zs z no_counted_zone).written
     → length (get_or (zone_at (namespace_of s zs xs) z).blocks i []) ≡ s.block
-block_whole s zs xs z i flat inside written =
-    let room = drop (z * (s.capacity * s.block)) xs in
+zone_block_whole s zs xs z i flat inside written =
+    let n = (get_or zs z no_counted_zone).written in
+    let start = z * (s.capacity * s.block) in
     let end = room_end s zs xs z flat inside in
-    let most = within s zs xs z flat inside in
-    let below : suc i ≤ s.capacity = omega arith in
-    let product : suc i * s.block ≤ s.capacity * s.block = mul-le-mul_right s.block below in
+    let product : n * s.block ≤ s.capacity * s.block = mul-le-mul_right s.block (within s zs xs z flat inside) in
     ap (λ (zone : ZoneBlocks). length (get_or zone.blocks i [])) (zone-at s.block s.capacity zs xs z inside)
-    ∙ (ap length (block-at s.block (get_or zs z no_counted_zone).written i room written)
-    ∙ omega (arith, suc-mul i s.block, length-take s.block (drop (i * s.block) room), length-drop (i * s.block) room, length-drop (z * (s.capacity * s.block)) xs))
+    ∙ block_whole s.block n i (drop start xs) written (omega (arith, length-drop start xs))
 
 pub image_sound : (s : Shape) (zs : List CountedZone) (counts : Counts) (xs : List ℕ) → IsImage s zs counts xs → IsNamespace (namespace_of s zs xs)
 image_sound s zs counts xs image =
@@ -54,7 +60,7 @@ image_sound s zs counts xs image =
           let inside : z < length zs = omega (arith, length-zones s.block s.capacity zs xs) in
           let count = ap (λ (zone : ZoneBlocks). length zone.blocks) (zone-at s.block s.capacity zs xs z inside) in
           let written : i < (get_or zs z no_counted_zone).written = omega (arith, length-blocks s.block (get_or zs z no_counted_zone).written (drop (z * (s.capacity * s.block)) xs)) in
-          block_whole s zs xs z i flat inside written;
+          zone_block_whole s zs xs z i flat inside written;
       within = within_seen s zs xs flat image.within;
       bytes = zones_fit s.block s.capacity zs xs image.are_bytes;
     }

@@ -10,13 +10,13 @@ use Rattle.image_store.specs.declared.version.Version.{Version}
 use Rattle.image_store.specs.declared.version.Version.TheVariants.{One, Two}
 use Rattle.program_interface.specs.Bytes.{AreBytes, field}
 use Rattle.image_store.specs.Reading.{are_zeros, shape_told, total_told}
-use Rattle.image_store.specs.Text.{four_bytes, header_end, header}
+use Rattle.image_store.specs.Text.{header_end, header}
 use Rattle.image_store.specs.Version.{numbers_of_version}
-use Rattle.image_store.proofs.ByteParts.{bytes_from, front_fit}
+use Rattle.program_interface.proofs.Proved.{bytes_from, front_fit}
 use Rattle.image_store.proofs.HeaderParts.{begins}
 
 -- four bytes spell the number that they tell
-pub four_bytes_spelled : (xs : List ℕ) → 4 ≤ length xs → AreBytes xs → four_bytes (little_number 4 xs) ++ drop 4 xs ≡ xs
+pub four_bytes_spelled : (xs : List ℕ) → 4 ≤ length xs → AreBytes xs → little_bytes 4 (little_number 4 xs) ++ drop 4 xs ≡ xs
 four_bytes_spelled [] h fit = absurd (omega arith)
 four_bytes_spelled (a ∷ []) h fit = absurd (omega arith)
 four_bytes_spelled (a ∷ b ∷ []) h fit = absurd (omega arith)
@@ -26,9 +26,9 @@ four_bytes_spelled (a ∷ b ∷ c ∷ d ∷ xs) h fit =
     ap (λ (front : List ℕ). front ++ xs) (le_bytes_4 (a ∷ b ∷ c ∷ d ∷ []) (little_number 4 (a ∷ b ∷ c ∷ d ∷ xs)) refl (front_fit (a ∷ b ∷ c ∷ d ∷ []) xs fit) (omega arith))
 
 -- the number at a place, and what follows
-pub number_spelled : (xs : List ℕ) (at : ℕ) → at + 4 ≤ length xs → AreBytes xs → four_bytes (field xs at 4) ++ drop (at + 4) xs ≡ drop at xs
+pub number_spelled : (xs : List ℕ) (at : ℕ) → at + 4 ≤ length xs → AreBytes xs → little_bytes 4 (field xs at 4) ++ drop (at + 4) xs ≡ drop at xs
 number_spelled xs at h fit =
-    ap (λ (rest : List ℕ). four_bytes (field xs at 4) ++ rest) (sym (drop-drop 4 at xs))
+    ap (λ (rest : List ℕ). little_bytes 4 (field xs at 4) ++ rest) (sym (drop-drop 4 at xs))
     ∙ four_bytes_spelled (drop at xs) (omega (arith, length-drop at xs)) (bytes_from at xs fit)
 
 pub zeros_spelled : (xs : List ℕ) → are_zeros xs ≡ true → replicate (length xs) 0 ≡ xs
@@ -88,11 +88,11 @@ header_spelled version xs size fit magic zeros =
     let n4 = field xs 20 4 in
     let n5 = field xs 24 4 in
     let n6 = field xs 28 4 in
-    ap (λ (rest : List ℕ). front ++ (four_bytes n1 ++ (four_bytes n2 ++ (four_bytes n3 ++ (four_bytes n4 ++ (four_bytes n5 ++ (four_bytes n6 ++ rest))))))) (end_spelled version xs size fit zeros)
-    ∙ (ap (λ (rest : List ℕ). front ++ (four_bytes n1 ++ (four_bytes n2 ++ (four_bytes n3 ++ (four_bytes n4 ++ (four_bytes n5 ++ rest)))))) (number_spelled xs 28 (omega arith) fit)
-    ∙ (ap (λ (rest : List ℕ). front ++ (four_bytes n1 ++ (four_bytes n2 ++ (four_bytes n3 ++ (four_bytes n4 ++ rest))))) (number_spelled xs 24 (omega arith) fit)
-    ∙ (ap (λ (rest : List ℕ). front ++ (four_bytes n1 ++ (four_bytes n2 ++ (four_bytes n3 ++ rest)))) (number_spelled xs 20 (omega arith) fit)
-    ∙ (ap (λ (rest : List ℕ). front ++ (four_bytes n1 ++ (four_bytes n2 ++ rest))) (number_spelled xs 16 (omega arith) fit)
-    ∙ (ap (λ (rest : List ℕ). front ++ (four_bytes n1 ++ rest)) (number_spelled xs 12 (omega arith) fit)
+    ap (λ (rest : List ℕ). front ++ (little_bytes 4 n1 ++ (little_bytes 4 n2 ++ (little_bytes 4 n3 ++ (little_bytes 4 n4 ++ (little_bytes 4 n5 ++ (little_bytes 4 n6 ++ rest))))))) (end_spelled version xs size fit zeros)
+    ∙ (ap (λ (rest : List ℕ). front ++ (little_bytes 4 n1 ++ (little_bytes 4 n2 ++ (little_bytes 4 n3 ++ (little_bytes 4 n4 ++ (little_bytes 4 n5 ++ rest)))))) (number_spelled xs 28 (omega arith) fit)
+    ∙ (ap (λ (rest : List ℕ). front ++ (little_bytes 4 n1 ++ (little_bytes 4 n2 ++ (little_bytes 4 n3 ++ (little_bytes 4 n4 ++ rest))))) (number_spelled xs 24 (omega arith) fit)
+    ∙ (ap (λ (rest : List ℕ). front ++ (little_bytes 4 n1 ++ (little_bytes 4 n2 ++ (little_bytes 4 n3 ++ rest)))) (number_spelled xs 20 (omega arith) fit)
+    ∙ (ap (λ (rest : List ℕ). front ++ (little_bytes 4 n1 ++ (little_bytes 4 n2 ++ rest))) (number_spelled xs 16 (omega arith) fit)
+    ∙ (ap (λ (rest : List ℕ). front ++ (little_bytes 4 n1 ++ rest)) (number_spelled xs 12 (omega arith) fit)
     ∙ (ap (λ (rest : List ℕ). front ++ rest) (number_spelled xs 8 (omega arith) fit)
     ∙ magic_spelled version xs magic))))))

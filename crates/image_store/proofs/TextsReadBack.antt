@@ -1,22 +1,21 @@
 -- A text of a namespace is read as that namespace.
-use Rattle.std.proofs.Common.{◌≡◌, ℕ, ◌+◌, ◌*◌, ◌^◌, ◌<◌, ◌≤◌, zero, suc, Bool, true, cond, nat_eq, List, [], ◌∷◌, ◌++◌, length, get_or, map, drop, Some, Result, Ok, Err, refl, ap, sym, subst, ◌∙◌, append_assoc, arith, length-append}
-use Rattle.std.proofs.lemmas.Bool.{le-leb}
+use Rattle.std.proofs.Common.{◌≡◌, ℕ, ◌+◌, ◌*◌, ◌^◌, ◌<◌, ◌≤◌, zero, suc, Bool, cond, List, [], ◌∷◌, ◌++◌, length, get_or, map, drop, Result, Ok, Err, refl, ap, sym, subst, ◌∙◌, append_assoc, arith, length-append}
+use Rattle.std.specs.List.{concat}
+use Rattle.std.proofs.lemmas.Bool.{eq-eqb, le-leb}
 use Rattle.std.proofs.lemmas.List.{append-nil, take_at, drop_at, length-map}
-use Rattle.std.proofs.lemmas.Bool.Decides.{nat_tests}
 use Rattle.std.proofs.lemmas.List.Elements.{All-from_get_or}
 use Rattle.std.proofs.lemmas.List.Sums.{sum_by-le}
 use Rattle.std.proofs.Math.Nat.{mul-le-mul, suc-mul}
-use Rattle.zone_state.specs.declared.state.ZoneState.{ZoneState}
-use Rattle.zone_state.specs.declared.state.ZoneState.TheVariants.{Empty, ImplicitlyOpened, ExplicitlyOpened, Closed, ReadOnly, Full, Offline}
 use Rattle.zone_state.specs.State.{code_of, state_of}
 use Rattle.zone_state.specs.Zone.{CountedZone, IsZone}
+use Rattle.zone_state.proofs.Proved.{codes_are_distinct}
 use Rattle.zone_resources.specs.Admission.{IsWithin}
 use Rattle.zone_resources.specs.Counts.{open_count, active_count}
 use Rattle.zone_resources.specs.declared.admission.Limits.{Limits}
+use Rattle.program_interface.specs.Bytes.{pieces}
 use Rattle.image_store.specs.declared.fault.LoadFault.{LoadFault}
 use Rattle.image_store.specs.declared.fault.LoadFault.TheVariants as fault
 use Rattle.image_store.specs.declared.fault.ZoneRowFault.TheVariants as row_fault
-use Rattle.image_store.specs.Blocks.{blocks_of, bytes_of}
 use Rattle.image_store.specs.ImageInMemory.{no_counted_zone, zone_seen}
 use Rattle.image_store.specs.declared.geometry.TheConstants.{MOST_ZONES, MOST_ZONE_BLOCKS}
 use Rattle.image_store.specs.declared.header.Header.{Header}
@@ -33,15 +32,6 @@ use Rattle.image_store.proofs.Headers.{word_again, header_read, header_seen, tot
 use Rattle.image_store.proofs.ImageFields.{within_capacity}
 use Rattle.image_store.proofs.LoadStages.{after_limits, past_header, past_rows, past_total, past_limits, past_blocks, past_end}
 
-code_again : (state : ZoneState) → state_of (code_of state) ≡ Some state
-code_again Empty = refl
-code_again ImplicitlyOpened = refl
-code_again ExplicitlyOpened = refl
-code_again Closed = refl
-code_again ReadOnly = refl
-code_again Full = refl
-code_again Offline = refl
-
 -- rows that can be spelled
 pub record CanSpell (capacity : ℕ) (z : CountedZone) : Type 0 where
   pub same : z.capacity ≡ capacity
@@ -54,7 +44,7 @@ row_again zone capacity z can =
     let small = can.small in
     let number = word_again z.written [] (omega arith) in
     ap (λ (n : ℕ). zone_told zone (code_of z.state) (state_of (code_of z.state)) n capacity) number
-    ∙ (ap (λ state. zone_told zone (code_of z.state) state z.written capacity) (code_again z.state)
+    ∙ (ap (λ state. zone_told zone (code_of z.state) state z.written capacity) (codes_are_distinct.there z.state)
     ∙ (ap (λ (test : Bool). let r : Result CountedZone LoadFault = cond test (Ok (record { state = z.state; written = z.written; capacity = capacity })) (Err (fault.ZoneRow zone (row_fault.Blocks z.state z.written capacity))) in r) can.fits.1
     ∙ ap (λ (n : ℕ). let same : CountedZone = record { state = z.state; written = z.written; capacity = n } in let r : Result CountedZone LoadFault = Ok same in r) (sym can.same)))
 
@@ -79,28 +69,28 @@ pub limits_read : (limits : Limits) (zs : List CountedZone) → IsWithin zs limi
 limits_read limits zs within = rw (le-leb (open_count zs) limits.open_limit within.opened, le-leb (active_count zs) limits.active_limit within.active) refl
 
 -- blocks that are whole are cut from their bytes again
-blocks_again : (b : ℕ) (blocks : List (List ℕ)) → ((i : ℕ) → i < length blocks → length (get_or blocks i []) ≡ b) → blocks_of b (length blocks) (bytes_of blocks) ≡ blocks
+blocks_again : (b : ℕ) (blocks : List (List ℕ)) → ((i : ℕ) → i < length blocks → length (get_or blocks i []) ≡ b) → pieces b (length blocks) (concat blocks) ≡ blocks
 blocks_again b [] whole = refl
 blocks_again b (x ∷ blocks) whole =
     let size = whole 0 (omega arith) in
-    ap (λ (front : List ℕ). front ∷ blocks_of b (length blocks) (drop b (x ++ bytes_of blocks))) (take_at x (bytes_of blocks) b size)
-    ∙ (ap (λ (back : List ℕ). x ∷ blocks_of b (length blocks) back) (drop_at x (bytes_of blocks) b size)
+    ap (λ (front : List ℕ). front ∷ pieces b (length blocks) (drop b (x ++ concat blocks))) (take_at x (concat blocks) b size)
+    ∙ (ap (λ (back : List ℕ). x ∷ pieces b (length blocks) back) (drop_at x (concat blocks) b size)
     ∙ ap (λ (more : List (List ℕ)). x ∷ more) (blocks_again b blocks (λ i h. whole (suc i) (omega arith))))
 
-pub length-bytes : (b : ℕ) (blocks : List (List ℕ)) → ((i : ℕ) → i < length blocks → length (get_or blocks i []) ≡ b) → length (bytes_of blocks) ≡ length blocks * b
+pub length-bytes : (b : ℕ) (blocks : List (List ℕ)) → ((i : ℕ) → i < length blocks → length (get_or blocks i []) ≡ b) → length (concat blocks) ≡ length blocks * b
 length-bytes b [] whole = omega arith
 length-bytes b (x ∷ blocks) whole =
-    omega (arith, whole 0 (omega arith), length-bytes b blocks (λ i h. whole (suc i) (omega arith)), suc-mul (length blocks) b, length-append x (bytes_of blocks))
+    omega (arith, whole 0 (omega arith), length-bytes b blocks (λ i h. whole (suc i) (omega arith)), suc-mul (length blocks) b, length-append x (concat blocks))
 
 pub blocks_read : (b c : ℕ) (zones : List ZoneBlocks) (rest : List ℕ) → ((z i : ℕ) → i < length (get_or zones z no_zone).blocks → length (get_or (get_or zones z no_zone).blocks i []) ≡ b)
     → blocks_in b (map (counted c) zones) (blocks_text zones ++ rest) ≡ Ok (zones, rest)
 blocks_read b c [] rest whole = refl
 blocks_read b c (zone ∷ zones) rest whole =
     let size = length-bytes b zone.blocks (whole 0) in
-    let parts = append_assoc (bytes_of zone.blocks) (blocks_text zones) rest in
+    let parts = append_assoc (concat zone.blocks) (blocks_text zones) rest in
     ap (blocks_in b (map (counted c) (zone ∷ zones))) parts
-    ∙ (ap (λ (r : Result Split LoadFault). r >>= λ front. blocks_in b (map (counted c) zones) front.1 >>= λ more. Ok (zone_seen b (counted c zone) front.0 ∷ more.0, more.1)) (bytes_whole (length zone.blocks * b) (bytes_of zone.blocks) (blocks_text zones ++ rest) size)
-    ∙ (ap (λ (r : Result (List ZoneBlocks × List ℕ) LoadFault). r >>= λ more. Ok (zone_seen b (counted c zone) (bytes_of zone.blocks) ∷ more.0, more.1)) (blocks_read b c zones rest (λ z i h. whole (suc z) i h))
+    ∙ (ap (λ (r : Result Split LoadFault). r >>= λ front. blocks_in b (map (counted c) zones) front.1 >>= λ more. Ok (zone_seen b (counted c zone) front.0 ∷ more.0, more.1)) (bytes_whole (length zone.blocks * b) (concat zone.blocks) (blocks_text zones ++ rest) size)
+    ∙ (ap (λ (r : Result (List ZoneBlocks × List ℕ) LoadFault). r >>= λ more. Ok (zone_seen b (counted c zone) (concat zone.blocks) ∷ more.0, more.1)) (blocks_read b c zones rest (λ z i h. whole (suc z) i h))
     ∙ ap (λ (bs : List (List ℕ)). let seen : ZoneBlocks = record { state = zone.state; blocks = bs } in let r : Result (List ZoneBlocks × List ℕ) LoadFault = Ok (seen ∷ zones, rest) in r) (blocks_again b zone.blocks (whole 0))))
 
 pub at-counted : (c : ℕ) (zones : List ZoneBlocks) (k : ℕ) → k < length zones → get_or (map (counted c) zones) k no_counted_zone ≡ counted c (get_or zones k no_zone)
@@ -127,15 +117,12 @@ total_small ns sound =
     let product : length (counted_zones ns) * ns.capacity ≤ MOST_ZONES * MOST_ZONE_BLOCKS = mul-le-mul zones capacity in
     omega arith
 
-same_number : (n : ℕ) → nat_eq n n ≡ true
-same_number n = grind (arith, nat_tests)
-
 -- the number of written blocks that the header tells is that of the rows
 pub total_read : (version : Version) (zs : List CountedZone) → total_kept (total_in version (written_blocks zs)) zs ≡ Ok tt
 total_read One zs = refl
 total_read Two zs =
     let total = written_blocks zs in
-    ap (λ (test : Bool). let r : Result (Unit {0}) LoadFault = cond test (Ok tt) (Err (fault.Total total total)) in r) (same_number total)
+    ap (λ (test : Bool). let r : Result (Unit {0}) LoadFault = cond test (Ok tt) (Err (fault.Total total total)) in r) (eq-eqb total total refl)
 
 -- what the header of a namespace tells
 abbrev pub told_of : Version → ZonedNamespace → Header

@@ -3,9 +3,8 @@ use Rattle.std.proofs.Common.{◌≡◌, ℕ, ◌+◌, ◌*◌, ◌<◌, ◌≤�
 use Rattle.std.proofs.lemmas.List.{drop-drop, take_at, take_all}
 use Rattle.std.proofs.Math.Nat.{suc-mul, mul-le-mul_right, add-mul}
 use Rattle.zone_state.specs.Zone.{CountedZone}
-use Rattle.image_store.specs.Blocks.{blocks_of}
 use Rattle.image_store.specs.ImageInMemory.{zones_of, zone_seen, no_counted_zone}
-use Rattle.program_interface.specs.Bytes.{spliced}
+use Rattle.program_interface.specs.Bytes.{pieces, spliced}
 use Rattle.image_store.specs.Namespace.{ZoneBlocks, no_zone}
 use Rattle.image_store.proofs.BlocksOfBytes.{blocks-same, blocks-add, take-spliced, drop-spliced, drop-spliced-past, drop-spliced-later}
 
@@ -37,15 +36,15 @@ zones-set b c (y ∷ zs) xs (suc z) r =
     ∙ ap (λ (ys : List ℕ). zone_seen b y xs ∷ set (zones_of b c zs (drop (c * b) xs)) z (zone_seen b r ys)) (drop-drop (z * (c * b)) (c * b) xs ∙ ap (λ (m : ℕ). drop m xs) (room_next z (c * b)))
 
 -- blocks put behind those that a room has
-blocks-grown : (b w n : ℕ) (new xs : List ℕ) → length new ≡ n * b → w * b ≤ length xs → blocks_of b (w + n) (spliced (w * b) new xs) ≡ blocks_of b w xs ++ blocks_of b n new
+blocks-grown : (b w n : ℕ) (new xs : List ℕ) → length new ≡ n * b → w * b ≤ length xs → pieces b (w + n) (spliced (w * b) new xs) ≡ pieces b w xs ++ pieces b n new
 blocks-grown b w n new xs size room =
     let before = blocks-same b w (w * b) (spliced (w * b) new xs) xs (omega arith) (take-spliced (w * b) (w * b) new xs (omega arith) room) in
     let front : take (n * b) (new ++ drop (w * b + length new) xs) ≡ new = take_at new (drop (w * b + length new) xs) (n * b) size in
     let whole : take (n * b) new ≡ new = take_all (n * b) new (omega arith) in
     let behind = blocks-same b n (n * b) (new ++ drop (w * b + length new) xs) new (omega arith) (front ∙ sym whole) in
     blocks-add b w n (spliced (w * b) new xs)
-    ∙ (ap (λ (bs : List (List ℕ)). bs ++ blocks_of b n (drop (w * b) (spliced (w * b) new xs))) before
-    ∙ ap (λ (bs : List (List ℕ)). blocks_of b w xs ++ bs) (ap (blocks_of b n) (drop-spliced (w * b) new xs room) ∙ behind))
+    ∙ (ap (λ (bs : List (List ℕ)). bs ++ pieces b n (drop (w * b) (spliced (w * b) new xs))) before
+    ∙ ap (λ (bs : List (List ℕ)). pieces b w xs ++ bs) (ap (pieces b n) (drop-spliced (w * b) new xs room) ∙ behind))
 
 -- the place of a zone's write pointer, and how far the new bytes reach
 pub record HasRoom (b c w n : ℕ) (new : List ℕ) : Type 0 where
@@ -61,7 +60,7 @@ pub zones-append : (b c : ℕ) (zs : List CountedZone) (xs : List ℕ) (z n : �
     → z < length zs → length zs * (c * b) ≤ length xs → ((y : ℕ) → y < length zs → (get_or zs y no_counted_zone).written ≤ c)
     → HasRoom b c (get_or zs z no_counted_zone).written n new → r.written ≡ (get_or zs z no_counted_zone).written + n
     → zones_of b c (set zs z r) (spliced (z * (c * b) + (get_or zs z no_counted_zone).written * b) new xs)
-    ≡ set (zones_of b c zs xs) z (record { state = r.state; blocks = blocks_of b (get_or zs z no_counted_zone).written (drop (z * (c * b)) xs) ++ blocks_of b n new })
+    ≡ set (zones_of b c zs xs) z (record { state = r.state; blocks = pieces b (get_or zs z no_counted_zone).written (drop (z * (c * b)) xs) ++ pieces b n new })
 zones-append b c [] xs z n r new h long within room grown = absurd (omega arith)
 zones-append b c (y ∷ zs) xs zero n r new h long within room grown =
     let start : zero * (c * b) + y.written * b ≡ y.written * b = omega arith in
@@ -70,10 +69,10 @@ zones-append b c (y ∷ zs) xs zero n r new h long within room grown =
     let room_of_one : c * b ≤ length xs = omega (arith, suc-mul (length zs) (c * b)) in
     let rest = drop-spliced-past (c * b) (y.written * b) new xs reach (omega arith) in
     ap (λ (m : ℕ). zones_of b c (r ∷ zs) (spliced m new xs)) start
-    ∙ (ap (λ (m : ℕ). let bs : List (List ℕ) = blocks_of b m (spliced (y.written * b) new xs) in record { state = r.state; blocks = bs } ∷ zones_of b c zs (drop (c * b) (spliced (y.written * b) new xs))) grown
+    ∙ (ap (λ (m : ℕ). let bs : List (List ℕ) = pieces b m (spliced (y.written * b) new xs) in record { state = r.state; blocks = bs } ∷ zones_of b c zs (drop (c * b) (spliced (y.written * b) new xs))) grown
     ∙ (ap (λ (bs : List (List ℕ)). let seen : ZoneBlocks = record { state = r.state; blocks = bs } in seen ∷ zones_of b c zs (drop (c * b) (spliced (y.written * b) new xs))) (blocks-grown b y.written n new xs room.size (omega arith))
-    ∙ (ap (λ (ys : List ℕ). let seen : ZoneBlocks = record { state = r.state; blocks = blocks_of b y.written xs ++ blocks_of b n new } in seen ∷ zones_of b c zs ys) rest
-    ∙ ap (λ (m : ℕ). let seen : ZoneBlocks = record { state = r.state; blocks = blocks_of b y.written (drop m xs) ++ blocks_of b n new } in seen ∷ zones_of b c zs (drop (c * b) xs)) none)))
+    ∙ (ap (λ (ys : List ℕ). let seen : ZoneBlocks = record { state = r.state; blocks = pieces b y.written xs ++ pieces b n new } in seen ∷ zones_of b c zs ys) rest
+    ∙ ap (λ (m : ℕ). let seen : ZoneBlocks = record { state = r.state; blocks = pieces b y.written (drop m xs) ++ pieces b n new } in seen ∷ zones_of b c zs (drop (c * b) xs)) none)))
 zones-append b c (y ∷ zs) xs (suc z) n r new h long within room grown =
     let at = z * (c * b) + (get_or zs z no_counted_zone).written * b in
     let place : suc z * (c * b) + (get_or zs z no_counted_zone).written * b ≡ c * b + at = omega (arith, suc-mul z (c * b)) in
@@ -91,4 +90,4 @@ zones-append b c (y ∷ zs) xs (suc z) n r new h long within room grown =
     ∙ (ap (λ (bs : List (List ℕ)). let seen : ZoneBlocks = record { state = y.state; blocks = bs } in seen ∷ zones_of b c (set zs z r) (drop (c * b) (spliced (c * b + at) new xs))) first
     ∙ (ap (λ (ys : List ℕ). zone_seen b y xs ∷ zones_of b c (set zs z r) ys) later
     ∙ (ap (λ (rest : List ZoneBlocks). zone_seen b y xs ∷ rest) next
-    ∙ ap (λ (ys : List ℕ). let seen : ZoneBlocks = record { state = r.state; blocks = blocks_of b (get_or zs z no_counted_zone).written ys ++ blocks_of b n new } in zone_seen b y xs ∷ set (zones_of b c zs (drop (c * b) xs)) z seen) base)))
+    ∙ ap (λ (ys : List ℕ). let seen : ZoneBlocks = record { state = r.state; blocks = pieces b (get_or zs z no_counted_zone).written ys ++ pieces b n new } in zone_seen b y xs ∷ set (zones_of b c zs (drop (c * b) xs)) z seen) base)))

@@ -34,7 +34,7 @@ geometry_refusal_number (ZoneCapacity capacity size) = 4
 geometry_refusal_number (ResourceLimits open_limit active_limit zones) = 5
 geometry_refusal_number (TooLarge zones capacity block) = 6
 
--- the limits of a shape, in the order of the tests, each with those of the numbers that it is of (profile)
+-- the checks of a shape, in order, each with those of the numbers that it is of (profile)
 abbrev pub shape_checks : Shape → List (Option GeometryRefusal)
 shape_checks s =
     demand (is_block_size s.block) (BlockSize s.block)

@@ -5,14 +5,13 @@ use Rattle.zone_resources.specs.Admission.{IsWithin}
 use Rattle.zone_resources.specs.Counts.{counts_of}
 use Rattle.zone_resources.specs.declared.counts.Counts.{Counts}
 use Rattle.zone_state.specs.Zone.{CountedZone, IsZone}
-use Rattle.program_interface.specs.Bytes.{AreBytes}
-use Rattle.image_store.specs.Blocks.{blocks_of}
+use Rattle.program_interface.specs.Bytes.{AreBytes, pieces}
 use Rattle.image_store.specs.Geometry.{Shape, IsShape}
 use Rattle.image_store.specs.Namespace.{ZoneBlocks, ZonedNamespace, namespace_with}
 
 -- a counted zone with its blocks, which stand at the front of these bytes
 abbrev pub zone_seen : ℕ → CountedZone → List ℕ → ZoneBlocks
-zone_seen block z bytes = record { state = z.state; blocks = blocks_of block z.written bytes }
+zone_seen block z bytes = record { state = z.state; blocks = pieces block z.written bytes }
 
 -- the zones whose rooms these bytes are, each of so many blocks of this many bytes
 abbrev pub zones_of : ℕ → ℕ → List CountedZone → List ℕ → List ZoneBlocks

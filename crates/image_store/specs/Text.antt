@@ -1,19 +1,14 @@
 -- The texts of an image, one of each version (profile).
 use Rattle.std.specs.Prelude.{ℕ, List, [], ◌∷◌, ◌++◌, replicate}
-use Rattle.std.specs.List.{flat_map, sum_by}
+use Rattle.std.specs.List.{concat, flat_map, sum_by}
 use Rattle.byteorder.specs.Endian.{little_bytes}
 use Rattle.zone_state.specs.State.{code_of}
 use Rattle.zone_state.specs.Zone.{CountedZone}
 use Rattle.image_store.specs.declared.version.Version.{Version}
 use Rattle.image_store.specs.declared.version.Version.TheVariants.{One, Two}
-use Rattle.image_store.specs.Blocks.{bytes_of}
 use Rattle.image_store.specs.Geometry.{Shape}
 use Rattle.image_store.specs.Namespace.{ZoneBlocks, ZonedNamespace, counted_zones, shape}
 use Rattle.image_store.specs.Version.{numbers_of_version}
-
--- 32 bits, the lowest byte first
-abbrev pub four_bytes : ℕ → List ℕ
-four_bytes n = little_bytes 4 n
 
 -- the numbers of a shape, in their order
 abbrev pub numbers_of : Shape → List ℕ
@@ -24,9 +19,9 @@ abbrev pub header_end : Version → ℕ → List ℕ
 header_end One total = replicate 32 0
 header_end Two total = little_bytes 8 total ++ replicate 24 0
 
--- 64 bytes: the magic, the numbers, and the end
+-- 64 bytes: the magic, the numbers in 32 bits each, the lowest byte first, and the end
 abbrev pub header : Version → Shape → ℕ → List ℕ
-header version s total = (numbers_of_version version).magic ++ (flat_map four_bytes (numbers_of s) ++ header_end version total)
+header version s total = (numbers_of_version version).magic ++ (flat_map (little_bytes 4) (numbers_of s) ++ header_end version total)
 
 -- how many blocks of zones are written
 abbrev pub written_blocks : List CountedZone → ℕ
@@ -34,7 +29,7 @@ written_blocks zones = sum_by (λ zone. zone.written) zones
 
 -- 8 bytes: the state's code, zeros, and how many blocks are written
 abbrev pub zone_row : CountedZone → List ℕ
-zone_row z = code_of z.state ∷ 0 ∷ 0 ∷ 0 ∷ four_bytes z.written
+zone_row z = code_of z.state ∷ 0 ∷ 0 ∷ 0 ∷ little_bytes 4 z.written
 
 -- the rows of zones
 abbrev pub zone_rows : List CountedZone → List ℕ
@@ -42,7 +37,7 @@ zone_rows zones = flat_map zone_row zones
 
 -- the written blocks of zones, one zone's behind another's
 abbrev pub blocks_text : List ZoneBlocks → List ℕ
-blocks_text zones = flat_map (λ zone. bytes_of zone.blocks) zones
+blocks_text zones = flat_map (λ zone. concat zone.blocks) zones
 
 -- the header, the row of each zone, and the written blocks of each zone
 abbrev pub text_of : Version → ZonedNamespace → List ℕ

@@ -1,4 +1,4 @@
-//! Why an image could not be loaded or saved.
+//! Why an image could not be loaded.
 
 ghost use Rattle.std.specs.Prelude.{◌≡◌};
 ghost use Rattle.image_store.specs.Fault.{load_number};

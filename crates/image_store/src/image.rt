@@ -1,10 +1,11 @@
 //! The image.
 
 ghost use Rattle.std.specs.Prelude.{◌≡◌, ◌≤◌, ◌<◌, ◌+◌, ◌-◌, ◌*◌, ◌^◌, length, replicate, IfOk, IsOk, take, drop, Ok};
+ghost use Rattle.std.specs.List.{concat};
 ghost use Rattle.zone_resources.specs.Counts.{counts_of};
 ghost use Rattle.zone_state.specs.Zone.{write_check, IsZone, kept};
 ghost use Rattle.image_store.specs.Geometry.{IsShape};
-ghost use Rattle.image_store.specs.Blocks.{block_count, bytes_of};
+ghost use Rattle.image_store.specs.Blocks.{block_count};
 ghost use Rattle.image_store.specs.Streams.{Takes, CountsFailure};
 ghost use Rattle.image_store.specs.Loading.{LoadGives, CountsLoad};
 ghost use Rattle.image_store.specs.Reading.{header_in, namespace_in};
@@ -133,7 +134,7 @@ impl Image {
     pub fn blocks(&self, zone: u32, first: u32, count: u32) -> &[u8]
         requires inside { zone < length self.now.zones }
         requires written { first + count ≤ length (zone_at self.now zone).blocks }
-        ensures value { result.now ≡ bytes_of (take count (drop first (zone_at self.now zone).blocks)) }
+        ensures value { result.now ≡ concat (take count (drop first (zone_at self.now zone).blocks)) }
         ensures size { length result.now ≡ count * self.now.block }
     {
         image_fields::blocks(

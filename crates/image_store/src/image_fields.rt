@@ -1,9 +1,10 @@
 //! The work on the fields of an image, over slices: its methods only call these.
 
 ghost use Rattle.std.specs.Prelude.{◌≡◌, ◌≤◌, ◌<◌, ◌+◌, ◌*◌, ◌^◌, length, get_or, set, take, drop, Ok};
+ghost use Rattle.std.specs.List.{concat};
 ghost use Rattle.zone_resources.specs.Counts.{counts_of};
 ghost use Rattle.zone_state.specs.Zone.{write_check, IsZone, kept};
-ghost use Rattle.image_store.specs.Blocks.{block_count, bytes_of};
+ghost use Rattle.image_store.specs.Blocks.{block_count};
 ghost use Rattle.image_store.specs.ImageInMemory.{IsFlat, IsImage, namespace_of, no_counted_zone};
 ghost use Rattle.image_store.specs.steps.EmptyZone.{empty_counted_zone};
 ghost use Rattle.program_interface.specs.Bytes.{spliced};
@@ -119,7 +120,7 @@ pub fn blocks<'a>(
     requires inside { zone < length zones.now }
     requires written { first + count ≤ (get_or zones.now zone no_counted_zone).written }
     ensures size { length result.now ≡ count * geometry.block }
-    ensures value { result.now ≡ bytes_of (take count (drop first (zone_at (namespace_of geometry zones.now blocks.now) zone).blocks)) }
+    ensures value { result.now ≡ concat (take count (drop first (zone_at (namespace_of geometry zones.now blocks.now) zone).blocks)) }
 {
     let block = geometry.block().bytes() as usize;
     let start = zone * geometry.zone_room() + first * block;

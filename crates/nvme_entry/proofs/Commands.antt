@@ -69,9 +69,6 @@ told_receive entry d cid lba dwords code filter partial has is_lba is_dwords is_
 pub slot_back : (number : ℕ) → number < 8 → program_slot_of number ≡ Some number
 slot_back number few = ap (λ (b : Bool). cond b (Some number) None) (lt-ltb number 8 few)
 
-le_back : (n most : ℕ) → n ≤ most → nat_le n most ≡ true
-le_back n most few = le-leb n most few
-
 pub told_result : (entry : List ℕ) (d : CommandDwords) (cid slot : ℕ) → HasFields entry opcode.Result cid d → d.cdw10 ≡ slot → slot < 8
     → decoded entry ≡ Ok (command.Result slot)
 told_result entry d cid slot has is_slot few =
@@ -85,7 +82,7 @@ told_load entry d cid load has is_slot few is_limit is_bytes fits =
     let found : program_slot_of (dword entry 10) ≡ Some load.slot = ap program_slot_of (has.cdw10 ∙ is_slot) ∙ slot_back load.slot few in
     let bytes : dword entry 12 ≡ load.bytes = has.cdw12 ∙ is_bytes in
     let limit : dword entry 11 ≡ load.limit = has.cdw11 ∙ is_limit in
-    let small : nat_le (dword entry 12) MOST_TRANSFER ≡ true = le_back (dword entry 12) MOST_TRANSFER (omega (arith, bytes)) in
+    let small : nat_le (dword entry 12) MOST_TRANSFER ≡ true = le-leb (dword entry 12) MOST_TRANSFER (omega (arith, bytes)) in
     has.command
     ∙ (ap (λ (b : Bool). ok_or (cond b (option_map (λ (n : ℕ). command.Load record { slot = n; limit = dword entry 11; bytes = dword entry 12 }) (program_slot_of (dword entry 10))) None) INVALID_FIELD_IN_COMMAND) small
     ∙ (ap (λ (o : Option ℕ). ok_or (option_map (λ (n : ℕ). command.Load record { slot = n; limit = dword entry 11; bytes = dword entry 12 }) o) INVALID_FIELD_IN_COMMAND) found

@@ -1,7 +1,5 @@
 -- A completion's bytes tell its fields.
-use Rattle.std.proofs.Common.{◌≡◌, ℕ, ◌*◌, ◌/◌, ◌%◌, ◌^◌, ◌<◌, List, drop, refl, sym, ap, ◌∙◌, arith, true, false, nat_eq, Some, None}
-use Rattle.std.proofs.lemmas.Option.{same_Some}
-use lib.Pointwise.{pointwise, bytes_decides}
+use Rattle.std.proofs.Common.{◌≡◌, ℕ, ◌*◌, ◌/◌, ◌%◌, ◌^◌, ◌<◌, drop, refl, ap, ◌∙◌, arith, Some}
 use Rattle.byteorder.specs.Numbers.{little_number-reads_back}
 use Rattle.zone_state.specs.declared.status.StatusType.{StatusType}
 use Rattle.zone_state.specs.declared.status.StatusType.TheVariants.{Generic, CommandSpecific, VendorSpecific}
@@ -41,14 +39,3 @@ completions_read_back c fields =
 
 pub completions_tell : CompletionsTell
 completions_tell c fields = (refl, completions_read_back c fields)
-
-pub false_is_not_true : false ≡ true → ⊥
-false_is_not_true e = cc
-
--- where the completion with the fields that bytes tell has other bytes, no completion has these
-pub no_other_is_read : (bytes again : List ℕ) (read : Completion) → Some read ≡ completion_in bytes → again ≡ completion_bytes read → pointwise nat_eq again bytes ≡ false
-    → (c : Completion) → AreCompletionFields c → bytes ≡ completion_bytes c → None ≡ Some c
-no_other_is_read bytes again read told spelled differ c fields is =
-    let one : read ≡ c = same_Some read c (told ∙ ap completion_in is ∙ completions_read_back c fields) in
-    let equal : again ≡ bytes = spelled ∙ ap completion_bytes one ∙ sym is in
-    absurd (false_is_not_true (sym differ ∙ (bytes_decides again bytes).1 equal))

@@ -1,7 +1,5 @@
 -- The bytes of a zone descriptor tell its fields.
-use Rattle.std.proofs.Common.{◌≡◌, ℕ, ◌/◌, ◌%◌, ◌^◌, ◌<◌, List, drop, refl, sym, ap, ◌∙◌, arith, false, nat_eq, Option, Some, None}
-use Rattle.std.proofs.lemmas.Option.{same_Some}
-use lib.Pointwise.{pointwise, bytes_decides}
+use Rattle.std.proofs.Common.{◌≡◌, ℕ, ◌/◌, ◌%◌, ◌^◌, ◌<◌, List, drop, refl, ap, ◌∙◌, arith, Option, Some}
 use Rattle.byteorder.specs.Numbers.{little_number-reads_back}
 use Rattle.zone_state.specs.State.{state_of}
 use Rattle.zone_state.specs.declared.state.ZoneState.{ZoneState}
@@ -9,7 +7,6 @@ use Rattle.zone_state.specs.declared.state.ZoneState.TheVariants.{Empty, Implici
 use Rattle.nvme_entry.specs.declared.descriptor.ZoneDescriptor.{ZoneDescriptor}
 use Rattle.nvme_entry.specs.Descriptor.{AreDescriptorFields, descriptor_bytes, first_word}
 use Rattle.nvme_entry.specs.steps.DescriptorFields.{descriptor_in, word_in}
-use Rattle.nvme_entry.proofs.CompletionFields.{false_is_not_true}
 
 state_told : (state : ZoneState) → state_of (first_word state / 2 ^ 12 % 2 ^ 4) ≡ Some state
 state_told Empty = refl
@@ -30,7 +27,7 @@ small Full = omega arith
 small Offline = omega arith
 
 -- the fields read from the bytes of a descriptor are its own
-read_back : (d : ZoneDescriptor) → AreDescriptorFields d → descriptor_in (descriptor_bytes d) ≡ Some d
+pub read_back : (d : ZoneDescriptor) → AreDescriptorFields d → descriptor_in (descriptor_bytes d) ≡ Some d
 read_back d fields =
     let bytes = descriptor_bytes d in
     let first : word_in bytes 0 ≡ first_word d.state = little_number-reads_back 8 (first_word d.state) (drop 8 bytes) (omega (arith, small d.state)) in
@@ -43,11 +40,3 @@ read_back d fields =
 pub is_read_back : (bytes : List ℕ) (found : Option ZoneDescriptor) → found ≡ descriptor_in bytes
     → (d : ZoneDescriptor) → AreDescriptorFields d → bytes ≡ descriptor_bytes d → found ≡ Some d
 is_read_back bytes found read d fields is = read ∙ ap descriptor_in is ∙ read_back d fields
-
--- where the descriptor with the fields that bytes tell has other bytes, no descriptor has these
-pub no_other_is_read : (bytes again : List ℕ) (read : ZoneDescriptor) → Some read ≡ descriptor_in bytes → again ≡ descriptor_bytes read → pointwise nat_eq again bytes ≡ false
-    → (d : ZoneDescriptor) → AreDescriptorFields d → bytes ≡ descriptor_bytes d → None ≡ Some d
-no_other_is_read bytes again read told spelled differ d fields is =
-    let one : read ≡ d = same_Some read d (is_read_back bytes (Some read) told d fields is) in
-    let equal : again ≡ bytes = spelled ∙ ap descriptor_bytes one ∙ sym is in
-    absurd (false_is_not_true (sym differ ∙ (bytes_decides again bytes).1 equal))

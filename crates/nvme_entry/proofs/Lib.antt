@@ -1,5 +1,4 @@
 mod Agreeing
-mod Checked
 mod Commands
 mod Encodings
 mod Descriptors
@@ -9,4 +8,5 @@ mod Spelled
 mod Unused
 mod CompletionFields
 mod Writes
+mod WrittenAgain
 pub mod Proved

@@ -1,6 +1,7 @@
 -- Zone by zone, the descriptors that fit are put one behind the other.
 use Rattle.std.proofs.Common.{◌≡◌, ℕ, zero, suc, ◌+◌, ◌-◌, ◌*◌, ◌/◌, ◌≤◌, ◌<◌, Bool, true, false, cond, List, [], ◌∷◌, ◌++◌, length, take, drop, replicate, get_or, refl, ap, sym, ◌∙◌, arith, append_assoc, length-append, ⊎_elim}
 use Rattle.std.specs.List.{enumerate_from, flat_map}
+use Rattle.std.proofs.Math.Seq.{take-nil}
 use Rattle.std.proofs.lemmas.Bool.{cases_lt}
 use Rattle.std.proofs.lemmas.List.{take_at, drop_all, drop_more, length-take-le, length-replicate}
 use Rattle.zone_state.specs.Zone.{CountedZone}
@@ -86,15 +87,11 @@ step-more f x xs old new at place size same_length fits full =
     (λ enough. step-fits f x xs old new at place size same_length enough (fits enough).0 (fits enough).1)
     (cases_lt (length old) (at + 64))
 
-take-none : {X : Type 0} (k : ℕ) → take {A = X} k [] ≡ []
-take-none zero = refl
-take-none (suc k) = refl
-
 -- where no piece is left, zeros are
 pub whole-none : {X : Type 0} (f : X → List ℕ) (n : ℕ) → whole f n [] ≡ replicate n 0
 whole-none {X = X} f n =
     let same : n - 0 ≡ n = omega arith in
-    ap (λ (xs : List X). padded n (flat_map f xs)) (take-none (n / 64)) ∙ ap (λ (m : ℕ). replicate m 0) same
+    ap (λ (xs : List X). padded n (flat_map f xs)) (take-nil (n / 64)) ∙ ap (λ (m : ℕ). replicate m 0) same
 
 cut : (zones : List CountedZone) (index : ℕ) (zone : CountedZone) → index < length zones → zone ≡ get_or zones index zone → drop index zones ≡ zone ∷ drop (index + 1) zones
 cut zones index zone inside is = drop_more zones index zone inside ∙ ap (λ (z : CountedZone). z ∷ drop (index + 1) zones) (sym is)

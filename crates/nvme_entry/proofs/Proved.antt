@@ -3,7 +3,6 @@ use Rattle.nvme_entry.specs.EntryLaws.{FieldsAreSpelled, OnlyNamedFieldsCount, S
 use Rattle.nvme_entry.specs.ReportLaws.{ReportsGiveWhatMatches}
 use Rattle.nvme_entry.specs.CompletionFields.{CompletionsTell}
 use Rattle.nvme_entry.proofs.Agreeing as agreeing
-pub use Rattle.nvme_entry.proofs.Checked.{demanded, passed}
 use Rattle.nvme_entry.proofs.Reports as reports
 use Rattle.nvme_entry.proofs.Spelled as spelled
 use Rattle.nvme_entry.proofs.CompletionFields as told

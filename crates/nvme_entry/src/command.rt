@@ -172,7 +172,7 @@ impl DwordCount {
     pub fn from_zero_based(field: u32) -> Option<DwordCount>
         ensures { result ≡ dwords_of field }
     {
-        if field as usize >= MOST_TRANSFER / DWORD {
+        if field >= MOST_DWORDS {
             return None;
         }
         Some(DwordCount { dwords: field + 1 })

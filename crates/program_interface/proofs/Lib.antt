@@ -1,1 +1,5 @@
+mod AllOf
+mod ByteParts
 mod ContextFields
+pub mod Proved
+mod SameFronts

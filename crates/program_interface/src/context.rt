@@ -29,7 +29,7 @@ impl Context {
     {
         let low = (self.lba % 0x1_0000_0000) as u32;
         let high = (self.lba >> 32) as u32;
-        let words = [
+        let dwords = [
             low,
             high,
             self.index,
@@ -40,7 +40,7 @@ impl Context {
             0,
         ];
         let mut bytes = [0; CONTEXT_BYTES];
-        LittleEndian::write_u32_into(&words, &mut bytes);
+        LittleEndian::write_u32_into(&dwords, &mut bytes);
         bytes
     }
 }

@@ -1,6 +1,7 @@
 -- What is added to a zone.
 use Rattle.std.proofs.Common.{◌≡◌, ◌≢◌, ℕ, zero, suc, ◌+◌, ◌*◌, ◌/◌, ◌<◌, ◌≤◌, Bool, true, false, cond, List, [], ◌∷◌, ◌++◌, length, get_or, drop, refl, ap, sym, subst, ◌∙◌, arith, length-append, get_or-set_other, get_or-set_same}
 use Rattle.std.specs.Prelude.{nat_eq}
+use Rattle.std.specs.List.{concat}
 use Rattle.std.proofs.lemmas.List.{append-nil, length-set, take_at, drop_at}
 use Rattle.std.proofs.Math.Nat.{suc-mul, mul-div_cancel}
 use Rattle.zone_state.specs.State.{is_open}
@@ -9,8 +10,8 @@ use Rattle.zone_state.specs.declared.state.ZoneState.{ZoneState}
 use Rattle.zone_state.specs.declared.state.ZoneState.TheVariants.{Full, Offline}
 use Rattle.accepted_programs.proofs.Proved.{all_append}
 use Rattle.emit_append.proofs.Proved.{AllBytes, by_place, by_recursion}
-use Rattle.program_interface.specs.Bytes.{AreBytes}
-use Rattle.image_store.specs.Blocks.{as_blocks, block_count, blocks_of, bytes_of}
+use Rattle.program_interface.specs.Bytes.{AreBytes, pieces}
+use Rattle.image_store.specs.Blocks.{as_blocks, block_count}
 use Rattle.image_store.specs.Geometry.{Shape}
 use Rattle.image_store.specs.Namespace.{ZoneBlocks, ZonedNamespace, appended, grown, no_zone, shape, with_zone, zone_at}
 use Rattle.zns_commands.specs.Left.{Grows}
@@ -76,38 +77,38 @@ added_grows ns z other (b ∷ bs) =
 -- ---- whole blocks, and their bytes
 
 module _ (block : ℕ) where
-  pub bytes_long : (blocks : List (List ℕ)) → AreBlocks block blocks → length (bytes_of blocks) ≡ length blocks * block
+  pub bytes_long : (blocks : List (List ℕ)) → AreBlocks block blocks → length (concat blocks) ≡ length blocks * block
   bytes_long [] h = let none : 0 * block ≡ 0 = omega arith in sym none
   bytes_long (b ∷ bs) h =
       let rest = bytes_long bs h.1 in
-      let joined = length-append b (bytes_of bs) in
+      let joined = length-append b (concat bs) in
       let product = suc-mul (length bs) block in
       omega (arith, rest, joined, product, h.0.whole)
 
-  all_bytes : (blocks : List (List ℕ)) → AreBlocks block blocks → AllBytes (bytes_of blocks)
+  all_bytes : (blocks : List (List ℕ)) → AreBlocks block blocks → AllBytes (concat blocks)
   all_bytes [] h = tt
-  all_bytes (b ∷ bs) h = all_append (λ byte. byte < 256) b (bytes_of bs) (by_recursion b h.0.are) (all_bytes bs h.1)
+  all_bytes (b ∷ bs) h = all_append (λ byte. byte < 256) b (concat bs) (by_recursion b h.0.are) (all_bytes bs h.1)
 
-  pub bytes_are : (blocks : List (List ℕ)) → AreBlocks block blocks → AreBytes (bytes_of blocks)
-  bytes_are blocks h = by_place (bytes_of blocks) (all_bytes blocks h)
+  pub bytes_are : (blocks : List (List ℕ)) → AreBlocks block blocks → AreBytes (concat blocks)
+  bytes_are blocks h = by_place (concat blocks) (all_bytes blocks h)
 
-  cut_again : (blocks : List (List ℕ)) → AreBlocks block blocks → blocks_of block (length blocks) (bytes_of blocks) ≡ blocks
+  cut_again : (blocks : List (List ℕ)) → AreBlocks block blocks → pieces block (length blocks) (concat blocks) ≡ blocks
   cut_again [] h = refl
   cut_again (b ∷ bs) h =
-      ap (λ (x : List ℕ). x ∷ blocks_of block (length bs) (drop block (b ++ bytes_of bs))) (take_at b (bytes_of bs) block h.0.whole)
-      ∙ ap (λ (xs : List ℕ). b ∷ blocks_of block (length bs) xs) (drop_at b (bytes_of bs) block h.0.whole)
+      ap (λ (x : List ℕ). x ∷ pieces block (length bs) (drop block (b ++ concat bs))) (take_at b (concat bs) block h.0.whole)
+      ∙ ap (λ (xs : List ℕ). b ∷ pieces block (length bs) xs) (drop_at b (concat bs) block h.0.whole)
       ∙ ap (λ (yss : List (List ℕ)). b ∷ yss) (cut_again bs h.1)
 
-  pub bytes_count : (blocks : List (List ℕ)) → 1 ≤ block → AreBlocks block blocks → block_count block (bytes_of blocks) ≡ length blocks
+  pub bytes_count : (blocks : List (List ℕ)) → 1 ≤ block → AreBlocks block blocks → block_count block (concat blocks) ≡ length blocks
   bytes_count blocks some h =
       ap (λ (n : ℕ). n / block) (bytes_long blocks h) ∙ mul-div_cancel (length blocks) (omega (arith, some))
 
-  pub bytes_cut : (blocks : List (List ℕ)) → 1 ≤ block → AreBlocks block blocks → as_blocks block (bytes_of blocks) ≡ blocks
-  bytes_cut blocks some h = ap (λ (n : ℕ). blocks_of block n (bytes_of blocks)) (bytes_count blocks some h) ∙ cut_again blocks h
+  pub bytes_cut : (blocks : List (List ℕ)) → 1 ≤ block → AreBlocks block blocks → as_blocks block (concat blocks) ≡ blocks
+  bytes_cut blocks some h = ap (λ (n : ℕ). pieces block n (concat blocks)) (bytes_count blocks some h) ∙ cut_again blocks h
 
 -- blocks that are added are written as their bytes
 pub added_bytes : (ns : ZonedNamespace) (z : ℕ) (blocks : List (List ℕ)) → blocks ≢ [] → 1 ≤ ns.block → AreBlocks ns.block blocks
-    → added ns z blocks ≡ appended ns z (bytes_of blocks)
+    → added ns z blocks ≡ appended ns z (concat blocks)
 added_bytes ns z [] some one h = absurd (some refl)
 added_bytes ns z (b ∷ bs) some one h =
     ap (λ (more : List (List ℕ)). with_zone ns z (grown ns.capacity (zone_at ns z) more)) (sym (bytes_cut ns.block (b ∷ bs) one h))

@@ -8,11 +8,11 @@ use Rattle.zone_state.specs.declared.status.TheConstants.Status.{PROGRAM_IN_USE}
 use Rattle.zone_resources.specs.Holds.{is_source, names}
 use Rattle.zone_resources.specs.declared.holds.Holds.{Holds}
 use Rattle.zone_state.specs.Checks.{first_failed}
+use Rattle.zone_state.proofs.Proved.{demanded, passed}
 use Rattle.nvme_entry.specs.declared.command.LoadCommand.{LoadCommand}
 use Rattle.word_domain.specs.Domain.{Operations}
 use Rattle.image_store.specs.Namespace.{zone_at}
 use Rattle.zns_commands.proofs.Proved.{grows_by_none, held_sources_keep_blocks, events_keep_shapes}
-use Rattle.nvme_entry.proofs.Proved.{demanded, passed}
 use Rattle.zone_resources.proofs.Proved.{there, users_name_zones}
 use Rattle.pushdown.specs.Admission.{Loaded, SameProgram}
 use Rattle.pushdown.specs.Laws.{EventsKeepForRuns, KeepsFor}

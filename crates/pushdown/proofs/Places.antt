@@ -5,13 +5,13 @@ use Rattle.std.specs.List.{list_any}
 use Rattle.std.proofs.lemmas.Bool.{not-true}
 use Rattle.std.proofs.lemmas.Bool.Decides.{eqb_tells}
 use Rattle.zone_state.specs.declared.status.TheConstants.Status.{ZONE_HELD}
+use Rattle.zone_state.proofs.Proved.{demanded, passed}
 use Rattle.zone_resources.specs.Holds.{is_destination, names}
 use Rattle.zone_resources.specs.declared.holds.TheConstants.{RUNS}
 use Rattle.nvme_entry.specs.declared.command.RunCommand.{RunCommand}
 use Rattle.word_domain.specs.Domain.{Operations}
 use Rattle.accepted_programs.proofs.Proved.{none_known}
 use Rattle.image_store.specs.Namespace.{ZonedNamespace}
-use Rattle.nvme_entry.proofs.Proved.{passed, demanded}
 use Rattle.zone_resources.proofs.Proved.{there, users_name_zones}
 use Rattle.pushdown.specs.Admission.{admission_checks, destination_zone}
 use Rattle.pushdown.specs.EventReplies.{Submission}

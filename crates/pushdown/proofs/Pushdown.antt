@@ -7,6 +7,7 @@ use Rattle.zone_state.specs.State.{is_open}
 use Rattle.zone_state.specs.declared.state.ZoneState.TheVariants.{Offline}
 use Rattle.zone_state.specs.declared.status.Status.{Status}
 use Rattle.zone_state.specs.declared.status.TheConstants.Status.{DESTINATION_NOT_OPEN}
+use Rattle.zone_state.proofs.Proved.{demanded, passed}
 use Rattle.nvme_entry.specs.declared.command.Command.TheVariants as commands
 use Rattle.nvme_entry.specs.declared.command.RunCommand.{RunCommand}
 use Rattle.instruction_set.specs.Program.{instruction_count}
@@ -15,7 +16,6 @@ use Rattle.word_domain.specs.Domain.{Operations}
 use Rattle.accepted_programs.specs.Laws.{AcceptedNeverTraps}
 use Rattle.image_store.specs.Namespace.{ZoneBlocks, ZonedNamespace, IsNamespace, no_zone, shape, zone_at}
 use Rattle.image_store.proofs.Proved.{written_is_within, zone_room_is_bounded}
-use Rattle.nvme_entry.proofs.Proved.{demanded, passed}
 use Rattle.pushdown.specs.Admission.{admission_checks, source_blocks, task_of}
 use Rattle.pushdown.specs.EventReplies.{Happening, Submission, plain, submission_of}
 use Rattle.pushdown.specs.BlockRuns.{block_runs_of, no_scratch}

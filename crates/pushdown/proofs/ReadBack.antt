@@ -1,5 +1,6 @@
 -- What was written is read back, whatever events happen in between.
 use Rattle.std.proofs.Common.{◌≡◌, ℕ, zero, suc, ◌+◌, ◌*◌, ◌^◌, ◌<◌, ◌≤◌, Bool, List, [], ◌∷◌, ◌++◌, length, get_or, take, drop, None, Result, refl, ap, sym, subst, ◌∙◌, arith, append_assoc, length-append}
+use Rattle.std.specs.List.{concat}
 use Rattle.std.proofs.lemmas.Bool.{le-leb}
 use Rattle.std.proofs.lemmas.Bool.Decides.{nat_tests}
 use Rattle.std.proofs.lemmas.List.{append-nil, length-drop, length-take-le, take-append-drop}
@@ -13,7 +14,6 @@ use Rattle.nvme_entry.specs.declared.command.StandardCommand.{StandardCommand}
 use Rattle.nvme_entry.specs.declared.command.StandardCommand.TheVariants.{Write, Read, Append}
 use Rattle.nvme_entry.specs.declared.command.TheConstants.{MOST_TRANSFER}
 use Rattle.word_domain.specs.Domain.{Operations}
-use Rattle.image_store.specs.Blocks.{bytes_of}
 use Rattle.image_store.specs.Namespace.{ZoneBlocks, ZonedNamespace, no_zone, zone_at, IsNamespace}
 use Rattle.image_store.proofs.Proved.{blocks_lie_in_zones, written_is_within}
 use Rattle.zns_commands.specs.Address.{zone_number}
@@ -54,12 +54,12 @@ three front more behind = simp length-append
 -- some of a zone's blocks, behind others of them
 pub blocks_read : (ns : ZonedNamespace) (z : ℕ) (front more behind : List (List ℕ)) → IsNamespace ns
     → (zone_at ns z).blocks ≡ front ++ (more ++ behind) → 1 ≤ length more → length more * ns.block ≤ MOST_TRANSFER
-    → AreRead ns (z * ns.size + length front) (length more) (bytes_of more)
+    → AreRead ns (z * ns.size + length front) (length more) (concat more)
 blocks_read ns z front more behind is there some transfer =
     let all = ap length there ∙ three front more behind in
     let within = blocks_lie_in_zones ns.zones z 0 (omega (arith, all, some)) in
     let has = has_some (zone_at ns z).state (length (zone_at ns z).blocks) ns.capacity (is.fits z within) (omega (arith, all, some)) in
-    let lie : BlocksLieAt ns z (length front) (length more) (bytes_of more) = record {
+    let lie : BlocksLieAt ns z (length front) (length more) (concat more) = record {
       front = front;
       more = more;
       behind = behind;
@@ -73,7 +73,7 @@ blocks_read ns z front more behind is there some transfer =
       some = some;
       transfer = le-leb _ _ transfer;
     } in
-    lying_is_read ns z (length front) (length more) (bytes_of more) lie
+    lying_is_read ns z (length front) (length more) (concat more) lie
 
 -- ---- events
 
@@ -156,7 +156,7 @@ module _ {D : Type 0} (operations : Operations D) where
   -- a part of blocks that lie in a zone behind others
   pub part_is_read : (s : State) (z : ℕ) (front all behind : List (List ℕ)) (at blocks : ℕ) → IsNamespace s.namespace
       → blocks_at s z ≡ front ++ (all ++ behind) → at + blocks ≤ length all → 1 ≤ blocks → blocks * s.namespace.block ≤ MOST_TRANSFER
-      → ReadsGive operations s (z * s.namespace.size + length front + at) blocks (bytes_of (take blocks (drop at all)))
+      → ReadsGive operations s (z * s.namespace.size + length front + at) blocks (concat (take blocks (drop at all)))
   part_is_read s z front all behind at blocks is there within some transfer =
       let ns = s.namespace in
       let part = is_part all at blocks within in
@@ -171,20 +171,20 @@ module _ {D : Type 0} (operations : Operations D) where
       let read = blocks_read ns z (front ++ before) more (after ++ behind) is lie (omega (arith, part.count)) long in
       let joined = length-append front before in
       let start : z * ns.size + length (front ++ before) ≡ z * ns.size + length front + at = omega (arith, joined, part.start) in
-      reads operations s (z * ns.size + length front + at) blocks (bytes_of more)
-      (subst (λ (lba : ℕ). AreRead ns lba blocks (bytes_of more)) start
-      (subst (λ (n : ℕ). AreRead ns (z * ns.size + length (front ++ before)) n (bytes_of more)) part.count read))
+      reads operations s (z * ns.size + length front + at) blocks (concat more)
+      (subst (λ (lba : ℕ). AreRead ns lba blocks (concat more)) start
+      (subst (λ (n : ℕ). AreRead ns (z * ns.size + length (front ++ before)) n (concat more)) part.count read))
 
   pub written_is_read : WrittenIsRead operations
   written_is_read s z at blocks is within some transfer =
       let all = blocks_at s z in
       let same : z * s.namespace.size + 0 + at ≡ z * s.namespace.size + at = omega arith in
-      subst (λ (lba : ℕ). ReadsGive operations s lba blocks (bytes_of (take blocks (drop at all)))) same
+      subst (λ (lba : ℕ). ReadsGive operations s lba blocks (concat (take blocks (drop at all)))) same
       (part_is_read s z [] all [] at blocks is (sym (append-nil all)) within some transfer)
 
   -- blocks of which each is read are read one after another
   pub each_is_read : (s : State) (all : List (List ℕ)) (lba : ℕ)
-      → ((at : ℕ) → at + 1 ≤ length all → ReadsGive operations s (lba + at) 1 (bytes_of (take 1 (drop at all))))
+      → ((at : ℕ) → at + 1 ≤ length all → ReadsGive operations s (lba + at) 1 (concat (take 1 (drop at all))))
       → BlocksAreRead operations s lba all
   each_is_read s [] lba each = tt
   each_is_read s (b ∷ bs) lba each =
@@ -194,5 +194,5 @@ module _ {D : Type 0} (operations : Operations D) where
         each_is_read s bs (lba + 1)
             (λ at within.
             let next : lba + suc at ≡ lba + 1 + at = omega arith in
-            subst (λ (n : ℕ). ReadsGive operations s n 1 (bytes_of (take 1 (drop at bs)))) next (each (suc at) (omega arith))),
+            subst (λ (n : ℕ). ReadsGive operations s n 1 (concat (take 1 (drop at bs)))) next (each (suc at) (omega arith))),
       )

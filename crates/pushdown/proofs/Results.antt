@@ -7,11 +7,11 @@ use Rattle.std.proofs.lemmas.Bool.Decides.{eqb_tells}
 use Rattle.zone_state.specs.declared.status.Status.{Status}
 use Rattle.zone_state.specs.declared.status.TheConstants.Status.{SUCCESS, NO_SUCH_PROGRAM}
 use Rattle.zone_state.specs.Checks.{first_failed}
+use Rattle.zone_state.proofs.Proved.{demanded, passed}
 use Rattle.nvme_entry.specs.Entry.{decoded}
 use Rattle.nvme_entry.specs.declared.command.Command.{Command}
 use Rattle.nvme_entry.specs.declared.command.Command.TheVariants as commands
 use Rattle.nvme_entry.specs.declared.command.RunCommand.{RunCommand}
-use Rattle.nvme_entry.proofs.Proved.{demanded, passed}
 use Rattle.word_domain.specs.Domain.{Operations}
 use Rattle.accepted_programs.specs.Laws.{AcceptedNeverTraps}
 use Rattle.program_meaning.specs.BlockRun.{BlockRun}

@@ -1,20 +1,20 @@
 -- What a run appends is read back, whatever events happen after its turns.
 use Rattle.std.proofs.Common.{◌≡◌, ℕ, ◌+◌, ◌*◌, ◌<◌, ◌≤◌, Bool, false, List, [], ◌∷◌, ◌++◌, length, take, drop, Vec, ap, sym, subst, ◌∙◌, arith, append_assoc}
 use Rattle.std.specs.Prelude.{is_some, nat_eq}
+use Rattle.std.specs.List.{concat}
 use Rattle.std.specs.declared.alloc.Global.{Global}
 use Rattle.std.proofs.lemmas.Bool.{eqb-true}
 use Rattle.std.proofs.lemmas.List.{take_all}
 use Rattle.zone_state.specs.declared.status.TheConstants.Status.{INVALID_FIELD_IN_COMMAND}
+use Rattle.zone_state.proofs.Proved.{demanded, passed}
 use Rattle.nvme_entry.specs.declared.command.RunCommand.{RunCommand}
 use Rattle.nvme_entry.specs.declared.command.TheConstants.{MOST_TRANSFER}
 use Rattle.word_domain.specs.Domain.{Operations}
 use Rattle.accepted_programs.specs.Laws.{AcceptedNeverTraps}
 use Rattle.program_interface.specs.Bytes.{AreBytes}
-use Rattle.image_store.specs.Blocks.{bytes_of}
 use Rattle.image_store.specs.Geometry.{Shape}
 use Rattle.image_store.specs.Namespace.{shape, IsNamespace}
 use Rattle.image_store.proofs.Proved.{block_most}
-use Rattle.nvme_entry.proofs.Proved.{demanded, passed}
 use Rattle.pushdown.specs.Admission.{admission_checks}
 use Rattle.pushdown.specs.EventReplies.{Submission, submission_of}
 use Rattle.pushdown.specs.Events.{AreEvents, Occurrence, state_after}
@@ -84,7 +84,7 @@ module _ {D : Type 0} (operations : Operations D) (never : AcceptedNeverTraps op
   -- each part of these blocks is read
   abbrev PartsAreRead : List (List ℕ) → Type 0
   PartsAreRead all = (at blocks : ℕ) → at + blocks ≤ length all → 1 ≤ blocks → blocks * s.namespace.block ≤ MOST_TRANSFER
-      → ReadsGive operations last (start + at) blocks (bytes_of (take blocks (drop at all)))
+      → ReadsGive operations last (start + at) blocks (concat (take blocks (drop at all)))
 
   module _ (admitted : IsAdmitted s sub command run) (fit : AreEvents events) (fit_later : AreEvents later) (less : so_far < length all_turns)
       (none : NoEventClears operations to later then) where
@@ -103,7 +103,7 @@ module _ {D : Type 0} (operations : Operations D) (never : AcceptedNeverTraps op
         let lie : blocks_at last to ≡ held ++ (all ++ grows.more) =
         grows.is ∙ (ap (λ (xs : List (List ℕ)). xs ++ grows.more) (theorem.does_its_turns less).then_appended ∙ append_assoc held all grows.more) in
         let few = subst (λ (x : Shape). blocks * x.block ≤ MOST_TRANSFER) (sym last_shape) transfer in
-        subst (λ (x : Shape). ReadsGive operations last (to * x.size + length held + at) blocks (bytes_of (take blocks (drop at all)))) last_shape
+        subst (λ (x : Shape). ReadsGive operations last (to * x.size + length held + at) blocks (concat (take blocks (drop at all)))) last_shape
         (part_is_read operations last to held all grows.more at blocks last_sound lie within some few)
 
     emitted_are_read : so_far + 1 ≡ length all_turns → EmittedAreRead operations s queue entry input starved command run events later

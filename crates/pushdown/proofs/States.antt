@@ -12,6 +12,7 @@ use Rattle.zone_resources.specs.Holds.{is_destination}
 use Rattle.zone_resources.specs.declared.holds.Holds.{Holds}
 use Rattle.zone_resources.specs.declared.holds.TheConstants.{RUNS}
 use Rattle.zone_state.specs.Checks.{first_failed}
+use Rattle.zone_state.proofs.Proved.{demanded, passed}
 use Rattle.nvme_entry.specs.declared.command.LoadCommand.{LoadCommand}
 use Rattle.nvme_entry.specs.declared.command.RunCommand.{RunCommand}
 use Rattle.nvme_entry.specs.declared.program_slot.TheConstants.{PROGRAM_SLOTS}
@@ -36,7 +37,6 @@ use Rattle.image_store.proofs.Proved.{block_most}
 use Rattle.zns_commands.specs.Left as kept
 use Rattle.zns_commands.specs.Laws.{IsSpelled, NamespaceEvent, after}
 use Rattle.zns_commands.proofs.Proved.{held_destinations_are_left, events_keep_namespaces, events_keep_shapes}
-use Rattle.nvme_entry.proofs.Proved.{demanded, passed}
 use Rattle.pushdown.specs.Admission.{Loaded, admission_checks, source_blocks, task_of}
 use Rattle.pushdown.specs.EventReplies.{Submission}
 use Rattle.pushdown.specs.BlockRuns.{Task, block_runs_of, groups_of, no_scratch}

@@ -1,6 +1,7 @@
 -- What a turn appends fits into its destination.
 use Rattle.std.proofs.Common.{◌≡◌, ◌≢◌, ℕ, ◌+◌, ◌*◌, ◌≤◌, Bool, true, false, cond, List, [], ◌∷◌, ◌++◌, length, Option, None, refl, ap, sym, subst, ◌∙◌, arith, inl, inr, length-append, get_or-set_same}
 use Rattle.std.specs.Prelude.{◌⊎◌, nat_eq}
+use Rattle.std.specs.List.{concat}
 use Rattle.std.proofs.Math.Nat.{mul-le-mul_right}
 use Rattle.std.proofs.lemmas.Bool.{eqb-true}
 use Rattle.zone_state.specs.Checks.{first_failed}
@@ -10,7 +11,6 @@ use Rattle.zone_state.specs.declared.state.ZoneState.{ZoneState}
 use Rattle.zone_state.specs.declared.state.ZoneState.TheVariants.{ImplicitlyOpened, ExplicitlyOpened, Full}
 use Rattle.zone_resources.specs.Holds.{no_holds}
 use Rattle.nvme_entry.specs.declared.command.TheConstants.{MOST_TRANSFER}
-use Rattle.image_store.specs.Blocks.{bytes_of}
 use Rattle.image_store.specs.Namespace.{ZoneBlocks, ZonedNamespace, IsNamespace, appended, grown, no_zone, zone_at}
 use Rattle.image_store.proofs.Proved.{block_most, block_some}
 use Rattle.zns_commands.specs.Append.{TakesBlocks, append_checks}
@@ -50,7 +50,7 @@ module _ (ns : ZonedNamespace) (z : ℕ) (b : List ℕ) (bs : List (List ℕ)) (
       ⊎ (length (grown ns.capacity (zone_at ns z) more).blocks ≡ ns.capacity)
   more_open = open_by (nat_eq (before + length more) ns.capacity) refl
 
-  more_takes : IsNamespace ns → AreBlocks ns.block more → TakesBlocks ns z (bytes_of more)
+  more_takes : IsNamespace ns → AreBlocks ns.block more → TakesBlocks ns z (concat more)
   more_takes sound new =
       let some : 1 ≤ ns.block = omega (arith, block_some sound.shape) in
       let count = bytes_count ns.block more some new in
@@ -61,27 +61,27 @@ module _ (ns : ZonedNamespace) (z : ℕ) (b : List ℕ) (bs : List (List ℕ)) (
         room = omega (arith, room, count);
       }
 
-  more_added : IsNamespace ns → AreBlocks ns.block more → added ns z more ≡ appended ns z (bytes_of more)
+  more_added : IsNamespace ns → AreBlocks ns.block more → added ns z more ≡ appended ns z (concat more)
   more_added sound new = added_bytes ns z more (λ e. cc) (omega (arith, block_some sound.shape)) new
 
   pub more_sound : IsNamespace ns → AreBlocks ns.block more → IsNamespace (added ns z more)
   more_sound sound new =
       subst IsNamespace (sym (more_added sound new))
-      (added_blocks_keep_namespaces_sound ns z (bytes_of more) sound (more_takes sound new) (bytes_are ns.block more new))
+      (added_blocks_keep_namespaces_sound ns z (concat more) sound (more_takes sound new) (bytes_are ns.block more new))
 
   pub more_appended : IsNamespace ns → AreBlocks ns.block more → length more ≤ 2 → IsAppended ns z more
   more_appended sound new few =
       let takes = more_takes sound new in
       let product : length more * ns.block ≤ 2 * ns.block = mul-le-mul_right ns.block few in
       let long = bytes_long ns.block more new in
-      let most : length (bytes_of more) ≤ MOST_TRANSFER = omega (arith, long, product, block_most sound.shape) in
+      let most : length (concat more) ≤ MOST_TRANSFER = omega (arith, long, product, block_most sound.shape) in
       let count = bytes_count ns.block more (omega (arith, block_some sound.shape)) new in
       record {
         takes = takes;
         passes =
-            subst (λ (n : ℕ). first_failed (append_checks ns no_holds (z * ns.size) n (bytes_of more)) ≡ None)
-            count (taken_blocks_pass ns z (bytes_of more) sound takes most);
-        effect = more_added sound new ∙ blocks_are_the_effect ns z (bytes_of more) sound takes;
+            subst (λ (n : ℕ). first_failed (append_checks ns no_holds (z * ns.size) n (concat more)) ≡ None)
+            count (taken_blocks_pass ns z (concat more) sound takes most);
+        effect = more_added sound new ∙ blocks_are_the_effect ns z (concat more) sound takes;
       }
 
 -- ---- a turn whose blocks fit

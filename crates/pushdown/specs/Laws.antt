@@ -21,7 +21,6 @@ use Rattle.word_domain.specs.Domain.{Operations}
 use Rattle.accepted_programs.specs.Accepted.{refusal}
 use Rattle.emit_append.specs.Unpacking.{unpacked}
 use Rattle.emit_append.specs.Packing.{packed, pending_of, released}
-use Rattle.image_store.specs.Blocks.{bytes_of}
 use Rattle.image_store.specs.Namespace.{ZoneBlocks, ZonedNamespace, zone_at, shape, IsNamespace}
 use Rattle.zns_commands.specs.Append.{TakesBlocks, append_checks, append_effect}
 use Rattle.zns_commands.specs.Left.{Grows}
@@ -198,9 +197,9 @@ pub record RoomIn (capacity : ℕ) (zone : ZoneBlocks) (turns : List Turn) : Typ
 
 -- a turn's blocks come to their zone as by a Zone Append that meets no hold, and no check refuses that
 pub record IsAppended (ns : ZonedNamespace) (z : ℕ) (blocks : List (List ℕ)) : Type 0 where
-  pub takes : TakesBlocks ns z (bytes_of blocks)
-  pub passes : first_failed (append_checks ns no_holds (z * ns.size) (length blocks) (bytes_of blocks)) ≡ None
-  pub effect : added ns z blocks ≡ (append_effect ns no_holds (z * ns.size) (bytes_of blocks)).namespace
+  pub takes : TakesBlocks ns z (concat blocks)
+  pub passes : first_failed (append_checks ns no_holds (z * ns.size) (length blocks) (concat blocks)) ≡ None
+  pub effect : added ns z blocks ≡ (append_effect ns no_holds (z * ns.size) (concat blocks)).namespace
 
 module _ {D : Type 0} (operations : Operations D) where
   -- a program in its slot is a program, its limit is at most a block, and no reason refuses it

@@ -13,7 +13,6 @@ use Rattle.nvme_entry.specs.declared.command.TheConstants.{MOST_TRANSFER}
 use Rattle.program_interface.specs.declared.area.TheConstants.{SCRATCH_BYTES}
 use Rattle.word_domain.specs.Domain.{Operations}
 use Rattle.emit_append.specs.Unpacking.{unpacked}
-use Rattle.image_store.specs.Blocks.{bytes_of}
 use Rattle.image_store.specs.Namespace.{zone_at, shape, IsNamespace}
 use Rattle.zone_state.specs.State.{is_cleared}
 use Rattle.zns_commands.specs.Address.{write_pointer, zone_number}
@@ -114,7 +113,7 @@ module _ {D : Type 0} (operations : Operations D) where
     AppendedAreRead =
         let appended = appended_by (take (own_turns run events + 1) turns) in
         (at blocks : ℕ) → at + blocks ≤ length appended → 1 ≤ blocks → blocks * s.namespace.block ≤ MOST_TRANSFER
-        → ReadsGive (state_after operations later after_turn) (pointer + at) blocks (bytes_of (take blocks (drop at appended)))
+        → ReadsGive (state_after operations later after_turn) (pointer + at) blocks (concat (take blocks (drop at appended)))
 
     -- where that turn was the last, the blocks that are read there, one after another, unpack to the records
     -- that the program emitted, in order
@@ -155,7 +154,7 @@ abbrev pub WrittenIsRead : {D : Type 0} → Operations D → Type 0
 WrittenIsRead operations =
     (s : State) (z at blocks : ℕ) → IsNamespace s.namespace
     → at + blocks ≤ length (blocks_at s z) → 1 ≤ blocks → blocks * s.namespace.block ≤ MOST_TRANSFER
-    → ReadsGive operations s (z * s.namespace.size + at) blocks (bytes_of (take blocks (drop at (blocks_at s z))))
+    → ReadsGive operations s (z * s.namespace.size + at) blocks (concat (take blocks (drop at (blocks_at s z))))
 
 -- what an Append that succeeds put in is read from the address that its completion tells, whatever
 -- events happen in between, until the zone is reset or goes offline

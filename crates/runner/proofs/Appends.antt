@@ -8,7 +8,8 @@ use Rattle.zone_state.specs.State.{is_open}
 use Rattle.zone_state.specs.Zone.{written_state}
 use Rattle.zone_state.specs.declared.state.ZoneState.{ZoneState}
 use Rattle.zone_state.specs.declared.state.ZoneState.TheVariants.{Empty, ImplicitlyOpened, ExplicitlyOpened, Closed, ReadOnly, Full, Offline}
-use Rattle.image_store.specs.Blocks.{as_blocks, block_count, blocks_of}
+use Rattle.program_interface.specs.Bytes.{pieces}
+use Rattle.image_store.specs.Blocks.{as_blocks, block_count}
 use Rattle.image_store.specs.Namespace.{ZoneBlocks, ZonedNamespace, appended, grown, no_zone, with_zone, zone_at}
 use Rattle.pushdown.specs.Happenings.{added}
 
@@ -19,7 +20,7 @@ one_count block bytes some same = ap (λ (n : ℕ). n / block) same ∙ div_self
 
 one_block : (block : ℕ) (bytes : List ℕ) → 1 ≤ block → length bytes ≡ block → as_blocks block bytes ≡ bytes ∷ []
 one_block block bytes some same =
-    ap (λ (n : ℕ). blocks_of block n bytes) (one_count block bytes some same)
+    ap (λ (n : ℕ). pieces block n bytes) (one_count block bytes some same)
     ∙ ap (λ (b : List ℕ). b ∷ []) (take_all block bytes (omega (arith, same)))
 
 pub one_appended : (ns : ZonedNamespace) (z : ℕ) (bytes : List ℕ) → 1 ≤ ns.block → length bytes ≡ ns.block → appended ns z bytes ≡ added ns z (bytes ∷ [])

@@ -8,6 +8,7 @@ use Rattle.std.proofs.lemmas.Bool.Decides.{eqb_tells}
 use Rattle.zone_state.specs.declared.status.Status.{Status}
 use Rattle.zone_state.specs.declared.status.TheConstants.Status.{PROGRAM_IN_USE, SUCCESS}
 use Rattle.zone_state.specs.Checks.{first_failed}
+use Rattle.zone_state.proofs.Proved.{demanded, passed}
 use Rattle.nvme_entry.specs.declared.command.LoadCommand.{LoadCommand}
 use Rattle.program_interface.specs.RunSizes.{Sizes}
 use Rattle.interval_domain.specs.Intervals.{intervals}
@@ -15,7 +16,6 @@ use Rattle.verifier.specs.Verified.{program_of, sizes_of}
 use Rattle.image_store.specs.Namespace.{ZonedNamespace}
 use Rattle.zns_commands.specs.Answer.{refused_answer, success_answer}
 use Rattle.zns_commands.specs.declared.answer.Answer.{Answer}
-use Rattle.nvme_entry.proofs.Proved.{demanded, passed}
 use Rattle.pushdown.specs.Admission.{Loaded, task_of}
 use Rattle.pushdown.specs.EventReplies.{completed, submission_of}
 use Rattle.pushdown.specs.BlockRuns.{no_scratch}

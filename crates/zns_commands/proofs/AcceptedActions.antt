@@ -9,6 +9,7 @@ use Rattle.zone_state.specs.declared.status.Status.{Status}
 use Rattle.zone_state.specs.declared.status.TheConstants.Status.{ZONE_HELD}
 use Rattle.zone_resources.specs.declared.holds.Holds.{Holds}
 use Rattle.zone_state.specs.Checks.{demand, unless_failed, first_failed}
+use Rattle.zone_state.proofs.Proved.{demanded, passed}
 use Rattle.image_store.specs.Namespace.{ZonedNamespace, zone_at, IsNamespace}
 use Rattle.zns_commands.specs.Address.{zone_number, block_total}
 use Rattle.zns_commands.specs.Resources.{room_for, why_not, closing_of}
@@ -19,7 +20,6 @@ use Rattle.zns_commands.specs.declared.send.ZonePlan.{ZonePlan}
 use Rattle.zns_commands.specs.steps.Plans.{zone_plan}
 use Rattle.zns_commands.proofs.GivenWay.{has_room, no_one_gives_way}
 use Rattle.zns_commands.proofs.MovedZones.{action_fits, moved_sound}
-use Rattle.nvme_entry.proofs.Proved.{passed, demanded}
 use Rattle.zns_commands.proofs.PassedChecks.{roomed, zone_inside}
 
 -- the checks of an action on one zone, all passed, and what they give

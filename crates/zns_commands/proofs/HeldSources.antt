@@ -17,6 +17,7 @@ use Rattle.nvme_entry.specs.declared.command.StandardCommand.{StandardCommand}
 use Rattle.nvme_entry.specs.declared.command.StandardCommand.TheVariants.{Write, Read, Send, Receive, Append}
 use Rattle.image_store.specs.Namespace.{ZoneBlocks, ZonedNamespace, no_zone, zone_at, with_zone, arrived, with_state}
 use Rattle.zone_state.specs.State.{is_cleared}
+use Rattle.zone_state.proofs.Proved.{passed}
 use Rattle.zns_commands.specs.Address.{zone_number}
 use Rattle.zns_commands.specs.Fault.{zone_fault_refusal, faulted_by}
 use Rattle.zns_commands.specs.Left.{Grows, HeldSourcesKeepBlocks}
@@ -28,7 +29,6 @@ use Rattle.zns_commands.specs.steps.Plans.{write_plan, zone_plan}
 use Rattle.zns_commands.proofs.HeldZones.{not_taken, not_refused, not_held}
 use Rattle.zns_commands.proofs.KeptBlocks.{grows_by_none, grows_on, replaced_grows, closed_grows, written_grows}
 use Rattle.zns_commands.proofs.Meanings.{after_command}
-use Rattle.nvme_entry.proofs.Proved.{passed}
 use Rattle.zns_commands.proofs.Untouched.{effect_left}
 
 -- a zone that comes into a state that isn't cleared keeps its blocks

@@ -17,6 +17,7 @@ use Rattle.zone_resources.specs.Holds.{names, is_destination, is_source, is_held
 use Rattle.zone_resources.specs.declared.admission.Wanted.{Wanted}
 use Rattle.zone_resources.specs.declared.holds.Holds.{Holds}
 use Rattle.zone_state.specs.Checks.{first_failed}
+use Rattle.zone_state.proofs.Proved.{demanded, passed}
 use Rattle.nvme_entry.specs.declared.command.StandardCommand.{StandardCommand}
 use Rattle.nvme_entry.specs.declared.command.StandardCommand.TheVariants.{Write, Read, Send, Receive, Append}
 use Rattle.image_store.specs.Namespace.{ZoneBlocks, ZonedNamespace, no_zone, zone_at, counted, counted_zones}
@@ -32,7 +33,6 @@ use Rattle.zns_commands.specs.Write.{write_checks}
 use Rattle.zns_commands.specs.steps.Plans.{zone_plan}
 use Rattle.zns_commands.proofs.GivenWay.{admitted_closable}
 use Rattle.zns_commands.proofs.Meanings.{after_command}
-use Rattle.nvme_entry.proofs.Proved.{passed, demanded}
 use Rattle.zns_commands.proofs.PassedChecks.{roomed}
 use Rattle.zns_commands.proofs.Untouched.{effect_left, faulted_left}
 

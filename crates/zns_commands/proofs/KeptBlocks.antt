@@ -23,7 +23,7 @@ use Rattle.zns_commands.specs.Fault.{zone_fault_refusal, faulted_by}
 use Rattle.zns_commands.specs.Read.{read_checks, read_effect, read_refusal}
 use Rattle.zns_commands.specs.Resources.{closed}
 use Rattle.zns_commands.specs.Receive.{receive_checks, receive_effect}
-use Rattle.zns_commands.specs.Send.{send_checks, send_effect, takes, swept}
+use Rattle.zns_commands.specs.Send.{led_to, send_checks, send_effect, takes, swept}
 use Rattle.zns_commands.specs.Write.{write_checks, write_effect}
 use Rattle.zns_commands.specs.Left.{Grows}
 use Rattle.zns_commands.specs.Laws.{NamespaceEvent, Commanded, Faulted, NoneClears, after, after_events}

@@ -6,12 +6,13 @@ use Rattle.std.proofs.lemmas.Bool.{eq-eqb, le-leb, lt-ltb}
 use Rattle.std.proofs.lemmas.Nat.{mod-mul-add}
 use Rattle.zone_state.specs.Checks.{demand, first_failed}
 use Rattle.zone_state.specs.State.{is_open}
-use Rattle.zone_state.specs.Zone.{CountedZone, fits_room, write_check, write_check_in}
+use Rattle.zone_state.specs.Zone.{CountedZone, write_check, write_refusal}
 use Rattle.zone_state.specs.declared.state.ZoneState.{ZoneState}
 use Rattle.zone_state.specs.declared.state.ZoneState.TheVariants.{Empty, ImplicitlyOpened, ExplicitlyOpened, Closed, ReadOnly, Full, Offline}
 use Rattle.zone_resources.specs.Admission.{wanted_of, HoldsNoMore}
 use Rattle.zone_state.specs.declared.status.Status.{Status}
 use Rattle.zone_state.specs.declared.status.TheConstants.Status.{SUCCESS, INVALID_FIELD_IN_COMMAND, LBA_OUT_OF_RANGE, ZONE_HELD}
+use Rattle.zone_state.proofs.Proved.{allowed_passes}
 use Rattle.zone_resources.specs.Holds.{is_destination, no_holds}
 use Rattle.zone_resources.specs.declared.admission.Wanted.{Wanted}
 use Rattle.zone_resources.specs.declared.holds.Holds.{Holds}
@@ -68,22 +69,16 @@ open_within ns z bytes sound is =
 
 -- ---- an open zone takes blocks that it has room for
 
-open_refuses : (s : ZoneState) (r : CountedZone) (at n : ℕ) → is_open s ≡ true → write_check_in s r at n ≡ fits_room r at n
-open_refuses ImplicitlyOpened r at n is = refl
-open_refuses ExplicitlyOpened r at n is = refl
-open_refuses s r at n is = cc
-
-fits_by : (r : CountedZone) (n : ℕ) (fits here : Bool) → fits ≡ nat_le (r.written + n) r.capacity → fits ≡ true → here ≡ nat_eq r.written r.written
-    → here ≡ true → fits_room r r.written n ≡ Ok tt
-fits_by r n fits here is_fit yes_fit is_here yes_here = rw (sym is_here ∙ yes_here, sym is_fit ∙ yes_fit) refl
+open_writable : (s : ZoneState) → is_open s ≡ true → write_refusal s ≡ None
+open_writable ImplicitlyOpened is = refl
+open_writable ExplicitlyOpened is = refl
+open_writable s is = cc
 
 open_takes : (ns : ZonedNamespace) (z n : ℕ) → is_open (zone_at ns z).state ≡ true → length (zone_at ns z).blocks + n ≤ ns.capacity
     → write_check (counted_zone_at ns z) (length (zone_at ns z).blocks) n ≡ Ok tt
 open_takes ns z n is room =
-    let before = length (zone_at ns z).blocks in
-    open_refuses (zone_at ns z).state (counted_zone_at ns z) before n is
-    ∙ fits_by (counted_zone_at ns z) n (nat_le (before + n) ns.capacity) (nat_eq before before) refl
-    (le-leb (before + n) ns.capacity room) refl (eq-eqb before before refl)
+    allowed_passes (counted_zone_at ns z) (length (zone_at ns z).blocks) n
+    (record { writable = open_writable (zone_at ns z).state is; at_pointer = refl; has_room = room })
 
 pub added_blocks_keep_namespaces_sound : AddedBlocksKeepNamespacesSound
 added_blocks_keep_namespaces_sound ns z bytes sound takes are =

@@ -2,7 +2,7 @@
 use Rattle.std.proofs.Common.{◌≡◌, ℕ, ◌+◌, ◌*◌, ◌%◌, ◌<◌, ◌≤◌, Bool, true, false, cond, List, [], ◌∷◌, length, Option, Some, None, Result, Ok, Err, refl, ap, subst, arith}
 use Rattle.std.specs.Prelude.{nat_lt, nat_le, nat_eq, not}
 use Rattle.std.proofs.Math.Nat.{div-lt_iff_lt-mul}
-use Rattle.zone_state.specs.Zone.{CountedZone, write_check, write_check_in, fits_room}
+use Rattle.zone_state.specs.Zone.{CountedZone, checks_of_write, write_check, write_refusal}
 use Rattle.zone_state.specs.declared.state.ZoneState.{ZoneState}
 use Rattle.zone_state.specs.declared.state.ZoneState.TheVariants.{ReadOnly, Full, Offline}
 use Rattle.zone_state.specs.declared.status.Status.{Status}
@@ -16,7 +16,7 @@ use Rattle.zone_resources.specs.declared.admission.Wanted.TheVariants.{OpenOnly,
 use Rattle.zone_resources.specs.declared.holds.Holds.{Holds}
 use Rattle.nvme_entry.specs.declared.command.StandardCommand.TheVariants.{Write, Read, Append}
 use Rattle.nvme_entry.specs.declared.command.TheConstants.{MOST_TRANSFER}
-use Rattle.zone_state.specs.Checks.{demand, or_else, first_failed}
+use Rattle.zone_state.specs.Checks.{demand, or_else, first_failed, unless_failed}
 use Rattle.image_store.specs.Namespace.{ZonedNamespace, zone_at, counted_zones, IsNamespace}
 use Rattle.zns_commands.specs.Address.{counted_zone_at, zone_number, block_total}
 use Rattle.zns_commands.specs.Effect.{Effect, concluded}
@@ -66,17 +66,23 @@ cond_fails : {X : Type 0} (test : Bool) (x y : Result X Status) → Fails (why_n
 cond_fails true x y left right = left
 cond_fails false x y left right = right
 
-room_fails : (r : CountedZone) (at n : ℕ) → Fails (why_not (fits_room r at n))
-room_fails r at n =
-    cond_fails (nat_eq at r.written) (cond (nat_le (r.written + n) r.capacity) (Ok tt) (Err ZONE_BOUNDARY_ERROR)) (Err ZONE_INVALID_WRITE)
-    (cond_fails (nat_le (r.written + n) r.capacity) (Ok tt) (Err ZONE_BOUNDARY_ERROR) none_fails (err_fails ZONE_BOUNDARY_ERROR (omega arith)))
-    (err_fails ZONE_INVALID_WRITE (omega arith))
+unless_fails : {X : Type 0} (why : Option Status) (x : X) → Fails why → Fails (why_not (unless_failed why x))
+unless_fails None x fails = fails
+unless_fails (Some status) x fails = fails
 
-write_check_fails : (s : ZoneState) (r : CountedZone) (at n : ℕ) → Fails (why_not (write_check_in s r at n))
-write_check_fails Full r at n = err_fails ZONE_IS_FULL (omega arith)
-write_check_fails ReadOnly r at n = err_fails ZONE_IS_READ_ONLY (omega arith)
-write_check_fails Offline r at n = err_fails ZONE_IS_OFFLINE (omega arith)
-write_check_fails s r at n = room_fails r at n
+refusal_fails : (state : ZoneState) → Fails (write_refusal state)
+refusal_fails Full = err_fails ZONE_IS_FULL (omega arith)
+refusal_fails ReadOnly = err_fails ZONE_IS_READ_ONLY (omega arith)
+refusal_fails Offline = err_fails ZONE_IS_OFFLINE (omega arith)
+refusal_fails state = none_fails
+
+write_check_fails : (z : CountedZone) (at n : ℕ) → Fails (why_not (write_check z at n))
+write_check_fails z at n =
+    unless_fails (first_failed (checks_of_write z at n)) tt
+    (first_fails (write_refusal z.state) _ (refusal_fails z.state)
+    (first_fails (demand (nat_eq at z.written) ZONE_INVALID_WRITE) _ (demand_fails (nat_eq at z.written) ZONE_INVALID_WRITE (omega arith))
+    (first_fails (demand (nat_le (z.written + n) z.capacity) ZONE_BOUNDARY_ERROR) None
+    (demand_fails (nat_le (z.written + n) z.capacity) ZONE_BOUNDARY_ERROR (omega arith)) none_fails)))
 
 closing_fails : (found : Option ℕ) → Fails (why_not (closing_answer found))
 closing_fails None = err_fails TOO_MANY_OPEN_ZONES (omega arith)
@@ -138,7 +144,7 @@ append_passed ns holds lba blocks input done =
     (nat_eq (lba % ns.size) 0) (not (is_destination holds z)) INVALID_FIELD_IN_COMMAND
     (why_not (write_check (counted_zone_at ns z) (length zone.blocks) blocks)) (why_not (room_for ns holds zone.state))
     (omega arith)
-    (write_check_fails zone.state (counted_zone_at ns z) (length zone.blocks) blocks)
+    (write_check_fails (counted_zone_at ns z) (length zone.blocks) blocks)
     (wanted_fails ns holds (wanted_of zone.state)))
     done
 
@@ -152,7 +158,7 @@ write_passed ns holds lba blocks input done =
     (nat_le (lba % ns.size + blocks) ns.size) (not (is_destination holds z)) ZONE_BOUNDARY_ERROR
     (why_not (write_check (counted_zone_at ns z) (lba % ns.size) blocks)) (why_not (room_for ns holds zone.state))
     (omega arith)
-    (write_check_fails zone.state (counted_zone_at ns z) (lba % ns.size) blocks)
+    (write_check_fails (counted_zone_at ns z) (lba % ns.size) blocks)
     (wanted_fails ns holds (wanted_of zone.state)))
     done
 

@@ -1,6 +1,7 @@
 -- That written and appended blocks read back, whatever comes in between.
 use Rattle.std.proofs.Common.{◌≡◌, ◌≢◌, ℕ, suc, ◌+◌, ◌*◌, ◌/◌, ◌%◌, ◌^◌, ◌<◌, ◌≤◌, Bool, true, false, cond, List, [], ◌∷◌, ◌++◌, length, set, take, drop, replicate, Option, Some, None, Ok, refl, ap, sym, subst, ◌∙◌, arith, append_assoc}
 use Rattle.std.specs.Prelude.{nat_lt, nat_le, nat_eq}
+use Rattle.std.specs.List.{concat}
 use Rattle.std.proofs.lemmas.Bool.{ltb-true, leb-true, eqb-true, le-leb}
 use Rattle.std.proofs.lemmas.List.{append-nil, length-set, take_all, take_at, drop_at, get_or-set_same}
 use Rattle.std.proofs.lemmas.Nat.{div-mul-add, mod-mul-add}
@@ -14,10 +15,11 @@ use Rattle.zone_resources.specs.declared.holds.Holds.{Holds}
 use Rattle.nvme_entry.specs.declared.command.StandardCommand.TheVariants.{Write, Read, Append}
 use Rattle.nvme_entry.specs.declared.command.TheConstants.{MOST_TRANSFER}
 use Rattle.zone_state.specs.Checks.{demand, first_failed}
-use Rattle.image_store.specs.Blocks.{as_blocks, block_count, bytes_of}
+use Rattle.zone_state.proofs.Proved.{demanded, is_allowed, passed}
+use Rattle.image_store.specs.Blocks.{as_blocks, block_count}
 use Rattle.image_store.specs.Geometry.{Shape}
 use Rattle.image_store.specs.Namespace.{ZoneBlocks, ZonedNamespace, no_zone, zone_at, grown, IsNamespace}
-use Rattle.image_store.proofs.Proved.{allowed_is_within, block_some, blocks_keep_bytes}
+use Rattle.image_store.proofs.Proved.{block_some, blocks_keep_bytes}
 use Rattle.zns_commands.specs.Address.{counted_zone_at, zone_number, block_total, write_pointer}
 use Rattle.zns_commands.specs.Effect.{Effect, success_effect, concluded}
 use Rattle.zns_commands.specs.Append.{append_checks, append_effect}
@@ -28,9 +30,8 @@ use Rattle.zns_commands.specs.Laws.{after_events, AreRead, AppendedBlocksReadBac
 use Rattle.zns_commands.specs.Meaning.{meaning}
 use Rattle.zns_commands.specs.steps.Plans.{write_plan, written_by}
 use Rattle.zns_commands.proofs.GivenWay.{has_room, written_is}
-use Rattle.zns_commands.proofs.WrittenZones.{brings, pointer_in}
+use Rattle.zns_commands.proofs.WrittenZones.{brings}
 use Rattle.zns_commands.proofs.KeptBlocks.{KeepsZone, events_keep_zones, written_shape}
-use Rattle.nvme_entry.proofs.Proved.{passed, demanded}
 use Rattle.zns_commands.proofs.PassedChecks.{roomed, allowed, zone_inside, append_passed, write_passed}
 
 -- a namespace, once a zone is written
@@ -63,7 +64,7 @@ pub record BlocksLieAt (m : ZonedNamespace) (z w blocks : ℕ) (input : List ℕ
   pub there : (zone_at m z).blocks ≡ front ++ (more ++ behind)
   pub start : length front ≡ w
   pub count : length more ≡ blocks
-  pub bytes : bytes_of more ≡ input
+  pub bytes : concat more ≡ input
   pub readable : read_refusal (zone_at m z).state ≡ None
   pub inside : z < length m.zones
   pub room : w + blocks ≤ m.size
@@ -88,12 +89,12 @@ lying_is_read m z w blocks input h holds =
     (read_refusal (zone_at m (lba / size)).state) _ _ _ h.transfer (le-leb _ _ end) (le-leb _ _ one) open_zone in
     let zeros : List (List ℕ) = replicate blocks (replicate m.block 0) in
     ap (λ (r : Option Status). concluded r m (read_effect m lba blocks)) none
-    ∙ (ap (λ (k : ℕ). success_effect m 0 (bytes_of (blocks_read m.block (zone_at m k).blocks (lba % size) blocks))) number
-    ∙ (ap (λ (k : ℕ). success_effect m 0 (bytes_of (blocks_read m.block (zone_at m z).blocks k blocks))) place
-    ∙ (ap (λ (all : List (List ℕ)). success_effect m 0 (bytes_of (take blocks (drop w all ++ zeros)))) h.there
-    ∙ (ap (λ (all : List (List ℕ)). success_effect m 0 (bytes_of (take blocks (all ++ zeros)))) (drop_at h.front (h.more ++ h.behind) w h.start)
-    ∙ (ap (λ (all : List (List ℕ)). success_effect m 0 (bytes_of (take blocks all))) (append_assoc h.more h.behind zeros)
-    ∙ (ap (λ (all : List (List ℕ)). success_effect m 0 (bytes_of all)) (take_at h.more (h.behind ++ zeros) blocks h.count)
+    ∙ (ap (λ (k : ℕ). success_effect m 0 (concat (blocks_read m.block (zone_at m k).blocks (lba % size) blocks))) number
+    ∙ (ap (λ (k : ℕ). success_effect m 0 (concat (blocks_read m.block (zone_at m z).blocks k blocks))) place
+    ∙ (ap (λ (all : List (List ℕ)). success_effect m 0 (concat (take blocks (drop w all ++ zeros)))) h.there
+    ∙ (ap (λ (all : List (List ℕ)). success_effect m 0 (concat (take blocks (all ++ zeros)))) (drop_at h.front (h.more ++ h.behind) w h.start)
+    ∙ (ap (λ (all : List (List ℕ)). success_effect m 0 (concat (take blocks all))) (append_assoc h.more h.behind zeros)
+    ∙ (ap (λ (all : List (List ℕ)). success_effect m 0 (concat all)) (take_at h.more (h.behind ++ zeros) blocks h.count)
     ∙ ap (success_effect m 0) h.bytes))))))
 
 -- they lie there as long as the zone isn't cleared
@@ -119,7 +120,7 @@ lie_on ns m z w blocks input lie keeps =
       transfer = subst (λ (s : Shape). nat_le (blocks * s.block) MOST_TRANSFER ≡ true) (sym keeps.same_shape) lie.transfer;
     }
 
-whole_bytes : (block blocks : ℕ) (input : List ℕ) → 1 ≤ block → length input ≡ blocks * block → bytes_of (as_blocks block input) ≡ input
+whole_bytes : (block blocks : ℕ) (input : List ℕ) → 1 ≤ block → length input ≡ blocks * block → concat (as_blocks block input) ≡ input
 whole_bytes block blocks input some size =
     let n = block_count block input in
     let is : n ≡ blocks = ap (λ (m : ℕ). m / block) size ∙ mul-div_cancel blocks (omega arith) in
@@ -147,7 +148,7 @@ written_lie ns holds z blocks input sound writes =
     let bring = brings ns.block blocks input wide writes.size in
     let seen = written_zone ns z plan.closing input has.give.other writes.inside in
     let form = written_shape ns plan input in
-    let end : length zone.blocks + blocks ≤ ns.capacity = allowed_is_within (counted_zone_at ns z) (length zone.blocks) blocks writes.fits in
+    let end : length zone.blocks + blocks ≤ ns.capacity = (is_allowed (counted_zone_at ns z) (length zone.blocks) blocks writes.fits).has_room in
     let reach : length zone.blocks + blocks ≤ ns.size = omega (arith, sound.shape.capacity_most) in
     record {
       front = zone.blocks;
@@ -230,7 +231,7 @@ written_stays ns holds lba blocks input later sound some done =
     let end = leb-true (lba + blocks) (block_total ns) (demanded (nat_le (lba + blocks) (block_total ns)) _ (passed checks 2 none)) in
     let start : lba < block_total ns = omega arith in
     let fits = allowed (write_check (counted_zone_at ns z) (lba % ns.size) blocks) (passed checks 5 none) in
-    let at : lba % ns.size ≡ w = pointer_in zone.state (counted_zone_at ns z) (lba % ns.size) blocks fits in
+    let at : lba % ns.size ≡ w = (is_allowed (counted_zone_at ns z) (lba % ns.size) blocks fits).at_pointer in
     let writes : Writes ns holds z blocks input = record {
       inside = zone_inside ns lba sound start;
       some = some;

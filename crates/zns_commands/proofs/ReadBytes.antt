@@ -1,9 +1,9 @@
 -- The bytes of written blocks and of zeros behind them.
 use Rattle.std.proofs.Common.{◌≡◌, ℕ, zero, suc, ◌+◌, ◌-◌, ◌*◌, ◌≤◌, min, List, [], ◌∷◌, ◌++◌, length, take, drop, replicate, refl, ap, sym, ◌∙◌, arith, append_assoc, length-append, length-drop}
+use Rattle.std.specs.List.{concat}
 use Rattle.std.proofs.lemmas.List.{take_at, drop_at, take_min, drop_min, take-replicate, length-replicate, replicate-append-replicate}
-use Rattle.std.proofs.lemmas.List.Concat.{flat_map-append}
+use Rattle.std.proofs.lemmas.List.Folds.{concat-append}
 use Rattle.std.proofs.Math.Nat.{suc-mul, add-mul}
-use Rattle.image_store.specs.Blocks.{bytes_of}
 use Rattle.zns_commands.specs.Read.{blocks_read}
 
 take_append : {X : Type 0} (n : ℕ) (xs ys : List X) → take n (xs ++ ys) ≡ take n xs ++ take (n - length xs) ys
@@ -14,16 +14,16 @@ take_append (suc n) (x ∷ xs) ys =
     let less : suc n - length (x ∷ xs) ≡ n - length xs = omega arith in
     rw less (ap (λ (zs : List _). x ∷ zs) (take_append n xs ys))
 
-bytes_of_zeros : (block count : ℕ) → bytes_of (replicate count (replicate block 0)) ≡ replicate (count * block) 0
-bytes_of_zeros block zero = let none : zero * block ≡ 0 = omega arith in rw none refl
-bytes_of_zeros block (suc count) =
+concat_zeros : (block count : ℕ) → concat (replicate count (replicate block 0)) ≡ replicate (count * block) 0
+concat_zeros block zero = let none : zero * block ≡ 0 = omega arith in rw none refl
+concat_zeros block (suc count) =
     let more : block + count * block ≡ suc count * block = omega (arith, suc-mul count block) in
-    ap (λ (xs : List ℕ). replicate block 0 ++ xs) (bytes_of_zeros block count)
+    ap (λ (xs : List ℕ). replicate block 0 ++ xs) (concat_zeros block count)
     ∙ (replicate-append-replicate block (count * block) 0 ∙ ap (λ (n : ℕ). replicate n 0) more)
 
 -- the stored blocks of a range and zeros for the others are what is read
 pub read_bytes : (block : ℕ) (blocks : List (List ℕ)) (place count first stored : ℕ) → first ≡ min place (length blocks) → stored ≡ min count (length blocks - first)
-    → bytes_of (take stored (drop first blocks)) ++ replicate ((count - stored) * block) 0 ≡ bytes_of (blocks_read block blocks place count)
+    → concat (take stored (drop first blocks)) ++ replicate ((count - stored) * block) 0 ≡ concat (blocks_read block blocks place count)
 read_bytes block blocks place count first stored is_first is_stored =
     let rest = drop place blocks in
     let zero_block : List ℕ = replicate block 0 in
@@ -32,13 +32,13 @@ read_bytes block blocks place count first stored is_first is_stored =
     let front : take stored (drop first blocks) ≡ take count rest = ap (take stored) behind ∙ (ap (λ (n : ℕ). take n rest) long ∙ take_min count rest) in
     let missing : count - stored ≡ count - length rest = omega arith in
     let fewer : count - length rest ≤ count = omega arith in
-    let zeros : replicate ((count - stored) * block) 0 ≡ bytes_of (take (count - length rest) (replicate count zero_block)) =
+    let zeros : replicate ((count - stored) * block) 0 ≡ concat (take (count - length rest) (replicate count zero_block)) =
     ap (λ (n : ℕ). replicate (n * block) 0) missing
-    ∙ (sym (bytes_of_zeros block (count - length rest)) ∙ ap bytes_of (sym (take-replicate (count - length rest) count zero_block fewer))) in
-    ap (λ (xs : List (List ℕ)). bytes_of xs ++ replicate ((count - stored) * block) 0) front
-    ∙ (ap (λ (xs : List ℕ). bytes_of (take count rest) ++ xs) zeros
-    ∙ (sym (flat_map-append (λ (b : List ℕ). b) (take count rest) (take (count - length rest) (replicate count zero_block)))
-    ∙ ap bytes_of (sym (take_append count rest (replicate count zero_block)))))
+    ∙ (sym (concat_zeros block (count - length rest)) ∙ ap concat (sym (take-replicate (count - length rest) count zero_block fewer))) in
+    ap (λ (xs : List (List ℕ)). concat xs ++ replicate ((count - stored) * block) 0) front
+    ∙ (ap (λ (xs : List ℕ). concat (take count rest) ++ xs) zeros
+    ∙ (sym (concat-append (take count rest) (take (count - length rest) (replicate count zero_block)))
+    ∙ ap concat (sym (take_append count rest (replicate count zero_block)))))
 
 -- stored and missing blocks have the bytes of all
 pub parts : (count stored block : ℕ) → stored ≤ count → stored * block + (count - stored) * block ≡ count * block

@@ -10,10 +10,11 @@ use Rattle.zone_state.specs.declared.action.Action.{Action}
 use Rattle.zone_state.specs.declared.state.ZoneState.{ZoneState}
 use Rattle.zone_state.specs.declared.state.ZoneState.TheVariants.{Empty}
 use Rattle.zone_state.specs.declared.status.Status.{Status}
-use Rattle.zone_resources.specs.Counts.{one_if}
+use Rattle.zone_resources.specs.Counts.{count_in, one_if}
 use Rattle.zone_resources.specs.declared.holds.Holds.{Holds}
 use Rattle.nvme_entry.specs.declared.command.StandardCommand.TheVariants.{Write, Read, Send, Receive, Append}
 use Rattle.zone_state.specs.Checks.{first_failed}
+use Rattle.zone_state.proofs.Proved.{demanded, passed}
 use Rattle.program_interface.specs.Bytes.{AreBytes}
 use Rattle.image_store.specs.Geometry.{IsShape}
 use Rattle.image_store.specs.Namespace.{ZoneBlocks, ZonedNamespace, no_zone, zone_at, counted, IsNamespace, all_empty}
@@ -29,8 +30,7 @@ use Rattle.zns_commands.specs.Laws.{NamespaceEvent, Commanded, Faulted, after, I
 use Rattle.zns_commands.proofs.FittingZones.{FitsIn, namespace_of_zones, no_bytes}
 use Rattle.zns_commands.proofs.WrittenZones.{written_sound}
 use Rattle.zns_commands.proofs.MovedZones.{moved_sound, fault_sound}
-use Rattle.zns_commands.proofs.SweptZones.{count_in, all_sound}
-use Rattle.nvme_entry.proofs.Proved.{passed, demanded}
+use Rattle.zns_commands.proofs.SweptZones.{all_sound}
 use Rattle.zns_commands.proofs.PassedChecks.{roomed, allowed, zone_inside}
 
 concluded_sound : (refusal : Option Status) (ns : ZonedNamespace) (effect : Effect)

@@ -1,6 +1,5 @@
 -- That Select All keeps a namespace sound.
 use Rattle.std.proofs.Common.{◌≡◌, ℕ, zero, suc, ◌+◌, ◌<◌, ◌≤◌, Bool, true, false, cond, List, [], ◌∷◌, length, map, refl, sym, subst, arith}
-use Rattle.std.specs.Prelude.{sum_by}
 use Rattle.std.proofs.lemmas.Bool.{leb-true}
 use Rattle.std.proofs.lemmas.List.{length-map, get_or-map}
 use Rattle.std.proofs.lemmas.List.Sums.{sum_by-cons}
@@ -11,7 +10,7 @@ use Rattle.zone_state.specs.declared.action.Action.TheVariants as action
 use Rattle.zone_state.specs.declared.state.ZoneState.{ZoneState}
 use Rattle.zone_state.specs.declared.state.ZoneState.TheVariants.{Empty, ImplicitlyOpened, ExplicitlyOpened, Closed, ReadOnly, Full, Offline}
 use Rattle.zone_resources.specs.Admission.{IsWithin}
-use Rattle.zone_resources.specs.Counts.{open_count, one_if}
+use Rattle.zone_resources.specs.Counts.{count_in, open_count, one_if}
 use Rattle.image_store.specs.Namespace.{ZoneBlocks, ZonedNamespace, no_zone, zone_at, counted, counted_zones, IsNamespace, IsWithinLimits, arrived}
 use Rattle.zns_commands.specs.Send.{all_effect, all_fit, led_to, takes, taken_among, swept}
 use Rattle.zns_commands.proofs.FittingZones.{FitsIn, zone_fits, namespace_of_zones}
@@ -56,10 +55,6 @@ sweep_holds action.Open Empty = record { opened = omega arith; active = omega ar
 sweep_holds action.Reset Empty = record { opened = omega arith; active = omega arith }
 sweep_holds action.Offline Empty = record { opened = omega arith; active = omega arith }
 sweep_holds a s = record { opened = omega arith; active = omega arith }
-
--- how many zones are of a state that passes a test
-abbrev pub count_in : (ZoneState → Bool) → List CountedZone → ℕ
-count_in test zones = sum_by (λ z. one_if (test z.state)) zones
 
 -- where each of the first zones adds to a count no more than it did, but for some, the count grows by no more than these
 count_mapped : (test more : ZoneState → Bool) (c : ℕ) (f : ZoneBlocks → ZoneBlocks) (n : ℕ) (zones : List ZoneBlocks)

@@ -3,15 +3,16 @@ use Rattle.std.proofs.Common.{◌≡◌, ℕ, zero, suc, ◌+◌, ◌*◌, ◌/�
 use Rattle.std.specs.Prelude.{nat_le, nat_eq}
 use Rattle.std.proofs.lemmas.Bool.{eqb-true}
 use Rattle.std.proofs.Math.Nat.{suc-mul, mul-le-mul_right, mul-div_cancel}
-use Rattle.zone_state.specs.Zone.{CountedZone, IsZone, write_check, write_check_in, fits_room, after_write, written_state}
+use Rattle.zone_state.specs.Zone.{CountedZone, IsZone, write_check, write_refusal, after_write, written_state}
 use Rattle.zone_state.specs.declared.state.ZoneState.{ZoneState}
 use Rattle.zone_state.specs.declared.state.ZoneState.TheVariants.{Empty, ImplicitlyOpened, ExplicitlyOpened, Closed, ReadOnly, Full, Offline}
 use Rattle.zone_state.specs.declared.status.Status.{Status}
 use Rattle.zone_state.specs.declared.status.TheConstants.Status.{ZONE_BOUNDARY_ERROR, ZONE_INVALID_WRITE}
+use Rattle.zone_state.proofs.Proved.{is_allowed}
 use Rattle.zone_resources.specs.Admission.{wanted_of, HoldsNoMore}
 use Rattle.zone_resources.specs.declared.holds.Holds.{Holds}
-use Rattle.program_interface.specs.Bytes.{AreBytes}
-use Rattle.image_store.specs.Blocks.{as_blocks, block_count, blocks_of}
+use Rattle.program_interface.specs.Bytes.{AreBytes, pieces}
+use Rattle.image_store.specs.Blocks.{as_blocks, block_count}
 use Rattle.image_store.specs.Namespace.{ZoneBlocks, ZonedNamespace, zone_at, counted, grown, IsNamespace, IsWithinLimits}
 use Rattle.image_store.proofs.Proved.{block_is_a_part, block_some, blocks_are_bytes, blocks_are_counted, writes_keep_zones}
 use Rattle.zns_commands.specs.Address.{counted_zone_at}
@@ -34,7 +35,7 @@ bytes_append [] ys front back i = back i
 bytes_append (x ∷ xs) ys front back zero = front 0
 bytes_append (x ∷ xs) ys front back (suc i) = bytes_append xs ys (λ k. front (suc k)) back i
 
-block_whole : (b n : ℕ) (bytes : List ℕ) → n * b ≤ length bytes → (i : ℕ) → i < n → length (get_or (blocks_of b n bytes) i []) ≡ b
+block_whole : (b n : ℕ) (bytes : List ℕ) → n * b ≤ length bytes → (i : ℕ) → i < n → length (get_or (pieces b n bytes) i []) ≡ b
 block_whole b n bytes long i h =
     let below : suc i ≤ n = omega arith in
     let product : suc i * b ≤ n * b = mul-le-mul_right b below in
@@ -53,30 +54,11 @@ brings block blocks input some size =
     let count = blocks_are_counted block n input in
     record { count = count ∙ is; whole = λ i h. block_whole block n input long i (omega arith) }
 
--- a write that isn't refused is at the write pointer
-fits_at : (r : CountedZone) (at n : ℕ) (here : Bool) (fits : Result Unit Status) (other : Status)
-    → nat_eq at r.written ≡ here → cond here fits (Err other) ≡ Ok tt → at ≡ r.written
-fits_at r at n true fits other is allowed = eqb-true at r.written is
-fits_at r at n false fits other is allowed = cc
-
-at_pointer : (r : CountedZone) (at n : ℕ) → fits_room r at n ≡ Ok tt → at ≡ r.written
-at_pointer r at n allowed =
-    fits_at r at n (nat_eq at r.written) (cond (nat_le (r.written + n) r.capacity) (Ok tt) (Err ZONE_BOUNDARY_ERROR)) ZONE_INVALID_WRITE refl allowed
-
-pub pointer_in : (s : ZoneState) (r : CountedZone) (at n : ℕ) → write_check_in s r at n ≡ Ok tt → at ≡ r.written
-pointer_in Empty r at n allowed = at_pointer r at n allowed
-pointer_in ImplicitlyOpened r at n allowed = at_pointer r at n allowed
-pointer_in ExplicitlyOpened r at n allowed = at_pointer r at n allowed
-pointer_in Closed r at n allowed = at_pointer r at n allowed
-pointer_in ReadOnly r at n allowed = cc
-pointer_in Full r at n allowed = cc
-pointer_in Offline r at n allowed = cc
-
 grown_fits : (b c : ℕ) (zone : ZoneBlocks) (more : List (List ℕ)) (at n : ℕ)
     → FitsIn b c zone → 1 ≤ n → Brings b n more → ((i : ℕ) → AreBytes (get_or more i [])) → write_check (counted c zone) at n ≡ Ok tt
     → FitsIn b c (grown c zone more)
 grown_fits b c zone more at n fits some bring are allowed =
-    let pointer = pointer_in zone.state (counted c zone) at n allowed in
+    let pointer = (is_allowed (counted c zone) at n allowed).at_pointer in
     let here = subst (λ (k : ℕ). write_check (counted c zone) k n ≡ Ok tt) pointer allowed in
     let long : length zone.blocks + n ≡ length (zone.blocks ++ more) = omega (arith, length-append zone.blocks more, bring.count) in
     record {
@@ -89,17 +71,16 @@ grown_fits b c zone more at n fits some bring are allowed =
     }
 
 -- a write opens no zone that wants nothing
-write_takes_none : (s : ZoneState) (r : CountedZone) (at n : ℕ) (full : Bool)
-    → write_check_in s r at n ≡ Ok tt → wanted_of s ≡ None → HoldsNoMore (cond full Full (written_state s)) s
-write_takes_none Empty r at n full fits none = cc
-write_takes_none Closed r at n full fits none = cc
-write_takes_none ReadOnly r at n full fits none = cc
-write_takes_none Full r at n full fits none = cc
-write_takes_none Offline r at n full fits none = cc
-write_takes_none ImplicitlyOpened r at n true fits none = record { opened = omega arith; active = omega arith }
-write_takes_none ImplicitlyOpened r at n false fits none = record { opened = omega arith; active = omega arith }
-write_takes_none ExplicitlyOpened r at n true fits none = record { opened = omega arith; active = omega arith }
-write_takes_none ExplicitlyOpened r at n false fits none = record { opened = omega arith; active = omega arith }
+write_takes_none : (s : ZoneState) (full : Bool) → write_refusal s ≡ None → wanted_of s ≡ None → HoldsNoMore (cond full Full (written_state s)) s
+write_takes_none Empty full fits none = cc
+write_takes_none Closed full fits none = cc
+write_takes_none ReadOnly full fits none = cc
+write_takes_none Full full fits none = cc
+write_takes_none Offline full fits none = cc
+write_takes_none ImplicitlyOpened true fits none = record { opened = omega arith; active = omega arith }
+write_takes_none ImplicitlyOpened false fits none = record { opened = omega arith; active = omega arith }
+write_takes_none ExplicitlyOpened true fits none = record { opened = omega arith; active = omega arith }
+write_takes_none ExplicitlyOpened false fits none = record { opened = omega arith; active = omega arith }
 
 -- the limits allow a write that isn't refused, whatever is written
 pub written_within : (ns : ZonedNamespace) (z at blocks : ℕ) (gives : Option ℕ) (input : List ℕ) → HasRoom ns z gives
@@ -109,7 +90,7 @@ written_within ns z at blocks gives input has allowed =
     let more = as_blocks ns.block input in
     subst IsWithinLimits (sym (written_is ns z gives input has.give.other))
     (has.limits (grown ns.capacity zone more)
-    (write_takes_none zone.state (counted_zone_at ns z) at blocks (nat_eq (length zone.blocks + length more) ns.capacity) allowed))
+    (write_takes_none zone.state (nat_eq (length zone.blocks + length more) ns.capacity) (is_allowed (counted_zone_at ns z) at blocks allowed).writable))
 
 pub written_sound : (ns : ZonedNamespace) (holds : Holds) (z at blocks : ℕ) (gives : Option ℕ) (input : List ℕ)
     → IsNamespace ns → z < length ns.zones → 1 ≤ blocks → length input ≡ blocks * ns.block → AreBytes input
@@ -125,4 +106,4 @@ written_sound ns holds z at blocks gives input sound inside some size are allowe
     (room_sound ns z gives (grown ns.capacity zone more) sound has
     (grown_fits ns.block ns.capacity zone more at blocks (zone_fits ns z sound inside) some bring
     (blocks_are_bytes ns.block (block_count ns.block input) input are) allowed)
-    (write_takes_none zone.state (counted_zone_at ns z) at blocks (nat_eq (length zone.blocks + length more) ns.capacity) allowed))
+    (write_takes_none zone.state (nat_eq (length zone.blocks + length more) ns.capacity) (is_allowed (counted_zone_at ns z) at blocks allowed).writable))

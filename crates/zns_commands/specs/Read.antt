@@ -1,10 +1,10 @@
 -- Read (NVM Command Set 1.0, 3.2.4; ZNS 1.1, 3.3.2).
 use Rattle.std.specs.Prelude.{ℕ, ◌*◌, ◌++◌, List, [], ◌∷◌, take, drop, replicate, Option, Some, None}
+use Rattle.std.specs.List.{concat}
 use Rattle.zone_state.specs.declared.state.ZoneState.{ZoneState}
 use Rattle.zone_state.specs.declared.state.ZoneState.TheVariants.{Offline}
 use Rattle.zone_state.specs.declared.status.Status.{Status}
 use Rattle.zone_state.specs.declared.status.TheConstants.Status.{ZONE_IS_OFFLINE}
-use Rattle.image_store.specs.Blocks.{bytes_of}
 use Rattle.image_store.specs.Namespace.{ZonedNamespace, zone_at}
 use Rattle.zns_commands.specs.Address.{zone_number, zone_offset, range_checks}
 use Rattle.zns_commands.specs.Effect.{Effect, success_effect}
@@ -31,4 +31,4 @@ read_checks ns lba blocks input =
 abbrev pub read_effect : ZonedNamespace → ℕ → ℕ → Effect
 read_effect ns lba blocks =
     let zone = zone_at ns (zone_number ns lba) in
-    success_effect ns 0 (bytes_of (blocks_read ns.block zone.blocks (zone_offset ns lba) blocks))
+    success_effect ns 0 (concat (blocks_read ns.block zone.blocks (zone_offset ns lba) blocks))

@@ -1,5 +1,5 @@
 -- Zone Management Send (ZNS 1.1, 3.4.3).
-use Rattle.std.specs.Prelude.{ℕ, Bool, true, false, ◌+◌, ◌++◌, ◌&&◌, not, nat_le, List, [], ◌∷◌, map, count_by, Option, None, Result, Ok, Err, if◌then◌else◌}
+use Rattle.std.specs.Prelude.{ℕ, Bool, true, false, ◌+◌, ◌++◌, ◌&&◌, not, nat_le, List, [], ◌∷◌, map, Option, None, Result, Ok, Err, if◌then◌else◌}
 use Rattle.std.specs.List.{enumerate_from, list_any}
 use Rattle.zone_state.specs.State.{is_open, is_active}
 use Rattle.zone_state.specs.Transition.{transition}
@@ -10,7 +10,7 @@ use Rattle.zone_state.specs.declared.state.ZoneState.{ZoneState}
 use Rattle.zone_state.specs.declared.state.ZoneState.TheVariants.{Closed, ReadOnly, Full}
 use Rattle.zone_state.specs.declared.status.Status.{Status}
 use Rattle.zone_state.specs.declared.status.TheConstants.Status.{TOO_MANY_OPEN_ZONES, ZONE_HELD}
-use Rattle.zone_resources.specs.Counts.{open_count}
+use Rattle.zone_resources.specs.Counts.{count_in, open_count}
 use Rattle.zone_resources.specs.Holds.{refuses}
 use Rattle.zone_resources.specs.declared.holds.Holds.{Holds}
 use Rattle.zone_state.specs.Checks.{demand}
@@ -71,7 +71,7 @@ held_among zones holds action = list_any (λ p. takes action p.1.state && refuse
 
 -- how many of these zones would be taken
 abbrev pub taken_among : List CountedZone → Action → ℕ
-taken_among zones action = count_by (λ zone. takes action zone.state) zones
+taken_among zones action = count_in (takes action) zones
 
 -- has each zone that would be opened an open resource? None is freed for it (profile)
 abbrev pub all_fit : ZonedNamespace → Action → Bool

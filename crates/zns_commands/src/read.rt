@@ -1,9 +1,9 @@
 //! Read.
 
 ghost use Rattle.std.specs.Prelude.{◌≡◌, ◌≤◌, ◌<◌, ◌*◌, ◌+◌, ◌-◌, ◌++◌, ◌^◌, length, take, drop, replicate, List, ℕ, IfOk, OnOk};
+ghost use Rattle.std.specs.List.{concat};
 ghost use Rattle.zone_resources.specs.declared.holds.Holds.{Holds};
 ghost use Rattle.nvme_entry.specs.declared.command.StandardCommand.TheVariants.{Read};
-ghost use Rattle.image_store.specs.Blocks.{bytes_of};
 ghost use Rattle.image_store.specs.Namespace.{ZonedNamespace, zone_at};
 ghost use Rattle.zone_state.specs.Checks.{first_failed, unless_failed};
 ghost use Rattle.zns_commands.specs.Address.{zone_block_in};
@@ -74,7 +74,7 @@ fn give_blocks(image: &Image, from: ZoneBlock, blocks: BlockCount, output: &mut 
     requires inside { from.zone < length image.now.zones }
     requires room { blocks * image.now.block ≤ length output.old }
     ensures length { result ≡ blocks * image.now.block }
-    ensures front { take result output.new ≡ bytes_of (blocks_read image.now.block (zone_at image.now from.zone).blocks from.offset blocks) }
+    ensures front { take result output.new ≡ concat (blocks_read image.now.block (zone_at image.now from.zone).blocks from.offset blocks) }
     ensures rest { drop result output.new ≡ drop result output.old }
 {
     let block = image.geometry().block().bytes() as usize;

@@ -1,6 +1,6 @@
 -- Counts of zones, as one of them changes.
 use Rattle.std.proofs.Common.{◌≡◌, ℕ, ◌+◌, ◌-◌, ◌<◌, ◌≤◌, ◌^◌, Bool, List, length, get_or, arith, Some}
-use Rattle.std.specs.Prelude.{count_by, slice_get, slice_set}
+use Rattle.std.specs.Prelude.{slice_get, slice_set}
 use Rattle.std.proofs.lemmas.List.{length-set}
 use Rattle.std.proofs.lemmas.List.Sums.{sum_by-set, sum_by-le-sum_by, get_or-le-sum_by, count_by-le-length}
 use Rattle.std.proofs.lemmas.Option.{slice_get_within, get_or_from_slice_get}
@@ -8,12 +8,8 @@ use Rattle.zone_state.specs.State.{is_open, is_active}
 use Rattle.zone_state.specs.Zone.{CountedZone}
 use Rattle.zone_state.specs.declared.state.ZoneState.{ZoneState}
 use Rattle.zone_state.specs.declared.state.ZoneState.TheVariants.{Empty, ImplicitlyOpened, ExplicitlyOpened, Closed, ReadOnly, Full, Offline}
-use Rattle.zone_resources.specs.Counts.{active_count, one_if, open_count, CountsOne, MovesOne, CountsAreFew}
+use Rattle.zone_resources.specs.Counts.{active_count, count_in, one_if, open_count, CountsOne, MovesOne, CountsAreFew}
 use Rattle.zone_resources.specs.declared.counts.Counts.{Counts}
-
--- how many zones are of a state that passes a test
-abbrev pub count_in : (ZoneState → Bool) → List CountedZone → ℕ
-count_in test zones = count_by (λ z. test z.state) zones
 
 -- the count loses what the zone was, and gains what it is
 count_in-set : (test : ZoneState → Bool) (zones : List CountedZone) (number : ℕ) (was is : CountedZone)

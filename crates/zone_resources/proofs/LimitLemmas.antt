@@ -70,7 +70,7 @@ pub room_of_admission : (zones : List CountedZone) (limits : Limits) (holds : Ho
 room_of_admission zones limits holds closed within admitted =
     room_in zones limits holds closed (nat_lt (open_count zones) limits.open_limit) (zone_to_close holds zones) within refl refl admitted
 
-one_if-le-one : (b : Bool) → one_if b ≤ 1
+pub one_if-le-one : (b : Bool) → one_if b ≤ 1
 one_if-le-one true = omega arith
 one_if-le-one false = omega arith
 

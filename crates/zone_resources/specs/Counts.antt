@@ -5,13 +5,17 @@ use Rattle.zone_state.specs.State.{is_open, is_active}
 use Rattle.zone_state.specs.Zone.{CountedZone}
 use Rattle.zone_state.specs.declared.state.ZoneState.{ZoneState}
 
+-- how many zones are of a state that passes a test
+abbrev pub count_in : (ZoneState → Bool) → List CountedZone → ℕ
+count_in test zones = count_by (λ z. test z.state) zones
+
 -- how many zones hold an open resource (ZNS 1.1, 2.1.1)
 abbrev pub open_count : List CountedZone → ℕ
-open_count zones = count_by (λ z. is_open z.state) zones
+open_count zones = count_in is_open zones
 
 -- how many zones hold an active resource
 abbrev pub active_count : List CountedZone → ℕ
-active_count zones = count_by (λ z. is_active z.state) zones
+active_count zones = count_in is_active zones
 
 -- both numbers
 abbrev pub counts_of : List CountedZone → Counts

@@ -1,6 +1,6 @@
 -- Ordered lists of checks, and the first that fails.
-use Rattle.std.proofs.Common.{◌≡◌, List, [], ◌∷◌, ◌++◌, Option, Some, None, refl, ap, ◌∙◌}
-use Rattle.zone_state.specs.Checks.{first_failed}
+use Rattle.std.proofs.Common.{◌≡◌, ℕ, zero, suc, Bool, true, false, List, [], ◌∷◌, ◌++◌, get_or, Option, Some, None, Ok, refl, ap, ◌∙◌}
+use Rattle.zone_state.specs.Checks.{demand, first_failed, or_else, unless_failed}
 use Rattle.zone_state.specs.FirstCheck.{FailsFirst, FirstFailedIsFirst, NoneFails, NoFaultWhereNoneFails}
 
 none_fails : {F : Type 0} (checks : List (Option F)) → first_failed checks ≡ None → NoneFails checks
@@ -30,3 +30,27 @@ first_failed_is_first F = λ checks fault. (first_is checks fault, λ first. ap 
 
 pub no_fault_where_none_fails : (F : Type 0) → NoFaultWhereNoneFails F
 no_fault_where_none_fails F = λ checks. (none_fails checks, no_fault checks)
+
+-- where no check fails, each passes,
+pub passed : {F : Type 0} (checks : List (Option F)) (i : ℕ) → first_failed checks ≡ None → get_or checks i None ≡ None
+passed [] zero none = refl
+passed [] (suc i) none = refl
+passed (None ∷ checks) zero none = refl
+passed (None ∷ checks) (suc i) none = passed checks i none
+passed (Some fault ∷ checks) i none = cc
+
+-- and what one that passes demands holds
+pub demanded : {F : Type 0} (test : Bool) (fault : F) → demand test fault ≡ None → test ≡ true
+demanded true fault none = refl
+demanded false fault none = cc
+
+-- where a value is given, no check fails
+pub none_failed : {X F : Type 0} (why : Option F) (x y : X) → unless_failed why x ≡ Ok y → why ≡ None
+none_failed None x y given = refl
+none_failed (Some fault) x y given = cc
+
+-- the first check that fails is among the first ones, or it is the first of the others
+pub joined : {F : Type 0} (first rest : List (Option F)) → first_failed (first ++ rest) ≡ or_else (first_failed first) (first_failed rest)
+joined [] rest = refl
+joined (None ∷ first) rest = joined first rest
+joined (Some fault ∷ first) rest = refl

@@ -1,2 +1,4 @@
 mod FirstChecks
+mod AllowedWrites
+mod Codes
 pub mod Proved

@@ -1,6 +1,9 @@
--- What the proofs of other crates cite of this one: the laws of ordered lists of checks.
+-- What the proofs of other crates cite of this one: laws, and what the checks of a write come to.
 use Rattle.zone_state.specs.FirstCheck.{FirstFailedIsFirst, NoFaultWhereNoneFails}
+pub use Rattle.zone_state.proofs.AllowedWrites.{IsAllowed, allowed_passes, is_allowed}
 use Rattle.zone_state.proofs.FirstChecks as checks
+pub use Rattle.zone_state.proofs.Codes.{codes_are_distinct}
+pub use Rattle.zone_state.proofs.FirstChecks.{demanded, joined, none_failed, passed}
 
 pub first_failed_is_first : (F : Type 0) → FirstFailedIsFirst F
 first_failed_is_first = checks.first_failed_is_first

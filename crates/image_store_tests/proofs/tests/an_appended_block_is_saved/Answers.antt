@@ -1,21 +1,17 @@
-use Rattle.std.proofs.Common.{◌≡◌, ℕ, ◌/◌, ◌<◌, ◌≤◌, Bool, true, false, List, length, get_or, set, Ok, arith, ap, sym, subst}
+use Rattle.std.proofs.Common.{◌≡◌, ℕ, ◌/◌, ◌<◌, ◌≤◌, List, length, get_or, set, Ok, arith, ap, sym, subst}
 use Rattle.std.proofs.lemmas.List.{map-set}
 use Rattle.std.proofs.lemmas.Option.{slice_get-get_or}
 use Rattle.zone_state.specs.State.{is_open, is_active}
 use Rattle.zone_state.specs.Zone.{CountedZone, write_check}
 use Rattle.zone_resources.specs.Admission.{IsWithin}
-use Rattle.zone_resources.specs.Counts.{open_count, active_count, one_if}
+use Rattle.zone_resources.specs.Counts.{open_count, active_count}
 use Rattle.zone_resources.specs.declared.admission.Limits.{Limits}
 use Rattle.zone_resources.specs.declared.counts.Counts.{Counts}
-use Rattle.zone_resources.proofs.Proved.{counts_follow_one}
+use Rattle.zone_resources.proofs.Proved.{counts_follow_one, one_if-le-one}
 use Rattle.image_store.specs.ImageInMemory.{no_counted_zone}
 use Rattle.image_store.specs.Geometry.{Shape}
 use Rattle.image_store.specs.Namespace.{counted, counted_zones, zone_at}
 use Rattle.image_store_tests.proofs.tests.an_appended_block_is_saved.Goals as goal
-
-most_one : (counted : Bool) → one_if counted ≤ 1
-most_one true = omega arith
-most_one false = omega arith
 
 -- where one more zone may be open and active, any one may change
 one_more : (zs : List CountedZone) (limits : Limits) (z : ℕ) (is : CountedZone)
@@ -24,8 +20,8 @@ one_more zs limits z is inside opened active =
     let was = get_or zs z no_counted_zone in
     let follow = counts_follow_one zs z was is (slice_get-get_or zs z no_counted_zone inside) in
     record {
-      opened = omega (arith, follow.0, most_one (is_open is.state));
-      active = omega (arith, follow.1, most_one (is_active is.state));
+      opened = omega (arith, follow.0, one_if-le-one (is_open is.state));
+      active = omega (arith, follow.1, one_if-le-one (is_active is.state));
     }
 
 pub append-requires-clause-limits : goal.append-requires-clause-limits
