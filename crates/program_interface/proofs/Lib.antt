@@ -1,1 +1,3 @@
+mod ByteParts
 mod ContextFields
+pub mod Proved

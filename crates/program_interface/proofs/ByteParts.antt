@@ -1,0 +1,29 @@
+-- Parts of bytes are bytes, and so is what is put together of them.
+use Rattle.std.proofs.Common.{ℕ, ◌+◌, ◌<◌, zero, suc, List, [], ◌∷◌, ◌++◌, length, take, drop, sym, subst, arith}
+use Rattle.std.proofs.lemmas.List.{take-append-drop, get_or-drop}
+use Rattle.program_interface.specs.Bytes.{AreBytes, spliced}
+
+pub front_fit : (xs ys : List ℕ) → AreBytes (xs ++ ys) → AreBytes xs
+front_fit [] ys fit i = omega arith
+front_fit (x ∷ xs) ys fit zero = fit 0
+front_fit (x ∷ xs) ys fit (suc i) = front_fit xs ys (λ k. fit (suc k)) i
+
+pub rest_fit : (xs ys : List ℕ) → AreBytes (xs ++ ys) → AreBytes ys
+rest_fit [] ys fit = fit
+rest_fit (x ∷ xs) ys fit = rest_fit xs ys (λ k. fit (suc k))
+
+pub bytes_from : (n : ℕ) (xs : List ℕ) → AreBytes xs → AreBytes (drop n xs)
+bytes_from n xs fit i = subst (λ (b : ℕ). b < 256) (sym (get_or-drop n xs i 0)) (fit (n + i))
+
+pub bytes_to : (n : ℕ) (xs : List ℕ) → AreBytes xs → AreBytes (take n xs)
+bytes_to n xs fit = front_fit (take n xs) (drop n xs) (subst AreBytes (sym (take-append-drop n xs)) fit)
+
+pub both_fit : (xs ys : List ℕ) → AreBytes xs → AreBytes ys → AreBytes (xs ++ ys)
+both_fit [] ys front back i = back i
+both_fit (x ∷ xs) ys front back zero = front 0
+both_fit (x ∷ xs) ys front back (suc i) = both_fit xs ys (λ k. front (suc k)) back i
+
+pub spliced_fit : (at : ℕ) (new xs : List ℕ) → AreBytes new → AreBytes xs → AreBytes (spliced at new xs)
+spliced_fit at new xs brought fit =
+    both_fit (take at xs) (new ++ drop (at + length new) xs) (bytes_to at xs fit)
+    (both_fit new (drop (at + length new) xs) brought (bytes_from (at + length new) xs fit))

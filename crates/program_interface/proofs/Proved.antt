@@ -1,0 +1,2 @@
+-- Lemmas that the proofs of other crates cite.
+pub use Rattle.program_interface.proofs.ByteParts.{both_fit, bytes_from, bytes_to, front_fit, rest_fit, spliced_fit}
