@@ -1,111 +1,21 @@
 -- What is refused is the first failure, and what isn't fails nowhere.
-use Rattle.std.proofs.Common.{◌≡◌, ℕ, zero, suc, ◌<◌, ◌≤◌, ◌==◌, Bool, true, false, find, List, [], ◌∷◌, length, Option, Some, None, IsSome, refl, sym, ap, ◌∙◌, subst, arith, inl, inr}
-use Rattle.std.proofs.lemmas.Option.{same_Some}
-use Rattle.std.proofs.lemmas.Bool.{cases_lt, eqb-true, eqb-false}
+use Rattle.std.proofs.Common.{◌≡◌, ℕ, zero, suc, ◌<◌, List, length, Option, Some, None, IsSome, refl, ◌∙◌, subst, arith, inl, inr}
+use Rattle.std.proofs.lemmas.Bool.{cases_lt}
 use Rattle.std.specs.Option.{option_map, option_or}
 use Rattle.instruction_set.specs.Program.{instruction_at}
 use Rattle.instruction_set.specs.declared.instruction.Instruction.{Instruction}
 use Rattle.instruction_set.proofs.Proved.{begins_inside}
 use Rattle.program_interface.specs.RunSizes.{Sizes}
 use Rattle.word_domain.specs.Domain.{Operations}
-use Rattle.accepted_programs.specs.Accepted.{all_reasons, fails, reason_number, reason_of, refusal_at, refusal_below, refused_at}
+use Rattle.accepted_programs.specs.Accepted.{all_reasons, fails, reason_of, refusal_at, refusal_below, refused_at}
 use Rattle.accepted_programs.specs.Facts.{facts_at}
 use Rattle.accepted_programs.specs.FirstRefusal.{HasFacts, IsFirstRefusal, IsPassed}
 use Rattle.accepted_programs.specs.Laws.{AcceptedFailsNowhere, RefusalIsFirst, RefusalIsInside}
 use Rattle.accepted_programs.specs.declared.facts.Facts.{Facts}
 use Rattle.accepted_programs.specs.declared.reason.Reason.{Reason}
-use Rattle.accepted_programs.specs.declared.reason.Reason.TheVariants as reasons
 use Rattle.accepted_programs.specs.declared.reason.Refusal.{Refusal}
-use Rattle.accepted_programs.proofs.Refusals.{none_holds}
-
--- ---- the least of the reasons that hold
-
--- the reason with a number
-abbrev numbered : ℕ → Option Reason
-numbered n = find (λ r. reason_number r == n) all_reasons
-
-numbered_again : (r : Reason) → numbered (reason_number r) ≡ Some r
-numbered_again reasons.JumpBack = refl
-numbered_again reasons.JumpOutside = refl
-numbered_again reasons.FallsOff = refl
-numbered_again reasons.WriteToFramePointer = refl
-numbered_again reasons.LoadOutside = refl
-numbered_again reasons.StoreOutside = refl
-numbered_again reasons.UnknownHelper = refl
-numbered_again reasons.EmitAddress = refl
-numbered_again reasons.EmitLength = refl
-numbered_again reasons.EmitLimit = refl
-
-same_number : (a b : Reason) → reason_number a ≡ reason_number b → a ≡ b
-same_number a b e = same_Some a b (sym (numbered_again a) ∙ ap numbered e ∙ numbered_again b)
-
--- reasons whose numbers go up by one, from this one on
-abbrev AreFrom : ℕ → List Reason → Type 0
-AreFrom n [] = Unit {0}
-AreFrom n (r ∷ rs) = (reason_number r ≡ n) × AreFrom (suc n) rs
-
-are_numbered : AreFrom 1 all_reasons
-are_numbered = (refl, (refl, (refl, (refl, (refl, (refl, (refl, (refl, (refl, (refl, tt))))))))))
-
-some_number : (r : Reason) → 1 ≤ reason_number r
-some_number reasons.JumpBack = omega arith
-some_number reasons.JumpOutside = omega arith
-some_number reasons.FallsOff = omega arith
-some_number reasons.WriteToFramePointer = omega arith
-some_number reasons.LoadOutside = omega arith
-some_number reasons.StoreOutside = omega arith
-some_number reasons.UnknownHelper = omega arith
-some_number reasons.EmitAddress = omega arith
-some_number reasons.EmitLength = omega arith
-some_number reasons.EmitLimit = omega arith
-
-module _ (test : Reason → Bool) where
-  found_here : (x : Reason) (xs : List Reason) (r : Reason) → test x ≡ true → find test (x ∷ xs) ≡ Some r → x ≡ r
-  found_here x xs r is e = let h : Some x ≡ Some r = rw is at e in same_Some x r h
-
-  found_later : (x : Reason) (xs : List Reason) (r : Reason) → test x ≡ false → find test (x ∷ xs) ≡ Some r → find test xs ≡ Some r
-  found_later x xs r is e = rw is at e
-
-  holds_by : (x : Reason) (xs : List Reason) (r : Reason) (b : Bool) → test x ≡ b → find test (x ∷ xs) ≡ Some r
-      → (find test xs ≡ Some r → test r ≡ true) → test r ≡ true
-  holds_by x xs r true is e later = ap test (sym (found_here x xs r is e)) ∙ is
-  holds_by x xs r false is e later = later (found_later x xs r is e)
-
-  -- what is found passes
-  holds : (xs : List Reason) (r : Reason) → find test xs ≡ Some r → test r ≡ true
-  holds [] r e = cc
-  holds (x ∷ xs) r e = holds_by x xs r (test x) refl e (holds xs r)
-
-  fails_here : (n : ℕ) (x reason : Reason) (b : Bool) → (reason_number reason == n) ≡ b → reason_number x ≡ n → test x ≡ false
-      → n ≤ reason_number reason → (suc n ≤ reason_number reason → test reason ≡ false) → test reason ≡ false
-  fails_here n x reason true same number is from later =
-      let equal = eqb-true (reason_number reason) n same in
-      ap test (same_number reason x (equal ∙ sym number)) ∙ is
-  fails_here n x reason false other number is from later =
-      let apart = eqb-false (reason_number reason) n other in
-      later (omega (arith, apart, from))
-
-  least_by : (n : ℕ) (x : Reason) (xs : List Reason) (r reason : Reason) (b : Bool) → test x ≡ b → find test (x ∷ xs) ≡ Some r
-      → reason_number x ≡ n → n ≤ reason_number reason → reason_number reason < reason_number r
-      → (find test xs ≡ Some r → suc n ≤ reason_number reason → test reason ≡ false) → test reason ≡ false
-  least_by n x xs r reason true is e number from less later =
-      let same = ap reason_number (found_here x xs r is e) in
-      absurd (omega (arith, same, number, from, less))
-  least_by n x xs r reason false is e number from less later =
-      fails_here n x reason (reason_number reason == n) refl number is from (later (found_later x xs r is e))
-
-  -- a reason with a smaller number than the one that is found doesn't pass
-  least_from : (n : ℕ) (xs : List Reason) (r reason : Reason) → AreFrom n xs → find test xs ≡ Some r
-      → n ≤ reason_number reason → reason_number reason < reason_number r → test reason ≡ false
-  least_from n [] r reason are e from less = cc
-  least_from n (x ∷ xs) r reason are e from less =
-      least_by n x xs r reason (test x) refl e are.0 from less
-      (λ found behind. least_from (suc n) xs r reason are.1 found behind less)
-
-  least : (r reason : Reason) → find test all_reasons ≡ Some r → reason_number reason < reason_number r → test reason ≡ false
-  least r reason e less = least_from 1 all_reasons r reason are_numbered e (some_number reason) less
-
--- ---- the lowest slot that fails
+use Rattle.accepted_programs.proofs.FirstPassed.{found_passes, less_fails}
+use Rattle.accepted_programs.proofs.Refusals.{are_numbered, none_holds}
 
 none_before : (before last : Option Refusal) → option_or before last ≡ None → (before ≡ None) × (last ≡ None)
 none_before None last e = (refl, e)
@@ -154,8 +64,8 @@ module _ {D : Type 0} (operations : Operations D) (program : List (Option Instru
     instruction = i;
     facts = facts;
     known = has;
-    holds = holds (fails operations program sizes slot facts i) all_reasons reason e;
-    least = λ other less. least (fails operations program sizes slot facts i) reason other e less;
+    holds = found_passes (fails operations program sizes slot facts i) all_reasons reason e;
+    least = λ other less. less_fails are_numbered (fails operations program sizes slot facts i) reason other e less;
     lowest = lower;
   }
 

@@ -1,6 +1,7 @@
 mod AllOf
 mod CellLaws
 mod Edges
+mod FirstPassed
 mod FirstRefusals
 mod Fitting
 mod Flow

@@ -1,40 +1,42 @@
 -- Why and where a program is refused.
-use Rattle.std.proofs.Common.{◌≡◌, ℕ, Bool, true, false, find, List, [], ◌∷◌, Option, Some, None, refl}
+use Rattle.std.proofs.Common.{◌≡◌, ℕ, zero, suc, ◌-◌, Option, Some, None, refl}
+use Rattle.std.specs.List.{slice_get}
 use Rattle.std.specs.Option.{option_map}
 use Rattle.word_domain.specs.Domain.{Operations}
-use Rattle.accepted_programs.specs.Accepted.{all_reasons, fails, reason_of, refused_at}
+use Rattle.accepted_programs.specs.Accepted.{all_reasons, fails, reason_number, reason_of, refused_at}
 use Rattle.accepted_programs.specs.declared.reason.Reason.{Reason}
 use Rattle.accepted_programs.specs.declared.reason.Reason.TheVariants as reason
 use Rattle.accepted_programs.specs.declared.reason.Refusal.{Refusal}
+use Rattle.accepted_programs.proofs.FirstPassed.{AreNumbered, all_fail}
 use Rattle.accepted_programs.proofs.Statements.{NoReasonHolds, RefusalIsAtItsSlot}
 
-module _ (test : Reason → Bool) where
-  -- none of these passes
-  abbrev AllFail : List Reason → Type 0
-  AllFail [] = Unit {0}
-  AllFail (r ∷ rs) = (test r ≡ false) × AllFail rs
+listed : (r : Reason) → slice_get all_reasons (reason_number r - 1) ≡ Some r
+listed reason.JumpBack = refl
+listed reason.JumpOutside = refl
+listed reason.FallsOff = refl
+listed reason.WriteToFramePointer = refl
+listed reason.LoadOutside = refl
+listed reason.StoreOutside = refl
+listed reason.UnknownHelper = refl
+listed reason.EmitAddress = refl
+listed reason.EmitLength = refl
+listed reason.EmitLimit = refl
 
-  first_fails : (r : Reason) (rs : List Reason) (passes : Bool) → test r ≡ passes → find test (r ∷ rs) ≡ None
-      → (test r ≡ false) × (find test rs ≡ None)
-  first_fails r rs true is e = let h : Some r ≡ None = rw is at e in cc
-  first_fails r rs false is e = (is, rw is at e)
+numbered : (k : ℕ) (r : Reason) → slice_get all_reasons k ≡ Some r → reason_number r ≡ suc k
+numbered zero r e = cc
+numbered (suc zero) r e = cc
+numbered (suc (suc zero)) r e = cc
+numbered (suc (suc (suc zero))) r e = cc
+numbered (suc (suc (suc (suc zero)))) r e = cc
+numbered (suc (suc (suc (suc (suc zero))))) r e = cc
+numbered (suc (suc (suc (suc (suc (suc zero)))))) r e = cc
+numbered (suc (suc (suc (suc (suc (suc (suc zero))))))) r e = cc
+numbered (suc (suc (suc (suc (suc (suc (suc (suc zero)))))))) r e = cc
+numbered (suc (suc (suc (suc (suc (suc (suc (suc (suc zero))))))))) r e = cc
+numbered (suc (suc (suc (suc (suc (suc (suc (suc (suc (suc k)))))))))) r e = cc
 
-  all_fail : (rs : List Reason) → find test rs ≡ None → AllFail rs
-  all_fail [] e = tt
-  all_fail (r ∷ rs) e = let first = first_fails r rs (test r) refl e in (first.0, all_fail rs first.1)
-
-  -- what holds of all reasons holds of each
-  of_all : AllFail all_reasons → (r : Reason) → test r ≡ false
-  of_all fail reason.JumpBack = fail.0
-  of_all fail reason.JumpOutside = fail.1.0
-  of_all fail reason.FallsOff = fail.1.1.0
-  of_all fail reason.WriteToFramePointer = fail.1.1.1.0
-  of_all fail reason.LoadOutside = fail.1.1.1.1.0
-  of_all fail reason.StoreOutside = fail.1.1.1.1.1.0
-  of_all fail reason.UnknownHelper = fail.1.1.1.1.1.1.0
-  of_all fail reason.EmitAddress = fail.1.1.1.1.1.1.1.0
-  of_all fail reason.EmitLength = fail.1.1.1.1.1.1.1.1.0
-  of_all fail reason.EmitLimit = fail.1.1.1.1.1.1.1.1.1.0
+pub are_numbered : AreNumbered reason_number all_reasons
+are_numbered = record { listed = listed; numbered = numbered }
 
 told_here : (slot : ℕ) (reason : Option Reason) (r : Refusal) → option_map (refused_at slot) reason ≡ Some r → r.slot ≡ slot
 told_here slot None r e = cc
@@ -43,8 +45,7 @@ told_here slot (Some reason) r e = cc
 module _ {D : Type 0} (operations : Operations D) where
   pub none_holds : NoReasonHolds operations
   none_holds program sizes slot facts i none reason =
-      let test = fails operations program sizes slot facts i in
-      of_all test (all_fail test all_reasons none) reason
+      all_fail are_numbered (fails operations program sizes slot facts i) reason none
 
   pub at_its_slot : RefusalIsAtItsSlot operations
   at_its_slot program sizes slot (Some i) (Some facts) r e =

@@ -1,7 +1,8 @@
 -- Blanks around a line, and a comment behind it, change nothing.
-use Rattle.std.proofs.Common.{◌≡◌, ℕ, ◌+◌, ◌==◌, Bool, true, false, ◌&&◌, cond, List, [], ◌∷◌, ◌++◌, None, Err, refl, sym, ap, ◌∙◌}
+use Rattle.std.proofs.Common.{◌≡◌, ℕ, ◌+◌, ◌==◌, Bool, true, false, ◌&&◌, cond, List, [], ◌∷◌, ◌++◌, None, Err, refl, sym, ap, ◌∙◌, subst}
 use Rattle.std.specs.Char.{is_ascii}
 use Rattle.std.specs.List.{list_all}
+use Rattle.std.proofs.lemmas.List.{append-nil}
 use Rattle.std.proofs.lemmas.List.Folds.{list_all-append}
 use Rattle.std.proofs.lemmas.List.Sums.{list_all-from_AllPass}
 use Rattle.text_lines.specs.Cut.{is_blank_byte, trimmed, uncommented, without_end_blanks, without_first_blanks}
@@ -50,12 +51,8 @@ record AreBehind (line back : List ℕ) : Type 0 where
   are : AreBlanks blanks
   stand : uncommented (line ++ back) ≡ uncommented line ++ blanks
 
-uncommented-blanks : (blanks : List ℕ) → AreBlanks blanks → uncommented blanks ≡ blanks
-uncommented-blanks [] h = refl
-uncommented-blanks (b ∷ blanks) h = uncommented-cons b blanks false (blank_is_code b h.0) ∙ ap (λ (ys : List ℕ). b ∷ ys) (uncommented-blanks blanks h.1)
-
 behind : (line back : List ℕ) → AreBlanks back → AreBehind line back
-behind [] back h = record { blanks = back; are = h; stand = uncommented-blanks back h }
+behind [] back h = record { blanks = back; are = h; stand = subst (λ (xs : List ℕ). uncommented xs ≡ xs) (append-nil back) (uncommented-front back [] h) }
 behind (b ∷ line) back h = by (b == 59) refl (behind line back h)
   where
     by : (test : Bool) → (b == 59) ≡ test → AreBehind line back → AreBehind (b ∷ line) back
@@ -73,12 +70,8 @@ behind (b ∷ line) back h = by (b == 59) refl (behind line back h)
           ∙ sym (ap (λ (ys : List ℕ). ys ++ later.blanks) (uncommented-cons b line false e));
     }
 
-first-blanks : (blanks : List ℕ) → AreBlanks blanks → without_first_blanks blanks ≡ []
-first-blanks [] h = refl
-first-blanks (b ∷ blanks) h = ap (λ (t : Bool). cond t (without_first_blanks blanks) (b ∷ blanks)) h.0 ∙ first-blanks blanks h.1
-
 trimmed-back : (text back : List ℕ) → AreBlanks back → trimmed (text ++ back) ≡ trimmed text
-trimmed-back [] back h = ap without_end_blanks (first-blanks back h)
+trimmed-back [] back h = ap trimmed (sym (append-nil back)) ∙ ap without_end_blanks (front_goes back [] h)
 trimmed-back (b ∷ text) back h = by (is_blank_byte b) refl (trimmed-back text back h)
   where
     trimmed_if : List ℕ → Bool → List ℕ

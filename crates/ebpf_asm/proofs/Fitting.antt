@@ -32,6 +32,7 @@ use Rattle.ebpf_asm.specs.Line.{Line, line_of, line_in, labelled, split_label, w
 use Rattle.ebpf_asm.specs.Assembly.{LabelMap, fitting, jump_by, jump_to, resolved}
 use Rattle.text_lines.specs.Cut.{is_blank_byte, cut_at, trimmed, uncommented}
 use Rattle.ebpf_decode.proofs.Proved.{fits-32}
+use Rattle.ebpf_asm.proofs.EachLine.{LineHas, lines_have}
 use Rattle.ebpf_asm.proofs.RoundOperands.{IsSource}
 
 -- ---- readings that follow one another
@@ -295,33 +296,10 @@ statement_fits text =
 
 -- an instruction, if there is one, fits
 abbrev pub LineFits : Line → Type 0
-LineFits line = IfOk line.instruction (λ instruction. IfSome instruction Fits)
-
-with_fits : (label : Option (List ℕ)) (read : Result Statement FaultKind) → IfOk read StatementFits → LineFits (with_statement label read)
-with_fits label (Ok statement) h = h
-with_fits label (Err kind) h = tt
-
-labelled_fits : (label : Option (List ℕ)) (text : List ℕ) → LineFits (labelled label text)
-labelled_fits label text = by_length (eqb (length text) 0)
-  where
-    by_length : (b : Bool) → LineFits (cond b (record { label = label; instruction = Ok None; target = None }) (with_statement label (statement_of text)))
-    by_length true = tt
-    by_length false = with_fits label (statement_of text) (statement_fits text)
-
-line_fits : (bytes : List ℕ) → LineFits (line_of bytes)
-unfolding line_of
-line_fits bytes = by_ascii (list_all is_ascii bytes)
-  where
-    text : List ℕ
-    text = trimmed (uncommented bytes)
-
-    by_ascii : (b : Bool) → LineFits (cond b (line_in text) (record { label = None; instruction = Err NotAscii; target = None }))
-    by_ascii true = let parts = split_label text (cut_at 58 text) in labelled_fits parts.0 (trimmed parts.1)
-    by_ascii false = tt
+LineFits line = LineHas StatementFits line
 
 pub lines_fit : (all : List (List ℕ)) → AllByRecursion LineFits (map line_of all)
-lines_fit [] = tt
-lines_fit (bytes ∷ all) = (line_fits bytes, lines_fit all)
+lines_fit all = lines_have StatementFits statement_fits all
 
 -- ---- jumps
 

@@ -17,6 +17,7 @@ use Rattle.ebpf_asm.specs.Statement.{Statement, none_of, one_of, operands_of, st
 use Rattle.ebpf_asm.specs.Line.{Line, labelled, line_in, line_of, split_label, with_statement}
 use Rattle.ebpf_asm.specs.Assembly.{fitting, jump_by}
 use Rattle.ebpf_asm.specs.Assembled.{with_distance}
+use Rattle.ebpf_asm.proofs.EachLine.{LineHas, lines_have}
 use Rattle.text_lines.specs.Cut.{cut_at, is_blank_byte, trimmed, uncommented}
 
 -- ---- jumps
@@ -88,30 +89,7 @@ statement_jumps text =
 
 -- the instruction of a line, if it has one, jumps if the line names a label
 abbrev pub LineJumps : Line → Type 0
-LineJumps line = IfOk line.instruction (λ instruction. IfSome instruction (λ i. IfSome line.target (λ (label : List ℕ). Jumps i)))
-
-with_jumps : (label : Option (List ℕ)) (read : Result Statement FaultKind) → IfOk read StatementJumps → LineJumps (with_statement label read)
-with_jumps label (Ok statement) h = h
-with_jumps label (Err kind) h = tt
-
-labelled_jumps : (label : Option (List ℕ)) (text : List ℕ) → LineJumps (labelled label text)
-labelled_jumps label text = by_length (eqb (length text) 0)
-  where
-    by_length : (b : Bool) → LineJumps (cond b (record { label = label; instruction = Ok None; target = None }) (with_statement label (statement_of text)))
-    by_length true = tt
-    by_length false = with_jumps label (statement_of text) (statement_jumps text)
-
-line_jumps : (bytes : List ℕ) → LineJumps (line_of bytes)
-unfolding line_of
-line_jumps bytes = by_ascii (list_all is_ascii bytes)
-  where
-    text : List ℕ
-    text = trimmed (uncommented bytes)
-
-    by_ascii : (b : Bool) → LineJumps (cond b (line_in text) (record { label = None; instruction = Err NotAscii; target = None }))
-    by_ascii true = let parts = split_label text (cut_at 58 text) in labelled_jumps parts.0 (trimmed parts.1)
-    by_ascii false = tt
+LineJumps line = LineHas StatementJumps line
 
 pub lines_jump : (all : List (List ℕ)) → AllByRecursion LineJumps (map line_of all)
-lines_jump [] = tt
-lines_jump (bytes ∷ all) = (line_jumps bytes, lines_jump all)
+lines_jump all = lines_have StatementJumps statement_jumps all

@@ -10,6 +10,7 @@ pub mod RoundProgram
 pub mod Listings
 pub mod SlotListings
 pub mod SlotFronts
+pub mod EachLine
 pub mod Fitting
 pub mod Programs
 pub mod LowestFaults

@@ -104,4 +104,5 @@ assembled_is_program text bytes e =
     let all = lines_of text in
     let done = no_fault (first_fault [] all) (bytes_from (label_map all) 1 0 all) bytes e in
     let made = spells (label_map all) 1 0 all bytes (lines_fit (lines text)) done.1 in
-    program made.instructions bytes (slot_count all) made.fits made.spelled made.counted (room [] all (omega arith) done.0)
+    let within : slot_count all ≤ 4096 = omega (arith, room [] all (omega arith) done.0) in
+    program made.instructions bytes (slot_count all) made.fits made.spelled made.counted within

@@ -15,7 +15,7 @@ use Rattle.std.proofs.lemmas.Str.Parse.{digit_from_value}
 use Rattle.text_lines.specs.Cut.{cut_at, is_blank_byte, without_first_blanks, without_end_blanks, trimmed}
 use Rattle.ebpf_asm.specs.Statement.{operands_of}
 use Rattle.ebpf_asm.specs.Listing.{further_texts, operands_text, register_text, signed_text, memory_text, wide_text}
-use Rattle.text_lines.proofs.Proved.{uncut_is_one_part, cut_is_after_first_part}
+use Rattle.text_lines.proofs.Proved.{cut_is_after_first_part, first_is_kept, kept_first, uncut_is_one_part}
 use Rattle.ebpf_asm.proofs.RoundOperands.{place_behind, signed_text-parts}
 
 -- bytes of mnemonics and operands
@@ -139,29 +139,15 @@ cut_some byte front rest same h =
 no_blank : (b : ℕ) → plain b ≡ true → is_blank_byte b ≡ false
 no_blank b h = not-true (is_blank_byte b) (plain_no_blank b h)
 
-first_plain : (b : ℕ) (rest : List ℕ) → plain b ≡ true → without_first_blanks (b ∷ rest) ≡ b ∷ rest
-first_plain b rest h = ap (λ c. cond c (without_first_blanks rest) (b ∷ rest)) (no_blank b h)
-
 pub first_text : (text rest : List ℕ) → IsText text → without_first_blanks (text ++ rest) ≡ text ++ rest
 first_text [] rest h = absurd (omega (arith, h.some))
-first_text (b ∷ text) rest h = first_plain b (text ++ rest) (and_parts (plain b) (list_all plain text) h.bytes).0
+first_text (b ∷ text) rest h = first_is_kept b (text ++ rest) (no_blank b (and_parts (plain b) (list_all plain text) h.bytes).0)
 
 pub end_plain : (text : List ℕ) → IsPlain text → without_end_blanks text ≡ text
 end_plain [] h = refl
 end_plain (b ∷ text) h =
     let parts = and_parts (plain b) (list_all plain text) h in
-    ap (λ c. cond (c && eqb (length (without_end_blanks text)) 0) [] (b ∷ without_end_blanks text)) (no_blank b parts.0) ∙ ap (λ t. b ∷ t) (end_plain text parts.1)
-
-pub not_empty : (b : Bool) (n : ℕ) (xs ys : List ℕ) → 0 < n → cond (b && eqb n 0) xs ys ≡ ys
-not_empty true zero xs ys h = absurd (omega arith)
-not_empty true (suc n) xs ys h = ap (λ c. cond c xs ys) (eqb-suc-zero n)
-not_empty false n xs ys h = refl
-
-pub end_append : (xs ys : List ℕ) → 0 < length ys → without_end_blanks ys ≡ ys → without_end_blanks (xs ++ ys) ≡ xs ++ ys
-end_append [] ys some h = h
-end_append (x ∷ xs) ys some h =
-    let more = end_append xs ys some h in
-    ap (λ t. cond (is_blank_byte x && eqb (length t) 0) [] (x ∷ t)) more ∙ not_empty (is_blank_byte x) (length (xs ++ ys)) [] (x ∷ (xs ++ ys)) (omega (arith, some, length-append xs ys))
+    kept_first b text (no_blank b parts.0) ∙ ap (λ t. b ∷ t) (end_plain text parts.1)
 
 trimmed_behind_blank : (text : List ℕ) → IsText text → trimmed (32 ∷ text) ≡ text
 trimmed_behind_blank text h =

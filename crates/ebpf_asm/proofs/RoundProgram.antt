@@ -25,13 +25,13 @@ use Rattle.ebpf_asm.specs.Statement.{Statement, statement_of, statement_with, op
 use Rattle.ebpf_asm.specs.Line.{Line, line_of, line_in, labelled, behind_label, split_label, with_statement, slots_in}
 use Rattle.ebpf_asm.specs.Assembly.{LabelMap, lines_of, slot_count, first_fault, bytes_from, label_map, before_later, told_first, assembled, assembled_lines}
 use Rattle.ebpf_asm.specs.Listing.{mnemonic_of, operand_texts, operands_text, further_texts, text_of_instruction, line_text, listing, source_text}
-use Rattle.text_lines.proofs.Proved.{lines_are_cut}
+use Rattle.text_lines.proofs.Proved.{end_stays, lines_are_cut}
 use Rattle.ebpf_decode.proofs.Proved.{instructions_of-slots_of}
 use Rattle.ebpf_asm.proofs.Passes.{slot_count-push}
 use Rattle.ebpf_asm.proofs.Names.{mnemonic_again, mnemonic_plain}
 use Rattle.ebpf_asm.proofs.Round.{register_again, immediate_again, wide_again}
 use Rattle.ebpf_asm.proofs.RoundOperands.{IsSource, place_behind, immediate_source_again, register_source_again, memory_again, distance_again, short_again, long_again, no_label}
-use Rattle.ebpf_asm.proofs.RoundLines.{IsPlain, IsText, AreTexts, plain, inline, weaker, plain_inline, plain_no_blank, inline_ascii, inline_no_semicolon, inline_no_colon, inline_no_newline, inline_no_return, place_none, cut_none, cut_some, first_text, end_append, end_plain, operands_again, register_is_text, signed_decimal_is_text, signed_text_is_text, memory_is_text, wide_is_text}
+use Rattle.ebpf_asm.proofs.RoundLines.{IsPlain, IsText, AreTexts, plain, inline, weaker, plain_inline, plain_no_blank, inline_ascii, inline_no_semicolon, inline_no_colon, inline_no_newline, inline_no_return, place_none, cut_none, cut_some, first_text, end_plain, operands_again, register_is_text, signed_decimal_is_text, signed_text_is_text, memory_is_text, wide_is_text}
 
 -- ---- an instruction's text
 
@@ -140,7 +140,7 @@ inline_operands (t ∷ ts) h = inline_append t (further_texts ts) (plain_is_inli
 
 end_further : (xs first : List ℕ) (others : List (List ℕ)) → IsText first → AreTexts others → without_end_blanks (xs ++ (first ++ further_texts others)) ≡ xs ++ (first ++ further_texts others)
 end_further xs first [] h hs =
-    ap (λ t. without_end_blanks (xs ++ t)) (append-nil first) ∙ end_append xs first h.some (end_plain first h.bytes) ∙ ap (λ t. xs ++ t) (sym (append-nil first))
+    ap (λ t. without_end_blanks (xs ++ t)) (append-nil first) ∙ end_stays xs first h.some (end_plain first h.bytes) ∙ ap (λ t. xs ++ t) (sym (append-nil first))
 end_further xs first (o ∷ os) h hs =
     let regroup : xs ++ (first ++ further_texts (o ∷ os)) ≡ (xs ++ (first ++ 44 ∷ 32 ∷ [])) ++ (o ++ further_texts os) =
     ap (λ t. xs ++ t) (sym (append_assoc first (44 ∷ 32 ∷ []) (o ++ further_texts os))) ∙ sym (append_assoc xs (first ++ 44 ∷ 32 ∷ []) (o ++ further_texts os)) in

@@ -1,5 +1,5 @@
 -- Where the faults of a program's bytes lie.
-use Rattle.std.proofs.Common.{◌≡◌, ℕ, suc, ◌+◌, ◌/◌, ◌<◌, ◌≤◌, Bool, false, option_map, List, [], ◌∷◌, length, Option, Some, None, Result, Ok, Err, refl, sym, ap, arith}
+use Rattle.std.proofs.Common.{◌≡◌, ℕ, suc, ◌+◌, ◌/◌, ◌<◌, ◌≤◌, Bool, false, option_map, List, [], ◌∷◌, length, Option, Some, None, Result, Ok, Err, refl, arith}
 use Rattle.ebpf_decode.specs.declared.fault.Fault.{Fault}
 use Rattle.ebpf_decode.specs.declared.fault.FaultKind.{FaultKind}
 use Rattle.instruction_set.specs.declared.fields.Fields.{Fields}
@@ -8,21 +8,16 @@ use Rattle.ebpf_decode.specs.Laws.{FaultIsInside}
 use Rattle.ebpf_decode.specs.Reading.{at_first_slot, begins_wide, begun, length_fault, read_slots, slots_at, then_read, with_front}
 use Rattle.program_interface.specs.declared.TheConstants.{MOST_SLOTS}
 use Rattle.program_interface.specs.Readings.{unless_fault}
+use Rattle.std.proofs.lemmas.Result.{IfErr-at_err}
 use Rattle.std.specs.List.{slice_get}
 use Rattle.ebpf_decode.proofs.Programs.{few_slots}
 use Rattle.ebpf_decode.proofs.Slots.{length-slots}
-
--- the slot of a fault, if there is one
-slot_told : Result (List (Option Instruction)) Fault → ℕ
-slot_told (Ok slots) = 0
-slot_told (Err fault) = fault.slot
 
 abbrev pub told_at : ℕ → FaultKind → Result (List (Option Instruction)) Fault
 told_at slot kind = Err (record { slot = slot; kind = kind })
 
 pub same_slot : (slot : ℕ) (kind : FaultKind) (fault : Fault) → told_at slot kind ≡ Err fault → fault.slot ≡ slot
-unfolding slot_told
-same_slot slot kind fault e = sym (ap slot_told e)
+same_slot slot kind fault e = IfErr-at_err (λ f. f.slot ≡ slot) e refl
 
 pub fault_behind : (front : List (Option Instruction)) (read : Result (List (Option Instruction)) Fault) (fault : Fault) → with_front front read ≡ Err fault → read ≡ Err fault
 fault_behind front (Ok slots) fault e = absurd cc

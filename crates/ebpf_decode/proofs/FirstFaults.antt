@@ -1,5 +1,6 @@
 -- What is refused is the first fault.
 use Rattle.std.proofs.Common.{◌≡◌, ℕ, suc, ◌+◌, ◌/◌, Bool, true, false, cond, find, option_map, List, [], ◌∷◌, ◌++◌, length, take, Option, Some, None, Result, Ok, Err, is_none, refl, sym, ap, ◌∙◌, append_assoc, arith, inl, inr}
+use Rattle.std.proofs.lemmas.Result.{IfErr-at_err}
 use Rattle.std.specs.Option.{ok_or}
 use Rattle.std.specs.Result.{result_map_both}
 use Rattle.std.specs.List.{AllByRecursion, flat_map, slice_get}
@@ -13,13 +14,14 @@ use Rattle.instruction_set.specs.Program.{is_wide}
 use Rattle.instruction_set.specs.Spelling.{Fits, slots_spelled}
 use Rattle.program_interface.specs.Bytes.{AreBytes}
 use Rattle.program_interface.specs.Readings.{unless_fault}
-use Rattle.ebpf_decode.specs.FirstFault.{Begins, FailsFirst, IsFirstFault, IsOfSlot, IsTold, NoneFails}
+use Rattle.ebpf_decode.specs.FirstFault.{Begins, FailsFirst, IsFirstFault, IsOfSlot, IsTold}
 use Rattle.ebpf_decode.specs.Laws.{FaultIsFirst}
 use Rattle.ebpf_decode.specs.Opcodes.{opcode_named}
 use Rattle.ebpf_decode.specs.Reading.{at_first_slot, checks, first_failed, instruction_with, length_checks, length_fault, read, read_named, read_slots, slots_at, then_read}
 use Rattle.ebpf_decode.proofs.SpelledAreRead.{read-again}
 use Rattle.ebpf_decode.proofs.Bytes.{slots-fields}
 use Rattle.ebpf_decode.proofs.FaultSlots.{fault_behind, same_slot, told_at}
+use Rattle.ebpf_decode.proofs.NoFault.{none-fails}
 use Rattle.ebpf_decode.proofs.Programs.{are-fields-in}
 use Rattle.ebpf_decode.proofs.ReadAreSpelled.{AreFields, AreFieldsIn, IsTaken, read-takes}
 
@@ -40,28 +42,12 @@ fails-first : (tests : List (Bool × FaultKind)) (kind : FaultKind) → first_fa
 fails-first [] kind e = absurd cc
 fails-first (test ∷ tests) kind e = failed-at test.0 test tests kind refl e (fails-first tests kind)
 
-passes-at : (b : Bool) (test : Bool × FaultKind) (tests : List (Bool × FaultKind)) → test.0 ≡ b
-    → option_map (λ (t : Bool × FaultKind). t.1) (cond b (Some test) (find (λ (t : Bool × FaultKind). t.0) tests)) ≡ None
-    → (first_failed tests ≡ None → NoneFails tests) → NoneFails (test ∷ tests)
-passes-at true test tests is e later = absurd cc
-passes-at false test tests is e later = (is, later e)
-
-none-fails : (tests : List (Bool × FaultKind)) → first_failed tests ≡ None → NoneFails tests
-none-fails [] e = tt
-none-fails (test ∷ tests) e = passes-at test.0 test tests refl e (none-fails tests)
-
 -- ---- what is told of a slot
-
-abbrev fails_by : FaultKind → Result Instruction FaultKind
-fails_by kind = Err kind
-
-err-same : (a b : FaultKind) → fails_by a ≡ fails_by b → a ≡ b
-err-same a b e = cc
 
 with-value : (tests : List (Bool × FaultKind)) (found : Option Instruction) (kind : FaultKind) (fault : Option FaultKind) → first_failed tests ≡ fault
     → unless_fault fault (ok_or found kinds.Value) ≡ Err kind → FailsFirst kind (tests ++ (is_none found, kinds.Value) ∷ [])
 with-value tests found kind (Some told) is e =
-    let same : told ≡ kind = err-same told kind e in
+    let same : told ≡ kind = IfErr-at_err (λ k. told ≡ k) e refl in
     let first = fails-first tests kind (is ∙ ap (λ k. Some k) same) in
     record {
       before = first.before;
@@ -71,11 +57,11 @@ with-value tests found kind (Some told) is e =
     }
 with-value tests (Some i) kind None is e = absurd cc
 with-value tests None kind None is e =
-    let same : kinds.Value ≡ kind = err-same kinds.Value kind e in
+    let same : kinds.Value ≡ kind = IfErr-at_err (λ k. kinds.Value ≡ k) e refl in
     record { before = tests; after = []; are = ap (λ k. tests ++ (true, k) ∷ []) same; pass = none-fails tests is }
 
 told : (named : Option Opcode) (f : Fields) (next : Option Fields) (kind : FaultKind) → read_named named f next ≡ Err kind → IsTold kind named f next
-told None f next kind e = sym (err-same kinds.Opcode kind e)
+told None f next kind e = IfErr-at_err (λ k. k ≡ kinds.Opcode) e refl
 told (Some opcode) f next kind e = with-value (checks opcode f next) (instruction_with opcode f next) kind (first_failed (checks opcode f next)) refl e
 
 begins-none : (f : Fields) (next : Option Fields) (kind : FaultKind) (i : Instruction) → read f next ≡ Err kind → Begins f next i → ⊥
@@ -140,13 +126,8 @@ behind f fs s fault i true is taken b = record {
       ∙ b.after.failed;
 }
 
-kind_told : Result (List (Option Instruction)) Fault → FaultKind
-kind_told (Ok slots) = kinds.Opcode
-kind_told (Err fault) = fault.kind
-
 same_kind : (slot : ℕ) (kind : FaultKind) (fault : Fault) → told_at slot kind ≡ Err fault → kind ≡ fault.kind
-unfolding kind_told
-same_kind slot kind fault e = ap kind_told e
+same_kind slot kind fault e = IfErr-at_err (λ f. kind ≡ f.kind) e refl
 
 at-first : (f : Fields) (fs : List Fields) (s : ℕ) (fault : Fault) (found : Result Instruction FaultKind) → read f (slice_get fs 0) ≡ found
     → then_read (result_map_both Some (λ kind. kind) found) s (λ wide. read_slots wide (s + 1) fs) ≡ Err fault → AreFields f → AreFieldsIn (slice_get fs 0)

@@ -5,4 +5,5 @@ mod Bytes
 mod SpelledAreRead
 mod FaultSlots
 mod FirstFaults
+mod NoFault
 pub mod Proved

@@ -1,5 +1,5 @@
 -- What is read from slots is spelled by them.
-use Rattle.std.proofs.Common.{◌≡◌, ℕ, suc, ◌+◌, ◌*◌, ◌/◌, ◌%◌, ◌^◌, ◌≤◌, Bool, true, false, not, cond, eqb, ltb, find, option_map, List, [], ◌∷◌, ◌++◌, length, Option, Some, None, Result, Ok, Err, refl, sym, ap, ◌∙◌, arith}
+use Rattle.std.proofs.Common.{◌≡◌, ℕ, suc, ◌+◌, ◌*◌, ◌/◌, ◌%◌, ◌^◌, ◌≤◌, Bool, true, false, not, cond, eqb, ltb, option_map, List, [], ◌∷◌, ◌++◌, length, Option, Some, None, Result, Ok, Err, refl, sym, ap, ◌∙◌, arith}
 use Rattle.std.specs.Prelude.{IsSome, option_to_list}
 use Rattle.std.specs.Result.{result_map_both}
 use Rattle.std.specs.List.{AllByRecursion, flat_map, slice_get}
@@ -9,15 +9,17 @@ use Rattle.instruction_set.specs.declared.fields.Fields.{Fields}
 use Rattle.instruction_set.specs.declared.instruction.Instruction.{Instruction}
 use Rattle.instruction_set.specs.declared.instruction.Instruction.TheVariants.{LoadImmediate}
 use Rattle.instruction_set.specs.Program.{IsProgram, is_wide, slots_of}
-use Rattle.ebpf_decode.specs.Reading.{at_first_slot, decoded_program, length_fault, read, read_slots, slots_at, then_read, with_front}
+use Rattle.ebpf_decode.specs.Reading.{at_first_slot, decoded_program, length_checks, length_fault, read, read_slots, slots_at, then_read, with_front}
 use Rattle.instruction_set.specs.Spelling.{Fits, first_slot, instructions_of, program_bytes, second_slot, slot_bytes, slots_spelled, spelling}
 use Rattle.program_interface.specs.declared.TheConstants.{MOST_SLOTS}
 use Rattle.program_interface.specs.Readings.{unless_fault}
 use Rattle.std.proofs.lemmas.Bool.{eq-eqb, eqb-false, eqb-true, le-ltb, ltb-false, ne_eqb, not-false, not_from_true}
 use Rattle.std.proofs.lemmas.List.Concat.{flat_map-append}
+use Rattle.std.proofs.lemmas.Result.{IfOk-at_ok}
 use Rattle.ebpf_decode.proofs.SpelledAreRead.{read-again}
 use Rattle.program_interface.specs.Bytes.{AreBytes}
 use Rattle.ebpf_decode.proofs.Bytes.{FitSlot, fits-32, length-slots_bytes, slots-again, slots-bytes, slots-fields}
+use Rattle.ebpf_decode.proofs.NoFault.{none-fails}
 use Rattle.ebpf_decode.proofs.Slots.{length-slots}
 use Rattle.ebpf_decode.proofs.ReadAreSpelled.{AreFields, AreFieldsIn, IsTaken, read-takes}
 
@@ -115,27 +117,20 @@ spelling-slots (i ∷ is) =
 pub program_bytes-slots_of : (is : List Instruction) → program_bytes (slots_of is) ≡ flat_map slot_bytes (flat_map slots_spelled is)
 program_bytes-slots_of is = ap (flat_map spelling) (instructions_of-slots_of is) ∙ spelling-slots is
 
-three : (a b c : Bool) (p q r : FaultKind) → option_map (λ (x : Bool × FaultKind). x.1) (find (λ (x : Bool × FaultKind). x.0) ((a, p) ∷ (b, q) ∷ (c, r) ∷ [])) ≡ None
-    → (a ≡ false) × (b ≡ false) × (c ≡ false)
-three true b c p q r e = absurd cc
-three false true c p q r e = absurd cc
-three false false true p q r e = absurd cc
-three false false false p q r e = (refl, refl, refl)
-
 -- bytes whose length has no fault have no more slots than a program may
 pub few_slots : (bytes : List ℕ) → length_fault (length bytes) ≡ None → length bytes / 8 ≤ MOST_SLOTS
 few_slots bytes length_is =
-    ltb-false _ _ (three (not (eqb (length bytes % 8) 0)) (eqb (length bytes) 0) (ltb MOST_SLOTS (length bytes / 8)) _ _ _ length_is).2
+    ltb-false _ _ (none-fails (length_checks (length bytes)) length_is).1.1.0
 
 -- slots that are read from bytes are a program, spelled by the bytes
 pub program-read : (bytes : List ℕ) (slots : List (Option Instruction)) → AreBytes bytes → length_fault (length bytes) ≡ None
     → read_slots false 0 (slots_at (length bytes / 8) bytes) ≡ Ok slots → IsProgram slots × (bytes ≡ program_bytes slots)
 program-read bytes slots fits length_is e =
     let count = length bytes / 8 in
-    let good = three (not (eqb (length bytes % 8) 0)) (eqb (length bytes) 0) (ltb MOST_SLOTS count) _ _ _ length_is in
+    let good = none-fails (length_checks (length bytes)) length_is in
     let whole : length bytes % 8 ≡ 0 = eqb-true _ _ (not-false _ good.0) in
     let few : count ≤ MOST_SLOTS = few_slots bytes length_is in
-    let some : length bytes ≡ 0 → ⊥ = eqb-false _ _ good.1 in
+    let some : length bytes ≡ 0 → ⊥ = eqb-false _ _ good.1.0 in
     let spelled = slots-take (slots_at count bytes) slots (slots-fields count bytes fits) e in
     let long : length slots ≡ count =
     ap length spelled.layout ∙ length-slots_of spelled.instructions ∙ ap length (sym spelled.spelled) ∙ length-slots count bytes in (
@@ -176,10 +171,6 @@ fit-slots (LoadImmediate dst value ∷ is) fits = (
 fit-slots (i ∷ is) fits =
     (record { dst = omega (arith, fits.0.dst); offset = fits.0.offset; immediate = fits.0.immediate }, fit-slots is fits.1)
 
-three-none : (a b c : Bool) (p q r : FaultKind) → a ≡ false → b ≡ false → c ≡ false
-    → option_map (λ (x : Bool × FaultKind). x.1) (find (λ (x : Bool × FaultKind). x.0) ((a, p) ∷ (b, q) ∷ (c, r) ∷ [])) ≡ None
-three-none a b c p q r x y z = rw (x, y, z) refl
-
 -- what a program spells decodes as the program
 pub program-again : (slots : List (Option Instruction)) → IsProgram slots → decoded_program (program_bytes slots) ≡ Ok slots
 program-again slots program =
@@ -194,22 +185,17 @@ program-again slots program =
     let whole : not (eqb (length (flat_map slot_bytes fs) % 8) 0) ≡ false = not_from_true _ (eq-eqb _ _ (omega arith)) in
     let filled : eqb (length (flat_map slot_bytes fs)) 0 ≡ false = ne_eqb _ _ (λ none. omega arith) in
     let few : ltb MOST_SLOTS (length (flat_map slot_bytes fs) / 8) ≡ false = le-ltb _ _ (omega arith) in
+    let no_length_fault : length_fault (length (flat_map slot_bytes fs)) ≡ None = rw (whole, filled, few) refl in
     ap decoded_program bytes
-    ∙ ap (λ k. unless_fault (option_map at_first_slot k) (read_slots false 0 (slots_at (length (flat_map slot_bytes fs) / 8) (flat_map slot_bytes fs)))) (three-none _ _ _ _ _ _ whole filled few)
+    ∙ ap (λ k. unless_fault (option_map at_first_slot k) (read_slots false 0 (slots_at (length (flat_map slot_bytes fs) / 8) (flat_map slot_bytes fs)))) no_length_fault
     ∙ ap (λ n. read_slots false 0 (slots_at n (flat_map slot_bytes fs))) count
     ∙ ap (read_slots false 0) (slots-again fs (fit-slots is program.fits))
     ∙ read-program is 0 program.fits
     ∙ ap (λ xs. Ok xs) (sym program.layout)
 
-abbrev read_as : List (Option Instruction) → Result (List (Option Instruction)) Fault
-read_as slots = Ok slots
-
-one-read : (a b : List (Option Instruction)) → read_as a ≡ read_as b → a ≡ b
-one-read a b e = cc
-
 -- programs that are spelled alike are one
 pub one-program : (a b : List (Option Instruction)) → IsProgram a → IsProgram b → program_bytes a ≡ program_bytes b → a ≡ b
-one-program a b p q same = one-read a b (sym (program-again a p) ∙ ap decoded_program same ∙ program-again b q)
+one-program a b p q same = IfOk-at_ok (λ slots. a ≡ slots) (sym (program-again a p) ∙ ap decoded_program same ∙ program-again b q) refl
 
 no-length-fault : (k : Option FaultKind) (read : Result (List (Option Instruction)) Fault) (slots : List (Option Instruction))
     → unless_fault (option_map at_first_slot k) read ≡ Ok slots → (k ≡ None) × (read ≡ Ok slots)

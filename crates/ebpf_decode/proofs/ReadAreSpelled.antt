@@ -1,5 +1,5 @@
 -- What is read from a slot is spelled by it.
-use Rattle.std.proofs.Common.{◌≡◌, FitsSigned, ℕ, ℤ, pos, ◌+◌, ◌*◌, ◌%◌, ◌/◌, ◌^◌, ◌<◌, Bool, true, false, not, ◌&&◌, ◌||◌, cond, eqb, leb, List, [], ◌∷◌, Option, Some, None, Ok, is_none, find, option_map, refl, sym, ap, subst, ◌∙◌, arith}
+use Rattle.std.proofs.Common.{◌≡◌, FitsSigned, ℕ, ℤ, pos, ◌+◌, ◌*◌, ◌%◌, ◌/◌, ◌^◌, ◌<◌, Bool, true, false, not, ◌&&◌, cond, eqb, leb, List, [], ◌∷◌, Option, Some, None, Ok, is_none, find, option_map, refl, sym, ap, subst, ◌∙◌, arith}
 use Rattle.std.specs.Ordering.{int_eq}
 use Rattle.std.specs.Int.{w16, w32, cast_signed, cast_unsigned}
 use Rattle.std.specs.Option.{ok_or, option_or}
@@ -28,8 +28,9 @@ use Rattle.instruction_set.specs.declared.operation.Width.TheVariants as widths
 use Rattle.instruction_set.specs.Codes.{extension_with, plain_operations, swap_size_with, variant_with, width_eq}
 use Rattle.ebpf_decode.specs.Opcodes.{opcode_named, uses}
 use Rattle.instruction_set.specs.Program.{is_wide}
-use Rattle.ebpf_decode.specs.Reading.{first_fault, has_more, has_no_register, has_unused, instruction_with, is_left_out, is_load_immediate, read, read_named, signed_move, source_of}
+use Rattle.ebpf_decode.specs.Reading.{checks, first_fault, has_more, has_no_register, has_unused, instruction_with, is_load_immediate, read, read_named, signed_move, source_of}
 use Rattle.instruction_set.specs.Spelling.{CALL, EXIT, Fits, HasValue, IMM, JA, LD, LDX, MEM, MEMSX, MOV, NEG, ST, STX, access_opcode, arithmetic_class, extension_offset, extension_width, first_slot, jump_class, kept_bits, operation_code, operation_offset, operation_opcode, relation_code, second_slot, signed_size_code, size_code, slot, swap_opcode}
+use Rattle.ebpf_decode.proofs.NoFault.{none-fails}
 
 -- ---- opcodes
 
@@ -64,14 +65,6 @@ named-is : (opcode : ℕ) → opcode < 256 → is_of (opcode_named opcode) opcod
 named-is opcode h = agree_below_at (λ n. is_of (opcode_named n) n) (λ _. true) 256 opcode refl h
 
 -- ---- what an instruction without a fault knows of its fields
-
-four : (a b c d : Bool) (p q r s : FaultKind) → option_map (λ (x : Bool × FaultKind). x.1) (find (λ (x : Bool × FaultKind). x.0) ((a, p) ∷ (b, q) ∷ (c, r) ∷ (d, s) ∷ [])) ≡ None
-    → (a ≡ false) × (b ≡ false) × (c ≡ false) × (d ≡ false)
-four true b c d p q r s e = absurd cc
-four false true c d p q r s e = absurd cc
-four false false true d p q r s e = absurd cc
-four false false false true p q r s e = absurd cc
-four false false false false p q r s e = (refl, refl, refl, refl)
 
 found_without_fault : {X : Type 0} (fault : Option FaultKind) (found : Option X) (x : X) → unless_fault fault (ok_or found kinds.Value) ≡ Ok x → (fault ≡ None) × (found ≡ Some x)
 found_without_fault (Some kind) found x e = absurd cc
@@ -278,11 +271,11 @@ read-named : (f : Fields) (next : Option Fields) (i : Instruction) (named : Opti
 read-named f next i None is fits others e = absurd cc
 read-named f next i (Some opcode) is fits others e =
     let u = found_without_fault (first_fault opcode f next) (instruction_with opcode f next) i e in
-    let v = four (is_left_out opcode f) (is_load_immediate opcode && is_none next) (has_no_register (uses opcode) f) (has_unused (uses opcode) f || (is_load_immediate opcode && has_more next)) _ _ _ _ u.0 in
-    let w = or_parts (has_unused (uses opcode) f) (is_load_immediate opcode && has_more next) v.3 in
-    let used = is_used (uses opcode) f v.2 w.0 in
+    let v = none-fails (checks opcode f next) u.0 in
+    let w = or_parts (has_unused (uses opcode) f) (is_load_immediate opcode && has_more next) v.1.1.1.0 in
+    let used = is_used (uses opcode) f v.1.1.0 w.0 in
     let named : is_of (Some opcode) f.opcode ≡ true = ap (λ m. is_of m f.opcode) (sym is) ∙ named-is f.opcode fits.opcode in
-    let spelled = row opcode f next i named used v.1 w.1 fits others u.1 in (
+    let spelled = row opcode f next i named used v.1.0 w.1 fits others u.1 in (
       spelled,
       record {
         dst = subst (λ (s : Fields). s.dst < 11) (sym spelled.0) used.low_dst;

@@ -1,7 +1,7 @@
 -- The slots of bytes, and reading them one by one.
-use Rattle.std.proofs.Common.{◌≡◌, ℕ, zero, suc, ◌+◌, ◌*◌, ◌<◌, ◌≤◌, Bool, List, [], ◌∷◌, ◌++◌, length, drop, Option, Some, None, Result, Ok, Err, refl, sym, ap, ◌∙◌, append_assoc, add-one, arith}
+use Rattle.std.proofs.Common.{◌≡◌, ℕ, zero, suc, ◌+◌, ◌*◌, ◌<◌, ◌≤◌, Bool, List, [], ◌∷◌, ◌++◌, length, drop, Option, Some, Result, Ok, Err, refl, sym, ap, ◌∙◌, append_assoc, add-one, arith}
 use Rattle.std.specs.List.{slice_get}
-use Rattle.std.proofs.lemmas.List.{append-nil, drop-drop}
+use Rattle.std.proofs.lemmas.List.{append-nil, drop-drop, drop_all}
 use Rattle.ebpf_decode.specs.declared.fault.Fault.{Fault}
 use Rattle.ebpf_decode.specs.declared.fault.FaultKind.{FaultKind}
 use Rattle.instruction_set.specs.declared.fields.Fields.{Fields}
@@ -15,11 +15,6 @@ slots-get (suc count) bytes (suc k) h =
     let places : 8 + 8 * k ≡ 8 * suc k = omega arith in
     slots-get count (drop 8 bytes) k (omega arith)
     ∙ ap (λ (xs : List ℕ). Some (fields_at xs)) (drop-drop (8 * k) 8 bytes ∙ ap (λ n. drop n bytes) places)
-
-pub slots-past : (count : ℕ) (bytes : List ℕ) (k : ℕ) → count ≤ k → slice_get (slots_at count bytes) k ≡ None
-slots-past zero bytes k h = refl
-slots-past (suc count) bytes zero h = absurd (omega arith)
-slots-past (suc count) bytes (suc k) h = slots-past count (drop 8 bytes) k (omega arith)
 
 pub length-slots : (count : ℕ) (bytes : List ℕ) → length (slots_at count bytes) ≡ count
 length-slots zero bytes = refl
@@ -75,16 +70,10 @@ ends fs s f second kind front total here read so_far =
     ∙ ap (with_front front) (read-at fs s f second here)
     ∙ ap (λ r. with_front front (then_read r s (λ wide. read_slots wide (s + 1) (drop (s + 1) fs)))) read
 
-drop-all : (fs : List Fields) (s : ℕ) → length fs ≤ s → drop s fs ≡ []
-drop-all [] zero h = refl
-drop-all [] (suc s) h = refl
-drop-all (x ∷ fs) zero h = absurd (omega arith)
-drop-all (x ∷ fs) (suc s) h = drop-all fs s (omega arith)
-
 -- no slot is left
 pub is_done : (fs : List Fields) (s : ℕ) (second : Bool) (front : List (Option Instruction)) (total : Result (List (Option Instruction)) Fault)
     → length fs ≤ s → with_front front (read_slots second s (drop s fs)) ≡ total → total ≡ Ok front
 is_done fs s second front total h so_far =
     sym so_far
-    ∙ ap (λ xs. with_front front (read_slots second s xs)) (drop-all fs s h)
+    ∙ ap (λ xs. with_front front (read_slots second s xs)) (drop_all s fs h)
     ∙ ap (λ xs. Ok xs) (append-nil front)

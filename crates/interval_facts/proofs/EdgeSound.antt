@@ -95,7 +95,7 @@ as_facts_law None x y fx fy kept = kept
 as_facts_law (Some both) x y fx fy kept = ((kept.0, fx), (kept.1, fy))
 
 low_is : (width : Width) (b : Bounds) (x : ℕ) → IsWithin b x → fits width b ≡ true → low_bits width x ≡ x
-low_is Bits32 b x within small = let e = ltb-true b.high (2 ^ 32) small in mod-eq_of_lt {x} {2 ^ 32} (omega arith)
+low_is Bits32 b x within small = let e = ltb-true b.high (2 ^ 32) small in mod-eq_of_lt {n = x} {m = 2 ^ 32} (omega arith)
 low_is Bits64 b x within small = refl
 
 agreed : (taken answer : Bool) → answer ≡ taken → agrees taken answer ≡ true

@@ -35,7 +35,7 @@ sum_law w d s x y hd hs fx fy =
     either (nat_lt (d.high + s.high) (number_count w)) _ _ ((x + y) % number_count w)
     (λ fits.
     let below = ltb-true (d.high + s.high) (number_count w) fits in
-    rw (mod-eq_of_lt {x + y} {number_count w} (omega arith)) (omega arith, omega arith))
+    rw (mod-eq_of_lt {n = x + y} {m = number_count w} (omega arith)) (omega arith, omega arith))
     (λ _. either (nat_le (number_count w) (d.low + s.low)) _ _ ((x + y) % number_count w)
     (λ wraps.
     let above = leb-true (number_count w) (d.low + s.low) wraps in
@@ -52,7 +52,7 @@ difference_law w d s x y hd hs fx fy =
     (λ _. either (nat_lt d.high s.low) _ _ ((x + (number_count w - y)) % number_count w)
     (λ wraps.
     let above = ltb-true d.high s.low wraps in
-    rw (mod-eq_of_lt {x + (number_count w - y)} {number_count w} (omega arith)) (omega arith, omega arith))
+    rw (mod-eq_of_lt {n = x + (number_count w - y)} {m = number_count w} (omega arith)) (omega arith, omega arith))
     (λ _. wrapped_law w (x + (number_count w - y))))
 
 product_law : (w : Width) (d s : Bounds) (x y : ℕ) → IsWithin d x → IsWithin s y
@@ -63,7 +63,7 @@ product_law w d s x y hd hs =
     let below = ltb-true (d.high * s.high) (number_count w) fits in
     let most = mul-le x y d.high s.high hd.1 hs.1 in
     let least = mul-le d.low s.low x y hd.0 hs.0 in
-    rw (mod-eq_of_lt {x * y} {number_count w} (omega (arith, most))) (least, most))
+    rw (mod-eq_of_lt {n = x * y} {m = number_count w} (omega (arith, most))) (least, most))
     (λ _. wrapped_law w (x * y))
 
 divided_below : (x y : ℕ) → (cond (y == 0) 0 (x / y)) ≤ x
@@ -99,7 +99,7 @@ remainder_law d s x y hd hs =
     let less = ltb-true d.high s.low (and_parts (nat_le 1 s.low) (nat_lt d.high s.low) smaller).1 in
     cond_both (y == 0) x (x % y) (λ r. IsWithin d r)
     (λ _. hd)
-    (λ _. rw (mod-eq_of_lt {x} {y} (omega arith)) hd))
+    (λ _. rw (mod-eq_of_lt {n = x} {m = y} (omega arith)) hd))
     (λ _. either (nat_le 1 s.low) _ _ (cond (y == 0) x (x % y))
     (λ some.
     let least = leb-true 1 s.low some in
@@ -157,7 +157,7 @@ shifted_left_by_law w c d x hd =
     let below = ltb-true (d.high * 2 ^ c) (number_count w) fits in
     let most = mul-le x (2 ^ c) d.high (2 ^ c) hd.1 (omega arith) in
     let least = mul-le d.low (2 ^ c) x (2 ^ c) hd.0 (omega arith) in
-    rw (mod-eq_of_lt {x * 2 ^ c} {number_count w} (omega (arith, most))) (least, most))
+    rw (mod-eq_of_lt {n = x * 2 ^ c} {m = number_count w} (omega (arith, most))) (least, most))
     (λ _. wrapped_law w (x * 2 ^ c))
 
 shifted_left_law : (w : Width) (d s : Bounds) (x y : ℕ) → IsWithin d x → IsWithin s y

@@ -1,11 +1,11 @@
 -- Blanks as bytes, and at the end of a text; ASCII behind a text.
-use Rattle.std.proofs.Common.{◌≡◌, ℕ, ◌-◌, ◌+◌, ◌≤◌, Bool, true, false, ◌&&◌, ◌==◌, eqb, cond, List, [], ◌∷◌, ◌++◌, length, take, get_or, refl, sym, ap, ◌∙◌, arith}
+use Rattle.std.proofs.Common.{◌≡◌, ℕ, zero, suc, ◌-◌, ◌+◌, ◌<◌, ◌≤◌, Bool, true, false, ◌&&◌, ◌==◌, eqb, cond, List, [], ◌∷◌, ◌++◌, length, take, get_or, refl, sym, ap, ◌∙◌, arith}
 use Rattle.std.specs.Char.{is_ascii}
 use Rattle.std.specs.List.{list_all}
 use Rattle.std.proofs.Math.Bool.{and-true}
 use Rattle.std.proofs.Math.Dec.{eqb-suc-zero}
 use Rattle.std.proofs.lemmas.Bool.Decides.{nat_tests}
-use Rattle.std.proofs.lemmas.List.{take_more, take_all}
+use Rattle.std.proofs.lemmas.List.{length-append, take_more, take_all}
 use Rattle.std.proofs.lemmas.List.Folds.{list_all-append}
 use Rattle.text_lines.specs.Cut.{is_blank_byte, without_end_blanks}
 
@@ -31,15 +31,22 @@ without_end_blanks-push_blank : (text : List ℕ) (byte : ℕ) → is_blank_byte
 without_end_blanks-push_blank [] byte e = rw e refl
 without_end_blanks-push_blank (b ∷ text) byte e = rw (without_end_blanks-push_blank text byte e) refl
 
-not_empty : (b : Bool) (text : List ℕ) (byte : ℕ) (zs : List ℕ) → cond (b && eqb (length (text ++ byte ∷ [])) 0) [] zs ≡ zs
-not_empty true [] byte zs = refl
-not_empty true (t ∷ text) byte zs = ap (λ c. cond c [] zs) (eqb-suc-zero (length (text ++ byte ∷ [])))
-not_empty false text byte zs = refl
+not_empty : (blank : Bool) (count : ℕ) (xs ys : List ℕ) → 0 < count → cond (blank && eqb count 0) xs ys ≡ ys
+not_empty true zero xs ys some = absurd (omega arith)
+not_empty true (suc count) xs ys some = ap (λ c. cond c xs ys) (eqb-suc-zero count)
+not_empty false count xs ys some = refl
+
+-- nothing goes where nothing goes of what stands at the end
+pub end_stays : (xs ys : List ℕ) → 0 < length ys → without_end_blanks ys ≡ ys → without_end_blanks (xs ++ ys) ≡ xs ++ ys
+end_stays [] ys some stays = stays
+end_stays (x ∷ xs) ys some stays =
+    let more = end_stays xs ys some stays in
+    ap (λ (text : List ℕ). cond (is_blank_byte x && eqb (length text) 0) [] (x ∷ text)) more
+    ∙ not_empty (is_blank_byte x) (length (xs ++ ys)) [] (x ∷ (xs ++ ys)) (omega (arith, some, length-append xs ys))
 
 -- with another byte there nothing goes
 without_end_blanks-push : (text : List ℕ) (byte : ℕ) → is_blank_byte byte ≡ false → without_end_blanks (text ++ byte ∷ []) ≡ text ++ byte ∷ []
-without_end_blanks-push [] byte e = rw e refl
-without_end_blanks-push (b ∷ text) byte e = rw (without_end_blanks-push text byte e) (not_empty (is_blank_byte b) text byte (b ∷ (text ++ byte ∷ [])))
+without_end_blanks-push text byte e = end_stays text (byte ∷ []) (omega arith) (rw e refl)
 
 -- the last byte behind the others
 last : (text : List ℕ) → 1 ≤ length text → text ≡ take (length text - 1) text ++ get_or text (length text - 1) 0 ∷ []

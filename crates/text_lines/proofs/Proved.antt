@@ -1,10 +1,10 @@
 -- The laws of this crate, proved, and lemmas: all that the proofs of other crates cite of it.
 use Rattle.text_lines.specs.Laws.{CutIsAfterFirstPart, LinesAreCut, SomePartIsThere, UncutIsOnePart}
-pub use Rattle.text_lines.proofs.Blanks.{ascii_behind, blank_is_ascii, blank_is_code}
+pub use Rattle.text_lines.proofs.Blanks.{ascii_behind, blank_is_ascii, blank_is_code, end_stays}
 pub use Rattle.text_lines.proofs.Comments.{uncommented-comment, uncommented-cons}
 use Rattle.text_lines.proofs.LineLemmas.{cut_line}
 use Rattle.text_lines.proofs.PartLemmas.{split_more, split_some, split_whole}
-pub use Rattle.text_lines.proofs.Trimming.{back_goes, front_goes}
+pub use Rattle.text_lines.proofs.Trimming.{back_goes, first_is_kept, front_goes, kept_first}
 
 pub uncut_is_one_part : UncutIsOnePart
 uncut_is_one_part = split_whole

@@ -1,10 +1,11 @@
 -- That the trimmed text is what stands between blanks, and nothing else is.
-use Rattle.std.proofs.Common.{◌≡◌, ℕ, Bool, true, false, ◌&&◌, eqb, cond, List, [], ◌∷◌, ◌++◌, length, refl, sym, ap, subst, ◌∙◌}
+use Rattle.std.proofs.Common.{◌≡◌, ℕ, Bool, true, false, ◌&&◌, eqb, cond, List, [], ◌∷◌, ◌++◌, length, refl, sym, ap, subst, ◌∙◌, arith}
 use Rattle.std.proofs.Math.Dec.{eqb-suc-zero}
 use Rattle.std.proofs.lemmas.List.{append-nil}
 use Rattle.std.proofs.lemmas.Bool.{and_parts}
 use Rattle.text_lines.specs.Cut.{is_blank_byte, trimmed, without_end_blanks, without_first_blanks}
 use Rattle.text_lines.specs.Laws.{AreBlanks, IsBetweenBlanks, TrimmedTextsAreBetweenBlanks}
+use Rattle.text_lines.proofs.Blanks.{end_stays}
 
 -- ---- the blanks in front
 
@@ -96,7 +97,7 @@ no_blank_last (byte ∷ text) =
     no_blank_last_by byte (without_end_blanks text) (is_blank_byte byte && eqb (length (without_end_blanks text)) 0) refl (no_blank_last text)
 
 -- the first byte stays, where it is no blank
-kept_first : (byte : ℕ) (bytes : List ℕ) → is_blank_byte byte ≡ false → without_end_blanks (byte ∷ bytes) ≡ byte ∷ without_end_blanks bytes
+pub kept_first : (byte : ℕ) (bytes : List ℕ) → is_blank_byte byte ≡ false → without_end_blanks (byte ∷ bytes) ≡ byte ∷ without_end_blanks bytes
 kept_first byte bytes is = rw is refl
 
 first_stays : (bytes : List ℕ) → NoBlankFirst bytes → NoBlankFirst (without_end_blanks bytes)
@@ -133,19 +134,16 @@ back_goes [] [] blanks = refl
 back_goes [] (byte ∷ back) blanks = rw (blanks.0, back_goes [] back blanks.1) refl
 back_goes (byte ∷ bytes) back blanks = rw (back_goes bytes back blanks) refl
 
-first_is_kept : (byte : ℕ) (bytes : List ℕ) → is_blank_byte byte ≡ false → without_first_blanks (byte ∷ bytes) ≡ byte ∷ bytes
+-- in front nothing goes where no blank is first
+pub first_is_kept : (byte : ℕ) (bytes : List ℕ) → is_blank_byte byte ≡ false → without_first_blanks (byte ∷ bytes) ≡ byte ∷ bytes
 first_is_kept byte bytes is = rw is refl
-
-kept_before : (blank : Bool) (x : ℕ) (xs bytes : List ℕ) → cond (blank && eqb (length (x ∷ xs)) 0) [] bytes ≡ bytes
-kept_before true x xs bytes = ap (λ c. cond c [] bytes) (eqb-suc-zero (length xs))
-kept_before false x xs bytes = refl
 
 stays_whole : (bytes : List ℕ) → NoBlankLast bytes → without_end_blanks bytes ≡ bytes
 stays_whole [] none = refl
 stays_whole (byte ∷ []) none = kept_first byte [] (none [] byte refl)
 stays_whole (byte ∷ x ∷ xs) none =
-    rw (stays_whole (x ∷ xs) (λ rest other e. none (byte ∷ rest) other (ap (λ (bytes : List ℕ). byte ∷ bytes) e)))
-    (kept_before (is_blank_byte byte) x xs (byte ∷ x ∷ xs))
+    end_stays (byte ∷ []) (x ∷ xs) (omega arith)
+    (stays_whole (x ∷ xs) (λ rest other e. none (byte ∷ rest) other (ap (λ (bytes : List ℕ). byte ∷ bytes) e)))
 
 trimmed_by : (bytes back : List ℕ) → NoBlankFirst bytes → NoBlankLast bytes → AreBlanks back → without_end_blanks (without_first_blanks (bytes ++ back)) ≡ bytes
 trimmed_by [] back first last blanks =
