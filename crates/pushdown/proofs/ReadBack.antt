@@ -1,5 +1,5 @@
 -- What was written is read back, whatever events happen in between.
-use Rattle.std.proofs.Common.{◌≡◌, ℕ, zero, suc, ◌+◌, ◌*◌, ◌^◌, ◌<◌, ◌≤◌, Bool, List, [], ◌∷◌, ◌++◌, length, get_or, take, drop, None, Result, refl, ap, sym, subst, ◌∙◌, arith, append_assoc, length-append}
+use Rattle.std.proofs.Common.{◌≡◌, ℕ, suc, ◌+◌, ◌*◌, ◌^◌, ◌≤◌, Bool, List, [], ◌∷◌, ◌++◌, length, take, drop, None, Result, refl, ap, sym, subst, ◌∙◌, arith, append_assoc, length-append}
 use Rattle.std.specs.List.{concat}
 use Rattle.std.proofs.lemmas.Bool.{le-leb}
 use Rattle.std.proofs.lemmas.Bool.Decides.{nat_tests}
@@ -14,7 +14,7 @@ use Rattle.nvme_entry.specs.declared.command.StandardCommand.{StandardCommand}
 use Rattle.nvme_entry.specs.declared.command.StandardCommand.TheVariants.{Write, Read, Append}
 use Rattle.nvme_entry.specs.declared.command.TheConstants.{MOST_TRANSFER}
 use Rattle.word_domain.specs.Domain.{Operations}
-use Rattle.image_store.specs.Namespace.{ZoneBlocks, ZonedNamespace, no_zone, zone_at, IsNamespace}
+use Rattle.image_store.specs.Namespace.{ZonedNamespace, zone_at, IsNamespace}
 use Rattle.image_store.proofs.Proved.{blocks_lie_in_zones, written_is_within}
 use Rattle.zns_commands.specs.Address.{zone_number}
 use Rattle.zns_commands.specs.Effect.{Effect}
