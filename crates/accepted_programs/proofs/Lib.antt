@@ -1,4 +1,3 @@
-mod AllOf
 mod CellLaws
 mod Edges
 mod FirstPassed

@@ -1,9 +1,8 @@
--- The laws of accepted programs that other crates cite, and lemmas on lists.
+-- The laws of accepted programs that other crates cite, and that a table without entries has none.
 use Rattle.std.specs.Prelude.{ℕ}
 use Rattle.word_domain.specs.Domain.{IsSound, Operations}
 use Rattle.accepted_programs.specs.Laws.{AcceptedNeverTraps, RefusalIsInside}
 use Rattle.accepted_programs.proofs.Statements.{AcceptedSlotsNeverTrap, NoReasonHolds, OffsetsAreShort, RefusalIsAtItsSlot}
-pub use Rattle.accepted_programs.proofs.AllOf.{all_append, all_at, all_drop, all_from, all_same, all_set, all_take}
 pub use Rattle.accepted_programs.proofs.CellLaws.{none_known}
 use Rattle.accepted_programs.proofs.FirstRefusals as first_refusals
 use Rattle.accepted_programs.proofs.Fitting as fitting

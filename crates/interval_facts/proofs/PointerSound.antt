@@ -11,7 +11,7 @@ use Rattle.program_interface.specs.declared.area.Area.TheVariants.{Context, Bloc
 use Rattle.program_meaning.proofs.Proved.{areas_are_short}
 use Rattle.interval_facts.proofs.FactSound.{any_law, either_fact}
 use Rattle.interval_facts.specs.Arithmetic.{moved_back, moved_on, signed_bounds}
-use Rattle.interval_facts.specs.Fact.{ContainsWord, access_of, farthest, offsets_of, pointer_to}
+use Rattle.interval_facts.specs.Fact.{ContainsWord, area_accessed, farthest, offsets_of, pointer_to}
 use Rattle.word_domain.specs.Domain.{IsAtOffset}
 use Rattle.word_domain.specs.declared.bounds.Bounds.{Bounds}
 use Rattle.word_domain.specs.declared.offsets.Offsets.{Offsets}
@@ -144,7 +144,7 @@ some_area {test = true} e = (refl, (cc))
 some_area {test = false} e = (cc)
 
 pub access_law : (block : ℕ) (f : Fact) (offset : ℤ) (size : ℕ) (area : Area) (w : ℕ) → block < 2 ^ 32
-    → access_of block f offset size ≡ Some area → ContainsWord f w
+    → area_accessed block f offset size ≡ Some area → ContainsWord f w
     → lies_in block area ((w + cast_unsigned w64 offset) % 2 ^ 64) size ≡ true
 access_law block (Words b) offset size area w fits told is = cc
 access_law block (Pointer area' low high) offset size area w fits told is =

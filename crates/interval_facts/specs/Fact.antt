@@ -77,9 +77,9 @@ bounds_of (Words b) = b
 bounds_of (Pointer area low high) = full
 
 -- the area of a pointer, if it has all bytes of an access at this offset
-abbrev pub access_of : ℕ → Fact → ℤ → ℕ → Option Area
-access_of block (Words b) offset size = None
-access_of block (Pointer area low high) offset size =
+abbrev pub area_accessed : ℕ → Fact → ℤ → ℕ → Option Area
+area_accessed block (Words b) offset size = None
+area_accessed block (Pointer area low high) offset size =
     if int_le (pos 0) (low +ℤ offset) && int_le (high +ℤ offset +ℤ pos size) (pos (length_of block area))
     then Some area
     else None

@@ -3,7 +3,7 @@ use Rattle.std.specs.Prelude.{pos}
 use Rattle.word_domain.specs.Domain.{Operations}
 use Rattle.interval_facts.specs.Arithmetic.{alu_of}
 use Rattle.interval_facts.specs.Edge.{refine_of}
-use Rattle.interval_facts.specs.Fact.{access_of, bounds_of, full, join_of, loaded_of, loaded_signed_of, offsets_of, pointer_to, single}
+use Rattle.interval_facts.specs.Fact.{area_accessed, bounds_of, full, join_of, loaded_of, loaded_signed_of, offsets_of, pointer_to, single}
 use Rattle.interval_facts.specs.declared.fact.Fact.{Fact}
 use Rattle.interval_facts.specs.declared.fact.Fact.TheVariants.{Words}
 
@@ -18,7 +18,7 @@ intervals = record {
   join = join_of;
   alu = alu_of;
   refine = refine_of;
-  access = access_of;
+  access = area_accessed;
   bounds = bounds_of;
   offsets = offsets_of;
 }

@@ -2,7 +2,7 @@
 
 ghost use Rattle.std.specs.Prelude.{◌≡◌, ◌≤◌, ◌≤ℤ◌, ◌+ℤ◌, int_le, pos};
 ghost use Rattle.std.specs.Int.{int_min, int_max};
-ghost use Rattle.interval_facts.specs.Fact.{IsFact, is_single as is_single_number, single as single_number, full, pointer_to, loaded_of, join_of, bounds_of, access_of, offsets_of, widened};
+ghost use Rattle.interval_facts.specs.Fact.{IsFact, is_single as is_single_number, single as single_number, full, pointer_to, loaded_of, join_of, bounds_of, area_accessed, offsets_of, widened};
 
 use instruction_set::Size;
 use program_interface::{Area, BlockSize};
@@ -144,7 +144,7 @@ fn ends_inside(high: i32, offset: i16, size: u64, length: u64) -> bool
 /// The area of a pointer, if it has all bytes of an access at this offset.
 pub fn access(fact: Fact, block: BlockSize, offset: i16, size: u64) -> Option<Area>
     requires { IsFact fact }
-    ensures { result ≡ access_of block fact offset size }
+    ensures { result ≡ area_accessed block fact offset size }
 {
     let Fact::Pointer { area, low, high } = fact else {
         return None;

@@ -1,7 +1,37 @@
 -- What holds of each element of a list.
-use Rattle.std.proofs.Common.{List, [], ◌∷◌, ◌++◌}
+use Rattle.std.proofs.Common.{ℕ, zero, suc, List, [], ◌∷◌, ◌++◌, take, drop, set, get_or, replicate}
 use Rattle.std.specs.List.{AllByRecursion}
 
-pub all_append : {X : Type 0} (P : X → Type 0) (xs ys : List X) → AllByRecursion P xs → AllByRecursion P ys → AllByRecursion P (xs ++ ys)
-all_append P [] ys first second = second
-all_append P (x ∷ xs) ys first second = (first.0, all_append P xs ys first.1 second)
+module _ {X : Type 0} (P : X → Type 0) where
+  pub all_append : (xs ys : List X) → AllByRecursion P xs → AllByRecursion P ys → AllByRecursion P (xs ++ ys)
+  all_append [] ys h k = k
+  all_append (x ∷ xs) ys h k = (h.0, all_append xs ys h.1 k)
+
+  pub all_take : (n : ℕ) (xs : List X) → AllByRecursion P xs → AllByRecursion P (take n xs)
+  all_take zero xs h = tt
+  all_take (suc n) [] h = tt
+  all_take (suc n) (x ∷ xs) h = (h.0, all_take n xs h.1)
+
+  pub all_drop : (n : ℕ) (xs : List X) → AllByRecursion P xs → AllByRecursion P (drop n xs)
+  all_drop zero xs h = h
+  all_drop (suc n) [] h = tt
+  all_drop (suc n) (x ∷ xs) h = all_drop n xs h.1
+
+  pub all_same : (n : ℕ) (x : X) → P x → AllByRecursion P (replicate n x)
+  all_same zero x h = tt
+  all_same (suc n) x h = (h, all_same n x h)
+
+  pub all_set : (xs : List X) (i : ℕ) (x : X) → AllByRecursion P xs → P x → AllByRecursion P (set xs i x)
+  all_set [] i x h k = tt
+  all_set (y ∷ ys) zero x h k = (k, h.1)
+  all_set (y ∷ ys) (suc i) x h k = (h.0, all_set ys i x h.1 k)
+
+  pub all_at : (xs : List X) (i : ℕ) (d : X) → AllByRecursion P xs → P d → P (get_or xs i d)
+  all_at [] i d h k = k
+  all_at (x ∷ xs) zero d h k = h.0
+  all_at (x ∷ xs) (suc i) d h k = all_at xs i d h.1 k
+
+-- what holds of each, for a reason that takes it from each
+pub all_from : {X : Type 0} (P Q : X → Type 0) → ((x : X) → P x → Q x) → (xs : List X) → AllByRecursion P xs → AllByRecursion Q xs
+all_from P Q f [] h = tt
+all_from P Q f (x ∷ xs) h = (f x h.0, all_from P Q f xs h.1)

@@ -8,7 +8,7 @@ use Rattle.zone_state.specs.State.{is_open}
 use Rattle.zone_state.specs.Zone.{written_state}
 use Rattle.zone_state.specs.declared.state.ZoneState.{ZoneState}
 use Rattle.zone_state.specs.declared.state.ZoneState.TheVariants.{Full, Offline}
-use Rattle.accepted_programs.proofs.Proved.{all_append}
+use Rattle.program_interface.proofs.Proved.{all_append}
 use Rattle.emit_append.proofs.Proved.{AllBytes, by_place, by_recursion}
 use Rattle.program_interface.specs.Bytes.{AreBytes, pieces}
 use Rattle.image_store.specs.Blocks.{as_blocks, block_count}

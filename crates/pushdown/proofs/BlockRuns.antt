@@ -14,7 +14,7 @@ use Rattle.program_meaning.specs.BlockRun.{BlockRun}
 use Rattle.program_meaning.specs.State.{IsState, at_start}
 use Rattle.program_meaning.specs.TrapFree.{Exits, NeverTraps}
 use Rattle.program_meaning.proofs.Proved.{ends_in_run, start_is_in_run, start_is_state}
-use Rattle.accepted_programs.proofs.Proved.{all_append, all_same}
+use Rattle.program_interface.proofs.Proved.{all_append, all_same}
 use Rattle.emit_append.proofs.Proved.{AllBytes, by_place}
 use Rattle.program_interface.specs.Bytes.{AreBytes}
 use Rattle.pushdown.specs.BlockRuns.{Task, block_run, block_runs_from, block_runs_of, context, frames_of, goes_on, no_scratch, scratch_after, until_ended}

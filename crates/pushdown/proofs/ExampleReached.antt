@@ -4,7 +4,7 @@ use Rattle.std.proofs.Common.{ℕ, ◌<◌, ◌^◌, false, List, [], ◌∷◌,
 use Rattle.std.specs.declared.alloc.Global.{Global}
 use Rattle.nvme_entry.specs.declared.command.RunCommand.{RunCommand}
 use Rattle.word_domain.specs.Domain.{Operations}
-use Rattle.accepted_programs.proofs.Proved.{all_append, all_same}
+use Rattle.program_interface.proofs.Proved.{all_append, all_same}
 use Rattle.emit_append.proofs.Proved.{AllBytes, by_place}
 use Rattle.image_store.specs.Geometry.{IsShape, Shape}
 use Rattle.image_store.specs.Namespace.{all_empty}

@@ -2,7 +2,7 @@
 use Rattle.std.proofs.Common.{suc, ◌≡◌, ℕ, List, [], ◌∷◌, ◌++◌, map, None, refl, ap, sym, subst, ◌∙◌}
 use Rattle.std.proofs.lemmas.List.{map-append}
 use Rattle.word_domain.specs.Domain.{Operations}
-use Rattle.accepted_programs.proofs.Proved.{all_append}
+use Rattle.program_interface.proofs.Proved.{all_append}
 use Rattle.device_events.specs.Replies.{Joins, ReplyWithData}
 use Rattle.pushdown.specs.Draining.{AreLowest, Drains, lowest_run, replies_to_turns, state_after_turns}
 use Rattle.pushdown.specs.Events.{CarriesBytes, Occurrence, replies_to, state_after}

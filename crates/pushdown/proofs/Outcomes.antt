@@ -16,7 +16,7 @@ use Rattle.pushdown.specs.Laws.{OutcomeIsPacked}
 use Rattle.pushdown.specs.Outcome.{Ending, Emitted, Turn, appended_by, behind, ending_of, last_turn_by, middle_turn, nothing_emitted, turns_after, with_group}
 use Rattle.pushdown.specs.Pushdown.{EndsWithLast, Succeeds, success_of}
 use Rattle.pushdown.proofs.BlockRuns.{IsDone}
-use Rattle.accepted_programs.proofs.Proved.{all_append, all_drop}
+use Rattle.program_interface.proofs.Proved.{all_append, all_drop}
 use Rattle.pushdown.proofs.Bytes.{AreBlocks, IsBlock, both_blocks}
 use Rattle.pushdown.proofs.Rests.{one_each}
 

@@ -29,7 +29,7 @@ use Rattle.device_events.specs.declared.event.Event.TheVariants as event
 use Rattle.device_events.specs.declared.reply.Reply.TheVariants as reply
 use Rattle.pushdown.proofs.Added.{added_leaves, added_shape, open_on}
 use Rattle.pushdown.proofs.BlockRuns.{IsDone, few_frames, few_runs}
-use Rattle.accepted_programs.proofs.Proved.{all_from}
+use Rattle.program_interface.proofs.Proved.{all_from}
 use Rattle.pushdown.proofs.TurnsDone.{Next, Ready, Stands, next_is, stand}
 use Rattle.pushdown.proofs.OthersEvents.{free_within}
 use Rattle.pushdown.proofs.Outcomes.{outcome_is_packed}

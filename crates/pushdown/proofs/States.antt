@@ -26,7 +26,7 @@ use Rattle.word_domain.specs.Domain.{Operations}
 use Rattle.accepted_programs.specs.Accepted.{refusal}
 use Rattle.accepted_programs.specs.Laws.{AcceptedNeverTraps}
 use Rattle.accepted_programs.specs.declared.reason.Refusal.{Refusal}
-use Rattle.accepted_programs.proofs.Proved.{all_at, all_drop, all_from, all_same, all_set, all_take}
+use Rattle.program_interface.proofs.Proved.{all_at, all_drop, all_from, all_same, all_set, all_take}
 use Rattle.emit_append.specs.Need.{need}
 use Rattle.emit_append.specs.PackedLaw.{FitBlock}
 use Rattle.emit_append.proofs.Proved.{need_grows, need_is_enough}
