@@ -25,13 +25,13 @@ described zone lowest = record { state = zone.state; capacity = zone.capacity; l
 
 -- the first 8 bytes as a number: the zone type Sequential Write Required in byte 0, the state in bits 7:4 of byte 1;
 -- the attributes and the information on them are 0 (profile), and the 4 bytes behind them reserved
-abbrev pub first_word : ZoneState → ℕ
-first_word state = 0x02 + code_of state * 2 ^ 12
+abbrev pub type_and_state : ZoneState → ℕ
+type_and_state state = 0x02 + code_of state * 2 ^ 12
 
 -- the 64 bytes of a descriptor: behind the first 8 the zone's capacity, its lowest address and its write pointer, in 8 bytes
 -- each; those from 32 on are reserved
 abbrev pub descriptor_bytes : ZoneDescriptor → List ℕ
-descriptor_bytes d = flat_map (little_bytes 8) (first_word d.state ∷ d.capacity ∷ d.lowest ∷ d.write_pointer ∷ 0 ∷ 0 ∷ 0 ∷ 0 ∷ [])
+descriptor_bytes d = flat_map (little_bytes 8) (type_and_state d.state ∷ d.capacity ∷ d.lowest ∷ d.write_pointer ∷ 0 ∷ 0 ∷ 0 ∷ 0 ∷ [])
 
 -- the fields have the numbers of their types
 pub record AreDescriptorFields (d : ZoneDescriptor) : Type 0 where

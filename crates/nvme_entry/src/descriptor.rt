@@ -1,8 +1,8 @@
 //! Zone descriptors, as a report has them and a host reads them.
 
 ghost use Rattle.std.specs.Prelude.{◌≡◌, ◌<◌, ◌≤◌, ◌+◌, ◌*◌, ◌/◌, ◌%◌, ◌^◌, IfSome};
-ghost use Rattle.nvme_entry.specs.Descriptor.{AreDescriptorFields, first_word, pointer_told, descriptor_bytes, described};
-ghost use Rattle.nvme_entry.specs.steps.DescriptorFields.{word_in, descriptor_in};
+ghost use Rattle.nvme_entry.specs.Descriptor.{AreDescriptorFields, type_and_state, pointer_told, descriptor_bytes, described};
+ghost use Rattle.nvme_entry.specs.steps.DescriptorFields.{number_in, descriptor_in};
 
 use byteorder::{ByteOrder, LittleEndian};
 use zone_state::{Zone, ZoneState};
@@ -62,7 +62,7 @@ impl ZoneDescriptor {
         let mut bytes = [0; DESCRIPTOR_BYTES];
         LittleEndian::write_u64_into(
             &[
-                first_word(self.state),
+                type_and_state(self.state),
                 self.capacity,
                 self.lowest,
                 self.write_pointer,
@@ -89,8 +89,8 @@ fn write_pointer(zone: Zone, lowest: u64) -> u64
 }
 
 /// The first 8 bytes of the descriptor of a zone in this state.
-fn first_word(state: ZoneState) -> u64
-    ensures { result ≡ first_word state }
+fn type_and_state(state: ZoneState) -> u64
+    ensures { result ≡ type_and_state state }
 {
     u64::from(ZONE_TYPE) + 0x1000 * u64::from(state.code())
 }
@@ -99,12 +99,12 @@ fn first_word(state: ZoneState) -> u64
 fn fields(bytes: &[u8; DESCRIPTOR_BYTES]) -> Option<ZoneDescriptor>
     ensures { result ≡ descriptor_in bytes.now }
 {
-    let state = ZoneState::from_code(state_code(word(bytes, 0)))?;
+    let state = ZoneState::from_code(state_code(number(bytes, 0)))?;
     Some(ZoneDescriptor {
         state,
-        capacity: word(bytes, 1),
-        lowest: word(bytes, 2),
-        write_pointer: word(bytes, 3),
+        capacity: number(bytes, 1),
+        lowest: number(bytes, 2),
+        write_pointer: number(bytes, 3),
     })
 }
 
@@ -115,10 +115,10 @@ fn state_code(first: u64) -> u8
     ((first >> 12) % 0x10) as u8
 }
 
-/// The 8 bytes with this number.
-fn word(bytes: &[u8; DESCRIPTOR_BYTES], number: usize) -> u64
-    requires { number < 8 }
-    ensures { result ≡ word_in bytes.now number }
+/// The number in the 8 bytes with this index.
+fn number(bytes: &[u8; DESCRIPTOR_BYTES], index: usize) -> u64
+    requires { index < 8 }
+    ensures { result ≡ number_in bytes.now index }
 {
-    LittleEndian::read_u64(&bytes[8 * number..])
+    LittleEndian::read_u64(&bytes[8 * index..])
 }

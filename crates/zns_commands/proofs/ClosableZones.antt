@@ -1,5 +1,5 @@
 -- Zones that may give way.
-use Rattle.std.proofs.Common.{◌≡◌, ℕ, ◌<◌, length, Option, Some, None, Ok, ap, sym, subst, ◌∙◌, arith}
+use Rattle.std.proofs.Common.{◌≡◌, ℕ, ◌<◌, length, Some, ap, sym, subst, ◌∙◌, arith}
 use Rattle.std.specs.Prelude.{◌≢◌}
 use Rattle.std.proofs.lemmas.Bool.Decides.{nat_tests}
 use Rattle.std.proofs.lemmas.List.{length-map, get_or-map}
@@ -10,9 +10,8 @@ use Rattle.zone_state.specs.declared.state.ZoneState.TheVariants.{Empty, Implici
 use Rattle.zone_resources.specs.Admission.{wanted_of, IsClosable}
 use Rattle.zone_resources.specs.declared.admission.Wanted.{Wanted}
 use Rattle.zone_resources.specs.declared.holds.Holds.{Holds}
+use Rattle.zone_resources.proofs.Proved.{wants}
 use Rattle.image_store.specs.Namespace.{ZonedNamespace, no_zone, zone_at, counted, counted_zones}
-use Rattle.zone_state.specs.declared.status.Status.{Status}
-use Rattle.zone_state.specs.Checks.{unless_failed}
 
 -- a zone that may be closed is a zone, and implicitly opened
 pub closable_zone : (ns : ZonedNamespace) (holds : Holds) (z : ℕ) → IsClosable holds (counted_zones ns) z → z < length ns.zones
@@ -27,19 +26,10 @@ closable_state ns holds z h =
     let mapped = get_or-map (counted ns.capacity) ns.zones z no_zone (counted ns.capacity no_zone) inside in
     ap (λ (r : CountedZone). r.state) (sym mapped ∙ read) ∙ h.implicitly_opened
 
-wants_none : (state : ZoneState) (wanted : Wanted) → wanted_of state ≡ Some wanted → state ≢ ImplicitlyOpened
-wants_none Empty wanted e = λ is. cc
-wants_none ImplicitlyOpened wanted e = cc
-wants_none ExplicitlyOpened wanted e = cc
-wants_none Closed wanted e = λ is. cc
-wants_none ReadOnly wanted e = cc
-wants_none Full wanted e = cc
-wants_none Offline wanted e = cc
-
 -- a zone that wants room isn't the one that gives way, which can be Closed
 pub other_zone : (ns : ZonedNamespace) (holds : Holds) (zone : ℕ) (wanted : Wanted) (z : ℕ) → wanted_of (zone_at ns zone).state ≡ Some wanted → IsClosable holds (counted_zones ns) z → z ≢ zone
-other_zone ns holds zone wanted z wants closable = λ (same : z ≡ zone).
-    wants_none (zone_at ns zone).state wanted wants (subst (λ (k : ℕ). (zone_at ns k).state ≡ ImplicitlyOpened) same (closable_state ns holds z closable))
+other_zone ns holds zone wanted z wanted_is closable = λ (same : z ≡ zone).
+    (wants (zone_at ns zone).state wanted wanted_is).not_open (subst (λ (k : ℕ). (zone_at ns k).state ≡ ImplicitlyOpened) same (closable_state ns holds z closable))
 
 pub closed_fits : (state : ZoneState) (w c : ℕ) → state ≡ ImplicitlyOpened → IsZone state w c → IsZone Closed w c
 closed_fits ImplicitlyOpened w c is h = (h.0, grind (arith, nat_tests, h.1))
@@ -49,8 +39,3 @@ closed_fits Closed w c is h = cc
 closed_fits ReadOnly w c is h = cc
 closed_fits Full w c is h = cc
 closed_fits Offline w c is h = cc
-
--- where checks pass, the value is what was to be given
-pub allowed_ok : {X : Type 0} (refusal : Option Status) (x y : X) → Ok y ≡ unless_failed refusal x → y ≡ x
-allowed_ok None x y e = cc
-allowed_ok (Some status) x y e = cc

@@ -9,6 +9,7 @@ use Rattle.zone_resources.proofs.Proved.{release_keeps_limits}
 use Rattle.program_interface.specs.Bytes.{AreBytes}
 use Rattle.image_store.specs.Geometry.{IsShape}
 use Rattle.image_store.specs.Namespace.{ZoneBlocks, ZonedNamespace, no_zone, zone_at, with_zone, counted, shape, counted_zones, IsNamespace, IsWithinLimits}
+use Rattle.image_store.proofs.Proved.{blocks_lie_in_zones, each_set}
 use Rattle.zns_commands.specs.Address.{counted_zone_at}
 
 -- what holds of one zone: its state allows its blocks, and each of them is whole and of bytes
@@ -26,9 +27,7 @@ zone_fits ns z sound inside = record { state = sound.fits z inside; whole = soun
 -- the same of each zone is the same of all of them
 pub each_fits : (b c : ℕ) (zones : List ZoneBlocks) → ((z : ℕ) → z < length zones → FitsIn b c (get_or zones z no_zone))
     → (z i : ℕ) → i < length (get_or zones z no_zone).blocks → length (get_or (get_or zones z no_zone).blocks i []) ≡ b
-each_fits b c [] all z i h = absurd (omega arith)
-each_fits b c (zone ∷ zones) all zero i h = (all 0 (omega arith)).whole i h
-each_fits b c (zone ∷ zones) all (suc z) i h = each_fits b c zones (λ k inside. all (suc k) (omega arith)) z i h
+each_fits b c zones all z i h = (all z (blocks_lie_in_zones zones z i h)).whole i h
 
 pub each_bytes : (b c : ℕ) (zones : List ZoneBlocks) → ((z : ℕ) → z < length zones → FitsIn b c (get_or zones z no_zone))
     → (z i : ℕ) → AreBytes (get_or (get_or zones z no_zone).blocks i [])
@@ -38,7 +37,7 @@ each_bytes b c (zone ∷ zones) all (suc z) i = each_bytes b c zones (λ k insid
 
 -- a namespace with other zones, as many of them
 abbrev with_zones : ZonedNamespace → List ZoneBlocks → ZonedNamespace
-with_zones ns zones = record { block = ns.block; size = ns.size; capacity = ns.capacity; limits = ns.limits; zones = zones }
+with_zones ns zones = record ns { zones = zones }
 
 pub namespace_of_zones : (ns : ZonedNamespace) (zones : List ZoneBlocks)
     → IsShape (shape ns) → length zones ≡ length ns.zones
@@ -52,21 +51,12 @@ namespace_of_zones ns zones known count all within = record {
   bytes = each_bytes ns.block ns.capacity zones all;
 }
 
-each_set : (P : ZoneBlocks → Type 0) (zones : List ZoneBlocks) (z : ℕ) (zone : ZoneBlocks)
-    → ((y : ℕ) → y < length zones → P (get_or zones y no_zone)) → P zone
-    → (y : ℕ) → y < length (set zones z zone) → P (get_or (set zones z zone) y no_zone)
-each_set P [] z r all here y h = absurd (omega arith)
-each_set P (x ∷ zs) zero r all here zero h = here
-each_set P (x ∷ zs) zero r all here (suc y) h = all (suc y) h
-each_set P (x ∷ zs) (suc z) r all here zero h = all 0 (omega arith)
-each_set P (x ∷ zs) (suc z) r all here (suc y) h = each_set P zs z r (λ k in_list. all (suc k) (omega arith)) here y (omega arith)
-
 -- a zone that fits, in the place of another, where the limits allow it
 pub set_namespace : (ns : ZonedNamespace) (z : ℕ) (zone : ZoneBlocks)
     → IsNamespace ns → FitsIn ns.block ns.capacity zone → IsWithinLimits (with_zone ns z zone) → IsNamespace (with_zone ns z zone)
 set_namespace ns z zone sound fits within =
     namespace_of_zones ns (set ns.zones z zone) sound.shape (length-set ns.zones z zone)
-    (each_set (FitsIn ns.block ns.capacity) ns.zones z zone (λ y inside. zone_fits ns y sound inside) fits) within
+    (each_set no_zone (FitsIn ns.block ns.capacity) ns.zones z zone (λ y inside. zone_fits ns y sound inside) fits) within
 
 pub counted_zone_there : (ns : ZonedNamespace) (z : ℕ) → z < length ns.zones → slice_get (counted_zones ns) z ≡ Some (counted_zone_at ns z)
 counted_zone_there ns z inside =

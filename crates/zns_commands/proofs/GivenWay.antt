@@ -1,11 +1,10 @@
 -- Namespaces in which a zone gave way to another.
-use Rattle.std.proofs.Common.{arith, ◌≡◌, ◌≢◌, ℕ, ◌<◌, Bool, true, false, cond, List, length, Option, Some, None, Result, Ok, Err, refl, ap, sym, subst, ◌∙◌, get_or-set_other}
+use Rattle.std.proofs.Common.{arith, ◌≡◌, ◌≢◌, ℕ, ◌<◌, Bool, true, false, cond, List, length, Option, Some, None, Ok, refl, ap, sym, subst, ◌∙◌, get_or-set_other}
 use Rattle.std.specs.Prelude.{slice_set, nat_lt, MatchOption}
 use Rattle.std.specs.Option.{ForSome}
 use Rattle.zone_state.specs.Zone.{CountedZone}
 use Rattle.zone_state.specs.declared.state.ZoneState.{ZoneState}
 use Rattle.zone_state.specs.declared.state.ZoneState.TheVariants.{Empty, ImplicitlyOpened, ExplicitlyOpened, Closed, ReadOnly, Full, Offline}
-use Rattle.zone_state.specs.declared.status.Status.{Status}
 use Rattle.zone_state.specs.declared.status.TheConstants.Status.{TOO_MANY_ACTIVE_ZONES}
 use Rattle.zone_resources.specs.Admission.{admission, open_admission, closing_answer, zone_to_close, wanted_of, IsClosable, IsWithin, HoldsNoMore, after_closing, closed_in}
 use Rattle.zone_resources.specs.Counts.{open_count, active_count}
@@ -13,7 +12,7 @@ use Rattle.zone_resources.specs.declared.admission.Limits.{Limits}
 use Rattle.zone_resources.specs.declared.admission.Wanted.{Wanted}
 use Rattle.zone_resources.specs.declared.admission.Wanted.TheVariants.{OpenOnly, OpenAndActive}
 use Rattle.zone_resources.specs.declared.holds.Holds.{Holds}
-use Rattle.zone_resources.proofs.Proved.{closes_the_lowest, admission_keeps_limits}
+use Rattle.zone_resources.proofs.Proved.{admission_keeps_limits, closes_the_lowest, guarded}
 use Rattle.image_store.specs.Blocks.{as_blocks}
 use Rattle.image_store.specs.Namespace.{ZoneBlocks, ZonedNamespace, no_zone, zone_at, with_zone, counted, grown, counted_zones, IsNamespace, IsWithinLimits, arrived, with_state}
 use Rattle.zns_commands.specs.Address.{counted_zone_at}
@@ -39,17 +38,13 @@ closing_closable zones holds false (Some lowest) closed is_found admitted = λ k
     let same : lowest ≡ k = cc in
     subst (λ (n : ℕ). IsClosable holds zones n) same (lowest_closable zones holds lowest is_found)
 
-guarded : (b : Bool) (r : Result (Option ℕ) Status) (s : Status) (closed : Option ℕ) → cond b r (Err s) ≡ Ok closed → r ≡ Ok closed
-guarded true r s closed e = e
-guarded false r s closed e = cc
-
 pub admitted_closable : (zones : List CountedZone) (limits : Limits) (holds : Holds) (wanted : Wanted) (closed : Option ℕ)
     → admission zones limits holds wanted ≡ Ok closed → ForSome closed (IsClosable holds zones)
 admitted_closable zones limits holds OpenOnly closed e =
     closing_closable zones holds (nat_lt (open_count zones) limits.open_limit) (zone_to_close holds zones) closed refl e
 admitted_closable zones limits holds OpenAndActive closed e =
     closing_closable zones holds (nat_lt (open_count zones) limits.open_limit) (zone_to_close holds zones) closed refl
-    (guarded (nat_lt (active_count zones) limits.active_limit) (open_admission zones limits holds) TOO_MANY_ACTIVE_ZONES closed e)
+    (guarded (nat_lt (active_count zones) limits.active_limit) (open_admission zones limits holds) TOO_MANY_ACTIVE_ZONES closed e).1
 
 -- the counted zones, once the zone that gives way is closed
 closed_with_within : (ns : ZonedNamespace) (z : ℕ) (zone : ZoneBlocks) (gives : Option ℕ) → ForSome gives (λ k. k < length ns.zones)

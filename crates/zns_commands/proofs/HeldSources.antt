@@ -27,15 +27,9 @@ use Rattle.zns_commands.specs.Resources.{why_not, closed}
 use Rattle.zns_commands.specs.Send.{send_checks, send_effect, takes, swept, led_to}
 use Rattle.zns_commands.specs.steps.Plans.{write_plan, zone_plan}
 use Rattle.zns_commands.proofs.HeldZones.{not_taken, not_refused, not_held}
-use Rattle.zns_commands.proofs.KeptBlocks.{grows_by_none, grows_on, replaced_grows, closed_grows, written_grows}
+use Rattle.zns_commands.proofs.KeptBlocks.{arrived_grows, grows_by_none, grows_on, replaced_grows, closed_grows, written_grows}
 use Rattle.zns_commands.proofs.Meanings.{after_command}
 use Rattle.zns_commands.proofs.Untouched.{effect_left}
-
--- a zone that comes into a state that isn't cleared keeps its blocks
-arrived_keeps : (to : ZoneState) (zone : ZoneBlocks) → is_cleared to ≡ false → Grows zone.blocks (arrived to zone).blocks
-arrived_keeps Empty zone e = cc
-arrived_keeps Offline zone e = cc
-arrived_keeps to zone e = grows_by_none zone.blocks
 
 -- an action that forgets nothing clears no zone that it can be taken on
 leads_to : (a : Action) (from : ZoneState) → forgets a ≡ false → why_not (transition a from) ≡ None → is_cleared (led_to a from) ≡ false
@@ -56,7 +50,7 @@ taken_leads a from e is = refl
 swept_one : (a : Action) (zone : ZoneBlocks) (taken : Bool) → forgets a ≡ false → takes a zone.state ≡ taken
     → Grows zone.blocks (cond taken (arrived (led_to a zone.state) zone) zone).blocks
 swept_one a zone false e is = grows_by_none zone.blocks
-swept_one a zone true e is = arrived_keeps (led_to a zone.state) zone (taken_leads a zone.state e is)
+swept_one a zone true e is = arrived_grows (led_to a zone.state) zone (taken_leads a zone.state e is)
 
 swept_keeps : (a : Action) (zones : List ZoneBlocks) (z : ℕ) → forgets a ≡ false
     → Grows (get_or zones z no_zone).blocks (get_or (map (swept a) zones) z no_zone).blocks
@@ -84,7 +78,7 @@ module _ (ns : ZonedNamespace) (holds : Holds) (d : ℕ) (held : is_source holds
       let zone = arrived to (zone_at m z) in
       grows_on (zone_at ns d).blocks (zone_at m d).blocks (zone_at (with_zone m z zone) d).blocks (closed_grows ns gives d)
       (replaced_grows m.zones z d zone
-      (λ same is. subst (λ (n : ℕ). Grows (zone_at m n).blocks zone.blocks) same (arrived_keeps to (zone_at m z) (keeps same))))
+      (λ same is. subst (λ (n : ℕ). Grows (zone_at m n).blocks zone.blocks) same (arrived_grows to (zone_at m z) (keeps same))))
 
   one_kept : (lba : ℕ) (a : Action) (input : List ℕ) → first_failed (send_checks ns holds lba a false input) ≡ None
       → Kept (send_effect ns holds lba a false)

@@ -6,28 +6,25 @@ use Rattle.zone_state.specs.declared.action.Action.{Action}
 use Rattle.zone_state.specs.declared.state.FaultState.{FaultState}
 use Rattle.zone_state.specs.declared.state.ZoneState.{ZoneState}
 use Rattle.zone_state.specs.declared.state.ZoneState.TheVariants.{Empty, Closed, Offline}
-use Rattle.zone_state.specs.declared.status.Status.{Status}
 use Rattle.zone_state.specs.declared.zone.FaultRefused.{FaultRefused}
 use Rattle.zone_resources.specs.declared.holds.Holds.{Holds}
+use Rattle.nvme_entry.specs.declared.command.StandardCommand.{StandardCommand}
 use Rattle.nvme_entry.specs.declared.command.StandardCommand.TheVariants.{Write, Read, Send, Receive, Append}
-use Rattle.zone_state.specs.Checks.{first_failed}
 use Rattle.image_store.specs.Blocks.{as_blocks}
 use Rattle.image_store.specs.Geometry.{Shape}
 use Rattle.image_store.specs.Namespace.{ZoneBlocks, ZonedNamespace, no_zone, zone_at, with_zone, grown, shape, arrived, with_state}
 use Rattle.zone_state.specs.State.{is_cleared}
 use Rattle.zns_commands.specs.declared.write.WritePlan.{WritePlan}
 use Rattle.zns_commands.specs.Address.{zone_number}
-use Rattle.zns_commands.specs.Effect.{Effect, success_effect, concluded}
-use Rattle.zns_commands.specs.Append.{append_checks, append_effect}
 use Rattle.zns_commands.specs.Fault.{zone_fault_refusal, faulted_by}
-use Rattle.zns_commands.specs.Read.{read_checks, read_effect, read_refusal}
+use Rattle.zns_commands.specs.Meaning.{effect_of}
+use Rattle.zns_commands.specs.Read.{read_refusal}
 use Rattle.zns_commands.specs.Resources.{closed}
-use Rattle.zns_commands.specs.Receive.{receive_checks, receive_effect}
-use Rattle.zns_commands.specs.Send.{led_to, send_checks, send_effect, takes, swept}
-use Rattle.zns_commands.specs.Write.{write_checks, write_effect}
+use Rattle.zns_commands.specs.Send.{send_effect, takes, swept, led_to}
 use Rattle.zns_commands.specs.Left.{Grows}
 use Rattle.zns_commands.specs.Laws.{NamespaceEvent, Commanded, Faulted, NoneClears, after, after_events}
 use Rattle.zns_commands.specs.steps.Plans.{write_plan, written_by, zone_plan}
+use Rattle.zns_commands.proofs.Meanings.{after_command}
 
 -- a list of blocks grows by none,
 pub grows_by_none : (blocks : List (List ℕ)) → Grows blocks blocks
@@ -77,7 +74,7 @@ written_grows ns plan input z =
     (set_grows (λ s. false) m.zones plan.zone z zone (λ stays. record { more = as_blocks m.block input; is = refl }) refl)
 
 -- a zone that comes into a state keeps its blocks there, unless it is cleared
-arrived_grows : (to : ZoneState) (zone : ZoneBlocks) → is_cleared (arrived to zone).state ≡ false → Grows zone.blocks (arrived to zone).blocks
+pub arrived_grows : (to : ZoneState) (zone : ZoneBlocks) → is_cleared to ≡ false → Grows zone.blocks (arrived to zone).blocks
 arrived_grows Empty zone stays = cc
 arrived_grows Offline zone stays = cc
 arrived_grows to zone stays = grows_by_none zone.blocks
@@ -117,31 +114,20 @@ faulted_grows : (answer : Result Unit FaultRefused) (ns : ZonedNamespace) (y z :
 faulted_grows (Ok done) ns y z fault stays = moved_grows ns None y z (state_of_fault fault) stays
 faulted_grows (Err none) ns y z fault stays = grows_by_none (zone_at ns z).blocks
 
-concluded_grows : (refusal : Option Status) (ns : ZonedNamespace) (effect : Effect) (z : ℕ)
-    → (is_cleared (zone_at effect.namespace z).state ≡ false → Grows (zone_at ns z).blocks (zone_at effect.namespace z).blocks)
-    → is_cleared (zone_at (concluded refusal ns effect).namespace z).state ≡ false
-    → Grows (zone_at ns z).blocks (zone_at (concluded refusal ns effect).namespace z).blocks
-concluded_grows None ns effect z grows stays = grows stays
-concluded_grows (Some status) ns effect z grows stays = grows_by_none (zone_at ns z).blocks
+effect_grows : (ns : ZonedNamespace) (holds : Holds) (command : StandardCommand) (input : List ℕ) (z : ℕ)
+    → is_cleared (zone_at (effect_of ns holds command input).namespace z).state ≡ false
+    → Grows (zone_at ns z).blocks (zone_at (effect_of ns holds command input).namespace z).blocks
+effect_grows ns holds (Write lba blocks) input z stays = written_grows ns (write_plan ns holds (zone_number ns lba)) input z
+effect_grows ns holds (Append lba blocks) input z stays = written_grows ns (write_plan ns holds (zone_number ns lba)) input z
+effect_grows ns holds (Read lba blocks) input z stays = grows_by_none (zone_at ns z).blocks
+effect_grows ns holds (Receive lba dwords filter partial) input z stays = grows_by_none (zone_at ns z).blocks
+effect_grows ns holds (Send lba a select_all) input z stays = send_grows ns holds lba a select_all z stays
 
 event_grows : (event : NamespaceEvent) (ns : ZonedNamespace) (z : ℕ)
     → is_cleared (zone_at (after event ns) z).state ≡ false → Grows (zone_at ns z).blocks (zone_at (after event ns) z).blocks
-event_grows (Commanded holds (Write lba blocks) input) ns z =
-    concluded_grows (first_failed (write_checks ns holds lba blocks input)) ns (write_effect ns holds lba input) z
-    (λ stays. written_grows ns (write_plan ns holds (zone_number ns lba)) input z)
-event_grows (Commanded holds (Append lba blocks) input) ns z =
-    concluded_grows (first_failed (append_checks ns holds lba blocks input)) ns (append_effect ns holds lba input) z
-    (λ stays. written_grows ns (write_plan ns holds (zone_number ns lba)) input z)
-event_grows (Commanded holds (Read lba blocks) input) ns z =
-    concluded_grows (first_failed (read_checks ns lba blocks input)) ns (read_effect ns lba blocks) z
-    (λ stays. grows_by_none (zone_at ns z).blocks)
-event_grows (Commanded holds (Receive lba dwords filter partial) input) ns z =
-    concluded_grows (first_failed (receive_checks ns lba dwords input)) ns (receive_effect ns lba dwords filter partial) z
-    (λ stays. grows_by_none (zone_at ns z).blocks)
-event_grows (Commanded holds (Send lba a select_all) input) ns z =
-    concluded_grows (first_failed (send_checks ns holds lba a select_all input)) ns
-    (success_effect (send_effect ns holds lba a select_all) 0 []) z
-    (send_grows ns holds lba a select_all z)
+event_grows (Commanded holds command input) ns z =
+    after_command (λ m. is_cleared (zone_at m z).state ≡ false → Grows (zone_at ns z).blocks (zone_at m z).blocks) ns holds command input
+    (λ stays. grows_by_none (zone_at ns z).blocks) (λ none. effect_grows ns holds command input z)
 event_grows (Faulted holds y fault) ns z = faulted_grows (zone_fault_refusal ns holds y fault) ns y z fault
 
 -- a namespace with so many zones, otherwise of the same shape
@@ -174,25 +160,15 @@ faulted_shape : (answer : Result Unit FaultRefused) (ns : ZonedNamespace) (z : �
 faulted_shape (Ok done) ns z fault = moved_shape ns None z (state_of_fault fault)
 faulted_shape (Err none) ns z fault = refl
 
-concluded_shape : (refusal : Option Status) (ns : ZonedNamespace) (effect : Effect)
-    → shape effect.namespace ≡ shape ns → shape (concluded refusal ns effect).namespace ≡ shape ns
-concluded_shape None ns effect same = same
-concluded_shape (Some status) ns effect same = refl
+effect_shape : (ns : ZonedNamespace) (holds : Holds) (command : StandardCommand) (input : List ℕ) → shape (effect_of ns holds command input).namespace ≡ shape ns
+effect_shape ns holds (Write lba blocks) input = written_shape ns (write_plan ns holds (zone_number ns lba)) input
+effect_shape ns holds (Append lba blocks) input = written_shape ns (write_plan ns holds (zone_number ns lba)) input
+effect_shape ns holds (Read lba blocks) input = refl
+effect_shape ns holds (Receive lba dwords filter partial) input = refl
+effect_shape ns holds (Send lba a select_all) input = send_shape ns holds lba a select_all
 
 pub event_shape : (event : NamespaceEvent) (ns : ZonedNamespace) → shape (after event ns) ≡ shape ns
-event_shape (Commanded holds (Write lba blocks) input) ns =
-    concluded_shape (first_failed (write_checks ns holds lba blocks input)) ns (write_effect ns holds lba input)
-    (written_shape ns (write_plan ns holds (zone_number ns lba)) input)
-event_shape (Commanded holds (Append lba blocks) input) ns =
-    concluded_shape (first_failed (append_checks ns holds lba blocks input)) ns (append_effect ns holds lba input)
-    (written_shape ns (write_plan ns holds (zone_number ns lba)) input)
-event_shape (Commanded holds (Read lba blocks) input) ns =
-    concluded_shape (first_failed (read_checks ns lba blocks input)) ns (read_effect ns lba blocks) refl
-event_shape (Commanded holds (Receive lba dwords filter partial) input) ns =
-    concluded_shape (first_failed (receive_checks ns lba dwords input)) ns (receive_effect ns lba dwords filter partial) refl
-event_shape (Commanded holds (Send lba a select_all) input) ns =
-    concluded_shape (first_failed (send_checks ns holds lba a select_all input)) ns
-    (success_effect (send_effect ns holds lba a select_all) 0 []) (send_shape ns holds lba a select_all)
+event_shape (Commanded holds command input) ns = after_command (λ m. shape m ≡ shape ns) ns holds command input refl (λ none. effect_shape ns holds command input)
 event_shape (Faulted holds z fault) ns = faulted_shape (zone_fault_refusal ns holds z fault) ns z fault
 
 -- a zone that isn't cleared can be read

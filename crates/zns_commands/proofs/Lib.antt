@@ -20,7 +20,6 @@ mod SoundEvents
 mod Sweeps
 mod SweptZones
 mod SelectedZones
-mod Transfers
 mod Untouched
 mod WrittenZones
 pub mod Proved

@@ -6,7 +6,7 @@ use Rattle.std.proofs.lemmas.Bool.{eq-eqb, le-leb, lt-ltb}
 use Rattle.std.proofs.lemmas.Nat.{mod-mul-add}
 use Rattle.zone_state.specs.Checks.{demand, first_failed}
 use Rattle.zone_state.specs.State.{is_open}
-use Rattle.zone_state.specs.Zone.{CountedZone, write_check, write_refusal}
+use Rattle.zone_state.specs.Zone.{write_check, write_refusal}
 use Rattle.zone_state.specs.declared.state.ZoneState.{ZoneState}
 use Rattle.zone_state.specs.declared.state.ZoneState.TheVariants.{Empty, ImplicitlyOpened, ExplicitlyOpened, Closed, ReadOnly, Full, Offline}
 use Rattle.zone_resources.specs.Admission.{wanted_of, HoldsNoMore}
@@ -83,7 +83,7 @@ open_takes ns z n is room =
 pub added_blocks_keep_namespaces_sound : AddedBlocksKeepNamespacesSound
 added_blocks_keep_namespaces_sound ns z bytes sound takes are =
     let n = block_count ns.block bytes in
-    written_sound ns no_holds z (length (zone_at ns z).blocks) n None bytes sound (open_is_there ns.zones z takes.opened)
+    written_sound ns no_holds z n None bytes sound (open_is_there ns.zones z takes.opened)
     takes.some takes.whole are (open_takes ns z n takes.opened takes.room)
     (ap (room_by ns no_holds) (open_wants_none (zone_at ns z).state takes.opened))
 

@@ -1,7 +1,9 @@
 -- What is known where no check fails, and that none fails where a command succeeds.
-use Rattle.std.proofs.Common.{◌≡◌, ℕ, ◌+◌, ◌*◌, ◌%◌, ◌<◌, ◌≤◌, Bool, true, false, cond, List, [], ◌∷◌, length, Option, Some, None, Result, Ok, Err, refl, ap, subst, arith}
+use Rattle.std.proofs.Common.{◌≡◌, ℕ, ◌+◌, ◌*◌, ◌%◌, ◌<◌, ◌≤◌, Bool, true, false, cond, List, [], ◌∷◌, ◌++◌, length, Option, Some, None, Result, Ok, Err, refl, ap, subst, arith}
 use Rattle.std.specs.Prelude.{nat_lt, nat_le, nat_eq, not}
+use Rattle.std.specs.List.{AllByRecursion}
 use Rattle.std.proofs.Math.Nat.{div-lt_iff_lt-mul}
+use Rattle.std.proofs.lemmas.Bool.{eqb-true, leb-true, ltb-true}
 use Rattle.zone_state.specs.Zone.{CountedZone, checks_of_write, write_check, write_refusal}
 use Rattle.zone_state.specs.declared.state.ZoneState.{ZoneState}
 use Rattle.zone_state.specs.declared.state.ZoneState.TheVariants.{ReadOnly, Full, Offline}
@@ -17,13 +19,16 @@ use Rattle.zone_resources.specs.declared.holds.Holds.{Holds}
 use Rattle.nvme_entry.specs.declared.command.StandardCommand.TheVariants.{Write, Read, Append}
 use Rattle.nvme_entry.specs.declared.command.TheConstants.{MOST_TRANSFER}
 use Rattle.zone_state.specs.Checks.{demand, or_else, first_failed, unless_failed}
+use Rattle.zone_state.proofs.Proved.{demanded, is_allowed, passed}
+use Rattle.program_interface.proofs.Proved.{all_append}
 use Rattle.image_store.specs.Namespace.{ZonedNamespace, zone_at, counted_zones, IsNamespace}
-use Rattle.zns_commands.specs.Address.{counted_zone_at, zone_number, block_total}
+use Rattle.zns_commands.specs.Address.{counted_zone_at, zone_number, block_total, lowest_checks, range_checks}
 use Rattle.zns_commands.specs.Effect.{Effect, concluded}
-use Rattle.zns_commands.specs.Append.{append_checks, append_effect}
+use Rattle.zns_commands.specs.Append.{append_address_checks, append_checks, append_effect}
 use Rattle.zns_commands.specs.Read.{read_refusal, read_checks, read_effect}
 use Rattle.zns_commands.specs.Resources.{room_by, room_for, why_not, closing_of}
-use Rattle.zns_commands.specs.Write.{write_checks, write_effect}
+use Rattle.zns_commands.specs.Write.{write_address_checks, write_checks, write_effect, zone_write_checks}
+use Rattle.zns_commands.specs.Transfer.{transfer_checks}
 use Rattle.zns_commands.specs.Meaning.{meaning}
 
 pub roomed : (room : Result (Option ℕ) Status) → why_not room ≡ None → room ≡ Ok (closing_of room)
@@ -39,6 +44,57 @@ pub zone_inside : (ns : ZonedNamespace) (lba : ℕ) → IsNamespace ns → lba <
 zone_inside ns lba sound inside =
     let some : 0 < ns.size = omega (arith, sound.shape.size_some) in
     (div-lt_iff_lt-mul {k = ns.size} some).1 inside
+
+-- what holds of a write that isn't refused
+pub record Writes (ns : ZonedNamespace) (holds : Holds) (z blocks : ℕ) (input : List ℕ) : Type 0 where
+  pub inside : z < length ns.zones
+  pub some : 1 ≤ blocks
+  pub size : length input ≡ blocks * ns.block
+  pub transfer : nat_le (blocks * ns.block) MOST_TRANSFER ≡ true
+  pub fits : write_check (counted_zone_at ns z) (length (zone_at ns z).blocks) blocks ≡ Ok tt
+  pub room : room_for ns holds (zone_at ns z).state ≡ Ok (closing_of (room_for ns holds (zone_at ns z).state))
+
+-- an Append that isn't refused writes;
+pub append_writes : (ns : ZonedNamespace) (holds : Holds) (lba blocks : ℕ) (input : List ℕ) → IsNamespace ns → 1 ≤ blocks
+    → first_failed (append_checks ns holds lba blocks input) ≡ None → Writes ns holds (zone_number ns lba) blocks input
+append_writes ns holds lba blocks input sound some none =
+    let checks = append_checks ns holds lba blocks input in
+    let z = zone_number ns lba in
+    let start = ltb-true lba (block_total ns) (demanded (nat_lt lba (block_total ns)) _ (passed checks 2 none)) in
+    record {
+      inside = zone_inside ns lba sound start;
+      some = some;
+      size = eqb-true (length input) (blocks * ns.block) (demanded (nat_eq (length input) (blocks * ns.block)) _ (passed checks 1 none));
+      transfer = demanded (nat_le (blocks * ns.block) MOST_TRANSFER) _ (passed checks 0 none);
+      fits = allowed (write_check (counted_zone_at ns z) (length (zone_at ns z).blocks) blocks) (passed checks 5 none);
+      room = roomed (room_for ns holds (zone_at ns z).state) (passed checks 6 none);
+    }
+
+-- a Write that isn't refused begins at its zone's write pointer,
+pub write_begins : (ns : ZonedNamespace) (holds : Holds) (lba blocks : ℕ) (input : List ℕ) → first_failed (write_checks ns holds lba blocks input) ≡ None
+    → lba % ns.size ≡ length (zone_at ns (zone_number ns lba)).blocks
+write_begins ns holds lba blocks input none =
+    let zone = counted_zone_at ns (zone_number ns lba) in
+    (is_allowed zone (lba % ns.size) blocks (allowed (write_check zone (lba % ns.size) blocks) (passed (write_checks ns holds lba blocks input) 5 none))).at_pointer
+
+-- and writes
+pub write_writes : (ns : ZonedNamespace) (holds : Holds) (lba blocks : ℕ) (input : List ℕ) → IsNamespace ns → 1 ≤ blocks
+    → first_failed (write_checks ns holds lba blocks input) ≡ None → Writes ns holds (zone_number ns lba) blocks input
+write_writes ns holds lba blocks input sound some none =
+    let checks = write_checks ns holds lba blocks input in
+    let z = zone_number ns lba in
+    let end = leb-true (lba + blocks) (block_total ns) (demanded (nat_le (lba + blocks) (block_total ns)) _ (passed checks 2 none)) in
+    let start : lba < block_total ns = omega arith in
+    record {
+      inside = zone_inside ns lba sound start;
+      some = some;
+      size = eqb-true (length input) (blocks * ns.block) (demanded (nat_eq (length input) (blocks * ns.block)) _ (passed checks 1 none));
+      transfer = demanded (nat_le (blocks * ns.block) MOST_TRANSFER) _ (passed checks 0 none);
+      fits =
+          subst (λ (k : ℕ). write_check (counted_zone_at ns z) k blocks ≡ Ok tt) (write_begins ns holds lba blocks input none)
+          (allowed (write_check (counted_zone_at ns z) (lba % ns.size) blocks) (passed checks 5 none));
+      room = roomed (room_for ns holds (zone_at ns z).state) (passed checks 6 none);
+    }
 
 -- where a check fails, its status isn't success
 abbrev Fails : Option Status → Type 0
@@ -56,6 +112,10 @@ first_fails (Some status) rest one others = one
 
 none_fails : Fails None
 none_fails = λ other e. cc
+
+some_fails : (checks : List (Option Status)) → AllByRecursion Fails checks → Fails (first_failed checks)
+some_fails [] all = none_fails
+some_fails (check ∷ checks) all = first_fails check (first_failed checks) all.0 (some_fails checks all.1)
 
 err_fails : (status : Status) → 1 ≤ status.code → Fails (Some status)
 err_fails status some = λ other e.
@@ -79,10 +139,13 @@ refusal_fails state = none_fails
 write_check_fails : (z : CountedZone) (at n : ℕ) → Fails (why_not (write_check z at n))
 write_check_fails z at n =
     unless_fails (first_failed (checks_of_write z at n)) tt
-    (first_fails (write_refusal z.state) _ (refusal_fails z.state)
-    (first_fails (demand (nat_eq at z.written) ZONE_INVALID_WRITE) _ (demand_fails (nat_eq at z.written) ZONE_INVALID_WRITE (omega arith))
-    (first_fails (demand (nat_le (z.written + n) z.capacity) ZONE_BOUNDARY_ERROR) None
-    (demand_fails (nat_le (z.written + n) z.capacity) ZONE_BOUNDARY_ERROR (omega arith)) none_fails)))
+    (some_fails (checks_of_write z at n) (
+      refusal_fails z.state,
+      (
+        demand_fails (nat_eq at z.written) ZONE_INVALID_WRITE (omega arith),
+        (demand_fails (nat_le (z.written + n) z.capacity) ZONE_BOUNDARY_ERROR (omega arith), tt),
+      ),
+    ))
 
 closing_fails : (found : Option ℕ) → Fails (why_not (closing_answer found))
 closing_fails None = err_fails TOO_MANY_OPEN_ZONES (omega arith)
@@ -100,30 +163,29 @@ wanted_fails ns holds (Some OpenAndActive) =
     cond_fails (nat_lt (active_count (counted_zones ns)) ns.limits.active_limit) (open_admission (counted_zones ns) ns.limits holds) (Err TOO_MANY_ACTIVE_ZONES)
     (open_fails (counted_zones ns) ns.limits holds) (err_fails TOO_MANY_ACTIVE_ZONES (omega arith))
 
-all_fail : (a b c d e : Bool) (s : Status) (f g : Option Status) → 1 ≤ s.code → Fails f → Fails g
-    → Fails (first_failed (demand a INVALID_FIELD_IN_COMMAND ∷ demand b INVALID_FIELD_IN_COMMAND ∷ demand c LBA_OUT_OF_RANGE
-    ∷ demand d s ∷ demand e ZONE_HELD ∷ f ∷ g ∷ []))
-all_fail a b c d e s f g some six seven =
-    first_fails (demand a INVALID_FIELD_IN_COMMAND) _ (demand_fails a INVALID_FIELD_IN_COMMAND (omega arith))
-    (first_fails (demand b INVALID_FIELD_IN_COMMAND) _ (demand_fails b INVALID_FIELD_IN_COMMAND (omega arith))
-    (first_fails (demand c LBA_OUT_OF_RANGE) _ (demand_fails c LBA_OUT_OF_RANGE (omega arith))
-    (first_fails (demand d s) _ (demand_fails d s some)
-    (first_fails (demand e ZONE_HELD) _ (demand_fails e ZONE_HELD (omega arith))
-    (first_fails f _ six (first_fails g None seven (λ other none. cc)))))))
+transfer_fails : (bytes beside : ℕ) (input : List ℕ) → AllByRecursion Fails (transfer_checks bytes beside input)
+transfer_fails bytes beside input =
+    (demand_fails (nat_le bytes MOST_TRANSFER) INVALID_FIELD_IN_COMMAND (omega arith), (demand_fails (nat_eq (length input) beside) INVALID_FIELD_IN_COMMAND (omega arith), tt))
+
+zone_write_fails : (ns : ZonedNamespace) (holds : Holds) (z at blocks : ℕ) → AllByRecursion Fails (zone_write_checks ns holds z at blocks)
+zone_write_fails ns holds z at blocks = (
+  demand_fails (not (is_destination holds z)) ZONE_HELD (omega arith),
+  (
+    write_check_fails (counted_zone_at ns z) at blocks,
+    (wanted_fails ns holds (wanted_of (zone_at ns z).state), tt),
+  ),
+)
+
+lowest_fails : (ns : ZonedNamespace) (lba : ℕ) → AllByRecursion Fails (lowest_checks ns lba)
+lowest_fails ns lba = (demand_fails (nat_lt lba (block_total ns)) LBA_OUT_OF_RANGE (omega arith), (demand_fails (nat_eq (lba % ns.size) 0) INVALID_FIELD_IN_COMMAND (omega arith), tt))
+
+range_fails : (ns : ZonedNamespace) (lba blocks : ℕ) → AllByRecursion Fails (range_checks ns lba blocks)
+range_fails ns lba blocks =
+    (demand_fails (nat_le (lba + blocks) (block_total ns)) LBA_OUT_OF_RANGE (omega arith), (demand_fails (nat_le (lba % ns.size + blocks) ns.size) ZONE_BOUNDARY_ERROR (omega arith), tt))
 
 read_refusal_fails : (state : ZoneState) → Fails (read_refusal state)
 read_refusal_fails Offline = err_fails ZONE_IS_OFFLINE (omega arith)
 read_refusal_fails state = none_fails
-
-read_fails : (a b c d : Bool) (e : Option Status) → Fails e
-    → Fails (first_failed (demand a INVALID_FIELD_IN_COMMAND ∷ demand b INVALID_FIELD_IN_COMMAND ∷ demand c LBA_OUT_OF_RANGE
-    ∷ demand d ZONE_BOUNDARY_ERROR ∷ e ∷ []))
-read_fails a b c d e five =
-    first_fails (demand a INVALID_FIELD_IN_COMMAND) _ (demand_fails a INVALID_FIELD_IN_COMMAND (omega arith))
-    (first_fails (demand b INVALID_FIELD_IN_COMMAND) _ (demand_fails b INVALID_FIELD_IN_COMMAND (omega arith))
-    (first_fails (demand c LBA_OUT_OF_RANGE) _ (demand_fails c LBA_OUT_OF_RANGE (omega arith))
-    (first_fails (demand d ZONE_BOUNDARY_ERROR) _ (demand_fails d ZONE_BOUNDARY_ERROR (omega arith))
-    (first_fails e None five (λ other none. cc)))))
 
 -- a command that succeeds is one of which no check fails
 none_failed : (refusal : Option Status) (ns : ZonedNamespace) (effect : Effect)
@@ -138,28 +200,23 @@ pub append_passed : (ns : ZonedNamespace) (holds : Holds) (lba blocks : ℕ) (in
     → (meaning ns holds (Append lba blocks) input).status ≡ SUCCESS → first_failed (append_checks ns holds lba blocks input) ≡ None
 append_passed ns holds lba blocks input done =
     let z = zone_number ns lba in
-    let zone = zone_at ns z in
+    let zone_checks = zone_write_checks ns holds z (length (zone_at ns z).blocks) blocks in
     none_failed (first_failed (append_checks ns holds lba blocks input)) ns (append_effect ns holds lba input)
-    (all_fail (nat_le (blocks * ns.block) MOST_TRANSFER) (nat_eq (length input) (blocks * ns.block)) (nat_lt lba (block_total ns))
-    (nat_eq (lba % ns.size) 0) (not (is_destination holds z)) INVALID_FIELD_IN_COMMAND
-    (why_not (write_check (counted_zone_at ns z) (length zone.blocks) blocks)) (why_not (room_for ns holds zone.state))
-    (omega arith)
-    (write_check_fails (counted_zone_at ns z) (length zone.blocks) blocks)
-    (wanted_fails ns holds (wanted_of zone.state)))
+    (some_fails (append_checks ns holds lba blocks input)
+    (all_append Fails (append_address_checks ns lba blocks input) zone_checks
+    (all_append Fails (transfer_checks (blocks * ns.block) (blocks * ns.block) input) (lowest_checks ns lba) (transfer_fails (blocks * ns.block) (blocks * ns.block) input) (lowest_fails ns lba))
+    (zone_write_fails ns holds z (length (zone_at ns z).blocks) blocks)))
     done
 
 pub write_passed : (ns : ZonedNamespace) (holds : Holds) (lba blocks : ℕ) (input : List ℕ)
     → (meaning ns holds (Write lba blocks) input).status ≡ SUCCESS → first_failed (write_checks ns holds lba blocks input) ≡ None
 write_passed ns holds lba blocks input done =
     let z = zone_number ns lba in
-    let zone = zone_at ns z in
     none_failed (first_failed (write_checks ns holds lba blocks input)) ns (write_effect ns holds lba input)
-    (all_fail (nat_le (blocks * ns.block) MOST_TRANSFER) (nat_eq (length input) (blocks * ns.block)) (nat_le (lba + blocks) (block_total ns))
-    (nat_le (lba % ns.size + blocks) ns.size) (not (is_destination holds z)) ZONE_BOUNDARY_ERROR
-    (why_not (write_check (counted_zone_at ns z) (lba % ns.size) blocks)) (why_not (room_for ns holds zone.state))
-    (omega arith)
-    (write_check_fails (counted_zone_at ns z) (lba % ns.size) blocks)
-    (wanted_fails ns holds (wanted_of zone.state)))
+    (some_fails (write_checks ns holds lba blocks input)
+    (all_append Fails (write_address_checks ns lba blocks input) (zone_write_checks ns holds z (lba % ns.size) blocks)
+    (all_append Fails (transfer_checks (blocks * ns.block) (blocks * ns.block) input) (range_checks ns lba blocks) (transfer_fails (blocks * ns.block) (blocks * ns.block) input) (range_fails ns lba blocks))
+    (zone_write_fails ns holds z (lba % ns.size) blocks)))
     done
 
 pub read_passed : (ns : ZonedNamespace) (holds : Holds) (lba blocks : ℕ) (input : List ℕ)
@@ -167,6 +224,7 @@ pub read_passed : (ns : ZonedNamespace) (holds : Holds) (lba blocks : ℕ) (inpu
 read_passed ns holds lba blocks input done =
     let state = (zone_at ns (zone_number ns lba)).state in
     none_failed (first_failed (read_checks ns lba blocks input)) ns (read_effect ns lba blocks)
-    (read_fails (nat_le (blocks * ns.block) MOST_TRANSFER) (nat_eq (length input) 0) (nat_le (lba + blocks) (block_total ns))
-    (nat_le (lba % ns.size + blocks) ns.size) (read_refusal state) (read_refusal_fails state))
+    (some_fails (read_checks ns lba blocks input)
+    (all_append Fails (transfer_checks (blocks * ns.block) 0 input) (range_checks ns lba blocks ++ read_refusal state ∷ []) (transfer_fails (blocks * ns.block) 0 input)
+    (all_append Fails (range_checks ns lba blocks) (read_refusal state ∷ []) (range_fails ns lba blocks) (read_refusal_fails state, tt))))
     done

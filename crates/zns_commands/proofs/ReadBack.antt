@@ -1,12 +1,12 @@
 -- That written and appended blocks read back, whatever comes in between.
-use Rattle.std.proofs.Common.{◌≡◌, ◌≢◌, ℕ, suc, ◌+◌, ◌*◌, ◌/◌, ◌%◌, ◌^◌, ◌<◌, ◌≤◌, Bool, true, false, cond, List, [], ◌∷◌, ◌++◌, length, set, take, drop, replicate, Option, Some, None, Ok, refl, ap, sym, subst, ◌∙◌, arith, append_assoc}
-use Rattle.std.specs.Prelude.{nat_lt, nat_le, nat_eq}
+use Rattle.std.proofs.Common.{◌≡◌, ◌≢◌, ℕ, suc, ◌+◌, ◌*◌, ◌/◌, ◌%◌, ◌^◌, ◌<◌, ◌≤◌, Bool, true, false, cond, List, [], ◌∷◌, ◌++◌, length, set, take, drop, replicate, Option, Some, None, refl, ap, sym, subst, ◌∙◌, arith, append_assoc}
+use Rattle.std.specs.Prelude.{nat_le, nat_eq}
 use Rattle.std.specs.List.{concat}
-use Rattle.std.proofs.lemmas.Bool.{ltb-true, leb-true, eqb-true, le-leb}
+use Rattle.std.proofs.lemmas.Bool.{le-leb}
 use Rattle.std.proofs.lemmas.List.{append-nil, length-set, take_all, take_at, drop_at, get_or-set_same}
 use Rattle.std.proofs.lemmas.Nat.{div-mul-add, mod-mul-add}
-use Rattle.std.proofs.Math.Nat.{suc-mul, mul-le-mul_right, mul-div_cancel, mod-add-div'}
-use Rattle.zone_state.specs.Zone.{write_check, written_state}
+use Rattle.std.proofs.Math.Nat.{suc-mul, mul-le-mul_right, mod-add-div'}
+use Rattle.zone_state.specs.Zone.{written_state}
 use Rattle.zone_state.specs.declared.state.ZoneState.{ZoneState}
 use Rattle.zone_state.specs.declared.state.ZoneState.TheVariants.{ExplicitlyOpened, Closed, Full}
 use Rattle.zone_state.specs.declared.status.Status.{Status}
@@ -15,24 +15,23 @@ use Rattle.zone_resources.specs.declared.holds.Holds.{Holds}
 use Rattle.nvme_entry.specs.declared.command.StandardCommand.TheVariants.{Write, Read, Append}
 use Rattle.nvme_entry.specs.declared.command.TheConstants.{MOST_TRANSFER}
 use Rattle.zone_state.specs.Checks.{demand, first_failed}
-use Rattle.zone_state.proofs.Proved.{demanded, is_allowed, passed}
+use Rattle.zone_state.proofs.Proved.{is_allowed}
 use Rattle.image_store.specs.Blocks.{as_blocks, block_count}
 use Rattle.image_store.specs.Geometry.{Shape}
 use Rattle.image_store.specs.Namespace.{ZoneBlocks, ZonedNamespace, no_zone, zone_at, grown, IsNamespace}
 use Rattle.image_store.proofs.Proved.{block_some, blocks_keep_bytes}
 use Rattle.zns_commands.specs.Address.{counted_zone_at, zone_number, block_total, write_pointer}
 use Rattle.zns_commands.specs.Effect.{Effect, success_effect, concluded}
-use Rattle.zns_commands.specs.Append.{append_checks, append_effect}
+use Rattle.zns_commands.specs.Append.{append_effect}
 use Rattle.zns_commands.specs.Read.{read_refusal, blocks_read, read_checks, read_effect}
-use Rattle.zns_commands.specs.Resources.{room_for, closing_of}
-use Rattle.zns_commands.specs.Write.{write_checks, write_effect}
+use Rattle.zns_commands.specs.Write.{write_effect}
 use Rattle.zns_commands.specs.Laws.{after_events, AreRead, AppendedBlocksReadBack, WrittenBlocksReadBack}
 use Rattle.zns_commands.specs.Meaning.{meaning}
 use Rattle.zns_commands.specs.steps.Plans.{write_plan, written_by}
 use Rattle.zns_commands.proofs.GivenWay.{has_room, written_is}
-use Rattle.zns_commands.proofs.WrittenZones.{brings}
+use Rattle.zns_commands.proofs.WrittenZones.{brings, count_of}
 use Rattle.zns_commands.proofs.KeptBlocks.{KeepsZone, events_keep_zones, written_shape}
-use Rattle.zns_commands.proofs.PassedChecks.{roomed, allowed, zone_inside, append_passed, write_passed}
+use Rattle.zns_commands.proofs.PassedChecks.{Writes, append_passed, append_writes, write_begins, write_passed, write_writes}
 
 -- a namespace, once a zone is written
 written_zone : (ns : ZonedNamespace) (z : ℕ) (gives : Option ℕ) (input : List ℕ) → gives ≢ Some z → z < length ns.zones
@@ -123,18 +122,9 @@ lie_on ns m z w blocks input lie keeps =
 whole_bytes : (block blocks : ℕ) (input : List ℕ) → 1 ≤ block → length input ≡ blocks * block → concat (as_blocks block input) ≡ input
 whole_bytes block blocks input some size =
     let n = block_count block input in
-    let is : n ≡ blocks = ap (λ (m : ℕ). m / block) size ∙ mul-div_cancel blocks (omega arith) in
+    let is = count_of blocks block input some size in
     let long : length input ≤ n * block = subst (λ (m : ℕ). length input ≤ m * block) (sym is) (omega arith) in
     blocks_keep_bytes block n input ∙ take_all (n * block) input long
-
--- what holds of a write that isn't refused
-record Writes (ns : ZonedNamespace) (holds : Holds) (z blocks : ℕ) (input : List ℕ) : Type 0 where
-  inside : z < length ns.zones
-  some : 1 ≤ blocks
-  size : length input ≡ blocks * ns.block
-  transfer : nat_le (blocks * ns.block) MOST_TRANSFER ≡ true
-  fits : write_check (counted_zone_at ns z) (length (zone_at ns z).blocks) blocks ≡ Ok tt
-  room : room_for ns holds (zone_at ns z).state ≡ Ok (closing_of (room_for ns holds (zone_at ns z).state))
 
 written_lie : (ns : ZonedNamespace) (holds : Holds) (z blocks : ℕ) (input : List ℕ) → IsNamespace ns → Writes ns holds z blocks input
     → BlocksLieAt (written_by ns (write_plan ns holds z) input) z (length (zone_at ns z).blocks) blocks input
@@ -191,18 +181,8 @@ pub appended_stays : (ns : ZonedNamespace) (holds : Holds) (lba blocks : ℕ) (i
     → ReadsBack (zone_number ns lba) later blocks input (meaning ns holds (Append lba blocks) input)
 appended_stays ns holds lba blocks input later sound some done =
     let none = append_passed ns holds lba blocks input done in
-    let checks = append_checks ns holds lba blocks input in
     let z = zone_number ns lba in
-    let size = eqb-true (length input) (blocks * ns.block) (demanded (nat_eq (length input) (blocks * ns.block)) _ (passed checks 1 none)) in
-    let start = ltb-true lba (block_total ns) (demanded (nat_lt lba (block_total ns)) _ (passed checks 2 none)) in
-    let writes : Writes ns holds z blocks input = record {
-      inside = zone_inside ns lba sound start;
-      some = some;
-      size = size;
-      transfer = demanded (nat_le (blocks * ns.block) MOST_TRANSFER) _ (passed checks 0 none);
-      fits = allowed (write_check (counted_zone_at ns z) (length (zone_at ns z).blocks) blocks) (passed checks 5 none);
-      room = roomed (room_for ns holds (zone_at ns z).state) (passed checks 6 none);
-    } in
+    let writes = append_writes ns holds lba blocks input sound some none in
     let pointer = write_pointer ns z in
     let address : pointer % 2 ^ 32 + pointer / 2 ^ 32 * 2 ^ 32 ≡ pointer = mod-add-div' pointer (2 ^ 32) in
     subst (λ (r : Option Status). ReadsBack z later blocks input (concluded r ns (append_effect ns holds lba input))) (sym none)
@@ -223,23 +203,9 @@ pub written_stays : (ns : ZonedNamespace) (holds : Holds) (lba blocks : ℕ) (in
     → ReadsAt (zone_number ns lba) lba later blocks input (meaning ns holds (Write lba blocks) input)
 written_stays ns holds lba blocks input later sound some done =
     let none = write_passed ns holds lba blocks input done in
-    let checks = write_checks ns holds lba blocks input in
     let z = zone_number ns lba in
-    let w = length (zone_at ns z).blocks in
-    let zone = zone_at ns z in
-    let size = eqb-true (length input) (blocks * ns.block) (demanded (nat_eq (length input) (blocks * ns.block)) _ (passed checks 1 none)) in
-    let end = leb-true (lba + blocks) (block_total ns) (demanded (nat_le (lba + blocks) (block_total ns)) _ (passed checks 2 none)) in
-    let start : lba < block_total ns = omega arith in
-    let fits = allowed (write_check (counted_zone_at ns z) (lba % ns.size) blocks) (passed checks 5 none) in
-    let at : lba % ns.size ≡ w = (is_allowed (counted_zone_at ns z) (lba % ns.size) blocks fits).at_pointer in
-    let writes : Writes ns holds z blocks input = record {
-      inside = zone_inside ns lba sound start;
-      some = some;
-      size = size;
-      transfer = demanded (nat_le (blocks * ns.block) MOST_TRANSFER) _ (passed checks 0 none);
-      fits = subst (λ (k : ℕ). write_check (counted_zone_at ns z) k blocks ≡ Ok tt) at fits;
-      room = roomed (room_for ns holds zone.state) (passed checks 6 none);
-    } in
+    let at = write_begins ns holds lba blocks input none in
+    let writes = write_writes ns holds lba blocks input sound some none in
     let address : write_pointer ns z ≡ lba = omega (arith, at, mod-add-div' lba ns.size) in
     subst (λ (r : Option Status). ReadsAt z lba later blocks input (concluded r ns (write_effect ns holds lba input))) (sym none)
     (λ keeps. subst (λ (k : ℕ). AreRead later k blocks input) address (reads_later ns holds z blocks input later sound writes keeps))

@@ -1,69 +1,40 @@
 -- That commands and faults keep a namespace sound.
-use Rattle.std.proofs.Common.{◌≡◌, ℕ, zero, suc, ◌+◌, ◌*◌, ◌%◌, ◌<◌, ◌≤◌, Bool, true, false, List, [], ◌∷◌, length, map, replicate, Option, Some, None, refl, ap, sym, subst, arith}
-use Rattle.std.specs.Prelude.{nat_lt, nat_le, nat_eq}
-use Rattle.std.proofs.lemmas.Bool.{ltb-true, leb-true, eqb-true}
+use Rattle.std.proofs.Common.{◌≡◌, ℕ, zero, suc, ◌<◌, Bool, true, false, List, [], ◌∷◌, length, map, replicate, None, refl, ap, sym, subst, arith}
+use Rattle.std.specs.Prelude.{nat_lt}
+use Rattle.std.proofs.lemmas.Bool.{ltb-true}
 use Rattle.std.proofs.lemmas.List.{length-replicate, get_or-replicate}
 use Rattle.std.proofs.lemmas.List.Sums.{sum_by-cons}
 use Rattle.zone_state.specs.State.{is_open, is_active}
-use Rattle.zone_state.specs.Zone.{CountedZone, write_check}
+use Rattle.zone_state.specs.Zone.{CountedZone}
 use Rattle.zone_state.specs.declared.action.Action.{Action}
 use Rattle.zone_state.specs.declared.state.ZoneState.{ZoneState}
 use Rattle.zone_state.specs.declared.state.ZoneState.TheVariants.{Empty}
-use Rattle.zone_state.specs.declared.status.Status.{Status}
 use Rattle.zone_resources.specs.Counts.{count_in, one_if}
 use Rattle.zone_resources.specs.declared.holds.Holds.{Holds}
+use Rattle.nvme_entry.specs.declared.command.StandardCommand.{StandardCommand}
 use Rattle.nvme_entry.specs.declared.command.StandardCommand.TheVariants.{Write, Read, Send, Receive, Append}
 use Rattle.zone_state.specs.Checks.{first_failed}
 use Rattle.zone_state.proofs.Proved.{demanded, passed}
 use Rattle.program_interface.specs.Bytes.{AreBytes}
 use Rattle.image_store.specs.Geometry.{IsShape}
 use Rattle.image_store.specs.Namespace.{ZoneBlocks, ZonedNamespace, no_zone, zone_at, counted, IsNamespace, all_empty}
-use Rattle.zns_commands.specs.Address.{counted_zone_at, zone_number, block_total}
-use Rattle.zns_commands.specs.Effect.{Effect, success_effect, concluded}
-use Rattle.zns_commands.specs.Append.{append_checks, append_effect}
-use Rattle.zns_commands.specs.Read.{read_checks, read_effect}
-use Rattle.zns_commands.specs.Resources.{room_for, closing_of}
-use Rattle.zns_commands.specs.Receive.{receive_checks, receive_effect}
+use Rattle.zns_commands.specs.Address.{zone_number, block_total}
+use Rattle.zns_commands.specs.Meaning.{checks_of, effect_of}
+use Rattle.zns_commands.specs.Resources.{closing_of, gives_way}
 use Rattle.zns_commands.specs.Send.{send_checks, send_effect, all_fit, room_of}
-use Rattle.zns_commands.specs.Write.{write_checks, write_effect}
+use Rattle.zns_commands.specs.Write.{with_written}
 use Rattle.zns_commands.specs.Laws.{NamespaceEvent, Commanded, Faulted, after, IsSpelled, EventsKeepNamespaces, EmptyIsNamespace}
 use Rattle.zns_commands.proofs.FittingZones.{FitsIn, namespace_of_zones, no_bytes}
 use Rattle.zns_commands.proofs.WrittenZones.{written_sound}
 use Rattle.zns_commands.proofs.MovedZones.{moved_sound, fault_sound}
 use Rattle.zns_commands.proofs.SweptZones.{all_sound}
-use Rattle.zns_commands.proofs.PassedChecks.{roomed, allowed, zone_inside}
+use Rattle.zns_commands.proofs.Meanings.{after_command}
+use Rattle.zns_commands.proofs.PassedChecks.{Writes, append_writes, roomed, write_writes, zone_inside}
 
-concluded_sound : (refusal : Option Status) (ns : ZonedNamespace) (effect : Effect)
-    → IsNamespace ns → (refusal ≡ None → IsNamespace effect.namespace) → IsNamespace (concluded refusal ns effect).namespace
-concluded_sound None ns effect sound done = done refl
-concluded_sound (Some status) ns effect sound done = sound
-
-write_sound : (ns : ZonedNamespace) (holds : Holds) (lba blocks : ℕ) (input : List ℕ) → IsNamespace ns → (1 ≤ blocks) × AreBytes input
-    → first_failed (write_checks ns holds lba blocks input) ≡ None → IsNamespace (write_effect ns holds lba input).namespace
-write_sound ns holds lba blocks input sound spelled none =
-    let checks = write_checks ns holds lba blocks input in
-    let z = zone_number ns lba in
-    let room = room_for ns holds (zone_at ns z).state in
-    let at = lba % ns.size in
-    let size = eqb-true (length input) (blocks * ns.block) (demanded (nat_eq (length input) (blocks * ns.block)) _ (passed checks 1 none)) in
-    let end = leb-true (lba + blocks) (block_total ns) (demanded (nat_le (lba + blocks) (block_total ns)) _ (passed checks 2 none)) in
-    let start : lba < block_total ns = omega arith in
-    written_sound ns holds z at blocks (closing_of room) input sound (zone_inside ns lba sound start) spelled.0 size spelled.1
-    (allowed (write_check (counted_zone_at ns z) at blocks) (passed checks 5 none))
-    (roomed room (passed checks 6 none))
-
-append_sound : (ns : ZonedNamespace) (holds : Holds) (lba blocks : ℕ) (input : List ℕ) → IsNamespace ns → (1 ≤ blocks) × AreBytes input
-    → first_failed (append_checks ns holds lba blocks input) ≡ None → IsNamespace (append_effect ns holds lba input).namespace
-append_sound ns holds lba blocks input sound spelled none =
-    let checks = append_checks ns holds lba blocks input in
-    let z = zone_number ns lba in
-    let room = room_for ns holds (zone_at ns z).state in
-    let at = length (zone_at ns z).blocks in
-    let size = eqb-true (length input) (blocks * ns.block) (demanded (nat_eq (length input) (blocks * ns.block)) _ (passed checks 1 none)) in
-    let start = ltb-true lba (block_total ns) (demanded (nat_lt lba (block_total ns)) _ (passed checks 2 none)) in
-    written_sound ns holds z at blocks (closing_of room) input sound (zone_inside ns lba sound start) spelled.0 size spelled.1
-    (allowed (write_check (counted_zone_at ns z) at blocks) (passed checks 5 none))
-    (roomed room (passed checks 6 none))
+written : (ns : ZonedNamespace) (holds : Holds) (z blocks : ℕ) (input : List ℕ) → IsNamespace ns → AreBytes input
+    → Writes ns holds z blocks input → IsNamespace (with_written ns holds z input)
+written ns holds z blocks input sound are writes =
+    written_sound ns holds z blocks (gives_way ns holds (zone_at ns z).state) input sound writes.inside writes.some writes.size are writes.fits writes.room
 
 send_sound : (ns : ZonedNamespace) (holds : Holds) (lba : ℕ) (a : Action) (select_all : Bool) (input : List ℕ) → IsNamespace ns
     → first_failed (send_checks ns holds lba a select_all input) ≡ None → IsNamespace (send_effect ns holds lba a select_all)
@@ -76,23 +47,21 @@ send_sound ns holds lba a false input sound none =
     let start = ltb-true lba (block_total ns) (demanded (nat_lt lba (block_total ns)) _ (passed checks 2 none)) in
     moved_sound ns holds z a (closing_of room) sound (zone_inside ns lba sound start) (roomed room (passed checks 6 none))
 
+effect_sound : (ns : ZonedNamespace) (holds : Holds) (command : StandardCommand) (input : List ℕ) → IsNamespace ns → IsSpelled (Commanded holds command input)
+    → first_failed (checks_of ns holds command input) ≡ None → IsNamespace (effect_of ns holds command input).namespace
+effect_sound ns holds (Write lba blocks) input sound spelled none =
+    written ns holds (zone_number ns lba) blocks input sound spelled.1 (write_writes ns holds lba blocks input sound spelled.0 none)
+effect_sound ns holds (Append lba blocks) input sound spelled none =
+    written ns holds (zone_number ns lba) blocks input sound spelled.1 (append_writes ns holds lba blocks input sound spelled.0 none)
+effect_sound ns holds (Read lba blocks) input sound spelled none = sound
+effect_sound ns holds (Receive lba dwords filter partial) input sound spelled none = sound
+effect_sound ns holds (Send lba a select_all) input sound spelled none = send_sound ns holds lba a select_all input sound none
+
 -- one event
 event_sound : (event : NamespaceEvent) (ns : ZonedNamespace) → IsNamespace ns → IsSpelled event → IsNamespace (after event ns)
-event_sound (Commanded holds (Write lba blocks) input) ns sound some =
-    concluded_sound (first_failed (write_checks ns holds lba blocks input)) ns (write_effect ns holds lba input) sound
-    (write_sound ns holds lba blocks input sound some)
-event_sound (Commanded holds (Append lba blocks) input) ns sound some =
-    concluded_sound (first_failed (append_checks ns holds lba blocks input)) ns (append_effect ns holds lba input) sound
-    (append_sound ns holds lba blocks input sound some)
-event_sound (Commanded holds (Read lba blocks) input) ns sound some =
-    concluded_sound (first_failed (read_checks ns lba blocks input)) ns (read_effect ns lba blocks) sound (λ none. sound)
-event_sound (Commanded holds (Receive lba dwords filter partial) input) ns sound some =
-    concluded_sound (first_failed (receive_checks ns lba dwords input)) ns (receive_effect ns lba dwords filter partial) sound (λ none. sound)
-event_sound (Commanded holds (Send lba a select_all) input) ns sound some =
-    concluded_sound (first_failed (send_checks ns holds lba a select_all input)) ns
-    (success_effect (send_effect ns holds lba a select_all) 0 []) sound
-    (send_sound ns holds lba a select_all input sound)
-event_sound (Faulted holds z fault) ns sound some = fault_sound ns holds z fault sound
+event_sound (Commanded holds command input) ns sound spelled =
+    after_command IsNamespace ns holds command input sound (effect_sound ns holds command input sound spelled)
+event_sound (Faulted holds z fault) ns sound spelled = fault_sound ns holds z fault sound
 
 pub events_keep_namespaces : EventsKeepNamespaces
 events_keep_namespaces [] ns sound some = sound

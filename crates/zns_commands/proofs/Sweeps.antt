@@ -35,13 +35,7 @@ mapped-all f (suc n) (x ∷ xs) h = ap (λ (ys : List _). f x ∷ ys) (mapped-al
 
 -- the namespace once Select All has gone over its first zones
 abbrev pub swept_below : ZonedNamespace → Action → ℕ → ZonedNamespace
-swept_below ns action n = record {
-  block = ns.block;
-  size = ns.size;
-  capacity = ns.capacity;
-  limits = ns.limits;
-  zones = map (swept action) (take n ns.zones) ++ drop n ns.zones;
-}
+swept_below ns action n = record ns { zones = mapped (swept action) n ns.zones }
 
 -- one more zone is swept
 pub sweep_step : (ns : ZonedNamespace) (action : Action) (z : ℕ) → z < length ns.zones
@@ -51,5 +45,5 @@ sweep_step ns action z inside =
     let read = get_or-mapped f z ns.zones no_zone inside in
     let done = set-mapped f z ns.zones no_zone inside in
     let next : suc z ≡ z + 1 = omega arith in
-    ap (λ (zones : List ZoneBlocks). let m : ZonedNamespace = record { block = ns.block; size = ns.size; capacity = ns.capacity; limits = ns.limits; zones = zones } in m)
+    ap (λ (zones : List ZoneBlocks). let m : ZonedNamespace = record ns { zones = zones } in m)
     (ap (λ (zone : ZoneBlocks). set (mapped f z ns.zones) z (f zone)) read ∙ (done ∙ ap (λ (n : ℕ). mapped f n ns.zones) next))

@@ -1,7 +1,6 @@
 -- That commands and faults leave the zones that they do not touch.
 use Rattle.std.proofs.Common.{◌≡◌, ℕ, zero, suc, Bool, true, false, cond, nat_eq, List, [], ◌∷◌, get_or, map, Option, Some, None, Result, Ok, Err, refl, sym, ◌∙◌, get_or-set_other}
 use Rattle.std.proofs.lemmas.Bool.{eqb-false, or_parts}
-use Rattle.zone_state.specs.Transition.{transition}
 use Rattle.zone_state.specs.Zone.{state_of_fault}
 use Rattle.zone_state.specs.declared.action.Action.{Action}
 use Rattle.zone_state.specs.declared.state.FaultState.{FaultState}

@@ -1,20 +1,17 @@
 -- That a write keeps a namespace sound.
-use Rattle.std.proofs.Common.{◌≡◌, ℕ, zero, suc, ◌+◌, ◌*◌, ◌/◌, ◌<◌, ◌≤◌, Bool, true, false, cond, List, [], ◌∷◌, ◌++◌, length, get_or, drop, Option, None, Result, Ok, Err, refl, ap, sym, subst, ◌∙◌, arith, length-append, length-take, length-drop}
-use Rattle.std.specs.Prelude.{nat_le, nat_eq}
-use Rattle.std.proofs.lemmas.Bool.{eqb-true}
-use Rattle.std.proofs.Math.Nat.{suc-mul, mul-le-mul_right, mul-div_cancel}
-use Rattle.zone_state.specs.Zone.{CountedZone, IsZone, write_check, write_refusal, after_write, written_state}
+use Rattle.std.proofs.Common.{◌≡◌, ℕ, zero, suc, ◌+◌, ◌*◌, ◌/◌, ◌<◌, ◌≤◌, Bool, true, false, cond, List, [], ◌∷◌, ◌++◌, length, get_or, Option, None, Ok, ap, sym, subst, ◌∙◌, arith, length-append}
+use Rattle.std.specs.Prelude.{nat_eq}
+use Rattle.std.proofs.Math.Nat.{mul-div_cancel}
+use Rattle.zone_state.specs.Zone.{IsZone, write_check, write_refusal, after_write, written_state}
 use Rattle.zone_state.specs.declared.state.ZoneState.{ZoneState}
 use Rattle.zone_state.specs.declared.state.ZoneState.TheVariants.{Empty, ImplicitlyOpened, ExplicitlyOpened, Closed, ReadOnly, Full, Offline}
-use Rattle.zone_state.specs.declared.status.Status.{Status}
-use Rattle.zone_state.specs.declared.status.TheConstants.Status.{ZONE_BOUNDARY_ERROR, ZONE_INVALID_WRITE}
 use Rattle.zone_state.proofs.Proved.{is_allowed}
 use Rattle.zone_resources.specs.Admission.{wanted_of, HoldsNoMore}
 use Rattle.zone_resources.specs.declared.holds.Holds.{Holds}
-use Rattle.program_interface.specs.Bytes.{AreBytes, pieces}
+use Rattle.program_interface.specs.Bytes.{AreBytes}
 use Rattle.image_store.specs.Blocks.{as_blocks, block_count}
 use Rattle.image_store.specs.Namespace.{ZoneBlocks, ZonedNamespace, zone_at, counted, grown, IsNamespace, IsWithinLimits}
-use Rattle.image_store.proofs.Proved.{block_is_a_part, block_some, blocks_are_bytes, blocks_are_counted, writes_keep_zones}
+use Rattle.image_store.proofs.Proved.{block_some, block_whole, blocks_are_bytes, blocks_are_counted, writes_keep_zones}
 use Rattle.zns_commands.specs.Address.{counted_zone_at}
 use Rattle.zns_commands.specs.Resources.{room_for}
 use Rattle.zns_commands.specs.steps.Plans.{written_by}
@@ -35,11 +32,9 @@ bytes_append [] ys front back i = back i
 bytes_append (x ∷ xs) ys front back zero = front 0
 bytes_append (x ∷ xs) ys front back (suc i) = bytes_append xs ys (λ k. front (suc k)) back i
 
-block_whole : (b n : ℕ) (bytes : List ℕ) → n * b ≤ length bytes → (i : ℕ) → i < n → length (get_or (pieces b n bytes) i []) ≡ b
-block_whole b n bytes long i h =
-    let below : suc i ≤ n = omega arith in
-    let product : suc i * b ≤ n * b = mul-le-mul_right b below in
-    ap length (block_is_a_part b n i bytes h) ∙ omega (arith, suc-mul i b, length-take b (drop (i * b) bytes), length-drop (i * b) bytes)
+-- so many blocks are counted as so many
+pub count_of : (n block : ℕ) (bytes : List ℕ) → 1 ≤ block → length bytes ≡ n * block → block_count block bytes ≡ n
+count_of n block bytes some whole = ap (λ (m : ℕ). m / block) whole ∙ mul-div_cancel n (omega arith)
 
 -- the blocks that a write brings
 pub record Brings (block blocks : ℕ) (more : List (List ℕ)) : Type 0 where
@@ -49,23 +44,21 @@ pub record Brings (block blocks : ℕ) (more : List (List ℕ)) : Type 0 where
 pub brings : (block blocks : ℕ) (input : List ℕ) → 1 ≤ block → length input ≡ blocks * block → Brings block blocks (as_blocks block input)
 brings block blocks input some size =
     let n = block_count block input in
-    let is : n ≡ blocks = ap (λ (m : ℕ). m / block) size ∙ mul-div_cancel blocks (omega arith) in
+    let is = count_of blocks block input some size in
     let long : n * block ≤ length input = subst (λ (m : ℕ). m * block ≤ length input) (sym is) (omega arith) in
     let count = blocks_are_counted block n input in
-    record { count = count ∙ is; whole = λ i h. block_whole block n input long i (omega arith) }
+    record { count = count ∙ is; whole = λ i h. block_whole block n i input (omega arith) long }
 
-grown_fits : (b c : ℕ) (zone : ZoneBlocks) (more : List (List ℕ)) (at n : ℕ)
-    → FitsIn b c zone → 1 ≤ n → Brings b n more → ((i : ℕ) → AreBytes (get_or more i [])) → write_check (counted c zone) at n ≡ Ok tt
+grown_fits : (b c : ℕ) (zone : ZoneBlocks) (more : List (List ℕ)) (n : ℕ)
+    → FitsIn b c zone → 1 ≤ n → Brings b n more → ((i : ℕ) → AreBytes (get_or more i [])) → write_check (counted c zone) (length zone.blocks) n ≡ Ok tt
     → FitsIn b c (grown c zone more)
-grown_fits b c zone more at n fits some bring are allowed =
-    let pointer = (is_allowed (counted c zone) at n allowed).at_pointer in
-    let here = subst (λ (k : ℕ). write_check (counted c zone) k n ≡ Ok tt) pointer allowed in
+grown_fits b c zone more n fits some bring are allowed =
     let long : length zone.blocks + n ≡ length (zone.blocks ++ more) = omega (arith, length-append zone.blocks more, bring.count) in
     record {
       state =
           subst (λ (k : ℕ). IsZone (after_write (counted c zone) (length more)).state k c) long
           (subst (λ (k : ℕ). IsZone (after_write (counted c zone) k).state (length zone.blocks + n) c) (sym bring.count)
-          (writes_keep_zones (counted c zone) n some here));
+          (writes_keep_zones (counted c zone) n some allowed));
       whole = each_append (λ block. length block ≡ b) zone.blocks more fits.whole bring.whole;
       bytes = bytes_append zone.blocks more fits.bytes are;
     }
@@ -92,11 +85,11 @@ written_within ns z at blocks gives input has allowed =
     (has.limits (grown ns.capacity zone more)
     (write_takes_none zone.state (nat_eq (length zone.blocks + length more) ns.capacity) (is_allowed (counted_zone_at ns z) at blocks allowed).writable))
 
-pub written_sound : (ns : ZonedNamespace) (holds : Holds) (z at blocks : ℕ) (gives : Option ℕ) (input : List ℕ)
+pub written_sound : (ns : ZonedNamespace) (holds : Holds) (z blocks : ℕ) (gives : Option ℕ) (input : List ℕ)
     → IsNamespace ns → z < length ns.zones → 1 ≤ blocks → length input ≡ blocks * ns.block → AreBytes input
-    → write_check (counted_zone_at ns z) at blocks ≡ Ok tt → room_for ns holds (zone_at ns z).state ≡ Ok gives
+    → write_check (counted_zone_at ns z) (length (zone_at ns z).blocks) blocks ≡ Ok tt → room_for ns holds (zone_at ns z).state ≡ Ok gives
     → IsNamespace (written_by ns (record { zone = z; closing = gives }) input)
-written_sound ns holds z at blocks gives input sound inside some size are allowed room =
+written_sound ns holds z blocks gives input sound inside some size are allowed room =
     let has = has_room ns holds z gives sound inside room in
     let wide : 1 ≤ ns.block = omega (arith, block_some sound.shape) in
     let bring = brings ns.block blocks input wide size in
@@ -104,6 +97,6 @@ written_sound ns holds z at blocks gives input sound inside some size are allowe
     let more = as_blocks ns.block input in
     subst IsNamespace (sym (written_is ns z gives input has.give.other))
     (room_sound ns z gives (grown ns.capacity zone more) sound has
-    (grown_fits ns.block ns.capacity zone more at blocks (zone_fits ns z sound inside) some bring
+    (grown_fits ns.block ns.capacity zone more blocks (zone_fits ns z sound inside) some bring
     (blocks_are_bytes ns.block (block_count ns.block input) input are) allowed)
-    (write_takes_none zone.state (nat_eq (length zone.blocks + length more) ns.capacity) (is_allowed (counted_zone_at ns z) at blocks allowed).writable))
+    (write_takes_none zone.state (nat_eq (length zone.blocks + length more) ns.capacity) (is_allowed (counted_zone_at ns z) (length zone.blocks) blocks allowed).writable))

@@ -18,7 +18,7 @@ use Rattle.zns_commands.specs.Send.{takes, all_effect}
 abbrev pub TakenZonesMove : Type 0
 TakenZonesMove = (action : Action) (state : ZoneState) → takes action state ≡ true → (to : ZoneState) × (transition action state ≡ Ok to)
 
--- an action on all zones, whatever the address
+-- an action on all zones, without data, whatever the address
 abbrev pub sent_to_all : ZonedNamespace → Holds → Action → ℕ → Effect
 sent_to_all ns holds action lba = meaning ns holds (Send lba action true) []
 

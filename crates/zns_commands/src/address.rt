@@ -2,11 +2,26 @@
 
 ghost use Rattle.std.specs.Prelude.{◌≡◌, IfOk};
 ghost use Rattle.zone_state.specs.Checks.{first_failed, unless_failed};
-ghost use Rattle.zns_commands.specs.Address.{boundary_check, lowest_checks, range_check, range_checks, zone_number, zone_block_in, IsZoneBlock};
+ghost use Rattle.zns_commands.specs.Address.{address_check, boundary_check, lowest_checks, range_check, range_checks, zone_number, zone_block_in, IsZoneBlock};
 ghost use Rattle.zns_commands.specs.Resources.{why_not};
 
 use image_store::{Image, ZoneBlock};
 use nvme_entry::{BlockCount, Status};
+
+/// A logical block, as a block of its zone.
+///
+/// # Errors
+///
+/// [`Status::LBA_OUT_OF_RANGE`] where the namespace doesn't have it.
+pub fn zone_block(image: &Image, lba: u64) -> Result<ZoneBlock, Status>
+    ensures value { result ≡ unless_failed (address_check image.now lba) (zone_block_in image.now lba) }
+    ensures block { IfOk result (IsZoneBlock image.now lba) }
+{
+    image
+        .geometry()
+        .zone_block(lba)
+        .ok_or(Status::LBA_OUT_OF_RANGE)
+}
 
 /// The number of the zone whose lowest block is `lba`.
 ///
@@ -18,9 +33,7 @@ pub fn lowest(image: &Image, lba: u64) -> Result<u32, Status>
     ensures value { result ≡ unless_failed (first_failed (lowest_checks image.now lba)) (zone_number image.now lba) }
     ensures block { IfOk result (λ zone. IsZoneBlock image.now lba (record { zone = zone; offset = 0 })) }
 {
-    let Some(block) = image.geometry().zone_block(lba) else {
-        return Err(Status::LBA_OUT_OF_RANGE);
-    };
+    let block = zone_block(image, lba)?;
     if block.offset != 0 {
         return Err(Status::INVALID_FIELD_IN_COMMAND);
     }

@@ -11,6 +11,7 @@ ghost use Rattle.zns_commands.specs.Effect.{effect_of_answer};
 ghost use Rattle.zns_commands.specs.Meaning.{meaning};
 ghost use Rattle.zns_commands.specs.Receive.{receive_checks};
 
+use crate::address::zone_block;
 use crate::answer::Answer;
 use crate::transfer::check_transfer;
 use image_store::Image;
@@ -21,10 +22,8 @@ fn check_report(image: &Image, lba: u64, dwords: DwordCount, input: &[u8]) -> Re
     ensures { result ≡ unless_failed (first_failed (receive_checks image.now lba dwords input.now)) (zone_number image.now lba) }
 {
     check_transfer(dwords.bytes() as u64, 0, input)?;
-    match image.geometry().zone_block(lba) {
-        Some(block) => Ok(block.zone),
-        None => Err(Status::LBA_OUT_OF_RANGE),
-    }
+    let block = zone_block(image, lba)?;
+    Ok(block.zone)
 }
 
 /// Puts a report of so many bytes at the front.

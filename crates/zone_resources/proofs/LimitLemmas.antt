@@ -79,7 +79,7 @@ pub record WantsIn (wanted : Wanted) (state : ZoneState) : Type 0 where
   pub not_open : state ≢ ImplicitlyOpened
   pub was_active : wanted ≡ OpenOnly → is_active state ≡ true
 
-wants : (state : ZoneState) (wanted : Wanted) → wanted_of state ≡ Some wanted → WantsIn wanted state
+pub wants : (state : ZoneState) (wanted : Wanted) → wanted_of state ≡ Some wanted → WantsIn wanted state
 wants Empty wanted e = record { not_open = λ s. cc; was_active = λ o. cc }
 wants Closed wanted e = record { not_open = λ s. cc; was_active = λ o. refl }
 wants ImplicitlyOpened wanted e = cc
@@ -89,7 +89,7 @@ wants Full wanted e = cc
 wants Offline wanted e = cc
 
 -- what passes a guard
-guarded : (b : Bool) (r : Result (Option ℕ) Status) (s : Status) (closed : Option ℕ)
+pub guarded : (b : Bool) (r : Result (Option ℕ) Status) (s : Status) (closed : Option ℕ)
     → cond b r (Err s) ≡ Ok closed → (b ≡ true) × (r ≡ Ok closed)
 guarded true r s closed e = (refl, e)
 guarded false r s closed e = cc

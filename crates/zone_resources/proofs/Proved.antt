@@ -7,7 +7,7 @@ use Rattle.zone_resources.proofs.CountLemmas as counted
 pub use Rattle.zone_resources.proofs.CountLemmas.{counts_follow_one}
 use Rattle.zone_resources.proofs.HoldLemmas as held
 use Rattle.zone_resources.proofs.LimitLemmas as limited
-pub use Rattle.zone_resources.proofs.LimitLemmas.{one_if-le-one}
+pub use Rattle.zone_resources.proofs.LimitLemmas.{guarded, one_if-le-one, wants}
 pub use Rattle.zone_resources.proofs.Users.{there, users_name_zones}
 
 pub counts_are_few : CountsAreFew

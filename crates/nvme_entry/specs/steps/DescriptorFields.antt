@@ -6,12 +6,12 @@ use Rattle.zone_state.specs.declared.state.ZoneState.{ZoneState}
 use Rattle.program_interface.specs.Bytes.{field}
 use Rattle.nvme_entry.specs.declared.descriptor.ZoneDescriptor.{ZoneDescriptor}
 
--- the 8 bytes with this number, as a number
-abbrev pub word_in : List ℕ → ℕ → ℕ
-word_in bytes number = field bytes (8 * number) 8
+-- the number in the 8 bytes with this index
+abbrev pub number_in : List ℕ → ℕ → ℕ
+number_in bytes index = field bytes (8 * index) 8
 
 -- the descriptor with the fields that bytes tell, where they tell a state that there is
 abbrev pub descriptor_in : List ℕ → Option ZoneDescriptor
 descriptor_in bytes = option_map
-    (λ (state : ZoneState). record { state = state; capacity = word_in bytes 1; lowest = word_in bytes 2; write_pointer = word_in bytes 3 })
-    (state_of (word_in bytes 0 / 2 ^ 12 % 2 ^ 4))
+    (λ (state : ZoneState). record { state = state; capacity = number_in bytes 1; lowest = number_in bytes 2; write_pointer = number_in bytes 3 })
+    (state_of (number_in bytes 0 / 2 ^ 12 % 2 ^ 4))

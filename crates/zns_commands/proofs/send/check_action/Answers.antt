@@ -10,8 +10,7 @@ use Rattle.zns_commands.specs.Send.{room_of, zone_checks}
 use Rattle.zns_commands.specs.steps.Accepted.{CanMove}
 use Rattle.zns_commands.specs.declared.send.ZonePlan.{ZonePlan}
 use Rattle.zns_commands.specs.steps.Plans.{zone_plan}
-use Rattle.zns_commands.proofs.AcceptedActions.{zone_checked, if_allowed, can_move}
-use Rattle.zns_commands.proofs.ClosableZones.{allowed_ok}
+use Rattle.zns_commands.proofs.AcceptedActions.{allowed_ok, zone_checked, if_allowed, can_move}
 use Rattle.zns_commands.proofs.send.check_action.Goals as goal
 
 pub returns-clause-value : goal.returns-clause-value

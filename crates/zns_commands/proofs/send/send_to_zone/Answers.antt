@@ -5,7 +5,7 @@ use Rattle.zns_commands.specs.Resources.{closed}
 use Rattle.zns_commands.specs.Send.{zone_checks}
 use Rattle.zns_commands.specs.declared.send.ZonePlan.{ZonePlan}
 use Rattle.zns_commands.specs.steps.Plans.{zone_plan}
-use Rattle.zns_commands.proofs.ClosableZones.{allowed_ok}
+use Rattle.zns_commands.proofs.AcceptedActions.{allowed_ok}
 use Rattle.zns_commands.proofs.send.send_to_zone.Goals as goal
 
 pub returns-clause-ok : goal.returns-clause-ok

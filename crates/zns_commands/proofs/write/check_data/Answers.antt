@@ -1,6 +1,6 @@
 use Rattle.std.proofs.Common.{◌≡◌, ◌*◌, length, ◌∙◌}
 use Rattle.std.proofs.lemmas.Result.{on_ok_weaker}
-use Rattle.zns_commands.proofs.Transfers.{count_of}
+use Rattle.zns_commands.proofs.WrittenZones.{count_of}
 use Rattle.zns_commands.proofs.write.check_data.Goals as goal
 
 pub returns-clause-whole : goal.returns-clause-whole

@@ -5,7 +5,7 @@ use Rattle.zns_commands.specs.Address.{range_checks, zone_block_in}
 use Rattle.zns_commands.specs.Write.{zone_write_checks}
 use Rattle.zns_commands.specs.declared.write.WritePlan.{WritePlan}
 use Rattle.zns_commands.specs.steps.Plans.{write_plan, written_by}
-use Rattle.zns_commands.proofs.ClosableZones.{allowed_ok}
+use Rattle.zns_commands.proofs.AcceptedActions.{allowed_ok}
 use Rattle.zns_commands.proofs.write.try_write.Goals as goal
 
 pub returns-clause-ok : goal.returns-clause-ok
