@@ -14,7 +14,8 @@ use Rattle.device_events.specs.declared.reply.Reply.TheVariants.{Complete, Pendi
 use Rattle.text_lines.specs.Number.{decimal_of}
 use Rattle.event_text.specs.Laws.{IsReply, LinesTellReplies}
 use Rattle.event_text.specs.Lines.{data_text, reply_text}
-use Rattle.event_text.specs.Words.{one_of, two_or_three_of, words_of}
+use Rattle.text_lines.specs.Texts.{one_of}
+use Rattle.event_text.specs.Words.{two_or_three_of, words_of}
 use Rattle.event_text.proofs.PlainLines.{decimal_again, decimal_in_word, spelled_in_word, unblank}
 use Rattle.event_text.proofs.SubmissionLemmas.{data_words, hex_in_word, not_empty, spaced, words_of-spaced}
 use Rattle.event_text.proofs.WordLemmas.{word_first, word_last}
